@@ -1,0 +1,8 @@
+pub mod BitLists
+pub mod NumberBits
+pub mod OctetBits
+pub mod Texts
+pub mod Spellings
+pub mod ReadingLaws
+pub mod Stopping
+pub mod Rounding

@@ -1,0 +1,20 @@
+//! Definitions of texts: bits, the items that a text is made of, what spells each item, and how a text is
+//! read as items (docs/formats.md, "Reading a segment").
+#![tactic(auto)]
+
+ghost use Rattle.item_defs.specs.Laws.{ReadsOnce, StopsOnce, BitsUndo};
+
+/// Two readings of one text say the same, item by item.
+pub const fn reads_once()
+    ensures { ReadsOnce }
+{}
+
+/// A text stops every reading at one place, in one way and by one name.
+pub const fn stops_once()
+    ensures { StopsOnce }
+{}
+
+/// Bits and numbers, and bits and octets, stand for each other.
+pub const fn bits_undo()
+    ensures { BitsUndo }
+{}
