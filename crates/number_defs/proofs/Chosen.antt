@@ -1,0 +1,58 @@
+-- A choice is an option.
+use Rattle.std.proofs.Common.{◌≡◌, ℕ, zero, suc, ◌*◌, ◌-◌, ◌^◌, ◌≤◌, List, [], ◌∷◌, length, Bool, true, false, cond, leb, ltb, refl, arith}
+use Rattle.std.specs.Prelude.{◌&&◌, Some, sum, find, unwrap_or}
+use Rattle.std.specs.List.{range_with_len, list_all}
+use Rattle.std.proofs.lemmas.Bool.Decides.{nat_tests}
+use Rattle.number_defs.specs.Gaggles.{uncoded, is_option}
+use Rattle.number_defs.proofs.Searching.{all_of_range}
+use Rattle.number_defs.specs.Choice.{suits, greatest_suiting, by_total, heuristic, candidates, is_least, optimal}
+
+greatest_within : (count total k : ℕ) → greatest_suiting count total k ≤ k
+unfolding greatest_suiting
+greatest_within count total zero = omega arith
+greatest_within count total (suc k) =
+    elim (suits count total (suc k)) as (λ t. cond t (suc k) (greatest_suiting count total k) ≤ suc k) [
+      | true ↦ omega arith
+      | false ↦ omega (arith, greatest_within count total k)
+    ]
+
+uncoded_is : (N : ℕ) → is_option N (uncoded N) ≡ true
+uncoded_is N = grind (arith, nat_tests)
+
+small_is : (N k : ℕ) → k ≤ N - 2 → is_option N k ≡ true
+small_is N k le = grind (arith, nat_tests)
+
+total_is : (N count total : ℕ) → is_option N (by_total N count total) ≡ true
+total_is N count total =
+    elim (leb (23 * count * 2 ^ N) (64 * total)) as (λ t. is_option N (cond t (uncoded N) (cond (ltb (128 * total) (207 * count)) 0 (greatest_suiting count total (N - 2)))) ≡ true) [
+      | true ↦ uncoded_is N
+      | false ↦ elim (ltb (128 * total) (207 * count)) as (λ t. is_option N (cond t 0 (greatest_suiting count total (N - 2))) ≡ true) [
+        | true ↦ small_is N 0 (omega arith)
+        | false ↦ small_is N (greatest_suiting count total (N - 2)) (greatest_within count total (N - 2))
+      ]
+    ]
+
+pub heuristic_is : (N : ℕ) (values : List ℕ) → is_option N (heuristic N values) ≡ true
+unfolding heuristic
+heuristic_is N values = total_is N (length values) (sum values)
+
+-- what is found among such numbers is one
+found_is : (q p : ℕ → Bool) (xs : List ℕ) (d : ℕ) → list_all q xs ≡ true → q d ≡ true → q (unwrap_or (find p xs) d) ≡ true
+found_is q p [] d all e = e
+found_is q p (x ∷ xs) d all e =
+    let both = both_are (q x) (list_all q xs) all in
+    elim (p x) as (λ t. q (unwrap_or (cond t (Some x) (find p xs)) d) ≡ true) [
+      | true ↦ both.0
+      | false ↦ found_is q p xs d both.1 e
+    ]
+  where
+    both_are : (a b : Bool) → (a && b) ≡ true → (a ≡ true) × (b ≡ true)
+    both_are true b h = (refl, h)
+    both_are false b h = absurd cc
+
+pub optimal_is : (N : ℕ) (values : List ℕ) → 2 ≤ N → is_option N (optimal N values) ≡ true
+unfolding optimal
+optimal_is N values low =
+    let ks : list_all (is_option N) (range_with_len 0 (N - 1)) ≡ true = all_of_range (is_option N) 0 (N - 1) (λ j le lt. small_is N j (omega arith)) in
+    let all : list_all (is_option N) (candidates N) ≡ true = rw (uncoded_is N) ks in
+    found_is (is_option N) (is_least N values) (candidates N) (uncoded N) all (uncoded_is N)

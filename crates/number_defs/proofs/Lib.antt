@@ -1,0 +1,11 @@
+pub mod MappingLaws
+pub mod Heights
+pub mod CodedBits
+pub mod Searching
+pub mod Chosen
+pub mod DepthBits
+pub mod DcBits
+pub mod DcRange
+pub mod Stepping
+pub mod SegmentSteps
+pub mod CellPlaces

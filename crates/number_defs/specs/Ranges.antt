@@ -1,0 +1,28 @@
+-- Numbers of N bits, signed or not. A number is told by its height: how far it is above the least of
+-- its range. (CCSDS 122.0-B-2, section 4.3.2.)
+use Rattle.std.specs.Prelude.{ℕ, ◌-◌, ◌%◌, ◌^◌, ℤ, pos, negsuc, ◌+ℤ◌, ◌-ℤ◌, neg_ℤ, nat_abs, ◌≤ℤ◌, ◌<ℤ◌, Bool, if◌then◌else◌}
+use Rattle.std.specs.Int.{int_shr}
+
+-- how many numbers of the range are below 0
+abbrev pub negatives : Bool → ℕ → ℕ
+negatives signed N = if signed then 2 ^ (N - 1) else 0
+
+pub record IsInRange (signed : Bool) (N : ℕ) (z : ℤ) : Type 0 where
+  pub low : neg_ℤ (pos (negatives signed N)) ≤ℤ z
+  pub high : z <ℤ (pos (2 ^ N) -ℤ pos (negatives signed N))
+
+-- the number at a height, and the height of a number
+abbrev pub number_at : Bool → ℕ → ℕ → ℤ
+number_at signed N height = pos height -ℤ pos (negatives signed N)
+
+abbrev pub height_of : Bool → ℕ → ℤ → ℕ
+height_of signed N z = nat_abs (z +ℤ pos (negatives signed N))
+
+-- the height of z / 2 ^ shift, rounded down
+abbrev pub shifted_height : Bool → ℕ → ℕ → ℤ → ℕ
+shifted_height signed N shift z = height_of signed N (int_shr z shift)
+
+-- the lowest w bits of a number's two's complement form
+abbrev pub complement : ℕ → ℤ → ℕ
+complement w (pos a) = a % 2 ^ w
+complement w (negsuc a) = 2 ^ w - 1 - a % 2 ^ w

@@ -1,0 +1,30 @@
+//! Definitions of numbers by differences, of the DC part and of the block depths of a segment's text,
+//! with their laws.
+#![tactic(auto)]
+
+ghost use Rattle.number_defs.specs.Laws.{MappingUndoes, HeightsUndo, CountsBits, DcBitsAreFew, NumbersStepAlike};
+
+/// After each number, mapped values and numbers undo each other.
+pub const fn mapping_undoes()
+    ensures { MappingUndoes }
+{}
+
+/// Numbers, their heights and their two's complement form undo each other.
+pub const fn heights_undo()
+    ensures { HeightsUndo }
+{}
+
+/// The choice of an option counts the bits of its items.
+pub const fn choice_counts_bits()
+    ensures { CountsBits }
+{}
+
+/// The numbers of a DC part have at most 10 bits, and hold each DC of the head's depth.
+pub const fn dc_bits_are_few()
+    ensures { DcBitsAreFew }
+{}
+
+/// A text is read as numbers, as a DC part and as block depths in one way at most.
+pub const fn numbers_step_alike()
+    ensures { NumbersStepAlike }
+{}
