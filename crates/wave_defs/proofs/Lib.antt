@@ -1,0 +1,12 @@
+pub mod Mirror
+pub mod Floors
+pub mod Shifts
+pub mod Filled
+pub mod GridLaws
+pub mod LineLaws
+pub mod LevelLaws
+pub mod LevelSame
+pub mod LevelWithin
+pub mod LiftLaws
+pub mod PyramidLaws
+pub mod BlockLaws

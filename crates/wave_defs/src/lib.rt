@@ -1,0 +1,25 @@
+//! Definitions of the wavelet transform, with their laws: a line, a level, the ten bands of three
+//! levels, padding, and the numbers of a block.
+#![tactic(auto)]
+
+ghost use Rattle.wave_defs.specs.Laws.{LineMirrors, LineUndoes, LevelUndoes, PyramidUndoes, ForwardBounds, BlockBounds, InverseBounds};
+
+/// The mirror of the even samples is that of all samples (docs/formats.md, "A line").
+pub const fn mirrors()
+    ensures { LineMirrors }
+{}
+
+/// The definitions and their inverses undo each other both ways (docs/formats.md, "A line", "Levels
+/// and padding").
+pub const fn undoes()
+    ensures line { LineUndoes }
+    ensures level { LevelUndoes }
+    ensures pyramid { PyramidUndoes }
+{}
+
+/// How large the values of both directions are (docs/formats.md, "Bounds").
+pub const fn stays_bounded()
+    ensures forward { ForwardBounds }
+    ensures blocks { BlockBounds }
+    ensures inverse { InverseBounds }
+{}
