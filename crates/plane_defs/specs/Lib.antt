@@ -1,0 +1,10 @@
+pub mod Spans
+pub mod Sets
+pub mod Entries
+pub mod Codes
+pub mod Choice
+pub mod Spelled
+pub mod Planes
+pub mod Laws
+pub mod Profile
+pub mod Marks

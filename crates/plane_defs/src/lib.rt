@@ -1,0 +1,15 @@
+//! Definitions of the bit planes: the sets of a block, what a block sends in each stage of a plane,
+//! and the codes of words (docs/formats.md, "Bit planes" and "Words and codes").
+#![tactic(auto)]
+
+mod codes;
+mod entries;
+mod laws;
+mod sets;
+mod stages;
+
+pub use codes::{Book, Code};
+pub use entries::{Bits, Entry};
+pub use laws::{stages_step, words_read_once, words_settle};
+pub use sets::Set;
+pub use stages::Stage;
