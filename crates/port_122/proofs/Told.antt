@@ -1,0 +1,44 @@
+-- What a port that tells its octets shows of a stretch of calls.
+use Rattle.std.proofs.Common.{◌≡◌, ℕ, List, ◌++◌, sym, ◌∙◌, ap}
+use Rattle.std.specs.Prelude.{Option, Some, None}
+use Rattle.std.proofs.lemmas.List.{append-nil}
+use Rattle.port_122.specs.Outside.{Outside, Since, Grows, Loses, IsUsedUp, AtEnd}
+
+grown : (a b : Option (List ℕ)) (xs ys more : List ℕ) → a ≡ Some xs → b ≡ Some ys → Grows a b more → ys ≡ xs ++ more
+grown a b xs ys more p q r =
+    let at : Grows (Some xs) (Some ys) more = rw (p, q) at r in at
+
+lost : (a b : Option (List ℕ)) (xs ys less : List ℕ) → a ≡ Some xs → b ≡ Some ys → Loses a b less → xs ≡ less ++ ys
+lost a b xs ys less p q r =
+    let at : Loses (Some xs) (Some ys) less = rw (p, q) at r in at
+
+all_lost : (a b : Option (List ℕ)) (xs less : List ℕ) → a ≡ Some xs → Loses a b less → IsUsedUp b → less ≡ xs
+all_lost a None xs less p r e =
+    let at : Loses (Some xs) None less = rw p at r in absurd at
+all_lost a (Some ys) xs less p r e =
+    let at : xs ≡ less ++ ys = rw p at r in sym (at ∙ ap (λ zs. less ++ zs) e ∙ append-nil less)
+
+-- the octets taken were told so
+pub taken_told : {a b : Outside} {t g w : List ℕ} {Q : ℕ → ℕ → Type 0} (xs ys : List ℕ) →
+    Since a b t g w Q → a.taken ≡ Some xs → b.taken ≡ Some ys → ys ≡ xs ++ t
+taken_told {a = a} {b = b} {t = t} xs ys p before after = grown a.taken b.taken xs ys t before after p.taken
+
+-- the octets given were told so
+pub given_told : {a b : Outside} {t g w : List ℕ} {Q : ℕ → ℕ → Type 0} (xs ys : List ℕ) →
+    Since a b t g w Q → a.given ≡ Some xs → b.given ≡ Some ys → ys ≡ xs ++ g
+given_told {a = a} {b = b} {g = g} xs ys p before after = grown a.given b.given xs ys g before after p.given
+
+-- the octets noted were told so
+pub noted_told : {a b : Outside} {t g w : List ℕ} {Q : ℕ → ℕ → Type 0} (xs ys : List ℕ) →
+    Since a b t g w Q → a.noted ≡ Some xs → b.noted ≡ Some ys → ys ≡ xs ++ w
+noted_told {a = a} {b = b} {w = w} xs ys p before after = grown a.noted b.noted xs ys w before after p.noted
+
+-- the octets taken are those that the input began with
+pub rest_told : {a b : Outside} {t g w : List ℕ} {Q : ℕ → ℕ → Type 0} (xs ys : List ℕ) →
+    Since a b t g w Q → a.rest ≡ Some xs → b.rest ≡ Some ys → xs ≡ t ++ ys
+rest_told {a = a} {b = b} {t = t} xs ys p before after = lost a.rest b.rest xs ys t before after p.rest
+
+-- where the end was seen, the octets taken are the whole input
+pub end_told : {a b : Outside} {t g w : List ℕ} {Q : ℕ → ℕ → Type 0} (xs : List ℕ) →
+    Since a b t g w Q → a.rest ≡ Some xs → AtEnd b → t ≡ xs
+end_told {a = a} {b = b} {t = t} xs p before e = all_lost a.rest b.rest xs t before p.rest e

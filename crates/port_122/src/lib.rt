@@ -1,0 +1,17 @@
+//! The outside of the program: octets that come in, octets that go out and notes, with each fault counted.
+//! The rules stand in docs/architecture.md, "The outside".
+#![tactic(auto)]
+
+mod memory;
+mod pieces;
+mod port;
+mod standard;
+mod steady;
+#[cfg(test)]
+mod tests;
+
+pub use memory::MemoryPort;
+pub use pieces::{note_all, write_all};
+pub use port::{Failed, Port};
+pub use standard::StdPort;
+pub use steady::SteadyPort;

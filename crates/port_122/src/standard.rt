@@ -1,0 +1,100 @@
+// The real outside: the trusted edge of the program.
+ghost use Rattle.std.specs.Prelude.{◌≡◌, MatchResult};
+ghost use Rattle.std.specs.Io.KnownBytes.{ReadConsumes, WriteAppends, Keeps};
+ghost use Rattle.port_122.specs.Outside.{Outside, Read, ReadFailed, Written, WriteFailed, Noted, NoteFailed};
+ghost use Rattle.port_122.specs.Faults.{HasFaults, faults_after};
+ghost use Rattle.port_122.specs.Standard.{outside_of};
+
+use crate::port::{Failed, Port};
+use std::io::{Read, Write};
+
+/// A port over a reader and two writers, which counts their faults (docs/architecture.md, "The outside").
+///
+/// It tells no octets: nothing is claimed of what a file, a pipe or a terminal holds. A write or a note that
+/// takes nothing of a piece that isn't empty is a fault.
+#[derive(Drop)]
+pub struct StdPort<I: Read, O: Write, N: Write> {
+    input: I,
+    output: O,
+    notes: N,
+    read_faults: u64,
+    write_faults: u64,
+    note_faults: u64,
+}
+
+impl<I: Read, O: Write, N: Write> StdPort<I, O, N> {
+    /// A port over these, without a fault so far.
+    pub fn new(input: I, output: O, notes: N) -> StdPort<I, O, N>
+        ensures input { result.input ≡ input }
+        ensures output { result.output ≡ output }
+        ensures notes { result.notes ≡ notes }
+        ensures faults { HasFaults (outside_of result) 0 0 0 }
+    {
+        StdPort {
+            input,
+            output,
+            notes,
+            read_faults: 0,
+            write_faults: 0,
+            note_faults: 0,
+        }
+    }
+}
+
+impl<I: Read, O: Write, N: Write> Port for StdPort<I, O, N> {
+    ghost outside = { outside_of };
+
+    fn read(&mut self, into: &mut [u8]) -> Result<usize, Failed>
+        ensures octets { MatchResult result
+            (λ n. Read (outside_of self.old) (outside_of self.new) into.new n)
+            (λ _. ReadFailed (outside_of self.old) (outside_of self.new)) }
+        ensures faults { HasFaults (outside_of self.new) (faults_after result self.old.read_faults) self.old.write_faults self.old.note_faults }
+        ensures reads { ReadConsumes (I.remaining self.old.input) (I.remaining self.new.input) result into.new }
+        ensures output { self.new.output ≡ self.old.output }
+        ensures notes { self.new.notes ≡ self.old.notes }
+    {
+        match self.input.read(into) {
+            Ok(count) => Ok(count),
+            Err(_) => {
+                self.read_faults = self.read_faults.saturating_add(1);
+                Err(Failed)
+            }
+        }
+    }
+
+    fn write(&mut self, bytes: &[u8]) -> Result<usize, Failed>
+        ensures octets { MatchResult result
+            (λ n. Written (outside_of self.old) (outside_of self.new) bytes.now n)
+            (λ _. WriteFailed (outside_of self.old) (outside_of self.new)) }
+        ensures faults { HasFaults (outside_of self.new) self.old.read_faults (faults_after result self.old.write_faults) self.old.note_faults }
+        ensures writes { WriteAppends (O.contents self.old.output) (O.contents self.new.output) result bytes.now }
+        ensures input { self.new.input ≡ self.old.input }
+        ensures notes { self.new.notes ≡ self.old.notes }
+    {
+        match self.output.write(bytes) {
+            Ok(count) if count > 0 || bytes.is_empty() => Ok(count),
+            _ => {
+                self.write_faults = self.write_faults.saturating_add(1);
+                Err(Failed)
+            }
+        }
+    }
+
+    fn note(&mut self, bytes: &[u8]) -> Result<usize, Failed>
+        ensures octets { MatchResult result
+            (λ n. Noted (outside_of self.old) (outside_of self.new) bytes.now n)
+            (λ _. NoteFailed (outside_of self.old) (outside_of self.new)) }
+        ensures faults { HasFaults (outside_of self.new) self.old.read_faults self.old.write_faults (faults_after result self.old.note_faults) }
+        ensures writes { WriteAppends (N.contents self.old.notes) (N.contents self.new.notes) result bytes.now }
+        ensures input { self.new.input ≡ self.old.input }
+        ensures output { self.new.output ≡ self.old.output }
+    {
+        match self.notes.write(bytes) {
+            Ok(count) if count > 0 || bytes.is_empty() => Ok(count),
+            _ => {
+                self.note_faults = self.note_faults.saturating_add(1);
+                Err(Failed)
+            }
+        }
+    }
+}
