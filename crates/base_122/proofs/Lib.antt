@@ -1,0 +1,4 @@
+pub mod RangeChecks
+pub mod GeometryRanges
+pub mod SizeBounds
+pub mod Shifts

@@ -1,0 +1,129 @@
+-- The range of each field. The limits come from the fields' widths in CCSDS 122.0-B-2 and CCSDS 133.0-B-2 and from
+-- this project's own profile.
+use Rattle.std.specs.Prelude.{◌≡◌, ◌≢◌, ◌≤◌, ◌⊎◌, ◌%◌, ℕ, List, [], ◌∷◌, All, Bool, true, not, nat_le, ◌==◌, ◌&&◌, ◌||◌, Option, Some, None, Result, Ok, Err, find}
+use Rattle.std.specs.List.{list_all}
+use Rattle.base_122.specs.Weights.{IsShift, is_shift}
+use Rattle.base_122.specs.declared.field.Field.{Field}
+use Rattle.base_122.specs.declared.field.Field.TheVariants.{Width, Rows, Depth, Segment, Limit, Fill, Word, Stop, Weights, Apid, Image, Packet, Pixels, Octets}
+use Rattle.base_122.specs.declared.field.OutOfRange.{OutOfRange}
+use Rattle.base_122.specs.declared.setting.Setting.{Setting}
+use Rattle.base_122.specs.declared.geometry.Geometry.{Geometry}
+
+-- the least and the greatest value of a field
+pub record Range : Type 0 where
+  pub least : ℕ
+  pub most : ℕ
+
+abbrev pub IsWithin : Range → ℕ → Type 0
+IsWithin range n = (range.least ≤ n) × (n ≤ range.most)
+
+abbrev pub is_within : Range → ℕ → Bool
+is_within range n = nat_le range.least n && nat_le n range.most
+
+-- pixels of a row
+abbrev pub width_range : Range
+width_range = record { least = 17; most = 1048575 }
+
+-- rows of an image
+abbrev pub rows_range : Range
+rows_range = record { least = 17; most = 262144 }
+
+-- bits of a pixel
+abbrev pub depth_range : Range
+depth_range = record { least = 1; most = 16 }
+
+-- blocks of a segment
+abbrev pub segment_range : Range
+segment_range = record { least = 16; most = 1048575 }
+
+-- octets of a segment's text, where there is a limit: 27 bits, and a multiple of each word
+abbrev pub limit_range : Range
+limit_range = record { least = 32; most = 134217724 }
+
+-- octets of a code word
+abbrev pub word_range : Range
+word_range = record { least = 1; most = 4 }
+
+-- the last bit plane that is sent
+abbrev pub plane_range : Range
+plane_range = record { least = 0; most = 27 }
+
+-- the last stage that is sent, less one
+abbrev pub stage_range : Range
+stage_range = record { least = 0; most = 3 }
+
+-- application process identifier: 11 bits, without that of idle packets
+abbrev pub apid_range : Range
+apid_range = record { least = 0; most = 2046 }
+
+-- an image's number
+abbrev pub image_range : Range
+image_range = record { least = 0; most = 65535 }
+
+-- octets of a packet data field at most
+abbrev pub packet_range : Range
+packet_range = record { least = 64; most = 65536 }
+
+-- Each field is in its range, and fill has a limit.
+pub record IsInRange (s : Setting) : Type 0 where
+  pub width : IsWithin width_range s.width
+  pub rows : IsWithin rows_range s.rows
+  pub depth : IsWithin depth_range s.depth
+  pub segment : IsWithin segment_range s.segment
+  pub limit : (s.limit ≡ 0) ⊎ (IsWithin limit_range s.limit × (s.limit % s.word ≡ 0))
+  pub fill : s.fill ≡ true → s.limit ≢ 0
+  pub word : IsWithin word_range s.word
+  pub plane : IsWithin plane_range s.stop.plane
+  pub stage : IsWithin stage_range s.stop.stage
+  pub weights : All IsShift s.weights.shifts
+  pub apid : IsWithin apid_range s.apid
+  pub image : IsWithin image_range s.image
+  pub packet : IsWithin packet_range s.packet
+
+-- Each field of a geometry is in its range.
+pub record IsGeometryInRange (g : Geometry) : Type 0 where
+  pub width : IsWithin width_range g.width
+  pub rows : IsWithin rows_range g.rows
+  pub depth : IsWithin depth_range g.depth
+  pub segment : IsWithin segment_range g.segment
+  pub image : IsWithin image_range g.image
+  pub word : IsWithin word_range g.word
+  pub weights : All IsShift g.weights.shifts
+
+-- A limit is 0, or in its range and a multiple of the word. Of a word out of range it needn't be a multiple, so that
+-- the word itself is named.
+abbrev pub limit_test : (limit word : ℕ) → Bool
+limit_test limit word = (limit == 0) || (is_within limit_range limit && (not (is_within word_range word) || (limit % word == 0)))
+
+-- a field passes its test
+abbrev pub field_test : Setting → Field → Bool
+field_test s Width = is_within width_range s.width
+field_test s Rows = is_within rows_range s.rows
+field_test s Depth = is_within depth_range s.depth
+field_test s Segment = is_within segment_range s.segment
+field_test s Limit = limit_test s.limit s.word
+field_test s Fill = not s.fill || not (s.limit == 0)
+field_test s Word = is_within word_range s.word
+field_test s Stop = is_within plane_range s.stop.plane && is_within stage_range s.stop.stage
+field_test s Weights = list_all is_shift s.weights.shifts
+field_test s Apid = is_within apid_range s.apid
+field_test s Image = is_within image_range s.image
+field_test s Packet = is_within packet_range s.packet
+field_test s Pixels = true
+field_test s Octets = true
+
+-- the fields of a setting, in the order in which they are tested
+abbrev pub fields : List Field
+fields = Width ∷ Rows ∷ Depth ∷ Segment ∷ Limit ∷ Fill ∷ Word ∷ Stop ∷ Weights ∷ Apid ∷ Image ∷ Packet ∷ []
+
+-- the first field out of range, where there is one
+abbrev pub first_out_of_range : Setting → Option Field
+first_out_of_range s = find (λ field. not (field_test s field)) fields
+
+abbrev pub refusal : Option Field → Result (Unit {0}) OutOfRange
+refusal None = Ok tt
+refusal (Some field) = Err (record { field = field })
+
+-- what a check answers
+abbrev pub range_check : Setting → Result (Unit {0}) OutOfRange
+range_check s = refusal (first_out_of_range s)
