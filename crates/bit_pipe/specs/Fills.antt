@@ -1,0 +1,32 @@
+-- A slice that octets fill from its front.
+use Rattle.std.specs.Prelude.{◌≡◌, ◌<◌, ℕ, ◌+◌, List, ◌++◌, length, take, drop}
+use Rattle.bit_pipe.specs.Sinks.{Rose}
+
+-- which reference the slice stands behind, what it holds, how many octets of it were given, and how often a call
+-- has failed
+pub record Filling : Type 0 where
+  pub name : ℕ
+  pub slice : List ℕ
+  pub len : ℕ
+  pub faults : ℕ
+
+-- these octets stand behind those before, and the rest is as it was
+pub record Fills (old new : Filling) (octets : List ℕ) : Type 0 where
+  pub name : new.name ≡ old.name
+  pub len : new.len ≡ old.len + length octets
+  pub front : take new.len new.slice ≡ take old.len old.slice ++ octets
+  pub rest : drop new.len new.slice ≡ drop new.len old.slice
+  pub size : length new.slice ≡ length old.slice
+  pub faults : new.faults ≡ old.faults
+
+-- a front of these octets stands behind those before, which fills the slice, and there are more
+pub record Overfills (old new : Filling) (octets : List ℕ) : Type 0 where
+  pub name : new.name ≡ old.name
+  pub fitting : List ℕ
+  pub over : List ℕ
+  pub parts : octets ≡ fitting ++ over
+  pub some : 0 < length over
+  pub full : length new.slice ≡ new.len
+  pub front : new.slice ≡ take old.len old.slice ++ fitting
+  pub size : length new.slice ≡ length old.slice
+  pub rose : Rose old.faults new.faults

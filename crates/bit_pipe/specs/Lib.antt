@@ -1,0 +1,12 @@
+pub mod Bounds
+pub mod Sinks
+pub mod Standing
+pub mod Sources
+pub mod Coming
+pub mod Pieces
+pub mod Reading
+pub mod Faults
+pub mod Fills
+pub mod FillLaws
+pub mod Slices
+pub mod Streams

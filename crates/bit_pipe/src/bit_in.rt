@@ -1,0 +1,138 @@
+// Bits that come from octets.
+ghost use Rattle.std.specs.Prelude.{◌≡◌, ◌<◌, ◌≤◌, ◌+◌, ◌*◌, ◌^◌};
+
+use crate::bound::octets_within;
+use crate::fault::InFault;
+use crate::piece::{Piece, width_of};
+use crate::source::OctetIn;
+
+/// Bits on their way from a source, up to a bound (docs/formats.md, "Reading a segment"). An octet is taken from
+/// the source with its first bit, and none is taken ahead.
+#[derive(Drop)]
+pub struct BitIn<'a, I> {
+    input: &'a mut I,
+    octet: u8,
+    left: u8,
+    used: u64,
+    room: u64,
+    ghost within: { left < 8 },
+}
+
+impl<'a, I: OctetIn> BitIn<'a, I> {
+    ghost use Rattle.item_defs.specs.Items.{fixed, zeros_to};
+    ghost use Rattle.bit_pipe.specs.Bounds.{bound_of};
+    ghost use Rattle.bit_pipe.specs.Coming.{coming, IsIn, BeginsIn, GivesBit, GivesItem};
+    ghost use Rattle.bit_pipe.specs.Pieces.{GivesPiece};
+
+    /// Bits from here on. The bound is `limit` octets, or 2^32 octets where that is 0. `before` octets of it were
+    /// taken already.
+    pub fn new(input: &'a mut I, limit: u64, before: u64) -> BitIn<'a, I>
+        requires limit { limit ≤ 2 ^ 32 }
+        requires bound { before ≤ bound_of limit }
+        ensures same { result.input.ghost_name ≡ input.entry.ghost_name }
+        ensures begins { BeginsIn input.old (bound_of limit) before (coming result) }
+        ensures is_in { IsIn (coming result) }
+    {
+        let bound = octets_within(limit);
+        BitIn {
+            input,
+            octet: 0,
+            left: 0,
+            used: 8 * before,
+            room: 8 * (bound - before),
+        }
+    }
+
+    /// How many bits were taken, those before included.
+    pub fn used(&self) -> u64
+        ensures { result ≡ (coming self.now).used }
+    {
+        self.used
+    }
+
+    /// Takes the next bit. None comes at the input's end and at the bound.
+    pub fn take(&mut self) -> Result<Option<bool>, InFault>
+        requires { IsIn (coming self.old) }
+        ensures { GivesBit I.source result (coming self.old) (coming self.new) }
+    {
+        if self.room == 0 {
+            return Ok(None);
+        }
+        if self.left > 0 {
+            self.left -= 1;
+            self.room -= 1;
+            self.used += 1;
+            return Ok(Some((self.octet >> self.left) & 1 == 1));
+        }
+        let Some(octet) = self.input.take()? else {
+            return Ok(None);
+        };
+        self.octet = octet;
+        self.left = 7;
+        self.room -= 1;
+        self.used += 1;
+        Ok(Some((octet >> 7) & 1 == 1))
+    }
+
+    // Takes some bits, at least one and at most so many, that stand in one octet.
+    fn take_piece(&mut self, most: u8) -> Result<Option<Piece>, InFault>
+        requires some { 0 < most }
+        requires bound { IsIn (coming self.old) }
+        ensures { GivesPiece I.source most result (coming self.old) (coming self.new) }
+    {
+        if self.room == 0 {
+            return Ok(None);
+        }
+        if self.left > 0 {
+            let count = width_of(most, self.left, self.room);
+            let piece = Piece::first(self.octet, self.left, count);
+            self.left -= count;
+            self.room -= u64::from(count);
+            self.used += u64::from(count);
+            return Ok(Some(piece));
+        }
+        let Some(octet) = self.input.take()? else {
+            return Ok(None);
+        };
+        let count = width_of(most, 8, self.room);
+        self.octet = octet;
+        self.left = 8 - count;
+        self.room -= u64::from(count);
+        self.used += u64::from(count);
+        Ok(Some(Piece::first(octet, 8, count)))
+    }
+
+    /// Takes a number of so many bits, highest first.
+    pub fn take_bits(&mut self, count: u8) -> Result<Option<u32>, InFault>
+        requires count { count ≤ 32 }
+        requires bound { IsIn (coming self.old) }
+        ensures { GivesItem I.source (fixed count) result (coming self.old) (coming self.new) }
+    {
+        let mut value = 0u64;
+        let mut taken = 0;
+        while taken < count {
+            let Some(piece) = self.take_piece(count - taken)? else {
+                return Ok(None);
+            };
+            value = (value << piece.count) | u64::from(piece.value);
+            taken += piece.count;
+        }
+        Ok(Some(value as u32))
+    }
+
+    /// Takes a unary part: the number of its zeros, of which `limit` are not followed by a one.
+    pub fn take_zeros(&mut self, limit: u16) -> Result<Option<u16>, InFault>
+        requires { IsIn (coming self.old) }
+        ensures { GivesItem I.source (zeros_to limit) result (coming self.old) (coming self.new) }
+    {
+        for zeros in 0..limit {
+            let Some(bit) = self.take()? else {
+                return Ok(None);
+            };
+            if bit {
+                return Ok(Some(zeros));
+            }
+        }
+        Ok(Some(limit))
+    }
+}

@@ -1,0 +1,128 @@
+// Bits that go into octets.
+ghost use Rattle.std.specs.Prelude.{◌≡◌, ◌<◌, ◌≤◌, ◌+◌, ◌-◌, ◌*◌, ◌/◌, ◌%◌, ◌^◌, [], ◌∷◌, ◌++◌, false};
+
+use crate::bound::{octets_within, padded_octets};
+use crate::fault::{Failed, PutFault};
+use crate::octets::{put_last, put_octets, put_zero_octets};
+use crate::sink::OctetOut;
+
+/// Bits on their way into a sink, up to a bound (docs/formats.md, "Stops, cut and fill").
+#[derive(Drop)]
+pub struct BitOut<'a, O> {
+    out: &'a mut O,
+    pending: u8,
+    filled: u8,
+    bound: u64,
+    room: u64,
+    ghost fits: { pending < 2 ^ filled },
+    ghost within: { filled < 8 },
+}
+
+impl<'a, O: OctetOut> BitOut<'a, O> {
+    ghost use Rattle.item_defs.specs.Bits.{bits_of, copies};
+    ghost use Rattle.item_defs.specs.Padding.{padded_length};
+    ghost use Rattle.bit_pipe.specs.Standing.{stand, IsOpen, Puts, Begins, Closes};
+    ghost use Rattle.bit_pipe.specs.Bounds.{bound_of};
+
+    /// Bits from here on. The bound is `limit` octets, or 2^32 octets where that is 0. `before` octets of it were
+    /// given already.
+    pub fn new(out: &'a mut O, limit: u64, before: u64) -> BitOut<'a, O>
+        requires limit { limit ≤ 2 ^ 32 }
+        requires before { before ≡ (O.sink.counts out.old).given }
+        requires bound { before ≤ bound_of limit }
+        ensures same { result.out.ghost_name ≡ out.entry.ghost_name }
+        ensures begins { Begins O.sink out.old (bound_of limit) (stand O.sink result) }
+        ensures is_open { IsOpen (stand O.sink result) }
+    {
+        let bound = octets_within(limit);
+        BitOut {
+            out,
+            pending: 0,
+            filled: 0,
+            bound,
+            room: 8 * (bound - before),
+        }
+    }
+
+    /// Puts one bit.
+    pub fn put(&mut self, bit: bool) -> Result<(), PutFault>
+        requires { IsOpen (stand O.sink self.old) }
+        ensures { Puts O.sink result (stand O.sink self.old) (stand O.sink self.new) (bit ∷ []) }
+    {
+        if self.room == 0 {
+            return Err(PutFault::Stopped);
+        }
+        let octet = self.pending * 2 + u8::from(bit);
+        self.room -= 1;
+        if self.filled < 7 {
+            self.pending = octet;
+            self.filled += 1;
+            return Ok(());
+        }
+        self.pending = 0;
+        self.filled = 0;
+        self.out.put(octet)?;
+        Ok(())
+    }
+
+    /// Puts the lowest bits of a number, highest first.
+    pub fn put_bits(&mut self, value: u32, count: u8) -> Result<(), PutFault>
+        requires count { count ≤ 32 }
+        requires bound { IsOpen (stand O.sink self.old) }
+        ensures { Puts O.sink result (stand O.sink self.old) (stand O.sink self.new) (bits_of count value) }
+    {
+        if u64::from(count) <= self.room {
+            return self.put_fitting(u64::from(value), count);
+        }
+        let fitting = self.room as u8;
+        self.put_fitting(u64::from(value) >> (count - fitting), fitting)?;
+        Err(PutFault::Stopped)
+    }
+
+    // Puts bits for which there is room.
+    fn put_fitting(&mut self, value: u64, count: u8) -> Result<(), PutFault>
+        requires count { count ≤ 32 }
+        requires room { count ≤ self.old.room }
+        requires bound { IsOpen (stand O.sink self.old) }
+        ensures { Puts O.sink result (stand O.sink self.old) (stand O.sink self.new) (bits_of count value) }
+    {
+        let bits = (u64::from(self.pending) << count) | (value & ((1 << count) - 1));
+        let filled = self.filled + count;
+        put_octets(self.out, bits, filled)?;
+        self.filled = filled % 8;
+        self.pending = (bits & ((1 << self.filled) - 1)) as u8;
+        self.room -= u64::from(count);
+        Ok(())
+    }
+
+    /// Puts a number of zeros.
+    pub fn put_zeros(&mut self, count: u16) -> Result<(), PutFault>
+        requires { IsOpen (stand O.sink self.old) }
+        ensures { Puts O.sink result (stand O.sink self.old) (stand O.sink self.new) (copies count false) }
+    {
+        let mut left = count;
+        while left > 32 {
+            self.put_bits(0, 32)?;
+            left -= 32;
+        }
+        self.put_bits(0, left as u8)
+    }
+
+    /// Pads the text with zeros to a multiple of `word` octets, then fills it to the limit where `fill` is set.
+    /// Answers its length in octets (docs/formats.md, "Stops, cut and fill").
+    pub fn end(self, word: u8, fill: bool) -> Result<u64, Failed>
+        requires word { 0 < word }
+        requires four { word ≤ 4 }
+        requires bound { IsOpen (stand O.sink self) }
+        requires padded { padded_length word self.bound fill (stand O.sink self).used ≤ 8 * self.bound }
+        ensures { Closes O.sink result word fill (stand O.sink self.entry) self.exit.0.now }
+    {
+        let used = 8 * self.bound - self.room;
+        let length = padded_octets(used, self.bound, word, fill);
+        let pending = self.pending;
+        let filled = self.filled;
+        put_last(self.out, pending, filled)?;
+        put_zero_octets(self.out, length - used.div_ceil(8))?;
+        Ok(length)
+    }
+}

@@ -1,0 +1,24 @@
+//! Bits over octets: writers and readers of texts, up to a bound (docs/formats.md, "Stops, cut and fill").
+#![tactic(auto)]
+
+mod bit_in;
+mod bit_out;
+mod bound;
+mod fault;
+mod octets;
+mod piece;
+mod sink;
+mod slice_in;
+mod slice_out;
+mod source;
+
+pub use bit_in::BitIn;
+pub use bit_out::BitOut;
+pub use fault::{Failed, InFault, Part, PutFault, TextFault};
+pub use sink::OctetOut;
+pub use slice_in::SliceIn;
+pub use slice_out::SliceOut;
+pub use source::OctetIn;
+
+#[cfg(test)]
+mod tests;
