@@ -1,0 +1,145 @@
+//! One line of the wavelet transform, forward in i32 and back in i64, and the lifting of whole
+//! rows.
+#![tactic(auto)]
+
+ghost use Rattle.std.specs.Prelude.{◌≡◌, ℕ, ◌+◌, ◌*◌, ◌-◌, ◌^◌, ◌<◌, ◌≤◌, length};
+ghost use Rattle.wave_defs.specs.Line.{even_before, even_within, high_of, low_of, merged};
+ghost use Rattle.wave_defs.specs.Within.{AllWithin};
+ghost use Rattle.wave_defs.specs.Held.{Agrees, signal};
+
+mod halves;
+mod kernels;
+mod samples;
+mod wide_samples;
+
+pub use kernels::{predict_add, predict_sub, update_add, update_sub};
+use wide_samples::{even_sample, odd_sample};
+
+/// The number of the even sample before even sample `j`, where the line is mirrored
+/// (docs/formats.md, "A line").
+pub fn mirrored_before(j: usize) -> usize
+    ensures { result ≡ even_before j }
+{
+    j.abs_diff(1)
+}
+
+/// The number of even sample `k` of `n`, where the line is mirrored; `k` is at most one past the
+/// end (docs/formats.md, "A line").
+pub fn mirrored_after(n: usize, k: usize) -> usize
+    requires within { k ≤ n + 1 }
+    requires long { 3 ≤ n }
+    requires fits { 2 * n < 2 ^ 64 }
+    ensures value { result ≡ even_within n k }
+    ensures inside { result < n }
+{
+    k.min(2 * n - 1 - k)
+}
+
+/// The low and the high samples of a line (docs/formats.md, "A line").
+///
+/// The line has an even number of samples, at least 6 and each at most 2^24 in magnitude. `low` and
+/// `high` have half as many each.
+pub fn forward_row(row: &[i32], low: &mut [i32], high: &mut [i32])
+    requires halves { length row.now ≡ 2 * length low.old }
+    requires same { length high.old ≡ length low.old }
+    requires long { 3 ≤ length low.old }
+    requires bounded { AllWithin (2 ^ 24) (2 * length low.old) (signal row.now) }
+    ensures low { Agrees (length low.new) (signal low.new)
+        (low_of (signal row.now) (length low.new)) }
+    ensures high { Agrees (length low.new) (signal high.new)
+        (high_of (signal row.now) (length low.new)) }
+{
+    halves::split(row, low, high);
+    halves::lift_high(low, high);
+    halves::lift_low(low, high);
+}
+
+/// The line that has these low and high samples (docs/formats.md, "A line").
+///
+/// `low` and `high` have the same length, at least 3, and samples of at most 2^38 in magnitude.
+/// `row` has twice as many.
+pub fn inverse_row(low: &[i64], high: &[i64], row: &mut [i64])
+    requires halves { length row.old ≡ 2 * length low.now }
+    requires same { length high.now ≡ length low.now }
+    requires long { 3 ≤ length low.now }
+    requires low_bounded { AllWithin (2 ^ 38) (length low.now) (signal low.now) }
+    requires high_bounded { AllWithin (2 ^ 38) (length low.now) (signal high.now) }
+    ensures { Agrees (2 * length low.now) (signal row.new)
+        (merged (signal low.now) (signal high.now) (length low.now)) }
+{
+    let n = low.len();
+    'evens: for j in 0..n {
+        row[2 * j] = even_sample(low[j], high[j.saturating_sub(1)], high[j]);
+    }
+    'odds: for j in 0..n {
+        let before = row[2 * mirrored_before(j)];
+        let here = row[2 * j];
+        let after = row[2 * mirrored_after(n, j + 1)];
+        let second = row[2 * mirrored_after(n, j + 2)];
+        row[2 * j + 1] = odd_sample(high[j], before, here, after, second);
+    }
+}
+
+#[cfg(test)]
+mod tests {
+    use super::*;
+    use std::test::Fail;
+
+    #[test]
+    fn eight_samples_there_and_back(rt: HostRuntime) -> Result<(), Fail> {
+        let mut low = [0; 4];
+        let mut high = [0; 4];
+        forward_row(&[1, 2, 3, 4, 5, 6, 7, 8], &mut low, &mut high);
+        assert_eq!(rt; low, [1, 3, 5, 7]);
+        assert_eq!(rt; high, [0, 0, 0, 1]);
+        let mut line = [0; 8];
+        inverse_row(&[1, 3, 5, 7], &[0, 0, 0, 1], &mut line);
+        assert_eq!(rt; line, [1, 2, 3, 4, 5, 6, 7, 8]);
+        Ok(())
+    }
+
+    #[test]
+    fn kernels_round_down(rt: HostRuntime) -> Result<(), Fail> {
+        let mut odd = [5, -7];
+        predict_sub(&mut odd, &[0, -1], &[-3, 2], &[0, -9], &[1, 4]);
+        assert_eq!(rt; odd, [7, -3]);
+        let mut even = [10, -1];
+        update_sub(&mut even, &[3, -6], &[4, -5]);
+        assert_eq!(rt; even, [12, -4]);
+        Ok(())
+    }
+
+    #[test]
+    fn kernels_add_what_was_taken(rt: HostRuntime) -> Result<(), Fail> {
+        let mut odd = [7, -3];
+        predict_add(&mut odd, &[0, -1], &[-3, 2], &[0, -9], &[1, 4]);
+        assert_eq!(rt; odd, [5, -7]);
+        let mut even = [12, -4];
+        update_add(&mut even, &[3, -6], &[4, -5]);
+        assert_eq!(rt; even, [10, -1]);
+        Ok(())
+    }
+
+    #[test]
+    fn even_samples_are_mirrored(rt: HostRuntime) -> Result<(), Fail> {
+        assert_eq!(rt; mirrored_before(0), 1);
+        assert_eq!(rt; mirrored_before(2), 1);
+        assert_eq!(rt; mirrored_after(3, 2), 2);
+        assert_eq!(rt; mirrored_after(3, 3), 2);
+        assert_eq!(rt; mirrored_after(3, 4), 1);
+        Ok(())
+    }
+
+    #[test]
+    fn six_samples_there_and_back(rt: HostRuntime) -> Result<(), Fail> {
+        let mut low = [0; 3];
+        let mut high = [0; 3];
+        forward_row(&[3, 9, 1, 7, 5, 2], &mut low, &mut high);
+        assert_eq!(rt; low, [6, 4, 5]);
+        assert_eq!(rt; high, [7, 4, -4]);
+        let mut line = [0; 6];
+        inverse_row(&[6, 4, 5], &[7, 4, -4], &mut line);
+        assert_eq!(rt; line, [3, 9, 1, 7, 5, 2]);
+        Ok(())
+    }
+}
