@@ -1,0 +1,6 @@
+mod PassLemmas
+mod LevelLemmas
+mod ForwardLemmas
+mod JoinLemmas
+mod InverseLemmas
+pub mod RoundTripLaws

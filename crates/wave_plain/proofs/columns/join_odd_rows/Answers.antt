@@ -1,0 +1,40 @@
+use Rattle.std.proofs.Common.{ℕ, ◌+◌, ◌*◌, ◌<◌, ◌≤◌, ◌^◌, arith}
+use Rattle.wave_defs.proofs.GridLaws.{row_ends, SameWithin-put_at, SameWithin-put_off}
+use Rattle.wave_defs.proofs.LiftLaws.{Agrees-columns_odd, Agrees-trans, Agrees-row_of}
+use Rattle.wave_plain.proofs.PassLemmas.{Agrees-part, AllWithin-copy}
+use Rattle.wave_plain.proofs.columns.join_odd_rows.Goals as goal
+
+pub odd_row-requires-clause-bounded_a : goal.odd_row-requires-clause-bounded_a
+odd_row-requires-clause-bounded_a c =
+    AllWithin-copy (2 ^ 40) c.args.n c.args.w _ c.mirrored_before.result _ _ _ (omega arith) c.row_of-odd.ensures.whole (Agrees-part c.args.w _ _ _ c.row_of-before.ensures.row) c.loop-i.invariant.even c.requires.even_bounded
+
+pub odd_row-requires-clause-bounded_b : goal.odd_row-requires-clause-bounded_b
+odd_row-requires-clause-bounded_b c =
+    AllWithin-copy (2 ^ 40) c.args.n c.args.w _ c.loop-i.i _ _ _ (omega arith) c.row_of-odd.ensures.whole (Agrees-part c.args.w _ _ _ c.row_of-here.ensures.row) c.loop-i.invariant.even c.requires.even_bounded
+
+pub odd_row-requires-clause-bounded_c : goal.odd_row-requires-clause-bounded_c
+odd_row-requires-clause-bounded_c c =
+    AllWithin-copy (2 ^ 40) c.args.n c.args.w _ c.mirrored_after.result _ _ _ (omega arith) c.row_of-odd.ensures.whole (Agrees-part c.args.w _ _ _ c.row_of-after.ensures.row) c.loop-i.invariant.even c.requires.even_bounded
+
+pub odd_row-requires-clause-bounded_d : goal.odd_row-requires-clause-bounded_d
+odd_row-requires-clause-bounded_d c =
+    AllWithin-copy (2 ^ 40) c.args.n c.args.w _ c.mirrored_after-in-loop-i.result _ _ _ (omega arith) c.row_of-odd.ensures.whole (Agrees-part c.args.w _ _ _ c.row_of-second.ensures.row) c.loop-i.invariant.even c.requires.even_bounded
+
+pub loop-i-preserved : goal.loop-i-preserved
+loop-i-preserved c =
+    let w = c.args.w in
+    let n = c.args.n in
+    let i = c.loop-i.i in
+    let room : (2 * i + 1) * w + w ≤ 2 * n * w = row_ends (2 * n) (2 * i + 1) w (omega arith) in
+    let kept = λ (k : ℕ) (h : k < n). Agrees-row_of n w k _ _ h c.loop-i.invariant.even in
+    let made =
+    Agrees-columns_odd _ _ w _ n i _ _ _ _ _ _ _ _ _ c.row_of-odd.ensures.whole c.mirrored_before.ensures c.mirrored_after.ensures.value c.mirrored_after-in-loop-i.ensures.value c.odd_row.ensures
+    (Agrees-part w _ _ _ c.row_of-odd.ensures.row)
+    (Agrees-trans _ _ _ _ (Agrees-part w _ _ _ c.row_of-before.ensures.row) (kept c.mirrored_before.result (omega arith)))
+    (Agrees-trans _ _ _ _ (Agrees-part w _ _ _ c.row_of-here.ensures.row) (kept i (omega arith)))
+    (Agrees-trans _ _ _ _ (Agrees-part w _ _ _ c.row_of-after.ensures.row) (kept c.mirrored_after.result (omega arith)))
+    (Agrees-trans _ _ _ _ (Agrees-part w _ _ _ c.row_of-second.ensures.row) (kept c.mirrored_after-in-loop-i.result (omega arith))) in
+    record {
+      even = SameWithin-put_off (λ k. 2 * k) (2 * i + 1) w n _ _ _ _ (omega arith) (omega arith) (omega arith) (λ k h. omega arith) c.loop-i.invariant.even;
+      odd = SameWithin-put_at (λ k. 2 * k + 1) w i _ _ _ _ (omega arith) (omega arith) (omega arith) (λ k h. omega arith) c.loop-i.invariant.odd (rw c.copy_from_slice.ensures.after made);
+    }

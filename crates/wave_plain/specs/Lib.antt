@@ -1,0 +1,4 @@
+pub mod Shown
+pub mod ShownSamples
+pub mod Alternate
+pub mod Laws

@@ -1,0 +1,192 @@
+//! Passes along columns, by whole rows.
+
+ghost use Rattle.std.specs.Prelude.{◌≡◌, ℕ, ◌+◌, ◌*◌, ◌-◌, ◌^◌, ◌<◌, ◌≤◌, length, slice_range};
+ghost use Rattle.wave_defs.specs.Level.{columns_low, columns_high, columns_merged};
+ghost use Rattle.wave_defs.specs.Within.{AllWithin, EachWithin};
+ghost use Rattle.wave_defs.specs.Held.{Agrees, SameWithin, signal, grid};
+ghost use Rattle.wave_plain.specs.Alternate.{even_rows, odd_rows};
+ghost use Rattle.wave_defs.specs.Lifted.{less_predicted, less_correction, plus_predicted, plus_correction, columns_even, columns_odd};
+
+use lift_rows::{
+    mirrored_after, mirrored_before, predict_add, predict_sub, update_add, update_sub,
+};
+
+/// Row i of rows of w cells.
+pub fn row_of<T>(cells: &[T], w: usize, i: usize) -> &[T]
+    requires { i * w + w ≤ length cells.now }
+    ensures whole { length result.now ≡ w }
+    ensures row { result.now ≡ slice_range cells.now (i * w) (i * w + w) }
+{
+    &cells[i * w..i * w + w]
+}
+
+/// The high row of an odd row and the four even rows round it.
+fn high_row(odd: &[i32], a: &[i32], b: &[i32], c: &[i32], d: &[i32], into: &mut [i32])
+    requires long_a { length a.now ≡ length odd.now }
+    requires long_b { length b.now ≡ length odd.now }
+    requires long_c { length c.now ≡ length odd.now }
+    requires long_d { length d.now ≡ length odd.now }
+    requires room { length into.old ≡ length odd.now }
+    requires bounded { AllWithin (2 ^ 26) (length odd.now) (signal odd.now) }
+    requires bounded_a { AllWithin (2 ^ 26) (length odd.now) (signal a.now) }
+    requires bounded_b { AllWithin (2 ^ 26) (length odd.now) (signal b.now) }
+    requires bounded_c { AllWithin (2 ^ 26) (length odd.now) (signal c.now) }
+    requires bounded_d { AllWithin (2 ^ 26) (length odd.now) (signal d.now) }
+    ensures { Agrees (length odd.now) (signal into.new)
+        (less_predicted (signal odd.now) (signal a.now) (signal b.now) (signal c.now) (signal d.now)) }
+{
+    into.copy_from_slice(odd);
+    predict_sub(into, a, b, c, d);
+}
+
+/// The low row of an even row and the high rows on both sides.
+fn low_row(even: &[i32], before: &[i32], after: &[i32], into: &mut [i32])
+    requires long_before { length before.now ≡ length even.now }
+    requires long_after { length after.now ≡ length even.now }
+    requires room { length into.old ≡ length even.now }
+    requires bounded { AllWithin (2 ^ 26) (length even.now) (signal even.now) }
+    requires bounded_before { AllWithin (2 ^ 26) (length even.now) (signal before.now) }
+    requires bounded_after { AllWithin (2 ^ 26) (length even.now) (signal after.now) }
+    ensures { Agrees (length even.now) (signal into.new)
+        (less_correction (signal even.now) (signal before.now) (signal after.now)) }
+{
+    into.copy_from_slice(even);
+    update_sub(into, before, after);
+}
+
+/// Each column of 2 * n cells to n low and n high ones, where a row has w cells.
+pub fn split_columns(cells: &[i32], w: usize, n: usize, low: &mut [i32], high: &mut [i32])
+    requires whole { length cells.now ≡ 2 * n * w }
+    requires low_half { length low.old ≡ n * w }
+    requires high_half { length high.old ≡ n * w }
+    requires long { 3 ≤ n }
+    requires short { n < 2 ^ 31 }
+    requires bounded { EachWithin (2 ^ 24) (2 * n) w (grid w cells.now) }
+    ensures low { SameWithin n w (grid w low.new) (columns_low (grid w cells.now) n) }
+    ensures high { SameWithin n w (grid w high.new) (columns_high (grid w cells.now) n) }
+{
+    'highs: for i in 0..n {
+        let odd = row_of(cells, w, 2 * i + 1);
+        let before = row_of(cells, w, 2 * mirrored_before(i));
+        let here = row_of(cells, w, 2 * i);
+        let after = row_of(cells, w, 2 * mirrored_after(n, i + 1));
+        let second = row_of(cells, w, 2 * mirrored_after(n, i + 2));
+        high_row(
+            odd,
+            before,
+            here,
+            after,
+            second,
+            &mut high[i * w..i * w + w],
+        );
+    }
+    'lows: for i in 0..n {
+        let even = row_of(cells, w, 2 * i);
+        let before = row_of(high, w, i.saturating_sub(1));
+        let after = row_of(high, w, i);
+        low_row(even, before, after, &mut low[i * w..i * w + w]);
+    }
+}
+
+/// The even row of a low row and the high rows on both sides.
+fn even_row(low: &[i64], before: &[i64], after: &[i64], into: &mut [i64])
+    requires long_before { length before.now ≡ length low.now }
+    requires long_after { length after.now ≡ length low.now }
+    requires room { length into.old ≡ length low.now }
+    requires bounded { AllWithin (2 ^ 40) (length low.now) (signal low.now) }
+    requires bounded_before { AllWithin (2 ^ 40) (length low.now) (signal before.now) }
+    requires bounded_after { AllWithin (2 ^ 40) (length low.now) (signal after.now) }
+    ensures { Agrees (length low.now) (signal into.new)
+        (plus_correction (signal low.now) (signal before.now) (signal after.now)) }
+{
+    into.copy_from_slice(low);
+    update_add(into, before, after);
+}
+
+/// The odd row of a high row and the four even rows round it.
+fn odd_row(high: &[i64], a: &[i64], b: &[i64], c: &[i64], d: &[i64], into: &mut [i64])
+    requires long_a { length a.now ≡ length high.now }
+    requires long_b { length b.now ≡ length high.now }
+    requires long_c { length c.now ≡ length high.now }
+    requires long_d { length d.now ≡ length high.now }
+    requires room { length into.old ≡ length high.now }
+    requires bounded { AllWithin (2 ^ 40) (length high.now) (signal high.now) }
+    requires bounded_a { AllWithin (2 ^ 40) (length high.now) (signal a.now) }
+    requires bounded_b { AllWithin (2 ^ 40) (length high.now) (signal b.now) }
+    requires bounded_c { AllWithin (2 ^ 40) (length high.now) (signal c.now) }
+    requires bounded_d { AllWithin (2 ^ 40) (length high.now) (signal d.now) }
+    ensures { Agrees (length high.now) (signal into.new)
+        (plus_predicted (signal high.now) (signal a.now) (signal b.now) (signal c.now) (signal d.now)) }
+{
+    into.copy_from_slice(high);
+    predict_add(into, a, b, c, d);
+}
+
+/// The even rows of an image from its n low and n high rows of w cells.
+fn join_even_rows(low: &[i64], high: &[i64], w: usize, n: usize, into: &mut [i64])
+    requires low_half { length low.now ≡ n * w }
+    requires high_half { length high.now ≡ n * w }
+    requires room { length into.old ≡ 2 * n * w }
+    requires short { n < 2 ^ 31 }
+    requires low_bounded { EachWithin (2 ^ 40) n w (grid w low.now) }
+    requires high_bounded { EachWithin (2 ^ 40) n w (grid w high.now) }
+    ensures { SameWithin n w (even_rows (grid w into.new))
+        (columns_even (grid w low.now) (grid w high.now)) }
+{
+    for i in 0..n {
+        let before = row_of(high, w, i.saturating_sub(1));
+        let after = row_of(high, w, i);
+        let here = row_of(low, w, i);
+        even_row(here, before, after, &mut into[2 * i * w..2 * i * w + w]);
+    }
+}
+
+/// The odd rows of an image from its n high rows of w cells and its even rows, which stand in their
+/// places. A row of room is kept for the row at hand.
+fn join_odd_rows(high: &[i64], w: usize, n: usize, row: &mut [i64], into: &mut [i64])
+    requires high_half { length high.now ≡ n * w }
+    requires row_room { length row.old ≡ w }
+    requires room { length into.old ≡ 2 * n * w }
+    requires long { 3 ≤ n }
+    requires short { n < 2 ^ 31 }
+    requires even_bounded { EachWithin (2 ^ 40) n w (even_rows (grid w into.old)) }
+    requires high_bounded { EachWithin (2 ^ 40) n w (grid w high.now) }
+    ensures even { SameWithin n w (even_rows (grid w into.new)) (even_rows (grid w into.old)) }
+    ensures odd { SameWithin n w (odd_rows (grid w into.new))
+        (columns_odd (even_rows (grid w into.old)) (grid w high.now) n) }
+{
+    for i in 0..n {
+        let before = row_of(into, w, 2 * mirrored_before(i));
+        let here = row_of(into, w, 2 * i);
+        let after = row_of(into, w, 2 * mirrored_after(n, i + 1));
+        let second = row_of(into, w, 2 * mirrored_after(n, i + 2));
+        let odd = row_of(high, w, i);
+        odd_row(odd, before, here, after, second, row);
+        into[(2 * i + 1) * w..(2 * i + 1) * w + w].copy_from_slice(row);
+    }
+}
+
+/// Each column of 2 * n cells from its n low and n high ones, where a row has w cells. `row` is
+/// room for the row at hand.
+pub fn join_columns(
+    low: &[i64],
+    high: &[i64],
+    w: usize,
+    n: usize,
+    row: &mut [i64],
+    into: &mut [i64],
+)
+    requires low_half { length low.now ≡ n * w }
+    requires high_half { length high.now ≡ n * w }
+    requires row_room { length row.old ≡ w }
+    requires room { length into.old ≡ 2 * n * w }
+    requires long { 3 ≤ n }
+    requires short { n < 2 ^ 31 }
+    requires low_bounded { EachWithin (2 ^ 38) n w (grid w low.now) }
+    requires high_bounded { EachWithin (2 ^ 38) n w (grid w high.now) }
+    ensures { SameWithin (2 * n) w (grid w into.new)
+        (columns_merged (grid w low.now) (grid w high.now) n) }
+{
+    join_even_rows(low, high, w, n, into);
+    join_odd_rows(high, w, n, row, into);
+}

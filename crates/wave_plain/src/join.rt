@@ -1,0 +1,91 @@
+//! One level of the inverse transform: columns, then rows.
+
+ghost use Rattle.std.specs.Prelude.{◌≡◌, ◌*◌, ◌^◌, ◌<◌, ◌≤◌, IfOk, vec_len};
+ghost use Rattle.wave_defs.specs.Level.{joined, columns_merged, rows_merged};
+ghost use Rattle.wave_defs.specs.Within.{EachWithin, QuartersWithin};
+ghost use Rattle.wave_plain.specs.Shown.{image_of, quarters_in, HasSize, Shows};
+
+use crate::{Plane, columns, rows};
+use std::alloc::{AllocError, Global};
+
+/// A plane of zeros.
+fn zero_plane(alloc: Global, width: u32, rows: u32) -> Result<Plane, AllocError>
+    ensures { IfOk result (HasSize rows width) }
+{
+    let cells = vec![in alloc; 0; rows as usize * width as usize]?;
+    Ok(Plane { width, rows, cells })
+}
+
+/// The columns of `rows` cells that have these low and high halves.
+fn join_columns(alloc: Global, rows: u32, low: &Plane, high: &Plane) -> Result<Plane, AllocError>
+    requires low_size { HasSize low.now.rows low.now.width low.now }
+    requires high_size { HasSize low.now.rows low.now.width high.now }
+    requires long { 3 ≤ low.now.rows }
+    requires halves { rows ≡ 2 * low.now.rows }
+    requires low_bounded { EachWithin (2 ^ 34) low.now.rows low.now.width (image_of low.now) }
+    requires high_bounded { EachWithin (2 ^ 34) low.now.rows low.now.width (image_of high.now) }
+    ensures { IfOk result
+        (Shows (2 * low.now.rows) low.now.width (columns_merged (image_of low.now) (image_of high.now) low.now.rows)) }
+{
+    let width = low.width as usize;
+    let half = low.rows as usize;
+    let mut plane = zero_plane(alloc, low.width, rows)?;
+    let mut row = vec![in alloc; 0; width]?;
+    columns::join_columns(
+        &low.cells,
+        &high.cells,
+        width,
+        half,
+        &mut row,
+        &mut plane.cells,
+    );
+    Ok(plane)
+}
+
+/// The rows of `width` cells that have these low and high halves.
+fn join_rows(alloc: Global, width: u32, low: &Plane, high: &Plane) -> Result<Plane, AllocError>
+    requires low_size { HasSize low.now.rows low.now.width low.now }
+    requires high_size { HasSize low.now.rows low.now.width high.now }
+    requires long { 3 ≤ low.now.width }
+    requires halves { width ≡ 2 * low.now.width }
+    requires low_bounded { EachWithin (2 ^ 38) low.now.rows low.now.width (image_of low.now) }
+    requires high_bounded { EachWithin (2 ^ 38) low.now.rows low.now.width (image_of high.now) }
+    ensures { IfOk result
+        (Shows low.now.rows (2 * low.now.width) (rows_merged (image_of low.now) (image_of high.now) low.now.width)) }
+{
+    let mut plane = zero_plane(alloc, width, low.rows)?;
+    rows::join_rows(
+        &low.cells,
+        &high.cells,
+        low.rows as usize,
+        low.width as usize,
+        &mut plane.cells,
+    );
+    Ok(plane)
+}
+
+/// The image of this width and these rows that has these four bands of one level.
+pub fn join(
+    alloc: Global,
+    width: u32,
+    rows: u32,
+    ll: &Plane,
+    hl: &Plane,
+    lh: &Plane,
+    hh: &Plane,
+) -> Result<Plane, AllocError>
+    requires ll_size { HasSize ll.now.rows ll.now.width ll.now }
+    requires hl_size { HasSize ll.now.rows ll.now.width hl.now }
+    requires lh_size { HasSize ll.now.rows ll.now.width lh.now }
+    requires hh_size { HasSize ll.now.rows ll.now.width hh.now }
+    requires long { (3 ≤ ll.now.rows) × (3 ≤ ll.now.width) }
+    requires halves { (rows ≡ 2 * ll.now.rows) × (width ≡ 2 * ll.now.width) }
+    requires bounded { QuartersWithin (2 ^ 34) ll.now.rows ll.now.width
+        (quarters_in ll.now hl.now lh.now hh.now) }
+    ensures { IfOk result (Shows (2 * ll.now.rows) (2 * ll.now.width)
+        (joined (quarters_in ll.now hl.now lh.now hh.now) ll.now.rows ll.now.width)) }
+{
+    let low = join_columns(alloc, rows, ll, lh)?;
+    let high = join_columns(alloc, rows, hl, hh)?;
+    join_rows(alloc, width, &low, &high)
+}
