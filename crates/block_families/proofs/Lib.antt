@@ -1,0 +1,5 @@
+mod Passing
+mod Dividing
+mod BandPlaces
+mod Placing
+mod Scattering
