@@ -1,0 +1,12 @@
+pub mod Ranges
+pub mod Numbers
+pub mod PixelPlaces
+pub mod PixelLists
+pub mod PixelLaws
+pub mod RasterLaws
+pub mod PieceRuns
+pub mod RowRuns
+pub mod RowSteps
+pub mod RowsTaken
+pub mod MadeLaws
+pub mod OctetLaws

@@ -1,0 +1,37 @@
+-- Pixels that are put into a row, one after another.
+use Rattle.std.proofs.Common.{◌≡◌, ◌<◌, ◌≤◌, ◌+◌, ◌*◌, ◌≢◌, below_more, get_or-set_same, get_or-set_other, ℕ, ℤ, pos, Bool, List, length, get_or, refl, subst, arith, ◌∙◌}
+use Rattle.std.proofs.Math.ListN.{set, length-set}
+use Rattle.std.proofs.Math.Nat.{mul-le-mul_left}
+use Rattle.raster_rows.specs.Pixels.{IsPixel, pixel_at}
+use Rattle.raster_rows.specs.Pieces.{PixelsPut}
+
+-- a pixel of some that are whole is whole
+pub whole_within : (size place count n : ℕ) → place < count → count * size ≤ n → (place + 1) * size ≤ n
+whole_within size place count n lt le =
+    let next : place + 1 ≤ count = omega arith in
+    omega (arith, mul-le-mul_left {m = place + 1} {n = count} size next)
+
+-- no pixel yet
+pub none_put : (depth : ℕ) (signed : Bool) (octets : List ℕ) (column : ℕ) (into : List ℤ) → PixelsPut depth signed octets column 0 into into
+none_put depth signed octets column into = record {
+  in_range = λ k lt. absurd (omega arith);
+  put = λ k lt. absurd (omega arith);
+  below = λ k lt. refl;
+  above = λ k le. refl;
+  same = refl;
+}
+
+-- one more pixel
+pub one_put : (depth : ℕ) (signed : Bool) (octets : List ℕ) (column n : ℕ) (value : ℤ) (before mid : List ℤ) →
+    PixelsPut depth signed octets column n before mid → column + n < length mid → value ≡ pixel_at depth signed octets n → IsPixel depth signed value →
+    PixelsPut depth signed octets column (n + 1) before (set mid (column + n) value)
+one_put depth signed octets column n value before mid p lt is here =
+    let set_here : get_or (set mid (column + n) value) (column + n) (pos 0) ≡ value = get_or-set_same mid (column + n) value (pos 0) lt in
+    record {
+      in_range = below_more (λ k. IsPixel depth signed (pixel_at depth signed octets k)) n p.in_range (subst (λ v. IsPixel depth signed v) is here);
+      put = below_more (λ k. get_or (set mid (column + n) value) (column + k) (pos 0) ≡ pixel_at depth signed octets k) n
+          (λ k le. let ne : column + k ≢ column + n = omega arith in get_or-set_other mid (column + n) (column + k) value (pos 0) ne ∙ p.put k le) (set_here ∙ is);
+      below = λ k le. let ne : k ≢ column + n = omega arith in get_or-set_other mid (column + n) k value (pos 0) ne ∙ p.below k le;
+      above = λ k le. let ne : k ≢ column + n = omega arith in get_or-set_other mid (column + n) k value (pos 0) ne ∙ p.above k (omega arith);
+      same = length-set mid (column + n) value ∙ p.same;
+    }

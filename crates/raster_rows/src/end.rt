@@ -1,0 +1,18 @@
+// The end of the input.
+ghost use Rattle.std.specs.Prelude.{MatchResult};
+ghost use Rattle.port_122.specs.Outside.{ReadFailed};
+ghost use Rattle.raster_rows.specs.Ends.{SawEnd};
+
+use port_122::{Failed, Port};
+
+/// Reads one octet, and answers whether the end of the input was there instead. `Failed` comes only where
+/// `read_faults` rose.
+pub fn at_end<X: Port>(port: &mut X) -> Result<bool, Failed>
+    ensures { MatchResult result
+        (SawEnd (X.outside port.old) (X.outside port.new))
+        (λ _. ReadFailed (X.outside port.old) (X.outside port.new)) }
+{
+    let mut octet = [0];
+    let count = port.read(&mut octet)?;
+    Ok(count == 0)
+}

@@ -1,0 +1,17 @@
+//! Rows of a raster in and out, and the made image (docs/formats.md, "Raster and made image").
+#![tactic(auto)]
+
+mod end;
+mod form;
+mod made;
+mod padding;
+mod reading;
+#[cfg(test)]
+mod tests;
+mod writing;
+
+pub use end::at_end;
+pub use made::{MadeImage, made_pixel};
+pub use padding::pad_row;
+pub use reading::{RowFault, read_row};
+pub use writing::write_row;

@@ -1,0 +1,131 @@
+// A row in.
+ghost use Rattle.std.specs.Prelude.{◌≡◌, ◌+◌, ◌-◌, ◌*◌, ◌<◌, ◌≤◌, ◌^◌, length, take, drop, MatchResult};
+ghost use Rattle.base_122.specs.Ranges.{IsInRange};
+ghost use Rattle.raster_rows.specs.Pixels.{pixel_size};
+ghost use Rattle.raster_rows.specs.RowReads.{RowRead};
+ghost use Rattle.raster_rows.specs.Pieces.{PixelsPut, FirstOut};
+
+use crate::form::{PIECE, PixelForm};
+use base_122::Setting;
+use port_122::Port;
+
+/// Why a row was not read (docs/formats.md, "Raster and made image").
+#[derive(Clone, Copy, Debug, PartialEq, Eq)]
+pub enum RowFault {
+    /// A read failed.
+    ReadFault,
+    /// The input ended inside the row, of which so many octets were taken.
+    Short { octets: u64 },
+    /// A value is out of the range of pixels: the first of the row.
+    BadPixel { row: u32, column: u32, value: i32 },
+}
+
+/// Reads the first `width` values of a row (docs/formats.md, "Raster and made image"), which is called by this
+/// number in a fault.
+///
+/// `BadPixel` comes exactly where some whole pixel that was taken is out of range, and names the first. `Short`
+/// comes exactly where the input ends inside the row and no whole pixel before is out of range. `ReadFault` comes
+/// only where `read_faults` rose. The whole pixels that were taken and are in range before any other stand at the
+/// front of `into`, and its other numbers stay. A read asks for at most what is left of the row and at most 4,096
+/// octets, and each piece is tested before the next read.
+pub fn read_row<X: Port>(
+    port: &mut X,
+    setting: &Setting,
+    row: u32,
+    into: &mut [i32],
+) -> Result<(), RowFault>
+    requires in_range { IsInRange setting.now }
+    requires room { setting.now.width ≤ length into.old }
+    ensures { RowRead setting.now.depth setting.now.signed setting.now.width row (X.outside port.old) (X.outside port.new) into.old into.new result }
+{
+    let form = PixelForm::new(setting.depth, setting.signed);
+    let mut buffer = [0; PIECE];
+    fill_row(port, form, setting.width as usize, row, into, &mut buffer)
+}
+
+// A value out of range, and its place.
+#[derive(Clone, Copy)]
+struct OutOfRange {
+    place: usize,
+    value: i32,
+}
+
+// Reads a row by pieces of at most the buffer's length, and tests the pixels of each piece before it reads on.
+fn fill_row<X: Port>(
+    port: &mut X,
+    form: PixelForm,
+    width: usize,
+    row: u32,
+    into: &mut [i32],
+    buffer: &mut [u8],
+) -> Result<(), RowFault>
+    requires narrow { width < 2 ^ 32 }
+    requires room { width ≤ length into.old }
+    requires buffer { 2 ≤ length buffer.old }
+    ensures { RowRead form.depth form.signed width row (X.outside port.old) (X.outside port.new) into.old into.new result }
+{
+    let mut column = 0;
+    let mut held = 0;
+    while column < width {
+        let left = form.octets(width - column) - held;
+        let end = held + left.min(buffer.len() - held);
+        let Ok(count) = port.read(&mut buffer[held..end]) else {
+            return Err(RowFault::ReadFault);
+        };
+        if count == 0 {
+            let octets = form.octets(column) + held;
+            return Err(RowFault::Short {
+                octets: octets as u64,
+            });
+        }
+        let whole = form.pixels(held + count);
+        if let Err(bad) = take_pixels(form, buffer, whole, into, column) {
+            return Err(RowFault::BadPixel {
+                row,
+                column: (column + bad.place) as u32,
+                value: bad.value,
+            });
+        }
+        column += whole;
+        held = carry(buffer, form.octets(whole), held + count);
+    }
+    Ok(())
+}
+
+// Puts the first pixels of these octets into a row from a column on, up to the first that is out of range.
+fn take_pixels(
+    form: PixelForm,
+    octets: &[u8],
+    count: usize,
+    into: &mut [i32],
+    column: usize,
+) -> Result<(), OutOfRange>
+    requires whole { count * pixel_size form.depth ≤ length octets.now }
+    requires room { column + count ≤ length into.old }
+    ensures { MatchResult result
+        (λ _. PixelsPut form.depth form.signed octets.now column count into.old into.new)
+        (λ bad. FirstOut form.depth form.signed octets.now column count bad.place bad.value into.old into.new) }
+{
+    for place in 0..count {
+        let value = form.pixel_at(octets, place);
+        if !form.holds(value) {
+            return Err(OutOfRange { place, value });
+        }
+        into[column + place] = value;
+    }
+    Ok(())
+}
+
+// Moves what follows the whole pixels, an octet at most, to the front, and answers how many octets that is.
+fn carry(buffer: &mut [u8], used: usize, end: usize) -> usize
+    requires order { used ≤ end }
+    requires few { end ≤ used + 1 }
+    requires within { end ≤ length buffer.old }
+    ensures count { result ≡ end - used }
+    ensures octets { take result buffer.new ≡ drop used (take end buffer.old) }
+{
+    if used < end {
+        buffer[0] = buffer[used];
+    }
+    end - used
+}
