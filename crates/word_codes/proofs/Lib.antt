@@ -1,0 +1,4 @@
+mod SymbolTables
+mod Costs
+mod Cheapest
+mod CodedItems

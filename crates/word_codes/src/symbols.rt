@@ -1,0 +1,30 @@
+// The symbols of words.
+
+ghost use Rattle.std.specs.Prelude.{◌≡◌, ◌≤◌, ◌<◌, ◌^◌};
+ghost use Rattle.plane_defs.specs.Codes.{symbol};
+
+// The symbol of each word of two bits.
+const SYMBOLS_OF_TWO: [u8; 4] = [0, 2, 1, 3];
+
+// The symbol of each word of three bits.
+const SYMBOLS_OF_THREE: [u8; 8] = [0, 3, 2, 6, 1, 5, 4, 7];
+
+// The symbol of each word of four bits.
+const SYMBOLS_OF_FOUR: [u8; 16] = [0, 4, 3, 10, 2, 9, 8, 14, 1, 7, 6, 13, 5, 12, 11, 15];
+
+/// The symbol of a word of 2 to 4 bits, highest bit first: words go by their number of ones, then by
+/// falling value (docs/formats.md, "Words and codes").
+pub fn symbol_of(word: u8, length: u8) -> u8
+    requires short { 2 ≤ length }
+    requires long { length ≤ 4 }
+    requires fits { word < 2 ^ length }
+    ensures value { result ≡ symbol length word }
+    ensures within { result < 2 ^ length }
+{
+    let word = word as usize;
+    match length {
+        2 => SYMBOLS_OF_TWO[word],
+        3 => SYMBOLS_OF_THREE[word],
+        _ => SYMBOLS_OF_FOUR[word],
+    }
+}
