@@ -1,0 +1,9 @@
+mod WordBits
+mod Peaking
+mod EntrySteps
+mod MarkParts
+mod Spelling
+mod Tallying
+mod BlockReads
+mod Choosing
+mod Sending

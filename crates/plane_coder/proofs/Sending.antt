@@ -1,0 +1,246 @@
+-- Items put one stretch of a span after another.
+use Rattle.std.proofs.Common.{◌≡◌, ◌≢◌, ◌⊎◌, inl, inr, ℕ, zero, suc, add-one, ◌+◌, ◌-◌, ◌*◌, ◌/◌, ◌<◌, ◌≤◌, ℤ, false, List, [], ◌∷◌, ◌++◌, length, refl, ap, sym, ◌∙◌, subst, arith, append_assoc, zero-add, get_or}
+use Rattle.std.specs.Prelude.{Result, Ok, Err, OnOk}
+use Rattle.std.specs.List.{flat_map, list_any}
+use Rattle.base_122.specs.declared.weights.Weights.{Weights}
+use Rattle.item_defs.specs.Items.{Item, text}
+use Rattle.item_defs.proofs.Texts.{text-append}
+use Rattle.bit_pipe.specs.Sinks.{SinkOf}
+use Rattle.bit_pipe.specs.Standing.{Standing, IsOpen, Adds, Puts}
+use Rattle.bit_pipe.specs.declared.fault.PutFault.{PutFault}
+use Rattle.bit_pipe.proofs.Putting.{adds_start, adds_then, puts_ended, puts_whole}
+use Rattle.plane_defs.specs.declared.codes.Book.{Book}
+use Rattle.plane_defs.specs.declared.entries.Entry.{Entry}
+use Rattle.plane_defs.specs.declared.stages.Stage.{Stage}
+use Rattle.plane_defs.specs.Spans.{span}
+use Rattle.plane_defs.specs.Entries.{stage_number}
+use Rattle.plane_defs.specs.Spelled.{spelled_after, is_word_of}
+use Rattle.plane_defs.specs.Planes.{Plane, blocks_in, gaggles, of_gaggle, before_stage, gaggle_items, stage_items, plane_items, chosen}
+use Rattle.plane_defs.specs.Marks.{depths_of}
+use Rattle.plane_defs.proofs.SpanLists.{flat_map-span-suc, flat_map-span-none, flat_map-span-parts}
+use Rattle.plane_coder.specs.declared.gaggle.Gaggle.{Gaggle}
+use Rattle.plane_coder.specs.declared.view.View.{View}
+use Rattle.plane_coder.specs.Gaggles.{Agrees, AreOptions, AreKnown, SameMarks, options_in, sent_in, options_at, sent_at}
+use Rattle.plane_coder.specs.Stored.{Stores}
+use Rattle.plane_coder.specs.Spells.{Spells}
+use Rattle.plane_coder.specs.declared.plan.PlanePlan.{PlanePlan}
+use Rattle.plane_coder.specs.Chosen.{Chooses}
+use Rattle.plane_coder.specs.Sends.{AllAgree, chosen_items}
+use Rattle.plane_coder.specs.Views.{plane_of, plane_in}
+use Rattle.plane_coder.proofs.BlockReads.{length-depths_of}
+use Rattle.plane_coder.proofs.Spelling.{on_ok_map, spells_none, spells_both, spells_cut}
+use Rattle.plane_coder.proofs.Choosing.{more_of_span}
+
+-- ---- entries of one block after another
+
+module _ {S : Type 0} {k : SinkOf S} {book : Book} (f : ℕ → List Entry) (start : ℕ) where
+  pub none_spelled : (a : Gaggle) (s : Standing S) → IsOpen s → Spells k book a a (Ok tt) s s (flat_map f (span start 0))
+  none_spelled a s h = subst (λ l. Spells k book a a (Ok tt) s s l) (sym (flat_map-span-none f start)) (spells_none a s h)
+
+  pub more_spelled : {a b c : Gaggle} {s t u : Standing S} (n : ℕ) (xs : List Entry) → xs ≡ f (start + n) →
+      Spells k book a b (Ok tt) s t (flat_map f (span start n)) → Spells k book b c (Ok tt) t u xs → Spells k book a c (Ok tt) s u (flat_map f (span start (n + 1)))
+  more_spelled {a} {b} {c} {s} {t} {u} n xs is p q = subst (λ l. Spells k book a c (Ok tt) s u l) (more_of_span f start n xs is) (spells_both p q)
+
+  pub spelled_ended : {a b c : Gaggle} {e : PutFault} {s t u : Standing S} (n count : ℕ) (xs : List Entry) → n < count → xs ≡ f (start + n) →
+      Spells k book a b (Ok tt) s t (flat_map f (span start n)) → Spells k book b c (Err e) t u xs → Spells k book a c (Err e) s u (flat_map f (span start count))
+  spelled_ended {a} {b} {c} {e} {s} {t} {u} n count xs below is p q =
+      let parts = flat_map-span-parts f start count n below in
+      let same : (flat_map f (span start n) ++ xs) ++ parts.0 ≡ flat_map f (span start count) =
+      ap (λ l. (flat_map f (span start n) ++ l) ++ parts.0) is ∙ sym parts.1 in
+      subst (λ l. Spells k book a c (Err e) s u l) same (spells_cut parts.0 (spells_both p q))
+
+-- ---- items of one stretch after another
+
+module _ {S : Type 0} {k : SinkOf S} (f : ℕ → List Item) where
+  pub none_put : (s : Standing S) → IsOpen s → Adds k s s (text (flat_map f (span 0 0)))
+  none_put s h = subst (λ l. Adds k s s (text l)) (sym (flat_map-span-none f 0)) (adds_start k s h)
+
+  pub more_put : {a b c : Standing S} (n : ℕ) → Adds k a b (text (flat_map f (span 0 n))) → Adds k b c (text (f n)) → Adds k a c (text (flat_map f (span 0 (n + 1))))
+  more_put {a} {b} {c} n p q =
+      let place : f n ≡ f (0 + n) = ap f (sym (zero-add n)) in
+      let same : text (flat_map f (span 0 n)) ++ text (f n) ≡ text (flat_map f (span 0 (n + 1))) =
+      sym (text-append (flat_map f (span 0 n)) (f n)) ∙ ap text (more_of_span f 0 n (f n) place) in
+      subst (λ l. Adds k a c l) same (adds_then p q)
+
+  pub put_ended : {a b c : Standing S} {e : PutFault} (n count : ℕ) → n < count → Adds k a b (text (flat_map f (span 0 n))) →
+      Puts {T = Unit {0}} k (Err e) b c (text (f n)) → Puts {T = Unit {0}} k (Err e) a c (text (flat_map f (span 0 count)))
+  put_ended n count below p q =
+      let parts = flat_map-span-parts f 0 count n below in
+      let first = flat_map f (span 0 n) in
+      let whole : text first ++ (text (f n) ++ text parts.0) ≡ text (flat_map f (span 0 count)) =
+      sym (append_assoc (text first) (text (f n)) (text parts.0)) ∙
+      ap (λ l. l ++ text parts.0) (sym (text-append first (f n))) ∙ sym (text-append (first ++ f n) parts.0) ∙
+      ap (λ m. text ((first ++ f m) ++ parts.0)) (sym (zero-add n)) ∙ ap text (sym parts.1) in
+      puts_ended (text parts.0) p q whole
+
+  pub put_whole : {a b : Standing S} (n count : ℕ) → n ≡ count → Adds k a b (text (flat_map f (span 0 n))) → Puts {T = Unit {0}} k (Ok tt) a b (text (flat_map f (span 0 count)))
+  put_whole {a} {b} n count e p = puts_whole (subst (λ m. Adds k a b (text (flat_map f (span 0 m)))) e p)
+
+-- ---- one gaggle in its stage
+
+before_more : (p : Plane) (j g : ℕ) → before_stage p j g ++ of_gaggle p (stage_number j) g ≡ before_stage p (j + 1) g
+before_more p j g =
+    let f = λ (i : ℕ). of_gaggle p (stage_number i) g in
+    more_of_span f 0 j (of_gaggle p (stage_number j) g) (ap f (sym (zero-add j)))
+
+gaggle_there : (view : View) (d0 d1 : List ℕ) (stage : Stage) (j g : ℕ) → d1 ≡ d0 → stage ≡ stage_number j →
+    of_gaggle (plane_in view d1) stage g ≡ of_gaggle (plane_in view d0) (stage_number j) g
+gaggle_there view d0 d1 stage j g same is =
+    ap (λ d. of_gaggle (plane_in view d) stage g) same ∙ ap (λ (x : Stage). of_gaggle (plane_in view d0) x g) is
+
+module _ {S : Type 0} {k : SinkOf S} {book : Book} (view : View) (d0 d1 : List ℕ) (options : ℕ → List ℕ) (stage : Stage) (j g : ℕ) {a b : Gaggle} {r : Result (Unit {0}) PutFault} {s t : Standing S} where
+  pub gaggle_puts : d1 ≡ d0 → stage ≡ stage_number j → a.options ≡ options g → Agrees a.sent (before_stage (plane_in view d0) j g) →
+      Spells k book a b r s t (of_gaggle (plane_in view d1) stage g) → Puts k r s t (text (gaggle_items book options (plane_in view d0) j g))
+  gaggle_puts same is chosen agrees p =
+      let before = before_stage (plane_in view d0) j g in
+      let items : spelled_after book a.options before (of_gaggle (plane_in view d1) stage g) ≡ gaggle_items book options (plane_in view d0) j g =
+      ap (λ o. spelled_after book o before (of_gaggle (plane_in view d1) stage g)) chosen ∙ ap (spelled_after book (options g) before) (gaggle_there view d0 d1 stage j g same is) in
+      subst (λ l. Puts k r s t (text l)) items (p.puts before agrees)
+
+pub gaggle_agrees : {S : Type 0} {k : SinkOf S} {book : Book} (view : View) (d0 d1 : List ℕ) (stage : Stage) (j g : ℕ) {a b : Gaggle} {r : Result (Unit {0}) PutFault} {s t : Standing S} →
+    d1 ≡ d0 → stage ≡ stage_number j → Agrees a.sent (before_stage (plane_in view d0) j g) →
+    Spells k book a b r s t (of_gaggle (plane_in view d1) stage g) → OnOk r (Agrees b.sent (before_stage (plane_in view d0) (j + 1) g))
+gaggle_agrees view d0 d1 stage j g {a} {b} {r} same is agrees p =
+    let before = before_stage (plane_in view d0) j g in
+    let more : before ++ of_gaggle (plane_in view d1) stage g ≡ before_stage (plane_in view d0) (j + 1) g =
+    ap (λ l. before ++ l) (gaggle_there view d0 d1 stage j g same is) ∙ before_more (plane_in view d0) j g in
+    on_ok_map r (subst (Agrees b.sent) more) (p.agrees before agrees)
+
+-- ---- the marks
+
+pub same_marks : (marks : List ℤ) → SameMarks marks marks
+same_marks marks = record { depths = refl; whole = refl; options = λ g. refl }
+
+pub same_then : (m0 m1 m2 : List ℤ) → SameMarks m0 m1 → SameMarks m1 m2 → SameMarks m0 m2
+same_then m0 m1 m2 p q = record { depths = q.depths ∙ p.depths; whole = q.whole ∙ p.whole; options = λ g. q.options g ∙ p.options g }
+
+same_or_other : (h g : ℕ) → (h ≡ g) ⊎ (h ≢ g)
+same_or_other h g = grind arith
+
+-- a gaggle is kept with the options that it had
+pub same_stored : (m0 m1 m2 : List ℤ) (g : ℕ) (gaggle : Gaggle) → SameMarks m0 m1 → Stores m1 m2 g gaggle → gaggle.options ≡ options_at m1 g → SameMarks m0 m2
+same_stored m0 m1 m2 g gaggle same put kept = record {
+  depths = put.depths ∙ same.depths;
+  whole = put.whole ∙ same.whole;
+  options = λ h.
+      elim (same_or_other h g) [
+        | inl e ↦ ap (options_at m2) e ∙ put.options ∙ kept ∙ ap (options_at m1) (sym e) ∙ same.options h
+        | inr apart ↦ ap options_in (put.others h apart) ∙ same.options h
+      ];
+}
+
+pub known_same : (m0 m1 : List ℤ) → SameMarks m0 m1 → AreKnown m0 → AreKnown m1
+known_same m0 m1 same known = record {
+  at = λ g below. subst AreOptions (sym (same.options g)) (known.at g (omega (arith, same.whole)));
+}
+
+-- the flags of the gaggles put so far, and of those to come
+pub record SomeAgree (p : Plane) (j : ℕ) (marks : List ℤ) (g : ℕ) : Type 0 where
+  pub done : (h : ℕ) → h < g → Agrees (sent_at marks h) (before_stage p (j + 1) h)
+  pub todo : (h : ℕ) → g ≤ h → h < gaggles p → Agrees (sent_at marks h) (before_stage p j h)
+
+pub none_agree : (p : Plane) (j : ℕ) (marks : List ℤ) → AllAgree p j marks → SomeAgree p j marks 0
+none_agree p j marks agree = record { done = λ h below. absurd (omega arith); todo = λ h above below. agree.at h below }
+
+pub more_agree : (p : Plane) (j : ℕ) (m1 m2 : List ℤ) (g : ℕ) (gaggle : Gaggle) → SomeAgree p j m1 g → Stores m1 m2 g gaggle →
+    Agrees gaggle.sent (before_stage p (j + 1) g) → SomeAgree p j m2 (g + 1)
+more_agree p j m1 m2 g gaggle so_far put here = record {
+  done = λ h below.
+      elim (same_or_other h g) [
+        | inl e ↦
+            let there = subst (λ f. Agrees f (before_stage p (j + 1) g)) (sym put.sent) here in
+            subst (λ i. Agrees (sent_at m2 i) (before_stage p (j + 1) i)) (sym e) there
+        | inr apart ↦ subst (λ m. Agrees (sent_in m) (before_stage p (j + 1) h)) (sym (put.others h apart)) (so_far.done h (omega arith))
+      ];
+  todo = λ h above below.
+      let apart : h ≢ g = omega arith in
+      subst (λ m. Agrees (sent_in m) (before_stage p j h)) (sym (put.others h apart)) (so_far.todo h (omega arith) below);
+}
+
+pub all_agree : (p : Plane) (j : ℕ) (marks : List ℤ) (g : ℕ) → gaggles p ≤ g → SomeAgree p j marks g → AllAgree p (j + 1) marks
+all_agree p j marks g all agree = record { at = λ h below. agree.done h (omega arith) }
+
+-- ---- the same items by equal options and depths
+
+flat_map-span-below : {A : Type 0} (f f' : ℕ → List A) (start count : ℕ) → ((n : ℕ) → n < count → f (start + n) ≡ f' (start + n)) → flat_map f (span start count) ≡ flat_map f' (span start count)
+flat_map-span-below f f' start zero each = flat_map-span-none f start ∙ sym (flat_map-span-none f' start)
+flat_map-span-below {A} f f' start (suc count) each =
+    let before = flat_map-span-below f f' start count (λ n lt. each n (omega arith)) in
+    let step : flat_map f (span start (count + 1)) ≡ flat_map f' (span start (count + 1)) =
+    flat_map-span-suc f start count ∙ ap (λ l. l ++ f (start + count)) before ∙ ap (λ l. flat_map f' (span start count) ++ l) (each count (omega arith)) ∙ sym (flat_map-span-suc f' start count) in
+    subst (λ n. flat_map f (span start n) ≡ flat_map f' (span start n)) (add-one count) step
+
+pub stage_same : (book : Book) (o o' : ℕ → List ℕ) (p : Plane) (j : ℕ) → ((g : ℕ) → g < gaggles p → o g ≡ o' g) → stage_items book o p j ≡ stage_items book o' p j
+stage_same book o o' p j same =
+    flat_map-span-below (gaggle_items book o p j) (gaggle_items book o' p j) 0 (gaggles p)
+    (λ g below. ap (λ c. spelled_after book c (before_stage p j (0 + g)) (of_gaggle p (stage_number j) (0 + g))) (moved g below))
+  where
+    moved : (g : ℕ) → g < gaggles p → o (0 + g) ≡ o' (0 + g)
+    moved g below = ap o (zero-add g) ∙ same g below ∙ ap o' (sym (zero-add g))
+
+pub plane_same : (book : Book) (o o' : ℕ → List ℕ) (p : Plane) (stages : ℕ) → ((g : ℕ) → g < gaggles p → o g ≡ o' g) → plane_items book o p stages ≡ plane_items book o' p stages
+plane_same book o o' p stages same =
+    flat_map-span-below (stage_items book o p) (stage_items book o' p) 0 stages (λ n below. stage_same book o o' p (0 + n) same)
+
+-- a stage by the marks as they are now is that by the marks before
+pub stage_moved : (view : View) (book : Book) (m0 m1 : List ℤ) (j : ℕ) → SameMarks m0 m1 →
+    stage_items book (options_at m1) (plane_in view (depths_of m1)) j ≡ stage_items book (options_at m0) (plane_in view (depths_of m0)) j
+stage_moved view book m0 m1 j same =
+    stage_same book (options_at m1) (options_at m0) (plane_in view (depths_of m1)) j (λ g below. same.options g) ∙
+    ap (λ d. stage_items book (options_at m0) (plane_in view d) j) same.depths
+
+pub agree_moved : (view : View) (m0 m1 m2 : List ℤ) (j : ℕ) → SameMarks m0 m1 → AllAgree (plane_in view (depths_of m1)) j m2 → AllAgree (plane_in view (depths_of m0)) j m2
+agree_moved view m0 m1 m2 j same agree = subst (λ d. AllAgree (plane_in view d) j m2) same.depths agree
+
+pub agree_back : (view : View) (m0 m1 m2 : List ℤ) (j : ℕ) → SameMarks m0 m1 → AllAgree (plane_in view (depths_of m0)) j m2 → AllAgree (plane_in view (depths_of m1)) j m2
+agree_back view m0 m1 m2 j same agree = subst (λ d. AllAgree (plane_in view d) j m2) (sym same.depths) agree
+
+-- ---- the start and the end of a plane
+
+no_flags : (n : ℕ) → get_or (false ∷ false ∷ false ∷ []) n false ≡ false
+no_flags zero = refl
+no_flags (suc zero) = refl
+no_flags (suc (suc zero)) = refl
+no_flags (suc (suc (suc n))) = refl
+
+pub gaggle_below : (marks : List ℤ) (g : ℕ) → g < (length (depths_of marks) + 15) / 16 → 16 * g < length marks
+gaggle_below marks g below = omega (arith, length-depths_of marks)
+
+pub chosen_agree : (view : View) (m0 m1 : List ℤ) → Chooses view m0 m1 → AllAgree (plane_in view (depths_of m1)) 0 m1
+chosen_agree view m0 m1 chooses = record {
+  at = λ g below.
+      let inside : 16 * g < length m0 = omega (arith, gaggle_below m1 g below, chooses.whole) in
+      let fresh = (chooses.each g inside).fresh in
+      let none : before_stage (plane_in view (depths_of m1)) 0 g ≡ [] = flat_map-span-none (λ i. of_gaggle (plane_in view (depths_of m1)) (stage_number i) g) 0 in
+      record { at = λ n low high. ap (λ s. get_or s (n - 2) false) fresh ∙ no_flags (n - 2) ∙ sym (ap (list_any (is_word_of n)) none) };
+}
+
+pub chosen_known : (view : View) (m0 m1 : List ℤ) → Chooses view m0 m1 → AreKnown m1
+chosen_known view m0 m1 chooses = record { at = λ g below. (chooses.each g (omega (arith, chooses.whole))).known }
+
+-- the items of the whole plane, by the options in the marks
+pub plane_whole : (view : View) (m0 m1 : List ℤ) (last : ℕ) → Chooses view m0 m1 →
+    plane_items view.book.now (options_at m1) (plane_in view (depths_of m1)) (last + 1) ≡ chosen_items view.book.now (plane_in view (depths_of m0)) last
+plane_whole view m0 m1 last chooses =
+    let book = view.book.now in
+    let options : (g : ℕ) → g < gaggles (plane_in view (depths_of m1)) → options_at m1 g ≡ chosen book (plane_in view (depths_of m0)) g =
+    λ g below. (chooses.each g (omega (arith, gaggle_below m1 g below, chooses.whole))).options in
+    plane_same book (options_at m1) (chosen book (plane_in view (depths_of m0))) (plane_in view (depths_of m1)) (last + 1) options ∙
+    ap (λ d. plane_items book (chosen book (plane_in view (depths_of m0))) (plane_in view d) (last + 1)) chooses.depths
+
+-- the same plane by equal fields
+pub plane_fields : (cells : List ℤ) (depths : List ℕ) (plan : PlanePlan) (weights : Weights) (number q : ℕ) → weights ≡ plan.weights → number ≡ plan.plane → q ≡ plan.q →
+    record { blocks = blocks_in cells; depths = depths; weights = weights.shifts; number = number; q = q } ≡ plane_of cells depths plan
+plane_fields cells depths plan weights number q w n e =
+    ap (λ (x : Weights). record { blocks = blocks_in cells; depths = depths; weights = x.shifts; number = number; q = q }) w ∙
+    ap (λ x. record { blocks = blocks_in cells; depths = depths; weights = plan.weights.shifts; number = x; q = q }) n ∙
+    ap (λ x. record { blocks = blocks_in cells; depths = depths; weights = plan.weights.shifts; number = plan.plane; q = x }) e
+
+pub plane_puts : {S : Type 0} {k : SinkOf S} (book : Book) (r : Result (Unit {0}) PutFault) (s t : Standing S) (p p' : Plane) (last : ℕ) → p ≡ p' →
+    Puts k r s t (text (chosen_items book p last)) → Puts k r s t (text (chosen_items book p' last))
+plane_puts {S} {k} book r s t p p' last same put = subst (λ (x : Plane). Puts k r s t (text (chosen_items book x last))) same put
+
+-- a stage by the marks as they are now is that by the marks before
+pub stage_then : {S : Type 0} {k : SinkOf S} (view : View) (book : Book) (m0 m1 : List ℤ) (j : ℕ) {r : Result (Unit {0}) PutFault} {s t : Standing S} → SameMarks m0 m1 →
+    Puts k r s t (text (stage_items book (options_at m1) (plane_in view (depths_of m1)) j)) → Puts k r s t (text (stage_items book (options_at m0) (plane_in view (depths_of m0)) j))
+stage_then {S} {k} view book m0 m1 j {r} {s} {t} same put = subst (λ l. Puts k r s t (text l)) (stage_moved view book m0 m1 j same) put

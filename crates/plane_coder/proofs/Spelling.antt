@@ -1,0 +1,262 @@
+-- Entries put one after another.
+use Rattle.std.proofs.Common.{◌≡◌, ◌≢◌, ℕ, zero, suc, ◌+◌, ◌-◌, ◌<◌, ◌≤◌, ◌⊎◌, inl, inr, Bool, true, false, List, [], ◌∷◌, ◌++◌, length, take, drop, refl, ap, sym, ◌∙◌, subst, arith, append_assoc, append-nil, get_or, set, get_or-set_same, get_or-set_other}
+use Rattle.std.specs.Prelude.{◌==◌, ◌||◌, Result, Ok, Err, OnOk}
+use Rattle.std.specs.List.{list_any}
+use Rattle.std.proofs.lemmas.List.Folds.{list_any-append}
+use Rattle.std.proofs.lemmas.List.{take_more, take_all, take-append-drop}
+use Rattle.item_defs.specs.Bits.{bits_of}
+use Rattle.item_defs.proofs.NumberBits.{bits_none}
+use Rattle.item_defs.specs.Items.{item_bits, text}
+use Rattle.item_defs.proofs.Texts.{text-append}
+use Rattle.bit_pipe.specs.Sinks.{SinkOf}
+use Rattle.bit_pipe.specs.Standing.{Standing, IsOpen, Adds, Puts}
+use Rattle.bit_pipe.specs.declared.fault.PutFault.{PutFault}
+use Rattle.bit_pipe.proofs.Putting.{adds_start, open_later, puts_then, puts_cut, puts_whole}
+use Rattle.plane_defs.specs.declared.codes.Book.{Book}
+use Rattle.plane_defs.specs.declared.entries.Entry.{Entry}
+use Rattle.plane_defs.specs.declared.entries.Entry.TheVariants.{Bit, Word}
+use Rattle.plane_defs.specs.declared.entries.Bits.{Bits}
+use Rattle.plane_defs.specs.Codes.{word_item, option_item}
+use Rattle.plane_defs.specs.Spelled.{is_word_of, option_of, entry_items, spelled_after}
+use Rattle.plane_defs.proofs.SpelledLists.{spelled_after-append}
+use Rattle.plane_coder.specs.declared.gaggle.Gaggle.{Gaggle}
+use Rattle.plane_coder.specs.Gaggles.{Agrees, AreOptions}
+use Rattle.plane_coder.specs.Spells.{Spells}
+
+pub on_ok : {T E P : Type 0} (r : Result T E) → P → OnOk r P
+on_ok (Ok x) h = h
+on_ok (Err e) h = tt
+
+pub on_ok_map : {T E P Q : Type 0} (r : Result T E) → (P → Q) → OnOk r P → OnOk r Q
+on_ok_map (Ok x) f h = f h
+on_ok_map (Err e) f h = tt
+
+module _ {S : Type 0} {k : SinkOf S} {book : Book} where
+  pub spells_none : (a : Gaggle) (s : Standing S) → IsOpen s → Spells k book a a (Ok tt) s s []
+  spells_none a s h = record {
+    puts = λ before agrees. puts_whole (adds_start k s h);
+    agrees = λ before agrees. subst (Agrees a.sent) (sym (append-nil before)) agrees;
+    is_open = h;
+    options = refl;
+  }
+
+  pub spells_both : {a b c : Gaggle} {r : Result (Unit {0}) PutFault} {s t u : Standing S} {xs ys : List Entry} →
+      Spells k book a b (Ok tt) s t xs → Spells k book b c r t u ys → Spells k book a c r s u (xs ++ ys)
+  spells_both {a} {b} {c} {r} {s} {t} {u} {xs} {ys} first second = record {
+    puts = λ before agrees.
+        let now : Agrees b.sent (before ++ xs) = first.agrees before agrees in
+        let both = puts_then (first.puts before agrees).ends (second.puts (before ++ xs) now) in
+        let joined : text (spelled_after book a.options before xs) ++ text (spelled_after book b.options (before ++ xs) ys) ≡ text (spelled_after book a.options before (xs ++ ys)) =
+        ap (λ o. text (spelled_after book a.options before xs) ++ text (spelled_after book o (before ++ xs) ys)) first.options ∙
+        sym (text-append (spelled_after book a.options before xs) (spelled_after book a.options (before ++ xs) ys)) ∙
+        ap text (sym (spelled_after-append book a.options before xs ys)) in
+        subst (λ bits. Puts k r s u bits) joined both;
+    agrees = λ before agrees.
+        on_ok_map r (subst (Agrees c.sent) (append_assoc before xs ys)) (second.agrees (before ++ xs) (first.agrees before agrees));
+    is_open = second.is_open;
+    options = second.options ∙ first.options;
+  }
+
+  -- entries that would have come after the end
+  pub spells_cut : {a b : Gaggle} {e : PutFault} {s t : Standing S} {xs : List Entry} (ys : List Entry) →
+      Spells k book a b (Err e) s t xs → Spells k book a b (Err e) s t (xs ++ ys)
+  spells_cut {a} {b} {e} {s} {t} {xs} ys p = record {
+    puts = λ before agrees.
+        let joined : text (spelled_after book a.options before xs) ++ text (spelled_after book a.options (before ++ xs) ys) ≡ text (spelled_after book a.options before (xs ++ ys)) =
+        sym (text-append (spelled_after book a.options before xs) (spelled_after book a.options (before ++ xs) ys)) ∙
+        ap text (sym (spelled_after-append book a.options before xs ys)) in
+        subst (λ bits. Puts {T = Unit {0}} k (Err e) s t bits) joined (puts_cut (text (spelled_after book a.options (before ++ xs) ys)) (p.puts before agrees));
+    agrees = λ before agrees. tt;
+    is_open = tt;
+    options = p.options;
+  }
+
+  -- one entry, whose items were put
+  pub one_entry : {a b : Gaggle} {r : Result (Unit {0}) PutFault} {s t : Standing S} (x : Entry) →
+      ((before : List Entry) → Agrees a.sent before → Puts k r s t (text (entry_items book a.options before x))) →
+      ((before : List Entry) → Agrees a.sent before → Agrees b.sent (before ++ x ∷ [])) →
+      OnOk r (IsOpen t) → b.options ≡ a.options → Spells k book a b r s t (x ∷ [])
+  one_entry {a} {b} {r} {s} {t} x puts agrees h same = record {
+    puts = λ before is. subst (λ items. Puts k r s t (text items)) (sym (append-nil (entry_items book a.options before x))) (puts before is);
+    agrees = λ before is. on_ok r (agrees before is);
+    is_open = h;
+    options = same;
+  }
+
+-- ---- which flags agree after one more entry
+
+list_any-last : (p : Entry → Bool) (xs : List Entry) (y : Entry) → list_any p (xs ++ y ∷ []) ≡ (list_any p xs || p y)
+list_any-last p xs y = list_any-append p xs (y ∷ []) ∙ ap (λ b. list_any p xs || b) (or_false (p y))
+  where
+    or_false : (b : Bool) → (b || false) ≡ b
+    or_false true = refl
+    or_false false = refl
+
+or_no : (a b : Bool) → b ≡ false → a ≡ (a || b)
+or_no true b h = refl
+or_no false b h = sym h
+
+or_true : (b : Bool) → true ≡ (b || true)
+or_true true = refl
+or_true false = refl
+
+-- an entry that is no word of two bits or more changes nothing
+agrees_other : (sent : List Bool) (before : List Entry) (x : Entry) → ((n : ℕ) → 2 ≤ n → is_word_of n x ≡ false) → Agrees sent before → Agrees sent (before ++ x ∷ [])
+agrees_other sent before x none agrees = record {
+  at = λ n low high. agrees.at n low high ∙ or_no _ _ (none n low) ∙ sym (list_any-last (is_word_of n) before x);
+}
+
+same_length : (there : Bool) (m n : ℕ) → (m ≡ n → there ≡ true) → there ≡ (there || (m == n))
+same_length true m n h = refl
+same_length false m n h = grind arith
+
+-- nor does a word whose length was sent before
+agrees_again : (sent : List Bool) (before : List Entry) (bits : Bits) → 2 ≤ bits.count → bits.count ≤ 4 → get_or sent (bits.count - 2) false ≡ true →
+    Agrees sent before → Agrees sent (before ++ Word bits ∷ [])
+agrees_again sent before bits low high was agrees = record {
+  at = λ n l h.
+      agrees.at n l h ∙
+      same_length (list_any (is_word_of n) before) bits.count n (λ e. sym (agrees.at n l h) ∙ ap (λ m. get_or sent (m - 2) false) (sym e) ∙ was) ∙
+      sym (list_any-last (is_word_of n) before (Word bits));
+}
+
+opened : (sent : List Bool) (m n : ℕ) (there : Bool) → 2 ≤ m → m ≤ 4 → 2 ≤ n → n ≤ 4 → length sent ≡ 3 → get_or sent (n - 2) false ≡ there →
+    get_or (set sent (m - 2) true) (n - 2) false ≡ (there || (m == n))
+opened sent m n there lm hm ln hn three e =
+    elim (m == n) as (λ b. (m == n) ≡ b → get_or (set sent (m - 2) true) (n - 2) false ≡ (there || b)) [
+      | true ↦ λ t.
+          let same : n ≡ m = grind arith in
+          let within : m - 2 < length sent = omega arith in
+          let now : get_or (set sent (m - 2) true) (m - 2) false ≡ true = rw get_or-set_same refl in
+          ap (λ k. get_or (set sent (m - 2) true) (k - 2) false) same ∙ now ∙ or_true there
+      | false ↦ λ f.
+          let apart : m ≢ n = grind arith in
+          let other : n - 2 ≢ m - 2 = omega arith in
+          let kept : get_or (set sent (m - 2) true) (n - 2) false ≡ get_or sent (n - 2) false = rw get_or-set_other refl in
+          kept ∙ e ∙ or_no there false refl
+    ] refl
+
+-- the first word of its length sets the flag
+agrees_first : (sent : List Bool) (before : List Entry) (bits : Bits) → 2 ≤ bits.count → bits.count ≤ 4 → length sent ≡ 3 →
+    Agrees sent before → Agrees (set sent (bits.count - 2) true) (before ++ Word bits ∷ [])
+agrees_first sent before bits low high three agrees = record {
+  at = λ n l h.
+      opened sent bits.count n (list_any (is_word_of n) before) low high l h three (agrees.at n l h) ∙
+      sym (list_any-last (is_word_of n) before (Word bits));
+}
+
+-- ---- the items of one entry
+
+equal_no : (m n : ℕ) → n < m → (m == n) ≡ false
+equal_no m n h = grind arith
+
+module _ (book : Book) (options : List ℕ) (before : List Entry) where
+  raw_text : (b : Bool) → text (entry_items book options before (Bit b)) ≡ b ∷ []
+  unfolding entry_items bits_of
+  raw_text true = refl
+  raw_text false = refl
+
+  short_text : (bits : Bits) → bits.count < 2 → text (entry_items book options before (Word bits)) ≡ bits_of bits.count bits.value
+  unfolding entry_items
+  short_text bits short =
+      elim (zero_or_one bits.count short) [
+        | inl none ↦ rw none (sym (bits_none bits.value))
+        | inr one ↦ rw one (append-nil (bits_of 1 bits.value))
+      ]
+    where
+      zero_or_one : (n : ℕ) → n < 2 → (n ≡ 0) ⊎ (n ≡ 1)
+      zero_or_one n h = grind arith
+
+  again_text : (bits : Bits) → 2 ≤ bits.count → list_any (is_word_of bits.count) before ≡ true →
+      text (entry_items book options before (Word bits)) ≡ item_bits (word_item book bits.count (option_of options bits.count) bits.value)
+  unfolding entry_items
+  again_text bits long was =
+      rw (equal_no bits.count 0 (omega arith), equal_no bits.count 1 (omega arith), was)
+      (append-nil (item_bits (word_item book bits.count (option_of options bits.count) bits.value)))
+
+  first_text : (bits : Bits) → 2 ≤ bits.count → list_any (is_word_of bits.count) before ≡ false →
+      text (entry_items book options before (Word bits)) ≡
+      item_bits (option_item bits.count (option_of options bits.count)) ++ item_bits (word_item book bits.count (option_of options bits.count) bits.value)
+  unfolding entry_items
+  first_text bits long was =
+      rw (equal_no bits.count 0 (omega arith), equal_no bits.count 1 (omega arith), was)
+      (ap (λ l. item_bits (option_item bits.count (option_of options bits.count)) ++ l)
+      (append-nil (item_bits (word_item book bits.count (option_of options bits.count) bits.value))))
+
+puts_open : {S : Type 0} {k : SinkOf S} (r : Result (Unit {0}) PutFault) (s t : Standing S) (xs : List Bool) → IsOpen s → Puts k r s t xs → OnOk r (IsOpen t)
+puts_open (Ok x) s t xs h p = open_later h p.ends
+puts_open (Err e) s t xs h p = tt
+
+module _ {S : Type 0} {k : SinkOf S} {book : Book} (a : Gaggle) (r : Result (Unit {0}) PutFault) (s t : Standing S) where
+  pub spells_raw : (b : Bool) → IsOpen s → Puts k r s t (b ∷ []) → Spells k book a a r s t (Bit b ∷ [])
+  spells_raw b h p =
+      one_entry (Bit b) (λ before agrees. subst (λ bits. Puts k r s t bits) (sym (raw_text book a.options before b)) p)
+      (λ before agrees. agrees_other a.sent before (Bit b) (λ n low. refl) agrees) (puts_open r s t (b ∷ []) h p) refl
+
+  pub spells_short : (bits : Bits) → bits.count < 2 → IsOpen s → Puts k r s t (bits_of bits.count bits.value) → Spells k book a a r s t (Word bits ∷ [])
+  spells_short bits short h p =
+      one_entry (Word bits) (λ before agrees. subst (λ bs. Puts k r s t bs) (sym (short_text book a.options before bits short)) p)
+      (λ before agrees. agrees_other a.sent before (Word bits) (λ n low. apart n low) agrees) (puts_open r s t (bits_of bits.count bits.value) h p) refl
+    where
+      apart : (n : ℕ) → 2 ≤ n → (bits.count == n) ≡ false
+      apart n low = grind arith
+
+  pub spells_again : (bits : Bits) → 2 ≤ bits.count → bits.count ≤ 4 → get_or a.sent (bits.count - 2) false ≡ true → IsOpen s →
+      Puts k r s t (item_bits (word_item book bits.count (option_of a.options bits.count) bits.value)) → Spells k book a a r s t (Word bits ∷ [])
+  spells_again bits low high was h p =
+      one_entry (Word bits)
+      (λ before agrees. subst (λ bs. Puts k r s t bs) (sym (again_text book a.options before bits low (sym (agrees.at bits.count low high) ∙ was))) p)
+      (λ before agrees. agrees_again a.sent before bits low high was agrees)
+      (puts_open r s t (item_bits (word_item book bits.count (option_of a.options bits.count) bits.value)) h p) refl
+
+  pub spells_first : (m : Standing S) (bits : Bits) → 2 ≤ bits.count → bits.count ≤ 4 → length a.sent ≡ 3 → get_or a.sent (bits.count - 2) false ≡ false → IsOpen s →
+      Adds k s m (item_bits (option_item bits.count (option_of a.options bits.count))) →
+      Puts k r m t (item_bits (word_item book bits.count (option_of a.options bits.count) bits.value)) →
+      Spells k book a (record { options = a.options; sent = set a.sent (bits.count - 2) true }) r s t (Word bits ∷ [])
+  spells_first m bits low high three was h p q =
+      one_entry (Word bits)
+      (λ before agrees. subst (λ bs. Puts k r s t bs) (sym (first_text book a.options before bits low (sym (agrees.at bits.count low high) ∙ was))) (puts_then p q))
+      (λ before agrees. agrees_first a.sent before bits low high three agrees)
+      (puts_open r m t (item_bits (word_item book bits.count (option_of a.options bits.count) bits.value)) (open_later h p) q) refl
+
+-- the identifier was not put whole
+pub spells_no_option : {S T : Type 0} {k : SinkOf S} {book : Book} {e : PutFault} (a : Gaggle) (s t : Standing S) (bits : Bits) → 2 ≤ bits.count → bits.count ≤ 4 → get_or a.sent (bits.count - 2) false ≡ false →
+    Puts {T = T} k (Err e) s t (item_bits (option_item bits.count (option_of a.options bits.count))) → Spells k book a a (Err e) s t (Word bits ∷ [])
+spells_no_option {S} {T} {k} {book} {e} a s t bits low high was p = record {
+  puts = λ before agrees.
+      let w = item_bits (word_item book bits.count (option_of a.options bits.count) bits.value) in
+      let one : text (spelled_after book a.options before (Word bits ∷ [])) ≡ item_bits (option_item bits.count (option_of a.options bits.count)) ++ w =
+      ap text (append-nil (entry_items book a.options before (Word bits))) ∙ first_text book a.options before bits low (sym (agrees.at bits.count low high) ∙ was) in
+      subst (λ bs. Puts {T = Unit {0}} k (Err e) s t bs) (sym one) (puts_cut w p);
+  agrees = λ before agrees. tt;
+  is_open = tt;
+  options = refl;
+}
+
+-- ---- one entry of a list after another
+
+pub known_later : {options later : List ℕ} → later ≡ options → AreOptions options → AreOptions later
+known_later same known = subst AreOptions (sym same) known
+
+pub option_known : (options : List ℕ) (n : ℕ) → AreOptions options → 2 ≤ n → n ≤ 4 → option_of options n < n
+option_known options zero known low high = absurd (omega arith)
+option_known options (suc zero) known low high = absurd (omega arith)
+option_known options (suc (suc zero)) known low high = known.two
+option_known options (suc (suc (suc zero))) known low high = known.three
+option_known options (suc (suc (suc (suc zero)))) known low high = known.four
+option_known options (suc (suc (suc (suc (suc n))))) known low high = absurd (omega arith)
+
+module _ {S : Type 0} {k : SinkOf S} {book : Book} {a b c : Gaggle} {s t u : Standing S} (xs : List Entry) (i : ℕ) (d : Entry) where
+  pub one_entry_more : i < length xs → Spells k book a b (Ok tt) s t (take i xs) → Spells k book b c (Ok tt) t u (get_or xs i d ∷ []) →
+      Spells k book a c (Ok tt) s u (take (i + 1) xs)
+  one_entry_more below p q = subst (λ l. Spells k book a c (Ok tt) s u l) (sym (take_more xs i d below)) (spells_both p q)
+
+  pub entry_ended : {e : PutFault} → i < length xs → Spells k book a b (Ok tt) s t (take i xs) → Spells k book b c (Err e) t u (get_or xs i d ∷ []) → Spells k book a c (Err e) s u xs
+  entry_ended {e} below p q =
+      let parts : (take i xs ++ get_or xs i d ∷ []) ++ drop (i + 1) xs ≡ xs =
+      ap (λ l. l ++ drop (i + 1) xs) (sym (take_more xs i d below)) ∙ take-append-drop (i + 1) xs in
+      subst (λ l. Spells k book a c (Err e) s u l) parts (spells_cut (drop (i + 1) xs) (spells_both p q))
+
+pub entries_whole : {S : Type 0} {k : SinkOf S} {book : Book} {a b : Gaggle} {s t : Standing S} (xs : List Entry) (i : ℕ) → length xs ≤ i →
+    Spells k book a b (Ok tt) s t (take i xs) → Spells k book a b (Ok tt) s t xs
+entries_whole {S} {k} {book} {a} {b} {s} {t} xs i all p = subst (λ l. Spells k book a b (Ok tt) s t l) (take_all i xs all) p

@@ -1,0 +1,80 @@
+use Rattle.std.proofs.Common.{◌≡◌, ◌*◌, ◌<◌, length, ◌∙◌, sym, subst, arith}
+use Rattle.std.proofs.lemmas.Result.{err_from_is_err_and}
+use Rattle.plane_defs.specs.Planes.{gaggles, gaggle_items, before_stage}
+use Rattle.plane_defs.specs.Marks.{depths_of}
+use Rattle.plane_coder.specs.Gaggles.{Agrees, AreOptions, options_at}
+use Rattle.plane_coder.specs.Views.{plane_in}
+use Rattle.plane_coder.proofs.BlockReads.{length-depths_of}
+use Rattle.plane_coder.proofs.Sending.{none_put, more_put, put_ended, put_whole, gaggle_puts, gaggle_agrees, same_marks, same_stored, none_agree, more_agree, all_agree}
+use Rattle.plane_coder.proofs.stages.put_stage.Goals as goal
+
+pub loop-g-init : goal.loop-g-init
+loop-g-init g c =
+    let p = plane_in c.args.view.now (depths_of c.args.marks.now) in
+    record {
+      so_far = none_put (gaggle_items c.args.view.now.book.now (options_at c.args.marks.now) p c.args.number) _ c.requires.open;
+      is_open = c.requires.open;
+      same = same_marks c.args.marks.now;
+      agree = none_agree p c.args.number c.args.marks.now c.requires.agree;
+    }
+
+pub put_gaggle-requires-clause-known : goal.put_gaggle-requires-clause-known
+put_gaggle-requires-clause-known g c =
+    let within : 16 * c.loop-g.g < length c.args.marks.now = omega (arith, c.div_ceil-g-end.ensures, c.loop-g-test.true) in
+    subst AreOptions (sym (c.load-gaggle.ensures.options ∙ c.loop-g.invariant.same.options c.loop-g.g)) (c.requires.known.at c.loop-g.g within)
+
+pub loop-g-preserved : goal.loop-g-preserved
+loop-g-preserved g c =
+    let i = c.loop-g.invariant in
+    let view = c.args.view.now in
+    let m0 = c.args.marks.now in
+    let m1 = c.loop-g.marks in
+    let p = plane_in view (depths_of m0) in
+    let below : c.loop-g.g < gaggles p = omega (arith, c.div_ceil-g-end.ensures, c.loop-g-test.true, length-depths_of m0) in
+    let options = c.load-gaggle.ensures.options ∙ i.same.options c.loop-g.g in
+    let agrees = subst (λ f. Agrees f (before_stage p c.args.number c.loop-g.g)) (sym c.load-gaggle.ensures.sent) (i.agree.todo c.loop-g.g (omega arith) below) in
+    let put = gaggle_puts view (depths_of m0) (depths_of m1) (options_at m0) c.stage_at.result c.args.number c.loop-g.g i.same.depths c.stage_at.ensures options agrees c.in_ok-put_gaggle.ensures in
+    let later = gaggle_agrees view (depths_of m0) (depths_of m1) c.stage_at.result c.args.number c.loop-g.g i.same.depths c.stage_at.ensures agrees c.in_ok-put_gaggle.ensures in
+    record {
+      so_far = more_put (gaggle_items view.book.now (options_at m0) p c.args.number) c.loop-g.g i.so_far put.ends;
+      is_open = c.in_ok-put_gaggle.ensures.is_open;
+      same = same_stored m0 m1 _ c.loop-g.g _ i.same c.store.ensures (c.in_ok-put_gaggle.ensures.options ∙ c.load-gaggle.ensures.options);
+      agree = more_agree p c.args.number m1 _ c.loop-g.g _ i.agree c.store.ensures later;
+    }
+
+pub store-requires-clause-known : goal.store-requires-clause-known
+store-requires-clause-known g c =
+    let within : 16 * c.loop-g.g < length c.args.marks.now = omega (arith, c.div_ceil-g-end.ensures, c.loop-g-test.true) in
+    subst AreOptions (sym (c.in_ok-put_gaggle.ensures.options ∙ c.load-gaggle.ensures.options ∙ c.loop-g.invariant.same.options c.loop-g.g)) (c.requires.known.at c.loop-g.g within)
+
+pub returns-in_err-put_gaggle : goal.returns-in_err-put_gaggle
+returns-in_err-put_gaggle g c =
+    let e = err_from_is_err_and c.from_residual.result c.from_residual.ensures.1 in
+    let i = c.loop-g.invariant in
+    let view = c.args.view.now in
+    let m0 = c.args.marks.now in
+    let m1 = c.loop-g.marks in
+    let p = plane_in view (depths_of m0) in
+    let below : c.loop-g.g < gaggles p = omega (arith, c.div_ceil-g-end.ensures, c.loop-g-test.true, length-depths_of m0) in
+    let options = c.load-gaggle.ensures.options ∙ i.same.options c.loop-g.g in
+    let agrees = subst (λ f. Agrees f (before_stage p c.args.number c.loop-g.g)) (sym c.load-gaggle.ensures.sent) (i.agree.todo c.loop-g.g (omega arith) below) in
+    let put = gaggle_puts view (depths_of m0) (depths_of m1) (options_at m0) c.stage_at.result c.args.number c.loop-g.g i.same.depths c.stage_at.ensures options agrees c.in_err-put_gaggle.ensures in
+    rw (e.1, e.2) (record {
+      puts = put_ended (gaggle_items view.book.now (options_at m0) p c.args.number) c.loop-g.g (gaggles p) below i.so_far put;
+      is_open = tt;
+      agree = tt;
+      kept = i.same;
+    })
+
+pub returns : goal.returns
+returns g c =
+    let i = c.loop-g.invariant in
+    let m0 = c.args.marks.now in
+    let p = plane_in c.args.view.now (depths_of m0) in
+    let all : c.loop-g.g ≡ gaggles p = omega (arith, c.div_ceil-g-end.ensures, c.loop-g-test.false, c.loop-g.auto.g-end, length-depths_of m0) in
+    record {
+      puts = put_whole (gaggle_items c.args.view.now.book.now (options_at m0) p c.args.number) c.loop-g.g (gaggles p) all i.so_far;
+      is_open = i.is_open;
+      agree = all_agree p c.args.number c.loop-g.marks c.loop-g.g (omega (arith, all)) i.agree;
+      kept = i.same;
+    }

@@ -1,0 +1,19 @@
+use Rattle.std.specs.List.{flat_map}
+use Rattle.item_defs.specs.Items.{text}
+use Rattle.bit_pipe.specs.Standing.{stand, IsOpen, Adds}
+use Rattle.plane_defs.specs.Spans.{span}
+use Rattle.plane_defs.specs.Planes.{gaggle_items}
+use Rattle.plane_defs.specs.Marks.{depths_of}
+use Rattle.plane_coder.specs.Gaggles.{SameMarks, options_at}
+use Rattle.plane_coder.specs.Views.{plane_in}
+use Rattle.plane_coder.proofs.Sending.{SomeAgree}
+use Rattle.plane_coder.proofs.stages.put_stage.Given as goal
+
+abbrev pub invariant-loop-g : goal.invariant-loop-g
+invariant-loop-g g l = record {
+  so_far : Adds g.O.OctetOut.sink (stand g.O.OctetOut.sink l.initial.out) (stand g.O.OctetOut.sink l.out)
+      (text (flat_map (gaggle_items l.view.book.now (options_at l.initial.marks) (plane_in l.view (depths_of l.initial.marks)) l.number) (span 0 l.g)));
+  is_open : IsOpen (stand g.O.OctetOut.sink l.out);
+  same : SameMarks l.initial.marks l.marks;
+  agree : SomeAgree (plane_in l.view (depths_of l.initial.marks)) l.number l.marks l.g;
+}

@@ -1,0 +1,19 @@
+-- The plane that a call is about.
+use Rattle.std.specs.Prelude.{ℕ, ℤ, List}
+use Rattle.plane_defs.specs.Planes.{Plane, blocks_in}
+use Rattle.plane_coder.specs.declared.plan.PlanePlan.{PlanePlan}
+use Rattle.plane_coder.specs.declared.view.View.{View}
+
+-- with the blocks' depths as the marks tell them
+abbrev pub plane_of : List ℤ → List ℕ → PlanePlan → Plane
+plane_of cells depths plan =
+    record { blocks = blocks_in cells; depths = depths; weights = plan.weights.shifts; number = plan.plane; q = plan.q }
+
+abbrev pub plane_in : View → List ℕ → Plane
+plane_in view depths = record {
+  blocks = blocks_in view.blocks.now;
+  depths = depths;
+  weights = view.plan.now.weights.shifts;
+  number = view.plan.now.plane;
+  q = view.plan.now.q;
+}

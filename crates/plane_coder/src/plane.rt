@@ -1,0 +1,72 @@
+// A plane of a segment.
+
+ghost use Rattle.std.specs.Prelude.{◌≡◌, ◌+◌, ◌*◌, ◌≤◌, IsTrue, length};
+ghost use Rattle.item_defs.specs.Items.{text};
+ghost use Rattle.bit_pipe.specs.Standing.{stand, IsOpen, Puts};
+ghost use Rattle.plane_defs.specs.Codes.{is_book_sound};
+ghost use Rattle.plane_defs.specs.Marks.{depths_of};
+ghost use Rattle.plane_coder.specs.Sends.{chosen_items};
+ghost use Rattle.plane_coder.specs.Views.{plane_of, plane_in};
+
+use crate::choose::choose_all;
+use crate::entries::Entries;
+use crate::plan::{CodedPlane, PlanePlan};
+use crate::stages::put_stage;
+use crate::view::View;
+use bit_pipe::{BitOut, OctetOut, PutFault};
+use plane_defs::Book;
+
+// Puts the stages of a plane up to the last one asked, with the options of fewest bits.
+fn put_stages<O: OctetOut>(
+    out: &mut BitOut<O>,
+    view: &View,
+    marks: &mut [i32],
+    last: u8,
+) -> Result<(), PutFault>
+    requires open { IsOpen (stand O.sink out.old) }
+    requires whole { length view.now.blocks.now ≡ 64 * length marks.old }
+    requires last { last ≤ 4 }
+    requires sound { IsTrue (is_book_sound view.now.book.now) }
+    ensures puts { Puts O.sink result (stand O.sink out.old) (stand O.sink out.new) (text (chosen_items view.now.book.now (plane_in view.now (depths_of marks.old)) last)) }
+    ensures depths { depths_of marks.new ≡ depths_of marks.old }
+{
+    let mut entries = Entries::new();
+    choose_all(&mut entries, view, marks);
+    for number in 0..last + 1 {
+        put_stage(out, &mut entries, number, view, marks)?;
+    }
+    Ok(())
+}
+
+/// Puts a bit plane of a segment up to the plan's last stage (docs/formats.md, "Bit planes" and "Words
+/// and codes").
+///
+/// `blocks` has 64 numbers for each block, `marks` one number for each, whose lowest five bits are the
+/// block's depth. The words of a gaggle go out by the options that take the fewest bits over its words of
+/// stages 1 to 3, whichever stages are sent. `Stopped` comes exactly where the bits don't all fit in the
+/// bound; those that fit were put. The book is sound, the plane at most 26 and the last stage at most 4.
+///
+/// The other bits of the marks are free, and the call writes there; the depths stay, whatever it answers.
+pub fn put_plane<O: OctetOut>(
+    out: &mut BitOut<O>,
+    blocks: &[i32],
+    marks: &mut [i32],
+    plan: &PlanePlan,
+    book: &Book,
+) -> Result<(), PutFault>
+    requires open { IsOpen (stand O.sink out.old) }
+    requires whole { length blocks.now ≡ 64 * length marks.old }
+    requires plane { plan.now.plane ≤ 26 }
+    requires last { plan.now.last ≤ 4 }
+    requires sound { IsTrue (is_book_sound book.now) }
+    ensures puts { Puts O.sink result (stand O.sink out.old) (stand O.sink out.new) (text (chosen_items book.now (plane_of blocks.now (depths_of marks.old) plan.now) plan.now.last)) }
+    ensures depths { depths_of marks.new ≡ depths_of marks.old }
+{
+    let coded = CodedPlane::new(plan);
+    let view = View {
+        blocks,
+        plan: &coded,
+        book,
+    };
+    put_stages(out, &view, marks, plan.last)
+}
