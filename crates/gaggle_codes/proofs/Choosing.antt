@@ -1,0 +1,43 @@
+-- How an option is chosen by the total.
+use Rattle.std.proofs.Common.{◌≡◌, ℕ, zero, suc, ◌+◌, ◌*◌, ◌-◌, ◌^◌, ◌<◌, ◌≤◌, true, false, refl, arith, leb, ltb, sub-one}
+use Rattle.std.proofs.lemmas.Bool.Decides.{nat_tests}
+use Rattle.number_defs.specs.Choice.{suits, greatest_suiting, by_total}
+use Rattle.gaggle_codes.specs.Options.{name_of}
+use Rattle.gaggle_codes.proofs.Names.{name_k, name_uncoded}
+
+pub suits_less : (count total k : ℕ) → 0 < k → 128 * total + 49 * count < count * 2 ^ (k + 7) → greatest_suiting count total k ≡ greatest_suiting count total (k - 1)
+unfolding greatest_suiting
+suits_less count total zero lt over = absurd (omega arith)
+suits_less count total (suc k) lt over =
+    let e : suits count total (suc k) ≡ false = grind (arith, nat_tests) in
+    rw (sub-one, e) refl
+
+pub suits_here : (count total k : ℕ) → count * 2 ^ (k + 7) ≤ 128 * total + 49 * count → greatest_suiting count total k ≡ k
+unfolding greatest_suiting
+suits_here count total zero fits = refl
+suits_here count total (suc k) fits =
+    let e : suits count total (suc k) ≡ true = grind (arith, nat_tests) in
+    rw e refl
+
+pub suits_none : (count total k : ℕ) → k ≤ 0 → greatest_suiting count total k ≡ k
+unfolding greatest_suiting
+suits_none count total zero le = refl
+suits_none count total (suc k) le = absurd (omega arith)
+
+module _ (N count total : ℕ) where
+  pub takes_uncoded : 23 * count * 2 ^ N ≤ 64 * total → 15 ≡ name_of N (by_total N count total)
+  takes_uncoded p =
+      let a : leb (23 * count * 2 ^ N) (64 * total) ≡ true = grind (arith, nat_tests) in
+      rw a (name_uncoded N)
+
+  pub takes_none : 2 ≤ N → N ≤ 10 → 64 * total < 23 * count * 2 ^ N → 128 * total < 207 * count → 0 ≡ name_of N (by_total N count total)
+  takes_none low high p q =
+      let a : leb (23 * count * 2 ^ N) (64 * total) ≡ false = grind (arith, nat_tests) in
+      let b : ltb (128 * total) (207 * count) ≡ true = grind (arith, nat_tests) in
+      rw (a, b) (name_k N 0 low high (omega arith))
+
+  pub takes_k : (k : ℕ) → 2 ≤ N → N ≤ 10 → k ≤ N - 2 → 64 * total < 23 * count * 2 ^ N → 207 * count ≤ 128 * total → greatest_suiting count total (N - 2) ≡ k → k ≡ name_of N (by_total N count total)
+  takes_k k low high le p q e =
+      let a : leb (23 * count * 2 ^ N) (64 * total) ≡ false = grind (arith, nat_tests) in
+      let b : ltb (128 * total) (207 * count) ≡ false = grind (arith, nat_tests) in
+      rw (a, b, e) (name_k N k low high le)
