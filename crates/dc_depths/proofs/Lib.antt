@@ -1,0 +1,4 @@
+mod OneBit
+mod Planes
+mod DepthCells
+mod Parts

@@ -1,0 +1,50 @@
+-- Numbers as single bits.
+use Rattle.std.proofs.Common.{◌≡◌, ℕ, suc, ◌-◌, ◌/◌, ◌%◌, ◌^◌, ◌<◌, ◌≤◌, ℤ, pos, negsuc, List, [], ◌∷◌, length, get_or, eqb, refl, ap, sym, ◌∙◌, arith}
+use Rattle.std.specs.Prelude.{bit_and, nat_abs, ◌≤ℤ◌}
+use Rattle.std.specs.Int.{int_shr, div_ceil}
+use mir.Val.{to_z, of_z, SFits}
+use mir.Syntax.{w32}
+use Rattle.std.proofs.lemmas.Int.{ints, to_z-of_z}
+use Rattle.std.proofs.lemmas.Nat.{and_mask, shr_le}
+use Rattle.item_defs.specs.Bits.{bit, bits_of}
+use Rattle.item_defs.proofs.NumberBits.{bits_cons, bits_none}
+use Rattle.number_defs.specs.Ranges.{complement}
+use Rattle.number_defs.specs.Cells.{cell_at, strided}
+use Rattle.number_defs.proofs.CellPlaces.{strided_at}
+
+one_bit : (n : ℕ) → bits_of 1 n ≡ bit n 0 ∷ []
+one_bit n = bits_cons 0 n ∙ ap (λ r. bit n 0 ∷ r) (bits_none n)
+
+low_bit : (n m : ℕ) → n % 2 ≡ m → m < 2 → eqb (bit_and n 1) 1 ≡ bit m 0
+low_bit n m e lt =
+    let mask : bit_and n 1 ≡ n % 2 = and_mask n 1 in
+    let same : m / 2 ^ 0 % 2 ≡ m = omega arith in
+    ap (λ k. eqb k 1) (mask ∙ e ∙ sym same)
+
+shifted_bit : (z : ℤ) (plane : ℕ) → SFits w32 z → eqb (bit_and (of_z w32 (int_shr z plane)) 1) 1 ≡ bit (complement 1 (int_shr z plane)) 0
+shifted_bit (pos a) plane fits = low_bit (a / 2 ^ plane) (a / 2 ^ plane % 2 ^ 1) refl (omega arith)
+shifted_bit (negsuc a) plane fits =
+    let n = a / 2 ^ plane in
+    let small : n ≤ a = shr_le a plane in
+    let most : a < 2 ^ 31 = fits.sfits in
+    low_bit (2 ^ 32 - suc n) (2 ^ 1 - 1 - n % 2 ^ 1) (omega arith) (omega arith)
+
+-- what the code tests of a cell
+pub plane_bit : (z : ℤ) (plane : ℕ) → SFits w32 z → eqb (bit_and (of_z w32 (int_shr (to_z w32 (of_z w32 z)) plane)) 1) 1 ∷ [] ≡ bits_of 1 (complement 1 (int_shr z plane))
+plane_bit z plane fits =
+    ap (λ y. eqb (bit_and (of_z w32 (int_shr y plane)) 1) 1 ∷ []) (to_z-of_z w32 z fits)
+    ∙ ap (λ b. b ∷ []) (shifted_bit z plane fits) ∙ sym (one_bit (complement 1 (int_shr z plane)))
+
+-- a depth of 0 or 1
+pub depth_bit : (z : ℤ) → pos 0 ≤ℤ z → z ≤ℤ pos 1 → eqb (of_z w32 z) 1 ∷ [] ≡ bits_of 1 (nat_abs z)
+depth_bit (pos a) low high =
+    let most : a ≤ 1 = omega (arith, ints, high) in
+    let same : a / 2 ^ 0 % 2 ≡ a = omega arith in
+    ap (λ k. eqb k 1 ∷ []) (sym same) ∙ sym (one_bit a)
+depth_bit (negsuc a) low high = absurd (omega (arith, ints, low))
+
+-- the same, of one of the DCs in blocks
+pub block_bit : (blocks : List ℤ) (block plane : ℕ) → block < div_ceil (length blocks) 64 → SFits w32 (cell_at 64 blocks block) →
+    eqb (bit_and (of_z w32 (int_shr (to_z w32 (of_z w32 (cell_at 64 blocks block))) plane)) 1) 1 ∷ [] ≡ bits_of 1 (complement 1 (int_shr (get_or (strided 64 blocks) block (pos 0)) plane))
+block_bit blocks block plane lt fits =
+    plane_bit (cell_at 64 blocks block) plane fits ∙ ap (λ y. bits_of 1 (complement 1 (int_shr y plane))) (sym (strided_at 64 blocks block lt))
