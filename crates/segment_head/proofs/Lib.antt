@@ -1,0 +1,7 @@
+pub mod FieldBits
+mod HeadTests
+pub mod WrittenFields
+mod WrittenParts
+pub mod WrittenHeads
+mod ReadHeads
+pub mod PuttingFields
