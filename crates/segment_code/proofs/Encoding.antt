@@ -1,0 +1,179 @@
+-- A text that was put into a sink, and ended.
+use Rattle.std.proofs.Common.{◌≡◌, ◌⊎◌, ℕ, ◌+◌, ◌*◌, ◌^◌, ◌<◌, ◌≤◌, List, [], ◌++◌, length, take, drop, Bool, false, refl, sym, ap, subst, ◌∙◌, arith, inl, inr, append_assoc, length-append, length-take}
+use Rattle.std.specs.Prelude.{◌==◌, Result, Ok, Err, MatchResult}
+use Rattle.std.proofs.lemmas.Bool.{cases_lt}
+use Rattle.std.proofs.lemmas.Bool.Decides.{nat_tests}
+use Rattle.std.proofs.lemmas.List.{append-nil, take-append-drop, take_all}
+use Rattle.item_defs.specs.Bits.{copies, octets_of, bits_of_octets, AreOctets}
+use Rattle.item_defs.specs.Padding.{padded_length, padding, padded}
+use Rattle.item_defs.proofs.BitLists.{length-copies}
+use Rattle.item_defs.proofs.OctetBits.{length-octets_of, length-bits_of_octets, octets_of-bits_of_octets}
+use Rattle.item_defs.proofs.Rounding.{rounded_bounds}
+use Rattle.bit_pipe.specs.Bounds.{bound_of}
+use Rattle.bit_pipe.specs.Sinks.{SinkOf, BrokeBits}
+use Rattle.bit_pipe.specs.Standing.{Standing, IsOpen, Begins, Adds, Breaks, Finishes, Closes}
+use Rattle.bit_pipe.proofs.Closing.{gave_octets, text_gave, text_broke, text_broke_at_end}
+use Rattle.std.specs.Prelude.{ℤ}
+use Rattle.segment_defs.specs.declared.head.SegmentHead.{SegmentHead}
+use Rattle.segment_defs.specs.Coded.{coded, coded_bits}
+use Rattle.segment_defs.specs.Text.{text_octets}
+use Rattle.segment_head.proofs.WrittenFields.{octets_of-append}
+use Rattle.segment_code.specs.Text.{GivesText, BreaksWithin}
+use Rattle.segment_code.proofs.TextOctets.{IsLimit, padded_within, text_within, text_unlimited, text_cut}
+
+-- a text of so many bits has no limit and is short, or has a limit of whole words
+abbrev pub IsBounded : (word limit : ℕ) (fill : Bool) (count : ℕ) → Type 0
+IsBounded word limit fill count = ((1 ≤ word) × (word ≤ 4) × (limit ≡ 0) × (fill ≡ false) × (count + 32 ≤ 2 ^ 35)) ⊎ IsLimit word limit
+
+-- octets whose bits stand first in a text are the text's first
+front_of : (octets : List ℕ) (bits more zeros : List Bool) → AreOctets octets → bits ≡ bits_of_octets octets ++ more → octets_of (bits ++ zeros) ≡ octets ++ octets_of (more ++ zeros)
+front_of octets bits more zeros small e =
+    ap (λ r. octets_of (r ++ zeros)) e
+    ∙ ap octets_of (append_assoc (bits_of_octets octets) more zeros)
+    ∙ octets_of-append (length octets) (bits_of_octets octets) (more ++ zeros) (length-bits_of_octets octets)
+    ∙ ap (λ r. r ++ octets_of (more ++ zeros)) (octets_of-bits_of_octets octets small)
+
+breaks_front : {S : Type 0} {k : SinkOf S} {a b : S} {bits : List Bool} (zeros : List Bool) → BrokeBits k a b bits → BreaksWithin k a b (octets_of (bits ++ zeros))
+breaks_front {S} {k} {a} {b} {bits} zeros p =
+    record { front = p.octets; more = octets_of (p.more ++ zeros); parts = front_of p.octets bits p.more zeros p.small p.spell; broke = p.broke; rose = p.rose }
+
+module _ {S : Type 0} (k : SinkOf S) (out : S) (s t : Standing S) (word limit : ℕ) (fill : Bool) (bits : List Bool)
+    (begins : Begins k out (bound_of limit) s) (is_open : IsOpen s) (none : (k.counts out).given ≡ 0) where
+  -- the sink failed before the end
+  pub put_broke : Breaks k s t bits → BreaksWithin k out t.sink (octets_of (padded word limit fill bits))
+  put_broke p = breaks_front (copies (padding word limit fill (length bits)) false) (text_broke begins p)
+
+  room_is : s.room ≡ 8 * bound_of limit
+  room_is = omega (arith, is_open.whole, begins.used, begins.bound, none)
+
+  unlimited : limit ≡ 0 → bound_of limit ≡ 2 ^ 32
+  unlimited e = rw e refl
+
+  limited : IsLimit word limit → bound_of limit ≡ limit
+  limited l = let there : (limit == 0) ≡ false = grind (arith, nat_tests, l.some) in rw there refl
+
+  -- ---- all bits were put
+
+  pub end_fits : IsBounded word limit fill (length bits) → Adds k s t bits → padded_length word t.bound fill t.used ≤ 8 * t.bound
+  end_fits (inl (some, few, zero, plain, short)) p =
+      let bound : t.bound ≡ 2 ^ 32 = p.bound ∙ begins.bound ∙ unlimited zero in
+      let used : t.used ≡ length bits = omega (arith, p.used, begins.used, none) in
+      let round = rounded_bounds (8 * word) (length bits) (omega arith) in
+      rw (bound, used, plain) (omega (arith, round.1))
+  end_fits (inr l) p =
+      let bound : t.bound ≡ limit = p.bound ∙ begins.bound ∙ limited l in
+      let used : t.used ≤ 8 * limit = omega (arith, p.used, p.room, is_open.whole, begins.bound, limited l) in
+      rw bound (padded_within word limit t.used fill l used)
+
+  padding_is : IsBounded word limit fill (length bits) → Adds k s t bits → padding word t.bound fill t.used ≡ padding word limit fill (length bits)
+  padding_is (inl (some, few, zero, plain, short)) p =
+      let used : t.used ≡ length bits = omega (arith, p.used, begins.used, none) in
+      rw (used, plain) refl
+  padding_is (inr l) p =
+      let bound : t.bound ≡ limit = p.bound ∙ begins.bound ∙ limited l in
+      let used : t.used ≡ length bits = omega (arith, p.used, begins.used, none) in
+      rw (bound, used) refl
+
+  octets_are_text : IsBounded word limit fill (length bits) → Adds k s t bits → octets_of (padded word limit fill bits) ≡ text_octets word limit fill bits
+  octets_are_text (inl (some, few, zero, plain, short)) p = rw (zero, plain) (text_unlimited word 0 bits)
+  octets_are_text (inr l) p = text_within word limit fill bits l (omega (arith, p.room, room_is, limited l))
+
+  pub all_given : {u : S} {answer : ℕ} → IsBounded word limit fill (length bits) → Adds k s t bits → Finishes k t u (padding word t.bound fill t.used) answer → GivesText k out u (text_octets word limit fill bits) answer
+  all_given {u} {answer} b p q =
+      let same = padding_is b p in
+      let octets : octets_of (bits ++ copies (padding word t.bound fill t.used) false) ≡ text_octets word limit fill bits = ap (λ n. octets_of (bits ++ copies n false)) same ∙ octets_are_text b p in
+      let zeros = padding word t.bound fill t.used in
+      record {
+        gave = subst (k.Gave out u) octets (gave_octets (text_gave begins p q));
+        count = omega (arith, ap length (sym octets), length-octets_of (bits ++ copies zeros false), length-append bits (copies zeros false), length-copies zeros false, q.bits, p.used, begins.used, none);
+      }
+
+  pub all_broke : {u : S} → IsBounded word limit fill (length bits) → Adds k s t bits → BrokeBits k t.sink u (t.pending ++ copies (padding word t.bound fill t.used) false) → BreaksWithin k out u (octets_of (padded word limit fill bits))
+  all_broke {u} b p q =
+      let whole = breaks_front [] (text_broke_at_end begins (padding word t.bound fill t.used) p q) in
+      subst (BreaksWithin k out u) (ap octets_of (append-nil (bits ++ copies (padding word t.bound fill t.used) false)) ∙ ap (λ n. octets_of (bits ++ copies n false)) (padding_is b p)) whole
+
+  pub closed : {E : Type 0} (r : Result ℕ E) {u : S} → IsBounded word limit fill (length bits) → Adds k s t bits → Closes k r word fill t u →
+      MatchResult r (λ octets. GivesText k out u (text_octets word limit fill bits) octets) (λ _. BreaksWithin k out u (octets_of (padded word limit fill bits)))
+  closed (Ok n) b p c = all_given b p c.ends
+  closed (Err e) b p c = all_broke b p c.ends
+
+-- a front of a front
+breaks_cut : {S : Type 0} {k : SinkOf S} {a b : S} (word limit : ℕ) (fill : Bool) (bits : List Bool) → IsLimit word limit → BreaksWithin k a b (text_octets word limit fill bits) → BreaksWithin k a b (octets_of (padded word limit fill bits))
+unfolding text_octets
+breaks_cut {S} {k} {a} {b} word limit fill bits l p =
+    let all = octets_of (padded word limit fill bits) in
+    let there : (limit == 0) ≡ false = grind (arith, nat_tests, l.some) in
+    let parts : take limit all ≡ p.front ++ p.more = rw there at p.parts in
+    record {
+      front = p.front;
+      more = p.more ++ drop limit all;
+      parts = sym (take-append-drop limit all) ∙ ap (λ r. r ++ drop limit all) parts ∙ append_assoc p.front p.more (drop limit all);
+      broke = p.broke;
+      rose = p.rose;
+    }
+
+module _ {S : Type 0} (k : SinkOf S) (out : S) (s t : Standing S) (word limit : ℕ) (fill : Bool) (bits : List Bool)
+    (begins : Begins k out (bound_of limit) s) (is_open : IsOpen s) (none : (k.counts out).given ≡ 0) where
+  -- ---- the bits that fit were put
+
+  limit_there : IsBounded word limit fill (length bits) → s.room < length bits → IsLimit word limit
+  limit_there (inl (some, few, zero, plain, short)) lt =
+      let bound : bound_of limit ≡ 2 ^ 32 = rw zero refl in
+      absurd (omega (arith, is_open.whole, begins.used, begins.bound, none, bound))
+  limit_there (inr l) lt = l
+
+  room_limited : IsLimit word limit → s.room ≡ 8 * limit
+  room_limited l =
+      let there : (limit == 0) ≡ false = grind (arith, nat_tests, l.some) in
+      let bound : bound_of limit ≡ limit = rw there refl in
+      omega (arith, is_open.whole, begins.used, begins.bound, none, bound)
+
+  pub cut_fits : IsBounded word limit fill (length bits) → s.room < length bits → Adds k s t (take s.room bits) → padded_length word t.bound fill t.used ≤ 8 * t.bound
+  cut_fits b lt p = end_fits k out s t word limit fill (take s.room bits) begins is_open none (inr (limit_there b lt)) p
+
+  pub closed_cut : {E : Type 0} (r : Result ℕ E) {u : S} → IsBounded word limit fill (length bits) → s.room < length bits → Adds k s t (take s.room bits) → Closes k r word fill t u →
+      MatchResult r (λ octets. GivesText k out u (text_octets word limit fill bits) octets) (λ _. BreaksWithin k out u (octets_of (padded word limit fill bits)))
+  closed_cut r {u} b lt p c =
+      let l = limit_there b lt in
+      let room : s.room ≡ 8 * limit = room_limited l in
+      let cut = take s.room bits in
+      let front : cut ≡ take (8 * limit) bits = ap (λ n. take n bits) room in
+      let octets : octets_of (padded word limit fill cut) ≡ text_octets word limit fill bits = ap (λ r. octets_of (padded word limit fill r)) front ∙ text_cut word limit fill bits l (omega (arith, room)) in
+      let same : text_octets word limit fill cut ≡ text_octets word limit fill bits = sym (text_within word limit fill cut l (omega (arith, room, length-take s.room bits))) ∙ octets in
+      by_result r octets same (closed k out s t word limit fill cut begins is_open none r (inr l) p c)
+    where
+      by_result : {E : Type 0} (r : Result ℕ E) → octets_of (padded word limit fill (take s.room bits)) ≡ text_octets word limit fill bits → text_octets word limit fill (take s.room bits) ≡ text_octets word limit fill bits →
+          MatchResult r (λ octets. GivesText k out u (text_octets word limit fill (take s.room bits)) octets) (λ _. BreaksWithin k out u (octets_of (padded word limit fill (take s.room bits)))) →
+          MatchResult r (λ octets. GivesText k out u (text_octets word limit fill bits) octets) (λ _. BreaksWithin k out u (octets_of (padded word limit fill bits)))
+      by_result (Ok n) octets same m = subst (λ text. GivesText k out u text n) same m
+      by_result (Err e) octets same m = breaks_cut word limit fill bits (limit_there b lt) (subst (BreaksWithin k out u) octets m)
+
+-- ---- as many bits as fit were put
+
+-- all bits were put
+pub fits_whole : {S : Type 0} {k : SinkOf S} {s t : Standing S} {bits : List Bool} → Adds k s t bits → Adds k s t (take s.room bits)
+fits_whole {S} {k} {s} {t} {bits} p = subst (Adds k s t) (sym (take_all s.room bits (omega (arith, p.room)))) p
+
+module _ {S : Type 0} (k : SinkOf S) (out : S) (s t : Standing S) (word limit : ℕ) (fill : Bool) (bits : List Bool)
+    (begins : Begins k out (bound_of limit) s) (is_open : IsOpen s) (none : (k.counts out).given ≡ 0) where
+  pub fitting_fits : IsBounded word limit fill (length bits) → Adds k s t (take s.room bits) → padded_length word t.bound fill t.used ≤ 8 * t.bound
+  fitting_fits b p = elim (cases_lt s.room (length bits)) [
+    | inl lt ↦ cut_fits k out s t word limit fill bits begins is_open none b lt p
+    | inr ge ↦ end_fits k out s t word limit fill bits begins is_open none b (subst (Adds k s t) (take_all s.room bits ge) p)
+  ]
+
+  pub closed_fitting : {E : Type 0} (r : Result ℕ E) {u : S} → IsBounded word limit fill (length bits) → Adds k s t (take s.room bits) → Closes k r word fill t u →
+      MatchResult r (λ octets. GivesText k out u (text_octets word limit fill bits) octets) (λ _. BreaksWithin k out u (octets_of (padded word limit fill bits)))
+  closed_fitting r b p c = elim (cases_lt s.room (length bits)) [
+    | inl lt ↦ closed_cut k out s t word limit fill bits begins is_open none r b lt p c
+    | inr ge ↦ closed k out s t word limit fill bits begins is_open none r b (subst (Adds k s t) (take_all s.room bits ge) p) c
+  ]
+
+-- the sink stands so at the return too
+pub told : {S E : Type 0} (k : SinkOf S) (out : S) (r : Result ℕ E) (h : SegmentHead) (blocks : List (List ℤ)) (u v : S) → u ≡ v →
+    MatchResult r (λ octets. GivesText k out u (text_octets h.image.word h.limit h.fill (coded_bits h blocks)) octets) (λ _. BreaksWithin k out u (octets_of (padded h.image.word h.limit h.fill (coded_bits h blocks)))) →
+    MatchResult r (λ octets. GivesText k out v (coded h blocks) octets) (λ _. BreaksWithin k out v (octets_of (padded h.image.word h.limit h.fill (coded_bits h blocks))))
+unfolding coded
+told k out (Ok n) h blocks u v e m = subst (λ x. GivesText k out x (text_octets h.image.word h.limit h.fill (coded_bits h blocks)) n) e m
+told k out (Err x) h blocks u v e m = subst (λ y. BreaksWithin k out y (octets_of (padded h.image.word h.limit h.fill (coded_bits h blocks)))) e m

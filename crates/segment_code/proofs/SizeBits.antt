@@ -1,0 +1,64 @@
+-- Sizes by leading zeros, and the greatest of sizes.
+use Rattle.std.proofs.Common.{◌≡◌, ℕ, zero, suc, ◌+◌, ◌-◌, ◌*◌, ◌^◌, ◌<◌, ◌≤◌, List, [], ◌∷◌, ◌++◌, length, max, get_or, refl, ap, ◌∙◌, arith, inl, inr}
+use Rattle.std.specs.Prelude.{ℤ, pos, negsuc, fold}
+use Rattle.std.proofs.Math.Pow.{pow_mono}
+use Rattle.std.proofs.Math.Nat.{pow-suc}
+use Rattle.std.proofs.lemmas.Bool.{cases_lt}
+use Rattle.std.proofs.lemmas.List.Sums.{fold-append}
+use lib.Count.{count_leading_zeros, leading_length}
+use Rattle.segment_defs.specs.Size.{size_of, greatest}
+use Rattle.segment_defs.specs.Depths.{signed_size}
+use Rattle.segment_defs.proofs.Sizes.{size_of-unique, size_of-mono, size_of-least}
+
+-- so many powers of two are at most n
+powers_below : (m n : ℕ) → 2 ^ m ≤ 2 * n + 1 → (k : ℕ) → k < m → 2 ^ k ≤ n
+powers_below zero n h k lt = absurd (omega arith)
+powers_below (suc m) n h k lt =
+    let top : 2 ^ suc m ≡ 2 ^ m * 2 = pow-suc 2 m in
+    let mono : 2 ^ k ≤ 2 ^ m = pow_mono {i = k} {j = m} (omega arith) in
+    omega (arith, top, mono, h)
+
+pub size-leading_zeros : (n : ℕ) → n < 2 ^ 32 → 32 - count_leading_zeros 32 n ≡ size_of n
+size-leading_zeros n lt =
+    let l = leading_length 32 n lt in
+    let same : size_of n ≡ l.0 = size_of-unique n l.0 l.2 (powers_below l.0 n l.3) in
+    omega (arith, same, l.1)
+
+-- the size of the greatest of numbers is the greatest of their sizes
+size-max : (a b : ℕ) → size_of (max a b) ≡ max (size_of a) (size_of b)
+size-max a b = elim (cases_lt a b) [
+  | inl lt ↦
+      let m : max a b ≡ b = omega arith in
+      let s : size_of a ≤ size_of b = size_of-mono a b (omega arith) in
+      ap size_of m ∙ omega arith
+  | inr ge ↦
+      let m : max a b ≡ a = omega arith in
+      let s : size_of b ≤ size_of a = size_of-mono b a ge in
+      ap size_of m ∙ omega arith
+]
+
+module _ {X : Type 0} (f : X → ℕ) where
+  size_after : (a : ℕ) (xs : List X) → size_of (fold (λ most x. max most (f x)) a xs) ≡ fold (λ most x. max most (size_of (f x))) (size_of a) xs
+  size_after a [] = refl
+  size_after a (x ∷ xs) = size_after (max a (f x)) xs ∙ ap (λ k. fold (λ most y. max most (size_of (f y))) k xs) (size-max a (f x))
+
+  pub size-greatest : (xs : List X) → size_of (greatest f xs) ≡ greatest (λ x. size_of (f x)) xs
+  size-greatest xs =
+      let none : size_of 0 ≡ 0 = let le = size_of-least 0 0 (omega arith) in omega arith in
+      size_after 0 xs ∙ ap (λ k. fold (λ most x. max most (size_of (f x))) k xs) none
+
+  within_after : (m a : ℕ) (xs : List X) → a ≤ m → ((k : ℕ) (d : X) → k < length xs → f (get_or xs k d) ≤ m) → fold (λ most x. max most (f x)) a xs ≤ m
+  within_after m a [] le h = le
+  within_after m a (x ∷ xs) le h = let here : f x ≤ m = h 0 x (omega arith) in within_after m (max a (f x)) xs (omega arith) (λ k d lt. h (suc k) d (omega arith))
+
+  -- the greatest is at most what each is at most
+  pub greatest-within : (m : ℕ) (xs : List X) → ((k : ℕ) (d : X) → k < length xs → f (get_or xs k d) ≤ m) → greatest f xs ≤ m
+  greatest-within m xs h = within_after m 0 xs (omega arith) h
+
+  pub greatest-push : (xs : List X) (x : X) → greatest f (xs ++ x ∷ []) ≡ max (greatest f xs) (f x)
+  greatest-push xs x = fold-append (λ most y. max most (f y)) 0 xs (x ∷ [])
+
+-- two's complement takes a bit at least
+pub signed_size-some : (z : ℤ) → 1 ≤ signed_size z
+signed_size-some (pos a) = omega arith
+signed_size-some (negsuc a) = omega arith

@@ -1,0 +1,84 @@
+-- The octets of a text that was put whole, or as far as its limit.
+use Rattle.std.proofs.Common.{◌≡◌, ℕ, ◌*◌, ◌/◌, ◌%◌, ◌≤◌, List, ◌++◌, length, take, drop, Bool, true, false, refl, sym, ap, ◌∙◌, arith, length-append}
+use Rattle.std.specs.Prelude.{◌==◌}
+use Rattle.std.proofs.lemmas.Bool.Decides.{nat_tests}
+use Rattle.std.proofs.lemmas.List.{append-nil, take_all, take_at, take-append-le, take-append-drop, length-take-le}
+use Rattle.item_defs.specs.Bits.{copies, octets_of}
+use Rattle.item_defs.specs.Padding.{rounded, padded_length, padding, padded}
+use Rattle.item_defs.proofs.BitLists.{length-copies, copies_none}
+use Rattle.item_defs.proofs.OctetBits.{length-octets_of}
+use Rattle.item_defs.proofs.Rounding.{rounded_bounds, rounded_least}
+use Rattle.segment_defs.specs.Text.{text_octets}
+use Rattle.segment_head.proofs.WrittenFields.{octets_of-append}
+
+-- the first octets are those of the first bits
+take-octets_of : (n : ℕ) (bits : List Bool) → 8 * n ≤ length bits → take n (octets_of bits) ≡ octets_of (take (8 * n) bits)
+take-octets_of n bits le =
+    let front = take (8 * n) bits in
+    let long : length front ≡ 8 * n = length-take-le (8 * n) bits le in
+    let count : length (octets_of front) ≡ n = length-octets_of front ∙ omega (arith, long) in
+    ap (λ r. take n (octets_of r)) (sym (take-append-drop (8 * n) bits))
+    ∙ ap (take n) (octets_of-append n front (drop (8 * n) bits) long)
+    ∙ take_at (octets_of front) (octets_of (drop (8 * n) bits)) n count
+
+-- ---- a limit of whole words
+
+pub record IsLimit (word limit : ℕ) : Type 0 where
+  pub octets : 1 ≤ word
+  pub some : 1 ≤ limit
+  pub whole : limit % word ≡ 0
+
+-- what is within the limit stays within it as whole words
+pub padded_within : (word limit used : ℕ) (fill : Bool) → IsLimit word limit → used ≤ 8 * limit → padded_length word limit fill used ≤ 8 * limit
+padded_within word limit used fill l le =
+    let k = limit / word in
+    let exact : limit ≡ k * word = omega (arith, l.whole, l.octets) in
+    let same : k * (8 * word) ≡ 8 * limit = ap (λ n. n) (grind arith) ∙ ap (λ n. 8 * n) (sym exact) in
+    let round : rounded (8 * word) used ≤ k * (8 * word) = rounded_least (8 * word) used k (omega (arith, l.octets)) (omega (arith, same)) in
+    by_fill fill (omega (arith, round, same))
+  where
+    by_fill : (fill : Bool) → rounded (8 * word) used ≤ 8 * limit → padded_length word limit fill used ≤ 8 * limit
+    by_fill true r = omega (arith, r)
+    by_fill false r = omega (arith, r)
+
+padded_least : (word limit used : ℕ) (fill : Bool) → 1 ≤ word → used ≤ padded_length word limit fill used
+padded_least word limit used fill some = by_fill fill (rounded_bounds (8 * word) used (omega arith)).0
+  where
+    by_fill : (fill : Bool) → used ≤ rounded (8 * word) used → used ≤ padded_length word limit fill used
+    by_fill true r = omega (arith, r)
+    by_fill false r = omega (arith, r)
+
+pub length-padded : (word limit : ℕ) (fill : Bool) (bits : List Bool) → 1 ≤ word → length (padded word limit fill bits) ≡ padded_length word limit fill (length bits)
+length-padded word limit fill bits some =
+    let n = padding word limit fill (length bits) in
+    omega (arith, length-append bits (copies n false), length-copies n false, padded_least word limit (length bits) fill some)
+
+-- all bits fit below the limit
+pub text_within : (word limit : ℕ) (fill : Bool) (bits : List Bool) → IsLimit word limit → length bits ≤ 8 * limit → octets_of (padded word limit fill bits) ≡ text_octets word limit fill bits
+unfolding text_octets
+text_within word limit fill bits l le =
+    let there : (limit == 0) ≡ false = grind (arith, nat_tests, l.some) in
+    let all = padded word limit fill bits in
+    let short : length (octets_of all) ≤ limit = omega (arith, length-octets_of all, length-padded word limit fill bits l.octets, padded_within word limit (length bits) fill l le) in
+    rw there (sym (take_all limit (octets_of all) short))
+
+-- there is no limit
+pub text_unlimited : (word bound : ℕ) (bits : List Bool) → octets_of (padded word bound false bits) ≡ text_octets word 0 false bits
+unfolding text_octets
+text_unlimited word bound bits = refl
+
+-- the bits reach the limit or pass it
+pub text_cut : (word limit : ℕ) (fill : Bool) (bits : List Bool) → IsLimit word limit → 8 * limit ≤ length bits → octets_of (padded word limit fill (take (8 * limit) bits)) ≡ text_octets word limit fill bits
+unfolding text_octets
+text_cut word limit fill bits l le =
+    let there : (limit == 0) ≡ false = grind (arith, nat_tests, l.some) in
+    let front = take (8 * limit) bits in
+    let long : length front ≡ 8 * limit = length-take-le (8 * limit) bits le in
+    let none : padding word limit fill (length front) ≡ 0 = ap (padding word limit fill) long ∙ (let w = padded_within word limit (8 * limit) fill l (omega arith) in omega (arith, w)) in
+    let here : padded word limit fill front ≡ front = ap (λ n. front ++ copies n false) none ∙ ap (λ r. front ++ r) (copies_none false) ∙ append-nil front in
+    let zeros = copies (padding word limit fill (length bits)) false in
+    rw there (
+    ap octets_of here
+    ∙ ap octets_of (sym (take-append-le (8 * limit) bits zeros le))
+    ∙ sym (take-octets_of limit (bits ++ zeros) (omega (arith, le, length-append bits zeros)))
+    )
