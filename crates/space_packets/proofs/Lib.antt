@@ -1,0 +1,6 @@
+pub mod Whole
+pub mod WholeCalls
+pub mod SinkCalls
+mod Buffers
+mod Sound
+mod OneOctet

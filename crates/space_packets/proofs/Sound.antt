@@ -1,0 +1,102 @@
+-- What holds of a packetiser's fields goes on to hold.
+use Rattle.std.proofs.Common.{◌≡◌, ◌≤◌, ◌<◌, ◌+◌, ◌-◌, ◌*◌, ◌^◌, ℕ, length, ap, sym, subst, arith}
+use Rattle.std.specs.Prelude.{Bool, true, false, if◌then◌else◌, vec_capacity}
+use Rattle.std.specs.Bool.{OnFalse}
+use Rattle.std.specs.Global.{Vec}
+use Rattle.std.proofs.Math.Nat.{mul-le-mul_left}
+use Rattle.stream_defs.specs.Packets.{part_size}
+use Rattle.space_packets.specs.declared.packetiser.Packetiser.TheInside.{Inside}
+use Rattle.space_packets.specs.declared.stage.Stage.{Stage}
+use Rattle.space_packets.specs.declared.stage.Stage.TheVariants.{Idle, Begun}
+use Rattle.space_packets.specs.declared.stage.Text.{Text}
+use Rattle.space_packets.specs.Parts.{text_at}
+use Rattle.space_packets.specs.Stages.{apid_of, parts_of, open_texts, room_of, given_in}
+use Rattle.space_packets.specs.Inside.{IsSound}
+use Rattle.space_packets.proofs.Buffers.{given_parts, given_room}
+
+-- what is known of the numbers of a begun text
+record Known (a : Inside) (t : Text) : Type 0 where
+  apid : t.apid < 2 ^ 11
+  begun : 1 ≤ a.texts
+  size : 40 ≤ part_size a.packet
+  text : t.ancillary.part * part_size a.packet + (length a.buffer.items - 30) ≤ 2 ^ 32
+  few : t.ancillary.part * 40 ≤ 2 ^ 32
+  packets : a.packets + 2 ^ 32 ≤ a.texts * 2 ^ 32 + t.ancillary.part
+  octets : a.octets + 2 ^ 34 ≤ a.texts * 2 ^ 34 + 2 * (t.ancillary.part * part_size a.packet)
+
+known : (a : Inside) (t : Text) → IsSound a → a.stage ≡ Begun t → Known a t
+known a t sound e =
+    let size = part_size a.packet in
+    let least : 40 ≤ size = omega (arith, sound.least) in
+    let parts : parts_of a.stage * size ≡ t.ancillary.part * size = ap (λ s. parts_of s * size) e in
+    let texts : open_texts a.stage ≡ 1 = ap open_texts e in
+    let text : t.ancillary.part * size + (length a.buffer.items - 30) ≤ 2 ^ 32 = omega (arith, sound.text, parts) in
+    record {
+      apid = omega (arith, sound.apid, ap apid_of e);
+      begun = omega (arith, sound.begun, texts);
+      size = least;
+      text = text;
+      few = omega (arith, text, mul-le-mul_left {m = 40} {n = size} t.ancillary.part least);
+      packets = omega (arith, sound.packets, texts, ap parts_of e);
+      octets = omega (arith, sound.octets, texts, parts);
+    }
+
+-- after one more octet
+pub sound_more : (a : Inside) (buffer : Vec ℕ) → IsSound a → length a.buffer.items - 30 < part_size a.packet →
+    given_in a.stage (part_size a.packet) (length a.buffer.items - 30) < 2 ^ 32 →
+    length buffer.items ≡ length a.buffer.items + 1 → vec_capacity buffer ≡ vec_capacity a.buffer → IsSound (record a { buffer = buffer })
+sound_more a buffer sound room fits long same =
+    let size = part_size a.packet in
+    let given = given_parts a.stage size (length a.buffer.items - 30) fits in
+    let whole = given_room a.stage size (length a.buffer.items - 30) fits in
+    record {
+      least = sound.least;
+      most = sound.most;
+      room = omega (arith, sound.room, same);
+      header = omega (arith, sound.header, long);
+      pending = omega (arith, long, room, whole);
+      apid = sound.apid;
+      texts = sound.texts;
+      begun = sound.begun;
+      text = omega (arith, given, long, sound.header);
+      packets = sound.packets;
+      octets = sound.octets;
+    }
+
+-- after a part is out
+pub sound_past : (a : Inside) (t : Text) (last : Bool) (s : Stage) (octets : ℕ) (buffer : Vec ℕ) → IsSound a → a.stage ≡ Begun t →
+    OnFalse last (length a.buffer.items - 30 ≡ part_size a.packet) → s ≡ (if last then Idle else Begun (text_at t 1)) → octets ≡ length a.buffer.items →
+    length buffer.items ≡ 30 → vec_capacity buffer ≡ vec_capacity a.buffer →
+    IsSound (record a { buffer = buffer; stage = s; packets = a.packets + 1; octets = a.octets + octets })
+sound_past a t true s octets buffer sound e full next long cut same =
+    let k = known a t sound e in
+    let end : IsSound (record a { buffer = buffer; stage = Idle; packets = a.packets + 1; octets = a.octets + octets }) = record {
+      least = sound.least;
+      most = sound.most;
+      room = omega (arith, sound.room, same);
+      header = omega (arith, cut);
+      pending = omega (arith, cut);
+      apid = omega arith;
+      texts = sound.texts;
+      begun = omega arith;
+      text = omega (arith, cut);
+      packets = omega (arith, k.packets, k.few);
+      octets = omega (arith, k.octets, k.text, long, sound.pending, sound.most, ap (λ s. room_of s (part_size a.packet)) e);
+    } in
+    subst (λ s. IsSound (record a { buffer = buffer; stage = s; packets = a.packets + 1; octets = a.octets + octets })) (sym next) end
+sound_past a t false s octets buffer sound e full next long cut same =
+    let k = known a t sound e in
+    let end : IsSound (record a { buffer = buffer; stage = Begun (text_at t 1); packets = a.packets + 1; octets = a.octets + octets }) = record {
+      least = sound.least;
+      most = sound.most;
+      room = omega (arith, sound.room, same);
+      header = omega (arith, cut);
+      pending = omega (arith, cut);
+      apid = k.apid;
+      texts = sound.texts;
+      begun = k.begun;
+      text = omega (arith, cut, k.text, full);
+      packets = omega (arith, k.packets);
+      octets = omega (arith, k.octets, long, full, k.size, sound.header);
+    } in
+    subst (λ s. IsSound (record a { buffer = buffer; stage = s; packets = a.packets + 1; octets = a.octets + octets })) (sym next) end

@@ -1,0 +1,146 @@
+-- A whole text by its calls: begin, octets, and close, or a failure among them.
+use Rattle.std.proofs.Common.{◌≡◌, ◌≤◌, ◌<◌, ◌+◌, ◌-◌, ◌*◌, ℕ, suc, List, [], ◌++◌, length, take, drop, map, refl, sym, ◌∙◌, ap, subst, arith, append_assoc, length-append, length-drop, zero-add}
+use Rattle.std.specs.Prelude.{Result, Ok, Err, MatchResult}
+use Rattle.std.specs.List.{range_with_len}
+use Rattle.std.proofs.Math.Seq.{take-append_seam}
+use Rattle.std.proofs.lemmas.List.{take-append-drop}
+use Rattle.port_122.specs.Outside.{Outside, Since, NoRead, Rose}
+use Rattle.port_122.proofs.Stretches.{since_out, rose_since}
+use Rattle.stream_defs.specs.Packets.{part_size, part_count, text_packets}
+use Rattle.stream_defs.specs.Output.{joined}
+use Rattle.stream_defs.proofs.Outputs.{joined-append}
+use Rattle.space_packets.specs.declared.stage.Stage.TheVariants.{Idle, Begun}
+use Rattle.space_packets.specs.declared.stage.Text.{Text}
+use Rattle.space_packets.specs.Parts.{full_parts, text_at}
+use Rattle.space_packets.specs.Progress.{Progress, IsOpen, begun, full_count, full_packet, first_packets, first_octets, written, after, last_packet, past_packet, broken, stopped, ended}
+use Rattle.space_packets.specs.Writes.{GoesOn, BreaksOff, PacketOut, PacketFailed, WritesPacket, TextOut, TextCut}
+use Rattle.space_packets.specs.PartLists.{map_split}
+use Rattle.space_packets.specs.FullParts.{full_parts_below}
+use Rattle.space_packets.specs.Going.{same_progress, octets_both, written_both}
+use Rattle.space_packets.proofs.Whole.{whole_text, parts_and_last}
+
+-- a text is open as it begins
+pub begun_open : (v : Progress) (t : Text) → 64 ≤ v.packet → IsOpen t (begun v t)
+begun_open v t least = record { stage = refl; packet = least; pending = omega arith }
+
+-- octets wait where a text isn't empty
+pub some_wait : {t : Text} {p q : Outside} (v : Progress) {w : Progress} (text : List ℕ) → 0 < length text → GoesOn t p q (begun v t) w text → 0 < length w.pending
+some_wait {t = t} v {w = w} text some first =
+    let size = part_size v.packet in
+    let n = full_parts size (length text) in
+    let left : length w.pending ≡ length text - n * size = ap (λ (w : Progress). length w.pending) first.stands ∙ length-drop (n * size) text in
+    omega (arith, left, full_parts_below size (length text) some)
+
+-- what stands at the end
+ended_is : (v : Progress) (t : Text) (text : List ℕ) → 64 ≤ v.packet → t.ancillary.part ≡ 0 → 0 < length text →
+    past_packet (after t (begun v t) text) Idle (last_packet (text_at t (full_count (begun v t) text)) (after t (begun v t) text)) ≡ ended v t text
+ended_is v t text least first some =
+    let b = begun v t in
+    let n = full_count b text in
+    let count : v.packets + n + 1 ≡ v.packets + part_count (part_size v.packet) (length text) =
+    omega (arith, parts_and_last (part_size v.packet) (length text) (let room : 0 < part_size v.packet = omega arith in room) some) in
+    same_progress refl refl refl count
+    (sym (octets_both v.octets (joined (text_packets t.apid t.ancillary v.packet v.packets text)) (written t b text) (last_packet (text_at t n) (after t b text)) (whole_text v t text least first some)))
+    refl
+
+-- begin, a text that isn't empty, close: its packets are out
+pub text_out : {t : Text} {p q r : Outside} (v : Progress) {w u : Progress} (text : List ℕ) → 64 ≤ v.packet → t.ancillary.part ≡ 0 → 0 < length text →
+    GoesOn t p q (begun v t) w text → PacketOut q r w u Idle (last_packet (text_at t (full_count (begun v t) text)) w) → TextOut t p r v u text
+text_out {t = t} {p = p} {q = q} {r = r} v {w = w} {u = u} text least first some sent closing =
+    let b = begun v t in
+    let end = text_at t (full_count b text) in
+    let last : PacketOut q r (after t b text) u Idle (last_packet end (after t b text)) =
+    subst (λ w. PacketOut q r w u Idle (last_packet end w)) sent.stands closing in
+    record {
+      out = subst (λ gave. Since p r [] gave [] NoRead) (sym (whole_text v t text least first some)) (since_out sent.out last.out);
+      stands = last.stands ∙ ended_is v t text least first some;
+    }
+
+-- ---- a failure
+
+-- the length of a front
+front_length : (front rest whole : List ℕ) → whole ≡ front ++ rest → length front ≤ length whole
+front_length front rest whole e = omega (arith, ap length e, length-append front rest)
+
+front_is : (front rest whole : List ℕ) → whole ≡ front ++ rest → take (length front) whole ≡ front
+front_is front rest whole e = ap (take (length front)) e ∙ take-append_seam front rest
+
+-- what fails with a front out
+cut_at : {t : Text} {p q : Outside} {v w : Progress} (text front rest : List ℕ) →
+    joined (text_packets t.apid t.ancillary v.packet v.packets text) ≡ front ++ rest → Since p q [] front [] NoRead → Rose p.write_faults q.write_faults →
+    (u : Progress) → w ≡ stopped u → u.packet ≡ v.packet → TextCut t p q v w text
+cut_at {t = t} {p = p} {q = q} {v = v} {w = w} text front rest e out rose u stands same =
+    let whole = joined (text_packets t.apid t.ancillary v.packet v.packets text) in
+    record {
+      some = length front;
+      within = front_length front rest whole e;
+      out = subst (λ gave. Since p q [] gave [] NoRead) (sym (front_is front rest whole e)) out;
+      rose = rose;
+      broken = ap (λ (w : Progress). w.stage) stands;
+      packet = ap (λ (w : Progress). w.packet) stands ∙ same;
+    }
+
+-- at its close
+pub text_cut_at_close : {t : Text} {p q r : Outside} (v : Progress) {w u : Progress} (text : List ℕ) → 64 ≤ v.packet → t.ancillary.part ≡ 0 → 0 < length text →
+    GoesOn t p q (begun v t) w text → PacketFailed q r w u (last_packet (text_at t (full_count (begun v t) text)) w) → TextCut t p r v u text
+text_cut_at_close {t = t} {p = p} {q = q} {r = r} v {w = w} {u = u} text least first some sent failed =
+    let b = begun v t in
+    let end = text_at t (full_count b text) in
+    let last : PacketFailed q r (after t b text) u (last_packet end (after t b text)) =
+    subst (λ w. PacketFailed q r w u (last_packet end w)) sent.stands failed in
+    let packet = last_packet end (after t b text) in
+    let split : joined (text_packets t.apid t.ancillary v.packet v.packets text) ≡ (written t b text ++ take last.some packet) ++ drop last.some packet =
+    whole_text v t text least first some
+    ∙ ap (λ xs. written t b text ++ xs) (sym (take-append-drop last.some packet))
+    ∙ sym (append_assoc (written t b text) (take last.some packet) (drop last.some packet)) in
+    cut_at text (written t b text ++ take last.some packet) (drop last.some packet) split (since_out sent.out last.out)
+    (rose_since sent.out.faults.writes last.rose) (after t b text) last.stands refl
+
+-- one full packet among them
+one_of : (t : Text) (v : Progress) (octets : List ℕ) (k m : ℕ) → k < m →
+    (rest : List ℕ) × (first_octets t v octets m ≡ first_octets t v octets k ++ (full_packet t v octets k ++ rest))
+unfolding first_packets
+one_of t v octets k m few =
+    let f = full_packet t v octets in
+    let more = m - k - 1 in
+    let sum : m ≡ k + suc more = omega arith in
+    let tail = joined (map f (range_with_len (0 + k + 1) more)) in (
+      tail,
+      ap (λ n. joined (map f (range_with_len 0 n))) sum ∙ ap joined (map_split f 0 k (suc more))
+          ∙ joined-append (map f (range_with_len 0 k)) (map f (range_with_len (0 + k) (suc more)))
+          ∙ ap (λ i. joined (map f (range_with_len 0 k)) ++ (f i ++ tail)) (zero-add k),
+    )
+
+regrouped : (a t d r w l : List ℕ) → ((a ++ ((t ++ d) ++ r)) ++ w) ++ l ≡ (a ++ t) ++ (((d ++ r) ++ w) ++ l)
+regrouped a t d r w l = simp append_assoc
+
+-- among its octets
+pub text_cut : {t : Text} {p q : Outside} (v : Progress) {w : Progress} (octets more : List ℕ) → 64 ≤ v.packet → t.ancillary.part ≡ 0 → 0 < length (octets ++ more) →
+    BreaksOff t p q (begun v t) w octets → TextCut t p q v w (octets ++ more)
+text_cut {t = t} {p = p} {q = q} v {w = w} octets more least first some broke =
+    let b = begun v t in
+    let k = broke.count in
+    let n = full_count b octets in
+    let packet = full_packet t b octets k in
+    let front = first_octets t b octets k in
+    let one = one_of t b octets k n broke.few in
+    let next = written (text_at t n) (after t b octets) more in
+    let text = octets ++ more in
+    let last = last_packet (text_at t (full_count b text)) (after t b text) in
+    let split : joined (text_packets t.apid t.ancillary v.packet v.packets text) ≡ (front ++ take broke.some packet) ++ (((drop broke.some packet ++ one.0) ++ next) ++ last) =
+    whole_text v t text least first some
+    ∙ ap (λ xs. xs ++ last) (written_both (begun_open v t least) octets more)
+    ∙ ap (λ xs. (xs ++ next) ++ last) one.1
+    ∙ ap (λ xs. ((front ++ (xs ++ one.0)) ++ next) ++ last) (sym (take-append-drop broke.some packet))
+    ∙ regrouped front (take broke.some packet) (drop broke.some packet) one.0 next last in
+    cut_at text (front ++ take broke.some packet) (((drop broke.some packet ++ one.0) ++ next) ++ last) split broke.out broke.rose (broken t b octets k) broke.stands refl
+
+-- close, with either answer
+pub text_closed : {T E : Type 0} (r : Result T E) (v w u : Progress) (t : Text) (text : List ℕ) (p q s : Outside) →
+    64 ≤ v.packet → t.ancillary.part ≡ 0 → 0 < length text → GoesOn t p q (begun v t) w text →
+    ((x : Text) → w.stage ≡ Begun x → WritesPacket r q s w u Idle (last_packet x w)) →
+    MatchResult r (λ _. TextOut t p s v u text) (λ _. TextCut t p s v u text)
+text_closed (Ok done) v w u t text p q s least first some sent closing =
+    text_out v text least first some sent (closing (text_at t (full_count (begun v t) text)) (ap (λ (w : Progress). w.stage) sent.stands))
+text_closed (Err failed) v w u t text p q s least first some sent closing =
+    text_cut_at_close v text least first some sent (closing (text_at t (full_count (begun v t) text)) (ap (λ (w : Progress). w.stage) sent.stands))

@@ -1,0 +1,13 @@
+pub mod Parts
+pub mod Progress
+pub mod Stages
+pub mod Inside
+pub mod Writes
+pub mod Sink
+pub mod Laws
+pub mod PartLists
+pub mod FullParts
+pub mod Going
+pub mod Writing
+pub mod SinkLaws
+pub mod PacketSink

@@ -1,0 +1,40 @@
+-- What a packetiser's stage says of its text, in numbers. This project's own.
+use Rattle.std.specs.Prelude.{ℕ, ◌+◌, ◌*◌, ◌^◌, ⊤}
+use Rattle.space_packets.specs.declared.stage.Stage.{Stage}
+use Rattle.space_packets.specs.declared.stage.Stage.TheVariants.{Idle, Begun, Broken}
+
+-- a text is begun
+abbrev pub IsBegun : Stage → Type 0
+IsBegun Idle = ⊥
+IsBegun (Begun t) = ⊤
+IsBegun Broken = ⊥
+
+-- octets that the begun text was given, where a part has this size and so many octets wait; else as many as can be
+abbrev pub given_in : Stage → (size pending : ℕ) → ℕ
+given_in Idle size pending = 2 ^ 32
+given_in (Begun t) size pending = t.ancillary.part * size + pending
+given_in Broken size pending = 2 ^ 32
+
+-- the APID of the begun text
+abbrev pub apid_of : Stage → ℕ
+apid_of Idle = 0
+apid_of (Begun t) = t.apid
+apid_of Broken = 0
+
+-- parts of the begun text that are out
+abbrev pub parts_of : Stage → ℕ
+parts_of Idle = 0
+parts_of (Begun t) = t.ancillary.part
+parts_of Broken = 0
+
+-- texts that are begun and not ended
+abbrev pub open_texts : Stage → ℕ
+open_texts Idle = 0
+open_texts (Begun t) = 1
+open_texts Broken = 0
+
+-- octets that may wait, where a part has this size
+abbrev pub room_of : Stage → (size : ℕ) → ℕ
+room_of Idle size = 0
+room_of (Begun t) size = size
+room_of Broken size = 0

@@ -1,0 +1,63 @@
+// The octets of a packet before its text.
+ghost use Rattle.std.specs.Prelude.{◌≡◌, ◌≤◌, ◌+◌, ◌*◌, ◌^◌, ◌%◌, ◌<◌, ◌++◌, length, drop};
+ghost use Rattle.byteorder.specs.Endian.{big_bytes};
+ghost use Rattle.stream_defs.specs.Packets.{ancillary_octets};
+ghost use Rattle.space_packets.specs.Parts.{flags_of, packet_of};
+
+use crate::stage::Text;
+use byteorder::{BigEndian, ByteOrder};
+use stream_defs::Ancillary;
+
+// The mark that begins the ancillary data.
+const MARK: u16 = 0x1220;
+
+/// Octets of the primary header.
+pub const PRIMARY: usize = 6;
+
+// Octets of the ancillary data.
+const ANCILLARY: usize = 24;
+
+/// Octets of a packet before its text.
+pub const HEADER: usize = PRIMARY + ANCILLARY;
+
+// The sequence flags of a part: 01 for the first of more, 10 for the last of more, 11 for one that is alone.
+fn flags_of_part(part: u32, last: bool) -> u16
+    ensures value { result ≡ flags_of part last }
+    ensures small { result < 4 }
+{
+    let first = part == 0;
+    u16::from(first) + 2 * u16::from(last)
+}
+
+// The ancillary data.
+fn write_ancillary(field: &mut [u8], ancillary: &Ancillary)
+    requires { 24 ≤ length field.old }
+    ensures { field.new ≡ ancillary_octets ancillary.now ++ drop 24 field.old }
+{
+    BigEndian::write_u16(field, MARK);
+    BigEndian::write_u16(&mut field[2..], ancillary.image);
+    BigEndian::write_u32(&mut field[4..], ancillary.rows);
+    BigEndian::write_u32(&mut field[8..], ancillary.segment);
+    BigEndian::write_u32(&mut field[12..], ancillary.index);
+    BigEndian::write_u32(&mut field[16..], ancillary.first);
+    BigEndian::write_u32(&mut field[20..], ancillary.part);
+}
+
+/// Writes the header of a packet before the part of the text that stands in it; so many packets of the image are out.
+#[tactic(auto, unfolding(crate::specs::Parts::packet_of))]
+pub fn write_header(packet: &mut [u8], text: &Text, number: u64, last: bool)
+    requires apid { text.now.apid < 2 ^ 11 }
+    requires header { 30 ≤ length packet.old }
+    requires fits { length packet.old ≤ 2 ^ 16 + 6 }
+    ensures { packet.new ≡ packet_of text.now number last (drop 30 packet.old) }
+{
+    let length = (packet.len() - PRIMARY - 1) as u16;
+    let flags = flags_of_part(text.ancillary.part, last);
+    BigEndian::write_u16(packet, (1 << 11) + text.apid);
+    BigEndian::write_u16(
+        &mut packet[2..],
+        (flags << 14) + (number % (1 << 14)) as u16,
+    );
+    BigEndian::write_u16(&mut packet[4..], length);
+    write_ancillary(&mut packet[PRIMARY..], &text.ancillary);
+}

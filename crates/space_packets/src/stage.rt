@@ -1,0 +1,41 @@
+// What a packetiser is doing.
+ghost use Rattle.std.specs.Prelude.{◌≡◌, ◌<◌, ◌-◌, ◌^◌, if◌then◌else◌};
+ghost use Rattle.space_packets.specs.Parts.{text_at};
+ghost use Rattle.space_packets.specs.declared.stage.Stage.TheVariants.{Idle, Begun};
+
+use stream_defs::Ancillary;
+
+/// A begun text: the APID of its packets, and what the next of them says of it.
+#[derive(Clone, Copy)]
+pub struct Text {
+    pub apid: u16,
+    pub ancillary: Ancillary,
+}
+
+/// What a packetiser is doing.
+#[derive(Clone, Copy)]
+pub enum Stage {
+    /// No text is begun.
+    Idle,
+    /// A text is begun.
+    Begun(Text),
+    /// A write failed.
+    Broken,
+}
+
+impl Text {
+    /// What is done once a part is out, the last or not: the text stands at its next part, or is over.
+    pub fn after_part(self, last: bool) -> Stage
+        requires { self.ancillary.part < 2 ^ 32 - 1 }
+        ensures { result ≡ (if last then Idle else Begun (text_at self 1)) }
+    {
+        if last {
+            return Stage::Idle;
+        }
+        let ancillary = Ancillary {
+            part: self.ancillary.part + 1,
+            ..self.ancillary
+        };
+        Stage::Begun(Text { ancillary, ..self })
+    }
+}
