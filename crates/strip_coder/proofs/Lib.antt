@@ -1,0 +1,11 @@
+mod RowsTakenLaws
+mod NextRows
+mod RowRuns
+mod BlockRowLaws
+mod BlockLists
+mod ImageBlocks
+mod EncodeRuns
+mod SegmentRuns
+mod ImageBounds
+mod SegmentTexts
+mod SegmentBlocks

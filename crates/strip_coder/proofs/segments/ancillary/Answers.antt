@@ -1,0 +1,11 @@
+use Rattle.std.proofs.Common.{arith}
+use Rattle.base_122.specs.Sizes.{total_blocks}
+use Rattle.base_122.proofs.SizeBounds.{first_block-lt, total_blocks-most}
+use Rattle.strip_coder.proofs.segments.ancillary.Goals as goal
+
+pub overflow_mul-result : goal.overflow_mul-result
+overflow_mul-result c =
+    let s = c.args.setting.now in
+    let within = first_block-lt (total_blocks s.width s.rows) s.segment c.args.index (omega (arith, c.requires.in_range.segment)) c.requires.index in
+    let most = total_blocks-most s.width s.rows c.requires.in_range.width c.requires.in_range.rows in
+    omega (arith, within, most)

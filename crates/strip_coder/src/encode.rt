@@ -1,0 +1,34 @@
+// The encoder's answers.
+
+use thiserror::Error;
+
+/// What was written for an image.
+#[derive(Clone, Copy, Debug, PartialEq, Eq)]
+pub struct EncodeDone {
+    pub segments: u32,
+    pub packets: u64,
+    pub octets: u64,
+}
+
+/// Why an image was not encoded, or not as a whole.
+#[derive(Clone, Copy, Debug, PartialEq, Eq, Error)]
+pub enum EncodeFault {
+    /// A read failed.
+    #[error("read fault")]
+    ReadFault,
+    /// A write failed.
+    #[error("write fault")]
+    WriteFault,
+    /// The input ended before the raster was whole; so many octets were taken.
+    #[error("input short, {octets} octets taken")]
+    Short { octets: u64 },
+    /// The input has more than the raster.
+    #[error("input long")]
+    Long,
+    /// The first value out of range.
+    #[error("bad pixel {value} at row {row} column {column}")]
+    BadPixel { row: u32, column: u32, value: i32 },
+    /// There is no memory for the image.
+    #[error("no memory")]
+    Memory,
+}
