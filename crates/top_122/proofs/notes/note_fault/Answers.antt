@@ -1,0 +1,14 @@
+use Rattle.std.proofs.Common.{rules, refl}
+use Rattle.top_122.specs.Notes.{fault_line}
+use Rattle.top_122.proofs.NoteLines.{notes_as}
+use Rattle.top_122.proofs.notes.note_fault.Goals as goal
+
+pub returns-in-BadPixel : goal.returns-in-BadPixel
+returns-in-BadPixel g c =
+    notes_as (fault_line c.args.fault) c.note_line-in-BadPixel.ensures (rw (c.in-BadPixel.is, c.as_str-in-BadPixel.ensures.value, c.bad_pixel_line.ensures) (search rules))
+
+pub returns-in-WriteFault : goal.returns-in-WriteFault
+returns-in-WriteFault g c = notes_as (fault_line c.args.fault) c.note_line-in-WriteFault.ensures (rw c.in-WriteFault.is refl)
+
+pub returns-in-Memory : goal.returns-in-Memory
+returns-in-Memory g c = notes_as (fault_line c.args.fault) c.note_line-in-Memory.ensures (rw c.in-Memory.is refl)

@@ -1,0 +1,67 @@
+-- The notes: one line for each status but 0. This project's own.
+use Rattle.std.specs.Prelude.{◌≡◌, ◌⊎◌, ◌≤◌, ℕ, zero, suc, List, [], ◌∷◌, ◌++◌, length, take, decimal, codes}
+use Rattle.std.specs.Fmt.{signed_decimal}
+use Rattle.port_122.specs.Outside.{Outside, Since, NoRead, Rose}
+use Rattle.base_122.specs.declared.field.Field.{Field}
+use Rattle.base_122.specs.declared.field.Field.TheVariants.{Width, Rows, Depth, Segment, Limit, Fill, Word, Stop, Weights, Apid, Image, Packet, Pixels, Octets}
+use Rattle.strip_coder.specs.declared.encode.EncodeFault.{EncodeFault}
+use Rattle.strip_coder.specs.declared.encode.EncodeFault.TheVariants.{ReadFault, WriteFault, Short, Long, BadPixel, Memory}
+use Rattle.top_122.specs.declared.words.WordFault.{WordFault}
+use Rattle.top_122.specs.declared.words.WordFault.TheVariants.{MissingCommand, BadWord, MissingKey, OutOfRange, Unbuilt}
+
+-- the line was noted, or a prefix of it where a note failed
+abbrev pub IsNoted : Outside → Outside → List ℕ → List ℕ → Type 0
+IsNoted old new wrote line = (wrote ≡ line) ⊎ (Rose old.note_faults new.note_faults × ((k : ℕ) × (k ≤ length line) × (wrote ≡ take k line)))
+
+-- just this line was noted, or a prefix of it where a note failed
+abbrev pub Notes : Outside → Outside → List ℕ → Type 0
+Notes old new line = (wrote : List ℕ) × Since old new [] [] wrote NoRead × IsNoted old new wrote line
+
+-- the word at a place
+abbrev pub word_at : List (List ℕ) → ℕ → List ℕ
+word_at [] place = []
+word_at (word ∷ words) zero = word
+word_at (word ∷ words) (suc place) = word_at words place
+
+-- a field's name
+abbrev pub field_text : Field → List ℕ
+field_text Width = codes "width"
+field_text Rows = codes "rows"
+field_text Depth = codes "depth"
+field_text Segment = codes "segment"
+field_text Limit = codes "limit"
+field_text Fill = codes "fill"
+field_text Word = codes "word"
+field_text Stop = codes "stop"
+field_text Weights = codes "weights"
+field_text Apid = codes "apid"
+field_text Image = codes "image"
+field_text Packet = codes "packet"
+field_text Pixels = codes "pixels"
+field_text Octets = codes "octets"
+
+-- the note on words that are refused
+abbrev pub word_line : List (List ℕ) → WordFault → List ℕ
+word_line words MissingCommand = codes "strip122: missing command\n"
+word_line words (BadWord place) = codes "strip122: bad word: " ++ word_at words place ++ codes "\n"
+word_line words (MissingKey field) = codes "strip122: missing: " ++ field_text field ++ codes "\n"
+word_line words (OutOfRange field) = codes "strip122: out of range: " ++ field_text field ++ codes "\n"
+word_line words (Unbuilt place) = codes "strip122: not built: " ++ word_at words place ++ codes "\n"
+
+-- the status and the note for each fault of the encoder
+abbrev pub fault_status : EncodeFault → ℕ
+fault_status (Short octets) = 3
+fault_status Long = 3
+fault_status (BadPixel row column value) = 3
+fault_status ReadFault = 4
+fault_status WriteFault = 5
+fault_status Memory = 6
+
+abbrev pub fault_line : EncodeFault → List ℕ
+fault_line (Short octets) = codes "strip122: input short, " ++ decimal octets ++ codes " octets taken\n"
+fault_line Long = codes "strip122: input long\n"
+fault_line (BadPixel row column value) =
+    codes "strip122: bad pixel " ++ signed_decimal value ++ codes " at row " ++ decimal row ++ codes " column " ++ decimal column ++ codes "\n"
+fault_line ReadFault = codes "strip122: read fault\n"
+fault_line WriteFault = codes "strip122: write fault\n"
+fault_line Memory = codes "strip122: no memory\n"
