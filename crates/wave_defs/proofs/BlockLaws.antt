@@ -52,7 +52,7 @@ not_false : (b : Bool) → (b ≡ false → ⊥) → b ≡ true
 not_false true k = refl
 not_false false k = absurd (k refl)
 
-passes : (p : ℕ → Bool) (n i : ℕ) → list_all p (range_with_len 0 n) ≡ true → i < n → p i ≡ true
+pub passes : (p : ℕ → Bool) (n i : ℕ) → list_all p (range_with_len 0 n) ≡ true → i < n → p i ≡ true
 passes p n i all h =
     let long = length-range_with_len 0 n in
     let at : get_or (range_with_len 0 n) i 0 ≡ i = get_or-range_with_len 0 n i 0 h ∙ omega arith in

@@ -76,7 +76,7 @@ even_of-half_more m n j c d one h wc wd =
     let f = floor_4 (pos 2 -ℤ (d (j - 1) +ℤ d j)) in
     record { above = omega (arith, ints); below = omega (arith, ints) }
 
-predicted-double : (m : ℕ) (a b c d : ℤ) → 9 ≤ m → IsWithin (half_more m) a → IsWithin (half_more m) b → IsWithin (half_more m) c → IsWithin (half_more m) d → IsWithin (2 * m) (predicted a b c d)
+pub predicted-double : (m : ℕ) (a b c d : ℤ) → 9 ≤ m → IsWithin (half_more m) a → IsWithin (half_more m) b → IsWithin (half_more m) c → IsWithin (half_more m) d → IsWithin (2 * m) (predicted a b c d)
 unfolding predicted
 predicted-double m a b c d nine ha hb hc hd =
     let f = floor_16 (pos 9 *ℤ (b +ℤ c) -ℤ (a +ℤ d) +ℤ pos 8) in

@@ -8,5 +8,14 @@ pub mod LevelLaws
 pub mod LevelSame
 pub mod LevelWithin
 pub mod LiftLaws
+pub mod RingLaws
+pub mod LineReach
+pub mod LevelReach
 pub mod PyramidLaws
+pub mod InverseReach
+pub mod ReachLaws
+pub mod ForwardReach
 pub mod BlockLaws
+pub mod BlockPlaces
+pub mod RollingLaws
+pub mod SettledLaws

@@ -1,5 +1,6 @@
--- What slices hold of lines and images.
-use Rattle.std.specs.Prelude.{◌≡◌, ℕ, ◌<◌, ◌+◌, ◌*◌, ℤ, pos, List, slice_index_or}
+-- What slices hold of lines, images and blocks.
+use Rattle.std.specs.Prelude.{◌≡◌, ℕ, ◌<◌, ◌+◌, ◌*◌, ◌/◌, ℤ, pos, List, length, map, take, drop, slice_index_or}
+use Rattle.std.specs.List.{range_with_len}
 use Rattle.wave_defs.specs.Level.{Quarters}
 use Rattle.wave_defs.specs.Pyramid.{Pyramid}
 
@@ -10,6 +11,13 @@ signal xs i = slice_index_or xs i (pos 0)
 -- the image whose rows of so many samples a slice holds, one after the other
 abbrev pub grid : ℕ → List ℤ → ℕ → ℕ → ℤ
 grid width cells i j = slice_index_or cells (i * width + j) (pos 0)
+
+-- block r of numbers that stand block by block, 64 in each, and all of the blocks
+abbrev pub block_at : List ℤ → ℕ → List ℤ
+block_at cells r = take 64 (drop (64 * r) cells)
+
+unfoldable pub blocks_in : List ℤ → List (List ℤ)
+blocks_in cells = map (block_at cells) (range_with_len 0 (length cells / 64))
 
 -- the first n samples are the same
 pub record Agrees (n : ℕ) (x y : ℕ → ℤ) : Type 0 where

@@ -6,3 +6,7 @@ pub mod Within
 pub mod Held
 pub mod Lifted
 pub mod Laws
+pub mod Rolling
+pub mod Rings
+pub mod Settled
+pub mod Reach

@@ -2,6 +2,8 @@
 //! levels, padding, and the numbers of a block.
 #![tactic(auto)]
 
+ghost use Rattle.wave_defs.specs.Settled.{RowsSettle};
+ghost use Rattle.wave_defs.specs.Reach.{LineReach, InverseReach, OneReach, RisingInverse, ForwardReach};
 ghost use Rattle.wave_defs.specs.Laws.{LineMirrors, LineUndoes, LevelUndoes, PyramidUndoes, ForwardBounds, BlockBounds, InverseBounds};
 
 /// The mirror of the even samples is that of all samples (docs/formats.md, "A line").
@@ -22,4 +24,20 @@ pub const fn stays_bounded()
     ensures forward { ForwardBounds }
     ensures blocks { BlockBounds }
     ensures inverse { InverseBounds }
+{}
+
+/// What a sample of the inverse is made from, so how far a block reaches (docs/formats.md, "Picture
+/// and damage").
+pub const fn reaches()
+    ensures line { LineReach }
+    ensures blocks { InverseReach }
+    ensures one { OneReach }
+    ensures rising { RisingInverse }
+{}
+
+/// The first rows of an image settle the first rows of its bands, and so a block row (docs/formats.md,
+/// "Levels and padding", "Picture and damage").
+pub const fn settles()
+    ensures rows { RowsSettle }
+    ensures blocks { ForwardReach }
 {}
