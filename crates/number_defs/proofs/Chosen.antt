@@ -5,16 +5,8 @@ use Rattle.std.specs.List.{range_with_len, list_all}
 use Rattle.std.proofs.lemmas.Bool.Decides.{nat_tests}
 use Rattle.number_defs.specs.Gaggles.{uncoded, is_option}
 use Rattle.number_defs.proofs.Searching.{all_of_range}
+use Rattle.number_defs.proofs.Suiting.{greatest_within}
 use Rattle.number_defs.specs.Choice.{suits, greatest_suiting, by_total, heuristic, candidates, is_least, optimal}
-
-greatest_within : (count total k : ℕ) → greatest_suiting count total k ≤ k
-unfolding greatest_suiting
-greatest_within count total zero = omega arith
-greatest_within count total (suc k) =
-    elim (suits count total (suc k)) as (λ t. cond t (suc k) (greatest_suiting count total k) ≤ suc k) [
-      | true ↦ omega arith
-      | false ↦ omega (arith, greatest_within count total k)
-    ]
 
 uncoded_is : (N : ℕ) → is_option N (uncoded N) ≡ true
 uncoded_is N = grind (arith, nat_tests)

@@ -2,6 +2,7 @@ pub mod MappingLaws
 pub mod Heights
 pub mod CodedBits
 pub mod Searching
+pub mod Suiting
 pub mod Chosen
 pub mod DepthBits
 pub mod DcBits
@@ -9,3 +10,5 @@ pub mod DcRange
 pub mod Stepping
 pub mod SegmentSteps
 pub mod CellPlaces
+pub mod NotRefused
+pub mod AreItems

@@ -15,7 +15,7 @@ use Rattle.number_defs.specs.Laws.{AreFew, DcsFit}
 use Rattle.number_defs.proofs.Heights.{height_below}
 use Rattle.number_defs.proofs.Stepping.{numbers_step}
 
-few_anywhere : (N : ℕ) (xs : List ℕ) → AreFew N xs → (i : ℕ) → get_or xs i 0 < 2 ^ N
+pub few_anywhere : (N : ℕ) (xs : List ℕ) → AreFew N xs → (i : ℕ) → get_or xs i 0 < 2 ^ N
 few_anywhere N xs few i =
     elim (cases_lt i (length xs)) [
       | inl within ↦ few i within
@@ -26,19 +26,19 @@ pub numbers_alike : (kind : Kind) (xs ys : List ℕ) (o p : ℕ → ℕ) → len
     StepsAlike (number_items kind xs o) (number_items kind ys p)
 numbers_alike kind xs ys o p same few also = numbers_step kind xs ys (few_anywhere kind.bits xs few) (few_anywhere kind.bits ys also) same o p
 
-planes_step : (q : ℕ) (xs ys : List ℤ) → length xs ≡ length ys → (n : ℕ) → StepsAlike (planes_before q xs n) (planes_before q ys n)
+pub planes_step : (q : ℕ) (xs ys : List ℤ) → length xs ≡ length ys → (n : ℕ) → StepsAlike (planes_before q xs n) (planes_before q ys n)
 unfolding planes_before
 planes_step q xs ys same zero = tt
 planes_step q xs ys same (suc n) =
     steps_append (planes_before q xs n) (planes_before q ys n) _ _ (planes_step q xs ys same n) (λ s. steps_each (dc_bit (q - suc n)) (λ x y. refl) xs ys same)
 
-heights_few : (N q : ℕ) (dcs : List ℤ) → ((i : ℕ) → i < length dcs → IsInRange true N (int_shr (get_or dcs i (pos 0)) q)) → AreFew N (map (shifted_height true N q) dcs)
+pub heights_few : (N q : ℕ) (dcs : List ℤ) → ((i : ℕ) → i < length dcs → IsInRange true N (int_shr (get_or dcs i (pos 0)) q)) → AreFew N (map (shifted_height true N q) dcs)
 heights_few N q dcs fit i lt =
     let within : i < length dcs = omega (arith, length-map dcs (shifted_height true N q)) in
     let e : get_or (map (shifted_height true N q) dcs) i 0 ≡ shifted_height true N q (get_or dcs i (pos 0)) = get_or-map (shifted_height true N q) dcs i (pos 0) 0 within in
     rw e (height_below true N (int_shr (get_or dcs i (pos 0)) q) (fit i within))
 
-high_step : (N q : ℕ) (xs ys : List ℤ) (o p : ℕ → ℕ) → length xs ≡ length ys → ((i : ℕ) → i < length xs → IsInRange true N (int_shr (get_or xs i (pos 0)) q)) →
+pub high_step : (N q : ℕ) (xs ys : List ℤ) (o p : ℕ → ℕ) → length xs ≡ length ys → ((i : ℕ) → i < length xs → IsInRange true N (int_shr (get_or xs i (pos 0)) q)) →
     ((i : ℕ) → i < length ys → IsInRange true N (int_shr (get_or ys i (pos 0)) q)) → StepsAlike (high_items N q xs o) (high_items N q ys p)
 high_step N q xs ys o p same fit also =
     let f = shifted_height true N q in

@@ -1,5 +1,5 @@
 -- The items of two lists of numbers step alike.
-use Rattle.std.proofs.Common.{◌≡◌, ℕ, zero, suc, ◌+◌, ◌*◌, ◌-◌, ◌/◌, ◌%◌, ◌^◌, ◌<◌, ◌≤◌, min, List, [], ◌∷◌, ◌++◌, length, map, get_or, Bool, true, false, eqb, cond, refl, sym, ap, ◌∙◌, arith, inl, inr}
+use Rattle.std.proofs.Common.{◌≡◌, ℕ, zero, suc, ◌+◌, ◌*◌, ◌-◌, ◌/◌, ◌%◌, ◌^◌, ◌<◌, ◌≤◌, min, List, [], ◌∷◌, ◌++◌, length, map, get_or, Bool, true, false, eqb, cond, refl, sym, ap, subst, ◌∙◌, arith, inl, inr}
 use Rattle.std.specs.List.{range_with_len}
 use Rattle.std.specs.Prelude.{Some, None}
 use Rattle.std.proofs.lemmas.List.{get_or_past}
@@ -69,14 +69,14 @@ each_said f h a (suc n) e i from to =
 
 module _ (kind : Kind) (xs ys : List ℕ) (p : (i : ℕ) → get_or xs i 0 < 2 ^ kind.bits) (q : (i : ℕ) → get_or ys i 0 < 2 ^ kind.bits) where
   -- a mapped value gives its number
-  same_number : (i : ℕ) → get_or xs (i - 1) 0 ≡ get_or ys (i - 1) 0 → value_at kind.bits xs i ≡ value_at kind.bits ys i → get_or xs i 0 ≡ get_or ys i 0
+  pub same_number : (i : ℕ) → get_or xs (i - 1) 0 ≡ get_or ys (i - 1) 0 → value_at kind.bits xs i ≡ value_at kind.bits ys i → get_or xs i 0 ≡ get_or ys i 0
   same_number i s e =
       sym (mapped_back kind.bits (get_or xs (i - 1) 0) (get_or xs i 0) (p (i - 1)) (p i))
       ∙ ap (λ v. unmapped kind.bits (get_or xs (i - 1) 0) v) e
       ∙ ap (λ b. unmapped kind.bits b (value_at kind.bits ys i)) s
       ∙ mapped_back kind.bits (get_or ys (i - 1) 0) (get_or ys i 0) (q (i - 1)) (q i)
 
-  split_value : (k v w : ℕ) → v / 2 ^ k ≡ w / 2 ^ k → v % 2 ^ k ≡ w % 2 ^ k → v ≡ w
+  pub split_value : (k v w : ℕ) → v / 2 ^ k ≡ w / 2 ^ k → v % 2 ^ k ≡ w % 2 ^ k → v ≡ w
   split_value k v w d r = sym (shr_split v k) ∙ ap (λ n. n * 2 ^ k + v % 2 ^ k) d ∙ ap (λ n. w / 2 ^ k * 2 ^ k + n) r ∙ shr_split w k
 
   -- values as they are, and unary parts alone
@@ -163,12 +163,12 @@ module _ (kind : Kind) (xs ys : List ℕ) (p : (i : ℕ) → get_or xs i 0 < 2 ^
             let r = said_split (map (unary_part kind xs option) (range_with_len a n)) (map (unary_part kind ys option) (range_with_len a n)) (map (rest_part kind xs option) (range_with_len a n)) (map (rest_part kind ys option) (range_with_len a n)) (unary_steps option e) said in
             rest_same option r.0 r.1
 
-  lead_steps : (g : ℕ) → StepsAlike (lead_items kind xs g) (lead_items kind ys g)
+  pub lead_steps : (g : ℕ) → StepsAlike (lead_items kind xs g) (lead_items kind ys g)
   lead_steps zero = (refl, λ s. tt)
   lead_steps (suc g) = tt
 
   -- the reference, or the numbers before, give the number before a gaggle's first mapped value
-  lead_same : (g : ℕ) → ((i : ℕ) → i < 16 * g → get_or xs i 0 ≡ get_or ys i 0) → said_of (lead_items kind xs g) ≡ said_of (lead_items kind ys g) → get_or xs (first_place g - 1) 0 ≡ get_or ys (first_place g - 1) 0
+  pub lead_same : (g : ℕ) → ((i : ℕ) → i < 16 * g → get_or xs i 0 ≡ get_or ys i 0) → said_of (lead_items kind xs g) ≡ said_of (lead_items kind ys g) → get_or xs (first_place g - 1) 0 ≡ get_or ys (first_place g - 1) 0
   lead_same zero known e =
       let said : complement kind.bits (number_at kind.signed kind.bits (get_or xs 0 0)) ≡ complement kind.bits (number_at kind.signed kind.bits (get_or ys 0 0)) = cc in
       let at : first_place 0 - 1 ≡ 0 = omega arith in
@@ -214,7 +214,7 @@ module _ (kind : Kind) (xs ys : List ℕ) (p : (i : ℕ) → get_or xs i 0 < 2 ^
         by_place i g below known before (λ from within. value_same (first_place g) (min (length xs) (16 * g + 16) - first_place g) before o values i from (omega arith))
 
     module _ (o u : ℕ → ℕ) where
-      before_both : (g : ℕ) → StepsAlike (items_before kind xs o g) (items_before kind ys u g)
+      pub before_both : (g : ℕ) → StepsAlike (items_before kind xs o g) (items_before kind ys u g)
           × (said_of (items_before kind xs o g) ≡ said_of (items_before kind ys u g) → (i : ℕ) → i < 16 * g → get_or xs i 0 ≡ get_or ys i 0)
       unfolding items_before
       before_both zero = (tt, λ e i lt. absurd (omega arith))
@@ -229,3 +229,14 @@ module _ (kind : Kind) (xs ys : List ℕ) (p : (i : ℕ) → get_or xs i 0 < 2 ^
 
       pub numbers_step : StepsAlike (number_items kind xs o) (number_items kind ys u)
       numbers_step = rw (sym same_length) (before_both (gaggle_count (length xs))).0
+
+      -- lists that say the same have the same numbers
+      pub numbers_same : said_of (number_items kind xs o) ≡ said_of (number_items kind ys u) → (i : ℕ) → get_or xs i 0 ≡ get_or ys i 0
+      numbers_same e i =
+          elim (cases_lt i (length xs)) [
+            | inl within ↦
+                let said : said_of (items_before kind xs o (gaggle_count (length xs))) ≡ said_of (items_before kind ys u (gaggle_count (length xs))) =
+                subst (λ n. said_of (items_before kind xs o (gaggle_count (length xs))) ≡ said_of (items_before kind ys u (gaggle_count n))) (sym same_length) e in
+                (before_both (gaggle_count (length xs))).1 said i (omega arith)
+            | inr past ↦ none_past i past
+          ]

@@ -1,7 +1,7 @@
 -- The option that a writer takes for a gaggle of mapped values of N bits. (The thresholds of the
 -- heuristic choice and the ties of the optimal one are this project's own.)
-use Rattle.std.specs.Prelude.{ℕ, zero, suc, ◌+◌, ◌-◌, ◌*◌, ◌/◌, ◌^◌, ◌==◌, List, ◌∷◌, length, sum, sum_by, find, unwrap_or, Bool, if◌then◌else◌, nat_le, nat_lt}
-use Rattle.std.specs.List.{range_with_len, list_all}
+use Rattle.std.specs.Prelude.{ℕ, ◌+◌, ◌-◌, ◌*◌, ◌/◌, ◌^◌, ◌==◌, List, ◌∷◌, None, length, sum, sum_by, filter, find, unwrap_or, Bool, if◌then◌else◌, nat_le, nat_lt}
+use Rattle.std.specs.List.{range_with_len, list_all, last_or}
 use Rattle.number_defs.specs.Gaggles.{uncoded, gaggle_values}
 
 -- ---- heuristic
@@ -10,10 +10,9 @@ use Rattle.number_defs.specs.Gaggles.{uncoded, gaggle_values}
 abbrev pub suits : ℕ → ℕ → ℕ → Bool
 suits count total k = nat_le (count * 2 ^ (k + 7)) (128 * total + 49 * count)
 
--- the greatest k up to this one that suits
+-- the greatest k up to this one that suits, or 0 where none does
 unfoldable pub greatest_suiting : ℕ → ℕ → ℕ → ℕ
-greatest_suiting count total zero = 0
-greatest_suiting count total (suc k) = if suits count total (suc k) then suc k else greatest_suiting count total k
+greatest_suiting count total most = unwrap_or (last_or None (filter (suits count total) (range_with_len 0 (most + 1)))) 0
 
 -- By the number of values and their total: the first test that holds tells. N - 2 is the greatest k there is,
 -- so its own test comes first among those for k.

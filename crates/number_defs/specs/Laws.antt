@@ -26,9 +26,11 @@ pub record MappingUndoes : Type 0 where
   pub value : (N p c : ℕ) → p < 2 ^ N → c < 2 ^ N → mapped N p c < 2 ^ N
   pub number : (N p v : ℕ) → p < 2 ^ N → v < 2 ^ N → unmapped N p v < 2 ^ N
 
--- numbers and heights, also by way of two's complement
+-- numbers and heights, also by way of two's complement; the numbers of the range have the heights of N bits
 pub record HeightsUndo : Type 0 where
   pub back : (signed : Bool) (N height : ℕ) → height_of signed N (number_at signed N height) ≡ height
+  pub again : (signed : Bool) (N : ℕ) (z : ℤ) → IsInRange signed N z → number_at signed N (height_of signed N z) ≡ z
+  pub below : (signed : Bool) (N : ℕ) (z : ℤ) → IsInRange signed N z → height_of signed N z < 2 ^ N
   pub complemented : (signed : Bool) (N height : ℕ) → height < 2 ^ N →
       (complement N (number_at signed N height) + negatives signed N) % 2 ^ N ≡ height
 

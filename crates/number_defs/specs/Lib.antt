@@ -6,3 +6,4 @@ pub mod Choice
 pub mod DcPart
 pub mod Depths
 pub mod Laws
+pub mod Given
