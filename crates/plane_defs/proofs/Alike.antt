@@ -37,15 +37,15 @@ bits_step : {X : Type 0} (f g : X → Bool) (xs : List X) → EntriesAlike (map 
 bits_step f g [] = tt
 bits_step f g (x ∷ xs) = λ e. bits_step f g xs
 
-filter_same : {X : Type 0} (p q : X → Bool) (xs : List X) → AllByRecursion (λ x. p x ≡ q x) xs → filter p xs ≡ filter q xs
+pub filter_same : {X : Type 0} (p q : X → Bool) (xs : List X) → AllByRecursion (λ x. p x ≡ q x) xs → filter p xs ≡ filter q xs
 filter_same p q [] same = refl
 filter_same p q (x ∷ xs) same = ap (λ b. cond b (x ∷ filter p xs) (filter p xs)) same.0 ∙ ap (λ l. cond (q x) (x ∷ l) l) (filter_same p q xs same.1)
 
-all_of : {X : Type 0} {P : X → Type 0} (xs : List X) → ((x : X) → P x) → AllByRecursion P xs
+pub all_of : {X : Type 0} {P : X → Type 0} (xs : List X) → ((x : X) → P x) → AllByRecursion P xs
 all_of [] each = tt
 all_of (x ∷ xs) each = (each x, all_of xs each)
 
-all_filter : {X : Type 0} (P : X → Type 0) (p : X → Bool) (xs : List X) → AllByRecursion P xs → AllByRecursion P (filter p xs)
+pub all_filter : {X : Type 0} (P : X → Type 0) (p : X → Bool) (xs : List X) → AllByRecursion P xs → AllByRecursion P (filter p xs)
 all_filter P p [] all = tt
 all_filter {X} P p (x ∷ xs) all = chosen (p x) (all_filter P p xs all.1)
   where
@@ -57,37 +57,37 @@ flat_step : {X : Type 0} (f g : X → List Entry) (xs : List X) → AllByRecursi
 flat_step f g [] alike = tt
 flat_step f g (x ∷ xs) alike = step_both (f x) (g x) (flat_map f xs) (flat_map g xs) alike.0 (λ same. flat_step f g xs alike.1)
 
-same_bits : (xs ys : List Bool) → length xs ≡ length ys → value_of xs ≡ value_of ys → xs ≡ ys
+pub same_bits : (xs ys : List Bool) → length xs ≡ length ys → value_of xs ≡ value_of ys → xs ≡ ys
 same_bits xs ys l v = sym (bits_of-value_of xs) ∙ ap (λ n. bits_of n (value_of xs)) l ∙ ap (bits_of (length ys)) v ∙ bits_of-value_of ys
 
-bits_inside : (xs ys : List Bool) → map Bit xs ≡ map Bit ys → xs ≡ ys
+pub bits_inside : (xs ys : List Bool) → map Bit xs ≡ map Bit ys → xs ≡ ys
 bits_inside [] [] h = refl
 bits_inside [] (y ∷ ys) h = cc
 bits_inside (x ∷ xs) [] h = cc
 bits_inside (x ∷ xs) (y ∷ ys) h = let rest : map Bit xs ≡ map Bit ys = cc in let more = bits_inside xs ys rest in cc
 
-lengths_step : (xs ys : List Bool) → length xs ≡ length ys → EntriesAlike (map Bit xs) (map Bit ys)
+pub lengths_step : (xs ys : List Bool) → length xs ≡ length ys → EntriesAlike (map Bit xs) (map Bit ys)
 lengths_step [] [] h = tt
 lengths_step [] (y ∷ ys) h = absurd (omega arith)
 lengths_step (x ∷ xs) [] h = absurd (omega arith)
 lengths_step (x ∷ xs) (y ∷ ys) h = λ e. lengths_step xs ys (omega arith)
 
-length_map_same : {X A : Type 0} (f g : X → A) (xs ys : List X) → xs ≡ ys → length (map f xs) ≡ length (map g ys)
+pub length_map_same : {X A : Type 0} (f g : X → A) (xs ys : List X) → xs ≡ ys → length (map f xs) ≡ length (map g ys)
 length_map_same f g xs ys e = length-map xs f ∙ ap length e ∙ sym (length-map ys g)
 
-all_map : {X : Type 0} {P Q : X → Type 0} (xs : List X) → ((x : X) → P x → Q x) → AllByRecursion P xs → AllByRecursion Q xs
+pub all_map : {X : Type 0} {P Q : X → Type 0} (xs : List X) → ((x : X) → P x → Q x) → AllByRecursion P xs → AllByRecursion Q xs
 all_map [] f all = tt
 all_map (x ∷ xs) f all = (f x all.0, all_map xs f all.1)
 
-in_three : (P : ℕ → Type 0) → P 0 → P 1 → P 2 → AllByRecursion P (span 0 3)
+pub in_three : (P : ℕ → Type 0) → P 0 → P 1 → P 2 → AllByRecursion P (span 0 3)
 unfolding span
 in_three P a b c = (a, (b, (c, tt)))
 
-in_four : (P : ℕ → Type 0) → P 0 → P 1 → P 2 → P 3 → AllByRecursion P (span 0 4)
+pub in_four : (P : ℕ → Type 0) → P 0 → P 1 → P 2 → P 3 → AllByRecursion P (span 0 4)
 unfolding span
 in_four P a b c d = (a, (b, (c, (d, tt))))
 
-split_front : (xs ys a b : List Entry) → length xs ≡ length ys → xs ++ a ≡ ys ++ b → (xs ≡ ys) × (a ≡ b)
+pub split_front : (xs ys a b : List Entry) → length xs ≡ length ys → xs ++ a ≡ ys ++ b → (xs ≡ ys) × (a ≡ b)
 split_front [] [] a b l h = (refl, h)
 split_front [] (y ∷ ys) a b l h = absurd (omega arith)
 split_front (x ∷ xs) [] a b l h = absurd (omega arith)

@@ -16,10 +16,10 @@ use Rattle.plane_defs.specs.Sets.{magnitude, significant, set_significant, type_
 use Rattle.plane_defs.specs.Entries.{IsEntry, word, types, flags, typed, negative, twos_bit, parents, children, quads, grandchildren, refinement, significant_families, block_entries}
 use Rattle.plane_defs.proofs.SpanLists.{length-chosen, length-map-filter}
 
-abbrev Fit : List Entry → Type 0
+abbrev pub Fit : List Entry → Type 0
 Fit entries = AllByRecursion IsEntry entries
 
-fit_both : (xs ys : List Entry) → Fit xs → Fit ys → Fit (xs ++ ys)
+pub fit_both : (xs ys : List Entry) → Fit xs → Fit ys → Fit (xs ++ ys)
 fit_both [] ys p q = q
 fit_both (x ∷ xs) ys p q = (p.0, fit_both xs ys p.1 q)
 
@@ -30,7 +30,7 @@ fit_bits : {X : Type 0} (f : X → Bool) (xs : List X) → Fit (map (λ x. Bit (
 fit_bits f [] = tt
 fit_bits f (x ∷ xs) = (tt, fit_bits f xs)
 
-fit_each : {X : Type 0} (f : X → List Entry) (xs : List X) → ((x : X) → Fit (f x)) → Fit (flat_map f xs)
+pub fit_each : {X : Type 0} (f : X → List Entry) (xs : List X) → ((x : X) → Fit (f x)) → Fit (flat_map f xs)
 fit_each f [] each = tt
 fit_each f (x ∷ xs) each = fit_both (f x) (flat_map f xs) (each x) (fit_each f xs each)
 
@@ -70,7 +70,7 @@ fit_if : (b : Bool) (xs : List Entry) → Fit xs → Fit (cond b xs [])
 fit_if true xs p = p
 fit_if false xs p = tt
 
-fit_block : (stage : Stage) (block : List ℤ) (d : ℕ) (weights : List ℕ) (plane q : ℕ) → Fit (block_entries stage block d weights plane q)
+pub fit_block : (stage : Stage) (block : List ℤ) (d : ℕ) (weights : List ℕ) (plane q : ℕ) → Fit (block_entries stage block d weights plane q)
 unfolding block_entries
 fit_block stages.DcBits block d weights plane q =
     fit_if (coded weights plane 0 && nat_lt plane q) (Bit (twos_bit (get_or block 0 (pos 0)) plane) ∷ []) (tt, tt)

@@ -6,3 +6,13 @@ pub mod ReadOnce
 pub mod Fitting
 pub mod SpelledLists
 pub mod Alike
+pub mod ReadingTexts
+pub mod Above
+pub mod AlikeSteps
+pub mod Allowed
+pub mod StepItems
+pub mod PlaneSteps
+pub mod Completing
+pub mod Chosen
+pub mod Freedom
+pub mod Seen

@@ -8,14 +8,14 @@ use Rattle.plane_defs.specs.Entries.{flags, types}
 use Rattle.plane_defs.specs.Laws.{IsMultiple, SameAbove, SameSets}
 use Rattle.plane_defs.proofs.Determined.{undue, not_coded, still_significant}
 
-head_same : {A : Type 0} (x y : A) (xs ys : List A) → x ∷ xs ≡ y ∷ ys → x ≡ y
+pub head_same : {A : Type 0} (x y : A) (xs ys : List A) → x ∷ xs ≡ y ∷ ys → x ≡ y
 head_same x y xs ys h = cc
 
-tail_same : {A : Type 0} (x y : A) (xs ys : List A) → x ∷ xs ≡ y ∷ ys → xs ≡ ys
+pub tail_same : {A : Type 0} (x y : A) (xs ys : List A) → x ∷ xs ≡ y ∷ ys → xs ≡ ys
 tail_same x y xs ys h = cc
 
 -- the same elements are due, and those that aren't are alike: then equal words make all alike
-settle : {X : Type 0} (f g d e : X → Bool) (xs : List X) → AllByRecursion (λ x. (d x ≡ e x) × (d x ≡ false → f x ≡ g x)) xs →
+pub settle : {X : Type 0} (f g d e : X → Bool) (xs : List X) → AllByRecursion (λ x. (d x ≡ e x) × (d x ≡ false → f x ≡ g x)) xs →
     map f (filter d xs) ≡ map g (filter e xs) → AllByRecursion (λ x. f x ≡ g x) xs
 settle f g d e [] known h = tt
 settle f g d e (x ∷ xs) known h = by_due (d x) (e x) known.0.0 known.0.1 h (settle f g d e xs known.1)

@@ -8,3 +8,8 @@ pub mod Planes
 pub mod Laws
 pub mod Profile
 pub mod Marks
+pub mod Steps
+pub mod Reading
+pub mod StepLaws
+pub mod Completed
+pub mod Choosing

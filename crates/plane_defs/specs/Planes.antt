@@ -1,7 +1,7 @@
 -- The items of a bit plane of a segment, stage by stage and gaggle by gaggle.
 -- (CCSDS 122.0-B-2, section 4.5; gaggles of 16 blocks as in section 4.3.2.)
-use Rattle.std.specs.Prelude.{ℕ, ◌+◌, ◌-◌, ◌*◌, ◌/◌, min, ℤ, List, [], ◌∷◌, length, map, take, drop}
-use Rattle.std.specs.List.{flat_map, range_with_len}
+use Rattle.std.specs.Prelude.{ℕ, ◌+◌, ◌-◌, ◌*◌, ◌/◌, min, ℤ, List, [], ◌∷◌, length}
+use Rattle.std.specs.List.{flat_map}
 use lib.ListN.{get_or}
 use Rattle.item_defs.specs.Items.{Item}
 use Rattle.plane_defs.specs.declared.codes.Book.{Book}
@@ -20,10 +20,6 @@ pub record Plane : Type 0 where
   pub weights : List ℕ
   pub number : ℕ
   pub q : ℕ
-
--- the blocks of numbers that stand block by block
-unfoldable pub blocks_in : List ℤ → List (List ℤ)
-blocks_in cells = map (λ r. take 64 (drop (64 * r) cells)) (range_with_len 0 (length cells / 64))
 
 -- a stage of block r
 abbrev pub of_block : Plane → Stage → ℕ → List Entry

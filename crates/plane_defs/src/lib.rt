@@ -10,6 +10,9 @@ mod stages;
 
 pub use codes::{Book, Code};
 pub use entries::{Bits, Entry};
-pub use laws::{stages_step, words_read_once, words_settle};
+pub use laws::{
+    flags_are_free, planes_see, readings_complete, stages_step, steps_are_allowed, steps_settle,
+    types_are_free, words_are_chosen, words_read_once, words_settle,
+};
 pub use sets::Set;
 pub use stages::Stage;

@@ -4,12 +4,12 @@
 /// numbered 0 to 2 for HL, LH and HH, the children of a family 0 to 3.
 #[derive(Clone, Copy, Debug, PartialEq, Eq)]
 pub enum Set {
-    /// All children and grandchildren.
+    /// B: all children and grandchildren.
     Descendants,
-    /// The children and grandchildren of a family.
+    /// D_i: the children and grandchildren of family i.
     Family(u8),
-    /// The sixteen grandchildren of a family.
+    /// G_i: the sixteen grandchildren of family i.
     Grandchildren(u8),
-    /// The four grandchildren of a family below one child.
+    /// H_ij: the four grandchildren of family i below child j.
     Quad(u8, u8),
 }

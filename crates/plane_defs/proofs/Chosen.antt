@@ -1,0 +1,101 @@
+-- Sets that are chosen as a word wants them.
+use Rattle.std.proofs.Common.{◌≡◌, ℕ, ◌+◌, ◌<◌, ◌≤◌, Bool, true, false, cond, List, [], ◌∷◌, refl, ap, ◌∙◌, subst, arith}
+use Rattle.std.specs.Prelude.{◌||◌, ◌&&◌, ◌==◌}
+use Rattle.std.specs.List.{list_any, AllByRecursion}
+use Rattle.std.proofs.lemmas.Bool.Decides.{nat_tests}
+use Rattle.plane_defs.specs.declared.sets.Set.{Set}
+use Rattle.plane_defs.specs.declared.sets.Set.TheVariants.{Family, Grandchildren}
+use Rattle.plane_defs.specs.Spans.{span}
+use Rattle.plane_defs.specs.Sets.{members, children_of, grandchildren_of}
+use Rattle.plane_defs.specs.Choosing.{family_of, sixteen_of, chosen_anew, AreApart, WordsChosen}
+use Rattle.plane_defs.proofs.Above.{all_append, all_span, all_zip}
+
+equal_from : (m n : ℕ) → (m == n) ≡ true → m ≡ n
+equal_from m n e = grind (arith, nat_tests)
+
+equal_self : (p : ℕ) → (p == p) ≡ true
+equal_self p = grind (arith, nat_tests)
+
+or_left : (a b : Bool) → a ≡ true → (a || b) ≡ true
+or_left true b e = refl
+or_left false b e = cc
+
+or_right : (a b : Bool) → b ≡ true → (a || b) ≡ true
+or_right true b e = refl
+or_right false b e = e
+
+-- each element of a list stands in it
+all_inside : (xs : List ℕ) → AllByRecursion (λ p. list_any (λ q. q == p) xs ≡ true) xs
+all_inside [] = tt
+all_inside (x ∷ xs) = (
+  or_left (x == x) (list_any (λ q. q == x) xs) (equal_self x),
+  all_zip {P = λ p. list_any (λ q. q == p) xs ≡ true} xs (λ p e. or_right (x == p) (list_any (λ q. q == p) xs) e) (all_inside xs),
+)
+
+any_equal : (f g : ℕ → Bool) (xs : List ℕ) → AllByRecursion (λ x. f x ≡ g x) xs → list_any f xs ≡ list_any g xs
+any_equal f g [] same = refl
+any_equal f g (x ∷ xs) same = ap (λ b. b || list_any f xs) same.0 ∙ ap (λ b. g x || b) (any_equal f g xs same.1)
+
+any_and : (b : Bool) (g : ℕ → Bool) (xs : List ℕ) → list_any g xs ≡ true → list_any (λ x. b && g x) xs ≡ b
+any_and true g xs e = e
+any_and false g xs e = none xs
+  where
+    none : (xs : List ℕ) → list_any (λ x. false && g x) xs ≡ false
+    none [] = refl
+    none (x ∷ xs) = none xs
+
+module _ (sets : ℕ → Set) (owner : ℕ → ℕ) (count : ℕ) (free wanted : ℕ → Bool) (pick : ℕ → ℕ) (chosen : ℕ → Bool) (j : ℕ) (apart : AreApart sets owner count) where
+  in_set : (b : Bool) → j < count → free j ≡ b →
+      AllByRecursion (λ p. chosen_anew owner free wanted pick chosen p ≡ cond b (wanted j && (p == pick j)) (chosen p)) (members (sets j))
+  in_set b below e =
+      all_zip {P = λ p. list_any (λ q. q == p) (members (sets j)) ≡ true} (members (sets j)) (λ p inside.
+      let mine : owner p ≡ j = apart.owned j p below inside in
+      ap (λ k. cond (free k) (wanted k && (p == pick k)) (chosen p)) mine ∙ ap (λ t. cond t (wanted j && (p == pick j)) (chosen p)) e)
+      (all_inside (members (sets j)))
+
+  pub before : j < count → free j ≡ false → list_any (chosen_anew owner free wanted pick chosen) (members (sets j)) ≡ list_any chosen (members (sets j))
+  before below e = any_equal (chosen_anew owner free wanted pick chosen) chosen (members (sets j)) (in_set false below e)
+
+  pub as_asked : j < count → free j ≡ true → list_any (λ q. q == pick j) (members (sets j)) ≡ true → list_any (chosen_anew owner free wanted pick chosen) (members (sets j)) ≡ wanted j
+  as_asked below e inside =
+      any_equal (chosen_anew owner free wanted pick chosen) (λ p. wanted j && (p == pick j)) (members (sets j)) (in_set true below e)
+      ∙ any_and (wanted j) (λ p. p == pick j) (members (sets j)) inside
+
+-- ---- where a member lies
+
+found : (P : ℕ → Type 0) (p : ℕ) (xs : List ℕ) → AllByRecursion P xs → list_any (λ q. q == p) xs ≡ true → P p
+found P p [] all e = cc
+found P p (x ∷ xs) all e = by_first (x == p) refl e (found P p xs all.1)
+  where
+    by_first : (b : Bool) → (x == p) ≡ b → (b || list_any (λ q. q == p) xs) ≡ true → (list_any (λ q. q == p) xs ≡ true → P p) → P p
+    by_first true f e later = subst P (equal_from x p f) all.0
+    by_first false f e later = later e
+
+in_family : (i p : ℕ) → i < 3 → list_any (λ q. q == p) (members (Family i)) ≡ true → family_of p ≡ i
+in_family i p known e =
+    found (λ q. family_of q ≡ i) p (members (Family i))
+    (all_append (λ q. family_of q ≡ i) (span (children_of i) 4) (span (grandchildren_of i) 16)
+    (all_span (λ q. family_of q ≡ i) (children_of i) 4 (λ q low high. child q low high))
+    (all_span (λ q. family_of q ≡ i) (grandchildren_of i) 16 (λ q low high. grandchild q low high))) e
+  where
+    child : (q : ℕ) → children_of i ≤ q → q < children_of i + 4 → family_of q ≡ i
+    child q low high = grind (arith, nat_tests)
+
+    grandchild : (q : ℕ) → grandchildren_of i ≤ q → q < grandchildren_of i + 16 → family_of q ≡ i
+    grandchild q low high = grind (arith, nat_tests)
+
+in_sixteen : (i p : ℕ) → list_any (λ q. q == p) (members (Grandchildren i)) ≡ true → sixteen_of p ≡ i
+in_sixteen i p e =
+    found (λ q. sixteen_of q ≡ i) p (members (Grandchildren i)) (all_span (λ q. sixteen_of q ≡ i) (grandchildren_of i) 16 (λ q low high. grandchild q low high)) e
+  where
+    grandchild : (q : ℕ) → grandchildren_of i ≤ q → q < grandchildren_of i + 16 → sixteen_of q ≡ i
+    grandchild q low high = grind (arith, nat_tests)
+
+pub words_chosen : WordsChosen
+words_chosen = record {
+  as_wanted = λ sets owner count block weights plane free wanted pick chosen j apart picks e.
+      as_asked sets owner count free wanted pick chosen j apart (picks.below j e) e (picks.inside j e);
+  as_before = λ sets owner count free wanted pick chosen j apart below e. before sets owner count free wanted pick chosen j apart below e;
+  families = record { known = λ j below. below; owned = λ j p below e. in_family j p below e };
+  sixteens = record { known = λ j below. below; owned = λ j p below e. in_sixteen j p e };
+}

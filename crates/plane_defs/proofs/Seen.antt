@@ -1,0 +1,230 @@
+-- A plane's items are made from what it sees of the numbers.
+use Rattle.std.proofs.Common.{◌≡◌, ℕ, ◌+◌, ◌*◌, ◌<◌, Bool, true, false, ◌&&◌, cond, List, [], ◌∷◌, ◌++◌, refl, ap, sym, ◌∙◌, arith, ℤ, pos, get_or}
+use Rattle.std.specs.Prelude.{map, filter, nat_lt}
+use Rattle.std.specs.List.{flat_map, AllByRecursion}
+use Rattle.item_defs.specs.Bits.{bit}
+use Rattle.plane_defs.specs.declared.codes.Book.{Book}
+use Rattle.plane_defs.specs.declared.sets.Set.{Set}
+use Rattle.plane_defs.specs.declared.sets.Set.TheVariants.{Descendants, Family, Grandchildren, Quad}
+use Rattle.plane_defs.specs.declared.stages.Stage.{Stage}
+use Rattle.plane_defs.specs.declared.stages.Stage.TheVariants as stages
+use Rattle.plane_defs.specs.declared.entries.Entry.{Entry}
+use Rattle.plane_defs.specs.declared.entries.Entry.TheVariants.{Bit}
+use Rattle.plane_defs.specs.Spans.{span}
+use Rattle.plane_defs.specs.Sets.{magnitude, significant, coded, members, set_significant, enclosing_significant, type_due, flag_due, newly_significant, refined, IsKnown, children_of, quad_of}
+use Rattle.plane_defs.specs.Entries.{word, types, flags, signs, typed, negative, children_types, quads_types, quads, all_quads, stage_number, block_entries, dc_bits, children, grandchildren, refinement}
+use Rattle.plane_defs.specs.Laws.{three_families}
+use Rattle.plane_defs.specs.Steps.{Step, three_grandchildren, block_steps}
+use Rattle.plane_defs.specs.StepLaws.{entries_of, SameSteps, IsAc, SeenAlike, PlaneSees}
+use Rattle.plane_defs.specs.Planes.{Plane, gaggles, gaggle_size, of_block, of_gaggle, before_stage}
+use Rattle.plane_defs.specs.Reading.{steps_of_block, steps_of_gaggle, gaggle_reading, stage_reading, plane_reading, read_after}
+use Rattle.plane_defs.proofs.Settled.{head_same, tail_same}
+use Rattle.plane_defs.proofs.Alike.{all_filter, filter_same}
+use Rattle.plane_defs.proofs.ReadingTexts.{steps_entries}
+use Rattle.plane_defs.proofs.Above.{all_acs, all_zip, all_span, members_acs, any_alike, due_filter, types_filter, newly_same, refined_same}
+use Rattle.plane_defs.proofs.AlikeSteps.{all_both}
+use Rattle.plane_defs.proofs.PlaneSteps.{block_same}
+
+-- steps that say the same are the same
+steps_equal : (ss ts : List Step) → SameSteps ss ts → entries_of ss ≡ entries_of ts → ss ≡ ts
+steps_equal [] [] same e = refl
+steps_equal [] (t ∷ ts) same e = absurd same
+steps_equal (s ∷ ss) [] same e = absurd same
+steps_equal (s ∷ ss) (t ∷ ts) same e =
+    let first : s.entry ≡ t.entry = head_same s.entry t.entry (entries_of ss) (entries_of ts) e in
+    let rest = steps_equal ss ts (same.3 first) (tail_same s.entry t.entry (entries_of ss) (entries_of ts) e) in
+    ap (λ x. let step : Step = record { entry = x; check = s.check; tells = s.tells } in step ∷ ss) first
+    ∙ ap (λ x. let step : Step = record { entry = t.entry; check = x; tells = s.tells } in step ∷ ss) same.1
+    ∙ ap (λ x. let step : Step = record { entry = t.entry; check = t.check; tells = x } in step ∷ ss) same.2
+    ∙ ap (λ l. t ∷ l) rest
+
+map_equal : {X A : Type 0} (f g : X → A) (xs : List X) → AllByRecursion (λ x. f x ≡ g x) xs → map f xs ≡ map g xs
+map_equal f g [] same = refl
+map_equal f g (x ∷ xs) same = ap (λ a. a ∷ map f xs) same.0 ∙ ap (λ l. g x ∷ l) (map_equal f g xs same.1)
+
+flat_equal : {X A : Type 0} (f g : X → List A) (xs : List X) → AllByRecursion (λ x. f x ≡ g x) xs → flat_map f xs ≡ flat_map g xs
+flat_equal f g [] same = refl
+flat_equal f g (x ∷ xs) same = ap (λ a. a ++ flat_map f xs) same.0 ∙ ap (λ l. g x ++ l) (flat_equal f g xs same.1)
+
+-- the chosen ones pass the test
+passed : {X : Type 0} (p : X → Bool) (xs : List X) → AllByRecursion (λ x. p x ≡ true) (filter p xs)
+passed p [] = tt
+passed {X} p (x ∷ xs) = chosen (p x) refl (passed p xs)
+  where
+    chosen : (b : Bool) → p x ≡ b → AllByRecursion (λ x. p x ≡ true) (filter p xs) → AllByRecursion (λ x. p x ≡ true) (cond b (x ∷ filter p xs) (filter p xs))
+    chosen true e rest = (e, rest)
+    chosen false e rest = rest
+
+and_left : (a b : Bool) → (a && b) ≡ true → a ≡ true
+and_left true b h = refl
+and_left false b h = h
+
+and_right : (a b : Bool) → (a && b) ≡ true → b ≡ true
+and_right true b h = h
+and_right false b h = cc
+
+newly_here : (block : List ℤ) (weights : List ℕ) (plane p : ℕ) → newly_significant block weights plane p ≡ true → significant block plane p ≡ true
+unfolding newly_significant
+newly_here block weights plane p h = and_right (type_due block weights plane p) (significant block plane p) h
+
+refined_above : (block : List ℤ) (weights : List ℕ) (plane p : ℕ) → refined block weights plane p ≡ true → significant block (plane + 1) p ≡ true
+unfolding refined
+refined_above block weights plane p h = and_left (significant block (plane + 1) p) (coded weights plane p) h
+
+enclosing_same : (u v : List ℤ) (plane : ℕ) (s : Set) → ((t : Set) → IsKnown t → set_significant u plane t ≡ set_significant v plane t) → IsKnown s → enclosing_significant u plane s ≡ enclosing_significant v plane s
+unfolding enclosing_significant
+enclosing_same u v plane Descendants sets known = refl
+enclosing_same u v plane (Family i) sets known = sets Descendants tt
+enclosing_same u v plane (Grandchildren i) sets known = sets (Family i) known
+enclosing_same u v plane (Quad i j) sets known = sets (Grandchildren i) known.0
+
+module _ (u v : List ℤ) (weights : List ℕ) (plane : ℕ) (seen : SeenAlike u v weights plane) where
+  sets_same : (s : Set) → IsKnown s → set_significant u plane s ≡ set_significant v plane s
+  unfolding set_significant
+  sets_same s known = any_alike (significant u plane) (significant v plane) (members s) (members_acs s known) seen.here
+
+  types_same : (ps : List ℕ) → AllByRecursion IsAc ps → types u weights plane ps ≡ types v weights plane ps
+  types_same ps acs =
+      map_equal (significant u plane) (significant v plane) (filter (type_due u weights plane) ps)
+      (all_filter (λ p. significant u plane p ≡ significant v plane p) (type_due u weights plane) ps (all_zip {P = IsAc} ps seen.here acs))
+      ∙ ap (map (significant v plane)) (types_filter u v weights plane seen.alike ps acs)
+
+  signs_same : (ps : List ℕ) → AllByRecursion IsAc ps → signs u weights plane ps ≡ signs v weights plane ps
+  signs_same ps acs =
+      let newly = newly_significant u weights plane in
+      map_equal (λ p. Bit (negative (get_or u p (pos 0)))) (λ p. Bit (negative (get_or v p (pos 0)))) (filter newly ps)
+      (all_zip {P = λ p. IsAc p × (newly p ≡ true)} (filter newly ps) (λ p h. ap Bit (seen.signs p h.0 (newly_here u weights plane p h.1)))
+      (all_both IsAc (λ p. newly p ≡ true) (filter newly ps) (all_filter IsAc newly ps acs) (passed newly ps)))
+      ∙ ap (map (λ p. Bit (negative (get_or v p (pos 0)))))
+      (filter_same newly (newly_significant v weights plane) ps (all_zip {P = IsAc} ps (λ p ac. newly_same u v weights plane seen.alike p ac (seen.here p ac)) acs))
+
+  typed_same : (ps : List ℕ) → AllByRecursion IsAc ps → typed u weights plane ps ≡ typed v weights plane ps
+  typed_same ps acs = ap (λ t. word t ∷ signs u weights plane ps) (types_same ps acs) ∙ ap (λ l. word (types v weights plane ps) ∷ l) (signs_same ps acs)
+
+  enclosed : (sets : List Set) → AllByRecursion IsKnown sets → AllByRecursion (λ s. enclosing_significant u plane s ≡ enclosing_significant v plane s) sets
+  enclosed sets known = all_zip {P = IsKnown} sets (λ s k. enclosing_same u v plane s sets_same k) known
+
+  flags_same : (sets : List Set) → AllByRecursion IsKnown sets → flags u weights plane sets ≡ flags v weights plane sets
+  flags_same sets known =
+      map_equal (set_significant u plane) (set_significant v plane) (filter (flag_due u weights plane) sets)
+      (all_filter (λ s. set_significant u plane s ≡ set_significant v plane s) (flag_due u weights plane) sets (all_zip {P = IsKnown} sets sets_same known))
+      ∙ ap (map (set_significant v plane)) (due_filter u v weights plane seen.alike sets known (enclosed sets known))
+
+  chosen_same : (count : ℕ) (set_of : ℕ → Set) → ((i : ℕ) → i < count → IsKnown (set_of i)) →
+      filter (λ i. set_significant u plane (set_of i)) (span 0 count) ≡ filter (λ i. set_significant v plane (set_of i)) (span 0 count)
+  chosen_same count set_of known =
+      filter_same (λ i. set_significant u plane (set_of i)) (λ i. set_significant v plane (set_of i)) (span 0 count)
+      (all_span (λ i. set_significant u plane (set_of i) ≡ set_significant v plane (set_of i)) 0 count (λ i low high. sets_same (set_of i) (known i (omega arith))))
+
+  -- what the chosen ones send
+  sent_same : (count : ℕ) (set_of : ℕ → Set) (f g : ℕ → List Entry) → ((i : ℕ) → i < count → IsKnown (set_of i)) → ((i : ℕ) → i < count → f i ≡ g i) →
+      flat_map f (filter (λ i. set_significant u plane (set_of i)) (span 0 count)) ≡ flat_map g (filter (λ i. set_significant v plane (set_of i)) (span 0 count))
+  sent_same count set_of f g known same =
+      flat_equal f g (filter (λ i. set_significant u plane (set_of i)) (span 0 count))
+      (all_filter (λ i. f i ≡ g i) (λ i. set_significant u plane (set_of i)) (span 0 count) (all_span (λ i. f i ≡ g i) 0 count (λ i low high. same i (omega arith))))
+      ∙ ap (flat_map g) (chosen_same count set_of known)
+
+  children_seen : children u weights plane ≡ children v weights plane
+  children_seen =
+      let first = flags_same (Descendants ∷ []) (tt, tt) in
+      let second = flags_same three_families (omega arith, (omega arith, (omega arith, tt))) in
+      let third : children_types u weights plane ≡ children_types v weights plane =
+      sent_same 3 Family (λ i. typed u weights plane (span (children_of i) 4)) (λ i. typed v weights plane (span (children_of i) 4)) (λ i lt. lt)
+      (λ i lt. typed_same (span (children_of i) 4) (all_acs (children_of i) 4 (omega arith) (omega arith))) in
+      ap (λ l. map Bit l ++ word (flags u weights plane three_families) ∷ children_types u weights plane) first
+      ∙ ap (λ l. map Bit (flags v weights plane (Descendants ∷ [])) ++ word l ∷ children_types u weights plane) second
+      ∙ ap (λ l. map Bit (flags v weights plane (Descendants ∷ [])) ++ word (flags v weights plane three_families) ∷ l) third
+
+  quads_seen : (i : ℕ) → i < 3 → quads u weights plane i ≡ quads v weights plane i
+  quads_seen i known =
+      let sets : List Set = Quad i 0 ∷ Quad i 1 ∷ Quad i 2 ∷ Quad i 3 ∷ [] in
+      let first = flags_same sets ((known, omega arith), ((known, omega arith), ((known, omega arith), ((known, omega arith), tt)))) in
+      let second : quads_types u weights plane i ≡ quads_types v weights plane i =
+      sent_same 4 (Quad i) (λ j. typed u weights plane (span (quad_of i j) 4)) (λ j. typed v weights plane (span (quad_of i j) 4)) (λ j lt. (known, lt))
+      (λ j lt. typed_same (span (quad_of i j) 4) (all_acs (quad_of i j) 4 (omega arith) (omega arith))) in
+      ap (λ l. word l ∷ quads_types u weights plane i) first ∙ ap (λ l. word (flags v weights plane sets) ∷ l) second
+
+  grandchildren_seen : grandchildren u weights plane ≡ grandchildren v weights plane
+  grandchildren_seen =
+      let first = flags_same three_grandchildren (omega arith, (omega arith, (omega arith, tt))) in
+      let second : all_quads u weights plane ≡ all_quads v weights plane = sent_same 3 Grandchildren (quads u weights plane) (quads v weights plane) (λ i lt. lt) quads_seen in
+      ap (λ l. word l ∷ all_quads u weights plane) first ∙ ap (λ l. word (flags v weights plane three_grandchildren) ∷ l) second
+
+  refinement_seen : refinement u weights plane ≡ refinement v weights plane
+  refinement_seen =
+      let test = refined u weights plane in
+      let acs = all_acs 1 63 (omega arith) (omega arith) in
+      map_equal (λ p. Bit (bit (magnitude u p) plane)) (λ p. Bit (bit (magnitude v p) plane)) (filter test (span 1 63))
+      (all_zip {P = λ p. IsAc p × (test p ≡ true)} (filter test (span 1 63)) (λ p h. ap Bit (seen.bits p h.0 (refined_above u weights plane p h.1)))
+      (all_both IsAc (λ p. test p ≡ true) (filter test (span 1 63)) (all_filter IsAc test (span 1 63) acs) (passed test (span 1 63))))
+      ∙ ap (map (λ p. Bit (bit (magnitude v p) plane))) (filter_same test (refined v weights plane) (span 1 63) (all_zip {P = IsAc} (span 1 63) (refined_same u v weights plane seen.alike) acs))
+
+  dc_seen : (q : ℕ) → dc_bits u weights plane q ≡ dc_bits v weights plane q
+  dc_seen q = ap (λ b. cond (coded weights plane 0 && nat_lt plane q) (Bit b ∷ []) []) seen.dc
+
+  entries_seen : (stage : Stage) (d q : ℕ) → block_entries stage u d weights plane q ≡ block_entries stage v d weights plane q
+  unfolding block_entries
+  entries_seen stages.DcBits d q = dc_seen q
+  entries_seen stages.Parents d q = ap (λ l. cond (nat_lt plane d) l []) (typed_same (span 1 3) (all_acs 1 3 (omega arith) (omega arith)))
+  entries_seen stages.Children d q = ap (λ l. cond (nat_lt plane d) l []) children_seen
+  entries_seen stages.Grandchildren d q = ap (λ l. cond (nat_lt plane d) l []) grandchildren_seen
+  entries_seen stages.Refinement d q = ap (λ l. cond (nat_lt plane d) l []) refinement_seen
+
+  said_seen : (stage : Stage) (d q : ℕ) → entries_of (block_steps stage u d weights plane q) ≡ entries_of (block_steps stage v d weights plane q)
+  said_seen stage d q = steps_entries stage u d weights plane q ∙ entries_seen stage d q ∙ sym (steps_entries stage v d weights plane q)
+
+  alike_at : (k : ℕ) → k < 5 → (d q : ℕ) → SameSteps (block_steps (stage_number k) u d weights plane q) (block_steps (stage_number k) v d weights plane q)
+  alike_at k below d q = block_same u v d weights plane q seen.alike k below (λ e. said_seen stages.Children d q)
+
+  stage_alike : (stage : Stage) (d q : ℕ) → SameSteps (block_steps stage u d weights plane q) (block_steps stage v d weights plane q)
+  stage_alike stages.DcBits d q = alike_at 0 (omega arith) d q
+  stage_alike stages.Parents d q = alike_at 1 (omega arith) d q
+  stage_alike stages.Children d q = alike_at 2 (omega arith) d q
+  stage_alike stages.Grandchildren d q = alike_at 3 (omega arith) d q
+  stage_alike stages.Refinement d q = alike_at 4 (omega arith) d q
+
+  pub steps_seen : (stage : Stage) (d q : ℕ) → block_steps stage u d weights plane q ≡ block_steps stage v d weights plane q
+  steps_seen stage d q = steps_equal (block_steps stage u d weights plane q) (block_steps stage v d weights plane q) (stage_alike stage d q) (said_seen stage d q)
+
+-- ---- a plane
+
+all_of : {X : Type 0} {P : X → Type 0} → ((x : X) → P x) → (xs : List X) → AllByRecursion P xs
+all_of each [] = tt
+all_of each (x ∷ xs) = (each x, all_of each xs)
+
+module _ (book : Book) (options : ℕ → List ℕ) (xs ys : List (List ℤ)) (depths weights : List ℕ) (number q : ℕ)
+    (seen : (r : ℕ) → SeenAlike (get_or xs r []) (get_or ys r []) weights number) where
+  abbrev with_blocks : List (List ℤ) → Plane
+  with_blocks blocks = record { blocks = blocks; depths = depths; weights = weights; number = number; q = q }
+
+  abbrev rows : ℕ → List ℕ
+  rows g = span (16 * g) (gaggle_size (with_blocks xs) g)
+
+  sent_before : (k g : ℕ) → before_stage (with_blocks xs) k g ≡ before_stage (with_blocks ys) k g
+  sent_before k g =
+      flat_equal (λ j. of_gaggle (with_blocks xs) (stage_number j) g) (λ j. of_gaggle (with_blocks ys) (stage_number j) g) (span 0 k)
+      (all_of {P = λ j. of_gaggle (with_blocks xs) (stage_number j) g ≡ of_gaggle (with_blocks ys) (stage_number j) g} (λ j.
+      flat_equal (of_block (with_blocks xs) (stage_number j)) (of_block (with_blocks ys) (stage_number j)) (rows g)
+      (all_of {P = λ r. of_block (with_blocks xs) (stage_number j) r ≡ of_block (with_blocks ys) (stage_number j) r}
+      (λ r. entries_seen (get_or xs r []) (get_or ys r []) weights number (seen r) (stage_number j) (get_or depths r 0) q) (rows g))) (span 0 k))
+
+  steps_now : (stage : Stage) (g : ℕ) → steps_of_gaggle (with_blocks xs) stage g ≡ steps_of_gaggle (with_blocks ys) stage g
+  steps_now stage g =
+      flat_equal (steps_of_block (with_blocks xs) stage) (steps_of_block (with_blocks ys) stage) (rows g)
+      (all_of {P = λ r. steps_of_block (with_blocks xs) stage r ≡ steps_of_block (with_blocks ys) stage r}
+      (λ r. steps_seen (get_or xs r []) (get_or ys r []) weights number (seen r) stage (get_or depths r 0) q) (rows g))
+
+  gaggle_sees : (k g : ℕ) → gaggle_reading book options (with_blocks xs) k g ≡ gaggle_reading book options (with_blocks ys) k g
+  gaggle_sees k g =
+      ap (λ b. read_after book (options g) b (steps_of_gaggle (with_blocks xs) (stage_number k) g)) (sent_before k g)
+      ∙ ap (read_after book (options g) (before_stage (with_blocks ys) k g)) (steps_now (stage_number k) g)
+
+  pub sees : (stages : ℕ) → plane_reading book options (with_blocks xs) stages ≡ plane_reading book options (with_blocks ys) stages
+  sees stages =
+      flat_equal (stage_reading book options (with_blocks xs)) (stage_reading book options (with_blocks ys)) (span 0 stages)
+      (all_of {P = λ k. stage_reading book options (with_blocks xs) k ≡ stage_reading book options (with_blocks ys) k} (λ k.
+      flat_equal (gaggle_reading book options (with_blocks xs) k) (gaggle_reading book options (with_blocks ys) k) (span 0 (gaggles (with_blocks xs)))
+      (all_of {P = λ g. gaggle_reading book options (with_blocks xs) k g ≡ gaggle_reading book options (with_blocks ys) k g} (gaggle_sees k) (span 0 (gaggles (with_blocks xs))))) (span 0 stages))
+
+pub plane_sees : PlaneSees
+plane_sees book options xs ys depths weights number q stages seen = sees book options xs ys depths weights number q seen stages

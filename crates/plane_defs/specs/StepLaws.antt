@@ -1,0 +1,97 @@
+-- What reading needs of a plane's steps: what was said before in a plane settles each step's kind, its length, the words that are
+-- refused there and what it tells. Of the numbers above the plane only the AC numbers count. (this project's own)
+use Rattle.std.specs.Prelude.{◌≡◌, ◌<◌, ◌≤◌, ℕ, ◌+◌, ℤ, pos, true, false, List, [], ◌∷◌, map}
+use Rattle.std.specs.List.{AllByRecursion}
+use Rattle.plane_defs.specs.declared.entries.Entry.{Entry}
+use Rattle.plane_defs.specs.declared.entries.Entry.TheVariants.{Bit, Word}
+use lib.ListN.{get_or}
+use Rattle.item_defs.specs.Bits.{bit}
+use Rattle.plane_defs.specs.declared.codes.Book.{Book}
+use Rattle.plane_defs.specs.declared.sets.Set.TheVariants.{Family, Grandchildren}
+use Rattle.plane_defs.specs.Spans.{span}
+use Rattle.plane_defs.specs.Sets.{magnitude, significant, live, children_of}
+use Rattle.plane_defs.specs.Entries.{negative, twos_bit, types}
+use Rattle.plane_defs.specs.Reading.{plane_reading}
+use Rattle.plane_defs.specs.Laws.{IsMultiple}
+use Rattle.plane_defs.specs.Steps.{is_new, Step, refuses, dc_steps, parents_steps, children_steps, grandchildren_steps, refinement_steps}
+
+abbrev pub entry_of : Step → Entry
+entry_of s = s.entry
+
+abbrev pub entries_of : List Step → List Entry
+entries_of steps = map entry_of steps
+
+-- two raw bits, or two words of one length
+abbrev pub SameKind : Entry → Entry → Type 0
+SameKind (Bit a) (Bit b) = Unit {0}
+SameKind (Bit a) (Word b) = ⊥
+SameKind (Word a) (Bit b) = ⊥
+SameKind (Word a) (Word b) = a.count ≡ b.count
+
+-- for as long as the same is said
+abbrev pub SameSteps : List Step → List Step → Type 0
+SameSteps [] [] = Unit {0}
+SameSteps [] (t ∷ ts) = ⊥
+SameSteps (s ∷ ss) [] = ⊥
+SameSteps (s ∷ ss) (t ∷ ts) =
+    SameKind s.entry t.entry × (s.check ≡ t.check) × (s.tells ≡ t.tells) × (s.entry ≡ t.entry → SameSteps ss ts)
+
+-- an AC number's position
+abbrev pub IsAc : ℕ → Type 0
+IsAc p = (1 ≤ p) × (p < 64)
+
+-- the AC numbers that reach a plane are the same
+abbrev pub SameAc : List ℤ → List ℤ → ℕ → Type 0
+SameAc u v plane = (p : ℕ) → IsAc p → significant u plane p ≡ significant v plane p
+
+pub record AcsAlike (u v : List ℤ) (weights : List ℕ) (plane : ℕ) : Type 0 where
+  pub above : SameAc u v (plane + 1)
+  pub first : IsMultiple u weights
+  pub second : IsMultiple v weights
+
+-- the word of a step isn't refused there
+abbrev pub value_of_entry : Entry → ℕ
+value_of_entry (Bit b) = 0
+value_of_entry (Word bits) = bits.value
+
+abbrev pub IsAllowed : Step → Type 0
+IsAllowed s = refuses s.check (value_of_entry s.entry) ≡ false
+
+pub record StepsSettle : Type 0 where
+  pub dcs : (u v : List ℤ) (weights : List ℕ) (plane q : ℕ) → SameSteps (dc_steps u weights plane q) (dc_steps v weights plane q)
+  pub parents : (u v : List ℤ) (weights : List ℕ) (plane : ℕ) → AcsAlike u v weights plane → SameSteps (parents_steps u weights plane) (parents_steps v weights plane)
+  pub children : (u v : List ℤ) (weights : List ℕ) (plane : ℕ) → AcsAlike u v weights plane → SameSteps (children_steps u weights plane) (children_steps v weights plane)
+  -- the stage of the children settles what the stage of the grandchildren goes by
+  pub grandchildren : (u v : List ℤ) (weights : List ℕ) (plane : ℕ) → AcsAlike u v weights plane →
+      entries_of (children_steps u weights plane) ≡ entries_of (children_steps v weights plane) →
+      SameSteps (grandchildren_steps u weights plane) (grandchildren_steps v weights plane)
+  pub refinement : (u v : List ℤ) (weights : List ℕ) (plane : ℕ) → AcsAlike u v weights plane → SameSteps (refinement_steps u weights plane) (refinement_steps v weights plane)
+  -- the stages settle which numbers reach this plane
+  pub plane : (u v : List ℤ) (weights : List ℕ) (plane : ℕ) → AcsAlike u v weights plane →
+      entries_of (parents_steps u weights plane) ≡ entries_of (parents_steps v weights plane) →
+      entries_of (children_steps u weights plane) ≡ entries_of (children_steps v weights plane) →
+      entries_of (grandchildren_steps u weights plane) ≡ entries_of (grandchildren_steps v weights plane) → SameAc u v plane
+
+-- no block's own words are refused
+pub record StepsAllowed : Type 0 where
+  pub children : (block : List ℤ) (weights : List ℕ) (plane : ℕ) → IsMultiple block weights → AllByRecursion IsAllowed (children_steps block weights plane)
+  pub grandchildren : (block : List ℤ) (weights : List ℕ) (plane : ℕ) → IsMultiple block weights → AllByRecursion IsAllowed (grandchildren_steps block weights plane)
+  -- and where the types of a new family's children must have a one, some are due
+  pub some_due : (block : List ℤ) (weights : List ℕ) (plane i : ℕ) → IsMultiple block weights → i < 3 →
+      is_new block plane (Family i) ≡ true → live weights plane (Grandchildren i) ≡ false → types block weights plane (span (children_of i) 4) ≡ [] → ⊥
+
+-- two blocks of which a plane sees the same: the AC numbers that reach it and the plane above, the signs and bits there, and the
+-- DC's bit
+pub record SeenAlike (u v : List ℤ) (weights : List ℕ) (plane : ℕ) : Type 0 where
+  pub alike : AcsAlike u v weights plane
+  pub here : SameAc u v plane
+  pub signs : (p : ℕ) → IsAc p → significant u plane p ≡ true → negative (get_or u p (pos 0)) ≡ negative (get_or v p (pos 0))
+  pub bits : (p : ℕ) → IsAc p → significant u (plane + 1) p ≡ true → bit (magnitude u p) plane ≡ bit (magnitude v p) plane
+  pub dc : twos_bit (get_or u 0 (pos 0)) plane ≡ twos_bit (get_or v 0 (pos 0)) plane
+
+-- a plane's items are made from what it sees alone
+abbrev pub PlaneSees : Type 0
+PlaneSees = (book : Book) (options : ℕ → List ℕ) (xs ys : List (List ℤ)) (depths weights : List ℕ) (number q stages : ℕ) →
+    ((r : ℕ) → SeenAlike (get_or xs r []) (get_or ys r []) weights number) →
+    plane_reading book options (record { blocks = xs; depths = depths; weights = weights; number = number; q = q }) stages ≡
+    plane_reading book options (record { blocks = ys; depths = depths; weights = weights; number = number; q = q }) stages
