@@ -1,15 +1,7 @@
 -- The depths of a segment's blocks (CCSDS 122.0-B-2, section 4.2: BitDepthDC, BitDepthAC and the blocks' own depths).
 -- A block is the list of its 64 weighted numbers, the DC first.
-use Rattle.std.specs.Prelude.{ℕ, ◌+◌, ◌*◌, ◌/◌, ℤ, pos, negsuc, List, length, map, take, drop, slice_index_or, unsigned_abs}
-use Rattle.std.specs.List.{range_with_len}
+use Rattle.std.specs.Prelude.{ℕ, ◌+◌, ℤ, pos, negsuc, List, map, drop, slice_index_or, unsigned_abs}
 use Rattle.segment_defs.specs.Size.{size_of, greatest}
-
--- block r of numbers that stand block by block, and all of the blocks
-abbrev pub block_at : List ℤ → ℕ → List ℤ
-block_at cells r = take 64 (drop (64 * r) cells)
-
-unfoldable pub blocks_in : List ℤ → List (List ℤ)
-blocks_in cells = map (block_at cells) (range_with_len 0 (length cells / 64))
 
 abbrev pub dc_of : List ℤ → ℤ
 dc_of block = slice_index_or block 0 (pos 0)

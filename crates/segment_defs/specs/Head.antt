@@ -1,9 +1,9 @@
 -- The octets of a segment's head (CCSDS 122.0-B-2, section 4.2; the patterns of the code word length, the meaning of a
 -- limit of 0 and the order of the weights are this project's own).
-use Rattle.std.specs.Prelude.{◌≡◌, ◌≤◌, ◌<◌, ◌≢◌, ◌⊎◌, ℕ, ◌+◌, ◌*◌, ◌%◌, ◌^◌, ◌-◌, Bool, true, false, if◌then◌else◌, List, [], ◌∷◌, ◌++◌, map, All}
+use Rattle.std.specs.Prelude.{◌≡◌, ◌≤◌, ◌<◌, ◌≢◌, ◌⊎◌, ℕ, ◌*◌, ◌%◌, ◌^◌, ◌-◌, Bool, true, false, if◌then◌else◌, List, [], ◌∷◌, ◌++◌, map, All}
 use Rattle.std.specs.List.{flat_map}
 use Rattle.std.specs.Str.{bytes_eq}
-use Rattle.item_defs.specs.Bits.{digit, bits_of, octets_of}
+use Rattle.item_defs.specs.Bits.{digit, bits_of}
 use Rattle.base_122.specs.Weights.{usual_shifts}
 use Rattle.segment_defs.specs.declared.head.SegmentHead.{SegmentHead}
 use Rattle.segment_defs.specs.declared.head.ImagePart.{ImagePart}

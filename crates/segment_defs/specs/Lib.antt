@@ -1,6 +1,9 @@
 pub mod Size
 pub mod Depths
 pub mod Head
+pub mod Fields
+pub mod Reading
 pub mod Text
+pub mod SegmentItems
 pub mod Coded
 pub mod Laws
