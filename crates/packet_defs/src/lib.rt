@@ -1,0 +1,20 @@
+//! Definitions of packets: their octets, and how a stream of octets is read as packets.
+#![tactic(auto)]
+
+ghost use Rattle.packet_defs.specs.Laws.{PacketsReadBack, StreamsSplit};
+
+mod ancillary;
+mod packet;
+
+pub use ancillary::Ancillary;
+pub use packet::{Framing, PacketHead, PacketRead, Skip};
+
+/// A packet is read as it was written.
+pub const fn packets_read_back()
+    ensures { PacketsReadBack }
+{}
+
+/// A stream is whole packets and a rest that begins with none, in one way alone.
+pub const fn streams_split()
+    ensures { StreamsSplit }
+{}
