@@ -7,14 +7,15 @@ use Rattle.std.proofs.lemmas.Bool.{or_cases, or_left, or_right, and_parts, and_f
 use Rattle.std.proofs.lemmas.Bool.Decides.{Decides-and, Decides-by_and}
 use Rattle.base_122.specs.declared.field.Field.{Field}
 use Rattle.base_122.specs.declared.field.Field.TheVariants.{Width, Rows, Depth, Segment, Limit, Fill, Word, Stop, Weights, Apid, Image, Packet}
+use Rattle.base_122.specs.declared.range.FieldRange.{FieldRange}
 use Rattle.base_122.specs.declared.setting.Setting.{Setting}
 use Rattle.base_122.specs.Weights.{IsShift, is_shift}
-use Rattle.base_122.specs.Ranges.{Range, IsWithin, is_within, limit_range, word_range, width_range, rows_range, depth_range, segment_range, plane_range, stage_range, apid_range, image_range, packet_range, IsInRange, limit_test, field_test, first_out_of_range}
+use Rattle.base_122.specs.Ranges.{IsWithin, is_within, limit_range, word_range, width_range, rows_range, depth_range, segment_range, plane_range, stage_range, apid_range, image_range, packet_range, IsInRange, limit_test, field_test, first_out_of_range}
 
 decides-le : (m n : ℕ) → Decides (nat_le m n) (m ≤ n)
 decides-le m n = (leb-true m n, le-leb m n)
 
-pub within : (range : Range) (n : ℕ) → Decides (is_within range n) (IsWithin range n)
+pub within : (range : FieldRange) (n : ℕ) → Decides (is_within range n) (IsWithin range n)
 within range n = Decides-and (nat_le range.least n) (nat_le n range.most) (decides-le range.least n) (decides-le n range.most)
 
 shifts_pass : (xs : List ℕ) → Decides (list_all is_shift xs) (All IsShift xs)
@@ -48,7 +49,7 @@ fill_from true limit has = not_from_false (limit == 0) (ne_eqb limit 0 (has refl
 fill_from false limit has = refl
 
 -- the first field passes, and so do those after it
-passed : (b : Bool) (field : Field) (rest : Option Field) → cond (not b) (Some field) rest ≡ None → (b ≡ true) × (rest ≡ None)
+pub passed : (b : Bool) (field : Field) (rest : Option Field) → cond (not b) (Some field) rest ≡ None → (b ≡ true) × (rest ≡ None)
 passed true field rest e = (refl, e)
 passed false field rest e = absurd (let h : Some field ≡ None = e in cc)
 

@@ -6,62 +6,60 @@ use Rattle.base_122.specs.Weights.{IsShift, is_shift}
 use Rattle.base_122.specs.declared.field.Field.{Field}
 use Rattle.base_122.specs.declared.field.Field.TheVariants.{Width, Rows, Depth, Segment, Limit, Fill, Word, Stop, Weights, Apid, Image, Packet, Pixels, Octets}
 use Rattle.base_122.specs.declared.field.OutOfRange.{OutOfRange}
+use Rattle.base_122.specs.declared.range.FieldRange.{FieldRange}
 use Rattle.base_122.specs.declared.setting.Setting.{Setting}
 use Rattle.base_122.specs.declared.geometry.Geometry.{Geometry}
 
--- the least and the greatest value of a field
-pub record Range : Type 0 where
-  pub least : ℕ
-  pub most : ℕ
+-- ---- the least and the greatest value of a field
 
-abbrev pub IsWithin : Range → ℕ → Type 0
+abbrev pub IsWithin : FieldRange → ℕ → Type 0
 IsWithin range n = (range.least ≤ n) × (n ≤ range.most)
 
-abbrev pub is_within : Range → ℕ → Bool
+abbrev pub is_within : FieldRange → ℕ → Bool
 is_within range n = nat_le range.least n && nat_le n range.most
 
 -- pixels of a row
-abbrev pub width_range : Range
+abbrev pub width_range : FieldRange
 width_range = record { least = 17; most = 1048575 }
 
 -- rows of an image
-abbrev pub rows_range : Range
+abbrev pub rows_range : FieldRange
 rows_range = record { least = 17; most = 262144 }
 
 -- bits of a pixel
-abbrev pub depth_range : Range
+abbrev pub depth_range : FieldRange
 depth_range = record { least = 1; most = 16 }
 
 -- blocks of a segment
-abbrev pub segment_range : Range
+abbrev pub segment_range : FieldRange
 segment_range = record { least = 16; most = 1048575 }
 
 -- octets of a segment's text, where there is a limit: 27 bits, and a multiple of each word
-abbrev pub limit_range : Range
+abbrev pub limit_range : FieldRange
 limit_range = record { least = 32; most = 134217724 }
 
 -- octets of a code word
-abbrev pub word_range : Range
+abbrev pub word_range : FieldRange
 word_range = record { least = 1; most = 4 }
 
 -- the last bit plane that is sent
-abbrev pub plane_range : Range
+abbrev pub plane_range : FieldRange
 plane_range = record { least = 0; most = 27 }
 
 -- the last stage that is sent, less one
-abbrev pub stage_range : Range
+abbrev pub stage_range : FieldRange
 stage_range = record { least = 0; most = 3 }
 
 -- application process identifier: 11 bits, without that of idle packets
-abbrev pub apid_range : Range
+abbrev pub apid_range : FieldRange
 apid_range = record { least = 0; most = 2046 }
 
 -- an image's number
-abbrev pub image_range : Range
+abbrev pub image_range : FieldRange
 image_range = record { least = 0; most = 65535 }
 
 -- octets of a packet data field at most
-abbrev pub packet_range : Range
+abbrev pub packet_range : FieldRange
 packet_range = record { least = 64; most = 65536 }
 
 -- Each field is in its range, and fill has a limit.

@@ -3,12 +3,14 @@
 
 mod field;
 mod geometry;
+mod range;
 mod setting;
 mod weights;
 
 pub use field::{Field, OutOfRange};
 pub use geometry::Geometry;
-pub use setting::{Select, Setting, Stop, need};
+pub use range::FieldRange;
+pub use setting::{Select, Setting, Stop, is_limit_in_range, need};
 pub use weights::{Band, Weights};
 
 #[cfg(test)]

@@ -1,9 +1,10 @@
 ghost use Rattle.std.specs.Prelude.{◌≡◌, ◌↔◌, Ok};
 ghost use Rattle.base_122.specs.Sizes.{sample_need};
-ghost use Rattle.base_122.specs.Ranges.{IsInRange};
+ghost use Rattle.base_122.specs.Ranges.{IsInRange, limit_test};
 
 use crate::field::{Field, OutOfRange};
 use crate::geometry::Geometry;
+use crate::range::FieldRange;
 use crate::weights::Weights;
 
 /// Everything that a writer is told: the image, its segments, where they stop and how the packets are made.
@@ -69,7 +70,7 @@ const FIELDS: [Field; 12] = [
 ];
 
 impl Setting {
-    ghost use Rattle.base_122.specs.Ranges.{field_test, limit_test, first_out_of_range, range_check};
+    ghost use Rattle.base_122.specs.Ranges.{field_test, first_out_of_range, range_check};
     ghost use Rattle.base_122.specs.Setting.{geometry_of};
 
     /// Answers `Ok` exactly where each field is in its range (docs/formats.md, "Bounds"), and else the first that
@@ -100,34 +101,24 @@ impl Setting {
         ensures { result ≡ field_test self.now field }
     {
         match field {
-            Field::Width => (17..=1_048_575).contains(&self.width),
-            Field::Rows => (17..=262_144).contains(&self.rows),
-            Field::Depth => (1..=16).contains(&self.depth),
-            Field::Segment => (16..=1_048_575).contains(&self.segment),
-            Field::Limit => self.is_limit_in_range(),
+            Field::Width => FieldRange::WIDTH.contains(u64::from(self.width)),
+            Field::Rows => FieldRange::ROWS.contains(u64::from(self.rows)),
+            Field::Depth => FieldRange::DEPTH.contains(u64::from(self.depth)),
+            Field::Segment => FieldRange::SEGMENT.contains(u64::from(self.segment)),
+            Field::Limit => is_limit_in_range(u64::from(self.limit), u64::from(self.word)),
             Field::Fill => !self.fill || self.limit != 0,
-            Field::Word => (1..=4).contains(&self.word),
-            Field::Stop => (0..=27).contains(&self.stop.plane)
-                && (0..=3).contains(&self.stop.stage),
+            Field::Word => FieldRange::WORD.contains(u64::from(self.word)),
+            Field::Stop => {
+                FieldRange::PLANE.contains(u64::from(self.stop.plane))
+                    && FieldRange::STAGE.contains(u64::from(self.stop.stage))
+            }
             Field::Weights => self.weights.are_in_range(),
-            Field::Apid => (0..=2_046).contains(&self.apid),
-            Field::Image => (0..=65_535).contains(&self.image),
-            Field::Packet => (64..=65_536).contains(&self.packet),
+            Field::Apid => FieldRange::APID.contains(u64::from(self.apid)),
+            Field::Image => FieldRange::IMAGE.contains(u64::from(self.image)),
+            Field::Packet => FieldRange::PACKET.contains(u64::from(self.packet)),
             // A setting has neither cap.
             Field::Pixels | Field::Octets => true,
         }
-    }
-
-    fn is_limit_in_range(&self) -> bool
-        ensures { result ≡ limit_test self.now.limit self.now.word }
-    {
-        if self.limit == 0 {
-            return true;
-        }
-        if !(32..=134_217_724).contains(&self.limit) {
-            return false;
-        }
-        !(1..=4).contains(&self.word) || self.limit % u32::from(self.word) == 0
     }
 
     /// The geometry of the image, with the setting's own fields.
@@ -145,6 +136,20 @@ impl Setting {
             weights: self.weights,
         }
     }
+}
+
+/// Whether a limit is 0, or in its range and a multiple of the word. Of a word out of range it needn't be a multiple, so that
+/// the word itself is refused.
+pub fn is_limit_in_range(limit: u64, word: u64) -> bool
+    ensures { result ≡ limit_test limit word }
+{
+    if limit == 0 {
+        return true;
+    }
+    if !FieldRange::LIMIT.contains(limit) {
+        return false;
+    }
+    !FieldRange::WORD.contains(word) || limit % word == 0
 }
 
 /// The greatest number of samples that the encoder holds (docs/formats.md, "Bounds"): 64 for each padded column

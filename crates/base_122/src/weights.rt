@@ -42,7 +42,8 @@ impl Weights {
         self.shifts[band as usize]
     }
 
-    pub(crate) fn are_in_range(&self) -> bool
+    /// Whether each shift is one of the weights' two bits, 0 to 3.
+    pub fn are_in_range(&self) -> bool
         ensures { result ≡ list_all is_shift self.now.shifts }
     {
         self.shifts.iter().all(|shift| *shift <= 3)

@@ -26,8 +26,8 @@ pub enum RowFault {
 /// `BadPixel` comes exactly where some whole pixel that was taken is out of range, and names the first. `Short`
 /// comes exactly where the input ends inside the row and no whole pixel before is out of range. `ReadFault` comes
 /// only where `read_faults` rose. The whole pixels that were taken and are in range before any other stand at the
-/// front of `into`, and its other numbers stay. A read asks for at most what is left of the row and at most 4,096
-/// octets, and each piece is tested before the next read.
+/// front of `into`, and its other numbers stay. No octet past the row is taken, and each piece is tested before the next
+/// read.
 pub fn read_row<X: Port>(
     port: &mut X,
     setting: &Setting,
