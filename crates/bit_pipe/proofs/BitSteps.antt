@@ -1,16 +1,15 @@
--- One bit and a number of bits, put behind those that are pending.
-use Rattle.std.proofs.Common.{◌≡◌, ℕ, ◌+◌, ◌-◌, ◌*◌, ◌/◌, ◌%◌, ◌^◌, suc, ◌<◌, ◌≤◌, [], ◌∷◌, ◌++◌, Bool, refl, sym, ap, subst, ◌∙◌, arith}
-use Rattle.std.proofs.lemmas.Nat.{mod_below, pow_pos, shl_whole, one_shl, and_mask, or_shifted}
+-- Bits put behind those that wait.
+use Rattle.std.proofs.Common.{◌≡◌, ℕ, ◌+◌, ◌-◌, ◌*◌, ◌/◌, ◌%◌, ◌^◌, ◌<◌, ◌≤◌, [], ◌∷◌, ◌++◌, Bool, refl, sym, ap, subst, ◌∙◌, append_assoc, arith, mul_comm}
+use Rattle.std.proofs.lemmas.Nat.{mod_below, pow_pos, shl_whole, shr_below, one_shl, and_mask, or_shifted, pow-add, mul-add-lt}
 use Rattle.std.specs.Prelude.{bit_and, bit_or}
-use Rattle.std.proofs.lemmas.List.{append-nil}
 use Rattle.std.proofs.lemmas.Bool.Decides.{nat_tests}
 use mir.Val.{bool_byte}
 use Rattle.item_defs.specs.Bits.{bits_of, digit}
-use Rattle.item_defs.proofs.NumberBits.{bits_none, bits_push, bits_of-mod, bits_of-split, bits_join, digit_code, digit_small, length-bits_of}
+use Rattle.item_defs.proofs.NumberBits.{bits_none, bits_push, bits_of-mod, bits_of-split, bits_join, digit_code, length-bits_of}
 use Rattle.bit_pipe.specs.Bounds.{bound_of}
-use Rattle.bit_pipe.specs.Sinks.{SinkOf, GaveOctet, BrokeOctet, GaveBits, BrokeBits}
+use Rattle.bit_pipe.specs.Sinks.{SinkOf, GaveBits, BrokeBits}
 use Rattle.bit_pipe.specs.Standing.{Standing, IsOpen, Begins, Adds, Breaks}
-use Rattle.bit_pipe.proofs.Giving.{gives_none, gives_octet, breaks_octet, broke_more}
+use Rattle.bit_pipe.proofs.Giving.{gives_none, broke_more}
 
 -- what a writer shows, field by field
 abbrev pub standing : {S : Type 0} → SinkOf S → S → ℕ → ℕ → ℕ → ℕ → ℕ → Standing S
@@ -26,7 +25,7 @@ standing k sink filled pending bound room name = record {
 pub begins : {S : Type 0} (k : SinkOf S) (s : S) (bound room name : ℕ) → Begins k s bound (standing k s 0 0 bound room name)
 begins k s bound room name = record { sink = refl; pending = bits_none 0; used = omega arith; bound = refl }
 
-pub opens : {S : Type 0} (k : SinkOf S) (s : S) (filled pending bound room name : ℕ) → 8 * (k.counts s).given + filled + room ≡ 8 * bound → bound ≤ 2 ^ 32 → filled < 8 →
+pub opens : {S : Type 0} (k : SinkOf S) (s : S) (filled pending bound room name : ℕ) → 8 * (k.counts s).given + filled + room ≡ 8 * bound → bound ≤ 2 ^ 32 → filled < 64 →
     IsOpen (standing k s filled pending bound room name)
 opens k s filled pending bound room name e le lt = record { whole = e; bound = le; pending = omega (arith, length-bits_of filled pending) }
 
@@ -36,110 +35,99 @@ bound_small limit le = grind (arith, nat_tests)
 pub bounded : (bound limit : ℕ) → bound ≡ bound_of limit → limit ≤ 2 ^ 32 → bound ≤ 2 ^ 32
 bounded bound limit e le = rw e (bound_small limit le)
 
--- one more bit
-pushed : (filled pending n : ℕ) (b : Bool) → n ≡ bool_byte b → bits_of filled pending ++ b ∷ [] ≡ bits_of (filled + 1) (pending * 2 + n)
-pushed filled pending n b e =
-    let same : 2 * pending + digit b ≡ pending * 2 + n = omega (arith, e, digit_code b) in
-    let one : filled + 1 ≡ suc filled = omega arith in
-    sym (bits_push filled pending b) ∙ ap (λ w. bits_of w (2 * pending + digit b)) (sym one) ∙ ap (bits_of (filled + 1)) same
+-- the code's bit
+pub bit_put : (b : Bool) → bits_of 1 (bool_byte b) ≡ b ∷ []
+bit_put b =
+    let n : 2 * 0 + digit b ≡ bool_byte b = omega (arith, digit_code b) in
+    ap (bits_of 1) (sym n) ∙ bits_push 0 0 b ∙ ap (λ r. r ++ b ∷ []) (bits_none 0)
 
-eighth : (filled pending n : ℕ) (b : Bool) → n ≡ bool_byte b → filled ≡ 7 → bits_of 8 (pending * 2 + n) ≡ bits_of filled pending ++ b ∷ []
-eighth filled pending n b e full =
-    let eight : filled + 1 ≡ 8 = omega arith in
-    sym (pushed filled pending n b e ∙ ap (λ w. bits_of w (pending * 2 + n)) eight)
+-- the lowest bits of a number, as the code takes them
+pub code_low : (value count : ℕ) → count < 64 → bit_and value ((1 * 2 ^ count) % 2 ^ 64 - 1) ≡ value % 2 ^ count
+code_low value count lt =
+    let one : (1 * 2 ^ count) % 2 ^ 64 ≡ 2 ^ count = one_shl count 64 lt in
+    ap (λ n. bit_and value (n - 1)) one ∙ and_mask value count
 
-octet_fits : (filled pending n : ℕ) (b : Bool) → n ≡ bool_byte b → filled ≡ 7 → pending < 2 ^ filled → pending * 2 + n < 256
-octet_fits filled pending n b e full lt =
-    let small : pending < 2 ^ 7 = subst (λ w. pending < 2 ^ w) full lt in
-    omega (arith, e, digit_code b, digit_small b, small)
+pub code_low_fits : (value count : ℕ) → count < 64 → bit_and value ((1 * 2 ^ count) % 2 ^ 64 - 1) < 2 ^ count
+code_low_fits value count lt = rw (code_low value count lt) (mod_below value (2 ^ count) (pow_pos count))
 
-pub adds_pending : {S : Type 0} (k : SinkOf S) (s : S) (filled pending bound room name n : ℕ) (b : Bool) → n ≡ bool_byte b → 0 < room → filled < 7 →
-    Adds k (standing k s filled pending bound room name) (standing k s (filled + 1) (pending * 2 + n) bound (room - 1) name) (b ∷ [])
-adds_pending k s filled pending bound room name n b e some lt = record {
-  out = [];
-  gave = gives_none k s;
-  bits = pushed filled pending n b e;
-  pending = omega (arith, length-bits_of (filled + 1) (pending * 2 + n));
-  used = omega arith;
-  room = omega arith;
-  bound = refl;
-  name = refl;
-}
+-- two numbers side by side, as the code joins them
+pub code_join : (a m n b : ℕ) → a < 2 ^ m → m + n ≤ 64 → b < 2 ^ n → bit_or ((a * 2 ^ n) % 2 ^ 64) b ≡ a * 2 ^ n + b
+code_join a m n b fits le lt =
+    let whole : (a * 2 ^ n) % 2 ^ 64 ≡ a * 2 ^ n = shl_whole a m n 64 fits le in
+    ap (λ x. bit_or x b) whole ∙ or_shifted a n b lt
 
-pub adds_octet : {S : Type 0} (k : SinkOf S) (s t : S) (filled pending bound room name n : ℕ) (b : Bool) → n ≡ bool_byte b → 0 < room → filled ≡ 7 → pending < 2 ^ filled →
-    GaveOctet k s t (pending * 2 + n) → Adds k (standing k s filled pending bound room name) (standing k t 0 0 bound (room - 1) name) (b ∷ [])
-adds_octet k s t filled pending bound room name n b e some full lt h = record {
-  out = bits_of 8 (pending * 2 + n);
-  gave = gives_octet k (pending * 2 + n) (octet_fits filled pending n b e full lt) h;
-  bits = sym (ap (λ r. bits_of 8 (pending * 2 + n) ++ r) (bits_none 0) ∙ append-nil (bits_of 8 (pending * 2 + n)) ∙ eighth filled pending n b e full);
-  pending = omega (arith, length-bits_of 0 0);
-  used = omega (arith, h.given);
-  room = omega arith;
-  bound = refl;
-  name = refl;
-}
+-- what the code makes of the bits that wait and the number's
+pub code_wait : (filled pending count value : ℕ) → pending < 2 ^ filled → filled + count < 64 →
+    bit_or ((pending * 2 ^ count) % 2 ^ 64) (bit_and value ((1 * 2 ^ count) % 2 ^ 64 - 1)) ≡ pending * 2 ^ count + bit_and value ((1 * 2 ^ count) % 2 ^ 64 - 1)
+code_wait filled pending count value fits lt = code_join pending filled count _ fits (omega arith) (code_low_fits value count (omega arith))
 
-pub breaks_at_octet : {S : Type 0} (k : SinkOf S) (s t : S) (filled pending bound room name n : ℕ) (b : Bool) → n ≡ bool_byte b → filled ≡ 7 → pending < 2 ^ filled →
-    BrokeOctet k s t (pending * 2 + n) → Breaks k (standing k s filled pending bound room name) (standing k t 0 0 bound (room - 1) name) (b ∷ [])
-breaks_at_octet k s t filled pending bound room name n b e full lt h = record {
-  broke = subst (BrokeBits k s t) (eighth filled pending n b e full) (breaks_octet k (pending * 2 + n) (octet_fits filled pending n b e full lt) h);
-  name = refl;
-}
+-- the word that they fill
+pub code_word : (filled pending count value : ℕ) → pending < 2 ^ filled → filled < 64 → count < 64 → 64 ≤ filled + count →
+    bit_or ((pending * 2 ^ (count - ((filled + count) - 64))) % 2 ^ 64) (bit_and value ((1 * 2 ^ count) % 2 ^ 64 - 1) / 2 ^ ((filled + count) - 64))
+    ≡ pending * 2 ^ (count - ((filled + count) - 64)) + bit_and value ((1 * 2 ^ count) % 2 ^ 64 - 1) / 2 ^ ((filled + count) - 64)
+code_word filled pending count value fits lt le full =
+    let rest = (filled + count) - 64 in
+    let parts : (count - rest) + rest ≡ count = omega arith in
+    let small = shr_below (bit_and value ((1 * 2 ^ count) % 2 ^ 64 - 1)) (count - rest) rest (rw parts (code_low_fits value count le)) in
+    code_join pending filled (count - rest) _ fits (omega arith) small
 
--- ---- a number of bits
+-- the bits that wait, where no word is full: low is the number's lowest bits
+pub fits_waiting : (filled pending count low : ℕ) → pending < 2 ^ filled → low < 2 ^ count → pending * 2 ^ count + low < 2 ^ (filled + count)
+fits_waiting filled pending count low p q =
+    let turned : 2 ^ count * 2 ^ filled ≡ 2 ^ (filled + count) = mul_comm (2 ^ count) (2 ^ filled) ∙ sym (pow-add 2 filled count) in
+    subst (λ n. pending * 2 ^ count + low < n) turned (mul-add-lt pending (2 ^ count) low (2 ^ filled) p q)
 
--- the pending bits and those of the number, as octets and as what is pending then
-parted : (filled pending count value bits : ℕ) → bits ≡ pending * 2 ^ count + value % 2 ^ count →
-    bits_of filled pending ++ bits_of count value ≡ bits_of ((filled + count) - (filled + count) % 8) (bits / 2 ^ ((filled + count) % 8)) ++ bits_of ((filled + count) % 8) (bits % 2 ^ ((filled + count) % 8))
-parted filled pending count value bits e =
-    let n = filled + count in
-    let r = n % 8 in
-    let low : value % 2 ^ count < 2 ^ count = mod_below value (2 ^ count) (pow_pos count) in
-    let le : r ≤ n = omega arith in
-    let whole : (n - r) + r ≡ n = omega arith in
-    ap (λ k. bits_of filled pending ++ k) (sym (bits_of-mod count value)) ∙ bits_join filled count pending (value % 2 ^ count) low ∙ ap (bits_of n) (sym e) ∙ ap (λ k. bits_of k bits) (sym whole) ∙ bits_of-split (n - r) r bits ∙ ap (λ k. bits_of (n - r) (bits / 2 ^ r) ++ k) (sym (bits_of-mod r bits))
+module _ {S : Type 0} (k : SinkOf S) (s : S) (filled pending bound room name count value low : ℕ) (is : low ≡ value % 2 ^ count) where
+  low_fits : low < 2 ^ count
+  low_fits = rw is (mod_below value (2 ^ count) (pow_pos count))
 
--- what the code makes of the pending bits and the number
-pub code_bits : (p filled pending count value : ℕ) → p ≡ pending → pending < 2 ^ filled → filled < 8 → count ≤ 32 →
-    bit_or ((p * 2 ^ count) % 2 ^ 64) (bit_and value ((1 * 2 ^ count) % 2 ^ 64 - 1)) ≡ pending * 2 ^ count + value % 2 ^ count
-code_bits p filled pending count value e fits lt le =
-    let small : p < 2 ^ filled = rw e fits in
-    let whole : (p * 2 ^ count) % 2 ^ 64 ≡ p * 2 ^ count = shl_whole p filled count 64 small (omega arith) in
-    let one : (1 * 2 ^ count) % 2 ^ 64 ≡ 2 ^ count = one_shl count 64 (omega arith) in
-    let mask : bit_and value ((1 * 2 ^ count) % 2 ^ 64 - 1) ≡ value % 2 ^ count = ap (λ n. bit_and value (n - 1)) one ∙ and_mask value count in
-    let low : value % 2 ^ count < 2 ^ count = mod_below value (2 ^ count) (pow_pos count) in
-    ap (λ n. bit_or n (bit_and value ((1 * 2 ^ count) % 2 ^ 64 - 1))) whole ∙ ap (bit_or (p * 2 ^ count)) mask ∙ or_shifted p count (value % 2 ^ count) low ∙ ap (λ n. n * 2 ^ count + value % 2 ^ count) e
+  low_bits : bits_of count value ≡ bits_of count low
+  low_bits = sym (ap (bits_of count) is ∙ bits_of-mod count value)
 
--- what the code keeps of it
-pub code_last : (bits n : ℕ) → bit_and bits ((1 * 2 ^ (n % 8)) % 2 ^ 64 - 1) ≡ bits % 2 ^ (n % 8)
-code_last bits n =
-    let one : (1 * 2 ^ (n % 8)) % 2 ^ 64 ≡ 2 ^ (n % 8) = one_shl (n % 8) 64 (omega arith) in
-    ap (λ m. bit_and bits (m - 1)) one ∙ and_mask bits (n % 8)
+  pub adds_waiting : (next n : ℕ) → next ≡ pending * 2 ^ count + low → n ≡ count → filled + count < 64 → count ≤ room →
+      Adds k (standing k s filled pending bound room name) (standing k s (filled + count) next bound (room - n) name) (bits_of count value)
+  adds_waiting next n e f lt fits = record {
+    out = [];
+    gave = gives_none k s;
+    bits = ap (λ r. bits_of filled pending ++ r) low_bits ∙ bits_join filled count pending low low_fits ∙ ap (bits_of (filled + count)) (sym e);
+    pending = omega (arith, length-bits_of (filled + count) next);
+    used = omega (arith, length-bits_of count value);
+    room = omega (arith, f, length-bits_of count value);
+    bound = refl;
+    name = refl;
+  }
 
-module _ {S : Type 0} (k : SinkOf S) (s t : S) (filled pending bound room name count value bits : ℕ) (is : bits ≡ pending * 2 ^ count + value % 2 ^ count) where
-  pub adds_number : (last n : ℕ) → last ≡ bits % 2 ^ ((filled + count) % 8) → n ≡ count → count ≤ room →
-      GaveBits k s t (bits_of ((filled + count) - (filled + count) % 8) (bits / 2 ^ ((filled + count) % 8))) →
-      Adds k (standing k s filled pending bound room name) (standing k t ((filled + count) % 8) last bound (room - n) name) (bits_of count value)
-  adds_number last n e f fits h =
-      let r = (filled + count) % 8 in
-      let kept : bits_of r last ≡ bits_of r (bits % 2 ^ r) = ap (bits_of r) e in
-      record {
-        out = bits_of ((filled + count) - r) (bits / 2 ^ r);
-        gave = h;
-        bits = parted filled pending count value bits is ∙ ap (λ x. bits_of ((filled + count) - r) (bits / 2 ^ r) ++ x) (sym kept);
-        pending = omega (arith, length-bits_of r last);
-        used = omega (arith, h.given, length-bits_of count value, length-bits_of ((filled + count) - r) (bits / 2 ^ r));
-        room = omega (arith, f, length-bits_of count value);
-        bound = refl;
-        name = refl;
-      }
+  -- the bits of a full word, and those after it
+  parted : (rest : ℕ) → 64 ≤ filled + count → filled + count ≡ 64 + rest → rest ≤ count →
+      bits_of filled pending ++ bits_of count value ≡ bits_of 64 (pending * 2 ^ (count - rest) + low / 2 ^ rest) ++ bits_of rest low
+  parted rest full e le =
+      let high = low / 2 ^ rest in
+      let parts : (count - rest) + rest ≡ count = omega arith in
+      let word : filled + (count - rest) ≡ 64 = omega arith in
+      let small : high < 2 ^ (count - rest) = shr_below low (count - rest) rest (rw parts low_fits) in
+      ap (λ r. bits_of filled pending ++ r) (low_bits ∙ ap (λ n. bits_of n low) (sym parts) ∙ bits_of-split (count - rest) rest low)
+      ∙ sym (append_assoc (bits_of filled pending) (bits_of (count - rest) high) (bits_of rest low))
+      ∙ ap (λ r. r ++ bits_of rest low) (bits_join filled (count - rest) pending high small ∙ ap (λ n. bits_of n (pending * 2 ^ (count - rest) + high)) word)
 
-  pub breaks_in_number : (b : Standing S) → b.sink ≡ t → b.name ≡ name → BrokeBits k s t (bits_of ((filled + count) - (filled + count) % 8) (bits / 2 ^ ((filled + count) % 8))) →
-      Breaks k (standing k s filled pending bound room name) b (bits_of count value)
-  breaks_in_number b e f h =
-      let after = bits_of ((filled + count) % 8) (bits % 2 ^ ((filled + count) % 8)) in
-      let all : BrokeBits k s t (bits_of filled pending ++ bits_of count value) = subst (BrokeBits k s t) (sym (parted filled pending count value bits is)) (broke_more k after h) in
-      record { broke = subst (λ u. BrokeBits k s u (bits_of filled pending ++ bits_of count value)) (sym e) all; name = f }
+  pub adds_word : {t : S} (rest word last n : ℕ) → word ≡ pending * 2 ^ (count - rest) + low / 2 ^ rest → last ≡ low % 2 ^ rest → n ≡ count → 64 ≤ filled + count → filled + count ≡ 64 + rest → rest ≤ count → count ≤ room →
+      rest < 64 → GaveBits k s t (bits_of 64 word) → Adds k (standing k s filled pending bound room name) (standing k t rest last bound (room - n) name) (bits_of count value)
+  adds_word {t} rest word last n e f g full sum le fits lt h = record {
+    out = bits_of 64 word;
+    gave = h;
+    bits = parted rest full sum le ∙ ap (λ w. bits_of 64 w ++ bits_of rest low) (sym e) ∙ ap (λ r. bits_of 64 word ++ r) (sym (ap (bits_of rest) f ∙ bits_of-mod rest low));
+    pending = omega (arith, length-bits_of rest last);
+    used = omega (arith, h.given, length-bits_of count value, length-bits_of 64 word);
+    room = omega (arith, g, length-bits_of count value);
+    bound = refl;
+    name = refl;
+  }
+
+  pub breaks_in_word : {t : S} (rest word : ℕ) → word ≡ pending * 2 ^ (count - rest) + low / 2 ^ rest → 64 ≤ filled + count → filled + count ≡ 64 + rest → rest ≤ count →
+      (b : Standing S) → b.sink ≡ t → b.name ≡ name → BrokeBits k s t (bits_of 64 word) → Breaks k (standing k s filled pending bound room name) b (bits_of count value)
+  breaks_in_word {t} rest word e full sum le b f g h =
+      let same : bits_of 64 word ++ bits_of rest low ≡ bits_of filled pending ++ bits_of count value = sym (parted rest full sum le ∙ ap (λ w. bits_of 64 w ++ bits_of rest low) (sym e)) in
+      let all : BrokeBits k s t (bits_of filled pending ++ bits_of count value) = subst (BrokeBits k s t) same (broke_more k (bits_of rest low) h) in
+      record { broke = subst (λ u. BrokeBits k s u (bits_of filled pending ++ bits_of count value)) (sym f) all; name = g }
 
 -- the highest bits of a number, for which there is room, and those after them
 pub fits_then : (count fitting value v : ℕ) → v ≡ value → fitting ≤ count → bits_of fitting (v / 2 ^ (count - fitting)) ++ bits_of (count - fitting) value ≡ bits_of count value

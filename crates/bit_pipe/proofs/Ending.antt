@@ -39,7 +39,7 @@ closes_broke (Err x) e p = record { ends = p }
 
 -- the last octet and the octets of zeros after it, as the code counts them
 module _ {S : Type 0} (k : SinkOf S) (s : Standing S) (word : ℕ) (fill : Bool) (filled pending answer full : ℕ) (is_open : IsOpen s)
-    (pend : s.pending ≡ bits_of filled pending) (used : s.used ≡ 8 * (k.counts s.sink).given + filled) (lt : filled < 8) (some : 0 < word)
+    (pend : s.pending ≡ bits_of filled pending) (used : s.used ≡ 8 * (k.counts s.sink).given + filled) (lt : filled < 64) (some : 0 < word)
     (fits : padded_length word s.bound fill s.used ≤ 8 * s.bound) (is : 8 * answer ≡ padded_length word s.bound fill (8 * s.bound - s.room))
     (count : full ≡ (8 * s.bound - s.room) / 8 + min 1 ((8 * s.bound - s.room) % 8)) where
   so_far : 8 * s.bound - s.room ≡ s.used
@@ -51,29 +51,29 @@ module _ {S : Type 0} (k : SinkOf S) (s : Standing S) (word : ℕ) (fill : Bool)
   enough : s.used ≤ 8 * answer
   enough = omega (arith, used_within word s.bound s.used fill some, length_is)
 
-  octets_so_far : 8 * full ≡ s.used + (8 - filled) % 8
+  octets_so_far : 8 * full ≡ s.used + (8 - filled % 8) % 8
   octets_so_far =
       let c : full ≡ s.used / 8 + min 1 (s.used % 8) = count ∙ ap (λ n. n / 8 + min 1 (n % 8)) so_far in
       omega (arith, c, used)
 
-  zeros_are : (8 - filled) % 8 + 8 * (answer - full) ≡ padding word s.bound fill s.used
+  zeros_are : (8 - filled % 8) % 8 + 8 * (answer - full) ≡ padding word s.bound fill s.used
   zeros_are = omega (arith, octets_so_far, enough, length_is)
 
-  joined : (bits_of filled pending ++ copies ((8 - filled) % 8) false) ++ copies (8 * (answer - full)) false ≡ s.pending ++ copies (padding word s.bound fill s.used) false
+  joined : (bits_of filled pending ++ copies ((8 - filled % 8) % 8) false) ++ copies (8 * (answer - full)) false ≡ s.pending ++ copies (padding word s.bound fill s.used) false
   joined =
-      append_assoc (bits_of filled pending) (copies ((8 - filled) % 8) false) (copies (8 * (answer - full)) false) ∙ ap (λ r. bits_of filled pending ++ r) (copies_then ((8 - filled) % 8) (8 * (answer - full)) false ∙ ap (λ n. copies n false) zeros_are) ∙ ap (λ r. r ++ copies (padding word s.bound fill s.used) false) (sym pend)
+      append_assoc (bits_of filled pending) (copies ((8 - filled % 8) % 8) false) (copies (8 * (answer - full)) false) ∙ ap (λ r. bits_of filled pending ++ r) (copies_then ((8 - filled % 8) % 8) (8 * (answer - full)) false ∙ ap (λ n. copies n false) zeros_are) ∙ ap (λ r. r ++ copies (padding word s.bound fill s.used) false) (sym pend)
 
-  pub end_room : {t : S} → GaveBits k s.sink t (bits_of filled pending ++ copies ((8 - filled) % 8) false) → (k.counts t).given + (answer - full) ≤ 2 ^ 32
-  end_room p = omega (arith, p.given, length-append (bits_of filled pending) (copies ((8 - filled) % 8) false), length-bits_of filled pending, length-copies ((8 - filled) % 8) false, octets_so_far, used, is_open.bound, fits, length_is)
+  pub end_room : {t : S} → GaveBits k s.sink t (bits_of filled pending ++ copies ((8 - filled % 8) % 8) false) → (k.counts t).given + (answer - full) ≤ 2 ^ 32
+  end_room p = omega (arith, p.given, length-append (bits_of filled pending) (copies ((8 - filled % 8) % 8) false), length-bits_of filled pending, length-copies ((8 - filled % 8) % 8) false, octets_so_far, used, is_open.bound, fits, length_is)
 
-  pub end_broke : {t : S} → BrokeBits k s.sink t (bits_of filled pending ++ copies ((8 - filled) % 8) false) → BrokeBits k s.sink t (s.pending ++ copies (padding word s.bound fill s.used) false)
+  pub end_broke : {t : S} → BrokeBits k s.sink t (bits_of filled pending ++ copies ((8 - filled % 8) % 8) false) → BrokeBits k s.sink t (s.pending ++ copies (padding word s.bound fill s.used) false)
   end_broke {t} p = subst (BrokeBits k s.sink t) joined (broke_more k (copies (8 * (answer - full)) false) p)
 
-  pub end_broke_later : {t u : S} → GaveBits k s.sink t (bits_of filled pending ++ copies ((8 - filled) % 8) false) → BrokeBits k t u (copies (8 * (answer - full)) false) →
+  pub end_broke_later : {t u : S} → GaveBits k s.sink t (bits_of filled pending ++ copies ((8 - filled % 8) % 8) false) → BrokeBits k t u (copies (8 * (answer - full)) false) →
       BrokeBits k s.sink u (s.pending ++ copies (padding word s.bound fill s.used) false)
   end_broke_later {t} {u} p q = subst (BrokeBits k s.sink u) joined (broke_then k p q)
 
-  pub end_gave : {t u : S} → GaveBits k s.sink t (bits_of filled pending ++ copies ((8 - filled) % 8) false) → GaveBits k t u (copies (8 * (answer - full)) false) →
+  pub end_gave : {t u : S} → GaveBits k s.sink t (bits_of filled pending ++ copies ((8 - filled % 8) % 8) false) → GaveBits k t u (copies (8 * (answer - full)) false) →
       Finishes k s u (padding word s.bound fill s.used) answer
   end_gave {t} {u} p q =
       let all : GaveBits k s.sink u (s.pending ++ copies (padding word s.bound fill s.used) false) = subst (GaveBits k s.sink u) joined (gives_then k p q) in

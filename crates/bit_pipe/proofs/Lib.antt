@@ -4,9 +4,11 @@ pub mod Closing
 pub mod PuttingEach
 pub mod Taking
 pub mod ItemReading
+pub mod OneItem
 pub mod ReadStops
 mod OctetSteps
 mod BitSteps
 mod ZeroSteps
 mod Ending
 mod PieceSteps
+mod WordOctets

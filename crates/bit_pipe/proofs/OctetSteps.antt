@@ -1,11 +1,11 @@
 -- Octets of a number and octets of zeros, one more at a time.
-use Rattle.std.proofs.Common.{◌≡◌, ℕ, ◌+◌, ◌-◌, ◌*◌, ◌/◌, ◌%◌, ◌^◌, ◌<◌, ◌≤◌, [], ◌++◌, false, sym, ap, subst, ◌∙◌, arith}
-use Rattle.std.specs.Prelude.{bit_and}
-use Rattle.std.proofs.lemmas.Nat.{and_mask, mod_below, pow_pos}
+use Rattle.std.proofs.Common.{◌≡◌, ℕ, ◌+◌, ◌-◌, ◌*◌, ◌/◌, ◌%◌, ◌^◌, ◌<◌, ◌≤◌, [], ◌++◌, false, sym, ap, subst, ◌∙◌, append_assoc, arith}
+use Rattle.std.specs.Prelude.{bit_and, Result, Ok, Err}
+use Rattle.std.proofs.lemmas.Nat.{and_mask, mod_below, one_shl, pow_pos}
 use Rattle.item_defs.specs.Bits.{bits_of, copies}
 use Rattle.item_defs.proofs.BitLists.{copies_none, copies_then, length-copies}
-use Rattle.item_defs.proofs.NumberBits.{bits_none, bits_of-mod, bits_of_zero, bits_between, bits_join, length-bits_of}
-use Rattle.bit_pipe.specs.Sinks.{SinkOf, GaveOctet, BrokeOctet, GaveBits, BrokeBits}
+use Rattle.item_defs.proofs.NumberBits.{bits_none, bits_of-mod, bits_of-split, bits_of_zero, bits_between, bits_join, length-bits_of}
+use Rattle.bit_pipe.specs.Sinks.{SinkOf, GaveOctet, BrokeOctet, GaveBits, BrokeBits, PutsOctets}
 use Rattle.bit_pipe.proofs.Giving.{gives_none, gives_octet, gives_then, breaks_octet, broke_then, broke_more}
 
 low_octet : (n : ℕ) → bit_and n 255 ≡ n % 2 ^ 8
@@ -27,6 +27,26 @@ one_more count left x p q =
 octet_small : (n : ℕ) → bit_and n 255 < 256
 octet_small n = omega (arith, low_octet n, mod_below n 256 (omega arith))
 
+-- the bits that wait: those of whole octets, and those after them
+pending_parts : (filled pending : ℕ) → bits_of (filled - filled % 8) (pending / 2 ^ (filled % 8)) ++ (bits_of (filled % 8) pending ++ copies ((8 - filled % 8) % 8) false) ≡ bits_of filled pending ++ copies ((8 - filled % 8) % 8) false
+pending_parts filled pending =
+    let whole : (filled - filled % 8) + filled % 8 ≡ filled = omega arith in
+    sym (append_assoc (bits_of (filled - filled % 8) (pending / 2 ^ (filled % 8))) (bits_of (filled % 8) pending) (copies ((8 - filled % 8) % 8) false))
+    ∙ ap (λ r. r ++ copies ((8 - filled % 8) % 8) false) (sym (bits_of-split (filled - filled % 8) (filled % 8) pending) ∙ ap (λ n. bits_of n pending) whole)
+
+mask_of : (filled pending : ℕ) → bit_and pending ((1 * 2 ^ (filled % 8)) % 2 ^ 64 - 1) ≡ pending % 2 ^ (filled % 8)
+mask_of filled pending =
+    let one : (1 * 2 ^ (filled % 8)) % 2 ^ 64 ≡ 2 ^ (filled % 8) = one_shl (filled % 8) 64 (omega arith) in
+    ap (λ m. bit_and pending (m - 1)) one ∙ and_mask pending (filled % 8)
+
+pub pending_fits : (filled pending : ℕ) → bit_and pending ((1 * 2 ^ (filled % 8)) % 2 ^ 64 - 1) < 2 ^ (filled % 8)
+pending_fits filled pending = rw (mask_of filled pending) (mod_below pending (2 ^ (filled % 8)) (pow_pos (filled % 8)))
+
+pending_all : (filled pending : ℕ) → bits_of (filled - filled % 8) (pending / 2 ^ (filled % 8)) ++ (bits_of (filled % 8) (bit_and pending ((1 * 2 ^ (filled % 8)) % 2 ^ 64 - 1)) ++ copies ((8 - filled % 8) % 8) false) ≡ bits_of filled pending ++ copies ((8 - filled % 8) % 8) false
+pending_all filled pending =
+    let kept : bits_of (filled % 8) (bit_and pending ((1 * 2 ^ (filled % 8)) % 2 ^ 64 - 1)) ≡ bits_of (filled % 8) pending = ap (bits_of (filled % 8)) (mask_of filled pending) ∙ bits_of-mod (filled % 8) pending in
+    ap (λ r. bits_of (filled - filled % 8) (pending / 2 ^ (filled % 8)) ++ (r ++ copies ((8 - filled % 8) % 8) false)) kept ∙ pending_parts filled pending
+
 module _ {S : Type 0} (k : SinkOf S) where
   pub number_start : (s : S) (n x : ℕ) → n ≡ 0 → GaveBits k s s (bits_of n x)
   number_start s n x e = subst (GaveBits k s s) (sym (no_bits n x e)) (gives_none k s)
@@ -47,6 +67,17 @@ module _ {S : Type 0} (k : SinkOf S) where
 
   pub number_room : {a b : S} (count left x : ℕ) → 8 ≤ left → left ≤ count → 8 * (k.counts a).given + count ≤ 2 ^ 35 → GaveBits k a b (bits_of (count - left) (x / 2 ^ left)) → (k.counts b).given < 2 ^ 32
   number_room count left x p q r h = omega (arith, h.given, length-bits_of (count - left) (x / 2 ^ left))
+
+  -- all octets of a word
+  pub number_all : {a b : S} (left x : ℕ) → left ≡ 0 → GaveBits k a b (bits_of (64 - left) (x / 2 ^ left)) → GaveBits k a b (bits_of 64 x)
+  number_all {a} {b} left x e h =
+      let one : x / 2 ^ 0 ≡ x = omega arith in
+      subst (GaveBits k a b) (ap (λ n. bits_of (64 - n) (x / 2 ^ n)) e ∙ ap (bits_of 64) one) h
+
+  pub number_all_broke : {a b : S} (x : ℕ) → BrokeBits k a b (bits_of (64 - 64 % 8) (x / 2 ^ (64 % 8))) → BrokeBits k a b (bits_of 64 x)
+  number_all_broke {a} {b} x h =
+      let one : x / 2 ^ 0 ≡ x = omega arith in
+      subst (BrokeBits k a b) (ap (bits_of 64) one) h
 
   -- ---- zeros
 
@@ -99,3 +130,19 @@ module _ {S : Type 0} (k : SinkOf S) where
       let small : octet < 256 = omega (arith, e, mod_below (pending * 2 ^ (8 - filled)) 256 (omega arith)) in
       let same : bits_of 8 octet ≡ bits_of 8 (pending * 2 ^ (8 - filled)) = ap (bits_of 8) e ∙ bits_of-mod 8 (pending * 2 ^ (8 - filled)) in
       subst (BrokeBits k a b) (same ∙ last_bits filled pending some lt) (breaks_octet k octet small o)
+
+  -- ---- what waits: its whole octets, and the bits after them
+
+  pub pending_room : {a b : S} (filled pending : ℕ) → 8 * (k.counts a).given + filled ≤ 2 ^ 35 → GaveBits k a b (bits_of (filled - filled % 8) (pending / 2 ^ (filled % 8))) → 8 * (k.counts b).given + filled % 8 ≤ 2 ^ 35
+  pending_room filled pending r h = omega (arith, h.given, length-bits_of (filled - filled % 8) (pending / 2 ^ (filled % 8)))
+
+  pub pending_broke : {a b : S} (filled pending : ℕ) → BrokeBits k a b (bits_of (filled - filled % 8) (pending / 2 ^ (filled % 8))) → BrokeBits k a b (bits_of filled pending ++ copies ((8 - filled % 8) % 8) false)
+  pending_broke {a} {b} filled pending h =
+      let rest = bits_of (filled % 8) pending ++ copies ((8 - filled % 8) % 8) false in
+      subst (BrokeBits k a b) (pending_parts filled pending) (broke_more k rest h)
+
+  pub pending_puts : {T E : Type 0} {a b : S} (c : S) (filled pending : ℕ) (r : Result T E) → GaveBits k a b (bits_of (filled - filled % 8) (pending / 2 ^ (filled % 8))) →
+      PutsOctets k r b c (bits_of (filled % 8) (bit_and pending ((1 * 2 ^ (filled % 8)) % 2 ^ 64 - 1)) ++ copies ((8 - filled % 8) % 8) false) →
+      PutsOctets k r a c (bits_of filled pending ++ copies ((8 - filled % 8) % 8) false)
+  pending_puts {a = a} {b} c filled pending (Ok x) h o = subst (GaveBits k a c) (pending_all filled pending) (gives_then k h o)
+  pending_puts {a = a} {b} c filled pending (Err x) h o = subst (BrokeBits k a c) (pending_all filled pending) (broke_then k h o)

@@ -1,7 +1,8 @@
 -- Bits put one after another.
-use Rattle.std.proofs.Common.{◌≡◌, ◌+◌, ◌<◌, List, [], ◌++◌, length, take, Bool, refl, sym, ap, subst, ◌∙◌, append_assoc, arith, length-append}
+use Rattle.std.proofs.Common.{◌≡◌, ℕ, ◌+◌, ◌-◌, ◌<◌, List, [], ◌++◌, length, take, Bool, refl, sym, ap, subst, ◌∙◌, append_assoc, arith, length-append, inl, inr}
 use Rattle.std.specs.Prelude.{Result, Ok, Err}
-use Rattle.std.proofs.lemmas.List.{append-nil, take-append-le}
+use Rattle.std.proofs.lemmas.Bool.{cases_lt}
+use Rattle.std.proofs.lemmas.List.{append-nil, take-append-le, take_all}
 use Rattle.item_defs.proofs.BitLists.{take_past}
 use Rattle.bit_pipe.specs.Sinks.{SinkOf, BrokeBits}
 use Rattle.bit_pipe.specs.Standing.{Standing, IsOpen, Adds, Breaks, EndsPut, Puts}
@@ -54,17 +55,31 @@ ends_then k (Err Stopped) a b c xs ys p q =
     let room : a.room ≡ length xs + b.room = omega (arith, p.room) in
     let e : take a.room (xs ++ ys) ≡ xs ++ take b.room ys = rw room (take_past xs ys b.room) in
     (omega (arith, length-append xs ys, q.0), rw e (adds_then p q.1))
-ends_then k (Err WriteFault) a b c xs ys p q = breaks_then p q
+ends_then k (Err WriteFault) a b c xs ys p q =
+    let room : a.room ≡ length xs + b.room = omega (arith, p.room) in
+    let e : take a.room (xs ++ ys) ≡ xs ++ take b.room ys = rw room (take_past xs ys b.room) in
+    rw e (breaks_then p q)
 
 -- what a call put after these bits, and how it ended
 pub puts_then : {S T : Type 0} {k : SinkOf S} {r : Result T PutFault} {a b c : Standing S} {xs ys : List Bool} → Adds k a b xs → Puts k r b c ys → Puts k r a c (xs ++ ys)
 puts_then {S} {T} {k} {r} {a} {b} {c} {xs} {ys} p q = record { ends = ends_then k r a b c xs ys p q.ends }
 
+-- the first bits of two lists
+take_on : (n : ℕ) (xs ys : List Bool) → take n (xs ++ ys) ≡ take n xs ++ take (n - length xs) ys
+take_on n xs ys = elim (cases_lt n (length xs)) [
+  | inl lt ↦
+      let none : n - length xs ≡ 0 = omega arith in
+      take-append-le n xs ys (omega arith) ∙ sym (append-nil (take n xs)) ∙ sym (ap (λ m. take n xs ++ take m ys) none)
+  | inr ge ↦
+      let sum : n ≡ length xs + (n - length xs) = omega arith in
+      ap (λ m. take m (xs ++ ys)) sum ∙ take_past xs ys (n - length xs) ∙ sym (ap (λ r. r ++ take (n - length xs) ys) (take_all n xs ge))
+]
+
 ends_cut : {S : Type 0} (T U : Type 0) (k : SinkOf S) (e : PutFault) (a b : Standing S) (xs ys : List Bool) → EndsPut {T = T} k (Err e) a b xs → EndsPut {T = U} k (Err e) a b (xs ++ ys)
 ends_cut T U k Stopped a b xs ys p =
     let e : take a.room (xs ++ ys) ≡ take a.room xs = take-append-le a.room xs ys (omega (arith, p.0)) in
     (omega (arith, length-append xs ys, p.0), rw e p.1)
-ends_cut T U k WriteFault a b xs ys p = breaks_more ys p
+ends_cut T U k WriteFault a b xs ys p = rw (take_on a.room xs ys) (breaks_more (take (a.room - length xs) ys) p)
 
 -- bits that would have come after the end
 pub puts_cut : {S T U : Type 0} {k : SinkOf S} {e : PutFault} {a b : Standing S} {xs : List Bool} (ys : List Bool) → Puts {T = T} k (Err e) a b xs → Puts {T = U} k (Err e) a b (xs ++ ys)

@@ -1,8 +1,7 @@
 -- Stretches of calls that fill a slice come to one stretch.
-use Rattle.std.specs.Prelude.{◌≡◌, ℕ, ◌+◌, List, [], ◌++◌, length, take, drop, refl}
-use Rattle.std.proofs.Common.{sym, ap, subst, ◌∙◌, append_assoc, add-zero, add_assoc, length-append}
+use Rattle.std.specs.Prelude.{◌≡◌, ℕ, ◌+◌, ◌-◌, ◌^◌, min, List, [], ◌++◌, length, take, drop, refl}
+use Rattle.std.proofs.Common.{sym, ap, ◌∙◌, append_assoc, add-zero, add_assoc, length-append}
 use Rattle.std.proofs.lemmas.List.{append-nil, drop-drop}
-use Rattle.bit_pipe.specs.Sinks.{Rose}
 use Rattle.bit_pipe.specs.Fills.{Filling, Fills, Overfills}
 
 pub fills_none : (s : Filling) → Fills s s []
@@ -32,5 +31,5 @@ overfills_after s t u xs ys p q = record {
   full = q.full;
   front = q.front ∙ ap (λ r. r ++ q.fitting) p.front ∙ append_assoc (take s.len s.slice) xs q.fitting;
   size = q.size ∙ p.size;
-  rose = subst (λ n. Rose n u.faults) p.faults q.rose;
+  faults = q.faults ∙ ap (λ n. min (n + length q.over) (2 ^ 64 - 1)) p.faults;
 }

@@ -1,6 +1,5 @@
 -- A slice that octets fill from its front.
-use Rattle.std.specs.Prelude.{◌≡◌, ◌<◌, ℕ, ◌+◌, List, ◌++◌, length, take, drop}
-use Rattle.bit_pipe.specs.Sinks.{Rose}
+use Rattle.std.specs.Prelude.{◌≡◌, ◌<◌, ℕ, ◌+◌, ◌-◌, ◌^◌, min, List, ◌++◌, length, take, drop}
 
 -- which reference the slice stands behind, what it holds, how many octets of it were given, and how often a call
 -- has failed
@@ -19,7 +18,8 @@ pub record Fills (old new : Filling) (octets : List ℕ) : Type 0 where
   pub size : length new.slice ≡ length old.slice
   pub faults : new.faults ≡ old.faults
 
--- a front of these octets stands behind those before, which fills the slice, and there are more
+-- a front of these octets stands behind those before, which fills the slice, and there are more; the call of each of
+-- those failed, and the count of faults ends at 2 ^ 64 - 1
 pub record Overfills (old new : Filling) (octets : List ℕ) : Type 0 where
   pub name : new.name ≡ old.name
   pub fitting : List ℕ
@@ -29,4 +29,4 @@ pub record Overfills (old new : Filling) (octets : List ℕ) : Type 0 where
   pub full : length new.slice ≡ new.len
   pub front : new.slice ≡ take old.len old.slice ++ fitting
   pub size : length new.slice ≡ length old.slice
-  pub rose : Rose old.faults new.faults
+  pub faults : new.faults ≡ min (old.faults + length over) (2 ^ 64 - 1)

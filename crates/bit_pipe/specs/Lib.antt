@@ -10,3 +10,4 @@ pub mod Fills
 pub mod FillLaws
 pub mod Slices
 pub mod Streams
+pub mod Answers

@@ -7,7 +7,7 @@ use Rattle.bit_pipe.specs.declared.bit_out.BitOut.{BitOut}
 use Rattle.bit_pipe.specs.declared.fault.PutFault.{PutFault}
 use Rattle.bit_pipe.specs.declared.fault.PutFault.TheVariants.{Stopped, WriteFault}
 
--- the sink's state; the bits that fill no octet yet; how many bits stand, those before included; how many more
+-- the sink's state; the bits that wait, fewer than a word of them; how many bits stand, those before included; how many more
 -- may come; the bound in octets; and the name of the reference to the sink
 pub record Standing (S : Type 0) : Type 0 where
   pub sink : S
@@ -31,7 +31,7 @@ stand k b = record {
 pub record IsOpen {S : Type 0} (s : Standing S) : Type 0 where
   pub whole : s.used + s.room ≡ 8 * s.bound
   pub bound : s.bound ≤ 2 ^ 32
-  pub pending : length s.pending < 8
+  pub pending : length s.pending < 64
 
 -- no bit was put yet, and the bound is so many octets
 pub record Begins {S : Type 0} (k : SinkOf S) (out : S) (octets : ℕ) (s : Standing S) : Type 0 where
@@ -40,12 +40,12 @@ pub record Begins {S : Type 0} (k : SinkOf S) (out : S) (octets : ℕ) (s : Stan
   pub used : s.used ≡ 8 * (k.counts out).given
   pub bound : s.bound ≡ octets
 
--- just these bits were put: the bits of whole octets were given, and those after them are pending
+-- just these bits were put: the bits of whole octets were given, and those after them wait
 pub record Adds {S : Type 0} (k : SinkOf S) (old new : Standing S) (put : List Bool) : Type 0 where
   pub out : List Bool
   pub gave : GaveBits k old.sink new.sink out
   pub bits : old.pending ++ put ≡ out ++ new.pending
-  pub pending : length new.pending < 8
+  pub pending : length new.pending < 64
   pub used : new.used ≡ old.used + length put
   pub room : old.room ≡ new.room + length put
   pub bound : new.bound ≡ old.bound
@@ -60,7 +60,7 @@ pub record Breaks {S : Type 0} (k : SinkOf S) (old new : Standing S) (put : List
 abbrev pub EndsPut : {S T : Type 0} → SinkOf S → Result T PutFault → Standing S → Standing S → List Bool → Type 0
 EndsPut k (Ok _) old new put = Adds k old new put
 EndsPut k (Err Stopped) old new put = (old.room < length put) × Adds k old new (take old.room put)
-EndsPut k (Err WriteFault) old new put = Breaks k old new put
+EndsPut k (Err WriteFault) old new put = Breaks k old new (take old.room put)
 
 -- what a call that puts these bits leaves
 pub record Puts {S T : Type 0} (k : SinkOf S) (result : Result T PutFault) (old new : Standing S) (put : List Bool) : Type 0 where
@@ -77,3 +77,13 @@ pub record Closes {S E : Type 0} (k : SinkOf S) (result : Result ℕ E) (word : 
   pub ends : MatchResult result
       (λ answer. Finishes k old new (padding word old.bound fill old.used) answer)
       (λ _. BrokeBits k old.sink new (old.pending ++ copies (padding word old.bound fill old.used) false))
+
+-- ---- the same of a writer itself
+
+-- bits may be put
+abbrev pub IsReady : {O : Type 0} → SinkOf O → BitOut O → Type 0
+IsReady k out = IsOpen (stand k out)
+
+-- what a call that writes these bits leaves
+abbrev pub Writes : {O T : Type 0} → SinkOf O → Result T PutFault → BitOut O → BitOut O → List Bool → Type 0
+Writes k result old new bits = Puts k result (stand k old) (stand k new) bits

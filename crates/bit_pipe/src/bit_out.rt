@@ -3,19 +3,22 @@ ghost use Rattle.std.specs.Prelude.{◌≡◌, ◌<◌, ◌≤◌, ◌+◌, ◌-
 
 use crate::bound::{octets_within, padded_octets};
 use crate::fault::{Failed, PutFault};
-use crate::octets::{put_last, put_octets, put_zero_octets};
+use crate::octets::{put_pending, put_zero_octets};
 use crate::sink::OctetOut;
 
 /// Bits on their way into a sink, up to a bound (docs/formats.md, "Stops, cut and fill").
+///
+/// A call that puts bits answers `WriteFault` only where the sink failed, and else `Stopped` exactly where they don't
+/// all fit below the bound; those that fit were put then. The same holds of all calls that write by it.
 #[derive(Drop)]
 pub struct BitOut<'a, O> {
     out: &'a mut O,
-    pending: u8,
+    pending: u64,
     filled: u8,
     bound: u64,
     room: u64,
     ghost fits: { pending < 2 ^ filled },
-    ghost within: { filled < 8 },
+    ghost within: { filled < 64 },
 }
 
 impl<'a, O: OctetOut> BitOut<'a, O> {
@@ -52,17 +55,7 @@ impl<'a, O: OctetOut> BitOut<'a, O> {
         if self.room == 0 {
             return Err(PutFault::Stopped);
         }
-        let octet = self.pending * 2 + u8::from(bit);
-        self.room -= 1;
-        if self.filled < 7 {
-            self.pending = octet;
-            self.filled += 1;
-            return Ok(());
-        }
-        self.pending = 0;
-        self.filled = 0;
-        self.out.put(octet)?;
-        Ok(())
+        self.put_fitting(u64::from(bit), 1)
     }
 
     /// Puts the lowest bits of a number, highest first.
@@ -71,26 +64,44 @@ impl<'a, O: OctetOut> BitOut<'a, O> {
         requires bound { IsOpen (stand O.sink self.old) }
         ensures { Puts O.sink result (stand O.sink self.old) (stand O.sink self.new) (bits_of count value) }
     {
+        self.put_long(u64::from(value), count)
+    }
+
+    /// Puts the lowest bits of a long number, highest first.
+    pub fn put_long(&mut self, value: u64, count: u8) -> Result<(), PutFault>
+        requires count { count < 64 }
+        requires bound { IsOpen (stand O.sink self.old) }
+        ensures { Puts O.sink result (stand O.sink self.old) (stand O.sink self.new) (bits_of count value) }
+    {
         if u64::from(count) <= self.room {
-            return self.put_fitting(u64::from(value), count);
+            return self.put_fitting(value, count);
         }
         let fitting = self.room as u8;
-        self.put_fitting(u64::from(value) >> (count - fitting), fitting)?;
+        self.put_fitting(value >> (count - fitting), fitting)?;
         Err(PutFault::Stopped)
     }
 
-    // Puts bits for which there is room.
+    // Puts bits for which there is room. They wait until they fill a word of eight octets.
+    #[inline]
     fn put_fitting(&mut self, value: u64, count: u8) -> Result<(), PutFault>
-        requires count { count ≤ 32 }
+        requires count { count < 64 }
         requires room { count ≤ self.old.room }
         requires bound { IsOpen (stand O.sink self.old) }
         ensures { Puts O.sink result (stand O.sink self.old) (stand O.sink self.new) (bits_of count value) }
     {
-        let bits = (u64::from(self.pending) << count) | (value & ((1 << count) - 1));
+        let low = value & ((1 << count) - 1);
         let filled = self.filled + count;
-        put_octets(self.out, bits, filled)?;
-        self.filled = filled % 8;
-        self.pending = (bits & ((1 << self.filled) - 1)) as u8;
+        if filled < 64 {
+            self.pending = (self.pending << count) | low;
+            self.filled = filled;
+            self.room -= u64::from(count);
+            return Ok(());
+        }
+        let rest = filled - 64;
+        let word = (self.pending << (count - rest)) | (low >> rest);
+        self.out.put_word(word)?;
+        self.pending = low & ((1 << rest) - 1);
+        self.filled = rest;
         self.room -= u64::from(count);
         Ok(())
     }
@@ -121,7 +132,7 @@ impl<'a, O: OctetOut> BitOut<'a, O> {
         let length = padded_octets(used, self.bound, word, fill);
         let pending = self.pending;
         let filled = self.filled;
-        put_last(self.out, pending, filled)?;
+        put_pending(self.out, pending, filled)?;
         put_zero_octets(self.out, length - used.div_ceil(8))?;
         Ok(length)
     }

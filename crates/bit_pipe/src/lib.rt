@@ -19,6 +19,3 @@ pub use sink::OctetOut;
 pub use slice_in::SliceIn;
 pub use slice_out::SliceOut;
 pub use source::OctetIn;
-
-#[cfg(test)]
-mod tests;

@@ -1,5 +1,5 @@
 // A slice that octets fill.
-ghost use Rattle.std.specs.Prelude.{◌≡◌, ◌≤◌, ◌<◌, ◌^◌, length};
+ghost use Rattle.std.specs.Prelude.{◌≡◌, ◌≤◌, ◌<◌, ◌+◌, ◌^◌, length, MatchResult};
 
 use crate::fault::Failed;
 use crate::sink::OctetOut;
@@ -14,7 +14,9 @@ pub struct SliceOut<'a> {
 }
 
 impl<'a> SliceOut<'a> {
-    ghost use Rattle.bit_pipe.specs.Slices.{filling};
+    ghost use Rattle.item_defs.specs.Bits.{bits_of};
+    ghost use Rattle.bit_pipe.specs.Sinks.{GaveOctet, BrokeOctet, PutsOctets};
+    ghost use Rattle.bit_pipe.specs.Slices.{filling, slice_sink};
 
     /// The slice, of which no octet was given yet.
     pub fn new(into: &'a mut [u8]) -> SliceOut<'a>
@@ -26,6 +28,33 @@ impl<'a> SliceOut<'a> {
             len: 0,
             faults: 0,
         }
+    }
+
+    // Takes the next octet where there is room.
+    fn take(&mut self, octet: u8) -> Result<(), Failed>
+        ensures { MatchResult result
+            (λ _. GaveOctet slice_sink self.old self.new octet)
+            (λ _. BrokeOctet slice_sink self.old self.new octet) }
+    {
+        if self.len == self.into.len() {
+            self.faults = self.faults.saturating_add(1);
+            return Err(Failed);
+        }
+        self.into[self.len] = octet;
+        self.len += 1;
+        Ok(())
+    }
+
+    // Takes the octets of a word as long as there is room.
+    fn take_each(&mut self, word: u64) -> Result<(), Failed>
+        ensures { PutsOctets slice_sink result self.old self.new (bits_of 64 word) }
+    {
+        let mut left: u8 = 64;
+        while left > 0 {
+            left -= 8;
+            self.take(((word >> left) & 0xff) as u8)?;
+        }
+        Ok(())
     }
 
     /// How many octets it holds.
@@ -42,12 +71,16 @@ impl<'a> OctetOut for SliceOut<'a> {
     ghost sink = { slice_sink };
 
     fn put(&mut self, octet: u8) -> Result<(), Failed> {
-        if self.len == self.into.len() {
-            self.faults = self.faults.saturating_add(1);
-            return Err(Failed);
+        self.take(octet)
+    }
+
+    #[inline]
+    fn put_word(&mut self, word: u64) -> Result<(), Failed> {
+        if self.into.len() - self.len < 8 {
+            return self.take_each(word);
         }
-        self.into[self.len] = octet;
-        self.len += 1;
+        self.into[self.len..self.len + 8].copy_from_slice(&word.to_be_bytes());
+        self.len += 8;
         Ok(())
     }
 }
