@@ -1,5 +1,5 @@
 mod Passing
 mod Dividing
 mod BandPlaces
-mod Placing
+pub mod Placing
 mod Scattering

@@ -35,6 +35,9 @@ pub trait BandSink {
     /// The number at each place of that block row.
     ghost number: { Self → NumberedPlace → ℤ };
 
+    /// All that stays where numbers are set.
+    ghost keeps: { Self → Self → Type 0 };
+
     /// Makes a value the number at a place, and changes nothing else. A block row stands, the place is in
     /// it, and the value is at most 2^27 in magnitude.
     fn set(&mut self, place: Place, value: i64)
@@ -44,5 +47,10 @@ pub trait BandSink {
         ensures value { number self.new (named place) ≡ value }
         ensures others { (p : NumberedPlace) → (p ≡ named place → ⊥) → number self.new p ≡ number self.old p }
         ensures columns { columns self.new ≡ columns self.old }
-        ensures stands { stands self.new ≡ stands self.old };
+        ensures stands { stands self.new ≡ stands self.old }
+        ensures keeps { keeps self.old self.new };
+
+    ghost keeps_itself: { (s : Self) → keeps s s };
+
+    ghost keeps_on: { (a b c : Self) → keeps a b → keeps b c → keeps a c };
 }

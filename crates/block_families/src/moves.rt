@@ -74,6 +74,7 @@ pub fn scatter<B: BandSink>(bands: &mut B, column: u32, weights: &Weights, from:
     ensures scattered { Scatters (B.number bands.old) (B.number bands.new) weights.now.shifts column from.now }
     ensures columns { B.columns bands.new ≡ B.columns bands.old }
     ensures stands { B.stands bands.new ≡ B.stands bands.old }
+    ensures keeps { B.keeps bands.old bands.new }
 {
     for position in 0..64u8 {
         let place = place_of(position, column);

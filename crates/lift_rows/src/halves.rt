@@ -5,8 +5,7 @@ ghost use Rattle.wave_defs.specs.Within.{AllWithin};
 ghost use Rattle.wave_defs.specs.Held.{Agrees, signal};
 ghost use Rattle.lift_rows.specs.Halves.{evens, odds, high_half, low_half};
 
-use crate::kernels::{predict_sub, update_sub};
-use crate::samples::{high_sample, low_sample};
+use lift_lanes::{high_sample, low_sample, predict_sub, update_sub};
 
 /// The even and the odd samples of a line.
 #[tactic(auto, using(wave_defs::proofs::Filled::fills), unfolding(crate::specs::Halves::evens, crate::specs::Halves::odds))]

@@ -8,12 +8,9 @@ ghost use Rattle.wave_defs.specs.Within.{AllWithin};
 ghost use Rattle.wave_defs.specs.Held.{Agrees, signal};
 
 mod halves;
-mod kernels;
-mod samples;
-mod wide_samples;
 
-pub use kernels::{predict_add, predict_sub, update_add, update_sub};
-use wide_samples::{even_sample, odd_sample};
+pub use lift_lanes::{predict_add, predict_sub, update_add, update_sub};
+use lift_lanes::{even_sample, odd_sample};
 
 /// The number of the even sample before even sample `j`, where the line is mirrored
 /// (docs/formats.md, "A line").

@@ -11,7 +11,7 @@ use Rattle.wave_defs.proofs.LevelSame.{SameWithin-trans, rows_merged-same}
 use Rattle.wave_defs.proofs.LevelWithin.{EachWithin-more, EachWithin-same}
 use Rattle.wave_defs.proofs.LiftLaws.{SameWithin-columns_merged}
 use Rattle.wave_plain.specs.Shown.{image_of, HasSize, Shows}
-use Rattle.wave_plain.specs.Alternate.{even_rows, odd_rows}
+use Rattle.wave_defs.specs.Rings.{even_rows, odd_rows}
 
 SameWithin-sym : (r w : ℕ) (x y : ℕ → ℕ → ℤ) → SameWithin r w x y → SameWithin r w y x
 SameWithin-sym r w x y s = record { at = λ i j hi hj. sym (s.at i j hi hj) }

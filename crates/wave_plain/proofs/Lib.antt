@@ -4,3 +4,4 @@ mod ForwardLemmas
 mod JoinLemmas
 mod InverseLemmas
 pub mod RoundTripLaws
+pub mod BlockRowLaws

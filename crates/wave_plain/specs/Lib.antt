@@ -1,4 +1,4 @@
 pub mod Shown
 pub mod ShownSamples
-pub mod Alternate
+pub mod BlockRows
 pub mod Laws

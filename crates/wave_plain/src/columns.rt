@@ -4,7 +4,7 @@ ghost use Rattle.std.specs.Prelude.{◌≡◌, ℕ, ◌+◌, ◌*◌, ◌-◌, �
 ghost use Rattle.wave_defs.specs.Level.{columns_low, columns_high, columns_merged};
 ghost use Rattle.wave_defs.specs.Within.{AllWithin, EachWithin};
 ghost use Rattle.wave_defs.specs.Held.{Agrees, SameWithin, signal, grid};
-ghost use Rattle.wave_plain.specs.Alternate.{even_rows, odd_rows};
+ghost use Rattle.wave_defs.specs.Rings.{even_rows, odd_rows};
 ghost use Rattle.wave_defs.specs.Lifted.{less_predicted, less_correction, plus_predicted, plus_correction, columns_even, columns_odd};
 
 use lift_rows::{

@@ -8,12 +8,14 @@ ghost use Rattle.wave_defs.specs.Within.{EachWithin, PyramidWithin};
 ghost use Rattle.wave_plain.specs.Laws.{RoundTrips};
 ghost use Rattle.wave_plain.specs.Shown.{image_of, band_in, pyramid_in, HasSize, IsWhole, Shows, ShowsBands};
 
+mod block_row;
 mod columns;
 mod join;
 mod level;
 mod rows;
 mod samples;
 
+pub use block_row::BlockRow;
 use join::join;
 use samples::Samples;
 use std::alloc::{AllocError, Global};
@@ -123,6 +125,3 @@ pub fn inverse3(alloc: Global, bands: &Bands) -> Result<Plane, AllocError>
 pub const fn round_trips()
     ensures { RoundTrips }
 {}
-
-#[cfg(test)]
-mod tests;

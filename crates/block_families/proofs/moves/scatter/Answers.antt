@@ -45,6 +45,7 @@ loop-position-preserved g c =
     record {
       columns = c.set.ensures.columns ∙ c.loop-position.invariant.columns;
       stands = c.set.ensures.stands ∙ c.loop-position.invariant.stands;
+      keeps = g.met.B.BandSink.keeps_on _ _ _ c.loop-position.invariant.keeps c.set.ensures.keeps;
       block = block_more (g.B.BandSink.number c.loop-position.bands) (g.B.BandSink.number c.set.new.self) c.args.weights.now.shifts c.args.column i
           c.unweighted-number.result c.args.from.now c.requires.parts c.loop-position-test.true part c.loop-position.invariant.block here others;
       others = λ q apart. others q (apart i c.loop-position-test.true) ∙ c.loop-position.invariant.others q apart;

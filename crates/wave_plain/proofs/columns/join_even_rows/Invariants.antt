@@ -1,6 +1,6 @@
 use Rattle.wave_defs.specs.Lifted.{columns_even}
 use Rattle.wave_defs.specs.Held.{grid, SameWithin}
-use Rattle.wave_plain.specs.Alternate.{even_rows}
+use Rattle.wave_defs.specs.Rings.{even_rows}
 use Rattle.wave_plain.proofs.columns.join_even_rows.Given as goal
 
 abbrev pub invariant-loop-i : goal.invariant-loop-i

@@ -1,0 +1,3 @@
+mod LaneSteps
+mod Loads
+mod Steps

@@ -1,0 +1,14 @@
+//! The lifting steps at each place of slices of one length, on lanes. Nothing is refused: the sums
+//! fit by the bounds that the caller keeps.
+#![tactic(auto)]
+
+mod lanes;
+mod narrow;
+mod samples;
+mod wide;
+mod wide_samples;
+
+pub use narrow::{predict_sub, update_sub};
+pub use samples::{high_sample, low_sample};
+pub use wide::{predict_add, update_add};
+pub use wide_samples::{even_sample, odd_sample};

@@ -1,0 +1,67 @@
+//! The kernels forward, in i32.
+
+ghost use Rattle.std.specs.Prelude.{◌≡◌, ℕ, ◌^◌, length};
+ghost use Rattle.wave_defs.specs.Within.{AllWithin};
+ghost use Rattle.wave_defs.specs.Held.{Agrees, signal};
+ghost use Rattle.wave_defs.specs.Lifted.{less_predicted, less_correction};
+
+use crate::lanes::{high_lanes, low_lanes};
+use crate::samples::{high_sample, low_sample};
+use std::simd::prelude::*;
+
+/// Takes from each odd sample what the even ones round it predict (docs/formats.md, "A line").
+pub fn predict_sub(odd: &mut [i32], a: &[i32], b: &[i32], c: &[i32], d: &[i32])
+    requires long_a { length a.now ≡ length odd.old }
+    requires long_b { length b.now ≡ length odd.old }
+    requires long_c { length c.now ≡ length odd.old }
+    requires long_d { length d.now ≡ length odd.old }
+    requires bounded { AllWithin (2 ^ 26) (length odd.old) (signal odd.old) }
+    requires bounded_a { AllWithin (2 ^ 26) (length odd.old) (signal a.now) }
+    requires bounded_b { AllWithin (2 ^ 26) (length odd.old) (signal b.now) }
+    requires bounded_c { AllWithin (2 ^ 26) (length odd.old) (signal c.now) }
+    requires bounded_d { AllWithin (2 ^ 26) (length odd.old) (signal d.now) }
+    ensures { Agrees (length odd.old) (signal odd.new)
+        (less_predicted (signal odd.old) (signal a.now) (signal b.now) (signal c.now) (signal d.now)) }
+{
+    let whole = odd.len() / 8;
+    'lanes: for k in 0..whole {
+        let i = 8 * k;
+        let lanes = high_lanes(
+            i32x8::from_slice(&odd[i..]),
+            i32x8::from_slice(&a[i..]),
+            i32x8::from_slice(&b[i..]),
+            i32x8::from_slice(&c[i..]),
+            i32x8::from_slice(&d[i..]),
+        );
+        lanes.copy_to_slice(&mut odd[i..]);
+    }
+    'rest: for j in 8 * whole..odd.len() {
+        odd[j] = high_sample(odd[j], a[j], b[j], c[j], d[j]);
+    }
+}
+
+/// Takes from each even sample the correction of the high ones on both sides (docs/formats.md,
+/// "A line").
+pub fn update_sub(even: &mut [i32], before: &[i32], after: &[i32])
+    requires long_before { length before.now ≡ length even.old }
+    requires long_after { length after.now ≡ length even.old }
+    requires bounded { AllWithin (2 ^ 26) (length even.old) (signal even.old) }
+    requires bounded_before { AllWithin (2 ^ 26) (length even.old) (signal before.now) }
+    requires bounded_after { AllWithin (2 ^ 26) (length even.old) (signal after.now) }
+    ensures { Agrees (length even.old) (signal even.new)
+        (less_correction (signal even.old) (signal before.now) (signal after.now)) }
+{
+    let whole = even.len() / 8;
+    'lanes: for k in 0..whole {
+        let i = 8 * k;
+        let lanes = low_lanes(
+            i32x8::from_slice(&even[i..]),
+            i32x8::from_slice(&before[i..]),
+            i32x8::from_slice(&after[i..]),
+        );
+        lanes.copy_to_slice(&mut even[i..]);
+    }
+    'rest: for j in 8 * whole..even.len() {
+        even[j] = low_sample(even[j], before[j], after[j]);
+    }
+}

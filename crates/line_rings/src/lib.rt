@@ -1,0 +1,110 @@
+//! Rings of rows of one width.
+#![tactic(auto)]
+
+ghost use Rattle.std.specs.Prelude.{◌≡◌, ℕ, ◌+◌, ◌<◌, ◌≤◌, length, List, [], ◌∷◌, ◌++◌, map, drop, slice_index_or, vec_len, IfOk, replicate};
+
+use circular_buffer::HeapCircularBuffer;
+use std::alloc::{AllocError, Global};
+use std::marker::Model;
+
+/// As many rows as it was made for, from the oldest to the newest.
+#[derive(Drop)]
+pub struct RowRing<T: Copy> {
+    rows: HeapCircularBuffer<Vec<T>>,
+}
+
+impl<T: Copy> Model for RowRing<T> {
+    ghost use Rattle.std.specs.Prelude.{◌≡◌, ℕ, ◌<◌, length, List, map};
+
+    ghost Value = { List (List T) };
+
+    ghost view = { λ s. map (λ v. v.items) s.rows.items };
+
+    ghost invariant = { λ s. (length s.rows.items ≡ s.rows.capacity) × (0 < s.rows.capacity) };
+}
+
+// A row of places that all hold `zero`.
+fn row_of<T: Copy>(alloc: Global, width: usize, zero: T) -> Result<Vec<T>, AllocError>
+    ensures { IfOk result (λ v. v.items ≡ replicate width zero) }
+{
+    let mut row = Vec::with_capacity(alloc, width)?;
+    for _ in 0..width {
+        row.push(zero)?;
+    }
+    Ok(row)
+}
+
+impl<T: Copy> RowRing<T> {
+    /// Rows of `width` places that all hold `zero`. There is at least one row. The one error is
+    /// want of memory.
+    pub fn new(alloc: Global, rows: usize, width: usize, zero: T) -> Result<RowRing<T>, AllocError>
+        requires { 1 ≤ rows }
+        ensures { IfOk result (λ r. r ≡ replicate rows (replicate width zero)) }
+    {
+        let mut ring = HeapCircularBuffer::with_capacity(alloc, rows)?;
+        for _ in 0..rows {
+            let row = row_of(alloc, width, zero)?;
+            ring.push_back(row);
+        }
+        Ok(RowRing { rows: ring })
+    }
+
+    /// The row becomes the newest, and the oldest is handed back. The row has the width of the
+    /// others.
+    pub fn turn(&mut self, row: Vec<T>) -> Vec<T>
+        requires { vec_len row ≡ length (slice_index_or self.old 0 []) }
+        ensures rows { self.new ≡ drop 1 self.old ++ row.items ∷ [] }
+        ensures oldest { result.items ≡ slice_index_or self.old 0 [] }
+    {
+        match self.rows.push_back(row) {
+            Some(oldest) => oldest,
+            None => unreachable!(),
+        }
+    }
+
+    /// A copy of the row becomes the newest, in the place of the oldest. The row has the width of
+    /// the others.
+    pub fn turn_copy(&mut self, row: &[T])
+        requires { length row.now ≡ length (slice_index_or self.old 0 []) }
+        ensures { self.new ≡ drop 1 self.old ++ row.now ∷ [] }
+    {
+        match self.rows.pop_front() {
+            Some(mut oldest) => {
+                oldest.copy_from_slice(row);
+                self.rows.push_back(oldest);
+            }
+            None => unreachable!(),
+        }
+    }
+
+    /// A row, counted from the oldest.
+    pub fn at(&self, i: usize) -> &[T]
+        requires { i < length self.now }
+        ensures { result.now ≡ slice_index_or self.now i [] }
+    {
+        match self.rows.get(i) {
+            Some(row) => row,
+            None => unreachable!(),
+        }
+    }
+}
+
+#[cfg(test)]
+mod tests {
+    use super::*;
+    use std::test::Fail;
+
+    #[test]
+    fn the_oldest_row_is_handed_back(rt: HostRuntime) -> Result<(), Fail> {
+        let alloc = rt.alloc();
+        let mut ring = RowRing::new(alloc, 2, 3, 0)?;
+        let oldest = ring.turn(vec![in alloc; 1, 2, 3]?);
+        assert_eq!(rt; oldest.as_slice(), [0, 0, 0].as_slice());
+        let oldest = ring.turn(vec![in alloc; 4, 5, 6]?);
+        assert_eq!(rt; oldest.as_slice(), [0, 0, 0].as_slice());
+        let oldest = ring.turn(vec![in alloc; 7, 8, 9]?);
+        assert_eq!(rt; oldest.as_slice(), [1, 2, 3].as_slice());
+        assert_eq!(rt; ring.at(0), [4, 5, 6].as_slice());
+        Ok(())
+    }
+}
