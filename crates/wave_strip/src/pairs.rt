@@ -1,0 +1,55 @@
+//! The high and the low row of a pair of rows, from rings of the rows round it.
+
+ghost use Rattle.std.specs.Prelude.{◌≡◌, ℕ, ◌+◌, ◌*◌, ◌-◌, ◌^◌, ◌<◌, ◌≤◌, ℤ, length};
+ghost use Rattle.wave_defs.specs.Within.{AllWithin};
+ghost use Rattle.wave_defs.specs.Held.{Agrees, signal};
+ghost use Rattle.wave_defs.specs.Rolling.{open_high, open_low};
+ghost use Rattle.wave_defs.specs.Rings.{AreRows, RowsWithin, AreNewest, even_rows, odd_rows};
+
+use lift_rows::{predict_sub, update_sub};
+use line_rings::RowRing;
+
+/// High row j, once even row j + 2 and odd row j + 1 are the newest (docs/formats.md, "A line").
+/// Before the first even row the second serves.
+pub fn high_row(evens: &RowRing<i32>, odds: &RowRing<i32>, j: usize, into: &mut [i32])
+    requires evens { AreRows 4 (length into.old) evens.now }
+    requires odds { AreRows 2 (length into.old) odds.now }
+    requires small_evens { RowsWithin (2 ^ 24) (length into.old) evens.now }
+    requires small_odds { RowsWithin (2 ^ 24) (length into.old) odds.now }
+    ensures value { (a : ℕ → ℕ → ℤ) → AreNewest (even_rows a) (length into.old) (j + 3) evens.now
+        → AreNewest (odd_rows a) (length into.old) (j + 2) odds.now
+        → Agrees (length into.old) (signal into.new) (open_high a j) }
+    ensures small { (m : ℕ) → 2 ≤ m → RowsWithin (2 * m) (length into.old) evens.now
+        → RowsWithin (2 * m) (length into.old) odds.now
+        → AllWithin (5 * m) (length into.old) (signal into.new) }
+{
+    into.copy_from_slice(odds.at(0));
+    let before = if j == 0 { 2 } else { 0 };
+    predict_sub(
+        into,
+        evens.at(before),
+        evens.at(1),
+        evens.at(2),
+        evens.at(3),
+    );
+}
+
+/// Low row j, once high row j is the newest of `kept` (docs/formats.md, "A line"). Before the first
+/// high row that one itself serves.
+pub fn low_row(evens: &RowRing<i32>, highs: &RowRing<i32>, kept: usize, j: usize, into: &mut [i32])
+    requires evens { AreRows 4 (length into.old) evens.now }
+    requires highs { AreRows kept (length into.old) highs.now }
+    requires two { 2 ≤ kept }
+    requires small_evens { RowsWithin (2 ^ 24) (length into.old) evens.now }
+    requires small_highs { RowsWithin (2 ^ 26) (length into.old) highs.now }
+    ensures value { (a : ℕ → ℕ → ℤ) → AreNewest (even_rows a) (length into.old) (j + 3) evens.now
+        → AreNewest (open_high a) (length into.old) (j + 1) highs.now
+        → Agrees (length into.old) (signal into.new) (open_low a j) }
+    ensures small { (m : ℕ) → 2 ≤ m → RowsWithin (2 * m) (length into.old) evens.now
+        → RowsWithin (5 * m) (length into.old) highs.now
+        → AllWithin (5 * m) (length into.old) (signal into.new) }
+{
+    into.copy_from_slice(evens.at(1));
+    let before = if j == 0 { kept - 1 } else { kept - 2 };
+    update_sub(into, highs.at(before), highs.at(kept - 1));
+}

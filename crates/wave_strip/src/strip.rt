@@ -1,0 +1,184 @@
+//! The forward transform of an image, row by row.
+
+ghost use Rattle.std.specs.Prelude.{◌≡◌, ℕ, ◌+◌, ◌*◌, ◌-◌, ◌/◌, ◌%◌, ◌^◌, ◌<◌, ◌≤◌, ℤ, length, IfOk, MatchOption, ◌≢◌};
+ghost use Rattle.wave_strip.specs.Counts.{AreCounts, settled};
+ghost use Rattle.wave_strip.specs.Sizes.{AreLevels};
+
+use crate::chain::hand_down;
+use crate::level::Level;
+use crate::tail::end_levels;
+use base_122::Band;
+use block_families::{BandSource, Place};
+use std::alloc::{AllocError, Global};
+
+/// The transform of an image of which some rows were taken. Its block rows come as soon as their last
+/// row did, and the last three at the end.
+#[derive(Drop)]
+pub struct StripWave {
+    rows: u32,
+    ended: bool,
+    answered: u32,
+    standing: bool,
+    first: Level,
+    second: Level,
+    third: Level,
+    ghost levels: { AreLevels first second third },
+    ghost counts: { AreCounts rows answered ended standing first.columns.taken second.columns.taken third.columns.taken },
+}
+
+/// How many block rows come of so many rows.
+fn settled_in(rows: u32) -> u32
+    ensures { result ≡ settled rows }
+{
+    rows.saturating_sub(21) / 8
+}
+
+impl StripWave {
+    ghost use Rattle.wave_strip.specs.Counts.{AreReached};
+    ghost use Rattle.wave_strip.specs.Samples.{samples_of};
+    ghost use Rattle.std.specs.Prelude.{◌≡◌, ℕ, ◌+◌, ◌*◌, ◌-◌, ◌/◌, ◌%◌, ◌^◌, ◌<◌, ◌≤◌, ◌≢◌, ℤ, length, IsTrue, IfOk, MatchOption, true, false};
+    ghost use Rattle.wave_defs.specs.Within.{AllWithin};
+    ghost use Rattle.wave_defs.specs.Held.{Agrees, signal};
+    ghost use Rattle.wave_strip.specs.Strip.{rows_of, answered_of, columns_of, has_ended, is_standing, Follows, IsAtStart, ShowsBlockRow};
+
+    /// The transform of images of rows of so many samples, at the start of an image. The width is a
+    /// multiple of 8 from 24 to 2^20. The one error is want of memory.
+    pub fn new(alloc: Global, width: u32) -> Result<StripWave, AllocError>
+        requires whole { width % 8 ≡ 0 }
+        requires long { 24 ≤ width }
+        requires most { width ≤ 2 ^ 20 }
+        ensures columns { IfOk result (λ s. columns_of s ≡ width / 8) }
+        ensures start { IfOk result IsAtStart }
+    {
+        let blocks = (width / 8) as usize;
+        let first = Level::new(alloc, 4 * blocks, 13)?;
+        let second = Level::new(alloc, 2 * blocks, 6)?;
+        let third = Level::new(alloc, blocks, 3)?;
+        Ok(StripWave {
+            rows: 0,
+            ended: false,
+            answered: 0,
+            standing: false,
+            first,
+            second,
+            third,
+        })
+    }
+
+    /// How many samples it holds.
+    pub fn samples(&self) -> u64
+        ensures value { result ≡ samples_of self.now }
+        ensures most { result + 64 ≤ 62 * (8 * columns_of self.now) }
+    {
+        self.first.samples() + self.second.samples() + self.third.samples()
+    }
+
+    /// Puts it at the start of an image.
+    pub fn reset(&mut self)
+        ensures columns { columns_of self.new ≡ columns_of self.old }
+        ensures start { IsAtStart self.new }
+    {
+        self.first.reset();
+        self.second.reset();
+        self.third.reset();
+        self.rows = 0;
+        self.ended = false;
+        self.answered = 0;
+        self.standing = false;
+    }
+
+    // The block row that stands.
+    fn block(&self) -> usize
+        requires { is_standing self.now ≡ true }
+        ensures value { result ≡ answered_of self.now - 1 }
+        ensures reached { AreReached (answered_of self.now) self.now.first.columns.taken self.now.second.columns.taken self.now.third.columns.taken }
+        ensures few { (self.now.first.columns.taken < 2 ^ 32) × (self.now.second.columns.taken < 2 ^ 32) × (self.now.third.columns.taken < 2 ^ 32) }
+    {
+        self.answered as usize - 1
+    }
+
+    /// Takes the next row, and answers the block row that comes with it.
+    pub fn push_row(&mut self, row: &[i32]) -> Option<u32>
+        requires wide { length row.now ≡ 8 * columns_of self.old }
+        requires bounded { AllWithin (2 ^ 16) (8 * columns_of self.old) (signal row.now) }
+        requires few { rows_of self.old < 262144 }
+        requires running { has_ended self.old ≡ false }
+        ensures columns { columns_of self.new ≡ columns_of self.old }
+        ensures rows { rows_of self.new ≡ rows_of self.old + 1 }
+        ensures running { has_ended self.new ≡ false }
+        ensures answer { MatchOption result ((r : ℕ) → rows_of self.new ≢ 8 * r + 29) (λ r. rows_of self.new ≡ 8 * r + 29) }
+        ensures answered { answered_of self.new ≡ settled (rows_of self.new) }
+        ensures standing { MatchOption result (is_standing self.new ≡ false) (λ r. (is_standing self.new ≡ true) × (answered_of self.new ≡ r + 1)) }
+        ensures follows { (image : ℕ → ℕ → ℤ) (r : ℕ) → 3 ≤ r → rows_of self.old < 8 * r → Follows image r self.old
+            → Agrees (8 * columns_of self.old) (signal row.now) (image (rows_of self.old)) → Follows image r self.new }
+        ensures shows { (image : ℕ → ℕ → ℤ) (r : ℕ) → is_standing self.new ≡ true → 3 ≤ r → rows_of self.new ≤ 8 * r
+            → Follows image r self.new → ShowsBlockRow image r self.new }
+    {
+        self.first.take(row);
+        hand_down(&self.first, &mut self.second, &mut self.third);
+        self.rows += 1;
+        let now = settled_in(self.rows);
+        self.standing = self.answered < now;
+        if !self.standing {
+            return None;
+        }
+        self.answered = now;
+        Some(now - 1)
+    }
+
+    /// Answers the next block row, where the image has as many rows as were taken.
+    pub fn finish_row(&mut self) -> Option<u32>
+        requires whole { rows_of self.old % 8 ≡ 0 }
+        requires long { 24 ≤ rows_of self.old }
+        ensures columns { columns_of self.new ≡ columns_of self.old }
+        ensures rows { rows_of self.new ≡ rows_of self.old }
+        ensures ended { has_ended self.new ≡ true }
+        ensures answer { MatchOption result (rows_of self.old / 8 ≤ answered_of self.old)
+            (λ r. (r ≡ answered_of self.old) × (r < rows_of self.old / 8)) }
+        ensures standing { MatchOption result ((is_standing self.new ≡ false) × (answered_of self.new ≡ answered_of self.old))
+            (λ r. (is_standing self.new ≡ true) × (answered_of self.new ≡ r + 1)) }
+        ensures follows { (image : ℕ → ℕ → ℤ) (r : ℕ) → rows_of self.old ≡ 8 * r → Follows image r self.old
+            → Follows image r self.new }
+        ensures shows { (image : ℕ → ℕ → ℤ) (r : ℕ) → is_standing self.new ≡ true → rows_of self.new ≡ 8 * r
+            → Follows image r self.new → ShowsBlockRow image r self.new }
+    {
+        if !self.ended {
+            end_levels(&mut self.first, &mut self.second, &mut self.third);
+            self.ended = true;
+        }
+        self.standing = self.answered < self.rows / 8;
+        if !self.standing {
+            return None;
+        }
+        self.answered += 1;
+        Some(self.answered - 1)
+    }
+}
+
+impl BandSource for StripWave {
+    ghost use Rattle.wave_strip.specs.Strip.{columns_of, is_standing, number_in};
+
+    ghost columns = { λ s. columns_of s };
+
+    ghost stands = { λ s. is_standing s };
+
+    ghost number = { λ s p. number_in s p };
+
+    fn value(&self, place: Place) -> i32 {
+        let block = self.block();
+        let (row, column) = (place.row as usize, place.column as usize);
+        let (first, second, third) = (&self.first, &self.second, &self.third);
+        match place.band {
+            Band::Hh1 => first.columns.high(4 * block + row, first.half + column),
+            Band::Hl1 => first.columns.low(4 * block + row, first.half + column),
+            Band::Lh1 => first.columns.high(4 * block + row, column),
+            Band::Hh2 => second.columns.high(2 * block + row, second.half + column),
+            Band::Hl2 => second.columns.low(2 * block + row, second.half + column),
+            Band::Lh2 => second.columns.high(2 * block + row, column),
+            Band::Hh3 => third.columns.high(block, third.half + column),
+            Band::Hl3 => third.columns.low(block, third.half + column),
+            Band::Lh3 => third.columns.high(block, column),
+            Band::Ll3 => third.columns.low(block, column),
+        }
+    }
+}
