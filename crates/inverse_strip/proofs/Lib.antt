@@ -1,0 +1,8 @@
+pub mod RowLemmas
+pub mod RingLemmas
+pub mod LevelLemmas
+pub mod StageLemmas
+pub mod CellLemmas
+pub mod StripLemmas
+pub mod SampleLemmas
+pub mod NextLemmas

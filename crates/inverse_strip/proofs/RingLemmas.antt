@@ -1,0 +1,58 @@
+-- The rings of a level's columns that take a pair, and the row that they give.
+use Rattle.std.proofs.Common.{◌≡◌, ℕ, ◌+◌, ◌*◌, ◌/◌, ℤ, List, [], ◌∷◌, ◌++◌, length, take, drop, ap, ◌∙◌, sym, arith}
+use Rattle.std.proofs.lemmas.List.{take-append-le, take_all}
+use Rattle.wave_defs.specs.Line.{odd_of}
+use Rattle.wave_defs.specs.Lifted.{columns_even, columns_odd}
+use Rattle.wave_defs.specs.Level.{columns_merged}
+use Rattle.wave_defs.specs.Within.{AllWithin}
+use Rattle.wave_defs.specs.Held.{Agrees, signal}
+use Rattle.wave_defs.proofs.LineLaws.{even_of-merged, odd_of-merged}
+use Rattle.wave_defs.proofs.RingLaws.{AreRows-turn, RowsWithin-turn, AreNewest-turn}
+use Rattle.inverse_strip.specs.Kept.{AreRings, HoldPairs, AreSmall, half_more}
+
+-- what a `Vec` holds after its whole slice was lent and came back as out
+pub written_whole : (n : ℕ) (out old : List ℤ) → length out ≡ n → length old ≡ n → take n (out ++ drop (length out) old) ≡ out
+written_whole n out old lo ln =
+    take-append-le n out (drop (length out) old) (omega arith) ∙ take_all n out (omega arith)
+
+module _ (w : ℕ) (evens highs : List (List ℤ)) (row high : List ℤ) (s : AreRings w evens highs) (lr : length row ≡ w) (lh : length high ≡ w) where
+  pub AreRings-turn : AreRings w (drop 1 evens ++ row ∷ []) (drop 1 highs ++ high ∷ [])
+  AreRings-turn = record {
+    evens = AreRows-turn 4 w evens row (omega arith) s.evens lr;
+    highs = AreRows-turn 3 w highs high (omega arith) s.highs lh;
+  }
+
+  pub HoldPairs-turn : (c d : ℕ → ℕ → ℤ) (n : ℕ) → HoldPairs c d w n evens highs → Agrees w (signal row) (columns_even c d n) → Agrees w (signal high) (d n) → HoldPairs c d w (n + 1) (drop 1 evens ++ row ∷ []) (drop 1 highs ++ high ∷ [])
+  HoldPairs-turn c d n hold even odd =
+      let four = s.evens.count_is in
+      let three = s.highs.count_is in
+      record {
+        evens = AreNewest-turn (columns_even c d) w n evens row (omega arith) hold.evens even;
+        highs = AreNewest-turn d w n highs high (omega arith) hold.highs odd;
+      }
+
+  pub AreSmall-turn : (m : ℕ) → AreSmall m w evens highs → AllWithin (half_more m) w (signal row) → AllWithin m w (signal high) → AreSmall m w (drop 1 evens ++ row ∷ []) (drop 1 highs ++ high ∷ [])
+  AreSmall-turn m small even odd =
+      let four = s.evens.count_is in
+      let three = s.highs.count_is in
+      record {
+        evens = RowsWithin-turn (half_more m) w evens row (omega arith) small.evens even;
+        highs = RowsWithin-turn m w highs high (omega arith) small.highs odd;
+      }
+
+-- the even and the odd rows of the columns
+pub columns_merged-even : (c d : ℕ → ℕ → ℤ) (n i w : ℕ) (y : ℕ → ℤ) → i ≡ 2 * (i / 2) → Agrees w y (columns_even c d (i / 2)) → Agrees w y (columns_merged c d n i)
+unfolding columns_merged columns_even
+columns_merged-even c d n i w y e a = record {
+  at = λ j h. a.at j h ∙ sym (even_of-merged (λ r. c r j) (λ r. d r j) n (i / 2)) ∙ ap (λ (k : ℕ). columns_merged c d n k j) (sym e);
+}
+
+odd_of-row : (c d : ℕ → ℕ → ℤ) (n k j : ℕ) → columns_merged c d n (2 * k + 1) j ≡ columns_odd (columns_even c d) d n k j
+unfolding columns_merged columns_odd columns_even odd_of
+odd_of-row c d n k j = odd_of-merged (λ r. c r j) (λ r. d r j) n k
+
+pub columns_merged-odd : (c d : ℕ → ℕ → ℤ) (n i w : ℕ) (y : ℕ → ℤ) → i ≡ 2 * (i / 2) + 1 → Agrees w y (columns_odd (columns_even c d) d n (i / 2)) → Agrees w y (columns_merged c d n i)
+unfolding columns_merged columns_odd columns_even
+columns_merged-odd c d n i w y e a = record {
+  at = λ j h. a.at j h ∙ sym (odd_of-row c d n (i / 2) j) ∙ ap (λ (k : ℕ). columns_merged c d n k j) (sym e);
+}

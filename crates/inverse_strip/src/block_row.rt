@@ -1,0 +1,114 @@
+//! The numbers of one block row.
+
+ghost use Rattle.std.specs.Prelude.{◌≡◌, ℕ, ◌+◌, ◌*◌, ◌^◌, ◌<◌, ◌≤◌, ℤ, length, vec_len};
+ghost use Rattle.wave_defs.specs.Blocks.{block_side};
+ghost use Rattle.wave_defs.specs.Within.{AllWithin};
+ghost use Rattle.wave_defs.specs.Held.{signal};
+ghost use Rattle.inverse_strip.specs.Cells.{first_cell, first_of_row};
+
+use std::alloc::{AllocError, Global};
+
+/// The numbers of a block row of so many blocks, band after band.
+#[derive(Drop)]
+pub struct BlockRow {
+    pub columns: usize,
+    pub cells: Vec<i64>,
+    ghost few: { columns ≤ 2 ^ 17 },
+    ghost whole: { vec_len cells ≡ 64 * columns },
+    ghost small: { AllWithin (2 ^ 27) (64 * columns) (signal cells.items) },
+}
+
+/// The rows, and the columns, that a band has in one block.
+pub fn side_of(band: usize) -> usize
+    ensures { result ≡ block_side band }
+{
+    if band < 3 {
+        return 4;
+    }
+    if band < 6 {
+        return 2;
+    }
+    1
+}
+
+/// The numbers of a block before those of a band.
+fn numbers_before(band: usize) -> usize
+    requires { band < 10 }
+    ensures { result ≡ first_cell band }
+{
+    if band < 3 {
+        return 16 * band;
+    }
+    if band < 6 {
+        return 36 + 4 * band;
+    }
+    54 + band
+}
+
+impl BlockRow {
+    ghost use Rattle.std.specs.Prelude.{◌≡◌, ℕ, ◌+◌, ◌*◌, ◌-◌, ◌^◌, ◌<◌, ◌≤◌, ℤ, pos, length, vec_len, IfOk, slice_set};
+    ghost use Rattle.wave_defs.specs.Blocks.{Place, block_side};
+    ghost use Rattle.wave_defs.specs.Within.{AllWithin, IsWithin};
+    ghost use Rattle.wave_defs.specs.Held.{signal};
+    ghost use Rattle.inverse_strip.specs.Cells.{first_of_row, number_in};
+
+    /// All numbers are 0.
+    pub fn new(alloc: Global, columns: usize) -> Result<BlockRow, AllocError>
+        requires { columns ≤ 2 ^ 17 }
+        ensures columns { IfOk result (λ s. s.columns ≡ columns) }
+        ensures zero { IfOk result (λ s. (p : Place) → number_in s.columns s.cells.items p ≡ pos 0) }
+    {
+        let cells = vec![in alloc; 0; 64 * columns]?;
+        Ok(BlockRow { columns, cells })
+    }
+
+    /// Where a row of a band begins.
+    fn start_of(&self, band: usize, row: usize) -> usize
+        requires band { band < 10 }
+        requires row { row < block_side band }
+        ensures start { result ≡ first_of_row band row * self.now.columns }
+        ensures fits { result + block_side band * self.now.columns ≤ 64 * self.now.columns }
+    {
+        (numbers_before(band) + side_of(band) * row) * self.columns
+    }
+
+    /// A row of a band.
+    pub fn row(&self, band: usize, row: usize) -> &[i64]
+        requires band { band < 10 }
+        requires row { row < block_side band }
+        ensures wide { length result.now ≡ block_side band * self.now.columns }
+        ensures value { (j : ℕ) → j < block_side band * self.now.columns → signal result.now j
+            ≡ number_in self.now.columns self.now.cells.items
+            (record { band = band; row = row; column = j }) }
+        ensures small { AllWithin (2 ^ 27) (block_side band * self.now.columns) (signal result.now) }
+    {
+        let start = self.start_of(band, row);
+        let width = side_of(band) * self.columns;
+        &self.cells[start..start + width]
+    }
+
+    /// Makes a value the number at a place.
+    pub fn set(&mut self, band: usize, row: usize, column: usize, value: i64)
+        requires band { band < 10 }
+        requires row { row < block_side band }
+        requires column { column < block_side band * self.old.columns }
+        requires small { IsWithin (2 ^ 27) value }
+        ensures columns { self.new.columns ≡ self.old.columns }
+        ensures value { number_in self.new.columns self.new.cells.items
+            (record { band = band; row = row; column = column }) ≡ value }
+        ensures others { (p : Place) → (p ≡ record { band = band; row = row; column = column } → ⊥)
+            → number_in self.new.columns self.new.cells.items p
+            ≡ number_in self.old.columns self.old.cells.items p }
+    {
+        let start = self.start_of(band, row);
+        self.cells[start + column] = value;
+    }
+
+    /// Makes all numbers 0.
+    pub fn clear(&mut self)
+        ensures columns { self.new.columns ≡ self.old.columns }
+        ensures zero { (p : Place) → number_in self.new.columns self.new.cells.items p ≡ pos 0 }
+    {
+        self.cells.fill(0);
+    }
+}

@@ -1,0 +1,177 @@
+//! A level whose low band comes from the level before it, and whose other bands wait until then.
+
+ghost use Rattle.std.specs.Prelude.{◌≡◌, ℕ, ◌+◌, ◌*◌, ◌-◌, ◌/◌, ◌^◌, ◌<◌, ◌≤◌, ℤ, length, vec_len};
+ghost use Rattle.wave_defs.specs.Rings.{AreRows, RowsWithin};
+
+use crate::block_row::BlockRow;
+use crate::level::Level;
+use line_rings::RowRing;
+use std::alloc::{AllocError, Global};
+
+/// A level, the newest rows of its three high bands, of which so many came, and room for a row of
+/// the low band.
+#[derive(Drop)]
+pub struct Stage {
+    pub level: Level,
+    pub low: Vec<i64>,
+    pub kept: usize,
+    pub came: usize,
+    pub hl: RowRing<i64>,
+    pub lh: RowRing<i64>,
+    pub hh: RowRing<i64>,
+    ghost low_room: { vec_len low ≡ level.left.width },
+    ghost some: { 1 ≤ kept },
+    ghost hl_stands: { AreRows kept level.left.width hl },
+    ghost lh_stands: { AreRows kept level.left.width lh },
+    ghost hh_stands: { AreRows kept level.left.width hh },
+    ghost hl_small: { RowsWithin (2 ^ 27) level.left.width hl },
+    ghost lh_small: { RowsWithin (2 ^ 27) level.left.width lh },
+    ghost hh_small: { RowsWithin (2 ^ 27) level.left.width hh },
+    ghost waits: { came ≤ level.left.taken + kept },
+}
+
+impl Stage {
+    ghost use Rattle.std.specs.Prelude.{◌≡◌, ◌≢◌, ℕ, ◌+◌, ◌*◌, ◌-◌, ◌/◌, ◌^◌, ◌<◌, ◌≤◌, ℤ, length, vec_len, IfOk};
+    ghost use Rattle.wave_defs.specs.Level.{Quarters, joined};
+    ghost use Rattle.wave_defs.specs.Within.{AllWithin};
+    ghost use Rattle.wave_defs.specs.Held.{Agrees, signal};
+    ghost use Rattle.inverse_strip.specs.Kept.{HasRow, IsDrained};
+    ghost use Rattle.inverse_strip.specs.Level.{FollowLevel, IsSmallLevel};
+    ghost use Rattle.inverse_strip.specs.Stage.{FollowStage};
+    ghost use Rattle.wave_defs.specs.Blocks.{block_side};
+    ghost use Rattle.inverse_strip.specs.Cells.{HasBlockRow};
+
+    /// No row came. The bands have rows of `width` samples, and `kept` rows of each high one may wait.
+    pub fn new(alloc: Global, width: usize, kept: usize) -> Result<Stage, AllocError>
+        requires wide { 3 ≤ width }
+        requires some { 1 ≤ kept }
+        ensures width { IfOk result (λ s. s.level.left.width ≡ width) }
+        ensures taken { IfOk result (λ s. s.level.left.taken ≡ 0) }
+        ensures given { IfOk result (λ s. s.level.given ≡ 0) }
+        ensures kept { IfOk result (λ s. s.kept ≡ kept) }
+        ensures came { IfOk result (λ s. s.came ≡ 0) }
+        ensures follows { IfOk result (λ s. (q : Quarters) → FollowStage q s) }
+        ensures small { IfOk result (λ s. (m : ℕ) → IsSmallLevel m s.level) }
+    {
+        let level = Level::new(alloc, width)?;
+        let low = vec![in alloc; 0; width]?;
+        let hl = RowRing::new(alloc, kept, width, 0)?;
+        let lh = RowRing::new(alloc, kept, width, 0)?;
+        let hh = RowRing::new(alloc, kept, width, 0)?;
+        Ok(Stage {
+            level,
+            low,
+            kept,
+            came: 0,
+            hl,
+            lh,
+            hh,
+        })
+    }
+
+    /// The next row of each high band comes. There is room for it.
+    pub fn come(&mut self, hl: &[i64], lh: &[i64], hh: &[i64])
+        requires wide_hl { length hl.now ≡ self.old.level.left.width }
+        requires wide_lh { length lh.now ≡ self.old.level.left.width }
+        requires wide_hh { length hh.now ≡ self.old.level.left.width }
+        requires room { self.old.came < self.old.level.left.taken + self.old.kept }
+        requires few { self.old.came < 2 ^ 32 }
+        requires small_hl { AllWithin (2 ^ 27) self.old.level.left.width (signal hl.now) }
+        requires small_lh { AllWithin (2 ^ 27) self.old.level.left.width (signal lh.now) }
+        requires small_hh { AllWithin (2 ^ 27) self.old.level.left.width (signal hh.now) }
+        ensures level { self.new.level ≡ self.old.level }
+        ensures kept { self.new.kept ≡ self.old.kept }
+        ensures came { self.new.came ≡ self.old.came + 1 }
+        ensures follows { (q : Quarters) → FollowStage q self.old
+            → Agrees self.old.level.left.width (signal hl.now) (q.hl self.old.came)
+            → Agrees self.old.level.left.width (signal lh.now) (q.lh self.old.came)
+            → Agrees self.old.level.left.width (signal hh.now) (q.hh self.old.came)
+            → FollowStage q self.new }
+    {
+        self.hl.turn_copy(hl);
+        self.lh.turn_copy(lh);
+        self.hh.turn_copy(hh);
+        self.came += 1;
+    }
+
+    /// The rows of its high bands come, as they stand in a block row. HH has the number `high`, and HL and LH have the next two.
+    pub fn come_rows(&mut self, bands: &BlockRow, high: usize, side: usize)
+        requires high { high < 8 }
+        requires side { block_side high ≡ side }
+        requires side_hl { block_side (high + 1) ≡ side }
+        requires side_lh { block_side (high + 2) ≡ side }
+        requires wide { self.old.level.left.width ≡ side * bands.now.columns }
+        requires room { self.old.came + side ≤ self.old.level.left.taken + self.old.kept }
+        requires few { self.old.came < 2 ^ 31 }
+        ensures level { self.new.level ≡ self.old.level }
+        ensures kept { self.new.kept ≡ self.old.kept }
+        ensures came { self.new.came ≡ self.old.came + side }
+        ensures follows { (q : Quarters) → FollowStage q self.old
+            → HasBlockRow q.hl (high + 1) self.old.came bands.now.columns bands.now.cells.items
+            → HasBlockRow q.lh (high + 2) self.old.came bands.now.columns bands.now.cells.items
+            → HasBlockRow q.hh high self.old.came bands.now.columns bands.now.cells.items
+            → FollowStage q self.new }
+    {
+        for y in 0..side {
+            self.come(
+                bands.row(high + 1, y),
+                bands.row(high + 2, y),
+                bands.row(high, y),
+            );
+        }
+    }
+
+    /// Takes the next row from the level before, whose bands have `height` rows in all.
+    pub fn feed(&mut self, before: &mut Level, height: usize)
+        requires wide { self.old.level.left.width ≡ 2 * before.old.left.width }
+        requires few { before.old.left.taken < 2 ^ 32 }
+        requires few_here { self.old.level.left.taken < 2 ^ 32 - 1 }
+        requires row { HasRow before.old.left.taken before.old.given height }
+        requires next { before.old.given ≡ self.old.level.left.taken }
+        requires waits { self.old.level.left.taken < self.old.came }
+        requires few_came { self.old.came < 2 ^ 32 }
+        requires few_kept { self.old.kept < 2 ^ 32 }
+        requires drained { IsDrained self.old.level.left.taken self.old.level.given }
+        requires small { IsSmallLevel (2 ^ 32) before.old }
+        ensures width { self.new.level.left.width ≡ self.old.level.left.width }
+        ensures taken { self.new.level.left.taken ≡ self.old.level.left.taken + 1 }
+        ensures given { self.new.level.given ≡ self.old.level.given }
+        ensures came { self.new.came ≡ self.old.came }
+        ensures kept { self.new.kept ≡ self.old.kept }
+        ensures before_width { before.new.left.width ≡ before.old.left.width }
+        ensures before_taken { before.new.left.taken ≡ before.old.left.taken }
+        ensures before_given { before.new.given ≡ before.old.given + 1 }
+        ensures before_follows { (q : Quarters) → FollowLevel q before.old → FollowLevel q before.new }
+        ensures before_small { (m : ℕ) → IsSmallLevel m before.old → IsSmallLevel m before.new }
+        ensures follows { (b q : Quarters) (n : ℕ) → FollowLevel b before.old
+            → before.old.left.taken ≤ n → (before.old.left.taken ≡ height → n ≡ height)
+            → q.ll ≡ joined b n before.old.left.width
+            → FollowStage q self.old → FollowStage q self.new }
+        ensures small { (m : ℕ) → 2 ^ 27 ≤ m → IsSmallLevel m before.old
+            → IsSmallLevel (9 * m) self.old.level → IsSmallLevel (9 * m) self.new.level }
+    {
+        before.next_row(height, &mut self.low);
+        let i = self.level.left.taken + self.kept - self.came;
+        self.level
+            .push(&self.low, self.hl.at(i), self.lh.at(i), self.hh.at(i));
+    }
+
+    /// Gives the level's next row, where the bands have `height` rows in all.
+    pub fn next_row(&mut self, height: usize, into: &mut [i64])
+        requires wide { length into.old ≡ 2 * self.old.level.left.width }
+        requires few { self.old.level.left.taken < 2 ^ 32 }
+        requires row { HasRow self.old.level.left.taken self.old.level.given height }
+        ensures width { self.new.level.left.width ≡ self.old.level.left.width }
+        ensures taken { self.new.level.left.taken ≡ self.old.level.left.taken }
+        ensures given { self.new.level.given ≡ self.old.level.given + 1 }
+        ensures came { self.new.came ≡ self.old.came }
+        ensures kept { self.new.kept ≡ self.old.kept }
+        ensures follows { (q : Quarters) → FollowStage q self.old → FollowStage q self.new }
+        ensures value { (q : Quarters) (n : ℕ) → FollowStage q self.old
+            → self.old.level.left.taken ≤ n → (self.old.level.left.taken ≡ height → n ≡ height)
+            → Agrees (2 * self.old.level.left.width) (signal into.new)
+            (joined q n self.old.level.left.width self.old.level.given) }
+    {
+        self.level.next_row(height, into);
+    }
+}
