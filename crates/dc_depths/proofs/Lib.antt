@@ -2,3 +2,4 @@ mod OneBit
 mod Planes
 mod DepthCells
 mod Parts
+mod TakenDepths

@@ -1,7 +1,7 @@
 // The DC part.
 ghost use Rattle.std.specs.Prelude.{◌≡◌, ◌≤◌, ◌<◌, ◌-◌, map, true};
 ghost use Rattle.item_defs.specs.Items.{text};
-ghost use Rattle.bit_pipe.specs.Standing.{stand, IsOpen, Puts};
+ghost use Rattle.bit_pipe.specs.Standing.{IsReady, Writes};
 ghost use Rattle.number_defs.specs.Cells.{strided, AreInRange};
 ghost use Rattle.number_defs.specs.DcPart.{dc_q, dc_bits, dc_bit, high_items, planes_before, dc_planes, dc_items, dc_choices};
 ghost use Rattle.gaggle_codes.specs.Options.{choice_of};
@@ -16,9 +16,9 @@ const BLOCK: usize = 64;
 
 // One bit of each block's DC in two's complement.
 fn put_plane<O: OctetOut>(out: &mut BitOut<O>, blocks: &[i32], plane: u8) -> Result<(), PutFault>
-    requires open { IsOpen (stand O.sink out.old) }
+    requires open { IsReady O.sink out.old }
     requires plane { plane ≤ 28 }
-    ensures { Puts O.sink result (stand O.sink out.old) (stand O.sink out.new) (text (map (dc_bit plane) (strided 64 blocks.now))) }
+    ensures { Writes O.sink result out.old out.new (text (map (dc_bit plane) (strided 64 blocks.now))) }
 {
     for block in 0..blocks.len().div_ceil(BLOCK) {
         out.put((blocks[block * BLOCK] >> plane) & 1 == 1)?;
@@ -33,11 +33,11 @@ fn put_high<O: OctetOut>(
     plan: &DcPlan,
     select: Select,
 ) -> Result<(), PutFault>
-    requires open { IsOpen (stand O.sink out.old) }
+    requires open { IsReady O.sink out.old }
     requires dc { plan.now.depth_dc ≤ 28 }
     requires shift { plan.now.shift ≤ 3 }
     requires fit { AreInRange true (dc_bits plan.now.depth_dc plan.now.depth_ac plan.now.shift) (dc_q plan.now.depth_dc plan.now.depth_ac plan.now.shift) 64 blocks.now }
-    ensures { Puts O.sink result (stand O.sink out.old) (stand O.sink out.new)
+    ensures { Writes O.sink result out.old out.new
         (text (high_items (dc_bits plan.now.depth_dc plan.now.depth_ac plan.now.shift) (dc_q plan.now.depth_dc plan.now.depth_ac plan.now.shift) (strided 64 blocks.now)
         (dc_choices (choice_of select) plan.now.depth_dc plan.now.depth_ac plan.now.shift (strided 64 blocks.now)))) }
 {
@@ -55,10 +55,10 @@ fn put_planes<O: OctetOut>(
     blocks: &[i32],
     plan: &DcPlan,
 ) -> Result<(), PutFault>
-    requires open { IsOpen (stand O.sink out.old) }
+    requires open { IsReady O.sink out.old }
     requires dc { plan.now.depth_dc ≤ 28 }
     requires shift { plan.now.shift ≤ 3 }
-    ensures { Puts O.sink result (stand O.sink out.old) (stand O.sink out.new)
+    ensures { Writes O.sink result out.old out.new
         (text (planes_before (dc_q plan.now.depth_dc plan.now.depth_ac plan.now.shift) (strided 64 blocks.now) (dc_planes plan.now.depth_dc plan.now.depth_ac plan.now.shift))) }
 {
     let last = plan.depth_ac.max(plan.shift);
@@ -78,11 +78,11 @@ pub fn put_dc<O: OctetOut>(
     plan: &DcPlan,
     select: Select,
 ) -> Result<(), PutFault>
-    requires open { IsOpen (stand O.sink out.old) }
+    requires open { IsReady O.sink out.old }
     requires dc { plan.now.depth_dc ≤ 28 }
     requires shift { plan.now.shift ≤ 3 }
     requires fit { AreInRange true (dc_bits plan.now.depth_dc plan.now.depth_ac plan.now.shift) (dc_q plan.now.depth_dc plan.now.depth_ac plan.now.shift) 64 blocks.now }
-    ensures { Puts O.sink result (stand O.sink out.old) (stand O.sink out.new)
+    ensures { Writes O.sink result out.old out.new
         (text (dc_items plan.now.depth_dc plan.now.depth_ac plan.now.shift (strided 64 blocks.now)
         (dc_choices (choice_of select) plan.now.depth_dc plan.now.depth_ac plan.now.shift (strided 64 blocks.now)))) }
 {

@@ -1,7 +1,7 @@
 // The block depths.
 ghost use Rattle.std.specs.Prelude.{◌≡◌, ◌≤◌, ◌<◌, ◌^◌, map};
 ghost use Rattle.item_defs.specs.Items.{raw, text};
-ghost use Rattle.bit_pipe.specs.Standing.{stand, IsOpen, Puts};
+ghost use Rattle.bit_pipe.specs.Standing.{IsReady, Writes};
 ghost use Rattle.number_defs.specs.Depths.{depth_bits, depth_items, depth_choices};
 ghost use Rattle.gaggle_codes.specs.Options.{choice_of};
 ghost use Rattle.dc_depths.specs.Marks.{depths_of, AreDepths};
@@ -11,7 +11,7 @@ use bit_pipe::{BitOut, OctetOut, PutFault};
 use gaggle_codes::{NumberRange, put_values};
 
 // The bits of each depth, where the greatest is at least 2.
-fn depth_bits_of(depth_ac: u8) -> u8
+pub(crate) fn depth_bits_of(depth_ac: u8) -> u8
     requires low { 2 ≤ depth_ac }
     requires high { depth_ac ≤ 27 }
     ensures is { result ≡ depth_bits depth_ac }
@@ -29,9 +29,9 @@ fn depth_bits_of(depth_ac: u8) -> u8
 
 // Depths of 0 or 1, a bit each.
 fn put_raw<O: OctetOut>(out: &mut BitOut<O>, marks: &[i32]) -> Result<(), PutFault>
-    requires open { IsOpen (stand O.sink out.old) }
+    requires open { IsReady O.sink out.old }
     requires depths { AreDepths 1 marks.now }
-    ensures { Puts O.sink result (stand O.sink out.old) (stand O.sink out.new) (text (map raw (depths_of marks.now))) }
+    ensures { Writes O.sink result out.old out.new (text (map raw (depths_of marks.now))) }
 {
     for mark in marks {
         out.put(*mark == 1)?;
@@ -47,10 +47,10 @@ pub fn put_depths<O: OctetOut>(
     depth_ac: u8,
     select: Select,
 ) -> Result<(), PutFault>
-    requires open { IsOpen (stand O.sink out.old) }
+    requires open { IsReady O.sink out.old }
     requires ac { depth_ac ≤ 27 }
     requires depths { AreDepths depth_ac marks.now }
-    ensures { Puts O.sink result (stand O.sink out.old) (stand O.sink out.new)
+    ensures { Writes O.sink result out.old out.new
         (text (depth_items depth_ac (depths_of marks.now) (depth_choices (choice_of select) depth_ac (depths_of marks.now)))) }
 {
     match depth_ac {

@@ -3,11 +3,10 @@
 
 mod dc;
 mod depths;
+mod depths_in;
 mod plan;
 
 pub use dc::put_dc;
 pub use depths::put_depths;
+pub use depths_in::take_depths;
 pub use plan::DcPlan;
-
-#[cfg(test)]
-mod tests;

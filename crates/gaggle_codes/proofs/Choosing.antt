@@ -2,26 +2,24 @@
 use Rattle.std.proofs.Common.{◌≡◌, ℕ, zero, suc, ◌+◌, ◌*◌, ◌-◌, ◌^◌, ◌<◌, ◌≤◌, true, false, refl, arith, leb, ltb, sub-one}
 use Rattle.std.proofs.lemmas.Bool.Decides.{nat_tests}
 use Rattle.number_defs.specs.Choice.{suits, greatest_suiting, by_total}
+use Rattle.number_defs.proofs.Suiting.{greatest_suiting-taken, greatest_suiting-passed, greatest_suiting-none}
 use Rattle.gaggle_codes.specs.Options.{name_of}
 use Rattle.gaggle_codes.proofs.Names.{name_k, name_uncoded}
 
 pub suits_less : (count total k : ℕ) → 0 < k → 128 * total + 49 * count < count * 2 ^ (k + 7) → greatest_suiting count total k ≡ greatest_suiting count total (k - 1)
-unfolding greatest_suiting
 suits_less count total zero lt over = absurd (omega arith)
 suits_less count total (suc k) lt over =
     let e : suits count total (suc k) ≡ false = grind (arith, nat_tests) in
-    rw (sub-one, e) refl
+    rw sub-one (greatest_suiting-passed count total k e)
 
 pub suits_here : (count total k : ℕ) → count * 2 ^ (k + 7) ≤ 128 * total + 49 * count → greatest_suiting count total k ≡ k
-unfolding greatest_suiting
-suits_here count total zero fits = refl
+suits_here count total zero fits = greatest_suiting-none count total
 suits_here count total (suc k) fits =
     let e : suits count total (suc k) ≡ true = grind (arith, nat_tests) in
-    rw e refl
+    greatest_suiting-taken count total k e
 
 pub suits_none : (count total k : ℕ) → k ≤ 0 → greatest_suiting count total k ≡ k
-unfolding greatest_suiting
-suits_none count total zero le = refl
+suits_none count total zero le = greatest_suiting-none count total
 suits_none count total (suc k) le = absurd (omega arith)
 
 module _ (N count total : ℕ) where

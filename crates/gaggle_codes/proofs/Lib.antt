@@ -9,3 +9,16 @@ pub mod ValueParts
 pub mod TextBits
 pub mod GaggleParts
 mod Few
+mod WholeValues
+pub mod RangeItems
+mod Zeros
+mod WholeItems
+mod Wholes
+mod WholeLoop
+mod Leads
+mod Differences
+mod Setting
+mod ScaledNumbers
+mod GaggleRead
+mod Counting
+mod NumbersRead

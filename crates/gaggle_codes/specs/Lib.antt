@@ -1,3 +1,5 @@
 pub mod Options
 pub mod Written
 pub mod GaggleBits
+pub mod Given
+pub mod Taken

@@ -1,5 +1,5 @@
 -- The numbers that a writer takes from a slice. (This project's own.)
-use Rattle.std.specs.Prelude.{ℕ, ℤ, List, map, Bool}
+use Rattle.std.specs.Prelude.{ℕ, ℤ, List, map, Bool, false}
 use Rattle.number_defs.specs.Ranges.{shifted_height}
 use Rattle.number_defs.specs.Cells.{strided}
 use Rattle.number_defs.specs.Gaggles.{Kind}
@@ -16,3 +16,7 @@ heights_of numbers = heights numbers.range numbers.shift numbers.stride numbers.
 -- numbers of a range, of which a reader may refuse some
 abbrev pub kind_of : NumberRange → (ℕ → Bool) → Kind
 kind_of range too_great = record { signed = range.signed; bits = range.bits; too_great = too_great }
+
+-- numbers of a range, of which none is too great
+abbrev pub any_of : NumberRange → Kind
+any_of range = kind_of range (λ height. false)

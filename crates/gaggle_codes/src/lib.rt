@@ -1,16 +1,20 @@
 //! Numbers by differences, gaggle by gaggle (docs/formats.md, "Numbers by differences").
 #![tactic(auto)]
 
+mod cells;
 mod choice;
+mod got;
+mod mapped_values;
 mod mapping;
 mod numbers;
 mod put;
 mod range;
+mod take;
+mod take_gaggle;
+mod unmapping;
 mod values;
 
 pub use choice::choose;
 pub use put::put_values;
 pub use range::NumberRange;
-
-#[cfg(test)]
-mod tests;
+pub use take::{take_bounded, take_values};

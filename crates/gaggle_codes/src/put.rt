@@ -1,7 +1,7 @@
 // Numbers as bits, gaggle by gaggle.
 ghost use Rattle.std.specs.Prelude.{◌≡◌, ◌<◌, ◌≤◌, ◌*◌, ◌++◌, ℕ, Bool, length};
 ghost use Rattle.item_defs.specs.Items.{text};
-ghost use Rattle.bit_pipe.specs.Standing.{stand, IsOpen, Puts};
+ghost use Rattle.bit_pipe.specs.Standing.{Puts, IsReady, Writes};
 ghost use Rattle.number_defs.specs.Cells.{AreInRange};
 ghost use Rattle.number_defs.specs.Gaggles.{gaggle_values, number_items};
 ghost use Rattle.number_defs.specs.Choice.{choices};
@@ -25,9 +25,9 @@ fn put_lead<O: OctetOut>(
     numbers: &Numbers,
     gaggle: usize,
 ) -> Result<(), PutFault>
-    requires open { IsOpen (stand O.sink out.old) }
+    requires open { IsReady O.sink out.old }
     requires some { 0 < length (heights_of numbers.now) }
-    ensures { Puts O.sink result (stand O.sink out.old) (stand O.sink out.new)
+    ensures { Writes O.sink result out.old out.new
         (lead_bits numbers.now.range.signed numbers.now.range.bits (heights_of numbers.now) gaggle) }
 {
     if gaggle > 0 {
@@ -42,9 +42,9 @@ fn put_gaggle<O: OctetOut>(
     gaggle: usize,
     select: Select,
 ) -> Result<(), PutFault>
-    requires open { IsOpen (stand O.sink out.old) }
+    requires open { IsReady O.sink out.old }
     requires within { 16 * gaggle < length (heights_of numbers.now) }
-    ensures { Puts O.sink result (stand O.sink out.old) (stand O.sink out.new)
+    ensures { Writes O.sink result out.old out.new
         (gaggle_bits numbers.now.range.signed numbers.now.range.bits (heights_of numbers.now)
         (name_of numbers.now.range.bits (choices (choice_of select) numbers.now.range.bits (heights_of numbers.now) gaggle)) gaggle) }
 {
@@ -70,13 +70,13 @@ pub fn put_values<O: OctetOut>(
     range: NumberRange,
     select: Select,
 ) -> Result<(), PutFault>
-    requires open { IsOpen (stand O.sink out.old) }
+    requires open { IsReady O.sink out.old }
     requires stride { 1 ≤ stride }
     requires shift { shift ≤ 27 }
     requires low { 2 ≤ range.bits }
     requires high { range.bits ≤ 10 }
     requires in_range { AreInRange range.signed range.bits shift stride cells.now }
-    ensures { (too_great : ℕ → Bool) → Puts O.sink result (stand O.sink out.old) (stand O.sink out.new)
+    ensures { (too_great : ℕ → Bool) → Writes O.sink result out.old out.new
         (text (number_items (kind_of range too_great) (heights range shift stride cells.now)
         (choices (choice_of select) range.bits (heights range shift stride cells.now)))) }
 {

@@ -1,7 +1,7 @@
 // The bits of mapped values.
 ghost use Rattle.std.specs.Prelude.{◌≡◌, ◌<◌, ◌≤◌, ◌+◌, ◌-◌, ◌^◌, ◌++◌, ◌∷◌, [], true, false, flat_map};
 ghost use Rattle.item_defs.specs.Bits.{bits_of, copies};
-ghost use Rattle.bit_pipe.specs.Standing.{stand, IsOpen, Puts};
+ghost use Rattle.bit_pipe.specs.Standing.{IsReady, Writes};
 ghost use Rattle.number_defs.specs.Gaggles.{identifier_bits};
 ghost use Rattle.gaggle_codes.specs.GaggleBits.{unary_bits, rest_bits, value_bits};
 
@@ -9,7 +9,7 @@ use crate::choice::UNCODED;
 use bit_pipe::{BitOut, OctetOut, PutFault};
 
 // The bits of an identifier.
-fn option_bits(bits: u8) -> u8
+pub(crate) fn option_bits(bits: u8) -> u8
     ensures is { result ≡ identifier_bits bits }
     ensures few { result ≤ 4 }
 {
@@ -27,16 +27,16 @@ pub(crate) fn put_identifier<O: OctetOut>(
     bits: u8,
     option: u8,
 ) -> Result<(), PutFault>
-    requires { IsOpen (stand O.sink out.old) }
-    ensures { Puts O.sink result (stand O.sink out.old) (stand O.sink out.new) (bits_of (identifier_bits bits) option) }
+    requires { IsReady O.sink out.old }
+    ensures { Writes O.sink result out.old out.new (bits_of (identifier_bits bits) option) }
 {
     out.put_bits(u32::from(option), option_bits(bits))
 }
 
 fn put_uncoded<O: OctetOut>(out: &mut BitOut<O>, values: &[u16], bits: u8) -> Result<(), PutFault>
-    requires open { IsOpen (stand O.sink out.old) }
+    requires open { IsReady O.sink out.old }
     requires bits { bits ≤ 10 }
-    ensures { Puts O.sink result (stand O.sink out.old) (stand O.sink out.new) (flat_map (bits_of bits) values.now) }
+    ensures { Writes O.sink result out.old out.new (flat_map (bits_of bits) values.now) }
 {
     for value in values {
         out.put_bits(*value as u32, bits)?;
@@ -45,17 +45,17 @@ fn put_uncoded<O: OctetOut>(out: &mut BitOut<O>, values: &[u16], bits: u8) -> Re
 }
 
 fn put_unary<O: OctetOut>(out: &mut BitOut<O>, zeros: u16) -> Result<(), PutFault>
-    requires { IsOpen (stand O.sink out.old) }
-    ensures { Puts O.sink result (stand O.sink out.old) (stand O.sink out.new) (copies zeros false ++ true ∷ []) }
+    requires { IsReady O.sink out.old }
+    ensures { Writes O.sink result out.old out.new (copies zeros false ++ true ∷ []) }
 {
     out.put_zeros(zeros)?;
     out.put(true)
 }
 
 fn put_unary_parts<O: OctetOut>(out: &mut BitOut<O>, values: &[u16], k: u8) -> Result<(), PutFault>
-    requires open { IsOpen (stand O.sink out.old) }
+    requires open { IsReady O.sink out.old }
     requires k { k ≤ 15 }
-    ensures { Puts O.sink result (stand O.sink out.old) (stand O.sink out.new) (flat_map (unary_bits k) values.now) }
+    ensures { Writes O.sink result out.old out.new (flat_map (unary_bits k) values.now) }
 {
     for value in values {
         put_unary(out, *value >> k)?;
@@ -64,9 +64,9 @@ fn put_unary_parts<O: OctetOut>(out: &mut BitOut<O>, values: &[u16], k: u8) -> R
 }
 
 fn put_rests<O: OctetOut>(out: &mut BitOut<O>, values: &[u16], k: u8) -> Result<(), PutFault>
-    requires open { IsOpen (stand O.sink out.old) }
+    requires open { IsReady O.sink out.old }
     requires k { k ≤ 15 }
-    ensures { Puts O.sink result (stand O.sink out.old) (stand O.sink out.new) (flat_map (rest_bits k) values.now) }
+    ensures { Writes O.sink result out.old out.new (flat_map (rest_bits k) values.now) }
 {
     for value in values {
         out.put_bits((*value % (1 << k)) as u32, k)?;
@@ -81,10 +81,10 @@ pub(crate) fn put_mapped<O: OctetOut>(
     bits: u8,
     option: u8,
 ) -> Result<(), PutFault>
-    requires open { IsOpen (stand O.sink out.old) }
+    requires open { IsReady O.sink out.old }
     requires bits { bits ≤ 10 }
     requires option { option ≤ 15 }
-    ensures { Puts O.sink result (stand O.sink out.old) (stand O.sink out.new) (value_bits bits option values.now) }
+    ensures { Writes O.sink result out.old out.new (value_bits bits option values.now) }
 {
     if option == UNCODED {
         return put_uncoded(out, values, bits);

@@ -2,3 +2,6 @@ mod SymbolTables
 mod Costs
 mod Cheapest
 mod CodedItems
+mod Identifiers
+mod CodeSearch
+mod Words

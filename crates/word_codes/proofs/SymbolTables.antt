@@ -1,5 +1,5 @@
 -- The symbols of all words, by the rule.
-use Rattle.std.proofs.Common.{◌≡◌, ℕ, ◌<◌, true, [], ◌∷◌, refl, arith, get_or}
+use Rattle.std.proofs.Common.{◌≡◌, ℕ, ◌<◌, ◌^◌, true, [], ◌∷◌, refl, arith, get_or}
 use Rattle.std.specs.Prelude.{◌==◌}
 use Rattle.std.specs.List.{list_all}
 use lib.Count.{ones}
@@ -28,3 +28,36 @@ symbol-of_three w h = grind (arith, list_all-span-zero (λ w. get_or (0 ∷ 3 �
 pub symbol-of_four : (w : ℕ) → w < 16 → get_or (0 ∷ 4 ∷ 3 ∷ 10 ∷ 2 ∷ 9 ∷ 8 ∷ 14 ∷ 1 ∷ 7 ∷ 6 ∷ 13 ∷ 5 ∷ 12 ∷ 11 ∷ 15 ∷ []) w 0 ≡ symbol 4 w
 symbol-of_four w h =
     grind (arith, list_all-span-zero (λ w. get_or (0 ∷ 4 ∷ 3 ∷ 10 ∷ 2 ∷ 9 ∷ 8 ∷ 14 ∷ 1 ∷ 7 ∷ 6 ∷ 13 ∷ 5 ∷ 12 ∷ 11 ∷ 15 ∷ []) w 0 == symbol 4 w) 16 w of_four h)
+
+-- ---- and the words of all symbols
+
+words_of_two : list_all (λ s. symbol 2 (get_or (0 ∷ 2 ∷ 1 ∷ 3 ∷ []) s 0) == s) (span 0 4) ≡ true
+unfolding symbol span ones
+words_of_two = refl
+
+words_of_three : list_all (λ s. symbol 3 (get_or (0 ∷ 4 ∷ 2 ∷ 1 ∷ 6 ∷ 5 ∷ 3 ∷ 7 ∷ []) s 0) == s) (span 0 8) ≡ true
+unfolding symbol span ones
+words_of_three = refl
+
+words_of_four : list_all (λ s. symbol 4 (get_or (0 ∷ 8 ∷ 4 ∷ 2 ∷ 1 ∷ 12 ∷ 10 ∷ 9 ∷ 6 ∷ 5 ∷ 3 ∷ 14 ∷ 13 ∷ 11 ∷ 7 ∷ 15 ∷ []) s 0) == s) (span 0 16) ≡ true
+unfolding symbol span ones
+words_of_four = refl
+
+word_of_two : (s : ℕ) → s < 4 → symbol 2 (get_or (0 ∷ 2 ∷ 1 ∷ 3 ∷ []) s 0) ≡ s
+word_of_two s h = grind (arith, list_all-span-zero (λ s. symbol 2 (get_or (0 ∷ 2 ∷ 1 ∷ 3 ∷ []) s 0) == s) 4 s words_of_two h)
+
+word_of_three : (s : ℕ) → s < 8 → symbol 3 (get_or (0 ∷ 4 ∷ 2 ∷ 1 ∷ 6 ∷ 5 ∷ 3 ∷ 7 ∷ []) s 0) ≡ s
+word_of_three s h = grind (arith, list_all-span-zero (λ s. symbol 3 (get_or (0 ∷ 4 ∷ 2 ∷ 1 ∷ 6 ∷ 5 ∷ 3 ∷ 7 ∷ []) s 0) == s) 8 s words_of_three h)
+
+word_of_four : (s : ℕ) → s < 16 → symbol 4 (get_or (0 ∷ 8 ∷ 4 ∷ 2 ∷ 1 ∷ 12 ∷ 10 ∷ 9 ∷ 6 ∷ 5 ∷ 3 ∷ 14 ∷ 13 ∷ 11 ∷ 7 ∷ 15 ∷ []) s 0) ≡ s
+word_of_four s h =
+    grind (arith, list_all-span-zero (λ s. symbol 4 (get_or (0 ∷ 8 ∷ 4 ∷ 2 ∷ 1 ∷ 12 ∷ 10 ∷ 9 ∷ 6 ∷ 5 ∷ 3 ∷ 14 ∷ 13 ∷ 11 ∷ 7 ∷ 15 ∷ []) s 0) == s) 16 s words_of_four h)
+
+pub word_at_two : (n s : ℕ) → n ≡ 2 → s < 2 ^ n → symbol n (get_or (0 ∷ 2 ∷ 1 ∷ 3 ∷ []) s 0) ≡ s
+word_at_two n s e h = rw e (word_of_two s (rw e at h))
+
+pub word_at_three : (n s : ℕ) → n ≡ 3 → s < 2 ^ n → symbol n (get_or (0 ∷ 4 ∷ 2 ∷ 1 ∷ 6 ∷ 5 ∷ 3 ∷ 7 ∷ []) s 0) ≡ s
+word_at_three n s e h = rw e (word_of_three s (rw e at h))
+
+pub word_at_four : (n s : ℕ) → n ≡ 4 → s < 2 ^ n → symbol n (get_or (0 ∷ 8 ∷ 4 ∷ 2 ∷ 1 ∷ 12 ∷ 10 ∷ 9 ∷ 6 ∷ 5 ∷ 3 ∷ 14 ∷ 13 ∷ 11 ∷ 7 ∷ 15 ∷ []) s 0) ≡ s
+word_at_four n s e h = rw e (word_of_four s (rw e at h))

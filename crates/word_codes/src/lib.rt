@@ -5,12 +5,11 @@ mod book;
 mod choice;
 mod put;
 mod symbols;
+mod take;
 
 pub use book::profile_book;
 pub use choice::best_option;
 pub use plane_defs::{Book, Code};
-pub use put::{put_option, put_word};
+pub use put::{code_of_word, put_option, put_word};
 pub use symbols::symbol_of;
-
-#[cfg(test)]
-mod tests;
+pub use take::{take_option, take_word};

@@ -2,8 +2,8 @@
 
 ghost use Rattle.std.specs.Prelude.{◌≡◌, ◌+◌, ◌≤◌, ◌<◌, ◌^◌, IsTrue};
 ghost use Rattle.item_defs.specs.Items.{item_bits};
-ghost use Rattle.bit_pipe.specs.Standing.{stand, IsOpen, Puts};
-ghost use Rattle.plane_defs.specs.Codes.{is_book_sound, symbol, code_at, word_item, option_item};
+ghost use Rattle.bit_pipe.specs.Standing.{Puts, IsReady, Writes};
+ghost use Rattle.plane_defs.specs.Codes.{is_book_sound, symbol, code_at, code_bits, word_item, option_item};
 
 use crate::choice::table_at;
 use crate::symbols::symbol_of;
@@ -14,11 +14,11 @@ use plane_defs::{Book, Code};
 ///
 /// `length` is 2 to 4, and `option` one of its options: uncoded is 1, 2 or 3.
 pub fn put_option<O: OctetOut>(out: &mut BitOut<O>, length: u8, option: u8) -> Result<(), PutFault>
-    requires open { IsOpen (stand O.sink out.old) }
+    requires open { IsReady O.sink out.old }
     requires short { 2 ≤ length }
     requires long { length ≤ 4 }
     requires known { option < length }
-    ensures { Puts O.sink result (stand O.sink out.old) (stand O.sink out.new) (item_bits (option_item length option)) }
+    ensures { Writes O.sink result out.old out.new (item_bits (option_item length option)) }
 {
     let number = if length == 3 && option == 2 {
         3
@@ -40,6 +40,43 @@ fn code_of(book: &Book, length: u8, option: u8, word: u8) -> Code
     book.codes[table_at(length, option)][symbol_of(word, length) as usize]
 }
 
+// The same code, with no bits set above it.
+pub(crate) fn trimmed(code: Code) -> Code
+    requires { code.len ≤ 8 }
+    ensures same { code_bits result ≡ code_bits code }
+    ensures len { result.len ≡ code.len }
+    ensures fits { result.bits < 2 ^ result.len }
+{
+    let low = u16::from(code.bits) % (1 << code.len);
+    Code {
+        bits: low as u8,
+        len: code.len,
+    }
+}
+
+/// The code of a word of 2 to 4 bits, highest bit first, by an option of its length: the word itself where it is
+/// uncoded.
+///
+/// The book is sound, `option` is one of the length's options, and `word` fits the length. The code has at most 8 bits, and no bits set above them.
+pub fn code_of_word(book: &Book, option: u8, word: u8, length: u8) -> Code
+    requires sound { IsTrue (is_book_sound book.now) }
+    requires short { 2 ≤ length }
+    requires long { length ≤ 4 }
+    requires known { option < length }
+    requires fits { word < 2 ^ length }
+    ensures code { code_bits result ≡ item_bits (word_item book.now length option word) }
+    ensures few { result.len ≤ 8 }
+    ensures fits { result.bits < 2 ^ result.len }
+{
+    if option + 1 == length {
+        return Code {
+            bits: word,
+            len: length,
+        };
+    }
+    trimmed(code_of(book, length, option, word))
+}
+
 /// Puts a word of 2 to 4 bits, highest bit first, by an option of its length (docs/formats.md, "Words
 /// and codes").
 ///
@@ -51,13 +88,13 @@ pub fn put_word<O: OctetOut>(
     word: u8,
     length: u8,
 ) -> Result<(), PutFault>
-    requires open { IsOpen (stand O.sink out.old) }
+    requires open { IsReady O.sink out.old }
     requires sound { IsTrue (is_book_sound book.now) }
     requires short { 2 ≤ length }
     requires long { length ≤ 4 }
     requires known { option < length }
     requires fits { word < 2 ^ length }
-    ensures { Puts O.sink result (stand O.sink out.old) (stand O.sink out.new) (item_bits (word_item book.now length option word)) }
+    ensures { Writes O.sink result out.old out.new (item_bits (word_item book.now length option word)) }
 {
     if option + 1 == length {
         return out.put_bits(u32::from(word), length);

@@ -28,3 +28,31 @@ pub fn symbol_of(word: u8, length: u8) -> u8
         _ => SYMBOLS_OF_FOUR[word],
     }
 }
+
+// The word of each symbol of two bits.
+const WORDS_OF_TWO: [u8; 4] = [0b00, 0b10, 0b01, 0b11];
+
+// The word of each symbol of three bits.
+const WORDS_OF_THREE: [u8; 8] = [0b000, 0b100, 0b010, 0b001, 0b110, 0b101, 0b011, 0b111];
+
+// The word of each symbol of four bits.
+const WORDS_OF_FOUR: [u8; 16] = [
+    0b0000, 0b1000, 0b0100, 0b0010, 0b0001, 0b1100, 0b1010, 0b1001, 0b0110, 0b0101, 0b0011, 0b1110,
+    0b1101, 0b1011, 0b0111, 0b1111,
+];
+
+// The word of the symbol at this place of a table.
+pub(crate) fn word_of(place: u8, length: u8) -> u8
+    requires short { 2 ≤ length }
+    requires long { length ≤ 4 }
+    requires fits { place < 2 ^ length }
+    ensures value { symbol length result ≡ place }
+    ensures within { result < 2 ^ length }
+{
+    let place = place as usize;
+    match length {
+        2 => WORDS_OF_TWO[place],
+        3 => WORDS_OF_THREE[place],
+        _ => WORDS_OF_FOUR[place],
+    }
+}

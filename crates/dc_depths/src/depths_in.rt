@@ -1,0 +1,66 @@
+// The block depths from bits.
+ghost use Rattle.std.specs.Prelude.{◌≡◌, ◌≤◌, ◌<◌, ◌^◌, ℕ, pos, length, slice_index_or};
+ghost use Rattle.bit_pipe.specs.Coming.{coming, IsIn};
+ghost use Rattle.dc_depths.specs.Taken.{TakesDepths};
+
+use crate::depths::depth_bits_of;
+use bit_pipe::{BitIn, OctetIn, Part, TextFault};
+use gaggle_codes::{NumberRange, take_bounded};
+
+// Each mark becomes 0.
+fn clear(marks: &mut [i32])
+    ensures { (i : ℕ) → slice_index_or marks.new i (pos 0) ≡ pos 0 }
+{
+    for place in 0..marks.len() {
+        marks[place] = 0;
+    }
+}
+
+// Depths of 0 or 1, a bit each.
+fn take_raw<I: OctetIn>(input: &mut BitIn<I>, marks: &mut [i32]) -> Result<Part, TextFault>
+    requires open { IsIn (coming input.old) }
+    requires none { (i : ℕ) → slice_index_or marks.old i (pos 0) ≡ pos 0 }
+    ensures { TakesDepths I.source 1 result (coming input.old) (coming input.new) marks.new }
+{
+    for place in 0..marks.len() {
+        let Some(bit) = input.take_bits(1)? else {
+            return Ok(Part::Ended);
+        };
+        marks[place] = bit as i32;
+    }
+    Ok(Part::Whole)
+}
+
+/// Takes the block depths, one for each mark (docs/formats.md, "DC part and block depths"). The marks are the depths
+/// that are given, and 0 for further ones. The answer tells whether all items stood in the text.
+///
+/// `depth_ac` is at most 27, and there are fewer than 2^20 marks.
+///
+/// # Errors
+///
+/// `BadOption`, `BadDelta` and `BadDepth`, a depth above `depth_ac`, at the first item that is refused, and the faults
+/// of the input. The marks have the depths that are given then too.
+pub fn take_depths<I: OctetIn>(
+    input: &mut BitIn<I>,
+    marks: &mut [i32],
+    depth_ac: u8,
+) -> Result<Part, TextFault>
+    requires open { IsIn (coming input.old) }
+    requires ac { depth_ac ≤ 27 }
+    requires few { length marks.old < 2 ^ 20 }
+    ensures { TakesDepths I.source depth_ac result (coming input.old) (coming input.new) marks.new }
+{
+    clear(marks);
+    match depth_ac {
+        0 => Ok(Part::Whole),
+        1 => take_raw(input, marks),
+        _ => {
+            let range = NumberRange {
+                signed: false,
+                bits: depth_bits_of(depth_ac),
+            };
+            let (part, _) = take_bounded(input, marks, 1, 0, range, u16::from(depth_ac))?;
+            Ok(part)
+        }
+    }
+}

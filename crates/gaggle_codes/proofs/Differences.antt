@@ -1,0 +1,204 @@
+-- The items of mapped values, in the order in which they are read.
+use Rattle.std.proofs.Common.{◌≡◌, ◌⊎◌, ℕ, ◌+◌, ◌-◌, ◌^◌, ◌<◌, List, [], ◌∷◌, ◌++◌, length, map, take, Bool, true, false, cond, eqb, Ok, Err, refl, sym, ap, subst, ◌∙◌, arith, inl, inr, length-append}
+use Rattle.std.specs.Prelude.{Result, ◌||◌}
+use Rattle.std.specs.List.{range_with_len}
+use Rattle.std.proofs.lemmas.Bool.Decides.{nat_tests}
+use Rattle.std.proofs.lemmas.List.{append-nil}
+use Rattle.item_defs.specs.Items.{Item, text}
+use Rattle.item_defs.specs.Readings.{whole, ended, refused}
+use Rattle.bit_pipe.specs.declared.fault.Part.{Part}
+use Rattle.bit_pipe.specs.declared.fault.Part.TheVariants.{Whole, Ended}
+use Rattle.bit_pipe.specs.declared.fault.TextFault.{TextFault}
+use Rattle.bit_pipe.specs.Sources.{SourceOf}
+use Rattle.bit_pipe.specs.Coming.{Coming, IsIn, Takes}
+use Rattle.bit_pipe.specs.Reading.{Ending, stopped, failed, Reads, IsCut, later_by}
+use Rattle.bit_pipe.specs.Answers.{part_answer, items_read}
+use Rattle.bit_pipe.proofs.Taking.{in_later}
+use Rattle.bit_pipe.proofs.ItemReading.{reads_then, reads_cut}
+use Rattle.number_defs.specs.Gaggles.{Kind, uncoded, is_option, uncoded_value, unary_part, rest_part, value_items}
+use Rattle.gaggle_codes.specs.Taken.{whole_item, whole_items, whole_of, difference_items, TakesZeros, TakesWhole, TakesDifferences}
+use Rattle.gaggle_codes.proofs.RangeItems.{range_same, range_long}
+use Rattle.gaggle_codes.proofs.Wholes.{chain_none, fill}
+
+-- ---- endings
+
+pub whole_from : (e : Ending) → Ok Whole ≡ part_answer e → e ≡ stopped whole
+whole_from (stopped whole) h = refl
+whole_from (stopped (ended m)) h = absurd cc
+whole_from (stopped (refused m n name)) h = absurd cc
+whole_from (failed m e) h = absurd cc
+
+pub cut_from : (e : Ending) → (Ok Whole ≡ part_answer e → ⊥) → IsCut e
+cut_from (stopped whole) h = h refl
+cut_from (stopped (ended m)) h = tt
+cut_from (stopped (refused m n name)) h = tt
+cut_from (failed m e) h = tt
+
+abbrev pub of_part : Part → Result Part TextFault
+of_part part = Ok part
+
+abbrev pub of_fault : TextFault → Result Part TextFault
+of_fault fault = Err fault
+
+pub ended_differs : Ok Whole ≡ of_part Ended → ⊥
+ended_differs h = absurd cc
+
+pub err_differs : (fault : TextFault) → Ok Whole ≡ of_fault fault → ⊥
+err_differs fault h = absurd cc
+
+-- a reading that is cut read fewer items
+pub cut_within : {I : Type 0} {k : SourceOf I} (items : List Item) (n : ℕ) (e : Ending) {a b : Coming I} → IsCut e → Reads k items e a b → items_read n e < length items
+cut_within items n (stopped whole) cut r = absurd cut
+cut_within items n (stopped (ended m)) cut r = r.ends.0.within
+cut_within items n (stopped (refused m s name)) cut r = r.ends.within
+cut_within items n (failed m e) cut r = r.ends.0.within
+
+pub cut_read : (m n : ℕ) (e : Ending) → IsCut e → items_read m e ≡ items_read n e
+cut_read m n (stopped whole) cut = absurd cut
+cut_read m n (stopped (ended i)) cut = refl
+cut_read m n (stopped (refused i s name)) cut = refl
+cut_read m n (failed i e) cut = refl
+
+pub later_read : (n m : ℕ) (e : Ending) → items_read (n + m) (later_by n e) ≡ n + items_read m e
+later_read n m (stopped whole) = refl
+later_read n m (stopped (ended i)) = refl
+later_read n m (stopped (refused i s name)) = refl
+later_read n m (failed i e) = refl
+
+pub later_answer : (n : ℕ) (e : Ending) → part_answer (later_by n e) ≡ part_answer e
+later_answer n (stopped whole) = refl
+later_answer n (stopped (ended i)) = refl
+later_answer n (stopped (refused i s name)) = refl
+later_answer n (failed i e) = refl
+
+-- ---- items
+
+module _ (kind : Kind) (option : ℕ) (xs : List ℕ) where
+  -- where each item makes a number whole
+  pub alone : (n : ℕ) → (option ≡ 0) ⊎ (option ≡ uncoded kind.bits) → difference_items kind option n xs ≡ whole_items kind option n xs
+  unfolding value_items
+  alone n h = by_tests (eqb option (uncoded kind.bits)) (eqb option 0) refl refl h
+    where
+      by_tests : (t z : Bool) → eqb option (uncoded kind.bits) ≡ t → eqb option 0 ≡ z → (option ≡ 0) ⊎ (option ≡ uncoded kind.bits) → value_items kind xs option (range_with_len 1 n) ≡ whole_items kind option n xs
+      by_tests true z e f h =
+          let each : (i : ℕ) → i < n → uncoded_value kind xs (1 + i) ≡ whole_item kind option xs (1 + i) = λ i lt. rw e refl in
+          rw e (range_same (uncoded_value kind xs) (whole_item kind option xs) 1 1 n each)
+      by_tests false true e f h =
+          let each : (i : ℕ) → i < n → unary_part kind xs option (1 + i) ≡ whole_item kind option xs (1 + i) = λ i lt. rw (e, f) refl in
+          rw (e, f) (append-nil (map (unary_part kind xs option) (range_with_len 1 n)) ∙ range_same (unary_part kind xs option) (whole_item kind option xs) 1 1 n each)
+      by_tests false false e f (inl h) = absurd (let q : eqb option 0 ≡ true = grind (arith, nat_tests) in let r : false ≡ true = sym f ∙ q in cc)
+      by_tests false false e f (inr h) = absurd (let q : eqb option (uncoded kind.bits) ≡ true = grind (arith, nat_tests) in let r : false ≡ true = sym e ∙ q in cc)
+
+  -- where all unary parts come first
+  pub split : (n : ℕ) → (option ≡ uncoded kind.bits → ⊥) → (option ≡ 0 → ⊥) → difference_items kind option n xs ≡ map (unary_part kind xs option) (range_with_len 1 n) ++ whole_items kind option n xs
+  unfolding value_items
+  split n a b =
+      let t : eqb option (uncoded kind.bits) ≡ false = grind (arith, nat_tests) in
+      let z : eqb option 0 ≡ false = grind (arith, nat_tests) in
+      let each : (i : ℕ) → i < n → rest_part kind xs option (1 + i) ≡ whole_item kind option xs (1 + i) = λ i lt. rw (t, z) refl in
+      let rests = range_same (rest_part kind xs option) (whole_item kind option xs) 1 1 n each in
+      let first : value_items kind xs option (range_with_len 1 n) ≡ map (unary_part kind xs option) (range_with_len 1 n) ++ map (rest_part kind xs option) (range_with_len 1 n) = rw (t, z) refl in
+      first ∙ ap (λ l. map (unary_part kind xs option) (range_with_len 1 n) ++ l) rests
+
+  pub whole_alone : (n m : ℕ) → (option ≡ 0) ⊎ (option ≡ uncoded kind.bits) → whole_of kind.bits option n m ≡ m
+  whole_alone n m (inl h) = (let z : eqb option 0 ≡ true = grind (arith, nat_tests) in by_test (eqb option (uncoded kind.bits)) z)
+    where
+      by_test : (t : Bool) → eqb option 0 ≡ true → cond (t || eqb option 0) m (m - n) ≡ m
+      by_test true z = refl
+      by_test false z = rw z refl
+  whole_alone n m (inr h) = (let t : eqb option (uncoded kind.bits) ≡ true = grind (arith, nat_tests) in rw t refl)
+
+  pub whole_split : (n m : ℕ) → (option ≡ uncoded kind.bits → ⊥) → (option ≡ 0 → ⊥) → whole_of kind.bits option n m ≡ m - n
+  whole_split n m a b =
+      let t : eqb option (uncoded kind.bits) ≡ false = grind (arith, nat_tests) in
+      let z : eqb option 0 ≡ false = grind (arith, nat_tests) in
+      rw (t, z) refl
+
+-- ---- what calls leave
+
+module _ {I : Type 0} {k : SourceOf I} (kind : Kind) (option p count : ℕ) (zeros : List ℕ) (long : length zeros ≡ count) where
+  pub differences_alone : {r : Result Part TextFault} {a b : Coming I} {before now : List ℕ} → (option ≡ 0) ⊎ (option ≡ uncoded kind.bits) → TakesWhole k kind option p zeros r a b before now → TakesDifferences k kind option p count r a b before now
+  differences_alone {r} {a} {b} {before} {now} h w =
+      let items = alone kind option (p ∷ w.heights) count h in
+      let wholes = whole_items kind option count (p ∷ w.heights) in
+      let size : length wholes ≡ length zeros = range_long (whole_item kind option (p ∷ w.heights)) 1 count ∙ sym long in
+      let read : Reads k wholes w.ending a b = subst (λ n. Reads k (whole_items kind option n (p ∷ w.heights)) w.ending a b) long w.read in
+      record {
+        heights = w.heights;
+        all = w.count ∙ long;
+        few = w.few;
+        ending = w.ending;
+        read = subst (λ l. Reads k l w.ending a b) (sym items) read;
+        answer = w.answer;
+        whole = w.whole ∙ ap (λ m. before ++ take m w.heights)
+            (ap (λ n. items_read n w.ending) (sym size ∙ ap length (sym items)) ∙ sym (whole_alone kind option (p ∷ w.heights) count (items_read (length (difference_items kind option count (p ∷ w.heights))) w.ending) h));
+      }
+
+  module _ (known : is_option kind.bits option ≡ true) (low : p < 2 ^ kind.bits) (a' : option ≡ uncoded kind.bits → ⊥) (b' : option ≡ 0 → ⊥) where
+    -- the unary parts were not all read
+    pub differences_cut : {r : Result Part TextFault} {a b : Coming I} (before : List ℕ) → (Ok Whole ≡ r → ⊥) → TakesZeros k kind.bits option zeros r a b → TakesDifferences k kind option p count r a b before before
+    differences_cut {r} {a} {b} before not_all z =
+        let f = fill kind.bits option p zeros known z.few (length zeros) 0 p [] (chain_none kind.bits option p zeros low) in
+        let n : 0 + length zeros ≡ length zeros = omega arith in
+        let heights = [] ++ f.rest in
+        let first = z.read kind (p ∷ heights) refl (λ j lt. f.chained.zeros_are a' b' j (omega (arith, n, lt))) in
+        let cut = cut_from z.ending (λ q. not_all (q ∙ sym z.answer)) in
+        let unary = map (unary_part kind (p ∷ heights) option) (range_with_len 1 count) in
+        let read : Reads k unary z.ending a b = subst (λ n. Reads k (map (unary_part kind (p ∷ heights) option) (range_with_len 1 n)) z.ending a b) long first in
+        let items = split kind option (p ∷ heights) count a' b' in
+        let total = length (difference_items kind option count (p ∷ heights)) in
+        let few : items_read total z.ending < count = (let w = cut_within unary total z.ending cut read in omega (arith, w, range_long (unary_part kind (p ∷ heights) option) 1 count)) in
+        let none : whole_of kind.bits option count (items_read total z.ending) ≡ 0 = whole_split kind option (p ∷ heights) count (items_read total z.ending) a' b' ∙ omega (arith, few) in
+        record {
+          heights = heights;
+          all = f.chained.count ∙ n ∙ long;
+          few = f.chained.few;
+          ending = z.ending;
+          read = subst (λ l. Reads k l z.ending a b) (sym items) (reads_cut (whole_items kind option count (p ∷ heights)) cut read);
+          answer = z.answer;
+          whole = sym (ap (λ m. before ++ take m heights) none ∙ append-nil before);
+        }
+
+    -- they were, and then the rests
+    pub differences_split : {r : Result Part TextFault} {a b c : Coming I} {before now : List ℕ} → TakesZeros k kind.bits option zeros (Ok Whole) a b → TakesWhole k kind option p zeros r b c before now → TakesDifferences k kind option p count r a c before now
+    differences_split {r} {a} {b} {c} {before} {now} z w =
+        let whole_end = whole_from z.ending z.answer in
+        let first = subst (λ e. Reads k (map (unary_part kind (p ∷ w.heights) option) (range_with_len 1 (length zeros))) e a b) whole_end (z.read kind (p ∷ w.heights) refl (w.zeros_are a' b')) in
+        let unary = map (unary_part kind (p ∷ w.heights) option) (range_with_len 1 count) in
+        let wholes = whole_items kind option count (p ∷ w.heights) in
+        let taken : Takes k a b (text unary) = subst (λ n. Takes k a b (text (map (unary_part kind (p ∷ w.heights) option) (range_with_len 1 n)))) long first.ends in
+        let read : Reads k wholes w.ending b c = subst (λ n. Reads k (whole_items kind option n (p ∷ w.heights)) w.ending b c) long w.read in
+        let both = reads_then unary taken read in
+        let items = split kind option (p ∷ w.heights) count a' b' in
+        let u = range_long (unary_part kind (p ∷ w.heights) option) 1 count in
+        let v = range_long (whole_item kind option (p ∷ w.heights)) 1 count in
+        let total : length (difference_items kind option count (p ∷ w.heights)) ≡ length unary + length wholes = ap length items ∙ length-append unary wholes in
+        let end = later_by (length unary) w.ending in
+        let size : items_read (length (difference_items kind option count (p ∷ w.heights))) end ≡ length unary + items_read (length wholes) w.ending =
+        ap (λ n. items_read n end) total ∙ later_read (length unary) (length wholes) w.ending in
+        let same : items_read (length wholes) w.ending ≡ items_read (length zeros) w.ending = ap (λ n. items_read n w.ending) (v ∙ sym long) in
+        record {
+          heights = w.heights;
+          all = w.count ∙ long;
+          few = w.few;
+          ending = end;
+          read = subst (λ l. Reads k l end a c) (sym items) both;
+          answer = w.answer ∙ sym (later_answer (length unary) w.ending);
+          whole = w.whole ∙ ap (λ m. before ++ take m w.heights)
+              (sym (whole_split kind option (p ∷ w.heights) count (items_read (length (difference_items kind option count (p ∷ w.heights))) end) a' b' ∙ omega (arith, size, u, same)));
+        }
+
+    -- more may be taken after all unary parts
+    pub in_after_zeros : {a b : Coming I} → IsIn a → TakesZeros k kind.bits option zeros (Ok Whole) a b → IsIn b
+    in_after_zeros {a} {b} h z =
+        let f = fill kind.bits option p zeros known z.few (length zeros) 0 p [] (chain_none kind.bits option p zeros low) in
+        let n : 0 + length zeros ≡ length zeros = omega arith in
+        let heights = [] ++ f.rest in
+        let first = subst (λ e. Reads k (map (unary_part kind (p ∷ heights) option) (range_with_len 1 (length zeros))) e a b) (whole_from z.ending z.answer)
+        (z.read kind (p ∷ heights) refl (λ j lt. f.chained.zeros_are a' b' j (omega (arith, n, lt)))) in
+        in_later h first.ends
+
+-- the same, with what was read first
+pub alone_by : {I : Type 0} {k : SourceOf I} {kind : Kind} {option p count : ℕ} {zeros : List ℕ} {r : Result Part TextFault} {a b : Coming I} {before now : List ℕ} → TakesWhole k kind option p zeros r a b before now → length zeros ≡ count →
+    (option ≡ 0) ⊎ (option ≡ uncoded kind.bits) → TakesDifferences k kind option p count r a b before now
+alone_by {kind = kind} {option = option} {p = p} {count = count} {zeros = zeros} w long h = differences_alone kind option p count zeros long h w

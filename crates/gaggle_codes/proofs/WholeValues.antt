@@ -1,0 +1,70 @@
+-- The values that items make whole.
+use Rattle.std.proofs.Common.{◌≡◌, ℕ, ◌+◌, ◌-◌, ◌*◌, ◌%◌, ◌^◌, ◌<◌, ◌≤◌, true, false, eqb, Ok, Err, refl, sym, ap, ◌∙◌, arith}
+use Rattle.std.specs.Prelude.{Option, Some, None, Result}
+use Rattle.std.proofs.lemmas.Nat.{pow-add, mul-add-lt, pow_pos}
+use Rattle.std.proofs.Math.Pow.{pow_mono}
+use Rattle.std.proofs.lemmas.Bool.Decides.{nat_tests}
+use Rattle.item_defs.specs.Items.{Shape, fixed, zeros_to}
+use Rattle.bit_pipe.specs.declared.fault.TextFault.{TextFault}
+use Rattle.bit_pipe.specs.Sources.{SourceOf}
+use Rattle.bit_pipe.specs.Coming.{Coming, EndsItem}
+use Rattle.number_defs.specs.Gaggles.{uncoded, is_option}
+use Rattle.gaggle_codes.specs.Taken.{TakesValue, EndsValue, whole_shape, whole_value}
+
+ends_as : {I : Type 0} (k : SourceOf I) (s t : Shape) (f g : ℕ → ℕ) (low high : ℕ) (r : Result (Option ℕ) TextFault) (a b : Coming I) → s ≡ t → ((n : ℕ) → f n ≡ g n) → low ≤ high →
+    EndsValue k s f low r a b → EndsValue k t g high r a b
+ends_as k s t f g low high (Ok (Some v)) a b e same le p = rw (← e) (p.0, p.1, sym (same p.0) ∙ p.2, omega (arith, p.3, le), p.4)
+ends_as k s t f g low high (Ok None) a b e same le p = rw (← e) p
+ends_as k s t f g low high (Err fault) a b e same le p = rw (← e) p
+
+-- the same value of another shape that is this one
+pub value_as : {I : Type 0} {k : SourceOf I} {s t : Shape} {f g : ℕ → ℕ} {low high : ℕ} {r : Result (Option ℕ) TextFault} {a b : Coming I} → s ≡ t → ((n : ℕ) → f n ≡ g n) → low ≤ high →
+    TakesValue k s f low r a b → TakesValue k t g high r a b
+value_as {I} {k} {s} {t} {f} {g} {low} {high} {r} {a} {b} e same le p = record { ends = ends_as k s t f g low high r a b e same le p.ends }
+
+module _ (N option : ℕ) where
+  pub shape_unary : (option ≡ uncoded N → ⊥) → option ≡ 0 → zeros_to (2 ^ (N - option)) ≡ whole_shape N option
+  shape_unary not_all e =
+      let t : eqb option (uncoded N) ≡ false = grind (arith, nat_tests) in
+      let z : eqb option 0 ≡ true = grind (arith, nat_tests) in
+      rw (t, z) refl
+
+  pub value_unary : (zeros : ℕ) → (option ≡ uncoded N → ⊥) → option ≡ 0 → (n : ℕ) → n ≡ whole_value N option zeros n
+  value_unary zeros not_all e n =
+      let t : eqb option (uncoded N) ≡ false = grind (arith, nat_tests) in
+      let z : eqb option 0 ≡ true = grind (arith, nat_tests) in
+      rw (t, z) refl
+
+  pub shape_rest : (option ≡ uncoded N → ⊥) → (option ≡ 0 → ⊥) → fixed option ≡ whole_shape N option
+  shape_rest not_all some =
+      let t : eqb option (uncoded N) ≡ false = grind (arith, nat_tests) in
+      let z : eqb option 0 ≡ false = grind (arith, nat_tests) in
+      rw (t, z) refl
+
+  pub value_rest : (zeros n : ℕ) → (option ≡ uncoded N → ⊥) → (option ≡ 0 → ⊥) → whole_value N option zeros n ≡ zeros * 2 ^ option + n
+  value_rest zeros n not_all some =
+      let t : eqb option (uncoded N) ≡ false = grind (arith, nat_tests) in
+      let z : eqb option 0 ≡ false = grind (arith, nat_tests) in
+      rw (t, z) refl
+
+  pub k_below : is_option N option ≡ true → (option ≡ uncoded N → ⊥) → option ≤ N
+  k_below known not_all = grind (arith, nat_tests)
+
+  -- zeros and a rest make a value of N bits
+  pub parts_below : (zeros rest : ℕ) → option ≤ N → zeros < 2 ^ (N - option) → rest < 2 ^ option → zeros * 2 ^ option + rest < 2 ^ N
+  parts_below zeros rest le p q =
+      let whole : option + (N - option) ≡ N = omega arith in
+      let split : 2 ^ N ≡ 2 ^ option * 2 ^ (N - option) = ap (λ w. 2 ^ w) (sym whole) ∙ pow-add 2 option (N - option) in
+      rw split (mul-add-lt zeros (2 ^ option) rest (2 ^ (N - option)) p q)
+
+  -- what the code makes of them
+  pub parts_code : (zeros : ℕ) → N ≤ 10 → option ≤ N → zeros < 2 ^ (N - option) → zeros * 2 ^ option % 65536 ≡ zeros * 2 ^ option
+  parts_code zeros high le p =
+      let below = parts_below zeros 0 le p (pow_pos option) in
+      let small : 2 ^ N ≤ 2 ^ 10 = pow_mono high in
+      omega (arith, below, small)
+
+  pub rest_value : {I : Type 0} {k : SourceOf I} {a b : Coming I} (zeros rest : ℕ) → (option ≡ uncoded N → ⊥) → (option ≡ 0 → ⊥) → zeros * 2 ^ option + rest < 2 ^ N → EndsItem k (fixed option) (Ok (Some rest)) a b →
+      TakesValue k (whole_shape N option) (whole_value N option zeros) (2 ^ N) (Ok (Some (zeros * 2 ^ option + rest))) a b
+  rest_value zeros rest not_all some below p =
+      rw (← shape_rest not_all some) (record { ends = (rest, p.0, value_rest zeros rest not_all some, below, p.1) })

@@ -1,0 +1,55 @@
+use Rattle.std.proofs.Common.{arith, length-append, ap, length}
+use Rattle.std.proofs.lemmas.Result.{err_from_is_err_and}
+use Rattle.bit_pipe.proofs.Taking.{in_later}
+use Rattle.gaggle_codes.specs.Given.{got}
+use Rattle.gaggle_codes.proofs.WholeLoop.{whole_start, whole_more, whole_all, whole_ended, whole_fault, whole_depth}
+use Rattle.gaggle_codes.proofs.mapped_values.take_whole.Goals as goal
+
+pub loop-zeros-init : goal.loop-zeros-init
+loop-zeros-init g c = record {
+  is_in = c.requires.open;
+  so_far = whole_start c.args.range c.args.option c.args.before c.args.zeros.now (got c.args.numbers.now) _ c.requires.open c.requires.before;
+}
+
+pub take_value-requires-clause-open : goal.take_value-requires-clause-open
+take_value-requires-clause-open g c = c.loop-zeros.invariant.is_in
+
+pub returns-in_err-value : goal.returns-in_err-value
+returns-in_err-value g c = λ too_great bound.
+    let p = err_from_is_err_and c.from_residual.result c.from_residual.ensures.1 in
+    rw (p.1, p.2) (whole_fault c.args.range c.args.option c.args.before c.args.zeros.now c.requires.option c.requires.zeros too_great _ (omega arith) c.loop-zeros.invariant.so_far c.in_err-value.ensures.ends)
+
+pub returns-in_default : goal.returns-in_default
+returns-in_default g c = λ too_great bound.
+    let h = rw c.in_default.is at c.in_ok-value.ensures in
+    whole_ended c.args.range c.args.option c.args.before c.args.zeros.now c.requires.option c.requires.zeros too_great (omega arith) c.loop-zeros.invariant.so_far h.ends
+
+pub follow-requires-clause-room : goal.follow-requires-clause-room
+follow-requires-clause-room g c =
+    let s = c.loop-zeros.invariant.so_far in
+    omega (arith, ap length s.now_is, length-append (got c.args.numbers.now) s.heights, s.chained.count, c.requires.room)
+
+pub follow-requires-clause-before : goal.follow-requires-clause-before
+follow-requires-clause-before g c = c.loop-zeros.invariant.so_far.chained.small
+
+pub follow-requires-clause-value : goal.follow-requires-clause-value
+follow-requires-clause-value g c = let h = rw c.in-Some.is at c.in_ok-value.ensures in h.ends.3
+
+pub returns-in_err-before : goal.returns-in_err-before
+returns-in_err-before g c = λ too_great bound.
+    let p = err_from_is_err_and c.from_residual-in_err-before.result c.from_residual-in_err-before.ensures.1 in
+    let h = rw c.in-Some.is at c.in_ok-value.ensures in
+    rw (p.1, p.2, c.in_err-before.ensures.is, c.in_err-before.ensures.numbers)
+    (whole_depth c.args.range c.args.option c.args.before c.args.zeros.now c.requires.option c.requires.zeros too_great c.args.most c.in-Some.value bound (omega arith) c.loop-zeros.invariant.so_far h.ends c.in_err-before.ensures.bound)
+
+pub loop-zeros-preserved : goal.loop-zeros-preserved
+loop-zeros-preserved g c =
+    let i = c.loop-zeros.invariant in
+    let h = rw c.in-Some.is at c.in_ok-value.ensures in
+    record {
+      is_in = in_later i.is_in h.ends.4;
+      so_far = whole_more c.args.range c.args.option c.args.before c.args.zeros.now c.in-Some.value c.in_ok-before.before i.so_far h.ends c.in_ok-before.ensures.is c.in_ok-before.ensures.numbers;
+    }
+
+pub returns : goal.returns
+returns g c = λ too_great bound. whole_all c.args.range c.args.option c.args.before c.args.zeros.now too_great (omega arith) c.loop-zeros.invariant.so_far

@@ -1,0 +1,135 @@
+// Mapped values and the numbers of a gaggle from bits.
+ghost use Rattle.std.specs.Prelude.{◌≡◌, ◌<◌, ◌≤◌, ◌+◌, ◌-◌, ◌^◌, ◌++◌, ◌∷◌, [], ℕ, Bool, true, length, slice_index, MatchResult};
+ghost use Rattle.item_defs.specs.Items.{zeros_to};
+ghost use Rattle.bit_pipe.specs.Coming.{coming, IsIn};
+ghost use Rattle.bit_pipe.specs.declared.fault.TextFault.TheVariants.{BadDepth};
+ghost use Rattle.number_defs.specs.Mapping.{unmapped};
+ghost use Rattle.number_defs.specs.Gaggles.{uncoded, is_option};
+ghost use Rattle.gaggle_codes.specs.Written.{kind_of};
+ghost use Rattle.gaggle_codes.specs.Given.{got};
+ghost use Rattle.gaggle_codes.specs.Taken.{IsBound, TakesValue, itself, whole_shape, whole_value, TakesZeros, TakesWhole};
+
+use crate::got::Got;
+use crate::range::NumberRange;
+use crate::unmapping::unmapped_of;
+use crate::values::option_bits;
+use bit_pipe::{BitIn, OctetIn, Part, TextFault};
+
+// The option of values as they are: all ones.
+pub(crate) fn uncoded_of(bits: u8) -> u8
+    ensures is { result ≡ uncoded bits }
+{
+    (1 << option_bits(bits)) - 1
+}
+
+// The zeros of a unary part.
+fn take_unary<I: OctetIn>(input: &mut BitIn<I>, bits: u8, k: u8) -> Result<Option<u16>, TextFault>
+    requires open { IsIn (coming input.old) }
+    requires bits { bits ≤ 10 }
+    ensures { TakesValue I.source (zeros_to (2 ^ (bits - k))) itself (2 ^ (bits - k)) result (coming input.old) (coming input.new) }
+{
+    let limit = 1 << bits.saturating_sub(k);
+    let Some(zeros) = input.take_zeros(limit)? else {
+        return Ok(None);
+    };
+    if zeros == limit {
+        return Err(TextFault::BadDelta);
+    }
+    Ok(Some(zeros))
+}
+
+// The mapped value that the next item makes whole, after so many zeros.
+fn take_value<I: OctetIn>(
+    input: &mut BitIn<I>,
+    bits: u8,
+    option: u8,
+    zeros: u16,
+) -> Result<Option<u16>, TextFault>
+    requires open { IsIn (coming input.old) }
+    requires bits { bits ≤ 10 }
+    requires option { is_option bits option ≡ true }
+    requires zeros { zeros < 2 ^ (bits - option) }
+    ensures { TakesValue I.source (whole_shape bits option) (whole_value bits option zeros) (2 ^ bits) result (coming input.old) (coming input.new) }
+{
+    if option == uncoded_of(bits) {
+        let Some(value) = input.take_bits(bits)? else {
+            return Ok(None);
+        };
+        return Ok(Some(value as u16));
+    }
+    if option == 0 {
+        return take_unary(input, bits, option);
+    }
+    let Some(rest) = input.take_bits(option)? else {
+        return Ok(None);
+    };
+    Ok(Some((zeros << option) + rest as u16))
+}
+
+// The number of a mapped value, unless it is too great.
+fn follow(numbers: &mut Got, bits: u8, most: u16, before: u16, value: u16) -> Result<u16, TextFault>
+    requires room { length (got numbers.old) < 16 }
+    requires bits { bits ≤ 10 }
+    requires before { before < 2 ^ bits }
+    requires value { value < 2 ^ bits }
+    ensures is { MatchResult result (λ height. height ≡ unmapped bits before value) (λ fault. fault ≡ BadDepth) }
+    ensures bound { MatchResult result (λ height. height ≤ most) (λ fault. most < unmapped bits before value) }
+    ensures numbers { MatchResult result (λ height. got numbers.new ≡ got numbers.old ++ height ∷ []) (λ fault. got numbers.new ≡ got numbers.old) }
+{
+    let height = unmapped_of(bits, before, value);
+    if height > most {
+        return Err(TextFault::BadDepth);
+    }
+    numbers.push(height);
+    Ok(height)
+}
+
+// The zeros of all unary parts of a gaggle.
+pub(crate) fn take_unary_parts<I: OctetIn>(
+    input: &mut BitIn<I>,
+    bits: u8,
+    k: u8,
+    zeros: &mut [u16],
+) -> Result<Part, TextFault>
+    requires open { IsIn (coming input.old) }
+    requires bits { bits ≤ 10 }
+    requires none { (j : ℕ) → slice_index zeros.old j ≡ 0 }
+    ensures { TakesZeros I.source bits k zeros.new result (coming input.old) (coming input.new) }
+{
+    for place in 0..zeros.len() {
+        let Some(count) = take_unary(input, bits, k)? else {
+            return Ok(Part::Ended);
+        };
+        zeros[place] = count;
+    }
+    Ok(Part::Whole)
+}
+
+// The numbers that mapped values make whole, one after another.
+pub(crate) fn take_whole<I: OctetIn>(
+    input: &mut BitIn<I>,
+    range: NumberRange,
+    most: u16,
+    option: u8,
+    before: u16,
+    zeros: &[u16],
+    numbers: &mut Got,
+) -> Result<Part, TextFault>
+    requires open { IsIn (coming input.old) }
+    requires bits { range.bits ≤ 10 }
+    requires option { is_option range.bits option ≡ true }
+    requires before { before < 2 ^ range.bits }
+    requires zeros { (j : ℕ) → slice_index zeros.now j < 2 ^ (range.bits - option) }
+    requires room { length (got numbers.old) + length zeros.now ≤ 16 }
+    ensures { (too_great : ℕ → Bool) → IsBound most range.bits too_great →
+        TakesWhole I.source (kind_of range too_great) option before zeros.now result (coming input.old) (coming input.new) (got numbers.old) (got numbers.new) }
+{
+    let mut before = before;
+    for zeros in zeros {
+        let Some(value) = take_value(input, range.bits, option, *zeros)? else {
+            return Ok(Part::Ended);
+        };
+        before = follow(numbers, range.bits, most, before, value)?;
+    }
+    Ok(Part::Whole)
+}

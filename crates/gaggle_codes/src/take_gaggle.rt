@@ -1,0 +1,170 @@
+// The numbers of one gaggle from bits.
+ghost use Rattle.std.specs.Prelude.{◌≡◌, ◌<◌, ◌≤◌, ◌+◌, ◌^◌, ◌-◌, ◌*◌, ℕ, Bool, true, [], length};
+ghost use Rattle.bit_pipe.specs.Coming.{coming, IsIn};
+ghost use Rattle.bit_pipe.specs.Answers.{TakesOne};
+ghost use Rattle.number_defs.specs.Gaggles.{is_option};
+ghost use Rattle.gaggle_codes.specs.Written.{kind_of};
+ghost use Rattle.gaggle_codes.specs.Given.{got};
+ghost use Rattle.gaggle_codes.specs.Taken.{IsBound, IsOption, option_item, TakesReference, TakesDifferences, TakesGaggle};
+
+use crate::got::{GAGGLE, Got};
+use crate::mapped_values::{take_unary_parts, take_whole, uncoded_of};
+use crate::range::NumberRange;
+use crate::values::option_bits;
+use bit_pipe::{BitIn, OctetIn, Part, TextFault};
+
+// Whether an identifier names an option: all ones, or a k in range.
+fn names_option(bits: u8, option: u8) -> bool
+    requires { 2 ≤ bits }
+    ensures { result ≡ is_option bits option }
+{
+    option == uncoded_of(bits) || option <= bits - 2
+}
+
+// The option of a gaggle.
+fn take_identifier<I: OctetIn>(input: &mut BitIn<I>, bits: u8) -> Result<Option<u8>, TextFault>
+    requires open { IsIn (coming input.old) }
+    requires low { 2 ≤ bits }
+    requires high { bits ≤ 10 }
+    ensures { TakesOne I.source (IsOption bits) (option_item bits) result (coming input.old) (coming input.new) }
+{
+    let Some(number) = input.take_bits(option_bits(bits))? else {
+        return Ok(None);
+    };
+    let option = number as u8;
+    if !names_option(bits, option) {
+        return Err(TextFault::BadOption);
+    }
+    Ok(Some(option))
+}
+
+// The first number of all.
+fn take_reference<I: OctetIn>(
+    input: &mut BitIn<I>,
+    range: NumberRange,
+    most: u16,
+    numbers: &mut Got,
+) -> Result<Option<u16>, TextFault>
+    requires open { IsIn (coming input.old) }
+    requires low { 2 ≤ range.bits }
+    requires high { range.bits ≤ 10 }
+    requires room { length (got numbers.old) < 16 }
+    ensures { (too_great : ℕ → Bool) → IsBound most range.bits too_great →
+        TakesReference I.source (kind_of range too_great) result (coming input.old) (coming input.new) (got numbers.old) (got numbers.new) }
+{
+    let Some(number) = input.take_bits(range.bits)? else {
+        return Ok(None);
+    };
+    let height = (number as u16 + range.negatives()) % (1 << range.bits);
+    if height > most {
+        return Err(TextFault::BadDepth);
+    }
+    numbers.push(height);
+    Ok(Some(height))
+}
+
+// So many numbers after the one before, by an option.
+fn take_differences<I: OctetIn>(
+    input: &mut BitIn<I>,
+    range: NumberRange,
+    most: u16,
+    option: u8,
+    before: u16,
+    count: usize,
+    numbers: &mut Got,
+) -> Result<Part, TextFault>
+    requires open { IsIn (coming input.old) }
+    requires bits { range.bits ≤ 10 }
+    requires option { is_option range.bits option ≡ true }
+    requires before { before < 2 ^ range.bits }
+    requires room { length (got numbers.old) + count ≤ 16 }
+    ensures { (too_great : ℕ → Bool) → IsBound most range.bits too_great →
+        TakesDifferences I.source (kind_of range too_great) option before count result (coming input.old) (coming input.new) (got numbers.old) (got numbers.new) }
+{
+    let mut room = [0; GAGGLE];
+    let zeros = &mut room[..count];
+    if option == 0 || option == uncoded_of(range.bits) {
+        return take_whole(input, range, most, option, before, zeros, numbers);
+    }
+    let Part::Whole = take_unary_parts(input, range.bits, option, zeros)? else {
+        return Ok(Part::Ended);
+    };
+    take_whole(input, range, most, option, before, zeros, numbers)
+}
+
+// The numbers of the first gaggle.
+pub(crate) fn take_first<I: OctetIn>(
+    input: &mut BitIn<I>,
+    range: NumberRange,
+    most: u16,
+    size: usize,
+    numbers: &mut Got,
+) -> Result<Part, TextFault>
+    requires open { IsIn (coming input.old) }
+    requires low { 2 ≤ range.bits }
+    requires high { range.bits ≤ 10 }
+    requires some { 1 ≤ size }
+    requires room { size ≤ 16 }
+    requires none { got numbers.old ≡ [] }
+    ensures { (too_great : ℕ → Bool) → IsBound most range.bits too_great →
+        TakesGaggle I.source (kind_of range too_great) 0 0 size result (coming input.old) (coming input.new) (got numbers.new) }
+{
+    let Some(option) = take_identifier(input, range.bits)? else {
+        return Ok(Part::Ended);
+    };
+    let Some(before) = take_reference(input, range, most, numbers)? else {
+        return Ok(Part::Ended);
+    };
+    take_differences(input, range, most, option, before, size - 1, numbers)
+}
+
+// The numbers of a further gaggle.
+pub(crate) fn take_next<I: OctetIn>(
+    input: &mut BitIn<I>,
+    range: NumberRange,
+    most: u16,
+    before: u16,
+    size: usize,
+    numbers: &mut Got,
+) -> Result<Part, TextFault>
+    requires open { IsIn (coming input.old) }
+    requires low { 2 ≤ range.bits }
+    requires high { range.bits ≤ 10 }
+    requires before { before < 2 ^ range.bits }
+    requires room { size ≤ 16 }
+    requires none { got numbers.old ≡ [] }
+    ensures { (too_great : ℕ → Bool) → IsBound most range.bits too_great → (g : ℕ) →
+        TakesGaggle I.source (kind_of range too_great) (g + 1) before size result (coming input.old) (coming input.new) (got numbers.new) }
+{
+    let Some(option) = take_identifier(input, range.bits)? else {
+        return Ok(Part::Ended);
+    };
+    take_differences(input, range, most, option, before, size, numbers)
+}
+
+// The numbers of a gaggle, after the one before it.
+pub(crate) fn take_gaggle<I: OctetIn>(
+    input: &mut BitIn<I>,
+    range: NumberRange,
+    most: u16,
+    gaggle: usize,
+    before: u16,
+    size: usize,
+    numbers: &mut Got,
+) -> Result<Part, TextFault>
+    requires open { IsIn (coming input.old) }
+    requires low { 2 ≤ range.bits }
+    requires high { range.bits ≤ 10 }
+    requires before { before < 2 ^ range.bits }
+    requires first { gaggle ≡ 0 → before ≡ 0 }
+    requires some { 1 ≤ size }
+    requires room { size ≤ 16 }
+    requires none { got numbers.old ≡ [] }
+    ensures { (too_great : ℕ → Bool) → IsBound most range.bits too_great →
+        TakesGaggle I.source (kind_of range too_great) gaggle before size result (coming input.old) (coming input.new) (got numbers.new) }
+{
+    if gaggle == 0 {
+        return take_first(input, range, most, size, numbers);
+    }
+    take_next(input, range, most, before, size, numbers)
+}
