@@ -7,7 +7,7 @@ use Rattle.std.proofs.lemmas.List.{length-map}
 use Rattle.std.proofs.lemmas.List.FromFn.{get_or-map-range_with_len}
 use Rattle.plane_defs.specs.declared.stages.Stage.{Stage}
 use Rattle.plane_defs.specs.Entries.{block_entries}
-use Rattle.plane_defs.specs.Planes.{blocks_in}
+use Rattle.wave_defs.specs.Held.{blocks_in}
 use Rattle.plane_defs.specs.Marks.{depth_of, depths_of}
 use Rattle.plane_coder.specs.declared.gaggle.Gaggle.{Gaggle}
 use Rattle.plane_coder.specs.Gaggles.{first_mark, options_in, sent_in}

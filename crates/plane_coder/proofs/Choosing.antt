@@ -1,58 +1,49 @@
 -- The options of one gaggle after another.
 use Rattle.std.proofs.Common.{◌≡◌, ◌⊎◌, inl, inr, ℕ, suc, ◌+◌, ◌*◌, ◌^◌, ◌<◌, ◌≤◌, ℤ, false, List, [], ◌∷◌, ◌++◌, length, refl, ap, sym, ◌∙◌, subst, arith, get_or}
-use Rattle.std.specs.Prelude.{sum, count_by, map, All}
+use Rattle.std.specs.Prelude.{sum, count_by, map}
 use Rattle.std.specs.List.{flat_map}
-use Rattle.std.proofs.lemmas.List.{length-append}
 use Rattle.std.proofs.lemmas.List.Sums.{sum_by-cons}
 use Rattle.std.specs.Int.{div_ceil}
-use Rattle.std.proofs.lemmas.List.{same_lists, get_or_default}
+use Rattle.std.proofs.lemmas.List.{same_lists, append-nil}
 use Rattle.plane_defs.specs.declared.codes.Book.{Book}
 use Rattle.plane_defs.specs.declared.entries.Entry.{Entry}
 use Rattle.plane_defs.specs.Spans.{span}
 use Rattle.plane_defs.specs.Choice.{cheapest, has_symbol, symbol_counts}
 use Rattle.plane_defs.specs.declared.stages.Stage.{Stage}
-use Rattle.plane_defs.specs.Entries.{IsEntry}
-use Rattle.plane_defs.specs.Planes.{Plane, of_block, counted, chosen}
-use Rattle.plane_defs.proofs.Fitting.{block_fits}
+use Rattle.plane_defs.specs.declared.stages.Stage.TheVariants.{Parents, Children, Grandchildren}
+use Rattle.plane_defs.specs.Planes.{Plane, of_block, gaggle_size, counted, chosen}
 use Rattle.plane_defs.specs.Marks.{depths_of}
 use Rattle.plane_defs.proofs.SpanLists.{length-map-span, get_or-map-span, flat_map-span-suc, flat_map-span-none}
 use Rattle.plane_coder.specs.declared.tally.Tally.{Tally}
 use Rattle.plane_coder.specs.declared.view.View.{View}
 use Rattle.plane_coder.specs.Gaggles.{first_mark, AreOptions, options_in, sent_in}
 use Rattle.plane_coder.specs.Stored.{Stores}
-use Rattle.plane_coder.specs.Tallies.{counts_in, Counted, CountsOf, AreAtMost}
+use Rattle.plane_coder.specs.Tallies.{count_at, counts_in, Counts, CountsOf, AreAtMost}
 use Rattle.plane_coder.specs.Views.{plane_in}
-use Rattle.plane_coder.proofs.Tallying.{counted_none, counted_both}
-use Rattle.plane_coder.specs.Chosen.{HasOptions, ChoosesFirst, Chooses}
+use Rattle.plane_coder.proofs.Tallying.{count_by-append, counts_none, counts_less}
+use Rattle.plane_coder.specs.Chosen.{HasOptions, ChoosesFirst, Chooses, words_of_block}
 
-pub from_nothing : {a b : Tally} {xs : List Entry} → AreAtMost a 0 → Counted a b xs → CountsOf b xs
-from_nothing none p = record { at = λ n s low high below. omega (arith, none.at n s low high below, p.at n s low high below) }
+pub from_nothing : {a b : Tally} {xs : List Entry} (most : ℕ) → AreAtMost a 0 → Counts a b xs most → CountsOf b xs
+from_nothing most none p = record { at = λ n s low high below. omega (arith, none.at (16 * n + s), p.at n s low high below) }
 
-length-counts : (t : Tally) (n : ℕ) → 2 ≤ n → n ≤ 4 → length (counts_in t n) ≡ 16
-length-counts t n low high =
-    elim (which n low high) [
-      | inl two ↦ rw two t.two_whole
-      | inr rest ↦ elim rest [ inl three ↦ rw three t.three_whole | inr four ↦ rw four t.four_whole ]
-    ]
-  where
-    which : (n : ℕ) → 2 ≤ n → n ≤ 4 → (n ≡ 2) ⊎ ((n ≡ 3) ⊎ (n ≡ 4))
-    which n low high = grind arith
+length-counts : (t : Tally) (n : ℕ) → length (counts_in t n) ≡ 16
+length-counts t n = length-map-span (count_at t n) 16
 
 counts_are : (t : Tally) (xs : List Entry) (n : ℕ) → 2 ≤ n → n ≤ 4 → CountsOf t xs → counts_in t n ≡ symbol_counts n xs
 counts_are t xs n low high p =
     let f = λ (s : ℕ). count_by (has_symbol n s) xs in
-    let whole = length-counts t n low high in
-    same_lists (counts_in t n) (map f (span 0 16)) (whole ∙ sym (length-map-span f 16))
+    let g = count_at t n in
+    same_lists (map g (span 0 16)) (map f (span 0 16)) (length-map-span g 16 ∙ sym (length-map-span f 16))
     (λ s d h.
-    let below : s < 16 = omega arith in
-    get_or_default (counts_in t n) s d 0 h ∙ p.at n s low high below ∙ sym (get_or-map-span f 16 s d below))
+    let below : s < 16 = omega (arith, length-map-span g 16) in
+    get_or-map-span g 16 s d below ∙ p.at n s low high below ∙ sym (get_or-map-span f 16 s d below))
 
 pub options_are : (book : Book) (p : Plane) (g : ℕ) (t : Tally) (options : List ℕ) → CountsOf t (counted p g) →
-    options ≡ cheapest book 2 t.two ∷ cheapest book 3 t.three ∷ cheapest book 4 t.four ∷ [] → options ≡ chosen book p g
+    options ≡ cheapest book 2 (counts_in t 2) ∷ cheapest book 3 (counts_in t 3) ∷ cheapest book 4 (counts_in t 4) ∷ [] → options ≡ chosen book p g
 options_are book p g t options counts is =
     is ∙
-    ap (λ l. cheapest book 2 l ∷ cheapest book 3 t.three ∷ cheapest book 4 t.four ∷ []) (counts_are t (counted p g) 2 (omega arith) (omega arith) counts) ∙
-    ap (λ l. cheapest book 2 (symbol_counts 2 (counted p g)) ∷ cheapest book 3 l ∷ cheapest book 4 t.four ∷ []) (counts_are t (counted p g) 3 (omega arith) (omega arith) counts) ∙
+    ap (λ l. cheapest book 2 l ∷ cheapest book 3 (counts_in t 3) ∷ cheapest book 4 (counts_in t 4) ∷ []) (counts_are t (counted p g) 2 (omega arith) (omega arith) counts) ∙
+    ap (λ l. cheapest book 2 (symbol_counts 2 (counted p g)) ∷ cheapest book 3 l ∷ cheapest book 4 (counts_in t 4) ∷ []) (counts_are t (counted p g) 3 (omega arith) (omega arith) counts) ∙
     ap (λ l. cheapest book 2 (symbol_counts 2 (counted p g)) ∷ cheapest book 3 (symbol_counts 3 (counted p g)) ∷ cheapest book 4 l ∷ [])
     (counts_are t (counted p g) 4 (omega arith) (omega arith) counts)
 
@@ -68,37 +59,70 @@ sum_small (x ∷ xs) m each =
     added : (whole x rest m n : ℕ) → whole ≡ x + rest → x ≤ m → rest ≤ n * m → whole ≤ suc n * m
     added whole x rest m n e h r = let more : suc n * m ≡ m + n * m = grind arith in omega (arith, more)
 
-pub sum_of_counts : (t : Tally) (n : ℕ) → 2 ≤ n → n ≤ 4 → AreAtMost t (2 ^ 13) → sum (counts_in t n) < 2 ^ 20
-sum_of_counts t n low high small =
-    let whole = length-counts t n low high in
+pub sum_of_counts : (t : Tally) (n : ℕ) → AreAtMost t (2 ^ 13) → sum (counts_in t n) < 2 ^ 20
+sum_of_counts t n small =
+    let whole = length-counts t n in
     let bound : sum (counts_in t n) ≤ length (counts_in t n) * 2 ^ 13 =
-    sum_small (counts_in t n) (2 ^ 13) (λ k h. small.at n k low high (omega arith)) in
+    sum_small (counts_in t n) (2 ^ 13) (λ k h. let at = get_or-map-span (count_at t n) 16 k 0 (omega (arith, whole)) in omega (arith, at, small.at (16 * n + k))) in
     let wide : length (counts_in t n) * 2 ^ 13 ≡ 16 * 2 ^ 13 = ap (λ m. m * 2 ^ 13) whole in
     omega (arith, bound, wide)
 
--- a list of a stage's blocks, one more
-module _ {A : Type 0} (f : ℕ → List A) (start n : ℕ) where
-  pub more_of_span : (xs : List A) → xs ≡ f (start + n) → flat_map f (span start n) ++ xs ≡ flat_map f (span start (n + 1))
-  more_of_span xs is = ap (λ l. flat_map f (span start n) ++ l) is ∙ sym (flat_map-span-suc f start n)
+-- ---- block after block: the stages are counted together, and stand one after another
 
-  pub longer_span : (xs : List A) (m l : ℕ) → xs ≡ f (start + n) → length (flat_map f (span start n)) ≤ m → length xs ≤ l → length (flat_map f (span start (n + 1))) ≤ m + l
-  longer_span xs m l is first more = omega (arith, ap length (more_of_span xs is), length-append (flat_map f (span start n)) xs, first, more)
+counts_three : {a b c : Tally} (m n : ℕ) (xs ys zs x y z : List Entry) → Counts a b (xs ++ (ys ++ zs)) m → Counts b c (x ++ (y ++ z)) n → Counts a c ((xs ++ x) ++ ((ys ++ y) ++ (zs ++ z))) (m + n)
+counts_three m n xs ys zs x y z p q = record {
+  at = λ k s low high below.
+      let h = has_symbol k s in
+      omega (
+        arith,
+        p.at k s low high below,
+        q.at k s low high below,
+        count_by-append h xs (ys ++ zs),
+        count_by-append h ys zs,
+        count_by-append h x (y ++ z),
+        count_by-append h y z,
+        count_by-append h (xs ++ x) ((ys ++ y) ++ (zs ++ z)),
+        count_by-append h (ys ++ y) (zs ++ z),
+        count_by-append h xs x,
+        count_by-append h ys y,
+        count_by-append h zs z,
+      );
+  most = λ i. omega (arith, p.most i, q.most i);
+}
 
-pub more_counted : {a b c : Tally} (f : ℕ → List Entry) (start n : ℕ) (xs : List Entry) → xs ≡ f (start + n) → Counted a b (flat_map f (span start n)) → Counted b c xs →
-    Counted a c (flat_map f (span start (n + 1)))
-more_counted {a} {b} {c} f start n xs is p q = subst (λ l. Counted a c l) (more_of_span f start n xs is) (counted_both p q)
+-- the words of so many blocks of a gaggle
+abbrev pub so_far : Plane → ℕ → ℕ → List Entry
+so_far p start n =
+    flat_map (of_block p Parents) (span start n) ++ (flat_map (of_block p Children) (span start n) ++ flat_map (of_block p Grandchildren) (span start n))
 
-pub none_counted : (f : ℕ → List Entry) (start : ℕ) (t : Tally) → Counted t t (flat_map f (span start 0))
-none_counted f start t = subst (λ l. Counted t t l) (sym (flat_map-span-none f start)) (counted_none t)
+pub none_counted : (p : Plane) (start : ℕ) (t : Tally) → Counts t t (so_far p start 0) (21 * 0)
+none_counted p start t =
+    let e = λ (s : Stage). flat_map-span-none (of_block p s) start in
+    let none : so_far p start 0 ≡ [] = ap (λ l. l ++ (flat_map (of_block p Children) (span start 0) ++ flat_map (of_block p Grandchildren) (span start 0))) (e Parents) ∙
+    ap (λ l. l ++ flat_map (of_block p Grandchildren) (span start 0)) (e Children) ∙ e Grandchildren in
+    subst (λ l. Counts t t l (21 * 0)) (sym none) (counts_less 0 (21 * 0) (omega arith) (counts_none t))
 
-pub none_long : {A : Type 0} (f : ℕ → List A) (start : ℕ) → length (flat_map f (span start 0)) ≤ 0
-none_long f start = let none = ap length (flat_map-span-none f start) in omega (arith, none)
+pub one_counted : {a b c : Tally} (p : Plane) (start n : ℕ) → Counts a b (so_far p start n) (21 * n) → Counts b c (words_of_block p (start + n)) 21 → Counts a c (so_far p start (n + 1)) (21 * (n + 1))
+one_counted {a} {b} {c} p start n first next =
+    let f = λ (s : Stage). flat_map (of_block p s) (span start n) in
+    let g = λ (s : Stage). of_block p s (start + n) in
+    let e = λ (s : Stage). flat_map-span-suc (of_block p s) start n in
+    let whole : (f Parents ++ g Parents) ++ ((f Children ++ g Children) ++ (f Grandchildren ++ g Grandchildren)) ≡ so_far p start (n + 1) =
+    ap (λ l. l ++ ((f Children ++ g Children) ++ (f Grandchildren ++ g Grandchildren))) (sym (e Parents)) ∙
+    ap (λ l. flat_map (of_block p Parents) (span start (n + 1)) ++ (l ++ (f Grandchildren ++ g Grandchildren))) (sym (e Children)) ∙
+    ap (λ l. flat_map (of_block p Parents) (span start (n + 1)) ++ (flat_map (of_block p Children) (span start (n + 1)) ++ l)) (sym (e Grandchildren)) in
+    let most : 21 * n + 21 ≡ 21 * (n + 1) = omega arith in
+    subst (Counts a c (so_far p start (n + 1))) most (subst (λ l. Counts a c l (21 * n + 21)) whole
+    (counts_three (21 * n) 21 (f Parents) (f Children) (f Grandchildren) (g Parents) (g Children) (g Grandchildren) first next))
 
--- what was listed of a block are words of at most four bits
-pub fit_of : (p : Plane) (stage : Stage) (r : ℕ) (xs : List Entry) → xs ≡ of_block p stage r → All IsEntry xs
-fit_of p stage r xs is = λ i e below.
-    let whole : length xs ≡ length (of_block p stage r) = ap length is in
-    subst (λ l. IsEntry (get_or l i e)) (sym is) (block_fits stage (get_or p.blocks r []) (get_or p.depths r 0) p.weights p.number p.q i e (omega arith))
+-- the stages whose words count are 1 to 3
+pub counted_is : (p : Plane) (g : ℕ) → so_far p (16 * g) (gaggle_size p g) ≡ counted p g
+unfolding span
+counted_is p g =
+    let z = flat_map (of_block p Grandchildren) (span (16 * g) (gaggle_size p g)) in
+    let y = flat_map (of_block p Children) (span (16 * g) (gaggle_size p g)) in
+    let x = flat_map (of_block p Parents) (span (16 * g) (gaggle_size p g)) in
+    ap (λ l. x ++ (y ++ l)) (sym (append-nil z))
 
 has_later : (view : View) (depths : List ℕ) (old new : List ℤ) (h : ℕ) → first_mark new h ≡ first_mark old h → HasOptions view depths old h → HasOptions view depths new h
 has_later view depths old new h same p = record {
@@ -111,7 +135,7 @@ pub none_chosen : (view : View) (marks : List ℤ) → ChoosesFirst view marks m
 none_chosen view marks = record { depths = refl; whole = refl; each = λ g below. absurd (omega arith) }
 
 pub one_chosen : (view : View) (m0 m1 m2 : List ℤ) (g : ℕ) (options : List ℕ) → ChoosesFirst view m0 m1 g →
-    options ≡ chosen view.book.now (plane_in view (depths_of m1)) g → AreOptions options →
+    options ≡ chosen view.tables.now.book (plane_in view (depths_of m1)) g → AreOptions options →
     Stores m1 m2 g (record { options = options; sent = false ∷ false ∷ false ∷ [] }) → ChoosesFirst view m0 m2 (g + 1)
 one_chosen view m0 m1 m2 g options so_far is known put = record {
   depths = put.depths ∙ so_far.depths;
@@ -128,7 +152,7 @@ one_chosen view m0 m1 m2 g options so_far is known put = record {
 
     here : HasOptions view (depths_of m0) m2 g
     here = record {
-      options = put.options ∙ is ∙ ap (λ d. chosen view.book.now (plane_in view d) g) so_far.depths;
+      options = put.options ∙ is ∙ ap (λ d. chosen view.tables.now.book (plane_in view d) g) so_far.depths;
       known = subst AreOptions (sym put.options) known;
       fresh = put.sent;
     }

@@ -1,9 +1,13 @@
-mod WordBits
-mod Peaking
-mod EntrySteps
 mod MarkParts
+mod Pushing
+mod Viewing
+mod Saying
+mod Speaking
+mod BlockSets
+mod CodeRows
 mod Spelling
 mod Tallying
 mod BlockReads
+mod BlockStages
 mod Choosing
-mod Sending
+pub mod Sending

@@ -15,7 +15,8 @@ use Rattle.plane_defs.specs.declared.stages.Stage.{Stage}
 use Rattle.plane_defs.specs.Spans.{span}
 use Rattle.plane_defs.specs.Entries.{stage_number}
 use Rattle.plane_defs.specs.Spelled.{spelled_after, is_word_of}
-use Rattle.plane_defs.specs.Planes.{Plane, blocks_in, gaggles, of_gaggle, before_stage, gaggle_items, stage_items, plane_items, chosen}
+use Rattle.wave_defs.specs.Held.{blocks_in}
+use Rattle.plane_defs.specs.Planes.{Plane, gaggles, of_gaggle, before_stage, gaggle_items, stage_items, plane_items, chosen}
 use Rattle.plane_defs.specs.Marks.{depths_of}
 use Rattle.plane_defs.proofs.SpanLists.{flat_map-span-suc, flat_map-span-none, flat_map-span-parts}
 use Rattle.plane_coder.specs.declared.gaggle.Gaggle.{Gaggle}
@@ -29,7 +30,10 @@ use Rattle.plane_coder.specs.Sends.{AllAgree, chosen_items}
 use Rattle.plane_coder.specs.Views.{plane_of, plane_in}
 use Rattle.plane_coder.proofs.BlockReads.{length-depths_of}
 use Rattle.plane_coder.proofs.Spelling.{on_ok_map, spells_none, spells_both, spells_cut}
-use Rattle.plane_coder.proofs.Choosing.{more_of_span}
+
+-- a list of a span's places, one more
+more_of_span : {A : Type 0} (f : ℕ → List A) (start n : ℕ) (xs : List A) → xs ≡ f (start + n) → flat_map f (span start n) ++ xs ≡ flat_map f (span start (n + 1))
+more_of_span f start n xs is = ap (λ l. flat_map f (span start n) ++ l) is ∙ sym (flat_map-span-suc f start n)
 
 -- ---- entries of one block after another
 
@@ -220,9 +224,9 @@ chosen_known view m0 m1 chooses = record { at = λ g below. (chooses.each g (ome
 
 -- the items of the whole plane, by the options in the marks
 pub plane_whole : (view : View) (m0 m1 : List ℤ) (last : ℕ) → Chooses view m0 m1 →
-    plane_items view.book.now (options_at m1) (plane_in view (depths_of m1)) (last + 1) ≡ chosen_items view.book.now (plane_in view (depths_of m0)) last
+    plane_items view.tables.now.book (options_at m1) (plane_in view (depths_of m1)) (last + 1) ≡ chosen_items view.tables.now.book (plane_in view (depths_of m0)) last
 plane_whole view m0 m1 last chooses =
-    let book = view.book.now in
+    let book = view.tables.now.book in
     let options : (g : ℕ) → g < gaggles (plane_in view (depths_of m1)) → options_at m1 g ≡ chosen book (plane_in view (depths_of m0)) g =
     λ g below. (chooses.each g (omega (arith, gaggle_below m1 g below, chooses.whole))).options in
     plane_same book (options_at m1) (chosen book (plane_in view (depths_of m0))) (plane_in view (depths_of m1)) (last + 1) options ∙

@@ -1,15 +1,14 @@
 -- Entries put one after another.
-use Rattle.std.proofs.Common.{◌≡◌, ◌≢◌, ℕ, zero, suc, ◌+◌, ◌-◌, ◌<◌, ◌≤◌, ◌⊎◌, inl, inr, Bool, true, false, List, [], ◌∷◌, ◌++◌, length, take, drop, refl, ap, sym, ◌∙◌, subst, arith, append_assoc, append-nil, get_or, set, get_or-set_same, get_or-set_other}
+use Rattle.std.proofs.Common.{◌≡◌, ◌≢◌, ℕ, zero, suc, ◌-◌, ◌<◌, ◌≤◌, ◌⊎◌, inl, inr, Bool, true, false, cond, List, [], ◌∷◌, ◌++◌, length, refl, ap, sym, ◌∙◌, subst, arith, append_assoc, append-nil, get_or, set, get_or-set_same, get_or-set_other}
 use Rattle.std.specs.Prelude.{◌==◌, ◌||◌, Result, Ok, Err, OnOk}
 use Rattle.std.specs.List.{list_any}
 use Rattle.std.proofs.lemmas.List.Folds.{list_any-append}
-use Rattle.std.proofs.lemmas.List.{take_more, take_all, take-append-drop}
 use Rattle.item_defs.specs.Bits.{bits_of}
 use Rattle.item_defs.proofs.NumberBits.{bits_none}
 use Rattle.item_defs.specs.Items.{item_bits, text}
 use Rattle.item_defs.proofs.Texts.{text-append}
 use Rattle.bit_pipe.specs.Sinks.{SinkOf}
-use Rattle.bit_pipe.specs.Standing.{Standing, IsOpen, Adds, Puts}
+use Rattle.bit_pipe.specs.Standing.{Standing, IsOpen, Puts}
 use Rattle.bit_pipe.specs.declared.fault.PutFault.{PutFault}
 use Rattle.bit_pipe.proofs.Putting.{adds_start, open_later, puts_then, puts_cut, puts_whole}
 use Rattle.plane_defs.specs.declared.codes.Book.{Book}
@@ -57,6 +56,13 @@ module _ {S : Type 0} {k : SinkOf S} {book : Book} where
     options = second.options ∙ first.options;
   }
 
+  -- entries that are sent where a test holds
+  pub spells_if_not : {a : Gaggle} {s : Standing S} {b : Bool} (xs : List Entry) → b ≡ false → IsOpen s → Spells k book a a (Ok tt) s s (cond b xs [])
+  spells_if_not {a} {s} xs not_so h = subst (λ b. Spells k book a a (Ok tt) s s (cond b xs [])) (sym not_so) (spells_none a s h)
+
+  pub spells_if : {a c : Gaggle} {r : Result (Unit {0}) PutFault} {s t : Standing S} {b : Bool} (xs : List Entry) → b ≡ true → Spells k book a c r s t xs → Spells k book a c r s t (cond b xs [])
+  spells_if {a} {c} {r} {s} {t} xs so p = subst (λ b. Spells k book a c r s t (cond b xs [])) (sym so) p
+
   -- entries that would have come after the end
   pub spells_cut : {a b : Gaggle} {e : PutFault} {s t : Standing S} {xs : List Entry} (ys : List Entry) →
       Spells k book a b (Err e) s t xs → Spells k book a b (Err e) s t (xs ++ ys)
@@ -70,6 +76,10 @@ module _ {S : Type 0} {k : SinkOf S} {book : Book} where
     is_open = tt;
     options = p.options;
   }
+
+  -- after a failure nothing is told of what was sent
+  pub spells_failed : {a b : Gaggle} {e : PutFault} {s t : Standing S} {xs : List Entry} → Spells k book a b (Err e) s t xs → Spells k book a a (Err e) s t xs
+  spells_failed p = record { puts = p.puts; agrees = λ before agrees. tt; is_open = tt; options = refl }
 
   -- one entry, whose items were put
   pub one_entry : {a b : Gaggle} {r : Result (Unit {0}) PutFault} {s t : Standing S} (x : Entry) →
@@ -101,7 +111,7 @@ or_true true = refl
 or_true false = refl
 
 -- an entry that is no word of two bits or more changes nothing
-agrees_other : (sent : List Bool) (before : List Entry) (x : Entry) → ((n : ℕ) → 2 ≤ n → is_word_of n x ≡ false) → Agrees sent before → Agrees sent (before ++ x ∷ [])
+pub agrees_other : (sent : List Bool) (before : List Entry) (x : Entry) → ((n : ℕ) → 2 ≤ n → is_word_of n x ≡ false) → Agrees sent before → Agrees sent (before ++ x ∷ [])
 agrees_other sent before x none agrees = record {
   at = λ n low high. agrees.at n low high ∙ or_no _ _ (none n low) ∙ sym (list_any-last (is_word_of n) before x);
 }
@@ -111,7 +121,7 @@ same_length true m n h = refl
 same_length false m n h = grind arith
 
 -- nor does a word whose length was sent before
-agrees_again : (sent : List Bool) (before : List Entry) (bits : Bits) → 2 ≤ bits.count → bits.count ≤ 4 → get_or sent (bits.count - 2) false ≡ true →
+pub agrees_again : (sent : List Bool) (before : List Entry) (bits : Bits) → 2 ≤ bits.count → bits.count ≤ 4 → get_or sent (bits.count - 2) false ≡ true →
     Agrees sent before → Agrees sent (before ++ Word bits ∷ [])
 agrees_again sent before bits low high was agrees = record {
   at = λ n l h.
@@ -137,7 +147,7 @@ opened sent m n there lm hm ln hn three e =
     ] refl
 
 -- the first word of its length sets the flag
-agrees_first : (sent : List Bool) (before : List Entry) (bits : Bits) → 2 ≤ bits.count → bits.count ≤ 4 → length sent ≡ 3 →
+pub agrees_first : (sent : List Bool) (before : List Entry) (bits : Bits) → 2 ≤ bits.count → bits.count ≤ 4 → length sent ≡ 3 →
     Agrees sent before → Agrees (set sent (bits.count - 2) true) (before ++ Word bits ∷ [])
 agrees_first sent before bits low high three agrees = record {
   at = λ n l h.
@@ -151,12 +161,12 @@ equal_no : (m n : ℕ) → n < m → (m == n) ≡ false
 equal_no m n h = grind arith
 
 module _ (book : Book) (options : List ℕ) (before : List Entry) where
-  raw_text : (b : Bool) → text (entry_items book options before (Bit b)) ≡ b ∷ []
+  pub raw_text : (b : Bool) → text (entry_items book options before (Bit b)) ≡ b ∷ []
   unfolding entry_items bits_of
   raw_text true = refl
   raw_text false = refl
 
-  short_text : (bits : Bits) → bits.count < 2 → text (entry_items book options before (Word bits)) ≡ bits_of bits.count bits.value
+  pub short_text : (bits : Bits) → bits.count < 2 → text (entry_items book options before (Word bits)) ≡ bits_of bits.count bits.value
   unfolding entry_items
   short_text bits short =
       elim (zero_or_one bits.count short) [
@@ -167,14 +177,14 @@ module _ (book : Book) (options : List ℕ) (before : List Entry) where
       zero_or_one : (n : ℕ) → n < 2 → (n ≡ 0) ⊎ (n ≡ 1)
       zero_or_one n h = grind arith
 
-  again_text : (bits : Bits) → 2 ≤ bits.count → list_any (is_word_of bits.count) before ≡ true →
+  pub again_text : (bits : Bits) → 2 ≤ bits.count → list_any (is_word_of bits.count) before ≡ true →
       text (entry_items book options before (Word bits)) ≡ item_bits (word_item book bits.count (option_of options bits.count) bits.value)
   unfolding entry_items
   again_text bits long was =
       rw (equal_no bits.count 0 (omega arith), equal_no bits.count 1 (omega arith), was)
       (append-nil (item_bits (word_item book bits.count (option_of options bits.count) bits.value)))
 
-  first_text : (bits : Bits) → 2 ≤ bits.count → list_any (is_word_of bits.count) before ≡ false →
+  pub first_text : (bits : Bits) → 2 ≤ bits.count → list_any (is_word_of bits.count) before ≡ false →
       text (entry_items book options before (Word bits)) ≡
       item_bits (option_item bits.count (option_of options bits.count)) ++ item_bits (word_item book bits.count (option_of options bits.count) bits.value)
   unfolding entry_items
@@ -183,7 +193,7 @@ module _ (book : Book) (options : List ℕ) (before : List Entry) where
       (ap (λ l. item_bits (option_item bits.count (option_of options bits.count)) ++ l)
       (append-nil (item_bits (word_item book bits.count (option_of options bits.count) bits.value))))
 
-puts_open : {S : Type 0} {k : SinkOf S} (r : Result (Unit {0}) PutFault) (s t : Standing S) (xs : List Bool) → IsOpen s → Puts k r s t xs → OnOk r (IsOpen t)
+pub puts_open : {S : Type 0} {k : SinkOf S} (r : Result (Unit {0}) PutFault) (s t : Standing S) (xs : List Bool) → IsOpen s → Puts k r s t xs → OnOk r (IsOpen t)
 puts_open (Ok x) s t xs h p = open_later h p.ends
 puts_open (Err e) s t xs h p = tt
 
@@ -192,48 +202,6 @@ module _ {S : Type 0} {k : SinkOf S} {book : Book} (a : Gaggle) (r : Result (Uni
   spells_raw b h p =
       one_entry (Bit b) (λ before agrees. subst (λ bits. Puts k r s t bits) (sym (raw_text book a.options before b)) p)
       (λ before agrees. agrees_other a.sent before (Bit b) (λ n low. refl) agrees) (puts_open r s t (b ∷ []) h p) refl
-
-  pub spells_short : (bits : Bits) → bits.count < 2 → IsOpen s → Puts k r s t (bits_of bits.count bits.value) → Spells k book a a r s t (Word bits ∷ [])
-  spells_short bits short h p =
-      one_entry (Word bits) (λ before agrees. subst (λ bs. Puts k r s t bs) (sym (short_text book a.options before bits short)) p)
-      (λ before agrees. agrees_other a.sent before (Word bits) (λ n low. apart n low) agrees) (puts_open r s t (bits_of bits.count bits.value) h p) refl
-    where
-      apart : (n : ℕ) → 2 ≤ n → (bits.count == n) ≡ false
-      apart n low = grind arith
-
-  pub spells_again : (bits : Bits) → 2 ≤ bits.count → bits.count ≤ 4 → get_or a.sent (bits.count - 2) false ≡ true → IsOpen s →
-      Puts k r s t (item_bits (word_item book bits.count (option_of a.options bits.count) bits.value)) → Spells k book a a r s t (Word bits ∷ [])
-  spells_again bits low high was h p =
-      one_entry (Word bits)
-      (λ before agrees. subst (λ bs. Puts k r s t bs) (sym (again_text book a.options before bits low (sym (agrees.at bits.count low high) ∙ was))) p)
-      (λ before agrees. agrees_again a.sent before bits low high was agrees)
-      (puts_open r s t (item_bits (word_item book bits.count (option_of a.options bits.count) bits.value)) h p) refl
-
-  pub spells_first : (m : Standing S) (bits : Bits) → 2 ≤ bits.count → bits.count ≤ 4 → length a.sent ≡ 3 → get_or a.sent (bits.count - 2) false ≡ false → IsOpen s →
-      Adds k s m (item_bits (option_item bits.count (option_of a.options bits.count))) →
-      Puts k r m t (item_bits (word_item book bits.count (option_of a.options bits.count) bits.value)) →
-      Spells k book a (record { options = a.options; sent = set a.sent (bits.count - 2) true }) r s t (Word bits ∷ [])
-  spells_first m bits low high three was h p q =
-      one_entry (Word bits)
-      (λ before agrees. subst (λ bs. Puts k r s t bs) (sym (first_text book a.options before bits low (sym (agrees.at bits.count low high) ∙ was))) (puts_then p q))
-      (λ before agrees. agrees_first a.sent before bits low high three agrees)
-      (puts_open r m t (item_bits (word_item book bits.count (option_of a.options bits.count) bits.value)) (open_later h p) q) refl
-
--- the identifier was not put whole
-pub spells_no_option : {S T : Type 0} {k : SinkOf S} {book : Book} {e : PutFault} (a : Gaggle) (s t : Standing S) (bits : Bits) → 2 ≤ bits.count → bits.count ≤ 4 → get_or a.sent (bits.count - 2) false ≡ false →
-    Puts {T = T} k (Err e) s t (item_bits (option_item bits.count (option_of a.options bits.count))) → Spells k book a a (Err e) s t (Word bits ∷ [])
-spells_no_option {S} {T} {k} {book} {e} a s t bits low high was p = record {
-  puts = λ before agrees.
-      let w = item_bits (word_item book bits.count (option_of a.options bits.count) bits.value) in
-      let one : text (spelled_after book a.options before (Word bits ∷ [])) ≡ item_bits (option_item bits.count (option_of a.options bits.count)) ++ w =
-      ap text (append-nil (entry_items book a.options before (Word bits))) ∙ first_text book a.options before bits low (sym (agrees.at bits.count low high) ∙ was) in
-      subst (λ bs. Puts {T = Unit {0}} k (Err e) s t bs) (sym one) (puts_cut w p);
-  agrees = λ before agrees. tt;
-  is_open = tt;
-  options = refl;
-}
-
--- ---- one entry of a list after another
 
 pub known_later : {options later : List ℕ} → later ≡ options → AreOptions options → AreOptions later
 known_later same known = subst AreOptions (sym same) known
@@ -245,18 +213,3 @@ option_known options (suc (suc zero)) known low high = known.two
 option_known options (suc (suc (suc zero))) known low high = known.three
 option_known options (suc (suc (suc (suc zero)))) known low high = known.four
 option_known options (suc (suc (suc (suc (suc n))))) known low high = absurd (omega arith)
-
-module _ {S : Type 0} {k : SinkOf S} {book : Book} {a b c : Gaggle} {s t u : Standing S} (xs : List Entry) (i : ℕ) (d : Entry) where
-  pub one_entry_more : i < length xs → Spells k book a b (Ok tt) s t (take i xs) → Spells k book b c (Ok tt) t u (get_or xs i d ∷ []) →
-      Spells k book a c (Ok tt) s u (take (i + 1) xs)
-  one_entry_more below p q = subst (λ l. Spells k book a c (Ok tt) s u l) (sym (take_more xs i d below)) (spells_both p q)
-
-  pub entry_ended : {e : PutFault} → i < length xs → Spells k book a b (Ok tt) s t (take i xs) → Spells k book b c (Err e) t u (get_or xs i d ∷ []) → Spells k book a c (Err e) s u xs
-  entry_ended {e} below p q =
-      let parts : (take i xs ++ get_or xs i d ∷ []) ++ drop (i + 1) xs ≡ xs =
-      ap (λ l. l ++ drop (i + 1) xs) (sym (take_more xs i d below)) ∙ take-append-drop (i + 1) xs in
-      subst (λ l. Spells k book a c (Err e) s u l) parts (spells_cut (drop (i + 1) xs) (spells_both p q))
-
-pub entries_whole : {S : Type 0} {k : SinkOf S} {book : Book} {a b : Gaggle} {s t : Standing S} (xs : List Entry) (i : ℕ) → length xs ≤ i →
-    Spells k book a b (Ok tt) s t (take i xs) → Spells k book a b (Ok tt) s t xs
-entries_whole {S} {k} {book} {a} {b} {s} {t} xs i all p = subst (λ l. Spells k book a b (Ok tt) s t l) (take_all i xs all) p

@@ -1,34 +1,179 @@
 -- Words counted one after another.
-use Rattle.std.proofs.Common.{◌≡◌, ℕ, ◌+◌, ◌<◌, ◌≤◌, Bool, cond, List, [], ◌∷◌, ◌++◌, length, take, sym, subst, arith, get_or}
-use Rattle.std.specs.Prelude.{count_by}
-use Rattle.std.proofs.lemmas.List.{take_more, take_all}
-use Rattle.std.proofs.lemmas.List.Sums.{sum_by-append, count_by-le-length}
+use Rattle.std.proofs.Common.{◌≡◌, ◌≢◌, ℕ, zero, suc, ◌+◌, ◌*◌, ◌/◌, ◌%◌, ◌^◌, ◌<◌, ◌≤◌, ◌⊎◌, inl, inr, Bool, true, false, cond, List, [], ◌∷◌, ◌++◌, length, map, refl, ap, sym, ◌∙◌, subst, arith, get_or, set, get_or-set_same, get_or-set_other, nat_lt, replicate}
+use Rattle.std.specs.Prelude.{count_by, ◌==◌, ◌&&◌}
+use Rattle.std.specs.List.{flat_map, list_all}
+use lib.Count.{ones}
+use Rattle.std.proofs.lemmas.List.Sums.{sum_by-append}
 use Rattle.plane_defs.specs.declared.entries.Entry.{Entry}
+use Rattle.plane_defs.specs.declared.entries.Entry.TheVariants.{Bit}
+use Rattle.plane_defs.specs.Codes.{symbol}
+use Rattle.plane_defs.specs.Spans.{span}
 use Rattle.plane_defs.specs.Choice.{has_symbol}
+use Rattle.plane_defs.proofs.SpanLists.{flat_map-span-suc, flat_map-span-none}
+use Rattle.plane_defs.proofs.Tables.{list_all-span-zero}
 use Rattle.plane_coder.specs.declared.tally.Tally.{Tally}
-use Rattle.plane_coder.specs.Tallies.{Counted, AreAtMost}
+use Rattle.plane_coder.specs.declared.tally.TheConstants.{PLACES}
+use Rattle.plane_coder.specs.Picked.{word_of, IsPacked}
+use Rattle.plane_coder.specs.Tallies.{Counts, AreAtMost, count_at}
 
-count_by-append : (p : Entry → Bool) (xs ys : List Entry) → count_by p (xs ++ ys) ≡ count_by p xs + count_by p ys
+pub count_by-append : (p : Entry → Bool) (xs ys : List Entry) → count_by p (xs ++ ys) ≡ count_by p xs + count_by p ys
 count_by-append p xs ys = sum_by-append (λ x. cond (p x) 1 0) xs ys
 
-pub counted_none : (t : Tally) → Counted t t []
-counted_none t = record { at = λ n s low high below. omega arith }
+pub counts_none : (t : Tally) → Counts t t [] 0
+counts_none t = record { at = λ n s low high below. omega arith; most = λ i. omega arith }
 
-pub counted_both : {a b c : Tally} {xs ys : List Entry} → Counted a b xs → Counted b c ys → Counted a c (xs ++ ys)
-counted_both {xs = xs} {ys = ys} p q = record {
-  at = λ n s low high below. omega (arith, p.at n s low high below, q.at n s low high below, count_by-append (has_symbol n s) xs ys);
+pub counts_less : {a b : Tally} {xs : List Entry} (m n : ℕ) → m ≤ n → Counts a b xs m → Counts a b xs n
+counts_less m n le p = record { at = p.at; most = λ i. omega (arith, p.most i) }
+
+pub counts_both : {a b c : Tally} {xs ys : List Entry} (m n : ℕ) → Counts a b xs m → Counts b c ys n → Counts a c (xs ++ ys) (m + n)
+counts_both {xs = xs} {ys = ys} m n p q = record {
+  at = λ k s low high below. omega (arith, p.at k s low high below, q.at k s low high below, count_by-append (has_symbol k s) xs ys);
+  most = λ i. omega (arith, p.most i, q.most i);
 }
 
-pub at_most_later : {a b : Tally} {xs : List Entry} (m l : ℕ) → AreAtMost a m → Counted a b xs → length xs ≤ l → AreAtMost b (m + l)
-at_most_later {xs = xs} m l p q few = record {
-  at = λ n s low high below. omega (arith, p.at n s low high below, q.at n s low high below, count_by-le-length (has_symbol n s) xs);
+pub counts_more : {a b c : Tally} (f : ℕ → List Entry) (start n most : ℕ) → Counts a b (flat_map f (span start n)) (most * n) → Counts b c (f (start + n)) most →
+    Counts a c (flat_map f (span start (n + 1))) (most * (n + 1))
+counts_more {a} {b} {c} f start n most p q =
+    let whole : most * n + most ≡ most * (n + 1) = grind arith in
+    subst (λ m. Counts a c (flat_map f (span start (n + 1))) m) whole (subst (λ l. Counts a c l (most * n + most)) (sym (flat_map-span-suc f start n)) (counts_both (most * n) most p q))
+
+pub counts_start : (a : Tally) (f : ℕ → List Entry) (start most : ℕ) → Counts a a (flat_map f (span start 0)) (most * 0)
+counts_start a f start most =
+    let none : 0 ≡ most * 0 = omega arith in
+    subst (Counts a a (flat_map f (span start 0))) none (subst (λ l. Counts a a l 0) (sym (flat_map-span-none f start)) (counts_none a))
+
+-- raw bits are no words
+raws_count : (n s : ℕ) (bits : List Bool) → count_by (has_symbol n s) (map Bit bits) ≡ 0
+raws_count n s [] = refl
+raws_count n s (b ∷ bits) = raws_count n s bits
+
+pub counts_raws : {a b : Tally} {xs : List Entry} {most : ℕ} (bits : List Bool) → Counts a b xs most → Counts a b (xs ++ map Bit bits) most
+counts_raws {xs = xs} bits p = record {
+  at = λ n s low high below. omega (arith, p.at n s low high below, count_by-append (has_symbol n s) xs (map Bit bits), raws_count n s bits);
+  most = p.most;
 }
+
+pub counts_before : {a b : Tally} {xs : List Entry} {most : ℕ} (bits : List Bool) → Counts a b xs most → Counts a b (map Bit bits ++ xs) most
+counts_before {xs = xs} bits p = record {
+  at = λ n s low high below. omega (arith, p.at n s low high below, count_by-append (has_symbol n s) (map Bit bits) xs, raws_count n s bits);
+  most = p.most;
+}
+
+-- words that are counted where a test holds
+pub counts_if_not : {b : Bool} (a : Tally) (xs : List Entry) (most : ℕ) → b ≡ false → Counts a a (cond b xs []) most
+counts_if_not a xs most not_so = subst (λ b. Counts a a (cond b xs []) most) (sym not_so) (counts_less 0 most (omega arith) (counts_none a))
+
+pub counts_if : {a c : Tally} {b : Bool} {xs ys : List Entry} {most : ℕ} → b ≡ true → xs ≡ ys → Counts a c xs most → Counts a c (cond b ys []) most
+counts_if {a} {c} {b} {xs} {ys} {most} so same p = subst (λ b. Counts a c (cond b ys []) most) (sym so) (subst (λ l. Counts a c l most) same p)
+
+pub at_most_later : {a b : Tally} {xs : List Entry} (m n most : ℕ) → AreAtMost a m → Counts a b xs n → m + n ≤ most → AreAtMost b most
+at_most_later m n most p q le = record { at = λ i. omega (arith, p.at i, q.most i) }
 
 pub at_most_more : {a : Tally} (m n : ℕ) → m ≤ n → AreAtMost a m → AreAtMost a n
-at_most_more m n le p = record { at = λ k s low high below. omega (arith, p.at k s low high below) }
+at_most_more m n le p = record { at = λ i. omega (arith, p.at i) }
 
-pub one_more_counted : {a b c : Tally} (xs : List Entry) (i : ℕ) (d : Entry) → i < length xs → Counted a b (take i xs) → Counted b c (get_or xs i d ∷ []) → Counted a c (take (i + 1) xs)
-one_more_counted {a} {b} {c} xs i d below p q = subst (λ l. Counted a c l) (sym (take_more xs i d below)) (counted_both p q)
+-- ---- one word
 
-pub all_counted : {a b : Tally} (xs : List Entry) (i : ℕ) → length xs ≤ i → Counted a b (take i xs) → Counted a b xs
-all_counted {a} {b} xs i all p = subst (λ l. Counted a b l) (take_all i xs all) p
+abbrev place : ℕ → ℕ
+place word = get_or PLACES word 0
+
+places_within : list_all (λ w. nat_lt (place w) 80) (span 0 80) ≡ true
+unfolding span
+places_within = refl
+
+pub place_within : (w : ℕ) → w < 80 → place w < 80
+place_within w lt = let test = list_all-span-zero (λ w. nat_lt (place w) 80) 80 w places_within lt in grind (arith, test)
+
+-- a word's place is among those of its length
+abbrev is_in_row : ℕ → Bool
+is_in_row w = place w / 16 == w / 16
+
+places_in_rows : list_all is_in_row (span 0 80) ≡ true
+unfolding span
+places_in_rows = refl
+
+equal_from : (m n : ℕ) → (m == n) ≡ true → m ≡ n
+equal_from m n h = grind arith
+
+place_in_row : (w : ℕ) → w < 80 → place w / 16 ≡ w / 16
+place_in_row w lt = equal_from _ _ (list_all-span-zero is_in_row 80 w places_in_rows lt)
+
+abbrev is_place : ℕ → ℕ → Bool
+is_place n v = place (16 * n + v) == 16 * n + symbol n v
+
+places_of_two : list_all (is_place 2) (span 0 4) ≡ true
+unfolding symbol span ones
+places_of_two = refl
+
+places_of_three : list_all (is_place 3) (span 0 8) ≡ true
+unfolding symbol span ones
+places_of_three = refl
+
+places_of_four : list_all (is_place 4) (span 0 16) ≡ true
+unfolding symbol span ones
+places_of_four = refl
+
+long_place : (n v : ℕ) → 2 ≤ n → n ≤ 4 → v < 2 ^ n → place (16 * n + v) ≡ 16 * n + symbol n v
+long_place zero v low high fits = absurd (omega arith)
+long_place (suc zero) v low high fits = absurd (omega arith)
+long_place (suc (suc zero)) v low high fits = equal_from _ _ (list_all-span-zero (is_place 2) 4 v places_of_two fits)
+long_place (suc (suc (suc zero))) v low high fits = equal_from _ _ (list_all-span-zero (is_place 3) 8 v places_of_three fits)
+long_place (suc (suc (suc (suc zero)))) v low high fits = equal_from _ _ (list_all-span-zero (is_place 4) 16 v places_of_four fits)
+long_place (suc (suc (suc (suc (suc n))))) v low high fits = absurd (omega arith)
+
+-- the count at a word's place goes up
+module _ (a b : Tally) (word : ℕ) (packed : IsPacked word) (more : b.counts ≡ set a.counts (place word) (get_or a.counts (place word) 0 + 1)) where
+  parts : 16 * (word / 16) + word % 16 ≡ word
+  parts = omega arith
+
+  small : word < 80
+  small = omega (arith, packed.length)
+
+  here : get_or b.counts (place word) 0 ≡ get_or a.counts (place word) 0 + 1
+  here = let within : place word < length a.counts = omega (arith, place_within word small, a.whole) in rw more (rw get_or-set_same refl)
+
+  elsewhere : (i : ℕ) → i ≢ place word → get_or b.counts i 0 ≡ get_or a.counts i 0
+  elsewhere i apart = rw more (rw get_or-set_other refl)
+
+  same_or_not : (i j : ℕ) → (i ≡ j) ⊎ (i ≢ j)
+  same_or_not i j = grind arith
+
+  here_at : (n s : ℕ) → place word ≡ 16 * n + s → (word / 16 ≡ n) → symbol n (word % 16) ≡ s → count_at b n s ≡ count_at a n s + count_by (has_symbol n s) (word_of word ∷ [])
+  here_at n s at row same =
+      let told : (word / 16 == n && symbol n (word % 16) == s) ≡ true = grind (arith, row, same) in
+      ap (λ i. get_or b.counts i 0) (sym at) ∙ here ∙ ap (λ i. get_or a.counts i 0 + 1) at ∙ ap (λ x. count_at a n s + (0 + cond x 1 0)) (sym told)
+
+  elsewhere_at : (n s : ℕ) → 16 * n + s ≢ place word → (word / 16 == n && symbol n (word % 16) == s) ≡ false → count_at b n s ≡ count_at a n s + count_by (has_symbol n s) (word_of word ∷ [])
+  elsewhere_at n s apart told = elsewhere (16 * n + s) apart ∙ plus_none (count_at a n s) ∙ ap (λ x. count_at a n s + (0 + cond x 1 0)) (sym told)
+    where
+      plus_none : (m : ℕ) → m ≡ m + (0 + 0)
+      plus_none m = omega arith
+
+  counted : (n s : ℕ) → 2 ≤ n → n ≤ 4 → s < 16 → count_at b n s ≡ count_at a n s + count_by (has_symbol n s) (word_of word ∷ [])
+  counted n s low high below = elim (same_or_not (word / 16) n) [
+    | inl same ↦
+        let fits : word % 16 < 2 ^ n = subst (λ m. word % 16 < 2 ^ m) same packed.value in
+        let at : place word ≡ 16 * n + symbol n (word % 16) =
+        ap place (sym parts) ∙ ap (λ m. place (16 * m + word % 16)) same ∙ long_place n (word % 16) low high fits in
+        elim (same_or_not (symbol n (word % 16)) s) [
+          | inl e ↦ here_at n s (at ∙ ap (λ m. 16 * n + m) e) same e
+          | inr e ↦
+              let told : (word / 16 == n && symbol n (word % 16) == s) ≡ false = grind (arith, e) in
+              elsewhere_at n s (λ i. e (omega (arith, at, i))) told
+        ]
+    | inr apart ↦
+        let row = place_in_row word small in
+        let told : (word / 16 == n && symbol n (word % 16) == s) ≡ false = grind (arith, apart) in
+        elsewhere_at n s (λ i. apart (omega (arith, row, i, below))) told
+  ]
+
+  pub counts_word : Counts a b (word_of word ∷ []) 1
+  counts_word = record {
+    at = counted;
+    most = λ i. elim (same_or_not i (place word)) [ inl e ↦ rw e (omega (arith, here)) | inr e ↦ omega (arith, elsewhere i e) ];
+  }
+
+pub none_at_first : (n i : ℕ) → get_or (replicate n 0) i 0 ≤ 0
+none_at_first zero i = omega arith
+none_at_first (suc n) zero = omega arith
+none_at_first (suc n) (suc i) = none_at_first n i

@@ -1,4 +1,3 @@
-pub mod Peaks
 pub mod Gaggles
 pub mod Spells
 pub mod Tallies
@@ -6,3 +5,8 @@ pub mod Views
 pub mod Stored
 pub mod Chosen
 pub mod Sends
+pub mod Viewed
+pub mod Picked
+pub mod Refining
+pub mod Coding
+pub mod Speaks

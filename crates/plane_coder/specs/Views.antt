@@ -1,6 +1,7 @@
 -- The plane that a call is about.
 use Rattle.std.specs.Prelude.{ℕ, ℤ, List}
-use Rattle.plane_defs.specs.Planes.{Plane, blocks_in}
+use Rattle.wave_defs.specs.Held.{blocks_in}
+use Rattle.plane_defs.specs.Planes.{Plane}
 use Rattle.plane_coder.specs.declared.plan.PlanePlan.{PlanePlan}
 use Rattle.plane_coder.specs.declared.view.View.{View}
 

@@ -1,22 +1,27 @@
-//! A bit plane of a segment, written as raw bits and coded words.
+//! A bit plane of a segment, written as raw bits and coded words (docs/formats.md, "Bit planes" and "Words and codes").
+//!
+//! `masks` reads what the numbers of a block are in a plane, and `seen` tells of each set of positions and flags which
+//! word and signs it sends, by masks and look-ups. A block is seen anew in each stage: `choose` has `tally` count the words
+//! of a gaggle and takes its options, then `stages` has `put` go through the blocks, where `say` gathers the bits in a
+//! `speech`. `gaggle` keeps the options in the marks meanwhile.
 #![tactic(auto)]
 
 mod choose;
-mod entries;
 mod gaggle;
-mod listing;
-mod numbers;
-mod peaks;
+mod masks;
 mod plan;
 mod plane;
 mod put;
+mod say;
+mod seen;
+mod sets;
+mod speech;
+mod spoken;
 mod stages;
+mod tables;
 mod tally;
 mod view;
-mod word;
 
 pub use plan::PlanePlan;
-pub use plane::put_plane;
-
-#[cfg(test)]
-mod tests;
+pub use plane::{put_plane, put_plane_with};
+pub use tables::CodeTables;

@@ -1,15 +1,14 @@
 // What a call is told of a plane, and what the weights settle for all of its blocks.
 
-ghost use Rattle.std.specs.Prelude.{◌≡◌, ◌<◌, ◌≤◌, ◌+◌, ℕ, false, length, slice_index_or};
-ghost use Rattle.std.specs.List.{list_any};
-ghost use Rattle.plane_defs.specs.Spans.{span};
-ghost use Rattle.plane_defs.specs.Sets.{coded as is_coded_at, type_due, newly_significant, refined, live, enclosing_significant, flag_due, IsKnown};
+ghost use Rattle.std.specs.Prelude.{◌≡◌, ◌<◌, ◌≤◌, ◌+◌, ℕ, slice_index};
+ghost use Rattle.plane_defs.specs.Sets.{coded as is_coded_at};
+ghost use Rattle.block_masks.specs.Masks.{Shows};
+ghost use Rattle.plane_coder.specs.Viewed.{AreSets, AreQuads};
 
-use crate::numbers::is_significant;
-use crate::peaks::PeakedBlock;
+use crate::sets::{Sets, quads_of};
 use base_122::Weights;
 use block_families::place_of;
-use plane_defs::Set;
+use block_masks::{joined, one};
 
 /// A bit plane and how far it is sent (docs/formats.md, "Bit planes").
 #[derive(Clone, Copy, Debug, PartialEq, Eq)]
@@ -23,15 +22,19 @@ pub struct PlanePlan {
     pub last: u8,
 }
 
-// A plane with the positions at which a number can have a bit of it.
+// A plane with the positions at which a number can have a bit of it, and the sets that have such a position.
 #[derive(Drop)]
 pub(crate) struct CodedPlane {
     pub plane: u8,
     pub q: u8,
     pub weights: Weights,
-    pub coded: [bool; 64],
+    pub coded: u64,
+    pub live: Sets,
+    pub live_quads: [u64; 3],
     ghost low: { plane < 27 },
-    ghost tabled: { (p : ℕ) → p < 64 → slice_index_or coded p false ≡ is_coded_at weights.shifts plane p },
+    ghost shown: { Shows coded (is_coded_at weights.shifts plane) 0 64 },
+    ghost live_shown: { AreSets (is_coded_at weights.shifts plane) live },
+    ghost quads_shown: { (i : ℕ) → i < 3 → AreQuads (is_coded_at weights.shifts plane) i (slice_index live_quads i) },
 }
 
 // A bit of the plane can be other than 0 at the position.
@@ -43,12 +46,13 @@ fn can_have_bit(plan: &PlanePlan, position: u8) -> bool
     plan.weights.shift(place_of(position, 0).band) <= plan.plane
 }
 
-fn coded_positions(plan: &PlanePlan) -> [bool; 64]
-    ensures { (p : ℕ) → p < 64 → slice_index_or result p false ≡ is_coded_at plan.now.weights.shifts plan.now.plane p }
+// The positions at which a number can have a bit of the plane.
+fn coded_positions(plan: &PlanePlan) -> u64
+    ensures { Shows result (is_coded_at plan.now.weights.shifts plan.now.plane) 0 64 }
 {
-    let mut coded = [false; 64];
+    let mut coded = 0;
     for position in 0..64u8 {
-        coded[position as usize] = can_have_bit(plan, position);
+        coded = joined(coded, one(can_have_bit(plan, position)), position);
     }
     coded
 }
@@ -60,96 +64,14 @@ impl CodedPlane {
         ensures q { result.q ≡ plan.now.q }
         ensures weights { result.weights ≡ plan.now.weights }
     {
+        let coded = coded_positions(plan);
         CodedPlane {
             plane: plan.plane,
             q: plan.q,
             weights: plan.weights,
-            coded: coded_positions(plan),
-        }
-    }
-
-    pub fn is_coded(&self, position: usize) -> bool
-        requires { position < 64 }
-        ensures { result ≡ is_coded_at self.now.weights.shifts self.now.plane position }
-    {
-        self.coded[position]
-    }
-
-    #[tactic(auto, using(plane_defs::proofs::SpanLists::spans))]
-    fn is_any_coded(&self, start: usize, count: usize) -> bool
-        requires { start + count ≤ 64 }
-        ensures { result ≡ list_any (is_coded_at self.now.weights.shifts self.now.plane) (span start count) }
-    {
-        for place in 0..count {
-            if self.is_coded(start + place) {
-                return true;
-            }
-        }
-        false
-    }
-
-    #[tactic(auto, unfolding(plane_defs::specs::Sets::type_due))]
-    pub fn is_type_due(&self, block: &[i32], position: usize) -> bool
-        requires within { position < 64 }
-        requires whole { length block.now ≡ 64 }
-        ensures { result ≡ type_due block.now self.now.weights.shifts self.now.plane position }
-    {
-        !is_significant(block, position, self.plane + 1) && self.is_coded(position)
-    }
-
-    #[tactic(auto, unfolding(plane_defs::specs::Sets::newly_significant))]
-    pub fn is_newly_significant(&self, block: &[i32], position: usize) -> bool
-        requires within { position < 64 }
-        requires whole { length block.now ≡ 64 }
-        ensures { result ≡ newly_significant block.now self.now.weights.shifts self.now.plane position }
-    {
-        self.is_type_due(block, position) && is_significant(block, position, self.plane)
-    }
-
-    #[tactic(auto, unfolding(plane_defs::specs::Sets::refined))]
-    pub fn is_refined(&self, block: &[i32], position: usize) -> bool
-        requires within { position < 64 }
-        requires whole { length block.now ≡ 64 }
-        ensures { result ≡ refined block.now self.now.weights.shifts self.now.plane position }
-    {
-        is_significant(block, position, self.plane + 1) && self.is_coded(position)
-    }
-
-    #[tactic(auto, unfolding(plane_defs::specs::Sets::enclosing_significant))]
-    fn is_enclosing_significant(&self, block: &PeakedBlock, set: Set) -> bool
-        requires { IsKnown set }
-        ensures { result ≡ enclosing_significant block.now.numbers.now self.now.plane set }
-    {
-        match set {
-            Set::Descendants => true,
-            Set::Family(_) => block.is_significant(Set::Descendants, self.plane),
-            Set::Grandchildren(i) => block.is_significant(Set::Family(i), self.plane),
-            Set::Quad(i, _) => block.is_significant(Set::Grandchildren(i), self.plane),
-        }
-    }
-
-    #[tactic(auto, unfolding(plane_defs::specs::Sets::flag_due))]
-    pub fn is_flag_due(&self, block: &PeakedBlock, set: Set) -> bool
-        requires { IsKnown set }
-        ensures { result ≡ flag_due block.now.numbers.now self.now.weights.shifts self.now.plane set }
-    {
-        !block.is_significant(set, self.plane + 1)
-            && self.is_live(set)
-            && self.is_enclosing_significant(block, set)
-    }
-
-    // Some member of the set can have a bit of the plane.
-    #[tactic(auto, using(plane_defs::proofs::SpanLists::list_any_joined), unfolding(plane_defs::specs::Sets::live))]
-    pub fn is_live(&self, set: Set) -> bool
-        requires { IsKnown set }
-        ensures { result ≡ live self.now.weights.shifts self.now.plane set }
-    {
-        match set {
-            Set::Descendants => self.is_any_coded(4, 60),
-            Set::Family(i) => self.is_any_coded(4 + 4 * i as usize, 4)
-                || self.is_any_coded(16 + 16 * i as usize, 16),
-            Set::Grandchildren(i) => self.is_any_coded(16 + 16 * i as usize, 16),
-            Set::Quad(i, j) => self.is_any_coded(16 + 16 * i as usize + 4 * j as usize, 4),
+            coded,
+            live: Sets::of(coded),
+            live_quads: [quads_of(coded, 0), quads_of(coded, 1), quads_of(coded, 2)],
         }
     }
 }

@@ -2,16 +2,16 @@
 
 ghost use Rattle.std.specs.Prelude.{◌≡◌, ◌+◌, ◌*◌, ◌≤◌, IsTrue, length};
 ghost use Rattle.item_defs.specs.Items.{text};
-ghost use Rattle.bit_pipe.specs.Standing.{stand, IsOpen, Puts};
+ghost use Rattle.bit_pipe.specs.Standing.{Puts, IsReady, Writes};
 ghost use Rattle.plane_defs.specs.Codes.{is_book_sound};
 ghost use Rattle.plane_defs.specs.Marks.{depths_of};
 ghost use Rattle.plane_coder.specs.Sends.{chosen_items};
 ghost use Rattle.plane_coder.specs.Views.{plane_of, plane_in};
 
 use crate::choose::choose_all;
-use crate::entries::Entries;
 use crate::plan::{CodedPlane, PlanePlan};
 use crate::stages::put_stage;
+use crate::tables::CodeTables;
 use crate::view::View;
 use bit_pipe::{BitOut, OctetOut, PutFault};
 use plane_defs::Book;
@@ -23,17 +23,15 @@ fn put_stages<O: OctetOut>(
     marks: &mut [i32],
     last: u8,
 ) -> Result<(), PutFault>
-    requires open { IsOpen (stand O.sink out.old) }
+    requires open { IsReady O.sink out.old }
     requires whole { length view.now.blocks.now ≡ 64 * length marks.old }
     requires last { last ≤ 4 }
-    requires sound { IsTrue (is_book_sound view.now.book.now) }
-    ensures puts { Puts O.sink result (stand O.sink out.old) (stand O.sink out.new) (text (chosen_items view.now.book.now (plane_in view.now (depths_of marks.old)) last)) }
+    ensures puts { Writes O.sink result out.old out.new (text (chosen_items view.now.tables.now.book (plane_in view.now (depths_of marks.old)) last)) }
     ensures depths { depths_of marks.new ≡ depths_of marks.old }
 {
-    let mut entries = Entries::new();
-    choose_all(&mut entries, view, marks);
+    choose_all(view, marks);
     for number in 0..last + 1 {
-        put_stage(out, &mut entries, number, view, marks)?;
+        put_stage(out, number, view, marks)?;
     }
     Ok(())
 }
@@ -54,19 +52,37 @@ pub fn put_plane<O: OctetOut>(
     plan: &PlanePlan,
     book: &Book,
 ) -> Result<(), PutFault>
-    requires open { IsOpen (stand O.sink out.old) }
+    requires open { IsReady O.sink out.old }
     requires whole { length blocks.now ≡ 64 * length marks.old }
     requires plane { plan.now.plane ≤ 26 }
     requires last { plan.now.last ≤ 4 }
     requires sound { IsTrue (is_book_sound book.now) }
-    ensures puts { Puts O.sink result (stand O.sink out.old) (stand O.sink out.new) (text (chosen_items book.now (plane_of blocks.now (depths_of marks.old) plan.now) plan.now.last)) }
+    ensures puts { Writes O.sink result out.old out.new (text (chosen_items book.now (plane_of blocks.now (depths_of marks.old) plan.now) plan.now.last)) }
+    ensures depths { depths_of marks.new ≡ depths_of marks.old }
+{
+    put_plane_with(out, blocks, marks, plan, &CodeTables::new(book))
+}
+
+/// The same with tables that were made before: they serve all planes of a segment.
+pub fn put_plane_with<O: OctetOut>(
+    out: &mut BitOut<O>,
+    blocks: &[i32],
+    marks: &mut [i32],
+    plan: &PlanePlan,
+    tables: &CodeTables,
+) -> Result<(), PutFault>
+    requires open { IsReady O.sink out.old }
+    requires whole { length blocks.now ≡ 64 * length marks.old }
+    requires plane { plan.now.plane ≤ 26 }
+    requires last { plan.now.last ≤ 4 }
+    ensures puts { Writes O.sink result out.old out.new (text (chosen_items tables.now.book (plane_of blocks.now (depths_of marks.old) plan.now) plan.now.last)) }
     ensures depths { depths_of marks.new ≡ depths_of marks.old }
 {
     let coded = CodedPlane::new(plan);
     let view = View {
         blocks,
         plan: &coded,
-        book,
+        tables,
     };
     put_stages(out, &view, marks, plan.last)
 }

@@ -1,75 +1,198 @@
-// Entries as items.
+// The stages of a block.
 
-ghost use Rattle.std.specs.Prelude.{◌≡◌, ◌+◌, ◌<◌, ◌≤◌, [], ◌∷◌, All, IsTrue};
-ghost use Rattle.bit_pipe.specs.Standing.{stand, IsOpen};
-ghost use Rattle.plane_defs.specs.declared.entries.Entry.TheVariants.{Word as WordEntry};
-ghost use Rattle.plane_defs.specs.Entries.{IsEntry};
-ghost use Rattle.plane_defs.specs.Codes.{is_book_sound};
+ghost use Rattle.std.specs.Prelude.{◌≡◌, ◌&&◌, ◌<◌, ◌≤◌, [], cond, length, nat_lt};
+ghost use Rattle.bit_pipe.specs.Standing.{stand, IsReady};
+ghost use Rattle.plane_defs.specs.declared.sets.Set.TheVariants.{Grandchildren};
+ghost use Rattle.plane_defs.specs.Sets.{significant, set_significant, coded};
+ghost use Rattle.plane_defs.specs.Entries.{twos_bit, dc_bits, parents, children, quads, all_quads, grandchildren, refinement, block_entries};
 ghost use Rattle.plane_coder.specs.Gaggles.{AreOptions};
+ghost use Rattle.plane_coder.specs.Viewed.{AreSets};
 ghost use Rattle.plane_coder.specs.Spells.{Spells};
+ghost use Rattle.plane_defs.specs.declared.codes.Book.{Book as BookValue};
+ghost use Rattle.plane_coder.specs.declared.gaggle.Gaggle.{Gaggle as GaggleValue};
 
 use crate::gaggle::Gaggle;
+use crate::plan::CodedPlane;
+use crate::say::{say_children, say_parents, say_quads, say_refinement};
+use crate::seen::Seen;
+use crate::sets::Sets;
+use crate::speech::Speech;
+use crate::spoken::Spoken;
 use bit_pipe::{BitOut, OctetOut, PutFault};
-use plane_defs::{Bits, Book, Entry};
-use word_codes::{put_option, put_word};
+use block_masks::has;
+use plane_defs::Stage;
 
-// A word of two bits or more, after the identifier of its option where it is the first of its length.
-fn put_coded<O: OctetOut>(
-    out: &mut BitOut<O>,
-    book: &Book,
-    gaggle: &mut Gaggle,
-    bits: Bits,
-) -> Result<(), PutFault>
-    requires open { IsOpen (stand O.sink out.old) }
-    requires sound { IsTrue (is_book_sound book.now) }
-    requires known { AreOptions gaggle.old.options }
-    requires fits { IsEntry (WordEntry bits) }
-    requires long { 2 ≤ bits.count }
-    ensures { Spells O.sink book.now gaggle.old gaggle.new result (stand O.sink out.old) (stand O.sink out.new) (WordEntry bits ∷ []) }
+// The bit of weight 2^place of a two's complement form.
+fn twos_bit_at(number: i32, place: u8) -> bool
+    requires { place < 32 }
+    ensures { result ≡ twos_bit number place }
 {
-    let place = bits.count as usize - 2;
-    let option = gaggle.options[place];
-    if gaggle.sent[place] {
-        return put_word(out, book, option, bits.value, bits.count);
-    }
-    put_option(out, bits.count, option)?;
-    gaggle.sent[place] = true;
-    put_word(out, book, option, bits.value, bits.count)
+    (number >> place) & 1 == 1
 }
 
-fn put_entry<O: OctetOut>(
-    out: &mut BitOut<O>,
-    book: &Book,
-    gaggle: &mut Gaggle,
-    entry: Entry,
-) -> Result<(), PutFault>
-    requires open { IsOpen (stand O.sink out.old) }
-    requires sound { IsTrue (is_book_sound book.now) }
-    requires known { AreOptions gaggle.old.options }
-    requires fits { IsEntry entry }
-    ensures { Spells O.sink book.now gaggle.old gaggle.new result (stand O.sink out.old) (stand O.sink out.new) (entry ∷ []) }
+// The DC part left the plane's bit out, and it can be other than 0.
+fn is_dc_bit_due(plan: &CodedPlane) -> bool
+    ensures { result ≡ (coded plan.now.weights.shifts plan.now.plane 0 && nat_lt plan.now.plane plan.now.q) }
 {
-    match entry {
-        Entry::Bit(bit) => out.put(bit),
-        Entry::Word(bits) if bits.count < 2 => out.put_bits(u32::from(bits.value), bits.count),
-        Entry::Word(bits) => put_coded(out, book, gaggle, bits),
-    }
+    has(plan.coded, 0) && plan.plane < plan.q
 }
 
-pub(crate) fn put_entries<O: OctetOut>(
+fn put_dc_bit<O: OctetOut>(
     out: &mut BitOut<O>,
-    book: &Book,
-    gaggle: &mut Gaggle,
-    entries: &[Entry],
+    block: &[i32],
+    plan: &CodedPlane,
 ) -> Result<(), PutFault>
-    requires open { IsOpen (stand O.sink out.old) }
-    requires sound { IsTrue (is_book_sound book.now) }
-    requires known { AreOptions gaggle.old.options }
-    requires fit { All IsEntry entries.now }
-    ensures { Spells O.sink book.now gaggle.old gaggle.new result (stand O.sink out.old) (stand O.sink out.new) entries.now }
+    requires open { IsReady O.sink out.old }
+    requires whole { length block.now ≡ 64 }
+    ensures { (book : BookValue) (gaggle : GaggleValue) → Spells O.sink book gaggle gaggle result (stand O.sink out.old) (stand O.sink out.new) (dc_bits block.now plan.now.weights.shifts plan.now.plane plan.now.q) }
 {
-    for entry in entries {
-        put_entry(out, book, gaggle, *entry)?;
+    if !is_dc_bit_due(plan) {
+        return Ok(());
+    }
+    out.put(twos_bit_at(block[0], plan.plane))
+}
+
+fn put_parents<O: OctetOut>(
+    out: &mut BitOut<O>,
+    gaggle: &mut Gaggle,
+    spoken: &Spoken,
+    seen: &Seen,
+) -> Result<(), PutFault>
+    requires open { IsReady O.sink out.old }
+    requires same { spoken.now.options ≡ gaggle.old.options }
+    ensures { Spells O.sink spoken.now.tables.now.book gaggle.old gaggle.new result (stand O.sink out.old) (stand O.sink out.new) (parents seen.now.block.now seen.now.plan.now.weights.shifts seen.now.plan.now.plane) }
+{
+    let mut speech = Speech::new(*gaggle);
+    say_parents(&mut speech, spoken, seen);
+    *gaggle = speech.gaggle;
+    speech.put(out)
+}
+
+fn put_children<O: OctetOut>(
+    out: &mut BitOut<O>,
+    gaggle: &mut Gaggle,
+    spoken: &Spoken,
+    seen: &Seen,
+) -> Result<(), PutFault>
+    requires open { IsReady O.sink out.old }
+    requires same { spoken.now.options ≡ gaggle.old.options }
+    ensures { Spells O.sink spoken.now.tables.now.book gaggle.old gaggle.new result (stand O.sink out.old) (stand O.sink out.new) (children seen.now.block.now seen.now.plan.now.weights.shifts seen.now.plan.now.plane) }
+{
+    let mut speech = Speech::new(*gaggle);
+    say_children(&mut speech, spoken, seen);
+    *gaggle = speech.gaggle;
+    speech.put(out)
+}
+
+// The sets of four grandchildren in family i, where its grandchildren are significant.
+#[inline(always)]
+fn put_quads<O: OctetOut>(
+    out: &mut BitOut<O>,
+    gaggle: &mut Gaggle,
+    spoken: &Spoken,
+    seen: &Seen,
+    is_said: bool,
+    i: u8,
+) -> Result<(), PutFault>
+    requires open { IsReady O.sink out.old }
+    requires family { i < 3 }
+    requires enclosing { is_said ≡ set_significant seen.now.block.now seen.now.plan.now.plane (Grandchildren i) }
+    requires same { spoken.now.options ≡ gaggle.old.options }
+    ensures { Spells O.sink spoken.now.tables.now.book gaggle.old gaggle.new result (stand O.sink out.old) (stand O.sink out.new)
+        (cond is_said (quads seen.now.block.now seen.now.plan.now.weights.shifts seen.now.plan.now.plane i) []) }
+{
+    if !is_said {
+        return Ok(());
+    }
+    let mut speech = Speech::new(*gaggle);
+    say_quads(&mut speech, spoken, seen, i);
+    *gaggle = speech.gaggle;
+    speech.put(out)
+}
+
+#[inline(always)]
+fn put_all_quads<O: OctetOut>(
+    out: &mut BitOut<O>,
+    gaggle: &mut Gaggle,
+    spoken: &Spoken,
+    seen: &Seen,
+    sets: Sets,
+) -> Result<(), PutFault>
+    requires open { IsReady O.sink out.old }
+    requires sets { AreSets (significant seen.now.block.now seen.now.plan.now.plane) sets }
+    requires same { spoken.now.options ≡ gaggle.old.options }
+    ensures { Spells O.sink spoken.now.tables.now.book gaggle.old gaggle.new result (stand O.sink out.old) (stand O.sink out.new) (all_quads seen.now.block.now seen.now.plan.now.weights.shifts seen.now.plan.now.plane) }
+{
+    for i in 0..3u8 {
+        put_quads(out, gaggle, spoken, seen, has(sets.grandchildren, i), i)?;
     }
     Ok(())
+}
+
+fn put_grandchildren<O: OctetOut>(
+    out: &mut BitOut<O>,
+    gaggle: &mut Gaggle,
+    spoken: &Spoken,
+    seen: &Seen,
+) -> Result<(), PutFault>
+    requires open { IsReady O.sink out.old }
+    requires same { spoken.now.options ≡ gaggle.old.options }
+    ensures { Spells O.sink spoken.now.tables.now.book gaggle.old gaggle.new result (stand O.sink out.old) (stand O.sink out.new) (grandchildren seen.now.block.now seen.now.plan.now.weights.shifts seen.now.plan.now.plane) }
+{
+    let mut speech = Speech::new(*gaggle);
+    speech.word(spoken, seen.flags_of_grandchildren());
+    *gaggle = speech.gaggle;
+    speech.put(out)?;
+    put_all_quads(out, gaggle, spoken, seen, seen.sets())
+}
+
+fn put_refinement<O: OctetOut>(
+    out: &mut BitOut<O>,
+    gaggle: &mut Gaggle,
+    seen: &Seen,
+) -> Result<(), PutFault>
+    requires open { IsReady O.sink out.old }
+    requires known { AreOptions gaggle.old.options }
+    ensures { (book : BookValue) → Spells O.sink book gaggle.old gaggle.new result (stand O.sink out.old) (stand O.sink out.new) (refinement seen.now.block.now seen.now.plan.now.weights.shifts seen.now.plan.now.plane) }
+{
+    let refined = seen.refined();
+    let mut first = Speech::new(*gaggle);
+    first.raws(seen.refinement(refined, 1, 3));
+    say_refinement(&mut first, seen, refined, 1, 4);
+    say_refinement(&mut first, seen, refined, 4, 8);
+    first.put(out)?;
+    let mut second = Speech::new(first.gaggle);
+    say_refinement(&mut second, seen, refined, 8, 12);
+    say_refinement(&mut second, seen, refined, 12, 16);
+    *gaggle = second.gaggle;
+    second.put(out)
+}
+
+// Puts one stage of a block of this depth.
+#[inline]
+pub(crate) fn put_block<O: OctetOut>(
+    out: &mut BitOut<O>,
+    gaggle: &mut Gaggle,
+    spoken: &Spoken,
+    stage: Stage,
+    block: &[i32],
+    depth: u8,
+    plan: &CodedPlane,
+) -> Result<(), PutFault>
+    requires open { IsReady O.sink out.old }
+    requires whole { length block.now ≡ 64 }
+    requires same { spoken.now.options ≡ gaggle.old.options }
+    ensures { Spells O.sink spoken.now.tables.now.book gaggle.old gaggle.new result (stand O.sink out.old) (stand O.sink out.new) (block_entries stage block.now depth plan.now.weights.shifts plan.now.plane plan.now.q) }
+{
+    let is_deep = plan.plane < depth;
+    match stage {
+        Stage::DcBits => put_dc_bit(out, block, plan),
+        Stage::Parents if is_deep => put_parents(out, gaggle, spoken, &Seen::of(block, plan)),
+        Stage::Children if is_deep => put_children(out, gaggle, spoken, &Seen::of(block, plan)),
+        Stage::Grandchildren if is_deep => {
+            put_grandchildren(out, gaggle, spoken, &Seen::of(block, plan))
+        }
+        Stage::Refinement if is_deep => put_refinement(out, gaggle, &Seen::of(block, plan)),
+        _ => Ok(()),
+    }
 }

@@ -1,62 +1,158 @@
 // The words of a gaggle, counted by their lengths and symbols.
 
-ghost use Rattle.std.specs.Prelude.{◌≡◌, ◌+◌, ◌*◌, ◌<◌, ◌≤◌, ◌^◌, ℕ, [], ◌∷◌, All, length, sum};
-ghost use Rattle.plane_defs.specs.Entries.{IsEntry};
+ghost use Rattle.std.specs.Prelude.{◌≡◌, ◌+◌, ◌*◌, ◌<◌, ◌≤◌, ◌^◌, ◌++◌, ℕ, [], ◌∷◌, length, cond, sum, slice_index_or};
+ghost use Rattle.plane_defs.specs.Spans.{span};
+ghost use Rattle.plane_defs.specs.declared.sets.Set.TheVariants.{Grandchildren};
+ghost use Rattle.plane_defs.specs.Sets.{significant, set_significant};
+ghost use Rattle.plane_defs.specs.Entries.{typed, parents, children, children_types, quads, quads_types, all_quads, grandchildren};
 
-use plane_defs::Entry;
-use word_codes::symbol_of;
+use crate::seen::Seen;
+use crate::sets::Sets;
+use block_masks::has;
 
-// How many words of two, three and four bits have each symbol.
+// Where each word is counted, as it is picked: sixteen times its length, and its symbol. Words of a bit or none have
+// places of their own that nothing reads.
+const PLACES: [u8; 80] = [
+    0, 0, 0, 0, 0, 0, 0, 0, 0, 0, 0, 0, 0, 0, 0, 0, 16, 16, 16, 16, 16, 16, 16, 16, 16, 16, 16, 16,
+    16, 16, 16, 16, 32, 34, 33, 35, 32, 32, 32, 32, 32, 32, 32, 32, 32, 32, 32, 32, 48, 51, 50, 54,
+    49, 53, 52, 55, 48, 48, 48, 48, 48, 48, 48, 48, 64, 68, 67, 74, 66, 73, 72, 78, 65, 71, 70, 77,
+    69, 76, 75, 79,
+];
+
+// How many words of each length have each symbol.
 #[derive(Drop)]
 pub(crate) struct Tally {
-    pub two: [u32; 16],
-    pub three: [u32; 16],
-    pub four: [u32; 16],
-    ghost two_whole: { length two ≡ 16 },
-    ghost three_whole: { length three ≡ 16 },
-    ghost four_whole: { length four ≡ 16 },
+    counts: [u32; 80],
+    ghost whole: { length counts ≡ 80 },
 }
 
 impl Tally {
-    ghost use Rattle.plane_coder.specs.Tallies.{Counted, AreAtMost};
+    ghost use Rattle.plane_coder.specs.Tallies.{Counts, AreAtMost, counts_in};
+    ghost use Rattle.plane_coder.specs.Picked.{IsPacked, word_of};
+    ghost use Rattle.plane_coder.specs.Viewed.{AreSets};
 
     pub fn new() -> Tally
         ensures { AreAtMost result 0 }
     {
-        Tally {
-            two: [0; 16],
-            three: [0; 16],
-            four: [0; 16],
-        }
+        Tally { counts: [0; 80] }
     }
 
-    pub fn add(&mut self, entry: Entry)
-        requires fits { IsEntry entry }
+    #[inline(always)]
+    fn add(&mut self, word: u8)
+        requires packed { IsPacked word }
         requires small { AreAtMost self.old (2 ^ 20) }
-        ensures { Counted self.old self.new (entry ∷ []) }
+        ensures { Counts self.old self.new (word_of word ∷ []) 1 }
     {
-        let Entry::Word(bits) = entry else {
-            return;
-        };
-        if bits.count < 2 {
+        let place = PLACES[word as usize] as usize;
+        self.counts[place] += 1;
+    }
+
+    #[inline(always)]
+    fn add_types(&mut self, seen: &Seen, is_said: bool, at: u8, count: u8)
+        requires few { count ≤ 4 }
+        requires within { at + count ≤ 64 }
+        requires at { at < 64 }
+        requires small { AreAtMost self.old (2 ^ 20) }
+        ensures { Counts self.old self.new (cond is_said (typed seen.now.block.now seen.now.plan.now.weights.shifts seen.now.plan.now.plane (span at count)) []) 1 }
+    {
+        if !is_said {
             return;
         }
-        let symbol = symbol_of(bits.value, bits.count) as usize;
-        match bits.count {
-            2 => self.two[symbol] += 1,
-            3 => self.three[symbol] += 1,
-            _ => self.four[symbol] += 1,
+        self.add(seen.types(at, count).word);
+    }
+
+    #[inline(always)]
+    fn add_children_types(&mut self, seen: &Seen, sets: Sets)
+        requires sets { AreSets (significant seen.now.block.now seen.now.plan.now.plane) sets }
+        requires small { AreAtMost self.old (2 ^ 19) }
+        ensures { Counts self.old self.new (children_types seen.now.block.now seen.now.plan.now.weights.shifts seen.now.plan.now.plane) 3 }
+    {
+        for i in 0..3u8 {
+            self.add_types(seen, has(sets.families, i), 4 + 4 * i, 4);
         }
     }
 
-    pub fn add_all(&mut self, entries: &[Entry])
-        requires fit { All IsEntry entries.now }
-        requires few { length entries.now ≤ 64 }
-        requires small { AreAtMost self.old (2 ^ 19) }
-        ensures { Counted self.old self.new entries.now }
+    #[inline(always)]
+    fn add_children(&mut self, seen: &Seen, sets: Sets)
+        requires sets { AreSets (significant seen.now.block.now seen.now.plan.now.plane) sets }
+        requires small { AreAtMost self.old (2 ^ 18) }
+        ensures { Counts self.old self.new (children seen.now.block.now seen.now.plan.now.weights.shifts seen.now.plan.now.plane) 4 }
     {
-        for entry in entries {
-            self.add(*entry);
+        self.add(seen.flags_of_families());
+        self.add_children_types(seen, sets);
+    }
+
+    #[inline(always)]
+    fn add_quads_types(&mut self, seen: &Seen, i: u8)
+        requires family { i < 3 }
+        requires small { AreAtMost self.old (2 ^ 19) }
+        ensures { Counts self.old self.new (quads_types seen.now.block.now seen.now.plan.now.weights.shifts seen.now.plan.now.plane i) 4 }
+    {
+        let quads = seen.quads(i);
+        for j in 0..4u8 {
+            self.add_types(seen, has(quads, j), 16 + 16 * i + 4 * j, 4);
         }
+    }
+
+    #[inline(always)]
+    fn add_quads(&mut self, seen: &Seen, is_said: bool, i: u8)
+        requires family { i < 3 }
+        requires enclosing { is_said ≡ set_significant seen.now.block.now seen.now.plan.now.plane (Grandchildren i) }
+        requires small { AreAtMost self.old (2 ^ 18) }
+        ensures { Counts self.old self.new (cond is_said (quads seen.now.block.now seen.now.plan.now.weights.shifts seen.now.plan.now.plane i) []) 5 }
+    {
+        if !is_said {
+            return;
+        }
+        self.add(seen.flags_of_quads(i));
+        self.add_quads_types(seen, i);
+    }
+
+    #[inline(always)]
+    fn add_all_quads(&mut self, seen: &Seen, sets: Sets)
+        requires sets { AreSets (significant seen.now.block.now seen.now.plan.now.plane) sets }
+        requires small { AreAtMost self.old (2 ^ 17) }
+        ensures { Counts self.old self.new (all_quads seen.now.block.now seen.now.plan.now.weights.shifts seen.now.plan.now.plane) 15 }
+    {
+        for i in 0..3u8 {
+            self.add_quads(seen, has(sets.grandchildren, i), i);
+        }
+    }
+
+    #[inline(always)]
+    fn add_grandchildren(&mut self, seen: &Seen, sets: Sets)
+        requires sets { AreSets (significant seen.now.block.now seen.now.plan.now.plane) sets }
+        requires small { AreAtMost self.old (2 ^ 16) }
+        ensures { Counts self.old self.new (grandchildren seen.now.block.now seen.now.plan.now.weights.shifts seen.now.plan.now.plane) 16 }
+    {
+        self.add(seen.flags_of_grandchildren());
+        self.add_all_quads(seen, sets);
+    }
+
+    // Counts the words of stages 1 to 3 of a block.
+    pub fn add_block(&mut self, seen: &Seen)
+        requires { AreAtMost self.old (2 ^ 15) }
+        ensures { Counts self.old self.new
+            (parents seen.now.block.now seen.now.plan.now.weights.shifts seen.now.plan.now.plane ++
+            (children seen.now.block.now seen.now.plan.now.weights.shifts seen.now.plan.now.plane ++
+            grandchildren seen.now.block.now seen.now.plan.now.weights.shifts seen.now.plan.now.plane)) 21 }
+    {
+        let sets = seen.sets();
+        self.add_types(seen, true, 1, 3);
+        self.add_children(seen, sets);
+        self.add_grandchildren(seen, sets);
+    }
+
+    // How many words of this length have each symbol.
+    pub fn counts_of(&self, length: u8) -> [u32; 16]
+        requires short { 2 ≤ length }
+        requires long { length ≤ 4 }
+        ensures { result ≡ counts_in self.now length }
+    {
+        let mut counts = [0; 16];
+        for symbol in 0..16usize {
+            counts[symbol] = self.counts[16 * length as usize + symbol];
+        }
+        counts
     }
 }

@@ -1,14 +1,28 @@
-use Rattle.std.proofs.Common.{◌≢◌, ◌<◌, ◌∙◌, length, arith, below_more, get_or-set_other, get_or-set_same}
-use Rattle.std.proofs.Math.ListN.{length-set}
+use Rattle.std.proofs.Common.{◌≡◌, ◌≤◌, ◌-◌, ◌^◌, subst, arith}
+use Rattle.std.proofs.Math.Pow.{pow_mono}
+use Rattle.plane_defs.specs.Sets.{coded}
+use Rattle.block_masks.specs.Masks.{Shows}
+use Rattle.plane_coder.proofs.Viewing.{none_shown, one_shown}
 use Rattle.plane_coder.proofs.plan.coded_positions.Goals as goal
+
+pub loop-position-init : goal.loop-position-init
+loop-position-init c = record { shown = none_shown (coded c.args.plan.now.weights.shifts c.args.plan.now.plane) }
+
+pub joined-coded-requires-clause-low : goal.joined-coded-requires-clause-low
+joined-coded-requires-clause-low c = c.loop-position.invariant.shown.small
+
+pub joined-coded-requires-clause-high : goal.joined-coded-requires-clause-high
+joined-coded-requires-clause-high c =
+    let some : 1 ≤ 64 - c.loop-position.position = omega arith in
+    let most : 2 ^ 1 ≤ 2 ^ (64 - c.loop-position.position) = pow_mono some in
+    omega (arith, c.one.ensures.within, most)
 
 pub loop-position-preserved : goal.loop-position-preserved
 loop-position-preserved c =
-    let i = c.loop-position.invariant in
-    let within : c.loop-position.position < length c.loop-position.coded = omega (arith, i.whole) in
-    record {
-      whole = length-set c.loop-position.coded _ _ ∙ i.whole;
-      so_far = below_more _ _
-          (λ k h. let ne : k ≢ c.loop-position.position = omega arith in rw get_or-set_other (i.so_far k h))
-          (rw get_or-set_same c.can_have_bit.ensures);
-    }
+    let f = coded c.args.plan.now.weights.shifts c.args.plan.now.plane in
+    record { shown = c.joined-coded.ensures.told f 0 1 c.loop-position.invariant.shown (one_shown f c.loop-position.position c.can_have_bit.ensures (c.one.ensures.told 0)) }
+
+pub returns : goal.returns
+returns c =
+    let all : c.loop-position.position ≡ 64 = omega (arith, c.loop-position-test.false, c.loop-position.auto.position-end) in
+    subst (Shows c.loop-position.coded (coded c.args.plan.now.weights.shifts c.args.plan.now.plane) 0) all c.loop-position.invariant.shown

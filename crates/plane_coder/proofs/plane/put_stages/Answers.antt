@@ -12,7 +12,7 @@ loop-number-init g c =
     let view = c.args.view.now in
     let m1 = c.choose_all.new.marks in
     record {
-      so_far = none_put (stage_items view.book.now (options_at m1) (plane_in view (depths_of m1))) _ c.requires.open;
+      so_far = none_put (stage_items view.tables.now.book (options_at m1) (plane_in view (depths_of m1))) _ c.requires.open;
       is_open = c.requires.open;
       same = same_marks m1;
       agree = chosen_agree view c.args.marks.now m1 c.choose_all.ensures;
@@ -29,9 +29,9 @@ loop-number-preserved g c =
     let view = c.args.view.now in
     let m1 = c.choose_all.new.marks in
     let m2 = c.loop-number.marks in
-    let put = stage_then view view.book.now m1 m2 c.loop-number.number i.same p.puts in
+    let put = stage_then view view.tables.now.book m1 m2 c.loop-number.number i.same p.puts in
     record {
-      so_far = more_put (stage_items view.book.now (options_at m1) (plane_in view (depths_of m1))) c.loop-number.number i.so_far put.ends;
+      so_far = more_put (stage_items view.tables.now.book (options_at m1) (plane_in view (depths_of m1))) c.loop-number.number i.so_far put.ends;
       is_open = p.is_open;
       same = same_then m1 m2 _ i.same p.kept;
       agree = agree_moved view m1 m2 _ (c.loop-number.number + 1) i.same p.agree;
@@ -47,8 +47,8 @@ returns-in_err-put_stage g c =
     let m1 = c.choose_all.new.marks in
     let m2 = c.loop-number.marks in
     let below : c.loop-number.number < c.args.last + 1 = omega (arith, c.loop-number-test.true) in
-    let put = stage_then view view.book.now m1 m2 c.loop-number.number i.same p.puts in
-    let whole = put_ended (stage_items view.book.now (options_at m1) (plane_in view (depths_of m1))) c.loop-number.number (c.args.last + 1) below i.so_far put in
+    let put = stage_then view view.tables.now.book m1 m2 c.loop-number.number i.same p.puts in
+    let whole = put_ended (stage_items view.tables.now.book (options_at m1) (plane_in view (depths_of m1))) c.loop-number.number (c.args.last + 1) below i.so_far put in
     let items = plane_whole view c.args.marks.now m1 c.args.last c.choose_all.ensures in
     rw (e.1, e.2) (record {
       puts = rw (← items) whole;
@@ -61,7 +61,7 @@ returns g c =
     let view = c.args.view.now in
     let m1 = c.choose_all.new.marks in
     let all : c.loop-number.number ≡ c.args.last + 1 = omega (arith, c.loop-number-test.false, c.loop-number.auto.number-end) in
-    let whole = put_whole (stage_items view.book.now (options_at m1) (plane_in view (depths_of m1))) c.loop-number.number (c.args.last + 1) all i.so_far in
+    let whole = put_whole (stage_items view.tables.now.book (options_at m1) (plane_in view (depths_of m1))) c.loop-number.number (c.args.last + 1) all i.so_far in
     let items = plane_whole view c.args.marks.now m1 c.args.last c.choose_all.ensures in
     record {
       puts = rw (← items) whole;

@@ -12,7 +12,7 @@ use Rattle.plane_coder.proofs.plane.put_stages.Given as goal
 abbrev pub invariant-loop-number : goal.invariant-loop-number
 invariant-loop-number g l = record {
   so_far : Adds g.O.OctetOut.sink (stand g.O.OctetOut.sink l.initial.out) (stand g.O.OctetOut.sink l.out)
-      (text (flat_map (stage_items l.view.book.now (options_at l.initial.marks) (plane_in l.view (depths_of l.initial.marks))) (span 0 l.number)));
+      (text (flat_map (stage_items l.view.tables.now.book (options_at l.initial.marks) (plane_in l.view (depths_of l.initial.marks))) (span 0 l.number)));
   is_open : IsOpen (stand g.O.OctetOut.sink l.out);
   same : SameMarks l.initial.marks l.marks;
   agree : AllAgree (plane_in l.view (depths_of l.initial.marks)) l.number l.marks;

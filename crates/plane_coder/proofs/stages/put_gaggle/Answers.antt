@@ -1,4 +1,4 @@
-use Rattle.std.proofs.Common.{◌≡◌, ◌+◌, ◌*◌, ◌<◌, ◌∙◌, subst, arith}
+use Rattle.std.proofs.Common.{◌≡◌, ◌*◌, ◌<◌, ◌∙◌, refl, sym, subst, arith}
 use Rattle.std.specs.Prelude.{Ok}
 use Rattle.std.specs.List.{flat_map}
 use Rattle.std.proofs.lemmas.Result.{err_from_is_err_and}
@@ -9,44 +9,45 @@ use Rattle.plane_defs.specs.Marks.{depths_of}
 use Rattle.plane_coder.specs.Spells.{Spells}
 use Rattle.plane_coder.specs.Views.{plane_in}
 use Rattle.plane_coder.proofs.BlockReads.{length-depths_of}
-use Rattle.plane_coder.proofs.Choosing.{fit_of}
-use Rattle.plane_coder.proofs.Spelling.{known_later}
 use Rattle.plane_coder.proofs.Sending.{none_spelled, more_spelled, spelled_ended}
 use Rattle.plane_coder.proofs.stages.put_gaggle.Goals as goal
 
 pub loop-place-init : goal.loop-place-init
 loop-place-init g c =
     let f = of_block (plane_in c.args.view.now (depths_of c.args.marks.now)) c.args.stage in
-    record { so_far = none_spelled f (16 * c.args.g) _ _ c.requires.open; is_open = c.requires.open; known = c.requires.known }
+    record { so_far = none_spelled f (16 * c.args.g) _ _ c.requires.«open»; is_open = c.requires.«open» }
 
-pub put_entries-requires-clause-fit : goal.put_entries-requires-clause-fit
-put_entries-requires-clause-fit g c =
-    fit_of (plane_in c.args.view.now (depths_of c.args.marks.now)) c.args.stage (16 * c.args.g + c.loop-place.place) c.as_slice.result.now (c.as_slice.ensures.listed ∙ c.list_stage_of_block.ensures)
+pub put_block_at-requires : goal.put_block_at-requires
+put_block_at-requires g c = record {
+  «open» = c.loop-place.invariant.is_open;
+  same = c.requires.same ∙ sym c.loop-place.invariant.so_far.options;
+  tables = c.requires.tables;
+  whole = c.requires.whole;
+  within = omega (arith, c.min-place-end.ensures, c.loop-place-test.true, c.requires.within);
+}
 
 pub loop-place-preserved : goal.loop-place-preserved
 loop-place-preserved g c =
     let i = c.loop-place.invariant in
     let f = of_block (plane_in c.args.view.now (depths_of c.args.marks.now)) c.args.stage in
-    let p = c.in_ok-put_entries.ensures in
+    let p = c.in_ok-put_block_at.ensures in
     record {
-      so_far = more_spelled f (16 * c.args.g) c.loop-place.place c.as_slice.result.now (c.as_slice.ensures.listed ∙ c.list_stage_of_block.ensures) i.so_far p;
+      so_far = more_spelled f (16 * c.args.g) c.loop-place.place _ refl i.so_far p;
       is_open = p.is_open;
-      known = known_later p.options i.known;
     }
 
-pub returns-in_err-put_entries : goal.returns-in_err-put_entries
-returns-in_err-put_entries g c =
+pub returns-in_err-put_block_at : goal.returns-in_err-put_block_at
+returns-in_err-put_block_at g c =
     let p = err_from_is_err_and c.from_residual.result c.from_residual.ensures.1 in
     let plane = plane_in c.args.view.now (depths_of c.args.marks.now) in
     let below : c.loop-place.place < gaggle_size plane c.args.g = omega (arith, c.min-place-end.ensures, c.loop-place-test.true, length-depths_of c.args.marks.now) in
     rw (p.1, p.2)
-    (spelled_ended (of_block plane c.args.stage) (16 * c.args.g) c.loop-place.place (gaggle_size plane c.args.g) c.as_slice.result.now below
-    (c.as_slice.ensures.listed ∙ c.list_stage_of_block.ensures) c.loop-place.invariant.so_far c.in_err-put_entries.ensures)
+    (spelled_ended (of_block plane c.args.stage) (16 * c.args.g) c.loop-place.place (gaggle_size plane c.args.g) _ below refl c.loop-place.invariant.so_far c.in_err-put_block_at.ensures)
 
 pub returns : goal.returns
 returns g c =
     let plane = plane_in c.args.view.now (depths_of c.args.marks.now) in
     let all : c.loop-place.place ≡ gaggle_size plane c.args.g =
     omega (arith, c.min-place-end.ensures, c.loop-place-test.false, c.loop-place.auto.place-end, length-depths_of c.args.marks.now) in
-    subst (λ n. Spells g.O.OctetOut.sink c.args.view.now.book.now c.args.gaggle.now c.loop-place.gaggle (Ok tt) (stand g.O.OctetOut.sink c.args.out.now) (stand g.O.OctetOut.sink c.loop-place.out)
+    subst (λ n. Spells g.O.OctetOut.sink c.args.view.now.tables.now.book c.args.gaggle.now c.loop-place.gaggle (Ok tt) (stand g.O.OctetOut.sink c.args.out.now) (stand g.O.OctetOut.sink c.loop-place.out)
     (flat_map (of_block plane c.args.stage) (span (16 * c.args.g) n))) all c.loop-place.invariant.so_far

@@ -5,15 +5,13 @@ use Rattle.bit_pipe.specs.Standing.{stand, IsOpen}
 use Rattle.plane_defs.specs.Spans.{span}
 use Rattle.plane_defs.specs.Planes.{of_block}
 use Rattle.plane_defs.specs.Marks.{depths_of}
-use Rattle.plane_coder.specs.Gaggles.{AreOptions}
 use Rattle.plane_coder.specs.Spells.{Spells}
 use Rattle.plane_coder.specs.Views.{plane_in}
 use Rattle.plane_coder.proofs.stages.put_gaggle.Given as goal
 
 abbrev pub invariant-loop-place : goal.invariant-loop-place
 invariant-loop-place g l = record {
-  so_far : Spells g.O.OctetOut.sink l.view.book.now l.initial.gaggle l.gaggle (Ok tt) (stand g.O.OctetOut.sink l.initial.out) (stand g.O.OctetOut.sink l.out)
+  so_far : Spells g.O.OctetOut.sink l.view.tables.now.book l.initial.gaggle l.gaggle (Ok tt) (stand g.O.OctetOut.sink l.initial.out) (stand g.O.OctetOut.sink l.out)
       (flat_map (of_block (plane_in l.view (depths_of l.marks)) l.stage) (span (16 * l.g) l.place));
   is_open : IsOpen (stand g.O.OctetOut.sink l.out);
-  known : AreOptions l.gaggle.options;
 }

@@ -12,14 +12,14 @@ pub loop-g-init : goal.loop-g-init
 loop-g-init g c =
     let p = plane_in c.args.view.now (depths_of c.args.marks.now) in
     record {
-      so_far = none_put (gaggle_items c.args.view.now.book.now (options_at c.args.marks.now) p c.args.number) _ c.requires.open;
+      so_far = none_put (gaggle_items c.args.view.now.tables.now.book (options_at c.args.marks.now) p c.args.number) _ c.requires.open;
       is_open = c.requires.open;
       same = same_marks c.args.marks.now;
       agree = none_agree p c.args.number c.args.marks.now c.requires.agree;
     }
 
-pub put_gaggle-requires-clause-known : goal.put_gaggle-requires-clause-known
-put_gaggle-requires-clause-known g c =
+pub new-spoken-requires : goal.new-spoken-requires
+new-spoken-requires g c =
     let within : 16 * c.loop-g.g < length c.args.marks.now = omega (arith, c.div_ceil-g-end.ensures, c.loop-g-test.true) in
     subst AreOptions (sym (c.load-gaggle.ensures.options ∙ c.loop-g.invariant.same.options c.loop-g.g)) (c.requires.known.at c.loop-g.g within)
 
@@ -36,7 +36,7 @@ loop-g-preserved g c =
     let put = gaggle_puts view (depths_of m0) (depths_of m1) (options_at m0) c.stage_at.result c.args.number c.loop-g.g i.same.depths c.stage_at.ensures options agrees c.in_ok-put_gaggle.ensures in
     let later = gaggle_agrees view (depths_of m0) (depths_of m1) c.stage_at.result c.args.number c.loop-g.g i.same.depths c.stage_at.ensures agrees c.in_ok-put_gaggle.ensures in
     record {
-      so_far = more_put (gaggle_items view.book.now (options_at m0) p c.args.number) c.loop-g.g i.so_far put.ends;
+      so_far = more_put (gaggle_items view.tables.now.book (options_at m0) p c.args.number) c.loop-g.g i.so_far put.ends;
       is_open = c.in_ok-put_gaggle.ensures.is_open;
       same = same_stored m0 m1 _ c.loop-g.g _ i.same c.store.ensures (c.in_ok-put_gaggle.ensures.options ∙ c.load-gaggle.ensures.options);
       agree = more_agree p c.args.number m1 _ c.loop-g.g _ i.agree c.store.ensures later;
@@ -60,7 +60,7 @@ returns-in_err-put_gaggle g c =
     let agrees = subst (λ f. Agrees f (before_stage p c.args.number c.loop-g.g)) (sym c.load-gaggle.ensures.sent) (i.agree.todo c.loop-g.g (omega arith) below) in
     let put = gaggle_puts view (depths_of m0) (depths_of m1) (options_at m0) c.stage_at.result c.args.number c.loop-g.g i.same.depths c.stage_at.ensures options agrees c.in_err-put_gaggle.ensures in
     rw (e.1, e.2) (record {
-      puts = put_ended (gaggle_items view.book.now (options_at m0) p c.args.number) c.loop-g.g (gaggles p) below i.so_far put;
+      puts = put_ended (gaggle_items view.tables.now.book (options_at m0) p c.args.number) c.loop-g.g (gaggles p) below i.so_far put;
       is_open = tt;
       agree = tt;
       kept = i.same;
@@ -73,7 +73,7 @@ returns g c =
     let p = plane_in c.args.view.now (depths_of m0) in
     let all : c.loop-g.g ≡ gaggles p = omega (arith, c.div_ceil-g-end.ensures, c.loop-g-test.false, c.loop-g.auto.g-end, length-depths_of m0) in
     record {
-      puts = put_whole (gaggle_items c.args.view.now.book.now (options_at m0) p c.args.number) c.loop-g.g (gaggles p) all i.so_far;
+      puts = put_whole (gaggle_items c.args.view.now.tables.now.book (options_at m0) p c.args.number) c.loop-g.g (gaggles p) all i.so_far;
       is_open = i.is_open;
       agree = all_agree p c.args.number c.loop-g.marks c.loop-g.g (omega (arith, all)) i.agree;
       kept = i.same;

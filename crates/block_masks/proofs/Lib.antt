@@ -1,0 +1,4 @@
+pub mod LaneMasks
+pub mod SizeLanes
+pub mod Maskings
+pub mod Picking

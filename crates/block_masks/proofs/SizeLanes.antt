@@ -1,0 +1,86 @@
+-- The magnitudes of sixteen numbers, and their bits.
+use Rattle.std.proofs.Common.{◌≡◌, ℕ, zero, suc, ◌+◌, ◌-◌, ◌*◌, ◌/◌, ◌%◌, ◌<◌, ◌≤◌, ◌^◌, ℤ, pos, negsuc, Bool, true, false, not, cond, eqb, List, [], ◌∷◌, length, map, get_or, replicate, unsigned_abs, bit_and, FitsSigned, refl, ap, sym, ◌∙◌, subst, arith, w32}
+use Rattle.std.specs.Prelude.{◌==◌}
+use Rattle.std.specs.Simd.Lanes.{mask_l, top, zip2, sel_l}
+use Rattle.std.proofs.Math.Pow.{pow_mono}
+use Rattle.std.proofs.lemmas.List.{map-id}
+use Rattle.std.proofs.lemmas.Nat.Bits.{and_pow}
+use Rattle.std.proofs.lemmas.Simd.{zip2_splat_left, zip2_of_maps, splat_is_map, map-map}
+use lib.Signed.{lt_z}
+use mir.Val.{of_z, to_z}
+use Rattle.item_defs.specs.Bits.{bit}
+use Rattle.block_masks.specs.Masks.{Shows}
+use Rattle.block_masks.proofs.LaneMasks.{lanes, length-lanes, shown}
+
+sel_of_maps : (p : ℕ → Bool) (g h : ℕ → ℕ) (vs : List ℕ) → sel_l (map p vs) (map g vs) (map h vs) ≡ map (λ v. cond (p v) (g v) (h v)) vs
+sel_of_maps p g h [] = refl
+sel_of_maps p g h (v ∷ vs) = ap (λ l. cond (p v) (g v) (h v) ∷ l) (sel_of_maps p g h vs)
+
+-- the greater of a number and its opposite, as its 32 bits
+abbrev pub less : ℕ → ℕ → ℕ
+less a b = cond (lt_z (to_z w32 a) (to_z w32 b)) 4294967295 0
+
+abbrev pub minus : ℕ → ℕ → ℕ
+minus a b = (a + (4294967296 - b)) % 4294967296
+
+abbrev pub size : ℕ → ℕ
+size x = cond (top 31 (less x (minus 0 x))) (minus 0 x) x
+
+abbrev pub apart : ℕ → ℕ → ℕ
+apart a b = cond (not (eqb a b)) 4294967295 0
+
+abbrev pub sizes : List ℕ → List ℕ
+sizes xs = sel_l (map (top 31) (zip2 less xs (zip2 minus (replicate 16 0) xs))) (zip2 minus (replicate 16 0) xs) xs
+
+sizes_are : (xs : List ℕ) → length xs ≡ 16 → sizes xs ≡ map size xs
+sizes_are xs long =
+    let opposites : zip2 minus (replicate 16 0) xs ≡ map (minus 0) xs = zip2_splat_left minus 0 16 xs long in
+    let compared : zip2 less xs (zip2 minus (replicate 16 0) xs) ≡ map (λ x. less x (minus 0 x)) xs =
+    zip2_of_maps less (λ x. x) (minus 0) xs (sym (map-id xs)) opposites in
+    let tops : map (top 31) (zip2 less xs (zip2 minus (replicate 16 0) xs)) ≡ map (λ x. top 31 (less x (minus 0 x))) xs =
+    ap (map (top 31)) compared ∙ map-map (top 31) (λ x. less x (minus 0 x)) xs in
+    ap (λ ms. sel_l ms (zip2 minus (replicate 16 0) xs) xs) tops ∙
+    ap (λ l. sel_l (map (λ x. top 31 (less x (minus 0 x))) xs) l xs) opposites ∙
+    ap (λ l. sel_l (map (λ x. top 31 (less x (minus 0 x))) xs) (map (minus 0) xs) l) (sym (map-id xs)) ∙
+    sel_of_maps (λ x. top 31 (less x (minus 0 x))) (minus 0) (λ x. x) xs
+
+pub tested : (y : ℕ) (f : ℕ → Bool) (cells : List ℤ) (start : ℕ) → start + 16 ≤ length cells →
+    ((k : ℕ) → k < 16 → top 31 (apart (bit_and (size (of_z w32 (get_or cells (start + k) (pos 0)))) y) 0) ≡ f (start + k)) →
+    Shows (mask_l (map (top 31) (zip2 apart (zip2 bit_and (sizes (lanes cells start)) (replicate 16 y)) (replicate 16 0))) % 2 ^ 64) f start 16
+tested y f cells start within each =
+    let xs = lanes cells start in
+    let long = length-lanes cells start within in
+    let ands : zip2 bit_and (sizes xs) (replicate 16 y) ≡ map (λ x. bit_and (size x) y) xs =
+    zip2_of_maps bit_and size (λ x. y) xs (sizes_are xs long) (splat_is_map xs 16 y long) in
+    let both : zip2 apart (zip2 bit_and (sizes xs) (replicate 16 y)) (replicate 16 0) ≡ map (λ x. apart (bit_and (size x) y) 0) xs =
+    zip2_of_maps apart (λ x. bit_and (size x) y) (λ x. 0) xs ands (splat_is_map xs 16 0 long) in
+    let step = ap (map (top 31)) both ∙ map-map (top 31) (λ x. apart (bit_and (size x) y) 0) xs in
+    subst (λ ms. Shows (mask_l ms % 2 ^ 64) f start 16) (sym step) (shown (λ x. top 31 (apart (bit_and (size x) y) 0)) f cells start within each)
+
+-- ---- one lane
+
+top_of : (b : Bool) → top 31 (cond b 4294967295 0) ≡ b
+top_of true = refl
+top_of false = refl
+
+size_is : (z : ℤ) → FitsSigned w32 z → size (of_z w32 z) ≡ unsigned_abs z
+size_is (pos n) fits = rw (top_of (lt_z (to_z w32 n) (to_z w32 (minus 0 n)))) (grind (arith, fits.sfits))
+size_is (negsuc n) fits = rw (top_of (lt_z (to_z w32 (4294967296 - suc n)) (to_z w32 (minus 0 (4294967296 - suc n))))) (grind (arith, fits.sfits))
+
+some_bit : (n k : ℕ) → top 31 (apart (bit_and n (2 ^ k)) 0) ≡ bit n k
+some_bit n k =
+    let from : 0 ≤ k = omega arith in
+    let least : 2 ^ 0 ≤ 2 ^ k = pow_mono from in
+    top_of (not (eqb (bit_and n (2 ^ k)) 0)) ∙ ap (λ m. not (eqb m 0)) (and_pow n k) ∙ told (n / 2 ^ k % 2) (2 ^ k) (omega arith) (omega (arith, least))
+  where
+    told : (d p : ℕ) → d < 2 → 1 ≤ p → not (eqb (d * p) 0) ≡ (d == 1)
+    told zero p small least = grind arith
+    told (suc zero) p small least = grind arith
+    told (suc (suc d)) p small least = absurd (omega arith)
+
+pub bit_lane : (plane : ℕ) (z : ℤ) → plane < 31 → FitsSigned w32 z → top 31 (apart (bit_and (size (of_z w32 z)) (1 * 2 ^ plane % 4294967296)) 0) ≡ bit (unsigned_abs z) plane
+bit_lane plane z low fits =
+    let under : plane ≤ 30 = omega arith in
+    let most : 2 ^ plane ≤ 2 ^ 30 = pow_mono under in
+    let whole : 1 * 2 ^ plane % 4294967296 ≡ 2 ^ plane = omega arith in
+    ap (λ y. top 31 (apart (bit_and (size (of_z w32 z)) y) 0)) whole ∙ ap (λ n. top 31 (apart (bit_and n (2 ^ plane)) 0)) (size_is z fits) ∙ some_bit (unsigned_abs z) plane

@@ -1,0 +1,70 @@
+// The bits of four positions that are due.
+
+ghost use Rattle.std.specs.Prelude.{◌≡◌, ◌<◌, ◌≤◌, ◌/◌, ◌%◌, ◌^◌, ℕ, Bool, map, filter};
+ghost use Rattle.plane_defs.specs.Spans.{span};
+ghost use Rattle.block_masks.specs.Masks.{Shows};
+ghost use Rattle.block_masks.specs.Picks.{packed};
+
+// For each mask of what is due, and each mask of bits: sixteen times the number of bits that are due, and the
+// number that they make, the first position highest.
+const PICKS: [[u8; 16]; 16] = [
+    [0, 0, 0, 0, 0, 0, 0, 0, 0, 0, 0, 0, 0, 0, 0, 0],
+    [
+        16, 17, 16, 17, 16, 17, 16, 17, 16, 17, 16, 17, 16, 17, 16, 17,
+    ],
+    [
+        16, 16, 17, 17, 16, 16, 17, 17, 16, 16, 17, 17, 16, 16, 17, 17,
+    ],
+    [
+        32, 34, 33, 35, 32, 34, 33, 35, 32, 34, 33, 35, 32, 34, 33, 35,
+    ],
+    [
+        16, 16, 16, 16, 17, 17, 17, 17, 16, 16, 16, 16, 17, 17, 17, 17,
+    ],
+    [
+        32, 34, 32, 34, 33, 35, 33, 35, 32, 34, 32, 34, 33, 35, 33, 35,
+    ],
+    [
+        32, 32, 34, 34, 33, 33, 35, 35, 32, 32, 34, 34, 33, 33, 35, 35,
+    ],
+    [
+        48, 52, 50, 54, 49, 53, 51, 55, 48, 52, 50, 54, 49, 53, 51, 55,
+    ],
+    [
+        16, 16, 16, 16, 16, 16, 16, 16, 17, 17, 17, 17, 17, 17, 17, 17,
+    ],
+    [
+        32, 34, 32, 34, 32, 34, 32, 34, 33, 35, 33, 35, 33, 35, 33, 35,
+    ],
+    [
+        32, 32, 34, 34, 32, 32, 34, 34, 33, 33, 35, 35, 33, 33, 35, 35,
+    ],
+    [
+        48, 52, 50, 54, 48, 52, 50, 54, 49, 53, 51, 55, 49, 53, 51, 55,
+    ],
+    [
+        32, 32, 32, 32, 34, 34, 34, 34, 33, 33, 33, 33, 35, 35, 35, 35,
+    ],
+    [
+        48, 52, 48, 52, 50, 54, 50, 54, 49, 53, 49, 53, 51, 55, 51, 55,
+    ],
+    [
+        48, 48, 52, 52, 50, 50, 54, 54, 49, 49, 53, 53, 51, 51, 55, 55,
+    ],
+    [
+        64, 72, 68, 76, 66, 74, 70, 78, 65, 73, 69, 77, 67, 75, 71, 79,
+    ],
+];
+
+/// The bits at the due ones of up to four positions, in order: sixteen times their number, and the number that they
+/// make with the first of them highest.
+#[inline(always)]
+pub fn pick(due: u64, bits: u64) -> u8
+    requires due { due < 16 }
+    requires bits { bits < 16 }
+    ensures picked { (f g : ℕ → Bool) (start count : ℕ) → count ≤ 4 → Shows due g start count → Shows bits f start count → result ≡ packed (map f (filter g (span start count))) }
+    ensures within { result < 80 }
+    ensures fits { result % 16 < 2 ^ (result / 16) }
+{
+    PICKS[due as usize][bits as usize]
+}

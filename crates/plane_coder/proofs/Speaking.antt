@@ -1,0 +1,200 @@
+-- Entries said one after another, and put together.
+use Rattle.std.proofs.Common.{◌≡◌, ℕ, zero, suc, ◌+◌, ◌*◌, ◌-◌, ◌/◌, ◌%◌, ◌<◌, ◌≤◌, ◌⊎◌, inl, inr, Bool, true, false, cond, List, [], ◌∷◌, ◌++◌, length, map, nat_lt, get_or, set, refl, ap, sym, ◌∙◌, subst, arith, append_assoc, append-nil}
+use Rattle.std.specs.Prelude.{Result, if◌then◌else◌}
+use Rattle.std.specs.List.{list_any, flat_map}
+use Rattle.plane_defs.specs.Spans.{span}
+use Rattle.plane_defs.proofs.SpanLists.{flat_map-span-suc, flat_map-span-none}
+use Rattle.item_defs.specs.Bits.{bits_of}
+use Rattle.item_defs.specs.Items.{item_bits, text}
+use Rattle.item_defs.proofs.Texts.{text-append}
+use Rattle.bit_pipe.specs.Sinks.{SinkOf}
+use Rattle.bit_pipe.specs.Standing.{Standing, IsOpen, Puts}
+use Rattle.bit_pipe.specs.declared.fault.PutFault.{PutFault}
+use Rattle.plane_defs.specs.declared.codes.Book.{Book}
+use Rattle.plane_defs.specs.declared.entries.Entry.{Entry}
+use Rattle.plane_defs.specs.declared.entries.Entry.TheVariants.{Bit, Word}
+use Rattle.plane_defs.specs.declared.entries.Bits.{Bits}
+use Rattle.plane_defs.specs.Codes.{word_item, option_item, identifier_width}
+use Rattle.plane_defs.specs.Spelled.{is_word_of, option_of, entry_items, spelled_after, opening}
+use Rattle.plane_defs.proofs.SpelledLists.{spelled_after-append}
+use Rattle.plane_coder.specs.declared.gaggle.Gaggle.{Gaggle}
+use Rattle.plane_coder.specs.Gaggles.{Agrees}
+use Rattle.plane_coder.specs.Spells.{Spells}
+use Rattle.plane_coder.specs.declared.speech.Speech.{Speech}
+use Rattle.plane_coder.specs.Picked.{word_of}
+use Rattle.plane_coder.specs.Coding.{word_bits, option_for, unopened}
+use Rattle.plane_coder.specs.Speaks.{Speaks, Opens, identified, said, load}
+use Rattle.plane_coder.proofs.Spelling.{on_ok, puts_open, raw_text, short_text, again_text, first_text, agrees_other, agrees_again, agrees_first}
+
+-- entries that nothing says
+pub speaks_none : (book : Book) (a : Speech) → Speaks book a a [] 0
+speaks_none book a = record {
+  bits = λ before agrees. sym (append-nil (said a));
+  agrees = λ before agrees. subst (Agrees a.gaggle.sent) (sym (append-nil before)) agrees;
+  options = refl;
+  load = omega arith;
+}
+
+pub speaks_less : {book : Book} {a b : Speech} {xs : List Entry} (m n : ℕ) → m ≤ n → Speaks book a b xs m → Speaks book a b xs n
+speaks_less m n le p = record { bits = p.bits; agrees = p.agrees; options = p.options; load = omega (arith, p.load) }
+
+pub speaks_both : {book : Book} {a b c : Speech} {xs ys : List Entry} (m n : ℕ) → Speaks book a b xs m → Speaks book b c ys n → Speaks book a c (xs ++ ys) (m + n)
+speaks_both {book} {a} {b} {c} {xs} {ys} m n first second = record {
+  bits = λ before agrees.
+      let x = text (spelled_after book a.gaggle.options before xs) in
+      second.bits (before ++ xs) (first.agrees before agrees) ∙
+      ap (λ o. said b ++ text (spelled_after book o (before ++ xs) ys)) first.options ∙
+      ap (λ l. l ++ text (spelled_after book a.gaggle.options (before ++ xs) ys)) (first.bits before agrees) ∙
+      append_assoc (said a) x (text (spelled_after book a.gaggle.options (before ++ xs) ys)) ∙
+      ap (λ l. said a ++ l) (sym (text-append (spelled_after book a.gaggle.options before xs) (spelled_after book a.gaggle.options (before ++ xs) ys)) ∙
+      ap text (sym (spelled_after-append book a.gaggle.options before xs ys)));
+  agrees = λ before agrees. subst (Agrees c.gaggle.sent) (append_assoc before xs ys) (second.agrees (before ++ xs) (first.agrees before agrees));
+  options = second.options ∙ first.options;
+  load = omega (arith, first.load, second.load);
+}
+
+-- the places of a span, one more
+pub speaks_more : {book : Book} {a b c : Speech} (f : ℕ → List Entry) (start n most : ℕ) → Speaks book a b (flat_map f (span start n)) (most * n) → Speaks book b c (f (start + n)) most →
+    Speaks book a c (flat_map f (span start (n + 1))) (most * (n + 1))
+speaks_more {book} {a} {b} {c} f start n most p q =
+    let whole : most * n + most ≡ most * (n + 1) = grind arith in
+    subst (λ m. Speaks book a c (flat_map f (span start (n + 1))) m) whole (subst (λ l. Speaks book a c l (most * n + most)) (sym (flat_map-span-suc f start n)) (speaks_both (most * n) most p q))
+
+pub speaks_start : (book : Book) (a : Speech) (f : ℕ → List Entry) (start most : ℕ) → Speaks book a a (flat_map f (span start 0)) (most * 0)
+speaks_start book a f start most =
+    let none : 0 ≡ most * 0 = omega arith in
+    subst (Speaks book a a (flat_map f (span start 0))) none (subst (λ l. Speaks book a a l 0) (sym (flat_map-span-none f start)) (speaks_none book a))
+
+-- entries that are said where a test holds
+pub speaks_if_not : {book : Book} {b : Bool} (a : Speech) (xs : List Entry) (most : ℕ) → b ≡ false → Speaks book a a (cond b xs []) most
+speaks_if_not {book} a xs most not_so = subst (λ b. Speaks book a a (cond b xs []) most) (sym not_so) (speaks_less 0 most (omega arith) (speaks_none book a))
+
+pub speaks_if : {book : Book} {a c : Speech} {b : Bool} {xs ys : List Entry} {most : ℕ} → b ≡ true → xs ≡ ys → Speaks book a c xs most → Speaks book a c (cond b ys []) most
+speaks_if {book} {a} {c} {b} {xs} {ys} {most} so same p = subst (λ b. Speaks book a c (cond b ys []) most) (sym so) (subst (λ l. Speaks book a c l most) same p)
+
+-- what was said from nothing on, and put
+pub spells_said : {S : Type 0} {k : SinkOf S} {book : Book} {g : Gaggle} {a b : Speech} {r : Result (Unit {0}) PutFault} {s t : Standing S} {xs : List Entry} (most : ℕ) →
+    IsOpen s → a.gaggle ≡ g → said a ≡ [] → Speaks book a b xs most → Puts k r s t (said b) → Spells k book g b.gaggle r s t xs
+spells_said {S} {k} {book} {g} {a} {b} {r} {s} {t} {xs} most opened same empty p put =
+    subst (λ h. Spells k book h b.gaggle r s t xs) same record {
+      puts = λ before agrees. subst (λ l. Puts k r s t l) (p.bits before agrees ∙ ap (λ l. l ++ text (spelled_after book a.gaggle.options before xs)) empty) put;
+      agrees = λ before agrees. on_ok r (p.agrees before agrees);
+      is_open = puts_open r s t (said b) opened put;
+      options = p.options;
+    }
+
+-- ---- one word
+
+less : (n : ℕ) → n < 2 → nat_lt n 2 ≡ true
+less n h = grind arith
+
+no_less : (n : ℕ) → 2 ≤ n → nat_lt n 2 ≡ false
+no_less n h = grind arith
+
+pub opens_short : (n : ℕ) (a : Speech) → n < 2 → Opens n a a
+opens_short n a short = record {
+  bits = λ before agrees. sym (ap (λ b. said a ++ text (if b then [] else opening a.gaggle.options before n)) (less n short) ∙ append-nil (said a));
+  agrees = λ before word is agrees. agrees_other a.gaggle.sent before (Word word) (λ m low. grind (arith, is, short, low)) agrees;
+  options = refl;
+}
+
+pub opens_again : (n : ℕ) (a : Speech) → 2 ≤ n → n ≤ 4 → get_or a.gaggle.sent (n - 2) false ≡ true → Opens n a a
+opens_again n a low high was = record {
+  bits = λ before agrees.
+      let there : list_any (is_word_of n) before ≡ true = sym (agrees.at n low high) ∙ was in
+      sym (ap (λ b. said a ++ text (if b then [] else opening a.gaggle.options before n)) (no_less n low) ∙
+      ap (λ b. said a ++ text (if b then [] else option_item n (option_of a.gaggle.options n) ∷ [])) there ∙ append-nil (said a));
+  agrees = λ before word is agrees.
+      agrees_again a.gaggle.sent before word (subst (λ m. 2 ≤ m) (sym is) low) (subst (λ m. m ≤ 4) (sym is) high) (ap (λ m. get_or a.gaggle.sent (m - 2) false) is ∙ was) agrees;
+  options = refl;
+}
+
+pub opens_first : (n : ℕ) (a b : Speech) → 2 ≤ n → n ≤ 4 → length a.gaggle.sent ≡ 3 → get_or a.gaggle.sent (n - 2) false ≡ false →
+    said b ≡ said a ++ item_bits (option_item n (option_of a.gaggle.options n)) → b.gaggle.sent ≡ set a.gaggle.sent (n - 2) true → b.gaggle.options ≡ a.gaggle.options → Opens n a b
+opens_first n a b low high three was put sent same = record {
+  bits = λ before agrees.
+      let none : list_any (is_word_of n) before ≡ false = sym (agrees.at n low high) ∙ was in
+      put ∙ ap (λ l. said a ++ l) (sym (append-nil (item_bits (option_item n (option_of a.gaggle.options n))))) ∙
+      sym (ap (λ b. said a ++ text (if b then [] else opening a.gaggle.options before n)) (no_less n low) ∙
+      ap (λ b. said a ++ text (if b then [] else option_item n (option_of a.gaggle.options n) ∷ [])) none);
+  agrees = λ before word is agrees.
+      let first = agrees_first a.gaggle.sent before word (subst (λ m. 2 ≤ m) (sym is) low) (subst (λ m. m ≤ 4) (sym is) high) three agrees in
+      subst (λ l. Agrees l (before ++ Word word ∷ [])) (ap (λ m. set a.gaggle.sent (m - 2) true) is ∙ sym sent) first;
+  options = same;
+}
+
+module _ (book : Book) (options : List ℕ) (before : List Entry) where
+  said_text : (w : Bits) → text (spelled_after book options before (Word w ∷ [])) ≡ text (identified options before w.count) ++ word_bits book w.count (option_for options w.count) w.value
+  said_text w =
+      ap text (append-nil (entry_items book options before (Word w))) ∙
+      elim (short_or_long w.count) [
+        | inl short ↦
+            short_text book options before w short ∙
+            sym (ap (λ b. text (if b then [] else opening options before w.count) ++ (if b then bits_of w.count w.value else item_bits (word_item book w.count (if b then 0 else option_of options w.count) w.value))) (less w.count short))
+        | inr long ↦
+            long_text long (list_any (is_word_of w.count) before) refl ∙
+            sym (ap (λ b. text (if b then [] else opening options before w.count) ++ (if b then bits_of w.count w.value else item_bits (word_item book w.count (if b then 0 else option_of options w.count) w.value))) (no_less w.count long))
+      ]
+    where
+      short_or_long : (n : ℕ) → (n < 2) ⊎ (2 ≤ n)
+      short_or_long n = grind arith
+
+      long_text : 2 ≤ w.count → (b : Bool) → list_any (is_word_of w.count) before ≡ b →
+          text (entry_items book options before (Word w)) ≡ text (opening options before w.count) ++ item_bits (word_item book w.count (option_of options w.count) w.value)
+      long_text long true is = again_text book options before w long is ∙ sym (ap (λ b. text (if b then [] else option_item w.count (option_of options w.count) ∷ []) ++ item_bits (word_item book w.count (option_of options w.count) w.value)) is)
+      long_text long false is =
+          first_text book options before w long is ∙
+          sym (ap (λ b. text (if b then [] else option_item w.count (option_of options w.count) ∷ []) ++ item_bits (word_item book w.count (option_of options w.count) w.value)) is ∙
+          ap (λ l. l ++ item_bits (word_item book w.count (option_of options w.count) w.value)) (append-nil (item_bits (option_item w.count (option_of options w.count)))))
+
+pub speaks_word : (book : Book) (a b c : Speech) (word : ℕ) → Opens (word / 16) a b → load b ≡ load a → load c ≤ load b + 8 →
+    said c ≡ said b ++ word_bits book (word / 16) (option_for a.gaggle.options (word / 16)) (word % 16) → c.gaggle ≡ b.gaggle → Speaks book a c (word_of word ∷ []) 8
+speaks_word book a b c word opens same more put kept = record {
+  bits = λ before agrees.
+      let w = word_bits book (word / 16) (option_for a.gaggle.options (word / 16)) (word % 16) in
+      put ∙ ap (λ l. l ++ w) (opens.bits before agrees) ∙
+      append_assoc (said a) (text (identified a.gaggle.options before (word / 16))) w ∙
+      ap (λ l. said a ++ l) (sym (said_text book a.gaggle.options before (record { value = word % 16; count = word / 16 })));
+  agrees = λ before agrees. subst (λ g. Agrees g.sent (before ++ word_of word ∷ [])) (sym kept) (opens.agrees before (record { value = word % 16; count = word / 16 }) refl agrees);
+  options = ap (λ g. g.options) kept ∙ opens.options;
+  load = omega (arith, same, more);
+}
+
+-- ---- how many bits may come
+
+pub load_pushed : (a b : Speech) (n : ℕ) → b.count ≡ a.count + n → b.gaggle ≡ a.gaggle → load b ≡ load a + n
+load_pushed a b n more kept = let same = ap (λ (g : Gaggle). unopened g.sent) kept in omega (arith, same, more)
+
+pub opened_less : (sent : List Bool) (n : ℕ) → length sent ≡ 3 → 2 ≤ n → n ≤ 4 → get_or sent (n - 2) false ≡ false → unopened (set sent (n - 2) true) + identifier_width n ≡ unopened sent
+opened_less [] n three low high was = absurd (omega (arith, three))
+opened_less (a ∷ []) n three low high was = absurd (omega (arith, three))
+opened_less (a ∷ b ∷ []) n three low high was = absurd (omega (arith, three))
+opened_less (a ∷ b ∷ c ∷ d ∷ sent) n three low high was = absurd (omega (arith, three))
+opened_less (a ∷ b ∷ c ∷ []) zero three low high was = absurd (omega arith)
+opened_less (a ∷ b ∷ c ∷ []) (suc zero) three low high was = absurd (omega arith)
+opened_less (a ∷ b ∷ c ∷ []) (suc (suc zero)) three low high was = rw was (omega arith)
+opened_less (a ∷ b ∷ c ∷ []) (suc (suc (suc zero))) three low high was = rw was (omega arith)
+opened_less (a ∷ b ∷ c ∷ []) (suc (suc (suc (suc zero)))) three low high was = rw was (omega arith)
+opened_less (a ∷ b ∷ c ∷ []) (suc (suc (suc (suc (suc n))))) three low high was = absurd (omega arith)
+
+-- ---- raw bits
+
+raws_text : (book : Book) (options : List ℕ) (before : List Entry) (bits : List Bool) → text (spelled_after book options before (map Bit bits)) ≡ bits
+raws_text book options before [] = refl
+raws_text book options before (b ∷ bits) =
+    text-append (entry_items book options before (Bit b)) (spelled_after book options (before ++ Bit b ∷ []) (map Bit bits)) ∙
+    ap (λ l. l ++ text (spelled_after book options (before ++ Bit b ∷ []) (map Bit bits))) (raw_text book options before b) ∙
+    ap (λ l. b ∷ l) (raws_text book options (before ++ Bit b ∷ []) bits)
+
+raws_agree : (sent : List Bool) (before : List Entry) (bits : List Bool) → Agrees sent before → Agrees sent (before ++ map Bit bits)
+raws_agree sent before [] agrees = subst (Agrees sent) (sym (append-nil before)) agrees
+raws_agree sent before (b ∷ bits) agrees =
+    subst (Agrees sent) (append_assoc before (Bit b ∷ []) (map Bit bits)) (raws_agree sent (before ++ Bit b ∷ []) bits (agrees_other sent before (Bit b) (λ n low. refl) agrees))
+
+pub speaks_raws : (book : Book) (a b : Speech) (bits : List Bool) (most : ℕ) → said b ≡ said a ++ bits → b.gaggle ≡ a.gaggle → load b ≤ load a + most → Speaks book a b (map Bit bits) most
+speaks_raws book a b bits most put kept more = record {
+  bits = λ before agrees. put ∙ ap (λ l. said a ++ l) (sym (raws_text book a.gaggle.options before bits));
+  agrees = λ before agrees. subst (λ g. Agrees g.sent (before ++ map Bit bits)) (sym kept) (raws_agree a.gaggle.sent before bits agrees);
+  options = ap (λ g. g.options) kept;
+  load = more;
+}

@@ -1,0 +1,77 @@
+-- What the masks of a block tell of its positions and sets.
+use Rattle.std.proofs.Common.{◌≡◌, ℕ, ◌+◌, ◌*◌, ◌/◌, ◌%◌, ◌^◌, ◌<◌, ◌≤◌, ℤ, Bool, true, false, ◌||◌, List, ◌++◌, nat_le, ap, sym, ◌∙◌, subst, arith, zero-add, zero, suc, add-one}
+use Rattle.std.specs.Prelude.{◌==◌}
+use Rattle.std.specs.List.{list_any}
+use Rattle.std.proofs.Math.Nat.{pow-suc}
+use Rattle.std.proofs.Math.Pow.{pow_mono}
+use Rattle.std.proofs.lemmas.List.Folds.{list_any-append}
+use Rattle.std.proofs.lemmas.Nat.{pow_pos, mod_below, div-add-mod'}
+use Rattle.item_defs.specs.Bits.{bit}
+use Rattle.plane_defs.specs.Spans.{span}
+use Rattle.plane_defs.specs.Sets.{magnitude, significant}
+use Rattle.block_masks.specs.Masks.{Shows}
+
+-- a number reaches a plane if it reaches the plane above, or has the plane's bit
+reached_by : (m p q : ℕ) → 0 < p → q ≡ p * 2 → nat_le p m ≡ (nat_le q m || (m / p % 2 == 1))
+reached_by m p q some double =
+    let whole : m / p * p + m % p ≡ m = div-add-mod' m p in
+    by_quotient (m / p) whole (mod_below m p some)
+  where
+    by_quotient : (d : ℕ) → d * p + m % p ≡ m → m % p < p → nat_le p m ≡ (nat_le q m || (d % 2 == 1))
+    by_quotient zero whole low =
+        let a : nat_le p m ≡ false = grind arith in
+        let b : nat_le q m ≡ false = grind arith in
+        a ∙ ap (λ x. x || false) (sym b)
+    by_quotient (suc zero) whole low =
+        let a : nat_le p m ≡ true = grind arith in
+        let b : nat_le q m ≡ false = grind arith in
+        a ∙ ap (λ x. x || true) (sym b)
+    by_quotient (suc (suc d)) whole low =
+        let e : suc (suc d) * p ≡ d * p + q = rw double (grind arith) in
+        let a : nat_le p m ≡ true = grind arith in
+        let b : nat_le q m ≡ true = grind arith in
+        a ∙ ap (λ x. x || (suc (suc d) % 2 == 1)) (sym b)
+
+pub reached_is : (block : List ℤ) (plane p : ℕ) → (significant block (plane + 1) p || bit (magnitude block p) plane) ≡ significant block plane p
+unfolding significant
+reached_is block plane p =
+    let double : 2 ^ (plane + 1) ≡ 2 ^ plane * 2 = rw add-one (pow-suc 2 plane) in
+    sym (reached_by (magnitude block p) (2 ^ plane) (2 ^ (plane + 1)) (pow_pos plane) double)
+
+-- positions are counted from 0
+pub from_zero : {mask count : ℕ} {f : ℕ → Bool} (at : ℕ) → Shows mask f (0 + at) count → Shows mask f at count
+from_zero {mask} {count} {f} at p = subst (λ s. Shows mask f s count) (zero-add at) p
+
+pub any_from_zero : {b : Bool} (f : ℕ → Bool) (at count : ℕ) → b ≡ list_any f (span (0 + at) count) → b ≡ list_any f (span at count)
+any_from_zero f at count e = e ∙ ap (λ s. list_any f (span s count)) (zero-add at)
+
+pub none_shown : (f : ℕ → Bool) → Shows 0 f 0 0
+none_shown f = record { at = λ k below. absurd (omega arith); small = omega arith }
+
+-- a mask of one position, where it tells of another function
+pub one_shown : {mask : ℕ} {b : Bool} (f : ℕ → Bool) (at : ℕ) → b ≡ f at → Shows mask (λ p. b) 0 1 → Shows mask f (0 + at) 1
+one_shown {mask} {b} f at same p = record {
+  at = λ k below.
+      let place : at ≡ (0 + at) + k = omega arith in
+      p.at k below ∙ same ∙ ap f place;
+  small = p.small;
+}
+
+-- ---- sets
+
+pub three_sets : {mask : ℕ} {f g : ℕ → Bool} → f 0 ≡ g 0 → f 1 ≡ g 1 → f 2 ≡ g 2 → Shows mask f 0 3 → Shows mask g 0 3
+three_sets {mask} {f} {g} a b c p = record { at = λ k below. p.at k below ∙ same k below; small = p.small }
+  where
+    same : (k : ℕ) → k < 3 → f (0 + k) ≡ g (0 + k)
+    same zero below = a
+    same (suc zero) below = b
+    same (suc (suc zero)) below = c
+    same (suc (suc (suc k))) below = absurd (omega arith)
+
+-- the positions of two spans
+pub any_of_both : {a b : Bool} (f : ℕ → Bool) (s m t n : ℕ) → a ≡ list_any f (span s m) → b ≡ list_any f (span t n) → (a || b) ≡ list_any f (span s m ++ span t n)
+any_of_both {a} {b} f s m t n p q = ap (λ x. x || b) p ∙ ap (λ y. list_any f (span s m) || y) q ∙ sym (list_any-append f (span s m) (span t n))
+
+-- a nibble is below 16
+pub nibble_small : (n count : ℕ) → count ≤ 4 → n < 2 ^ count → n < 16
+nibble_small n count few fits = let most : 2 ^ count ≤ 2 ^ 4 = pow_mono few in omega arith

@@ -1,0 +1,11 @@
+use Rattle.std.proofs.Common.{◌*◌}
+use Rattle.std.specs.List.{flat_map}
+use Rattle.plane_defs.specs.Spans.{span}
+use Rattle.plane_coder.specs.Tallies.{Counts}
+use Rattle.plane_coder.proofs.BlockSets.{of_children}
+use Rattle.plane_coder.proofs.tally.Tally.add_children_types.Given as goal
+
+abbrev pub invariant-loop-i : goal.invariant-loop-i
+invariant-loop-i l = record {
+  counts : Counts l.initial.self l.self (flat_map (of_children l.seen.block.now l.seen.plan.now.weights.shifts l.seen.plan.now.plane) (span 0 l.i)) (1 * l.i);
+}

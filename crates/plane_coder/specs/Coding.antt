@@ -1,0 +1,41 @@
+-- The codes of words as they are looked up.
+use Rattle.std.specs.Prelude.{◌≡◌, ◌<◌, ◌≤◌, ℕ, ◌+◌, ◌^◌, ◌==◌, Bool, false, List, [], if◌then◌else◌, nat_lt, slice_index_or}
+use lib.ListN.{get_or}
+use Rattle.item_defs.specs.Bits.{bits_of}
+use Rattle.item_defs.specs.Items.{item_bits}
+use Rattle.plane_defs.specs.declared.codes.Code.{Code}
+use Rattle.plane_defs.specs.declared.codes.Book.{Book}
+use Rattle.plane_defs.specs.Codes.{code_bits, no_code, word_item}
+use Rattle.plane_defs.specs.Spelled.{option_of}
+
+-- a word of up to four bits, and an option of its length
+pub record IsWordOf (length option value : ℕ) : Type 0 where
+  pub long : length ≤ 4
+  pub known : 2 ≤ length → option < length
+  pub short : length < 2 → option ≡ 0
+  pub fits : value < 2 ^ length
+
+-- what stands for a word under an option: a word of one bit is raw, and an empty one nothing
+abbrev pub word_bits : Book → (length option value : ℕ) → List Bool
+word_bits book length option value = if nat_lt length 2 then bits_of length value else item_bits (word_item book length option value)
+
+pub record IsCodeOf (book : Book) (length option value : ℕ) (code : Code) : Type 0 where
+  pub bits : code_bits code ≡ word_bits book length option value
+  pub few : code.len ≤ 8
+  pub fits : code.bits < 2 ^ code.len
+
+-- where the codes of a length and option stand
+abbrev pub row_of : ℕ → ℕ → ℕ
+row_of length option = if nat_lt length 3 then length + option else if length == 3 then 4 + option else 7 + option
+
+abbrev pub code_in : List (List Code) → ℕ → ℕ → Code
+code_in rows row value = slice_index_or (slice_index_or rows row []) value no_code
+
+-- the option of a word of this length, where there is a choice
+abbrev pub option_for : List ℕ → ℕ → ℕ
+option_for options length = if nat_lt length 2 then 0 else option_of options length
+
+-- how many bits the identifiers take that were not put yet
+abbrev pub unopened : List Bool → ℕ
+unopened sent =
+    (if get_or sent 0 false then 0 else 1) + (if get_or sent 1 false then 0 else 2) + (if get_or sent 2 false then 0 else 2)

@@ -1,0 +1,27 @@
+-- Entries as they are picked: sixteen times the number of bits, and the number that they make.
+use Rattle.std.specs.Prelude.{◌≤◌, ◌<◌, ℕ, ◌/◌, ◌%◌, ◌^◌, List, ◌∷◌, map}
+use Rattle.item_defs.specs.Bits.{bits_of}
+use Rattle.plane_defs.specs.declared.entries.Entry.{Entry}
+use Rattle.plane_defs.specs.declared.entries.Entry.TheVariants.{Bit, Word}
+use Rattle.plane_coder.specs.declared.seen.Typed.{Typed}
+
+-- the word that a number packs
+abbrev pub word_of : ℕ → Entry
+word_of n = Word (record { value = n % 16; count = n / 16 })
+
+-- the raw bits that a number packs
+abbrev pub raws_of : ℕ → List Entry
+raws_of n = map Bit (bits_of (n / 16) (n % 16))
+
+-- a word and the signs after it
+abbrev pub entries_of : Typed → List Entry
+entries_of s = word_of s.word ∷ raws_of s.signs
+
+-- up to four bits
+pub record IsPacked (picked : ℕ) : Type 0 where
+  pub length : picked / 16 ≤ 4
+  pub value : picked % 16 < 2 ^ (picked / 16)
+
+pub record ArePacked (s : Typed) : Type 0 where
+  pub word : IsPacked s.word
+  pub signs : IsPacked s.signs
