@@ -1,0 +1,65 @@
+-- A text of items that is cut anywhere is read up to the cut.
+use Rattle.std.proofs.Common.{◌≡◌, ℕ, suc, ◌+◌, ◌-◌, ◌<◌, inl, inr, Bool, List, [], ◌∷◌, ◌++◌, length, take, drop, ap, sym, ◌∙◌, subst, arith, length-append, append_assoc}
+use Rattle.std.proofs.lemmas.Bool.{cases_lt}
+use Rattle.std.proofs.lemmas.List.{append-nil, take-append-drop, take-append-le, length-take-le}
+use Rattle.std.proofs.Math.Seq.{take-append-add, take-length}
+use Rattle.item_defs.specs.Items.{Item, item_bits, text, spelling}
+use Rattle.item_defs.specs.Readings.{IsItem, AreItems, Lacks}
+use Rattle.item_defs.proofs.Texts.{text-cons, text_front}
+use Rattle.item_defs.proofs.Spellings.{one_spelling}
+use Rattle.text_defs.specs.Fronts.{Front, NothingFollows}
+
+-- a spelling that is cut has no other one in front
+cut_lacks : (i : Item) (n : ℕ) → IsItem i → n < length (item_bits i) → Lacks i.form.shape (take n (item_bits i))
+cut_lacks i n item lt s more said e =
+    let bits = item_bits i in
+    let whole : spelling i.form.shape i.said ++ [] ≡ spelling i.form.shape s ++ (more ++ drop n bits) =
+    append-nil bits ∙ sym (take-append-drop n bits) ∙ ap (λ l. l ++ drop n bits) e ∙ append_assoc (spelling i.form.shape s) more (drop n bits) in
+    let one = one_spelling i.form.shape i.said s [] (more ++ drop n bits) item.0 item.1 said whole in
+    let long : length (take n bits) ≡ n = length-take-le n bits (omega arith) in
+    let same : length (spelling i.form.shape s) ≡ length bits = ap (λ k. length (spelling i.form.shape k)) (sym one.0) in
+    omega (arith, lt, long, same, ap length e, length-append (spelling i.form.shape s) more)
+
+-- how far a cut text is read
+pub record CutFront (items : List Item) (bits : List Bool) : Type 0 where
+  pub count : ℕ
+  pub more : List Bool
+  pub front : Front items count bits more
+  pub ends : NothingFollows items count more
+
+pub cut_front : (items : List Item) → AreItems items → (n : ℕ) → n < length (text items) → CutFront items (take n (text items))
+cut_front [] all n lt = absurd (omega arith)
+cut_front (i ∷ is) all n lt =
+    let bits = item_bits i in
+    let parts : text (i ∷ is) ≡ bits ++ text is = text-cons i is in
+    elim (cases_lt n (length bits)) [
+      | inl inside ↦
+          let cut : take n (text (i ∷ is)) ≡ take n bits = ap (take n) parts ∙ take-append-le n bits (text is) (omega arith) in
+          record {
+            count = 0;
+            more = take n bits;
+            front = record { within = omega arith; taken = tt; read = cut };
+            ends = record { within = omega arith; lacks = cut_lacks i n all.0 inside };
+          }
+      | inr past ↦
+          let k = n - length bits in
+          let here : n ≡ length bits + k = omega arith in
+          let r = cut_front is all.1 k (omega (arith, ap length parts, length-append bits (text is))) in
+          let cut : take n (text (i ∷ is)) ≡ bits ++ take k (text is) = ap (λ m. take m (text (i ∷ is))) here ∙ ap (take (length bits + k)) parts ∙ take-append-add bits (text is) k in
+          record {
+            count = suc r.count;
+            more = r.more;
+            front = record {
+              within = omega (arith, r.front.within);
+              taken = (all.0, r.front.taken);
+              read = cut ∙ ap (λ l. bits ++ l) r.front.read ∙ sym (text_front i (take r.count is) r.more);
+            };
+            ends = record { within = omega (arith, r.ends.within); lacks = r.ends.lacks };
+          }
+    ]
+
+-- and one that isn't cut is read whole
+pub whole_front : (items : List Item) (more : List Bool) → AreItems items → Front items (length items) (text items ++ more) more
+whole_front items more all =
+    let same = take-length items in
+    record { within = omega arith; taken = subst AreItems (sym same) all; read = ap (λ l. text l ++ more) (sym same) }

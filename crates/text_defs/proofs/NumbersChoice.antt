@@ -1,0 +1,147 @@
+-- Numbers by differences may be chosen so that the next item says any number that it doesn't refuse.
+use Rattle.std.proofs.Common.{◌≡◌, ℕ, zero, suc, ◌+◌, ◌*◌, ◌-◌, ◌/◌, ◌%◌, ◌^◌, ◌<◌, ◌≤◌, min, List, [], ◌∷◌, ◌++◌, length, map, get_or, Bool, true, false, eqb, cond, refl, sym, ap, subst, ◌∙◌, arith, inl, inr}
+use Rattle.std.specs.List.{range_with_len}
+use Rattle.std.proofs.lemmas.Bool.{cases_lt}
+use Rattle.std.proofs.lemmas.Bool.Decides.{nat_tests}
+use Rattle.std.proofs.lemmas.List.{map-append, get_or_past}
+use Rattle.std.proofs.lemmas.Nat.{pow_pos}
+use Rattle.item_defs.specs.Items.{Item}
+use Rattle.item_defs.specs.Readings.{item_at}
+use Rattle.item_defs.specs.Laws.{said_of}
+use Rattle.number_defs.specs.Ranges.{number_at, complement}
+use Rattle.number_defs.specs.Mapping.{mapped, unmapped}
+use Rattle.number_defs.specs.Gaggles.{Kind, uncoded, value_at, first_place, places, uncoded_value, unary_part, rest_part, value_items, lead_items, gaggle_items, items_before}
+use Rattle.number_defs.proofs.MappingLaws.{mapped_below, unmapped_below, unmapped_back}
+use Rattle.plane_defs.specs.Spans.{span}
+use Rattle.plane_defs.proofs.SpanLists.{length-map-span, get_or-map-span}
+
+pub said_both : (is js is' js' : List Item) → said_of is ≡ said_of js → said_of is' ≡ said_of js' → said_of (is ++ is') ≡ said_of (js ++ js')
+said_both is js is' js' e f =
+    map-append (λ i. i.said) is is' ∙ ap (λ l. l ++ said_of is') e ∙ ap (λ l. said_of js ++ l) f ∙ sym (map-append (λ i. i.said) js js')
+
+pub map_said : (f h : ℕ → Item) (a n : ℕ) → ((i : ℕ) → a ≤ i → i < a + n → (f i).said ≡ (h i).said) → said_of (map f (range_with_len a n)) ≡ said_of (map h (range_with_len a n))
+map_said f h a zero same = refl
+map_said f h a (suc n) same =
+    ap (λ x. x ∷ said_of (map f (range_with_len (a + 1) n))) (same a (omega arith) (omega arith))
+    ∙ ap (λ l. (h a).said ∷ l) (map_said f h (a + 1) n (λ i low high. same i (omega arith) (omega arith)))
+
+pub left_at : (m : ℕ) (js js' : List Item) → m < length js → item_at (js ++ js') m ≡ item_at js m
+left_at m [] js' lt = absurd (omega (arith, lt))
+left_at zero (j ∷ js) js' lt = refl
+left_at (suc m) (j ∷ js) js' lt = left_at m js js' (omega (arith, lt))
+
+pub right_at : (m : ℕ) (js js' : List Item) → length js ≤ m → item_at (js ++ js') m ≡ item_at js' (m - length js)
+right_at m [] js' le = let z : m ≡ m - 0 = omega arith in ap (item_at js') z
+right_at zero (j ∷ js) js' le = absurd (omega (arith, le))
+right_at (suc m) (j ∷ js) js' le = right_at m js js' (omega (arith, le)) ∙ (let z : m - length js ≡ suc m - length (j ∷ js) = omega arith in ap (item_at js') z)
+
+pub range_at : (f : ℕ → Item) (a n k : ℕ) → k < n → item_at (map f (range_with_len a n)) k ≡ f (a + k)
+range_at f a zero k lt = absurd (omega arith)
+range_at f a (suc n) zero lt = let z : a ≡ a + 0 = omega arith in ap f z
+range_at f a (suc n) (suc k) lt = range_at f (a + 1) n k (omega arith) ∙ (let z : a + 1 + k ≡ a + suc k = omega arith in ap f z)
+
+-- ---- numbers of which one has another mapped value
+
+module _ (kind : Kind) (xs : List ℕ) (few : (i : ℕ) → get_or xs i 0 < 2 ^ kind.bits) (first i v : ℕ) (low_first : first < 2 ^ kind.bits) (low_value : v < 2 ^ kind.bits) where
+  value_with : ℕ → ℕ
+  value_with j = cond (eqb j i) v (value_at kind.bits xs j)
+
+  chain : ℕ → ℕ
+  unfolding value_with
+  chain zero = first
+  chain (suc j) = unmapped kind.bits (chain j) (value_with (suc j))
+
+  with_below : (j : ℕ) → value_with j < 2 ^ kind.bits
+  unfolding value_with
+  with_below j = by_place (eqb j i)
+    where
+      by_place : (t : Bool) → cond t v (value_at kind.bits xs j) < 2 ^ kind.bits
+      by_place true = low_value
+      by_place false = mapped_below kind.bits (get_or xs (j - 1) 0) (get_or xs j 0) (few (j - 1)) (few j)
+
+  chain_below : (j : ℕ) → chain j < 2 ^ kind.bits
+  unfolding chain
+  chain_below zero = low_first
+  chain_below (suc j) = unmapped_below kind.bits (chain j) (value_with (suc j)) (chain_below j) (with_below (suc j))
+
+  pub with_value : List ℕ
+  unfolding chain
+  with_value = map chain (span 0 (length xs))
+
+  pub with_long : length with_value ≡ length xs
+  unfolding with_value
+  with_long = length-map-span chain (length xs)
+
+  with_at : (j : ℕ) → j < length xs → get_or with_value j 0 ≡ chain j
+  unfolding with_value
+  with_at j lt = get_or-map-span chain (length xs) j 0 lt
+
+  pub with_few : (j : ℕ) → get_or with_value j 0 < 2 ^ kind.bits
+  with_few j =
+      elim (cases_lt j (length xs)) [
+        | inl lt ↦ subst (λ n. n < 2 ^ kind.bits) (sym (with_at j lt)) (chain_below j)
+        | inr past ↦ let none : get_or with_value j 0 ≡ 0 = get_or_past with_value j 0 (omega (arith, past, with_long)) in omega (arith, none, pow_pos kind.bits)
+      ]
+
+  pub with_first : 0 < length xs → get_or with_value 0 0 ≡ first
+  unfolding chain
+  with_first lt = with_at 0 lt
+
+  with_values : (j : ℕ) → 1 ≤ j → j < length xs → value_at kind.bits with_value j ≡ value_with j
+  unfolding chain
+  with_values zero some lt = absurd (omega arith)
+  with_values (suc j) some lt =
+      let z : suc j - 1 ≡ j = omega arith in
+      ap (λ k. mapped kind.bits (get_or with_value k 0) (get_or with_value (suc j) 0)) z
+      ∙ ap (λ n. mapped kind.bits n (get_or with_value (suc j) 0)) (with_at j (omega arith)) ∙ ap (mapped kind.bits (chain j)) (with_at (suc j) lt)
+      ∙ unmapped_back kind.bits (chain j) (value_with (suc j)) (chain_below j) (with_below (suc j))
+
+  pub value_here : 1 ≤ i → i < length xs → value_at kind.bits with_value i ≡ v
+  unfolding value_with
+  value_here some lt = with_values i some lt ∙ ap (λ t. cond t v (value_at kind.bits xs i)) (itself i)
+    where
+      itself : (x : ℕ) → eqb x x ≡ true
+      itself x = grind (arith, nat_tests)
+
+  pub value_there : (j : ℕ) → 1 ≤ j → j < length xs → (j ≡ i → ⊥) → value_at kind.bits xs j ≡ value_at kind.bits with_value j
+  unfolding value_with
+  value_there j some lt other = sym (with_values j some lt ∙ ap (λ t. cond t v (value_at kind.bits xs j)) (apart (eqb j i) refl))
+    where
+      apart : (t : Bool) → eqb j i ≡ t → eqb j i ≡ false
+      apart false e = e
+      apart true e = let same : j ≡ i = grind (arith, nat_tests) in absurd (other same)
+
+-- ---- what the items before say
+
+module _ (kind : Kind) (xs ys : List ℕ) (long : length ys ≡ length xs) where
+  pub values_said : (option a n : ℕ) → ((j : ℕ) → a ≤ j → j < a + n → value_at kind.bits xs j ≡ value_at kind.bits ys j) →
+      said_of (value_items kind xs option (range_with_len a n)) ≡ said_of (value_items kind ys option (range_with_len a n))
+  unfolding value_items
+  values_said option a n same = by_option (eqb option (uncoded kind.bits)) (eqb option 0)
+    where
+      unaries : said_of (map (unary_part kind xs option) (range_with_len a n)) ≡ said_of (map (unary_part kind ys option) (range_with_len a n))
+      unaries = map_said (unary_part kind xs option) (unary_part kind ys option) a n (λ j low high. ap (λ w. w / 2 ^ option) (same j low high))
+
+      by_option : (t z : Bool) → said_of (cond t (map (uncoded_value kind xs) (range_with_len a n)) (map (unary_part kind xs option) (range_with_len a n) ++ cond z [] (map (rest_part kind xs option) (range_with_len a n))))
+          ≡ said_of (cond t (map (uncoded_value kind ys) (range_with_len a n)) (map (unary_part kind ys option) (range_with_len a n) ++ cond z [] (map (rest_part kind ys option) (range_with_len a n))))
+      by_option true z = map_said (uncoded_value kind xs) (uncoded_value kind ys) a n same
+      by_option false true = said_both (map (unary_part kind xs option) (range_with_len a n)) (map (unary_part kind ys option) (range_with_len a n)) [] [] unaries refl
+      by_option false false =
+          said_both (map (unary_part kind xs option) (range_with_len a n)) (map (unary_part kind ys option) (range_with_len a n)) _ _ unaries
+          (map_said (rest_part kind xs option) (rest_part kind ys option) a n (λ j low high. ap (λ w. w % 2 ^ option) (same j low high)))
+
+  pub lead_said : (g : ℕ) → get_or xs 0 0 ≡ get_or ys 0 0 → said_of (lead_items kind xs g) ≡ said_of (lead_items kind ys g)
+  lead_said zero e = ap (λ h. complement kind.bits (number_at kind.signed kind.bits h) ∷ []) e
+  lead_said (suc g) e = refl
+
+  pub before_said : (o u : ℕ → ℕ) (g : ℕ) → (1 ≤ g → get_or xs 0 0 ≡ get_or ys 0 0) → ((j : ℕ) → j < g → o j ≡ u j) → ((j : ℕ) → 1 ≤ j → j < 16 * g → j < length xs → value_at kind.bits xs j ≡ value_at kind.bits ys j) →
+      said_of (items_before kind xs o g) ≡ said_of (items_before kind ys u g)
+  unfolding items_before gaggle_items
+  before_said o u zero e options same = refl
+  before_said o u (suc g) e options same =
+      said_both (items_before kind xs o g) (items_before kind ys u g) _ _ (before_said o u g (λ some. e (omega arith)) (λ j lt. options j (omega arith)) (λ j some lt within. same j some (omega arith) within))
+      (ap (λ x. x ∷ said_of (lead_items kind xs g ++ value_items kind xs (o g) (places (length xs) g))) (options g (omega arith))
+      ∙ ap (λ l. u g ∷ l) (said_both (lead_items kind xs g) (lead_items kind ys g) _ _ (lead_said g (e (omega arith)))
+      (ap (λ w. said_of (value_items kind xs w (places (length xs) g))) (options g (omega arith))
+      ∙ values_said (u g) (first_place g) (min (length xs) (16 * g + 16) - first_place g) (λ j low high. same j (omega arith) (omega arith) (omega arith))
+      ∙ ap (λ n. said_of (value_items kind ys (u g) (places n g))) (sym long))))

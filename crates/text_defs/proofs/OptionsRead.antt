@@ -1,0 +1,48 @@
+-- Options of numbers whose identifiers were read are some; so numbers go one item further.
+use Rattle.std.proofs.Common.{◌≡◌, ℕ, zero, suc, ◌-◌, ◌^◌, ◌<◌, ◌≤◌, Bool, true, false, not, cond, List, [], ◌∷◌, ◌++◌, length, take, get_or, refl, ap, sym, ◌∙◌, subst, arith, length-append}
+use Rattle.std.specs.Prelude.{None, Some}
+use Rattle.item_defs.specs.Items.{Item, bad_option, identifier}
+use Rattle.item_defs.specs.Readings.{IsItem, AreItems, item_at}
+use Rattle.number_defs.specs.Gaggles.{Kind, identifier_bits, is_option, gaggle_items, items_before, gaggle_count, number_items}
+use Rattle.text_defs.proofs.NumbersTold.{before_parts}
+use Rattle.text_defs.proofs.NumbersChoice.{right_at}
+use Rattle.text_defs.proofs.ValueChoice.{MaySay}
+use Rattle.text_defs.proofs.AnyNumbers.{NumbersChosen, any_numbers}
+
+pub are_at : (m k : ℕ) (items : List Item) → AreItems (take m items) → k < m → k < length items → IsItem (item_at items k)
+are_at m k [] all lt within = absurd (omega (arith, within))
+are_at zero k (i ∷ is) all lt within = absurd (omega (arith, lt))
+are_at (suc m) zero (i ∷ is) all lt within = all.0
+are_at (suc m) (suc k) (i ∷ is) all lt within = are_at m k is all.1 (omega (arith, lt)) (omega (arith, within))
+
+named : (b : Bool) → cond (not b) (Some bad_option) None ≡ None → b ≡ true
+named true e = refl
+named false e = cc
+
+module _ (kind : Kind) (xs : List ℕ) (o : ℕ → ℕ) where
+  first_of : (g : ℕ) (rest : List Item) → item_at (gaggle_items kind xs (o g) g ++ rest) 0 ≡ identifier (identifier_bits kind.bits) (is_option kind.bits) (o g)
+  unfolding gaggle_items
+  first_of g rest = refl
+
+  some_items : (g : ℕ) → 0 < length (gaggle_items kind xs (o g) g)
+  unfolding gaggle_items
+  some_items g = omega arith
+
+  pub option_read : (m g : ℕ) → AreItems (take m (number_items kind xs o)) → g < gaggle_count (length xs) → length (items_before kind xs o g) < m → is_option kind.bits (o g) ≡ true
+  option_read m g all lt read =
+      let p = before_parts kind xs o (gaggle_count (length xs)) g lt in
+      let early = items_before kind xs o g in
+      let here = gaggle_items kind xs (o g) g in
+      let k : ℕ = length early in
+      let none : 0 ≡ k - length early = omega arith in
+      let at : item_at (number_items kind xs o) k ≡ identifier (identifier_bits kind.bits) (is_option kind.bits) (o g) =
+      ap (λ l. item_at l k) p.same ∙ right_at k early (here ++ p.others) (omega arith) ∙ sym (ap (item_at (here ++ p.others)) none) ∙ first_of g p.others in
+      let within : k < length (number_items kind xs o) = omega (arith, ap length p.same, length-append early (here ++ p.others), length-append here p.others, some_items g) in
+      let item : IsItem (identifier (identifier_bits kind.bits) (is_option kind.bits) (o g)) = subst IsItem at (are_at m k (number_items kind xs o) all read within) in
+      named (is_option kind.bits (o g)) item.2
+
+  -- all numbers, with the items before not refused
+  pub numbers_further : (few : (i : ℕ) → get_or xs i 0 < 2 ^ kind.bits) (some : 1 ≤ kind.bits) (m said : ℕ) → 0 < length xs → AreItems (take m (number_items kind xs o)) →
+      m < length (number_items kind xs o) → MaySay (item_at (number_items kind xs o) m) said → NumbersChosen kind some xs few o (gaggle_count (length xs)) m said
+  numbers_further few some m said inside all lt may =
+      any_numbers kind some xs few o (gaggle_count (length xs)) m said inside (λ g below read. option_read m g all below read) lt may

@@ -1,0 +1,211 @@
+-- Two lists of steps that tell the same of two blocks.
+use Rattle.std.proofs.Common.{◌≡◌, ℕ, zero, suc, ◌+◌, ◌-◌, ◌*◌, ◌/◌, ◌%◌, ◌^◌, ◌<◌, ◌≤◌, inl, inr, Bool, true, false, cond, eqb, List, [], ◌∷◌, ◌++◌, length, map, refl, ap, sym, ◌∙◌, subst, arith, ℤ, pos, get_or, length-append}
+use Rattle.std.specs.Prelude.{nat_le, ◌||◌, ◌==◌}
+use Rattle.std.specs.List.{flat_map, list_any, AllByRecursion}
+use Rattle.std.proofs.lemmas.List.{length-map}
+use Rattle.std.proofs.lemmas.Bool.{or_cases, cases_lt}
+use Rattle.std.proofs.lemmas.Bool.Decides.{nat_tests}
+use Rattle.std.proofs.lemmas.Nat.{pow-add, div-mul-add}
+use Rattle.std.proofs.lemmas.List.Folds.{list_any-append}
+use Rattle.item_defs.specs.Bits.{bit, value_of}
+use Rattle.item_defs.specs.Items.{raw}
+use Rattle.plane_defs.specs.declared.codes.Book.{Book}
+use Rattle.plane_defs.specs.declared.entries.Entry.{Entry}
+use Rattle.plane_defs.specs.declared.entries.Entry.TheVariants.{Bit}
+use Rattle.plane_defs.specs.Sets.{magnitude, significant}
+use Rattle.plane_defs.specs.Entries.{negative, word}
+use Rattle.plane_defs.specs.Spelled.{option_of, opening}
+use Rattle.plane_defs.specs.Steps.{Check, refuses, Told, flags_alone, types_at, sign_at, bit_at, Step}
+use Rattle.plane_defs.specs.StepLaws.{value_of_entry}
+use Rattle.plane_defs.specs.Reading.{checked, checked_word, entry_reading, step_reading}
+use Rattle.plane_defs.proofs.Alike.{same_bits}
+use Rattle.plane_defs.proofs.Settled.{head_same, tail_same}
+use Rattle.text_defs.specs.Given.{whole_steps, tells_bit, tells_sign}
+use Rattle.text_defs.proofs.Told.{ToldAlike}
+use Rattle.text_defs.proofs.Says.{bit_there, IsTyped, Tells, Says, AllSay}
+
+abbrev pub any_bit : ℕ → List Step → Bool
+any_bit p steps = list_any (λ s. tells_bit p s.tells) steps
+
+abbrev pub any_sign : ℕ → List Step → Bool
+any_sign p steps = list_any (λ s. tells_sign p s.tells) steps
+
+pub record SameTold (u v : List ℤ) (plane : ℕ) (ss ts : List Step) : Type 0 where
+  pub bits : (p : ℕ) → any_bit p ss ≡ any_bit p ts
+  pub signs : (p : ℕ) → any_sign p ss ≡ any_sign p ts
+  pub bit_same : (p : ℕ) → any_bit p ss ≡ true → bit_there u plane p ≡ bit_there v plane p
+  pub sign_same : (p : ℕ) → any_sign p ss ≡ true → negative (get_or u p (pos 0)) ≡ negative (get_or v p (pos 0))
+
+nothing : {X : Type 0} → false ≡ true → X
+nothing e = absurd cc
+
+pub none_told : (u v : List ℤ) (plane : ℕ) → SameTold u v plane [] []
+none_told u v plane = record { bits = λ p. refl; signs = λ p. refl; bit_same = λ p e. nothing e; sign_same = λ p e. nothing e }
+
+pub told_both : (u v : List ℤ) (plane : ℕ) (ss ts ss' ts' : List Step) → SameTold u v plane ss ts → SameTold u v plane ss' ts' → SameTold u v plane (ss ++ ss') (ts ++ ts')
+told_both u v plane ss ts ss' ts' a b = record {
+  bits = λ p.
+      list_any-append (λ s. tells_bit p s.tells) ss ss' ∙ ap (λ x. x || any_bit p ss') (a.bits p) ∙ ap (λ x. any_bit p ts || x) (b.bits p)
+      ∙ sym (list_any-append (λ s. tells_bit p s.tells) ts ts');
+  signs = λ p.
+      list_any-append (λ s. tells_sign p s.tells) ss ss' ∙ ap (λ x. x || any_sign p ss') (a.signs p) ∙ ap (λ x. any_sign p ts || x) (b.signs p)
+      ∙ sym (list_any-append (λ s. tells_sign p s.tells) ts ts');
+  bit_same = λ p e.
+      elim (or_cases (any_bit p ss) (any_bit p ss') (sym (list_any-append (λ s. tells_bit p s.tells) ss ss') ∙ e)) [ inl h ↦ a.bit_same p h | inr h ↦ b.bit_same p h ];
+  sign_same = λ p e.
+      elim (or_cases (any_sign p ss) (any_sign p ss') (sym (list_any-append (λ s. tells_sign p s.tells) ss ss') ∙ e)) [ inl h ↦ a.sign_same p h | inr h ↦ b.sign_same p h ];
+}
+
+pub told_flat : {X : Type 0} (u v : List ℤ) (plane : ℕ) (f g : X → List Step) (xs : List X) → AllByRecursion (λ x. SameTold u v plane (f x) (g x)) xs → SameTold u v plane (flat_map f xs) (flat_map g xs)
+told_flat u v plane f g [] all = none_told u v plane
+told_flat u v plane f g (x ∷ xs) all = told_both u v plane (f x) (g x) (flat_map f xs) (flat_map g xs) all.0 (told_flat u v plane f g xs all.1)
+
+-- ---- one step
+
+-- a number below two to a plane and one more has the plane's bit where it reaches the plane
+pub bit_reached : (u : List ℤ) (plane p : ℕ) → significant u (plane + 1) p ≡ false → bit (magnitude u p) plane ≡ significant u plane p
+unfolding significant
+bit_reached u plane p e = by_size (magnitude u p) (2 ^ plane) (2 ^ (plane + 1)) (omega (arith, pow-add 2 plane 1)) e
+  where
+    small : (b n : ℕ) → nat_le b n ≡ false → n < b
+    small b n e = grind (arith, nat_tests)
+
+    reached : (a n : ℕ) → a ≤ n → nat_le a n ≡ true
+    reached a n le = grind (arith, nat_tests)
+
+    missed : (a n : ℕ) → n < a → nat_le a n ≡ false
+    missed a n lt = grind (arith, nat_tests)
+
+    by_size : (n a b : ℕ) → b ≡ 2 * a → nat_le b n ≡ false → (n / a % 2 == 1) ≡ nat_le a n
+    by_size n a b double e =
+        let lt : n < b = small b n e in
+        elim (cases_lt n a) [
+          | inl low ↦ let f : n ≡ 0 * a + n = omega arith in ap (λ k. k / a % 2 == 1) f ∙ ap (λ k. k % 2 == 1) (div-mul-add 0 a n low) ∙ sym (missed a n low)
+          | inr high ↦ let f : n ≡ 1 * a + (n - a) = omega arith in ap (λ k. k / a % 2 == 1) f ∙ ap (λ k. k % 2 == 1) (div-mul-add 1 a (n - a) (omega arith)) ∙ sym (reached a n high)
+        ]
+
+same_place : (q p : ℕ) → (q == p) ≡ true → q ≡ p
+same_place q p e = grind (arith, nat_tests)
+
+bit_inside : (a b : Bool) → Bit a ≡ Bit b → a ≡ b
+bit_inside a b e = cc
+
+there_reached : (u : List ℤ) (plane p : ℕ) → IsTyped u plane p → bit_there u plane p ≡ significant u plane p
+there_reached u plane zero h = absurd (omega (arith, h.0))
+there_reached u plane (suc p) h = bit_reached u plane (suc p) h.1
+
+typed_same : (u v : List ℤ) (plane p : ℕ) (ps : List ℕ) → AllByRecursion (IsTyped u plane) ps → AllByRecursion (IsTyped v plane) ps → map (significant u plane) ps ≡ map (significant v plane) ps →
+    list_any (λ q. q == p) ps ≡ true → bit_there u plane p ≡ bit_there v plane p
+typed_same u v plane p [] a b e here = nothing here
+typed_same u v plane p (q ∷ ps) a b e here =
+    elim (or_cases (q == p) (list_any (λ q. q == p) ps) here) [
+      | inl at ↦
+          let same : bit_there u plane q ≡ bit_there v plane q = there_reached u plane q a.0 ∙ head_same _ _ _ _ e ∙ sym (there_reached v plane q b.0) in
+          subst (λ k. bit_there u plane k ≡ bit_there v plane k) (same_place q p at) same
+      | inr later ↦ typed_same u v plane p ps a.1 b.1 (tail_same _ _ _ _ e) later
+    ]
+
+one_bit : (u v : List ℤ) (plane p : ℕ) (a : Told) (e : Entry) → Tells u plane a e → Tells v plane a e → tells_bit p a ≡ true → bit_there u plane p ≡ bit_there v plane p
+one_bit u v plane p flags_alone e x y h = nothing h
+one_bit u v plane p (types_at ps) e x y h =
+    let words : word (map (significant u plane) ps) ≡ word (map (significant v plane) ps) = sym x.0 ∙ y.0 in
+    typed_same u v plane p ps x.1 y.1 (same_bits (map (significant u plane) ps) (map (significant v plane) ps) (length-map ps (significant u plane) ∙ sym (length-map ps (significant v plane))) (ap value_of_entry words)) h
+one_bit u v plane p (sign_at q) e x y h = nothing h
+one_bit u v plane p (bit_at q) e x y h = subst (λ k. bit_there u plane k ≡ bit_there v plane k) (same_place q p h) (bit_inside (bit_there u plane q) (bit_there v plane q) (sym x ∙ y))
+
+one_sign : (u v : List ℤ) (plane p : ℕ) (a : Told) (e : Entry) → Tells u plane a e → Tells v plane a e → tells_sign p a ≡ true → negative (get_or u p (pos 0)) ≡ negative (get_or v p (pos 0))
+one_sign u v plane p flags_alone e x y h = nothing h
+one_sign u v plane p (types_at ps) e x y h = nothing h
+one_sign u v plane p (sign_at q) e x y h =
+    subst (λ k. negative (get_or u k (pos 0)) ≡ negative (get_or v k (pos 0))) (same_place q p h) (bit_inside (negative (get_or u q (pos 0))) (negative (get_or v q (pos 0))) (sym x ∙ y))
+one_sign u v plane p (bit_at q) e x y h = nothing h
+
+single : (u v : List ℤ) (plane : ℕ) (s t : Step) → s.tells ≡ t.tells → s.entry ≡ t.entry → Says u plane s → Says v plane t → SameTold u v plane (s ∷ []) (t ∷ [])
+single u v plane s t a e x y =
+    let z : Tells v plane s.tells s.entry = subst (λ k. Tells v plane k s.entry) (sym a) (subst (Tells v plane t.tells) (sym e) y) in
+    record {
+      bits = λ p. ap (λ k. tells_bit p k || false) a;
+      signs = λ p. ap (λ k. tells_sign p k || false) a;
+      bit_same = λ p h. one_bit u v plane p s.tells s.entry x z (sym (or_none (tells_bit p s.tells)) ∙ h);
+      sign_same = λ p h. one_sign u v plane p s.tells s.entry x z (sym (or_none (tells_sign p s.tells)) ∙ h);
+    }
+  where
+    or_none : (b : Bool) → (b || false) ≡ b
+    or_none true = refl
+    or_none false = refl
+
+pub from_alike : (u v : List ℤ) (plane : ℕ) (ss ts : List Step) → ToldAlike ss ts → AllSay u plane ss → AllSay v plane ts → SameTold u v plane ss ts
+from_alike u v plane [] [] same a b = none_told u v plane
+from_alike u v plane [] (t ∷ ts) same a b = absurd same
+from_alike u v plane (s ∷ ss) [] same a b = absurd same
+from_alike u v plane (s ∷ ss) (t ∷ ts) same a b =
+    told_both u v plane (s ∷ []) (t ∷ []) ss ts (single u v plane s t same.0 same.1 a.0 b.0) (from_alike u v plane ss ts same.2 a.1 b.1)
+
+pub whole_say : (u : List ℤ) (plane : ℕ) (book : Book) (o : List ℕ) (before : List Entry) (m : ℕ) (ss : List Step) → AllSay u plane ss → AllSay u plane (whole_steps book o before m ss)
+whole_say u plane book o before m [] a = tt
+whole_say u plane book o before m (s ∷ ss) a = by_test (nat_le (length (step_reading book o before s)) m) (whole_say u plane book o (before ++ s.entry ∷ []) (m - length (step_reading book o before s)) ss a.1)
+  where
+    by_test : (b : Bool) → AllSay u plane (whole_steps book o (before ++ s.entry ∷ []) (m - length (step_reading book o before s)) ss) → AllSay u plane (cond b (s ∷ whole_steps book o (before ++ s.entry ∷ []) (m - length (step_reading book o before s)) ss) [])
+    by_test true rest = (a.0, rest)
+    by_test false rest = tt
+
+-- ---- steps that take no item tell nothing
+
+abbrev pub TellsNone : List Step → Type 0
+TellsNone steps = (p : ℕ) → (any_bit p steps ≡ false) × (any_sign p steps ≡ false)
+
+empty_entry : (book : Book) (o : List ℕ) (before : List Entry) (check : Check) (e : Entry) → length (entry_reading book o before check e) ≤ 0 → (b : Bool) → e ≡ Bit b → ⊥
+unfolding entry_reading
+empty_entry book o before check e le b same = let long : length (entry_reading book o before check (Bit b)) ≤ 0 = subst (λ k. length (entry_reading book o before check k) ≤ 0) same le in omega (arith, long)
+
+empty_word : (book : Book) (o : List ℕ) (before : List Entry) (check : Check) (bits : List Bool) → length (entry_reading book o before check (word bits)) ≤ 0 → length bits ≡ 0
+unfolding entry_reading
+empty_word book o before check bits le = by_count (eqb (length bits) 0) (eqb (length bits) 1) refl le
+  where
+    none : (n : ℕ) → eqb n 0 ≡ true → n ≡ 0
+    none n e = grind (arith, nat_tests)
+
+    by_count : (a b : Bool) → eqb (length bits) 0 ≡ a → length (cond a [] (cond b (checked (refuses check) (raw (value_of bits)) ∷ []) (opening o before (length bits) ++ checked_word book (length bits) (option_of o (length bits)) (value_of bits) check ∷ []))) ≤ 0 → length bits ≡ 0
+    by_count true b e le = none (length bits) e
+    by_count false true e le = absurd (omega (arith, le))
+    by_count false false e le = absurd (omega (arith, le, length-append (opening o before (length bits)) (checked_word book (length bits) (option_of o (length bits)) (value_of bits) check ∷ [])))
+
+pub nothing_told : (u : List ℤ) (plane : ℕ) (book : Book) (o : List ℕ) (before : List Entry) (ss : List Step) → AllSay u plane ss → TellsNone (whole_steps book o before 0 ss)
+nothing_told u plane book o before [] a = λ p. (refl, refl)
+nothing_told u plane book o before (s ∷ ss) a =
+    let used = length (step_reading book o before s) in
+    let z : 0 ≡ 0 - used = omega arith in
+    by_test (nat_le used 0) refl (subst (λ k. TellsNone (whole_steps book o (before ++ s.entry ∷ []) k ss)) z (nothing_told u plane book o (before ++ s.entry ∷ []) ss a.1))
+  where
+    low : (n : ℕ) → nat_le n 0 ≡ true → n ≤ 0
+    low n e = grind (arith, nat_tests)
+
+    none_list : {X : Type 0} (xs : List X) → length xs ≡ 0 → xs ≡ []
+    none_list [] e = refl
+    none_list (x ∷ xs) e = absurd (omega (arith, e))
+
+    told_none : (t : Told) → Tells u plane t s.entry → length (step_reading book o before s) ≤ 0 → (p : ℕ) → (tells_bit p t ≡ false) × (tells_sign p t ≡ false)
+    told_none flags_alone says le p = (refl, refl)
+    told_none (types_at ps) says le p =
+        let long : length (entry_reading book o before s.check (word (map (significant u plane) ps))) ≤ 0 = subst (λ e. length (entry_reading book o before s.check e) ≤ 0) says.0 le in
+        let none : ps ≡ [] = none_list ps (sym (length-map ps (significant u plane)) ∙ empty_word book o before s.check (map (significant u plane) ps) long) in
+        (ap (list_any (λ q. q == p)) none, refl)
+    told_none (sign_at q) says le p = absurd (empty_entry book o before s.check s.entry le _ says)
+    told_none (bit_at q) says le p = absurd (empty_entry book o before s.check s.entry le _ says)
+
+    by_test : (b : Bool) → nat_le (length (step_reading book o before s)) 0 ≡ b → TellsNone (whole_steps book o (before ++ s.entry ∷ []) (0 - length (step_reading book o before s)) ss) →
+        TellsNone (cond b (s ∷ whole_steps book o (before ++ s.entry ∷ []) (0 - length (step_reading book o before s)) ss) [])
+    by_test false e rest p = (refl, refl)
+    by_test true e rest p =
+        let here = told_none s.tells a.0 (low _ e) p in (
+          ap (λ x. x || any_bit p (whole_steps book o (before ++ s.entry ∷ []) (0 - length (step_reading book o before s)) ss)) here.0 ∙ (rest p).0,
+          ap (λ x. x || any_sign p (whole_steps book o (before ++ s.entry ∷ []) (0 - length (step_reading book o before s)) ss)) here.1 ∙ (rest p).1,
+        )
+
+pub from_none : (u v : List ℤ) (plane : ℕ) (ss ts : List Step) → TellsNone ss → TellsNone ts → SameTold u v plane ss ts
+from_none u v plane ss ts a b = record {
+  bits = λ p. (a p).0 ∙ sym (b p).0;
+  signs = λ p. (a p).1 ∙ sym (b p).1;
+  bit_same = λ p e. nothing (sym (a p).0 ∙ e);
+  sign_same = λ p e. nothing (sym (a p).1 ∙ e);
+}

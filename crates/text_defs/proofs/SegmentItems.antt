@@ -1,0 +1,62 @@
+-- The items of a segment of spellable values, with options that there are and depths within the head's, are none of them refused.
+use Rattle.std.proofs.Common.{◌≡◌, ℕ, ◌<◌, ◌≤◌, Bool, true, false, cond, List, [], ◌∷◌, ◌++◌, length, refl, ◌∙◌, subst, arith, ℤ, get_or}
+use Rattle.std.specs.Prelude.{nat_le}
+use Rattle.std.specs.List.{list_all, flat_map}
+use Rattle.std.proofs.lemmas.Bool.Decides.{nat_tests}
+use Rattle.std.proofs.lemmas.List.{length-map}
+use Rattle.item_defs.specs.Items.{Item}
+use Rattle.item_defs.specs.Readings.{AreItems}
+use Rattle.item_defs.proofs.ReadingLaws.{are_append}
+use Rattle.number_defs.specs.Gaggles.{gaggle_count}
+use Rattle.number_defs.specs.Depths.{depth_bits, depth_items}
+use Rattle.number_defs.proofs.AreItems.{dcs_are, depths_are}
+use Rattle.plane_defs.specs.Spans.{span}
+use Rattle.plane_defs.proofs.Tables.{list_all-span-zero}
+use Rattle.segment_defs.specs.declared.head.SegmentHead.{SegmentHead}
+use Rattle.segment_defs.specs.Head.{IsHead}
+use Rattle.segment_defs.specs.Depths.{dc_of, dcs_of}
+use Rattle.segment_defs.specs.SegmentItems.{Options, dc_shift, plane_at, stages_sent, dc_part_items, nth_plane, nth_plane_items, planes_items, segment_items}
+use Rattle.text_defs.specs.Spellable.{IsSpellable, AreWordOptions, AreNumberOptions}
+use Rattle.text_defs.proofs.PlaneItems.{plane_are_items}
+
+depths_fit : list_all (λ d. nat_le (depth_bits d) 10) (span 0 28) ≡ true
+unfolding span
+depths_fit = refl
+
+le_from : (a b : ℕ) → nat_le a b ≡ true → a ≤ b
+le_from a b e = grind (arith, nat_tests)
+
+depth_bits_few : (depth_ac : ℕ) → depth_ac ≤ 27 → depth_bits depth_ac ≤ 10
+depth_bits_few depth_ac le = le_from (depth_bits depth_ac) 10 (list_all-span-zero (λ d. nat_le (depth_bits d) 10) 28 depth_ac depths_fit (omega arith))
+
+flat_items : {X : Type 0} (f : X → List Item) → ((x : X) → AreItems (f x)) → (xs : List X) → AreItems (flat_map f xs)
+flat_items f all [] = tt
+flat_items f all (x ∷ xs) = are_append (f x) (flat_map f xs) (all x) (flat_items f all xs)
+
+pub segment_are_items : (head : SegmentHead) (blocks : List (List ℤ)) (depths : List ℕ) (options : Options) → IsHead head → IsSpellable head blocks depths → AreWordOptions options → AreNumberOptions head options →
+    ((r : ℕ) → r < length depths → get_or depths r 0 ≤ head.depth_ac) → AreItems (segment_items head blocks depths options)
+unfolding segment_items
+segment_are_items head blocks depths options fits spellable words numbers low = by_stop head.stop.dc
+  where
+    counted : length (dcs_of blocks) ≡ head.blocks
+    counted = length-map blocks dc_of ∙ spellable.blocks_all
+
+    first : AreItems (dc_part_items head blocks options)
+    first =
+        dcs_are head.depth_dc head.depth_ac (dc_shift head) (dcs_of blocks) options.dcs spellable.dcs_fit
+        (λ two g lt. numbers.dcs two g (subst (λ n. g < gaggle_count n) counted lt))
+
+    second : AreItems (depth_items head.depth_ac depths options.depths)
+    second =
+        depths_are head.depth_ac depths options.depths (depth_bits_few head.depth_ac fits.depth_ac) spellable.depths_few low
+        (λ two g lt. numbers.depths two g (subst (λ n. g < gaggle_count n) spellable.depths_all lt))
+
+    third : AreItems (planes_items head blocks depths options head.depth_ac)
+    third =
+        flat_items (nth_plane_items head blocks depths options) (λ n.
+        plane_are_items (options.words (nth_plane head n)) (λ g. record { at = λ k lo hi. words.at (nth_plane head n) g k lo hi }) (plane_at head blocks depths (nth_plane head n)) spellable.multiples (stages_sent head (nth_plane head n)))
+        (span 0 head.depth_ac)
+
+    by_stop : (b : Bool) → AreItems (cond b (dc_part_items head blocks options) (dc_part_items head blocks options ++ (depth_items head.depth_ac depths options.depths ++ planes_items head blocks depths options head.depth_ac)))
+    by_stop true = first
+    by_stop false = are_append (dc_part_items head blocks options) _ first (are_append (depth_items head.depth_ac depths options.depths) _ second third)

@@ -1,0 +1,154 @@
+-- The steps of a block that the first items of two readings of a segment give tell the same.
+use Rattle.std.proofs.Common.{◌≡◌, ℕ, ◌+◌, ◌-◌, ◌/◌, ◌<◌, ◌≤◌, inl, inr, Bool, true, false, cond, List, [], ◌∷◌, ◌++◌, length, take, refl, ap, sym, ◌∙◌, subst, arith, ℤ, get_or}
+use Rattle.std.specs.Prelude.{◌||◌}
+use Rattle.std.specs.List.{flat_map}
+use Rattle.std.proofs.lemmas.Bool.{cases_lt}
+use Rattle.std.proofs.lemmas.List.{get_or_past, length-map}
+use Rattle.item_defs.specs.Readings.{AreItems}
+use Rattle.number_defs.specs.Depths.{depth_items}
+use Rattle.number_defs.proofs.SegmentSteps.{dcs_alike, depths_alike}
+use Rattle.number_defs.proofs.NotRefused.{depths_allowed, depths_said}
+use Rattle.plane_defs.specs.declared.codes.Book.{Book}
+use Rattle.plane_defs.specs.Spans.{span}
+use Rattle.plane_defs.specs.Entries.{stage_number}
+use Rattle.plane_defs.specs.Profile.{profile}
+use Rattle.plane_defs.specs.Planes.{Plane}
+use Rattle.plane_defs.specs.Reading.{steps_of_block}
+use Rattle.plane_defs.specs.StepLaws.{SameAc, AcsAlike}
+use Rattle.plane_defs.proofs.StepItems.{AreOptionsOf}
+use Rattle.plane_defs.proofs.SpanLists.{flat_map-span-none}
+use Rattle.plane_defs.specs.Steps.{Step}
+use Rattle.plane_defs.proofs.PlaneSteps.{plane_both}
+use Rattle.std.proofs.lemmas.List.Folds.{list_any-append}
+use Rattle.segment_defs.specs.declared.head.SegmentHead.{SegmentHead}
+use Rattle.segment_defs.specs.Head.{IsHead}
+use Rattle.segment_defs.specs.Depths.{dc_of, dcs_of}
+use Rattle.segment_defs.specs.SegmentItems.{Options, dc_shift, q_of, plane_at, stages_sent, dc_part_items, nth_plane, nth_plane_items, planes_items, segment_items}
+use Rattle.text_defs.specs.Spellable.{IsSpellable, AreWordOptions, block_of}
+use Rattle.text_defs.specs.Given.{whole_steps, entries_before, count_before, steps_given, before_plane, given_in, tells_bit, tells_sign}
+use Rattle.text_defs.proofs.Prefixes.{SaySame, split, first_part, are_past, are_rest}
+use Rattle.text_defs.proofs.SegmentAlike.{list_same, planes_both, sent_none, sent_most}
+use Rattle.text_defs.proofs.Says.{steps_say}
+use Rattle.text_defs.proofs.SameTold.{SameTold, TellsNone, any_bit, any_sign, none_told, from_none, nothing_told}
+use Rattle.text_defs.proofs.PlaneTold as planes
+
+none_flat : {X : Type 0} (f : X → List Step) → ((x : X) → TellsNone (f x)) → (xs : List X) → TellsNone (flat_map f xs)
+none_flat f each [] p = (refl, refl)
+none_flat f each (x ∷ xs) p = (
+  list_any-append (λ s. tells_bit p s.tells) (f x) (flat_map f xs) ∙ ap (λ b. b || any_bit p (flat_map f xs)) (each x p).0 ∙ (none_flat f each xs p).0,
+  list_any-append (λ s. tells_sign p s.tells) (f x) (flat_map f xs) ∙ ap (λ b. b || any_sign p (flat_map f xs)) (each x p).1 ∙ (none_flat f each xs p).1,
+)
+
+pub plane_none : (book : Book) (options : ℕ → List ℕ) (p : Plane) (stages m r : ℕ) → m ≡ 0 → TellsNone (steps_given book options p stages m r)
+plane_none book options p stages m r e =
+    none_flat (λ k. whole_steps book (options (r / 16)) (entries_before p k r) (m - count_before book options p k r) (steps_of_block p (stage_number k) r)) (λ k.
+    let z : 0 ≡ m - count_before book options p k r = omega arith in
+    subst (λ n. TellsNone (whole_steps book (options (r / 16)) (entries_before p k r) n (steps_of_block p (stage_number k) r))) z
+    (nothing_told (get_or p.blocks r []) p.number book (options (r / 16)) (entries_before p k r) (steps_of_block p (stage_number k) r) (steps_say (stage_number k) (get_or p.blocks r []) (get_or p.depths r 0) p.weights p.number p.q)))
+    (span 0 stages)
+
+-- the steps that are given in the nth plane from the top
+abbrev pub given_nth : SegmentHead → List (List ℤ) → List ℕ → Options → (k r n b : ℕ) → List Step
+given_nth head blocks depths options k r n b = steps_given profile (options.words b) (plane_at head blocks depths b) (stages_sent head b) k r
+
+module _ (head : SegmentHead) (fits : IsHead head) (xs ys : List (List ℤ)) (o u : Options) (k : AreWordOptions o) (l : AreWordOptions u) where
+  abbrev ToldAt : (ds es : List ℕ) (m c r n b : ℕ) → Type 0
+  ToldAt ds es m c r n b = SameTold (block_of xs r) (block_of ys r) b (given_nth head xs ds o m r n b) (given_nth head ys es u c r n b)
+
+  nothing_at : (ds es : List ℕ) (m c r n b : ℕ) → m ≡ 0 → c ≡ 0 → ToldAt ds es m c r n b
+  nothing_at ds es m c r n b e f =
+      from_none (block_of xs r) (block_of ys r) b _ _ (plane_none profile (o.words b) (plane_at head xs ds b) (stages_sent head b) m r e) (plane_none profile (u.words b) (plane_at head ys es b) (stages_sent head b) c r f)
+
+  module _ (ds : List ℕ) (p : IsSpellable head xs ds) (q : IsSpellable head ys ds) (deep : (r : ℕ) → get_or ds r 0 ≤ head.depth_ac) where
+    -- the items of the planes stand next
+    nth_told : (m r n : ℕ) → n < head.depth_ac → r < length ds → SaySame m (planes_items head xs ds o head.depth_ac) (planes_items head ys ds u head.depth_ac) →
+        ToldAt ds ds (m - length (planes_items head xs ds o n)) (m - length (planes_items head ys ds u n)) r n (nth_plane head n)
+    nth_told m r n within inside e =
+        let b = nth_plane head n in
+        let left = planes.parts_of (nth_plane_items head xs ds o) head.depth_ac n within in
+        let right = planes.parts_of (nth_plane_items head ys ds u) head.depth_ac n within in
+        let whole = planes.say_as m _ _ _ _ left.same right.same e in
+        let both = planes_both head fits xs ys ds o u p q k l deep n (omega arith) in
+        elim (split m (planes_items head xs ds o n) (planes_items head ys ds u n) _ _ both.0 whole) [
+          | inl early ↦ nothing_at ds ds _ _ r n b (omega (arith, early.first)) (omega (arith, early.second))
+          | inr past ↦ elim (cases_lt b head.stop.plane) [
+            | inl below ↦ unsent _ _ (sent_none head b below)
+            | inr sent ↦
+                let above : (r : ℕ) → SameAc (get_or xs r []) (get_or ys r []) (b + 1) =
+                let next : head.depth_ac - n ≡ b + 1 = omega arith in
+                subst (λ c. (r : ℕ) → SameAc (get_or xs r []) (get_or ys r []) c) next (both.1 past.said (inr (omega arith))) in
+                let acs : (r : ℕ) → AcsAlike (get_or xs r []) (get_or ys r []) head.image.weights.shifts b = λ r. record { above = above r; first = p.multiples r; second = q.multiples r } in
+                let kb : (g : ℕ) → AreOptionsOf (o.words b g) = λ g. record { at = λ n low high. k.at b g n low high } in
+                let lb : (g : ℕ) → AreOptionsOf (u.words b g) = λ g. record { at = λ n low high. l.at b g n low high } in
+                let most = sent_most head b fits.stage in
+                let c : ℕ = m - length (planes_items head xs ds o n) in
+                let alike = (plane_both profile (o.words b) (u.words b) kb lb xs ys ds head.image.weights.shifts b (q_of head) acs (stages_sent head b) most).0 in
+                let first = first_part c (nth_plane_items head xs ds o n) (nth_plane_items head ys ds u n) left.others right.others alike past.rest in
+                let told = planes.plane_told profile (o.words b) (u.words b) kb lb xs ys ds head.image.weights.shifts b (q_of head) acs (stages_sent head b) r c most inside first in
+                subst (λ a. ToldAt ds ds c a r n b) (ap (λ a. m - a) past.long) told
+          ]
+        ]
+      where
+        unsent : (a c : ℕ) → stages_sent head (nth_plane head n) ≡ 0 → ToldAt ds ds a c r n (nth_plane head n)
+        unsent a c e =
+            let b = nth_plane head n in
+            let empty : (blocks : List (List ℤ)) (options : Options) (a : ℕ) → given_nth head blocks ds options a r n b ≡ [] =
+            λ blocks options a.
+            ap (λ s. steps_given profile (options.words b) (plane_at head blocks ds b) s a r) e
+            ∙ flat_map-span-none (λ k. whole_steps profile (options.words b (r / 16)) (entries_before (plane_at head blocks ds b) k r) (a - count_before profile (options.words b) (plane_at head blocks ds b) k r) (steps_of_block (plane_at head blocks ds b) (stage_number k) r)) 0 in
+            subst (λ l. SameTold (block_of xs r) (block_of ys r) b l (given_nth head ys ds u c r n b)) (sym (empty xs o a))
+            (subst (λ l. SameTold (block_of xs r) (block_of ys r) b [] l) (sym (empty ys u c)) (none_told (block_of xs r) (block_of ys r) b))
+
+  pub told_in : (ds es : List ℕ) (p : IsSpellable head xs ds) (q : IsSpellable head ys es) (m r b : ℕ) → b < head.depth_ac → r < head.blocks →
+      SaySame m (segment_items head xs ds o) (segment_items head ys es u) → AreItems (take m (segment_items head xs ds o)) →
+      SameTold (block_of xs r) (block_of ys r) b (given_in head xs ds o m r b) (given_in head ys es u m r b)
+  unfolding segment_items
+  told_in ds es p q m r b high inside e all = by_stop head.stop.dc e all
+    where
+      by_stop : (t : Bool) →
+          SaySame m (cond t (dc_part_items head xs o) (dc_part_items head xs o ++ (depth_items head.depth_ac ds o.depths ++ planes_items head xs ds o head.depth_ac)))
+          (cond t (dc_part_items head ys u) (dc_part_items head ys u ++ (depth_items head.depth_ac es u.depths ++ planes_items head ys es u head.depth_ac))) →
+          AreItems (take m (cond t (dc_part_items head xs o) (dc_part_items head xs o ++ (depth_items head.depth_ac ds o.depths ++ planes_items head xs ds o head.depth_ac)))) →
+          SameTold (block_of xs r) (block_of ys r) b (cond t [] (given_nth head xs ds o (m - before_plane head xs ds o (head.depth_ac - (b + 1))) r (head.depth_ac - (b + 1)) b))
+          (cond t [] (given_nth head ys es u (m - before_plane head ys es u (head.depth_ac - (b + 1))) r (head.depth_ac - (b + 1)) b))
+      by_stop true e all = none_told (block_of xs r) (block_of ys r) b
+      by_stop false e all =
+          let n : ℕ = head.depth_ac - (b + 1) in
+          let D = dc_part_items head xs o in
+          let E = dc_part_items head ys u in
+          let Z = depth_items head.depth_ac ds o.depths in
+          let Y = depth_items head.depth_ac es u.depths in
+          let same_blocks : length (dcs_of xs) ≡ length (dcs_of ys) = length-map xs dc_of ∙ p.blocks_all ∙ sym q.blocks_all ∙ sym (length-map ys dc_of) in
+          let same_depths : length ds ≡ length es = p.depths_all ∙ sym q.depths_all in
+          let first = dcs_alike head.depth_dc head.depth_ac (dc_shift head) (dcs_of xs) (dcs_of ys) o.dcs u.dcs same_blocks p.dcs_fit q.dcs_fit in
+          let second = depths_alike head.depth_ac ds es o.depths u.depths same_depths p.depths_few q.depths_few in
+          elim (split m D E _ _ first e) [
+            | inl early ↦ nothing_at ds es _ _ r n b (omega (arith, early.first)) (omega (arith, early.second))
+            | inr past ↦ elim (split (m - length D) Z Y _ _ second past.rest) [
+              | inl early ↦ nothing_at ds es _ _ r n b (omega (arith, early.first, past.within)) (omega (arith, early.second, past.within, past.long))
+              | inr more ↦
+                  let same : ds ≡ es = list_same ds es 0 same_depths (depths_said head.depth_ac ds es o.depths u.depths same_depths p.depths_few q.depths_few more.said) in
+                  let given : AreItems Z = are_past (m - length D) Z _ (are_rest m D _ all past.within) more.within in
+                  let deep : (r : ℕ) → get_or ds r 0 ≤ head.depth_ac =
+                  λ r. elim (cases_lt r (length ds)) [
+                    | inl within ↦ depths_allowed head.depth_ac ds o.depths p.depths_few given r within
+                    | inr outside ↦ let none : get_or ds r 0 ≡ 0 = get_or_past ds r 0 outside in omega arith
+                  ] in
+                  let other : IsSpellable head ys ds = subst (IsSpellable head ys) (sym same) q in
+                  let c : ℕ = m - length D - length Z in
+                  let rest : SaySame c (planes_items head xs ds o head.depth_ac) (planes_items head ys ds u head.depth_ac) =
+                  subst (λ d. SaySame c (planes_items head xs ds o head.depth_ac) (planes_items head ys d u head.depth_ac)) (sym same) more.rest in
+                  let told : ToldAt ds ds (c - length (planes_items head xs ds o n)) (c - length (planes_items head ys ds u n)) r n (nth_plane head n) =
+                  nth_told ds p other deep c r n (omega arith) (omega (arith, p.depths_all)) rest in
+                  let left : c - length (planes_items head xs ds o n) ≡ m - before_plane head xs ds o n = omega arith in
+                  let right : c - length (planes_items head ys es u n) ≡ m - before_plane head ys es u n = omega (arith, past.long, more.long) in
+                  let at : nth_plane head n ≡ b = omega arith in
+                  let told_es : ToldAt ds es (c - length (planes_items head xs ds o n)) (c - length (planes_items head ys es u n)) r n (nth_plane head n) =
+                  subst (λ d. ToldAt ds d (c - length (planes_items head xs ds o n)) (c - length (planes_items head ys d u n)) r n (nth_plane head n)) same told in
+                  let told_left : ToldAt ds es (m - before_plane head xs ds o n) (c - length (planes_items head ys es u n)) r n (nth_plane head n) =
+                  subst (λ a. ToldAt ds es a (c - length (planes_items head ys es u n)) r n (nth_plane head n)) left told_es in
+                  let told_both : ToldAt ds es (m - before_plane head xs ds o n) (m - before_plane head ys es u n) r n (nth_plane head n) =
+                  subst (λ a. ToldAt ds es (m - before_plane head xs ds o n) a r n (nth_plane head n)) right told_left in
+                  subst (λ a. ToldAt ds es (m - before_plane head xs ds o n) (m - before_plane head ys es u n) r n a) at told_both
+            ]
+          ]

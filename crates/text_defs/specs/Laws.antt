@@ -1,0 +1,46 @@
+-- The laws that the definitions keep.
+use Rattle.std.specs.Prelude.{◌≡◌, ◌<◌, ◌≤◌, ℕ, ℤ, List, length, take, Bool, false}
+use lib.ListN.{get_or}
+use Rattle.item_defs.specs.Items.{Refusal}
+use Rattle.item_defs.specs.Laws.{said_of}
+use Rattle.item_defs.specs.Readings.{item_at}
+use Rattle.segment_defs.specs.declared.head.SegmentHead.{SegmentHead}
+use Rattle.segment_defs.specs.Head.{IsHead}
+use Rattle.segment_defs.specs.SegmentItems.{Options, segment_items}
+use Rattle.text_defs.specs.Fronts.{RefusalFollows}
+use Rattle.text_defs.specs.Spellable.{IsSpellable}
+use Rattle.text_defs.specs.Given.{given_blocks}
+use Rattle.text_defs.specs.Outcomes.{Reading, Holds, Refused, SegmentRefusal}
+
+-- Two readings of as many items of one text say the same and leave the same bits; their next items have one form, or
+-- both have none.
+pub record ReadingsAgree (head : SegmentHead) (rest : List ℕ) (m : ℕ) (xs ys : List (List ℤ)) (ds es : List ℕ) (o u : Options) (more other : List Bool) : Type 0 where
+  pub said : said_of (take m (segment_items head xs ds o)) ≡ said_of (take m (segment_items head ys es u))
+  pub left : more ≡ other
+  pub next : m < length (segment_items head xs ds o) →
+      (m < length (segment_items head ys es u)) × ((item_at (segment_items head xs ds o) m).form ≡ (item_at (segment_items head ys es u) m).form)
+  pub whole : m ≡ length (segment_items head xs ds o) → m ≡ length (segment_items head ys es u)
+
+abbrev pub StepLaw : Type 0
+StepLaw = (head : SegmentHead) (rest : List ℕ) (m : ℕ) (xs ys : List (List ℤ)) (ds es : List ℕ) (o u : Options) (more other : List Bool) → IsHead head →
+    Reading head rest xs ds o m more → Reading head rest ys es u m other → ReadingsAgree head rest m xs ys ds es o u more other
+
+-- A text has no two names, nor a name where it holds something; all readings of what it holds are of as many items, and where a
+-- form refuses the next item, no reading goes further.
+pub record OutcomesExclude : Type 0 where
+  pub one_name : (head : SegmentHead) (rest : List ℕ) (a b : SegmentRefusal) → IsHead head → Refused head rest a → Refused head rest b → a ≡ b
+  pub not_both : (head : SegmentHead) (rest : List ℕ) (w : List (List ℤ)) (name : SegmentRefusal) → IsHead head → Holds head rest w → Refused head rest name → ⊥
+  pub one_count : (head : SegmentHead) (rest : List ℕ) (v w : List (List ℤ)) → IsHead head → (h : Holds head rest v) → (k : Holds head rest w) → h.count ≡ k.count
+  pub no_further : (head : SegmentHead) (rest : List ℕ) (m n : ℕ) (xs ys : List (List ℤ)) (ds es : List ℕ) (o u : Options) (more other : List Bool) (h : IsHead head) →
+      Reading head rest xs ds o m more → (name : Refusal) → RefusalFollows (segment_items head xs ds o) m more name → Reading head rest ys es u n other → n ≤ m
+
+-- Two readings of as many items give the same numbers, so a text holds one w.
+abbrev pub SameGiven : Type 0
+SameGiven = (head : SegmentHead) (rest : List ℕ) (m : ℕ) (xs ys : List (List ℤ)) (ds es : List ℕ) (o u : Options) (more other : List Bool) → IsHead head →
+    Reading head rest xs ds o m more → Reading head rest ys es u m other → given_blocks head xs ds o m ≡ given_blocks head ys es u m
+
+-- All items without a stop give all numbers.
+abbrev pub AllGiven : Type 0
+AllGiven = (head : SegmentHead) (blocks : List (List ℤ)) (depths : List ℕ) (options : Options) → IsHead head → IsSpellable head blocks depths →
+    head.stop.dc ≡ false → head.stop.plane ≡ 0 → head.stop.stage ≡ 3 → ((r : ℕ) → r < length depths → get_or depths r 0 ≤ head.depth_ac) →
+    given_blocks head blocks depths options (length (segment_items head blocks depths options)) ≡ blocks

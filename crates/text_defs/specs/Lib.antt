@@ -1,0 +1,7 @@
+pub mod Fronts
+pub mod Spellable
+pub mod Given
+pub mod Outcomes
+pub mod Agreement
+pub mod Laws
+pub mod Open

@@ -1,0 +1,91 @@
+-- What a segment's text holds, or by which name it is refused. The text is told by the octets after its head: the head's own
+-- are any that are read as this head. (this project's own)
+use Rattle.std.specs.Prelude.{◌≡◌, ◌≢◌, ◌<◌, ◌⊎◌, ℕ, ◌+◌, ◌-◌, ◌*◌, ◌/◌, ◌==◌, ℤ, Bool, if◌then◌else◌, List, length, take}
+use Rattle.item_defs.specs.Bits.{bits_of_octets}
+use Rattle.item_defs.specs.Items.{Item, Refusal, text}
+use Rattle.item_defs.specs.Padding.{rounded}
+use Rattle.segment_defs.specs.declared.head.SegmentHead.{SegmentHead}
+use Rattle.segment_defs.specs.Head.{head_length}
+use Rattle.segment_defs.specs.SegmentItems.{Options, segment_items}
+use Rattle.text_defs.specs.Fronts.{Front, NothingFollows, RefusalFollows}
+use Rattle.text_defs.specs.Spellable.{IsSpellable, AreWordOptions}
+use Rattle.text_defs.specs.Given.{given_blocks}
+
+-- ---- lengths in octets, the head included
+
+abbrev pub length_of : SegmentHead → List ℕ → ℕ
+length_of head rest = head_length head + length rest
+
+-- the bits in which items are read: those of the octets before the limit
+abbrev pub bits_read : SegmentHead → List ℕ → List Bool
+bits_read head rest =
+    bits_of_octets (if head.limit == 0 then rest else take (head.limit - head_length head) rest)
+
+-- where all items are given
+abbrev pub expected_length : SegmentHead → List Item → ℕ
+expected_length head items =
+    if head.fill then head.limit else rounded (8 * head.image.word) (8 * head_length head + length (text items)) / 8
+
+-- ---- readings
+
+-- the first m items of these values stand in the text, before `more`
+pub record Reading (head : SegmentHead) (rest : List ℕ) (blocks : List (List ℤ)) (depths : List ℕ) (options : Options) (m : ℕ) (more : List Bool) : Type 0 where
+  pub spellable : IsSpellable head blocks depths
+  pub known : AreWordOptions options
+  pub front : Front (segment_items head blocks depths options) m (bits_read head rest) more
+
+-- the text stands in the limit's octets, and is cut there
+pub record IsCut (head : SegmentHead) (rest : List ℕ) : Type 0 where
+  pub limited : head.limit ≢ 0
+  pub full : length_of head rest ≡ head.limit
+
+-- all items are given, and the text ends where it should; or the limit cuts them
+abbrev pub IsTaken : SegmentHead → List ℕ → List Item → ℕ → List Bool → Type 0
+IsTaken head rest items m more =
+    ((m ≡ length items) × (length_of head rest ≡ expected_length head items)) ⊎ (NothingFollows items m more × IsCut head rest)
+
+pub record Holds (head : SegmentHead) (rest : List ℕ) (w : List (List ℤ)) : Type 0 where
+  pub blocks : List (List ℤ)
+  pub depths : List ℕ
+  pub options : Options
+  pub count : ℕ
+  pub more : List Bool
+  pub reading : Reading head rest blocks depths options count more
+  pub is_taken : IsTaken head rest (segment_items head blocks depths options) count more
+  pub given : w ≡ given_blocks head blocks depths options count
+
+-- ---- refusals
+
+pub data SegmentRefusal : Type 0 where
+  at_item : Refusal → SegmentRefusal
+  short_segment : SegmentRefusal
+  overlong : SegmentRefusal
+
+-- the text is shorter than this, or longer
+abbrev pub IsOff : ℕ → ℕ → SegmentRefusal → Type 0
+IsOff octets wanted (at_item name) = ⊥
+IsOff octets wanted short_segment = octets < wanted
+IsOff octets wanted overlong = wanted < octets
+
+-- an item isn't given: without a limit the text is short
+abbrev pub IsOffLimit : SegmentHead → List ℕ → SegmentRefusal → Type 0
+IsOffLimit head rest (at_item name) = ⊥
+IsOffLimit head rest short_segment = (head.limit ≡ 0) ⊎ (length_of head rest < head.limit)
+IsOffLimit head rest overlong = (head.limit ≢ 0) × (head.limit < length_of head rest)
+
+abbrev pub IsRefusedItem : List Item → ℕ → List Bool → SegmentRefusal → Type 0
+IsRefusedItem items m more (at_item name) = RefusalFollows items m more name
+IsRefusedItem items m more short_segment = ⊥
+IsRefusedItem items m more overlong = ⊥
+
+pub record Refused (head : SegmentHead) (rest : List ℕ) (name : SegmentRefusal) : Type 0 where
+  pub blocks : List (List ℤ)
+  pub depths : List ℕ
+  pub options : Options
+  pub count : ℕ
+  pub more : List Bool
+  pub reading : Reading head rest blocks depths options count more
+  pub cause : let items = segment_items head blocks depths options in
+      IsRefusedItem items count more name
+      ⊎ (((count ≡ length items) × IsOff (length_of head rest) (expected_length head items) name)
+      ⊎ (NothingFollows items count more × IsOffLimit head rest name))

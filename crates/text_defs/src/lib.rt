@@ -1,0 +1,25 @@
+//! Definitions of what a segment's text holds: the values that it may spell, its readings, and the name by which it is
+//! refused; with the laws that a text is read in one way and has one outcome.
+#![tactic(auto)]
+
+ghost use Rattle.text_defs.specs.Laws.{StepLaw, OutcomesExclude, SameGiven, AllGiven};
+
+/// Two readings of as many items of one text say the same, and go on alike.
+pub const fn readings_agree()
+    ensures { StepLaw }
+{}
+
+/// A text that holds something isn't refused, and one that is refused has one name.
+pub const fn outcomes_exclude()
+    ensures { OutcomesExclude }
+{}
+
+/// Two readings of as many items give the same numbers, so a text holds one list of blocks.
+pub const fn readings_give_one()
+    ensures { SameGiven }
+{}
+
+/// All items of a segment without a stop give all of its numbers.
+pub const fn items_give_all()
+    ensures { AllGiven }
+{}
