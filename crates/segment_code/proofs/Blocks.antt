@@ -5,7 +5,8 @@ use Rattle.std.specs.List.{range_with_len}
 use Rattle.std.proofs.lemmas.List.{get_or-take, get_or-drop, get_or_default}
 use Rattle.std.proofs.lemmas.List.FromFn.{map-range_with_len_more, fill_by_all}
 use Rattle.segment_defs.specs.Size.{size_of, greatest}
-use Rattle.segment_defs.specs.Depths.{block_at, blocks_in, dc_of, block_depth, block_depths, signed_size}
+use Rattle.wave_defs.specs.Held.{block_at, blocks_in}
+use Rattle.segment_defs.specs.Depths.{dc_of, block_depth, block_depths, signed_size}
 use Rattle.segment_defs.proofs.Sizes.{size_of-least}
 use Rattle.segment_code.specs.Numbers.{AreBounded}
 use Rattle.segment_code.proofs.SizeBits.{greatest-within, greatest-push}

@@ -1,9 +1,9 @@
 -- A text that was put into a sink, and ended.
-use Rattle.std.proofs.Common.{◌≡◌, ◌⊎◌, ℕ, ◌+◌, ◌*◌, ◌^◌, ◌<◌, ◌≤◌, List, [], ◌++◌, length, take, drop, Bool, false, refl, sym, ap, subst, ◌∙◌, arith, inl, inr, append_assoc, length-append, length-take}
+use Rattle.std.proofs.Common.{◌≡◌, ◌⊎◌, ℕ, ◌+◌, ◌*◌, ◌^◌, ◌<◌, ◌≤◌, List, [], ◌++◌, length, take, Bool, false, refl, sym, ap, subst, ◌∙◌, arith, inl, inr, append_assoc, length-append, length-take}
 use Rattle.std.specs.Prelude.{◌==◌, Result, Ok, Err, MatchResult}
 use Rattle.std.proofs.lemmas.Bool.{cases_lt}
 use Rattle.std.proofs.lemmas.Bool.Decides.{nat_tests}
-use Rattle.std.proofs.lemmas.List.{append-nil, take-append-drop, take_all}
+use Rattle.std.proofs.lemmas.List.{append-nil, take_all}
 use Rattle.item_defs.specs.Bits.{copies, octets_of, bits_of_octets, AreOctets}
 use Rattle.item_defs.specs.Padding.{padded_length, padding, padded}
 use Rattle.item_defs.proofs.BitLists.{length-copies}
@@ -39,10 +39,6 @@ breaks_front {S} {k} {a} {b} {bits} zeros p =
 
 module _ {S : Type 0} (k : SinkOf S) (out : S) (s t : Standing S) (word limit : ℕ) (fill : Bool) (bits : List Bool)
     (begins : Begins k out (bound_of limit) s) (is_open : IsOpen s) (none : (k.counts out).given ≡ 0) where
-  -- the sink failed before the end
-  pub put_broke : Breaks k s t bits → BreaksWithin k out t.sink (octets_of (padded word limit fill bits))
-  put_broke p = breaks_front (copies (padding word limit fill (length bits)) false) (text_broke begins p)
-
   room_is : s.room ≡ 8 * bound_of limit
   room_is = omega (arith, is_open.whole, begins.used, begins.bound, none)
 
@@ -51,6 +47,21 @@ module _ {S : Type 0} (k : SinkOf S) (out : S) (s t : Standing S) (word limit : 
 
   limited : IsLimit word limit → bound_of limit ≡ limit
   limited l = let there : (limit == 0) ≡ false = grind (arith, nat_tests, l.some) in rw there refl
+
+  -- ---- the sink failed before the end
+
+  -- the octets of the bits that fit are the text's
+  fitting_octets : IsBounded word limit fill (length bits) → octets_of (padded word limit fill (take s.room bits)) ≡ text_octets word limit fill bits
+  fitting_octets (inl (some, few, zero, plain, short)) =
+      let all : take s.room bits ≡ bits = take_all s.room bits (omega (arith, room_is, unlimited zero)) in
+      rw (all, zero, plain) (text_unlimited word 0 bits)
+  fitting_octets (inr l) = elim (cases_lt s.room (length bits)) [
+    | inl lt ↦ ap (λ n. octets_of (padded word limit fill (take n bits))) (room_is ∙ ap (λ n. 8 * n) (limited l)) ∙ text_cut word limit fill bits l (omega (arith, room_is, limited l))
+    | inr ge ↦ ap (λ r. octets_of (padded word limit fill r)) (take_all s.room bits ge) ∙ text_within word limit fill bits l (omega (arith, room_is, limited l))
+  ]
+
+  pub put_broke : IsBounded word limit fill (length bits) → Breaks k s t (take s.room bits) → BreaksWithin k out t.sink (text_octets word limit fill bits)
+  put_broke b p = subst (BreaksWithin k out t.sink) (fitting_octets b) (breaks_front (copies (padding word limit fill (length (take s.room bits))) false) (text_broke begins p))
 
   -- ---- all bits were put
 
@@ -88,30 +99,15 @@ module _ {S : Type 0} (k : SinkOf S) (out : S) (s t : Standing S) (word limit : 
         count = omega (arith, ap length (sym octets), length-octets_of (bits ++ copies zeros false), length-append bits (copies zeros false), length-copies zeros false, q.bits, p.used, begins.used, none);
       }
 
-  pub all_broke : {u : S} → IsBounded word limit fill (length bits) → Adds k s t bits → BrokeBits k t.sink u (t.pending ++ copies (padding word t.bound fill t.used) false) → BreaksWithin k out u (octets_of (padded word limit fill bits))
+  pub all_broke : {u : S} → IsBounded word limit fill (length bits) → Adds k s t bits → BrokeBits k t.sink u (t.pending ++ copies (padding word t.bound fill t.used) false) → BreaksWithin k out u (text_octets word limit fill bits)
   all_broke {u} b p q =
       let whole = breaks_front [] (text_broke_at_end begins (padding word t.bound fill t.used) p q) in
-      subst (BreaksWithin k out u) (ap octets_of (append-nil (bits ++ copies (padding word t.bound fill t.used) false)) ∙ ap (λ n. octets_of (bits ++ copies n false)) (padding_is b p)) whole
+      subst (BreaksWithin k out u) (ap octets_of (append-nil (bits ++ copies (padding word t.bound fill t.used) false)) ∙ ap (λ n. octets_of (bits ++ copies n false)) (padding_is b p) ∙ octets_are_text b p) whole
 
   pub closed : {E : Type 0} (r : Result ℕ E) {u : S} → IsBounded word limit fill (length bits) → Adds k s t bits → Closes k r word fill t u →
-      MatchResult r (λ octets. GivesText k out u (text_octets word limit fill bits) octets) (λ _. BreaksWithin k out u (octets_of (padded word limit fill bits)))
+      MatchResult r (λ octets. GivesText k out u (text_octets word limit fill bits) octets) (λ _. BreaksWithin k out u (text_octets word limit fill bits))
   closed (Ok n) b p c = all_given b p c.ends
   closed (Err e) b p c = all_broke b p c.ends
-
--- a front of a front
-breaks_cut : {S : Type 0} {k : SinkOf S} {a b : S} (word limit : ℕ) (fill : Bool) (bits : List Bool) → IsLimit word limit → BreaksWithin k a b (text_octets word limit fill bits) → BreaksWithin k a b (octets_of (padded word limit fill bits))
-unfolding text_octets
-breaks_cut {S} {k} {a} {b} word limit fill bits l p =
-    let all = octets_of (padded word limit fill bits) in
-    let there : (limit == 0) ≡ false = grind (arith, nat_tests, l.some) in
-    let parts : take limit all ≡ p.front ++ p.more = rw there at p.parts in
-    record {
-      front = p.front;
-      more = p.more ++ drop limit all;
-      parts = sym (take-append-drop limit all) ∙ ap (λ r. r ++ drop limit all) parts ∙ append_assoc p.front p.more (drop limit all);
-      broke = p.broke;
-      rose = p.rose;
-    }
 
 module _ {S : Type 0} (k : SinkOf S) (out : S) (s t : Standing S) (word limit : ℕ) (fill : Bool) (bits : List Bool)
     (begins : Begins k out (bound_of limit) s) (is_open : IsOpen s) (none : (k.counts out).given ≡ 0) where
@@ -133,7 +129,7 @@ module _ {S : Type 0} (k : SinkOf S) (out : S) (s t : Standing S) (word limit : 
   cut_fits b lt p = end_fits k out s t word limit fill (take s.room bits) begins is_open none (inr (limit_there b lt)) p
 
   pub closed_cut : {E : Type 0} (r : Result ℕ E) {u : S} → IsBounded word limit fill (length bits) → s.room < length bits → Adds k s t (take s.room bits) → Closes k r word fill t u →
-      MatchResult r (λ octets. GivesText k out u (text_octets word limit fill bits) octets) (λ _. BreaksWithin k out u (octets_of (padded word limit fill bits)))
+      MatchResult r (λ octets. GivesText k out u (text_octets word limit fill bits) octets) (λ _. BreaksWithin k out u (text_octets word limit fill bits))
   closed_cut r {u} b lt p c =
       let l = limit_there b lt in
       let room : s.room ≡ 8 * limit = room_limited l in
@@ -141,13 +137,13 @@ module _ {S : Type 0} (k : SinkOf S) (out : S) (s t : Standing S) (word limit : 
       let front : cut ≡ take (8 * limit) bits = ap (λ n. take n bits) room in
       let octets : octets_of (padded word limit fill cut) ≡ text_octets word limit fill bits = ap (λ r. octets_of (padded word limit fill r)) front ∙ text_cut word limit fill bits l (omega (arith, room)) in
       let same : text_octets word limit fill cut ≡ text_octets word limit fill bits = sym (text_within word limit fill cut l (omega (arith, room, length-take s.room bits))) ∙ octets in
-      by_result r octets same (closed k out s t word limit fill cut begins is_open none r (inr l) p c)
+      by_result r same (closed k out s t word limit fill cut begins is_open none r (inr l) p c)
     where
-      by_result : {E : Type 0} (r : Result ℕ E) → octets_of (padded word limit fill (take s.room bits)) ≡ text_octets word limit fill bits → text_octets word limit fill (take s.room bits) ≡ text_octets word limit fill bits →
-          MatchResult r (λ octets. GivesText k out u (text_octets word limit fill (take s.room bits)) octets) (λ _. BreaksWithin k out u (octets_of (padded word limit fill (take s.room bits)))) →
-          MatchResult r (λ octets. GivesText k out u (text_octets word limit fill bits) octets) (λ _. BreaksWithin k out u (octets_of (padded word limit fill bits)))
-      by_result (Ok n) octets same m = subst (λ text. GivesText k out u text n) same m
-      by_result (Err e) octets same m = breaks_cut word limit fill bits (limit_there b lt) (subst (BreaksWithin k out u) octets m)
+      by_result : {E : Type 0} (r : Result ℕ E) → text_octets word limit fill (take s.room bits) ≡ text_octets word limit fill bits →
+          MatchResult r (λ octets. GivesText k out u (text_octets word limit fill (take s.room bits)) octets) (λ _. BreaksWithin k out u (text_octets word limit fill (take s.room bits))) →
+          MatchResult r (λ octets. GivesText k out u (text_octets word limit fill bits) octets) (λ _. BreaksWithin k out u (text_octets word limit fill bits))
+      by_result (Ok n) same m = subst (λ text. GivesText k out u text n) same m
+      by_result (Err e) same m = subst (BreaksWithin k out u) same m
 
 -- ---- as many bits as fit were put
 
@@ -164,7 +160,7 @@ module _ {S : Type 0} (k : SinkOf S) (out : S) (s t : Standing S) (word limit : 
   ]
 
   pub closed_fitting : {E : Type 0} (r : Result ℕ E) {u : S} → IsBounded word limit fill (length bits) → Adds k s t (take s.room bits) → Closes k r word fill t u →
-      MatchResult r (λ octets. GivesText k out u (text_octets word limit fill bits) octets) (λ _. BreaksWithin k out u (octets_of (padded word limit fill bits)))
+      MatchResult r (λ octets. GivesText k out u (text_octets word limit fill bits) octets) (λ _. BreaksWithin k out u (text_octets word limit fill bits))
   closed_fitting r b p c = elim (cases_lt s.room (length bits)) [
     | inl lt ↦ closed_cut k out s t word limit fill bits begins is_open none r b lt p c
     | inr ge ↦ closed k out s t word limit fill bits begins is_open none r b (subst (Adds k s t) (take_all s.room bits ge) p) c
@@ -172,8 +168,8 @@ module _ {S : Type 0} (k : SinkOf S) (out : S) (s t : Standing S) (word limit : 
 
 -- the sink stands so at the return too
 pub told : {S E : Type 0} (k : SinkOf S) (out : S) (r : Result ℕ E) (h : SegmentHead) (blocks : List (List ℤ)) (u v : S) → u ≡ v →
-    MatchResult r (λ octets. GivesText k out u (text_octets h.image.word h.limit h.fill (coded_bits h blocks)) octets) (λ _. BreaksWithin k out u (octets_of (padded h.image.word h.limit h.fill (coded_bits h blocks)))) →
-    MatchResult r (λ octets. GivesText k out v (coded h blocks) octets) (λ _. BreaksWithin k out v (octets_of (padded h.image.word h.limit h.fill (coded_bits h blocks))))
+    MatchResult r (λ octets. GivesText k out u (text_octets h.image.word h.limit h.fill (coded_bits h blocks)) octets) (λ _. BreaksWithin k out u (text_octets h.image.word h.limit h.fill (coded_bits h blocks))) →
+    MatchResult r (λ octets. GivesText k out v (coded h blocks) octets) (λ _. BreaksWithin k out v (coded h blocks))
 unfolding coded
 told k out (Ok n) h blocks u v e m = subst (λ x. GivesText k out x (text_octets h.image.word h.limit h.fill (coded_bits h blocks)) n) e m
-told k out (Err x) h blocks u v e m = subst (λ y. BreaksWithin k out y (octets_of (padded h.image.word h.limit h.fill (coded_bits h blocks)))) e m
+told k out (Err x) h blocks u v e m = subst (λ y. BreaksWithin k out y (text_octets h.image.word h.limit h.fill (coded_bits h blocks))) e m

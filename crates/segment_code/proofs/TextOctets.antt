@@ -12,7 +12,7 @@ use Rattle.segment_defs.specs.Text.{text_octets}
 use Rattle.segment_head.proofs.WrittenFields.{octets_of-append}
 
 -- the first octets are those of the first bits
-take-octets_of : (n : ℕ) (bits : List Bool) → 8 * n ≤ length bits → take n (octets_of bits) ≡ octets_of (take (8 * n) bits)
+pub take-octets_of : (n : ℕ) (bits : List Bool) → 8 * n ≤ length bits → take n (octets_of bits) ≡ octets_of (take (8 * n) bits)
 take-octets_of n bits le =
     let front = take (8 * n) bits in
     let long : length front ≡ 8 * n = length-take-le (8 * n) bits le in
@@ -41,7 +41,7 @@ padded_within word limit used fill l le =
     by_fill true r = omega (arith, r)
     by_fill false r = omega (arith, r)
 
-padded_least : (word limit used : ℕ) (fill : Bool) → 1 ≤ word → used ≤ padded_length word limit fill used
+pub padded_least : (word limit used : ℕ) (fill : Bool) → 1 ≤ word → used ≤ padded_length word limit fill used
 padded_least word limit used fill some = by_fill fill (rounded_bounds (8 * word) used (omega arith)).0
   where
     by_fill : (fill : Bool) → used ≤ rounded (8 * word) used → used ≤ padded_length word limit fill used

@@ -1,2 +1,4 @@
 pub mod Numbers
 pub mod Text
+pub mod Parts
+pub mod Laws

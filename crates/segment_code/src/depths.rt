@@ -1,7 +1,8 @@
 // The depths of a segment's blocks.
 ghost use Rattle.std.specs.Prelude.{◌≡◌, ◌≤◌, ◌+◌, ◌*◌, length, map, pos, unsigned_abs};
 ghost use Rattle.segment_defs.specs.Size.{size_of, greatest};
-ghost use Rattle.segment_defs.specs.Depths.{block_at, blocks_in, dc_of, block_depth, block_depths, signed_size, depth_dc_of, depth_ac_of};
+ghost use Rattle.wave_defs.specs.Held.{block_at, blocks_in};
+ghost use Rattle.segment_defs.specs.Depths.{dc_of, block_depth, block_depths, signed_size, depth_dc_of, depth_ac_of};
 ghost use Rattle.segment_code.specs.Numbers.{AreBounded};
 
 // Numbers of a block; its DC is the first.

@@ -1,25 +1,25 @@
 // A segment's text.
-ghost use Rattle.std.specs.Prelude.{◌≡◌, ◌≤◌, ◌*◌, length, map, take, pos, true, MatchResult};
-ghost use Rattle.base_122.specs.Weights.{shift_of};
-ghost use Rattle.base_122.specs.declared.weights.Band.TheVariants.{Ll3};
-ghost use Rattle.bit_pipe.specs.Standing.{stand, IsOpen, Adds, Breaks, Puts};
-ghost use Rattle.item_defs.specs.Bits.{octets_of};
-ghost use Rattle.item_defs.specs.Padding.{padded};
-ghost use Rattle.segment_defs.specs.Depths.{blocks_in, block_depths, depth_dc_of, depth_ac_of};
+ghost use Rattle.std.specs.Prelude.{◌≡◌, ◌≤◌, ◌*◌, length, map, take, pos, MatchResult};
+ghost use Rattle.item_defs.specs.Items.{text};
+ghost use Rattle.bit_pipe.specs.Standing.{stand, Adds, Breaks, Puts, IsReady, Writes};
+ghost use Rattle.wave_defs.specs.Held.{blocks_in};
+ghost use Rattle.plane_defs.specs.Marks.{depths_of};
+ghost use Rattle.segment_defs.specs.Depths.{block_depths, depth_dc_of, depth_ac_of};
 ghost use Rattle.segment_defs.specs.Head.{IsHead, head_length};
-ghost use Rattle.segment_defs.specs.Coded.{coded, coded_bits, choice_of, dc_shift};
-ghost use Rattle.gaggle_codes.specs.Options.{choice_of as choice_of_select};
+ghost use Rattle.segment_defs.specs.Coded.{coded, coded_bits};
+ghost use Rattle.segment_code.specs.Parts.{coded_rest};
 ghost use Rattle.segment_code.specs.Text.{GivesText, BreaksWithin};
 
-use base_122::{Band, Select};
+use crate::planes::put_planes;
+use crate::tells::{plan_of, select_of};
 use bit_pipe::{BitOut, Failed, OctetOut, PutFault};
-use dc_depths::{DcPlan, put_dc};
+use dc_depths::{put_dc, put_depths};
 use segment_head::{SegmentHead, write_head};
 
-/// Writes the text of a segment that stops at the DC numbers, and answers its length in octets (docs/formats.md,
-/// "Stops, cut and fill"). Its blocks are 64 weighted numbers each. The depths of the head and the marks are those of
-/// the blocks, as `segment_depths` answers them; what the marks hold afterwards is left open. `Failed` comes only where
-/// the sink failed.
+/// Writes the text of a segment, and answers its length in octets (docs/formats.md, "Stops, cut and fill"). Its blocks
+/// are 64 weighted numbers each. The depths of the head and the marks are those of the blocks, as `segment_depths`
+/// answers them; the marks keep them in their lowest five bits, and what their other bits hold afterwards is left open.
+/// `Failed` comes only where the sink failed.
 pub fn encode_segment<O: OctetOut>(
     out: &mut O,
     head: &SegmentHead,
@@ -27,18 +27,18 @@ pub fn encode_segment<O: OctetOut>(
     marks: &mut [i32],
 ) -> Result<u64, Failed>
     requires fits { IsHead head.now }
-    requires stops { head.now.stop.dc ≡ true }
     requires count { length blocks.now ≡ 64 * head.now.blocks }
     requires dc { head.now.depth_dc ≡ depth_dc_of (blocks_in blocks.now) }
     requires ac { head.now.depth_ac ≡ depth_ac_of (blocks_in blocks.now) }
     requires marks { marks.old ≡ map pos (block_depths (blocks_in blocks.now)) }
     requires none { (O.sink.counts out.old).given ≡ 0 }
-    ensures { MatchResult result
+    ensures text { MatchResult result
         (λ octets. GivesText O.sink out.old out.new (coded head.now (blocks_in blocks.now)) octets)
-        (λ _. BreaksWithin O.sink out.old out.new (octets_of (padded head.now.image.word head.now.limit head.now.fill (coded_bits head.now (blocks_in blocks.now))))) }
+        (λ _. BreaksWithin O.sink out.old out.new (coded head.now (blocks_in blocks.now))) }
+    ensures depths { depths_of marks.new ≡ depths_of marks.old }
 {
     let mut bits = BitOut::new(out, u64::from(head.limit), 0);
-    put_fitting(&mut bits, head, blocks)?;
+    put_fitting(&mut bits, head, blocks, marks)?;
     bits.end(head.image.word, head.fill)
 }
 
@@ -47,18 +47,22 @@ fn put_fitting<O: OctetOut>(
     out: &mut BitOut<O>,
     head: &SegmentHead,
     blocks: &[i32],
+    marks: &mut [i32],
 ) -> Result<(), Failed>
     requires fits { IsHead head.now }
-    requires open { IsOpen (stand O.sink out.old) }
+    requires open { IsReady O.sink out.old }
     requires room { 8 * head_length head.now ≤ (stand O.sink out.old).room }
     requires count { length blocks.now ≡ 64 * head.now.blocks }
     requires dc { head.now.depth_dc ≡ depth_dc_of (blocks_in blocks.now) }
+    requires ac { head.now.depth_ac ≡ depth_ac_of (blocks_in blocks.now) }
+    requires marks { marks.old ≡ map pos (block_depths (blocks_in blocks.now)) }
     ensures puts { MatchResult result
         (λ _. Adds O.sink (stand O.sink out.old) (stand O.sink out.new) (take (stand O.sink out.old).room (coded_bits head.now (blocks_in blocks.now))))
-        (λ _. Breaks O.sink (stand O.sink out.old) (stand O.sink out.new) (coded_bits head.now (blocks_in blocks.now))) }
+        (λ _. Breaks O.sink (stand O.sink out.old) (stand O.sink out.new) (take (stand O.sink out.old).room (coded_bits head.now (blocks_in blocks.now)))) }
     ensures ten { length head.now.image.weights.shifts ≡ 10 }
+    ensures depths { depths_of marks.new ≡ depths_of marks.old }
 {
-    match put_text(out, head, blocks) {
+    match put_text(out, head, blocks, marks) {
         Ok(()) => Ok(()),
         Err(PutFault::Stopped) => Ok(()),
         Err(PutFault::WriteFault) => Err(Failed),
@@ -70,47 +74,43 @@ fn put_text<O: OctetOut>(
     out: &mut BitOut<O>,
     head: &SegmentHead,
     blocks: &[i32],
+    marks: &mut [i32],
 ) -> Result<(), PutFault>
     requires fits { IsHead head.now }
-    requires open { IsOpen (stand O.sink out.old) }
+    requires open { IsReady O.sink out.old }
     requires room { 8 * head_length head.now ≤ (stand O.sink out.old).room }
     requires count { length blocks.now ≡ 64 * head.now.blocks }
     requires dc { head.now.depth_dc ≡ depth_dc_of (blocks_in blocks.now) }
-    ensures puts { Puts O.sink result (stand O.sink out.old) (stand O.sink out.new) (coded_bits head.now (blocks_in blocks.now)) }
+    requires ac { head.now.depth_ac ≡ depth_ac_of (blocks_in blocks.now) }
+    requires marks { marks.old ≡ map pos (block_depths (blocks_in blocks.now)) }
+    ensures puts { Writes O.sink result out.old out.new (coded_bits head.now (blocks_in blocks.now)) }
     ensures ten { length head.now.image.weights.shifts ≡ 10 }
+    ensures depths { depths_of marks.new ≡ depths_of marks.old }
 {
     let plan = plan_of(head);
     write_head(out, head)?;
-    put_dc(out, blocks, &plan, select_of(head.best_dc))
+    put_dc(out, blocks, &plan, select_of(head.best_dc))?;
+    put_rest(out, head, blocks, marks)
 }
 
-// What the head tells of the DC part.
-fn plan_of(head: &SegmentHead) -> DcPlan
-    ensures dc { result.depth_dc ≡ head.now.depth_dc }
-    ensures ac { result.depth_ac ≡ head.now.depth_ac }
-    ensures shift { result.shift ≡ dc_shift head.now }
-    ensures ten { length head.now.image.weights.shifts ≡ 10 }
+// Puts the block depths and the planes, where the text doesn't stop at the DC numbers.
+fn put_rest<O: OctetOut>(
+    out: &mut BitOut<O>,
+    head: &SegmentHead,
+    blocks: &[i32],
+    marks: &mut [i32],
+) -> Result<(), PutFault>
+    requires fits { IsHead head.now }
+    requires open { IsReady O.sink out.old }
+    requires count { length blocks.now ≡ 64 * head.now.blocks }
+    requires ac { head.now.depth_ac ≡ depth_ac_of (blocks_in blocks.now) }
+    requires marks { marks.old ≡ map pos (block_depths (blocks_in blocks.now)) }
+    ensures puts { Writes O.sink result out.old out.new (text (coded_rest head.now (blocks_in blocks.now))) }
+    ensures depths { depths_of marks.new ≡ depths_of marks.old }
 {
-    DcPlan {
-        depth_dc: head.depth_dc,
-        depth_ac: head.depth_ac,
-        shift: ll3_shift(&head.image.weights.shifts),
+    if head.stop.dc {
+        return Ok(());
     }
-}
-
-fn ll3_shift(shifts: &[u8; 10]) -> u8
-    ensures shift { result ≡ shift_of shifts.now Ll3 }
-    ensures ten { length shifts.now ≡ 10 }
-{
-    shifts[Band::Ll3 as usize]
-}
-
-fn select_of(best: bool) -> Select
-    ensures { choice_of_select result ≡ choice_of best }
-{
-    if best {
-        Select::Optimal
-    } else {
-        Select::Heuristic
-    }
+    put_depths(out, marks, head.depth_ac, select_of(head.best_ac))?;
+    put_planes(out, head, blocks, marks)
 }

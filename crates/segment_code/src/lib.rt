@@ -3,8 +3,20 @@
 
 mod depths;
 mod encode;
-#[cfg(test)]
-mod tests;
+mod planes;
+mod tells;
+
+ghost use Rattle.segment_code.specs.Laws.{CodedHolds, TextsAreShort};
 
 pub use depths::segment_depths;
 pub use encode::encode_segment;
+
+/// What was encoded can be decoded: the coded text of values that can be spelled holds something.
+pub const fn coded_holds()
+    ensures { CodedHolds }
+{}
+
+/// Without a limit a text is never cut: head and items of values that can be spelled take fewer than 2^31 octets.
+pub const fn texts_are_short()
+    ensures { TextsAreShort }
+{}

@@ -11,7 +11,7 @@ use Rattle.byteorder.specs.Numbers.{big_from-cons, big_from-lt}
 use Rattle.item_defs.specs.Bits.{bits_of, value_of, AreOctets, bits_of_octets}
 use Rattle.item_defs.proofs.NumberBits.{bits_none, bits_join, take-bits_of, drop-bits_of, value_of-bits_of}
 use Rattle.item_defs.proofs.OctetBits.{no_octets, octets_first, octets_append, octets_rest, length-bits_of_octets}
-use Rattle.segment_head.specs.Fields.{number_in}
+use Rattle.segment_defs.specs.Fields.{number_in}
 
 pow-256 : (n : ℕ) → 256 ^ n ≡ 2 ^ (8 * n)
 pow-256 zero = refl

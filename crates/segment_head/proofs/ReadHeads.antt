@@ -10,12 +10,12 @@ use Rattle.item_defs.proofs.NumberBits.{value_below}
 use Rattle.base_122.specs.Weights.{usual_shifts}
 use Rattle.segment_defs.specs.declared.head.SegmentHead.{SegmentHead}
 use Rattle.segment_defs.specs.Head.{IsHead, IsImagePart}
-use Rattle.segment_head.specs.declared.fault.Odd.TheVariants as odd
-use Rattle.segment_head.specs.declared.fault.HeadField.TheVariants as bad
-use Rattle.segment_head.specs.declared.fault.HeadFault.{HeadFault}
-use Rattle.segment_head.specs.declared.fault.HeadFault.TheVariants.{Unsupported, DepthTooLarge, BadValue}
-use Rattle.segment_head.specs.Fields.{number_in, is_set}
-use Rattle.segment_head.specs.Reading.{part_2, part_3, part_4, depth_of, word_of, custom_shifts, image_in, head_in, head_read, head_tests, answer, refused_where, first_refusal, is_bad_limit, presence_tests, support_tests, depth_tests, value_tests}
+use Rattle.segment_defs.specs.declared.fault.Odd.TheVariants as odd
+use Rattle.segment_defs.specs.declared.fault.HeadField.TheVariants as bad
+use Rattle.segment_defs.specs.declared.fault.HeadFault.{HeadFault}
+use Rattle.segment_defs.specs.declared.fault.HeadFault.TheVariants.{Unsupported, DepthTooLarge, BadValue}
+use Rattle.segment_defs.specs.Fields.{number_in, is_set}
+use Rattle.segment_defs.specs.Reading.{part_2, part_3, part_4, depth_of, word_of, custom_shifts, image_in, head_in, head_read, head_tests, answer, refused_where, first_refusal, is_bad_limit, presence_tests, support_tests, depth_tests, value_tests}
 
 pub number_in-below : (o : List ℕ) (start width : ℕ) → number_in o start width < 2 ^ width
 unfolding number_in

@@ -7,7 +7,7 @@ use Rattle.item_defs.specs.Bits.{value_of, bits_of_octets, octets_of}
 use Rattle.item_defs.proofs.NumberBits.{length-bits_of, value_of-bits_of}
 use Rattle.item_defs.proofs.OctetBits.{octets_append, octets_of-first, length-octets_of, bits_of_octets-octets_of}
 use Rattle.segment_defs.specs.Head.{Field, field, field_bits}
-use Rattle.segment_head.specs.Fields.{number_in}
+use Rattle.segment_defs.specs.Fields.{number_in}
 
 -- the bits of fields
 abbrev pub bits_in : List Field → List Bool

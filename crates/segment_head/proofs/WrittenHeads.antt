@@ -11,10 +11,10 @@ use Rattle.base_122.specs.declared.setting.Stop.{Stop}
 use Rattle.segment_defs.specs.declared.head.SegmentHead.{SegmentHead}
 use Rattle.segment_defs.specs.declared.head.ImagePart.{ImagePart}
 use Rattle.segment_defs.specs.Head.{Field, field, flag, reserved, field_bits, part_1a, part_1b, part_2, part_3, part_4, word_pattern, head_fields, head_bits, head_length, IsHead}
-use Rattle.segment_head.specs.declared.fault.HeadFault.{HeadFault}
-use Rattle.segment_head.specs.Fields.{number_in, is_set}
-use Rattle.segment_head.specs.Reading as reading
-use Rattle.segment_head.specs.Reading.{part_1_length, head_of, head_in, head_read, image_in, stop_in, refused_where, first_refusal, is_bad_limit, presence_tests, support_tests, depth_tests, value_tests}
+use Rattle.segment_defs.specs.declared.fault.HeadFault.{HeadFault}
+use Rattle.segment_defs.specs.Fields.{number_in, is_set}
+use Rattle.segment_defs.specs.Reading as reading
+use Rattle.segment_defs.specs.Reading.{part_1_length, head_of, head_in, head_read, image_in, stop_in, refused_where, first_refusal, is_bad_limit, presence_tests, support_tests, depth_tests, value_tests}
 use Rattle.segment_head.proofs.WrittenFields.{bits_in, width_of, length-bits_in, number_in-octets_of, number_in-front, parts_split, parts_length, after_first, second_part, third_part, fourth_part}
 use Rattle.segment_head.proofs.WrittenParts.{Has, SaysFirst, SaysSecond, SaysThird, SaysFourth, says_first, says_second, says_third, says_fourth}
 use Rattle.segment_head.specs.Writing.{first_parts}

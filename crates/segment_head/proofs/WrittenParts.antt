@@ -12,8 +12,8 @@ use Rattle.base_122.specs.declared.setting.Stop.{Stop}
 use Rattle.segment_defs.specs.declared.head.SegmentHead.{SegmentHead}
 use Rattle.segment_defs.specs.declared.head.ImagePart.{ImagePart}
 use Rattle.segment_defs.specs.Head.{Field, field, flag, reserved, part_1a, part_1b, part_2, part_3, part_4, word_pattern, IsHead, IsImagePart}
-use Rattle.segment_head.specs.Fields.{number_in, is_set}
-use Rattle.segment_head.specs.Reading.{depth_of, word_of, custom_shifts, stop_in, image_in}
+use Rattle.segment_defs.specs.Fields.{number_in, is_set}
+use Rattle.segment_defs.specs.Reading.{depth_of, word_of, custom_shifts, stop_in, image_in}
 use Rattle.segment_head.proofs.WrittenFields.{bits_in, start_of, field_at, value_at_place}
 
 -- the octets have these fields in front

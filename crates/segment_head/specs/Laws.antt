@@ -3,7 +3,7 @@ use Rattle.std.specs.Prelude.{◌≡◌, ◌<◌, ℕ, List, ◌++◌, length, B
 use Rattle.item_defs.specs.Bits.{octets_of}
 use Rattle.segment_defs.specs.declared.head.SegmentHead.{SegmentHead}
 use Rattle.segment_defs.specs.Head.{IsHead, head_bits}
-use Rattle.segment_head.specs.Reading.{head_read}
+use Rattle.segment_defs.specs.Reading.{head_read}
 
 -- a head is read as it was written, and one that was read can be written
 pub record HeadsUndo : Type 0 where

@@ -3,17 +3,13 @@
 
 ghost use Rattle.segment_head.specs.Laws.{HeadsUndo};
 
-mod fault;
 mod field;
 mod places;
 mod read;
-#[cfg(test)]
-mod tests;
 mod write;
 
-pub use fault::{HeadFault, HeadField, Odd};
 pub use read::read_head;
-pub use segment_defs::{ImagePart, SegmentHead};
+pub use segment_defs::{HeadFault, HeadField, ImagePart, Odd, SegmentHead};
 pub use write::write_head;
 
 /// A head is read as it was written, and one that was read can be written.

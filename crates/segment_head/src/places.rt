@@ -1,6 +1,6 @@
 // Fields of bits in octets.
 ghost use Rattle.std.specs.Prelude.{◌≡◌, ◌≤◌, ◌<◌, ◌+◌, ◌*◌, ◌^◌, length};
-ghost use Rattle.segment_head.specs.Fields.{number_in, is_set};
+ghost use Rattle.segment_defs.specs.Fields.{number_in, is_set};
 
 use byteorder::{BigEndian, ByteOrder};
 

@@ -1,12 +1,11 @@
 // A head read from octets.
 ghost use Rattle.std.specs.Prelude.{◌≡◌, ◌≤◌, ◌+◌, length, OnOk, IfOk};
 ghost use Rattle.segment_defs.specs.Head.{IsHead};
-ghost use Rattle.segment_head.specs.Reading.{part_1_length, after_part_1, weights_in, stop_in, image_in, head_of, answer, first_refusal, presence_tests, support_tests, depth_tests, value_tests, head_read};
+ghost use Rattle.segment_defs.specs.Reading.{part_1_length, after_part_1, weights_in, stop_in, image_in, head_of, answer, first_refusal, presence_tests, support_tests, depth_tests, value_tests, head_read};
 
-use crate::fault::{HeadFault, HeadField, Odd};
 use crate::places::{is_set, number_in};
 use base_122::{Stop, Weights};
-use segment_defs::{ImagePart, SegmentHead};
+use segment_defs::{HeadFault, HeadField, ImagePart, Odd, SegmentHead};
 
 /// Reads the head with which octets begin, or tells the first test that refuses them (docs/formats.md, "The head").
 /// Octets after the head are free.
@@ -42,7 +41,7 @@ fn after_part_1(octets: &[u8]) -> &[u8]
 }
 
 // All parts are there, and are whole.
-#[tactic(auto, unfolding(crate::specs::Reading::presence_tests))]
+#[tactic(auto, unfolding(segment_defs::specs::Reading::presence_tests))]
 fn check_presence(octets: &[u8]) -> Result<(), HeadFault>
     ensures tests { result ≡ answer (first_refusal (presence_tests octets.now)) tt }
     ensures whole { OnOk result (part_1_length octets.now + 16 ≤ length octets.now) }
@@ -70,7 +69,7 @@ fn check_presence(octets: &[u8]) -> Result<(), HeadFault>
 }
 
 // Parts 3 and 4 ask for nothing that isn't read here.
-#[tactic(auto, unfolding(crate::specs::Reading::support_tests))]
+#[tactic(auto, unfolding(segment_defs::specs::Reading::support_tests))]
 fn check_support(third: &[u8], fourth: &[u8]) -> Result<(), HeadFault>
     requires third { length third.now ≡ 3 }
     requires fourth { length fourth.now ≡ 8 }
@@ -98,7 +97,7 @@ fn check_support(third: &[u8], fourth: &[u8]) -> Result<(), HeadFault>
 }
 
 // The depths are within their bounds.
-#[tactic(auto, unfolding(crate::specs::Reading::depth_tests))]
+#[tactic(auto, unfolding(segment_defs::specs::Reading::depth_tests))]
 fn check_depths(dc: u8, ac: u8) -> Result<(), HeadFault>
     ensures { result ≡ answer (first_refusal (depth_tests dc ac)) tt }
 {
@@ -109,7 +108,7 @@ fn check_depths(dc: u8, ac: u8) -> Result<(), HeadFault>
 }
 
 // Each value is one that a head can say.
-#[tactic(auto, unfolding(crate::specs::Reading::value_tests))]
+#[tactic(auto, unfolding(segment_defs::specs::Reading::value_tests))]
 fn check_values(head: &SegmentHead) -> Result<(), HeadFault>
     requires { 1 ≤ head.now.image.word }
     ensures { result ≡ answer (first_refusal (value_tests head.now)) tt }

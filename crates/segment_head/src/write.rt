@@ -3,7 +3,7 @@ ghost use Rattle.std.specs.Prelude.{◌≡◌, ◌≢◌, ◌≤◌, ◌*◌, ma
 ghost use Rattle.std.specs.List.{flat_map};
 ghost use Rattle.std.specs.Str.{bytes_eq};
 ghost use Rattle.base_122.specs.Weights.{usual_shifts};
-ghost use Rattle.bit_pipe.specs.Standing.{stand, IsOpen, Puts};
+ghost use Rattle.bit_pipe.specs.Standing.{stand, Puts, IsReady, Writes};
 ghost use Rattle.bit_pipe.specs.declared.fault.PutFault.TheVariants.{Stopped};
 ghost use Rattle.segment_defs.specs.Head.{field as field_of, flag as flag_of, reserved as reserved_of};
 ghost use Rattle.segment_defs.specs.Head.{IsHead, head_bits, head_length, field_bits, part_1a, part_1b, part_2, part_3, part_4, weight_fields};
@@ -18,9 +18,9 @@ use segment_defs::{ImagePart, SegmentHead};
 /// comes.
 pub fn write_head<O: OctetOut>(out: &mut BitOut<O>, head: &SegmentHead) -> Result<(), PutFault>
     requires fits { IsHead head.now }
-    requires open { IsOpen (stand O.sink out.old) }
+    requires open { IsReady O.sink out.old }
     requires room { 8 * head_length head.now ≤ (stand O.sink out.old).room }
-    ensures puts { Puts O.sink result (stand O.sink out.old) (stand O.sink out.new) (head_bits head.now) }
+    ensures puts { Writes O.sink result out.old out.new (head_bits head.now) }
     ensures never_stops { result ≢ Err Stopped }
 {
     put_first_parts(out, head)?;
@@ -29,8 +29,8 @@ pub fn write_head<O: OctetOut>(out: &mut BitOut<O>, head: &SegmentHead) -> Resul
 
 // Parts 1, 2 and 3.
 fn put_first_parts<O: OctetOut>(out: &mut BitOut<O>, head: &SegmentHead) -> Result<(), PutFault>
-    requires { IsOpen (stand O.sink out.old) }
-    ensures { Puts O.sink result (stand O.sink out.old) (stand O.sink out.new) (flat_map field_bits (first_parts head.now)) }
+    requires { IsReady O.sink out.old }
+    ensures { Writes O.sink result out.old out.new (flat_map field_bits (first_parts head.now)) }
 {
     put_part_1(out, head)?;
     put_fields(out, &part_2(head))?;
@@ -39,8 +39,8 @@ fn put_first_parts<O: OctetOut>(out: &mut BitOut<O>, head: &SegmentHead) -> Resu
 
 // Part 1B stands in the last segment alone.
 fn put_part_1<O: OctetOut>(out: &mut BitOut<O>, head: &SegmentHead) -> Result<(), PutFault>
-    requires { IsOpen (stand O.sink out.old) }
-    ensures { Puts O.sink result (stand O.sink out.old) (stand O.sink out.new) (flat_map field_bits (part_1a head.now ++ part_1b head.now)) }
+    requires { IsReady O.sink out.old }
+    ensures { Writes O.sink result out.old out.new (flat_map field_bits (part_1a head.now ++ part_1b head.now)) }
 {
     put_fields(out, &part_1a(head))?;
     if !head.last {
@@ -51,9 +51,9 @@ fn put_part_1<O: OctetOut>(out: &mut BitOut<O>, head: &SegmentHead) -> Result<()
 
 fn put_part_4<O: OctetOut>(out: &mut BitOut<O>, image: &ImagePart) -> Result<(), PutFault>
     requires word { 1 ≤ image.now.word }
-    requires open { IsOpen (stand O.sink out.old) }
+    requires open { IsReady O.sink out.old }
     requires room { 64 ≤ (stand O.sink out.old).room }
-    ensures puts { Puts O.sink result (stand O.sink out.old) (stand O.sink out.new) (flat_map field_bits (part_4 image.now)) }
+    ensures puts { Writes O.sink result out.old out.new (flat_map field_bits (part_4 image.now)) }
     ensures never_stops { result ≢ Err Stopped }
 {
     put_fields(out, &plain_fields(image))?;
@@ -63,8 +63,8 @@ fn put_part_4<O: OctetOut>(out: &mut BitOut<O>, image: &ImagePart) -> Result<(),
 
 // The usual weights are told by the flag alone.
 fn put_weights<O: OctetOut>(out: &mut BitOut<O>, weights: &Weights) -> Result<(), PutFault>
-    requires { IsOpen (stand O.sink out.old) }
-    ensures puts { Puts O.sink result (stand O.sink out.old) (stand O.sink out.new) (flat_map field_bits (weight_fields weights.now.shifts)) }
+    requires { IsReady O.sink out.old }
+    ensures puts { Writes O.sink result out.old out.new (flat_map field_bits (weight_fields weights.now.shifts)) }
     ensures ten { length weights.now.shifts ≡ 10 }
 {
     if are_usual(weights) {
@@ -82,8 +82,8 @@ fn are_usual(weights: &Weights) -> bool
 }
 
 fn put_shifts<O: OctetOut>(out: &mut BitOut<O>, shifts: &[u8]) -> Result<(), PutFault>
-    requires { IsOpen (stand O.sink out.old) }
-    ensures { Puts O.sink result (stand O.sink out.old) (stand O.sink out.new) (flat_map field_bits (map (field_of 2) shifts.now)) }
+    requires { IsReady O.sink out.old }
+    ensures { Writes O.sink result out.old out.new (flat_map field_bits (map (field_of 2) shifts.now)) }
 {
     for shift in shifts {
         out.put_bits(u32::from(*shift), 2)?;
@@ -92,8 +92,8 @@ fn put_shifts<O: OctetOut>(out: &mut BitOut<O>, shifts: &[u8]) -> Result<(), Put
 }
 
 fn put_fields<O: OctetOut>(out: &mut BitOut<O>, fields: &[Field]) -> Result<(), PutFault>
-    requires { IsOpen (stand O.sink out.old) }
-    ensures { Puts O.sink result (stand O.sink out.old) (stand O.sink out.new) (flat_map field_bits (map said fields.now)) }
+    requires { IsReady O.sink out.old }
+    ensures { Writes O.sink result out.old out.new (flat_map field_bits (map said fields.now)) }
 {
     for field in fields {
         out.put_bits(field.value, field.width)?;

@@ -2,7 +2,8 @@ use Rattle.std.proofs.Common.{◌≡◌, ◌∙◌, ap, arith, pos, to_z, of_z, 
 use Rattle.std.proofs.lemmas.Int.{ints, to_z-of_z}
 use Rattle.std.proofs.lemmas.List.Edits.{fill_by_more}
 use Rattle.segment_defs.specs.Size.{greatest}
-use Rattle.segment_defs.specs.Depths.{block_at, block_depth, dc_of, signed_size}
+use Rattle.wave_defs.specs.Held.{block_at}
+use Rattle.segment_defs.specs.Depths.{block_depth, dc_of, signed_size}
 use Rattle.segment_code.proofs.SizeBits.{signed_size-some}
 use Rattle.segment_code.proofs.Blocks.{blocks_all, greatest_more, marks_all, dc_within, ac_within}
 use Rattle.segment_code.proofs.depths.segment_depths.Goals as goal

@@ -2,7 +2,8 @@ use Rattle.std.proofs.Common.{◌≡◌, ◌<◌, ◌≤◌, ℕ, map, get_or}
 use Rattle.std.specs.Prelude.{pos}
 use Rattle.std.specs.List.{range_with_len}
 use Rattle.segment_defs.specs.Size.{greatest}
-use Rattle.segment_defs.specs.Depths.{block_at, block_depth, dc_of, signed_size}
+use Rattle.wave_defs.specs.Held.{block_at}
+use Rattle.segment_defs.specs.Depths.{block_depth, dc_of, signed_size}
 use Rattle.segment_code.proofs.depths.segment_depths.Given as goal
 
 abbrev pub invariant-loop-i : goal.invariant-loop-i

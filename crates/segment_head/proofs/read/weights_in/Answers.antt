@@ -1,8 +1,8 @@
 use Rattle.std.proofs.Common.{arith, ◌≡◌, ◌+◌, ◌*◌, ap}
 use Rattle.std.proofs.lemmas.List.FromFn.{fill_by_all}
 use Rattle.std.proofs.lemmas.List.Edits.{fill_by_more}
-use Rattle.segment_head.specs.Fields.{number_in}
-use Rattle.segment_head.specs.Reading.{custom_shifts}
+use Rattle.segment_defs.specs.Fields.{number_in}
+use Rattle.segment_defs.specs.Reading.{custom_shifts}
 use Rattle.segment_head.proofs.read.weights_in.Goals as goal
 
 pub loop-i-preserved : goal.loop-i-preserved

@@ -1,5 +1,5 @@
 use Rattle.std.proofs.Common.{◌≡◌, ◌+◌, ◌*◌, ◌<◌, ℕ, get_or}
-use Rattle.segment_head.specs.Fields.{number_in}
+use Rattle.segment_defs.specs.Fields.{number_in}
 use Rattle.segment_head.proofs.read.weights_in.Given as goal
 
 abbrev pub invariant-loop-i : goal.invariant-loop-i

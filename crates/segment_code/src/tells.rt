@@ -1,0 +1,42 @@
+// What a head tells the writers of a text's parts.
+ghost use Rattle.std.specs.Prelude.{◌≡◌, length};
+ghost use Rattle.base_122.specs.Weights.{shift_of};
+ghost use Rattle.base_122.specs.declared.weights.Band.TheVariants.{Ll3};
+ghost use Rattle.segment_defs.specs.Coded.{choice_of};
+ghost use Rattle.segment_defs.specs.SegmentItems.{dc_shift};
+ghost use Rattle.gaggle_codes.specs.Options.{choice_of as choice_of_select};
+
+use base_122::{Band, Select};
+use dc_depths::DcPlan;
+use segment_head::SegmentHead;
+
+// What it tells of the DC part.
+pub(crate) fn plan_of(head: &SegmentHead) -> DcPlan
+    ensures dc { result.depth_dc ≡ head.now.depth_dc }
+    ensures ac { result.depth_ac ≡ head.now.depth_ac }
+    ensures shift { result.shift ≡ dc_shift head.now }
+    ensures ten { length head.now.image.weights.shifts ≡ 10 }
+{
+    DcPlan {
+        depth_dc: head.depth_dc,
+        depth_ac: head.depth_ac,
+        shift: ll3_shift(&head.image.weights.shifts),
+    }
+}
+
+fn ll3_shift(shifts: &[u8; 10]) -> u8
+    ensures shift { result ≡ shift_of shifts.now Ll3 }
+    ensures ten { length shifts.now ≡ 10 }
+{
+    shifts[Band::Ll3 as usize]
+}
+
+pub(crate) fn select_of(best: bool) -> Select
+    ensures { choice_of_select result ≡ choice_of best }
+{
+    if best {
+        Select::Optimal
+    } else {
+        Select::Heuristic
+    }
+}
