@@ -1,1 +1,12 @@
 pub mod Outputs
+mod Examples
+pub mod OutPackets
+pub mod FateLaws
+pub mod ChosenLaws
+pub mod Runs
+pub mod SublistLaws
+pub mod WholeStreams
+pub mod DamageLaws
+pub mod SettledLaws
+pub mod ImageLaws
+pub mod KeptOrder

@@ -1,13 +1,13 @@
 -- The packets of an image, segment by segment.
-use Rattle.std.proofs.Common.{◌≡◌, ℕ, zero, suc, ◌+◌, ◌*◌, ◌<◌, ◌≤◌, ℤ, List, [], ◌∷◌, ◌++◌, length, map, refl, sym, ap, ◌∙◌, subst, arith, append_assoc, length-append, add-suc}
+use Rattle.std.proofs.Common.{◌≡◌, ℕ, zero, suc, ◌+◌, ℤ, List, [], ◌∷◌, ◌++◌, length, refl, sym, ap, ◌∙◌, subst, arith, length-append}
 use Rattle.std.specs.List.{range_with_len, flat_map, sum_by}
 use Rattle.std.proofs.lemmas.Grind.{flat_map-append}
 use Rattle.std.proofs.lemmas.List.{append-nil, length-map}
 use Rattle.std.proofs.lemmas.List.Sums.{sum_by_push}
 use Rattle.std.proofs.lemmas.List.FromFn.{length-range_with_len}
 use Rattle.base_122.specs.declared.setting.Setting.{Setting}
-use Rattle.stream_defs.specs.Packets.{part_count, part_size, text_packets}
-use Rattle.stream_defs.specs.Output.{joined, packets_before, packets_of, segment_packets, segment_text}
+use Rattle.packet_defs.specs.Packets.{part_count, part_size, text_packets}
+use Rattle.stream_defs.specs.Output.{packets_before, packets_of, segment_packets, segment_text}
 
 -- one more number at the end of a range
 pub range_with_len-more : (a n : ℕ) → range_with_len a (n + 1) ≡ range_with_len a n ++ (a + n) ∷ []
@@ -16,9 +16,6 @@ range_with_len-more a (suc n) =
     let e : suc n + 1 ≡ suc (n + 1) = omega arith in
     let f : (a + 1) + n ≡ a + suc n = omega arith in
     rw e (ap (λ r. a ∷ r) (range_with_len-more (a + 1) n ∙ ap (λ k. range_with_len (a + 1) n ++ k ∷ []) f))
-
-pub joined-append : (a b : List (List ℕ)) → joined (a ++ b) ≡ joined a ++ joined b
-joined-append a b = flat_map-append (λ (packet : List ℕ). packet) a b
 
 -- no segment
 pub packets_of-none : (s : Setting) (all : List (List ℤ)) → packets_of s all 0 ≡ []

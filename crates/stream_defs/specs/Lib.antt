@@ -1,2 +1,12 @@
-pub mod Packets
 pub mod Output
+pub mod Places
+pub mod Chosen
+pub mod Agreement
+pub mod Fates
+pub mod Received
+pub mod Picture
+pub mod Damage
+pub mod Marks
+pub mod Settled
+pub mod StreamLaws
+pub mod SettledImages

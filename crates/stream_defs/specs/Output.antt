@@ -1,19 +1,20 @@
 -- All packets of an image: the whole-image definition of what an encoder writes. Nothing in it knows of rows that come one
 -- after another.
-use Rattle.std.specs.Prelude.{ℕ, ◌+◌, ◌-◌, ◌*◌, ◌%◌, ◌==◌, ℤ, Bool, true, false, if◌then◌else◌, List, length, take, drop}
+use Rattle.std.specs.Prelude.{ℕ, ◌+◌, ◌-◌, ◌%◌, ◌==◌, ℤ, Bool, true, false, if◌then◌else◌, List, length, take, drop}
 use Rattle.std.specs.List.{range_with_len, flat_map, sum_by}
 use Rattle.wave_defs.specs.Pyramid.{padded, pyramid}
 use Rattle.wave_defs.specs.Blocks.{blocks}
-use Rattle.base_122.specs.Sizes.{block_count, padded_size, total_blocks, segment_count, first_block, segment_blocks}
+use Rattle.base_122.specs.Sizes.{block_count, padded_size, total_blocks, segment_count, first_block}
 use Rattle.base_122.specs.declared.setting.Setting.{Setting}
 use Rattle.base_122.specs.declared.setting.Select.{Select}
 use Rattle.base_122.specs.declared.setting.Select.TheVariants.{Heuristic, Optimal}
+use Rattle.base_122.specs.declared.setting.Stop.{Stop}
 use Rattle.segment_defs.specs.declared.head.SegmentHead.{SegmentHead}
 use Rattle.segment_defs.specs.declared.head.ImagePart.{ImagePart}
 use Rattle.segment_defs.specs.Depths.{depth_dc_of, depth_ac_of}
 use Rattle.segment_defs.specs.Coded.{coded}
-use Rattle.stream_defs.specs.declared.ancillary.Ancillary.{Ancillary}
-use Rattle.stream_defs.specs.Packets.{part_count, part_size, text_packets}
+use Rattle.packet_defs.specs.declared.ancillary.Ancillary.{Ancillary}
+use Rattle.packet_defs.specs.Packets.{joined, part_count, part_size, text_packets}
 
 -- the blocks of an image of the setting's size, in raster order: each the list of its 64 weighted numbers
 unfoldable pub image_blocks : Setting → (ℕ → ℕ → ℤ) → List (List ℤ)
@@ -37,6 +38,14 @@ is_optimal Optimal = true
 abbrev pub image_part : Setting → ImagePart
 image_part s = record { signed = s.signed; depth = s.depth; width = s.width; word = s.word; weights = s.weights }
 
+-- the stop as each head says it: one at the DC numbers has plane 0 and stage 3 there
+abbrev pub written_stop : Stop → Stop
+written_stop stop = record {
+  dc = stop.dc;
+  plane = if stop.dc then 0 else stop.plane;
+  stage = if stop.dc then 3 else stop.stage;
+}
+
 -- the head of the segment of this index, with so many blocks of these depths
 abbrev pub head_with : Setting → (index count depth_dc depth_ac : ℕ) → SegmentHead
 head_with s index count depth_dc depth_ac = record {
@@ -47,7 +56,7 @@ head_with s index count depth_dc depth_ac = record {
   depth_ac = depth_ac;
   pad_rows = if index + 1 == segments_of s then padded_size s.rows - s.rows else 0;
   limit = s.limit;
-  stop = s.stop;
+  stop = written_stop s.stop;
   fill = s.fill;
   blocks = count;
   best_dc = is_optimal s.select;
@@ -91,9 +100,6 @@ packets_of s all n = flat_map (segment_packets s all) (range_with_len 0 n)
 -- all packets of an image, and their octets
 abbrev pub image_packets : Setting → (ℕ → ℕ → ℤ) → List (List ℕ)
 image_packets s x = packets_of s (image_blocks s x) (segments_of s)
-
-abbrev pub joined : List (List ℕ) → List ℕ
-joined packets = flat_map (λ packet. packet) packets
 
 abbrev pub output : Setting → (ℕ → ℕ → ℤ) → List ℕ
 output s x = joined (image_packets s x)

@@ -1,6 +1,13 @@
-//! Definitions of the stream of packets: the packets of one text, and all packets of an image.
+//! Definitions of the stream of packets: all packets of an image, and what a reader makes of any packets.
 #![tactic(auto)]
 
-mod ancillary;
+mod fate;
+mod laws;
+mod range;
 
-pub use ancillary::Ancillary;
+pub use fate::{Fate, FateState, LastPart};
+pub use laws::{
+    damage_is_least, images_are_kept, images_settle, packets_of_blocks, settled_is_same,
+    sublists_are_kept,
+};
+pub use range::RowRange;

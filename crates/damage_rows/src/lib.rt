@@ -1,0 +1,9 @@
+//! The rows of an image that missing block rows damage. The rules stand in docs/formats.md, "Picture and damage".
+#![tactic(auto)]
+
+mod damage;
+#[cfg(test)]
+mod tests;
+
+pub use damage::Damage;
+pub use stream_defs::RowRange;

@@ -1,0 +1,158 @@
+-- The first rows of an image determine the packets of the segments that they settle.
+use Rattle.std.proofs.Common.{◌≡◌, ◌≤◌, ◌<◌, ◌+◌, ◌-◌, ◌*◌, ◌/◌, ◌%◌, ℕ, zero, suc, ℤ, List, [], length, refl, sym, subst, ◌∙◌, arith, min, get_or}
+use Rattle.std.specs.Prelude.{Bool, true, false, ◌==◌, ◌||◌, nat_lt, cond}
+use Rattle.std.specs.List.{count_by, range_with_len}
+use Rattle.std.proofs.lemmas.Bool.Decides.{nat_tests}
+use Rattle.std.proofs.lemmas.List.{same_lists}
+use Rattle.std.proofs.lemmas.List.Sums.{sum_by-cons}
+use Rattle.std.proofs.Math.Nat.{div-lt_iff_lt-mul}
+use Rattle.wave_defs.specs.Held.{SameWithin}
+use Rattle.wave_defs.specs.Reach.{SameBlock}
+use Rattle.wave_defs.specs.Pyramid.{padded, pyramid}
+use Rattle.wave_defs.specs.Blocks.{block}
+use Rattle.wave_defs.proofs.BlockLaws.{length-blocks, get_or-blocks}
+use Rattle.wave_defs.proofs.BlockPlaces.{SamePyramid-block, block-same}
+use Rattle.wave_defs.proofs.ForwardReach.{images-known}
+use Rattle.wave_defs.proofs.PyramidLaws.{pyramid-same}
+use Rattle.base_122.specs.Ranges.{IsInRange}
+use Rattle.base_122.specs.Sizes.{block_count, total_blocks}
+use Rattle.base_122.specs.declared.setting.Setting.{Setting}
+use Rattle.base_122.proofs.SizeBounds.{three-le-block_count}
+use Rattle.stream_defs.specs.Output.{image_blocks, packets_of, segments_of}
+use Rattle.stream_defs.specs.Settled.{last_block_row, is_settled, settled, BlocksAgree}
+use Rattle.stream_defs.proofs.SettledLaws.{settled_same}
+
+-- ---- the blocks
+
+pub length-image_blocks : (s : Setting) (x : ℕ → ℕ → ℤ) → length (image_blocks s x) ≡ total_blocks s.width s.rows
+unfolding image_blocks
+length-image_blocks s x =
+    let r = block_count s.rows in
+    let c = block_count s.width in
+    let total : r * c ≡ c * r = grind arith in
+    length-blocks (pyramid (padded x s.rows s.width) r c) s.weights.shifts r c ∙ total
+
+-- a block of an image by its row and column
+pub image_block : (s : Setting) (x : ℕ → ℕ → ℤ) (b : ℕ) (d : List ℤ) → b < total_blocks s.width s.rows →
+    get_or (image_blocks s x) b d
+    ≡ block (pyramid (padded x s.rows s.width) (block_count s.rows) (block_count s.width)) s.weights.shifts (b / block_count s.width) (b % block_count s.width)
+unfolding image_blocks
+image_block s x b d lt =
+    let r = block_count s.rows in
+    let c = block_count s.width in
+    let total : r * c ≡ c * r = grind arith in
+    get_or-blocks (pyramid (padded x s.rows s.width) r c) s.weights.shifts r c b d (omega (arith, total, lt))
+
+module _ (s : Setting) (range : IsInRange s) where
+  some_columns : 3 ≤ block_count s.width
+  some_columns = three-le-block_count s.width range.width.0
+
+  row_below : (b : ℕ) → b < total_blocks s.width s.rows → b / block_count s.width < block_count s.rows
+  row_below b lt =
+      let c = block_count s.width in
+      let some : 0 < c = omega (arith, some_columns) in
+      let total : c * block_count s.rows ≡ block_count s.rows * c = grind arith in
+      (div-lt_iff_lt-mul {k = c} {x = b} {y = block_count s.rows} some).1 (omega (arith, lt, total))
+
+  total_above : (b : ℕ) → b / block_count s.width < block_count s.rows → b < total_blocks s.width s.rows
+  total_above b lt =
+      let c = block_count s.width in
+      let some : 0 < c = omega (arith, some_columns) in
+      let total : c * block_count s.rows ≡ block_count s.rows * c = grind arith in
+      let below = (div-lt_iff_lt-mul {k = c} {x = b} {y = block_count s.rows} some).0 lt in
+      omega (arith, below, total)
+
+  -- a block row that the first k rows determine
+  pub blocks_known : (k : ℕ) (x y : ℕ → ℕ → ℤ) (b : ℕ) → k ≤ s.rows → SameWithin k s.width x y → 8 * (b / block_count s.width) + 28 < k →
+      get_or (image_blocks s x) b [] ≡ get_or (image_blocks s y) b []
+  blocks_known k x y b le same near =
+      let r = block_count s.rows in
+      let c = block_count s.width in
+      let three = some_columns in
+      let lt = total_above b (omega (arith, near, le)) in
+      let column : b % c < c = omega (arith, three) in
+      let width = range.width.0 in
+      let block_same : SameBlock (pyramid (padded x s.rows s.width) r c) (pyramid (padded y s.rows s.width) r c) (b / c) (b % c) =
+      images-known x y s.rows s.rows s.width k r r c (b / c) (b % c) le le (omega (arith, width)) (omega arith) (omega arith) (omega (arith, three)) column near same in
+      image_block s x b [] lt ∙ block-same _ _ s.weights.shifts (b / c) (b % c) block_same ∙ sym (image_block s y b [] lt)
+
+  -- all of them
+  padded_whole : (x y : ℕ → ℕ → ℤ) → SameWithin s.rows s.width x y → SameWithin (8 * block_count s.rows) (8 * block_count s.width) (padded x s.rows s.width) (padded y s.rows s.width)
+  padded_whole x y same = record {
+    at = λ i j hi hj.
+        let rows = range.rows.0 in
+        let width = range.width.0 in
+        same.at (min i (s.rows - 1)) (min j (s.width - 1)) (omega (arith, rows)) (omega (arith, width));
+  }
+
+  pub blocks_whole : (x y : ℕ → ℕ → ℤ) → SameWithin s.rows s.width x y → image_blocks s x ≡ image_blocks s y
+  blocks_whole x y same =
+      let r = block_count s.rows in
+      let c = block_count s.width in
+      let three = some_columns in
+      let tall = three-le-block_count s.rows range.rows.0 in
+      let pyramids = pyramid-same r c (padded x s.rows s.width) (padded y s.rows s.width) (omega (arith, tall)) (omega (arith, three)) (padded_whole x y same) in
+      same_lists (image_blocks s x) (image_blocks s y) (length-image_blocks s x ∙ sym (length-image_blocks s y))
+      (λ b d hb.
+      let lt : b < total_blocks s.width s.rows = omega (arith, hb, length-image_blocks s x) in
+      let column : b % c < c = omega (arith, three) in
+      image_block s x b d lt
+      ∙ block-same _ _ s.weights.shifts (b / c) (b % c) (SamePyramid-block _ _ r c (b / c) (b % c) pyramids (row_below b lt) column)
+      ∙ sym (image_block s y b d lt))
+
+  pub blocks_agree : (k : ℕ) (x y : ℕ → ℕ → ℤ) → k ≤ s.rows → SameWithin k s.width x y → BlocksAgree s k (image_blocks s x) (image_blocks s y)
+  blocks_agree k x y le same = record {
+    same_length = length-image_blocks s x ∙ sym (length-image_blocks s y);
+    at = λ b near. blocks_known k x y b le same near;
+    whole = λ e. blocks_whole x y (subst (λ n. SameWithin n s.width x y) e same);
+  }
+
+  pub images_settle : (k : ℕ) (x y : ℕ → ℕ → ℤ) → k ≤ s.rows → SameWithin k s.width x y →
+      packets_of s (image_blocks s x) (settled s k) ≡ packets_of s (image_blocks s y) (settled s k)
+  images_settle k x y le same = settled_same s range k (image_blocks s x) (image_blocks s y) (length-image_blocks s x) (blocks_agree k x y le same)
+
+-- ---- how many are settled
+
+count_rises : (p q : ℕ → Bool) (n a : ℕ) → ((i : ℕ) → p i ≡ true → q i ≡ true) → count_by p (range_with_len a n) ≤ count_by q (range_with_len a n)
+count_rises p q zero a each = omega arith
+count_rises p q (suc n) a each =
+    let rest = count_rises p q n (a + 1) each in
+    let e = sum_by-cons (λ x. cond (p x) 1 0) a (range_with_len (a + 1) n) in
+    let f = sum_by-cons (λ x. cond (q x) 1 0) a (range_with_len (a + 1) n) in
+    let here = by_tests (p a) (q a) (each a) in
+    omega (arith, e, f, rest, here)
+  where
+    by_tests : (b c : Bool) → (b ≡ true → c ≡ true) → cond b 1 0 ≤ cond c 1 0
+    by_tests true true f = omega arith
+    by_tests true false f = let e : false ≡ true = f refl in absurd cc
+    by_tests false true f = omega arith
+    by_tests false false f = omega arith
+
+count_all : (p : ℕ → Bool) (n a : ℕ) → ((i : ℕ) → p i ≡ true) → count_by p (range_with_len a n) ≡ n
+count_all p zero a each = refl
+count_all p (suc n) a each =
+    let rest = count_all p n (a + 1) each in
+    let e = sum_by-cons (λ x. cond (p x) 1 0) a (range_with_len (a + 1) n) in
+    let here = one (p a) (each a) in
+    omega (arith, e, rest, here)
+  where
+    one : (b : Bool) → b ≡ true → cond b 1 0 ≤ 1 × 1 ≤ cond b 1 0
+    one true e = (omega arith, omega arith)
+    one false e = absurd cc
+
+pub settled_rises : (s : Setting) (k l : ℕ) → k ≤ l → l ≤ s.rows → settled s k ≤ settled s l
+unfolding settled
+settled_rises s k l le most = count_rises (is_settled s k) (is_settled s l) (segments_of s) 0 (λ i e. later i (k == s.rows) (nat_lt (8 * last_block_row s i + 28) k) refl refl e)
+  where
+    later : (i : ℕ) (a b : Bool) → (k == s.rows) ≡ a → nat_lt (8 * last_block_row s i + 28) k ≡ b → (a || b) ≡ true → is_settled s l i ≡ true
+    later i true b e f g = let h : (l == s.rows) ≡ true = grind (arith, nat_tests) in rw h refl
+    later i false true e f g = far i (l == s.rows) (let h : nat_lt (8 * last_block_row s i + 28) l ≡ true = grind (arith, nat_tests) in h)
+      where
+        far : (i : ℕ) (a : Bool) → nat_lt (8 * last_block_row s i + 28) l ≡ true → (a || nat_lt (8 * last_block_row s i + 28) l) ≡ true
+        far i true h = refl
+        far i false h = h
+    later i false false e f g = absurd cc
+
+pub settled_whole : (s : Setting) → settled s s.rows ≡ segments_of s
+unfolding settled
+settled_whole s = count_all (is_settled s s.rows) (segments_of s) 0 (λ i. let h : (s.rows == s.rows) ≡ true = grind (arith, nat_tests) in rw h refl)

@@ -1,0 +1,47 @@
+-- Rising numbers, and those that go on one after the other.
+use Rattle.std.proofs.Common.{◌≡◌, ◌+◌, ℕ, zero, suc, List, [], ◌∷◌, refl, ap, subst, ◌∙◌, arith}
+use Rattle.std.specs.Prelude.{Bool, true, false, ◌==◌, if◌then◌else◌}
+use Rattle.std.specs.List.{range_with_len}
+use Rattle.std.proofs.lemmas.Bool.Decides.{nat_tests}
+use Rattle.stream_defs.specs.Chosen.{IsRising, run}
+
+equal : (m n : ℕ) → m ≡ n → (m == n) ≡ true
+equal m n e = grind (arith, nat_tests)
+
+-- a range rises
+pub range_rises : (least n : ℕ) → IsRising least (least + n) (range_with_len least n)
+range_rises least zero = tt
+range_rises least (suc n) =
+    let e : least + 1 + n ≡ least + suc n = omega arith in
+    ((omega arith), (omega arith), subst (λ m. IsRising (least + 1) m (range_with_len (least + 1) n)) e (range_rises (least + 1) n))
+
+-- and goes on one after the other
+pub run-range : (next n : ℕ) → run next (range_with_len next n) ≡ range_with_len next n
+run-range next zero = refl
+run-range next (suc n) = rw (equal next next refl) (ap (λ ks. next ∷ ks) (run-range (next + 1) n))
+
+-- what goes on rises
+pub run_rises : (least next below : ℕ) (ks : List ℕ) → IsRising least below ks → IsRising least below (run next ks)
+run_rises least next below [] rising = tt
+run_rises least next below (k ∷ ks) rising = by_test (k == next) (run_rises (k + 1) (next + 1) below ks rising.2)
+  where
+    by_test : (b : Bool) → IsRising (k + 1) below (run (next + 1) ks) → IsRising least below (if b then k ∷ run (next + 1) ks else [])
+    by_test true rest = (rising.0, rising.1, rest)
+    by_test false rest = tt
+
+-- where all of a range goes on, the rising numbers are that range
+pub run_whole : (next n : ℕ) (ks : List ℕ) → IsRising next (next + n) ks → run next ks ≡ range_with_len next n → ks ≡ range_with_len next n
+run_whole next zero [] rising e = refl
+run_whole next zero (k ∷ ks) rising e = absurd (let low = rising.0 in let high = rising.1 in omega (arith, low, high))
+run_whole next (suc n) [] rising e = cc
+run_whole next (suc n) (k ∷ ks) rising e = by_test (k == next) refl e (λ r f. run_whole (next + 1) n ks r f)
+  where
+    by_test : (b : Bool) → (k == next) ≡ b → (if b then k ∷ run (next + 1) ks else []) ≡ next ∷ range_with_len (next + 1) n →
+        (IsRising (next + 1) (next + 1 + n) ks → run (next + 1) ks ≡ range_with_len (next + 1) n → ks ≡ range_with_len (next + 1) n) → k ∷ ks ≡ next ∷ range_with_len (next + 1) n
+    by_test true t f rest =
+        let here : k ≡ next = grind (arith, nat_tests) in
+        let all : next + suc n ≡ next + 1 + n = omega arith in
+        let later : IsRising (next + 1) (next + 1 + n) ks = subst (λ m. IsRising (m + 1) (next + 1 + n) ks) here (subst (λ m. IsRising (k + 1) m ks) all rising.2) in
+        let tail : run (next + 1) ks ≡ range_with_len (next + 1) n = cc in
+        ap (λ m. m ∷ ks) here ∙ ap (λ zs. next ∷ zs) (rest later tail)
+    by_test false t f rest = cc

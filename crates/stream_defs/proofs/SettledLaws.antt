@@ -1,0 +1,116 @@
+-- The packets of settled segments are determined by the blocks that the rows so far determine.
+use Rattle.std.proofs.Common.{◌≡◌, inl, inr, ◌≤◌, ◌<◌, ◌+◌, ◌-◌, ◌*◌, ◌/◌, ℕ, zero, suc, ℤ, List, [], length, take, drop, refl, sym, ap, subst, ◌∙◌, arith, length-take, length-drop}
+use Rattle.std.specs.Prelude.{Bool, true, false, ◌==◌, ◌||◌, nat_lt, cond}
+use Rattle.std.specs.List.{count_by, range_with_len}
+use Rattle.std.proofs.lemmas.Bool.{cases_lt, false≢true}
+use Rattle.std.proofs.lemmas.Bool.Decides.{nat_tests}
+use Rattle.std.proofs.lemmas.List.{ext_get_or, get_or-take, get_or-drop}
+use Rattle.std.proofs.lemmas.List.Sums.{sum_by-cons}
+use Rattle.std.proofs.lemmas.Nat.{le-div}
+use Rattle.std.proofs.Math.Nat.{div-mul-le_self, mul-le-mul_right}
+use Rattle.base_122.specs.Ranges.{IsInRange}
+use Rattle.base_122.specs.Sizes.{block_count, total_blocks, segment_blocks}
+use Rattle.base_122.specs.declared.setting.Setting.{Setting}
+use Rattle.base_122.proofs.SizeBounds.{first_block-lt, three-le-block_count}
+use Rattle.stream_defs.specs.Output.{packets_of, segment_of, segments_of}
+use Rattle.stream_defs.specs.Settled.{last_block_row, is_settled, settled, BlocksAgree}
+use Rattle.stream_defs.proofs.WholeStreams.{same_packets}
+
+-- ---- the settled segments are the first ones
+
+-- where a test fails from one number on, at most as many are counted as stand before it
+count_few : (p : ℕ → Bool) (n a m : ℕ) → ((j : ℕ) → a + m ≤ j → j < a + n → p j ≡ false) → count_by p (range_with_len a n) ≤ m
+count_few p zero a m none = omega arith
+count_few p (suc n) a zero none =
+    let here : p a ≡ false = none a (omega arith) (omega arith) in
+    let rest : count_by p (range_with_len (a + 1) n) ≤ 0 = count_few p n (a + 1) zero (λ j low high. none j (omega (arith, low)) (omega (arith, high))) in
+    subst (λ t. t ≤ 0) (sym (sum_by-cons (λ x. cond (p x) 1 0) a (range_with_len (a + 1) n))) (by_test (p a) here rest)
+  where
+    by_test : (b : Bool) → b ≡ false → count_by p (range_with_len (a + 1) n) ≤ 0 → cond b 1 0 + count_by p (range_with_len (a + 1) n) ≤ 0
+    by_test true e rest = absurd (false≢true (sym e))
+    by_test false e rest = omega (arith, rest)
+count_few p (suc n) a (suc m) none =
+    let rest : count_by p (range_with_len (a + 1) n) ≤ m = count_few p n (a + 1) m (λ j low high. none j (omega (arith, low)) (omega (arith, high))) in
+    subst (λ t. t ≤ suc m) (sym (sum_by-cons (λ x. cond (p x) 1 0) a (range_with_len (a + 1) n))) (by_test (p a) rest)
+  where
+    by_test : (b : Bool) → count_by p (range_with_len (a + 1) n) ≤ m → cond b 1 0 + count_by p (range_with_len (a + 1) n) ≤ suc m
+    by_test true rest = omega (arith, rest)
+    by_test false rest = omega (arith, rest)
+
+rows_rise : (a b c : ℕ) → 0 < c → a ≤ b → a / c ≤ b / c
+rows_rise a b c some le = let below : a / c * c ≤ a = div-mul-le_self a c in le-div (a / c) b c some (omega (arith, below, le))
+
+not_settled : (s : Setting) (k i : ℕ) → is_settled s k i ≡ false → (k ≡ s.rows → ⊥) × (k ≤ 8 * last_block_row s i + 28)
+not_settled s k i e = by_tests (k == s.rows) (nat_lt (8 * last_block_row s i + 28) k) refl refl e
+  where
+    by_tests : (a b : Bool) → (k == s.rows) ≡ a → nat_lt (8 * last_block_row s i + 28) k ≡ b → (a || b) ≡ false → (k ≡ s.rows → ⊥) × (k ≤ 8 * last_block_row s i + 28)
+    by_tests true b x y z = absurd (false≢true (sym z))
+    by_tests false true x y z = absurd (false≢true (sym z))
+    by_tests false false x y z = ((λ same. grind (arith, nat_tests)), grind (arith, nat_tests))
+
+unsettled_so : (s : Setting) (k i : ℕ) → (k ≡ s.rows → ⊥) → k ≤ 8 * last_block_row s i + 28 → is_settled s k i ≡ false
+unsettled_so s k i other far =
+    let a : (k == s.rows) ≡ false = grind (arith, nat_tests) in
+    let b : nat_lt (8 * last_block_row s i + 28) k ≡ false = grind (arith, nat_tests) in
+    rw (a, b) refl
+
+module _ (s : Setting) (range : IsInRange s) where
+  some_blocks : 0 < s.segment
+  some_blocks = let segment = range.segment in omega (arith, segment)
+
+  some_columns : 0 < block_count s.width
+  some_columns = let width = range.width in let three = three-le-block_count s.width width.0 in omega (arith, three)
+
+  last_rises : (i j : ℕ) → i ≤ j → j < segments_of s → last_block_row s i ≤ last_block_row s j
+  last_rises i j le lt =
+      let total = total_blocks s.width s.rows in
+      let S = s.segment in
+      let before : j * S < total = first_block-lt total S j some_blocks lt in
+      let ends : i * S + segment_blocks total S i - 1 ≤ j * S + segment_blocks total S j - 1 = elim (cases_lt i j) [
+        | inl less ↦ let next : (i + 1) * S ≤ j * S = mul-le-mul_right S (omega (arith, less)) in omega (arith, next, before, some_blocks)
+        | inr same ↦ let e : i ≡ j = omega (arith, same, le) in let f = ap (λ m. m * S + segment_blocks total S m - 1) e in omega (arith, f)
+      ] in
+      rows_rise (i * S + segment_blocks total S i - 1) (j * S + segment_blocks total S j - 1) (block_count s.width) some_columns ends
+
+  -- what isn't settled is followed by none that is
+  none_later : (k i j : ℕ) → is_settled s k i ≡ false → i ≤ j → j < segments_of s → is_settled s k j ≡ false
+  none_later k i j e le lt =
+      let not = not_settled s k i e in
+      let rise = last_rises i j le lt in
+      let far = not.1 in
+      unsettled_so s k j not.0 (omega (arith, far, rise))
+
+  settled_first : (k i : ℕ) → i < settled s k → is_settled s k i ≡ true
+  unfolding settled
+  settled_first k i lt = by_test (is_settled s k i) refl
+    where
+      by_test : (b : Bool) → is_settled s k i ≡ b → b ≡ true
+      by_test true e = refl
+      by_test false e = absurd (let few = count_few (is_settled s k) (segments_of s) 0 i (λ j low high. none_later k i j e (omega (arith, low)) (omega (arith, high))) in omega (arith, few, lt))
+
+  -- ---- their blocks
+
+  segment_same : (k : ℕ) (xs ys : List (List ℤ)) (index : ℕ) → length xs ≡ total_blocks s.width s.rows → BlocksAgree s k xs ys → 8 * last_block_row s index + 28 < k → segment_of s xs index ≡ segment_of s ys index
+  segment_same k xs ys index size agree near =
+      let S = s.segment in
+      let first = index * S in
+      let long = agree.same_length in
+      ext_get_or [] (take S (drop first xs)) (take S (drop first ys)) (omega (arith, long, length-take S (drop first xs), length-take S (drop first ys), length-drop first xs, length-drop first ys))
+      (λ i lt.
+      let few : i < S = omega (arith, lt, length-take S (drop first xs)) in
+      let there : first + i < total_blocks s.width s.rows = omega (arith, lt, size, length-take S (drop first xs), length-drop first xs) in
+      let row : (first + i) / block_count s.width ≤ last_block_row s index =
+      rows_rise (first + i) (first + segment_blocks (total_blocks s.width s.rows) S index - 1) (block_count s.width) some_columns (omega (arith, few, there)) in
+      get_or-take S (drop first xs) i [] few ∙ get_or-drop first xs i []
+      ∙ agree.at (first + i) (omega (arith, row, near))
+      ∙ sym (get_or-take S (drop first ys) i [] few ∙ get_or-drop first ys i []))
+
+  pub settled_same : (k : ℕ) (xs ys : List (List ℤ)) → length xs ≡ total_blocks s.width s.rows → BlocksAgree s k xs ys → packets_of s xs (settled s k) ≡ packets_of s ys (settled s k)
+  settled_same k xs ys size agree = by_rows (k == s.rows) refl
+    where
+      near : (index : ℕ) → (k == s.rows) ≡ false → is_settled s k index ≡ true → 8 * last_block_row s index + 28 < k
+      near index e t = let u : nat_lt (8 * last_block_row s index + 28) k ≡ true = rw e at t in grind (arith, nat_tests)
+
+      by_rows : (b : Bool) → (k == s.rows) ≡ b → packets_of s xs (settled s k) ≡ packets_of s ys (settled s k)
+      by_rows true e = ap (λ zs. packets_of s zs (settled s k)) (agree.whole (grind (arith, nat_tests)))
+      by_rows false e = same_packets s xs ys (settled s k) (λ index lt. segment_same k xs ys index size agree (near index e (settled_first k index lt)))

@@ -1,0 +1,5 @@
+use Rattle.stream_defs.proofs.SettledLaws.{settled_same}
+use Rattle.stream_defs.proofs.laws.settled_is_same.Goals as goal
+
+pub returns : goal.returns
+returns c = record { same = λ s k xs ys range size agree. settled_same s range k xs ys size agree }

@@ -1,0 +1,58 @@
+-- The picture that received segments give (CCSDS 122.0-B-2 for the inverse transform; that what isn't received is 0 is this
+-- project's own).
+use Rattle.std.specs.Prelude.{ℕ, ◌+◌, ◌*◌, ◌/◌, ◌%◌, ◌^◌, ◌==◌, ◌&&◌, Bool, ℤ, pos, List, [], Option, unwrap_or, position, slice_index, slice_index_or}
+use Rattle.std.specs.List.{range_with_len}
+use Rattle.base_122.specs.Sizes.{block_count}
+use Rattle.base_122.specs.declared.geometry.Geometry.{Geometry}
+use Rattle.wave_defs.specs.Line.{floor_div}
+use Rattle.wave_defs.specs.Pyramid.{Pyramid, rebuilt}
+use Rattle.wave_defs.specs.Blocks.{Place, place_of, block_side}
+use Rattle.raster_rows.specs.Pixels.{clamped, raster_octets}
+
+-- the number at a position of a block, where blocks are counted in raster order; 0 where its segment isn't received
+unfoldable pub number_at : Geometry → (ℕ → Option (List (List ℤ))) → (block position : ℕ) → ℤ
+number_at g received block i =
+    slice_index_or (slice_index_or (unwrap_or (received (block / g.segment)) []) (block % g.segment) []) i (pos 0)
+
+abbrev pub is_place : Place → Place → Bool
+is_place p q = (p.band == q.band) && ((p.row == q.row) && (p.column == q.column))
+
+-- the position of the number that stands at a place of a block
+unfoldable pub position_of : Place → ℕ
+position_of p = unwrap_or (position (λ i. is_place (place_of i) p) (range_with_len 0 64)) 0
+
+-- A band, by its number, of blocks whose numbers are these: each is divided by two to the band's weight.
+unfoldable pub band_with : (ℕ → ℕ → ℤ) → (columns : ℕ) → List ℕ → (band : ℕ) → ℕ → ℕ → ℤ
+band_with numbers columns weights band row column =
+    let side = block_side band in
+    let place : Place = record { band = band; row = row % side; column = column % side } in
+    floor_div (numbers (row / side * columns + column / side) (position_of place)) (2 ^ slice_index weights band)
+
+-- the ten bands
+unfoldable pub pyramid_with : (ℕ → ℕ → ℤ) → (columns : ℕ) → List ℕ → Pyramid
+pyramid_with numbers columns weights = record {
+  hh1 = band_with numbers columns weights 0;
+  hl1 = band_with numbers columns weights 1;
+  lh1 = band_with numbers columns weights 2;
+  hh2 = band_with numbers columns weights 3;
+  hl2 = band_with numbers columns weights 4;
+  lh2 = band_with numbers columns weights 5;
+  hh3 = band_with numbers columns weights 6;
+  hl3 = band_with numbers columns weights 7;
+  lh3 = band_with numbers columns weights 8;
+  ll3 = band_with numbers columns weights 9;
+}
+
+-- the image that blocks with these numbers give, each pixel clamped once
+unfoldable pub picture_with : Geometry → (ℕ → ℕ → ℤ) → ℕ → ℕ → ℤ
+picture_with g numbers i j =
+    let r = block_count g.rows in
+    let c = block_count g.width in
+    clamped g.depth g.signed (rebuilt (pyramid_with numbers c g.weights.shifts) r c i j)
+
+abbrev pub picture : Geometry → (ℕ → Option (List (List ℤ))) → ℕ → ℕ → ℤ
+picture g received = picture_with g (number_at g received)
+
+-- its octets, cropped to the image's rows and width
+abbrev pub picture_octets : Geometry → (ℕ → Option (List (List ℤ))) → List ℕ
+picture_octets g received = raster_octets g.depth g.rows g.width (picture g received)

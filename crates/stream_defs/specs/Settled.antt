@@ -1,0 +1,67 @@
+-- How far octets and rows that came determine what goes out. This project's own.
+use Rattle.std.specs.Prelude.{◌≡◌, ◌<◌, ℕ, ◌+◌, ◌-◌, ◌*◌, ◌/◌, ◌==◌, ◌||◌, Bool, nat_lt, if◌then◌else◌, List, [], length, slice_index_or, ℤ, is_some, Option, None, Some}
+use Rattle.std.specs.List.{count_by, range_with_len}
+use Rattle.base_122.specs.Sizes.{block_count, total_blocks, first_block, segment_blocks}
+use Rattle.base_122.specs.Ranges.{IsInRange}
+use Rattle.base_122.specs.declared.setting.Setting.{Setting}
+use Rattle.base_122.specs.declared.geometry.Geometry.{Geometry}
+use Rattle.stream_defs.specs.declared.fate.LastPart.{LastPart}
+use Rattle.stream_defs.specs.declared.fate.FateState.{FateState}
+use Rattle.stream_defs.specs.Output.{packets_of, segments_of}
+use Rattle.stream_defs.specs.Agreement.{blocks_of}
+
+-- ---- the encoder
+
+-- the block row of a segment's last block
+abbrev pub last_block_row : Setting → (index : ℕ) → ℕ
+last_block_row s index =
+    (first_block s.segment index + segment_blocks (total_blocks s.width s.rows) s.segment index - 1) / block_count s.width
+
+-- the first k rows determine the segment's numbers
+abbrev pub is_settled : Setting → (k index : ℕ) → Bool
+is_settled s k index = (k == s.rows) || nat_lt (8 * last_block_row s index + 28) k
+
+-- the number of settled segments, which are the first ones
+unfoldable pub settled : Setting → (k : ℕ) → ℕ
+settled s k = count_by (is_settled s k) (range_with_len 0 (segments_of s))
+
+-- ---- the decoder
+
+-- whole block rows before a block
+abbrev pub block_rows_before : Geometry → (block : ℕ) → ℕ
+block_rows_before g block = block / block_count g.width
+
+-- the first block after a segment where it is received, else its own first block
+abbrev pub blocks_through : Geometry → (ℕ → Option (List (List ℤ))) → (index : ℕ) → ℕ
+blocks_through g received index =
+    first_block g.segment index + (if is_some (received index) then segment_blocks (blocks_of g) g.segment index else 0)
+
+-- rows that n whole block rows determine
+abbrev pub rows_through : Geometry → (n : ℕ) → ℕ
+rows_through g n = if n == block_count g.rows then g.rows else 8 * n - 21
+
+-- rows that may go out with this last part
+abbrev pub rows_after : Geometry → (ℕ → Option (List (List ℤ))) → Option LastPart → ℕ
+rows_after g received None = 0
+rows_after g received (Some last) = rows_through g (block_rows_before g (blocks_through g received last.index))
+
+-- rows that may go out where octets left this state; none without a geometry
+abbrev pub ready : FateState → (ℕ → Option (List (List ℤ))) → ℕ
+ready s received = ready_in s.geometry s.last
+  where
+    ready_in : Option Geometry → Option LastPart → ℕ
+    ready_in None last = 0
+    ready_in (Some g) last = rows_after g received last
+
+-- ---- why settled segments may go out
+
+-- the blocks that the first k rows determine are the same: block row r depends on padded rows up to 8r + 28
+pub record BlocksAgree (s : Setting) (k : ℕ) (xs ys : List (List ℤ)) : Type 0 where
+  pub same_length : length xs ≡ length ys
+  pub at : (block : ℕ) → 8 * (block / block_count s.width) + 28 < k → slice_index_or xs block [] ≡ slice_index_or ys block []
+  pub whole : k ≡ s.rows → xs ≡ ys
+
+-- then the packets of the settled segments are the same
+pub record SettledSame : Type 0 where
+  pub same : (s : Setting) (k : ℕ) (xs ys : List (List ℤ)) → IsInRange s → length xs ≡ total_blocks s.width s.rows → BlocksAgree s k xs ys →
+      packets_of s xs (settled s k) ≡ packets_of s ys (settled s k)
