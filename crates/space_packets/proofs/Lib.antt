@@ -4,3 +4,5 @@ pub mod SinkCalls
 mod Buffers
 mod Sound
 mod OneOctet
+pub mod Intakes
+pub mod StreamReads

@@ -4,7 +4,7 @@ use Rattle.std.specs.Prelude.{Bool, true, false, if◌then◌else◌, vec_capaci
 use Rattle.std.specs.Bool.{OnFalse}
 use Rattle.std.specs.Global.{Vec}
 use Rattle.std.proofs.Math.Nat.{mul-le-mul_left}
-use Rattle.stream_defs.specs.Packets.{part_size}
+use Rattle.packet_defs.specs.Packets.{part_size}
 use Rattle.space_packets.specs.declared.packetiser.Packetiser.TheInside.{Inside}
 use Rattle.space_packets.specs.declared.stage.Stage.{Stage}
 use Rattle.space_packets.specs.declared.stage.Stage.TheVariants.{Idle, Begun}

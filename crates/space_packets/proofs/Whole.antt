@@ -6,9 +6,9 @@ use Rattle.std.proofs.Math.Nat.{add-mul-div_right}
 use Rattle.std.proofs.lemmas.Bool.Decides.{nat_tests}
 use Rattle.std.proofs.lemmas.List.{append-nil, take_all}
 use Rattle.std.proofs.lemmas.List.FromFn.{map-range_with_len_more}
-use Rattle.stream_defs.specs.Packets.{ancillary_octets, packet_with, sequence_flags, part_count, part_of, part_packet, part_size, text_packets}
-use Rattle.stream_defs.specs.Output.{joined}
-use Rattle.stream_defs.proofs.Outputs.{joined-append}
+use Rattle.packet_defs.specs.Packets.{ancillary_octets, packet_with, sequence_flags, part_count, part_of, part_packet, part_size, text_packets}
+use Rattle.packet_defs.specs.Packets.{joined}
+use Rattle.packet_defs.proofs.Joins.{joined-append}
 use Rattle.space_packets.specs.declared.stage.Text.{Text}
 use Rattle.space_packets.specs.Parts.{flags_of, full_parts, text_at, packet_of}
 use Rattle.space_packets.specs.Progress.{Progress, begun, full_count, full_packet, first_packets, written, after, last_packet}

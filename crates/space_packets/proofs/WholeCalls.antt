@@ -6,9 +6,9 @@ use Rattle.std.proofs.Math.Seq.{take-append_seam}
 use Rattle.std.proofs.lemmas.List.{take-append-drop}
 use Rattle.port_122.specs.Outside.{Outside, Since, NoRead, Rose}
 use Rattle.port_122.proofs.Stretches.{since_out, rose_since}
-use Rattle.stream_defs.specs.Packets.{part_size, part_count, text_packets}
-use Rattle.stream_defs.specs.Output.{joined}
-use Rattle.stream_defs.proofs.Outputs.{joined-append}
+use Rattle.packet_defs.specs.Packets.{part_size, part_count, text_packets}
+use Rattle.packet_defs.specs.Packets.{joined}
+use Rattle.packet_defs.proofs.Joins.{joined-append}
 use Rattle.space_packets.specs.declared.stage.Stage.TheVariants.{Idle, Begun}
 use Rattle.space_packets.specs.declared.stage.Text.{Text}
 use Rattle.space_packets.specs.Parts.{full_parts, text_at}

@@ -1,6 +1,6 @@
 -- What a packetiser's fields show, and what holds of them. This project's own.
 use Rattle.std.specs.Prelude.{◌+◌, ◌-◌, ◌*◌, ◌^◌, ◌≤◌, ◌<◌, length, drop, vec_capacity}
-use Rattle.stream_defs.specs.Packets.{part_size}
+use Rattle.packet_defs.specs.Packets.{part_size}
 use Rattle.space_packets.specs.declared.packetiser.Packetiser.TheInside.{Inside}
 use Rattle.space_packets.specs.Progress.{Progress}
 use Rattle.space_packets.specs.Stages.{apid_of, parts_of, open_texts, room_of}

@@ -11,3 +11,8 @@ pub mod Going
 pub mod Writing
 pub mod SinkLaws
 pub mod PacketSink
+pub mod Intake
+pub mod Streams
+pub mod PacketReads
+pub mod Held
+pub mod Serving

@@ -1,8 +1,8 @@
 -- How far a packetiser has come, and the packets that octets bring out. This project's own.
 use Rattle.std.specs.Prelude.{ℕ, ◌≡◌, ◌≤◌, ◌+◌, ◌*◌, true, false, List, [], ◌++◌, length, map, drop}
 use Rattle.std.specs.List.{range_with_len}
-use Rattle.stream_defs.specs.Packets.{part_of, part_size, part_count, text_packets}
-use Rattle.stream_defs.specs.Output.{joined}
+use Rattle.packet_defs.specs.Packets.{part_of, part_size, part_count, text_packets}
+use Rattle.packet_defs.specs.Packets.{joined}
 use Rattle.space_packets.specs.declared.stage.Stage.{Stage}
 use Rattle.space_packets.specs.declared.stage.Stage.TheVariants.{Idle, Begun, Broken}
 use Rattle.space_packets.specs.declared.stage.Text.{Text}

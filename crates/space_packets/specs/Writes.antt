@@ -1,8 +1,8 @@
 -- What the calls of a packetiser leave. This project's own.
 use Rattle.std.specs.Prelude.{ℕ, ◌≡◌, ◌≤◌, ◌<◌, List, [], ◌∷◌, ◌++◌, length, take, Result, MatchResult}
 use Rattle.port_122.specs.Outside.{Outside, Since, NoRead, Rose}
-use Rattle.stream_defs.specs.Packets.{text_packets}
-use Rattle.stream_defs.specs.Output.{joined}
+use Rattle.packet_defs.specs.Packets.{text_packets}
+use Rattle.packet_defs.specs.Packets.{joined}
 use Rattle.space_packets.specs.declared.stage.Stage.{Stage}
 use Rattle.space_packets.specs.declared.stage.Stage.TheVariants.{Broken}
 use Rattle.space_packets.specs.declared.stage.Text.{Text}

@@ -1,21 +1,21 @@
 // The octets of a packet before its text.
 ghost use Rattle.std.specs.Prelude.{◌≡◌, ◌≤◌, ◌+◌, ◌*◌, ◌^◌, ◌%◌, ◌<◌, ◌++◌, length, drop};
 ghost use Rattle.byteorder.specs.Endian.{big_bytes};
-ghost use Rattle.stream_defs.specs.Packets.{ancillary_octets};
+ghost use Rattle.packet_defs.specs.Packets.{ancillary_octets};
 ghost use Rattle.space_packets.specs.Parts.{flags_of, packet_of};
 
 use crate::stage::Text;
 use byteorder::{BigEndian, ByteOrder};
-use stream_defs::Ancillary;
+use packet_defs::Ancillary;
 
-// The mark that begins the ancillary data.
-const MARK: u16 = 0x1220;
+/// The mark that begins the ancillary data.
+pub const MARK: u16 = 0x1220;
 
 /// Octets of the primary header.
 pub const PRIMARY: usize = 6;
 
-// Octets of the ancillary data.
-const ANCILLARY: usize = 24;
+/// Octets of the ancillary data.
+pub const ANCILLARY: usize = 24;
 
 /// Octets of a packet before its text.
 pub const HEADER: usize = PRIMARY + ANCILLARY;

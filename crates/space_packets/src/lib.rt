@@ -3,13 +3,14 @@
 
 mod header;
 mod laws;
+mod packet_reader;
 mod packetiser;
+mod reading;
 mod sink;
 mod stage;
-#[cfg(test)]
-mod tests;
 
-pub use laws::texts_go_whole;
+pub use laws::{packetiser_serves_again, texts_go_whole};
+pub use packet_defs::{Ancillary, Framing, PacketHead, PacketRead, Skip};
+pub use packet_reader::PacketReader;
 pub use packetiser::Packetiser;
 pub use sink::PacketSink;
-pub use stream_defs::Ancillary;

@@ -1,17 +1,17 @@
 // Texts in, packets out.
 ghost use Rattle.std.specs.Prelude.{◌≡◌, ◌≤◌, ◌<◌, ◌+◌, ◌*◌, ◌^◌, ◌++◌, ◌∷◌, [], ℕ, length, drop, true, false, IfOk, MatchResult, vec_capacity, if◌then◌else◌};
 ghost use Rattle.std.specs.Bool.{OnTrue, OnFalse};
-ghost use Rattle.stream_defs.specs.Packets.{part_size};
+ghost use Rattle.packet_defs.specs.Packets.{part_size};
 ghost use Rattle.port_122.specs.Outside.{WritesAll};
 ghost use Rattle.space_packets.specs.Parts.{packet_of, text_at};
 
 use crate::header::{HEADER, PRIMARY, write_header};
 use crate::sink::PacketSink;
 use crate::stage::{Stage, Text};
+use packet_defs::Ancillary;
 use port_122::{Failed, Port, write_all};
 use std::alloc::{AllocError, Global};
 use std::marker::Model;
-use stream_defs::Ancillary;
 
 /// Cuts texts into packets and writes them to a port (docs/formats.md, "Packets").
 ///

@@ -3,7 +3,7 @@ ghost use Rattle.std.specs.Prelude.{◌≡◌, ◌<◌, ◌-◌, ◌^◌, if◌t
 ghost use Rattle.space_packets.specs.Parts.{text_at};
 ghost use Rattle.space_packets.specs.declared.stage.Stage.TheVariants.{Idle, Begun};
 
-use stream_defs::Ancillary;
+use packet_defs::Ancillary;
 
 /// A begun text: the APID of its packets, and what the next of them says of it.
 #[derive(Clone, Copy)]

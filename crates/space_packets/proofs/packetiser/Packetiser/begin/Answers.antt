@@ -1,6 +1,6 @@
 use Rattle.std.proofs.Common.{◌≡◌, refl, ap, ◌∙◌, arith, drop, [], length-drop}
 use Rattle.std.proofs.lemmas.List.{drop_all}
-use Rattle.stream_defs.specs.Packets.{part_size}
+use Rattle.packet_defs.specs.Packets.{part_size}
 use Rattle.space_packets.specs.Stages.{room_of}
 use Rattle.space_packets.specs.Going.{same_progress}
 use Rattle.space_packets.proofs.packetiser.Packetiser.begin.Goals as goal

@@ -1,5 +1,5 @@
 use Rattle.std.proofs.Common.{◌+◌, arith, length-drop}
-use Rattle.stream_defs.specs.Packets.{part_size}
+use Rattle.packet_defs.specs.Packets.{part_size}
 use Rattle.space_packets.proofs.Buffers.{room_least, on_less, on_not_less}
 use Rattle.space_packets.proofs.packetiser.Packetiser.has_room.Goals as goal
 

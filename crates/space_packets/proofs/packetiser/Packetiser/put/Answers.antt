@@ -1,4 +1,4 @@
-use Rattle.stream_defs.specs.Packets.{part_size}
+use Rattle.packet_defs.specs.Packets.{part_size}
 use Rattle.std.proofs.Common.{length}
 use Rattle.space_packets.proofs.Buffers.{given_text}
 use Rattle.space_packets.proofs.OneOctet.{goes_on_in, goes_on_past, breaks_off_at}

@@ -1,0 +1,114 @@
+-- The fate of a packet of the image is what is judged of what it says.
+use Rattle.std.proofs.Common.{◌≡◌, ℕ, List, [], ◌∷◌, length, drop, refl, sym, ap, subst, ◌∙◌}
+use Rattle.std.specs.Prelude.{Bool, true, false, if◌then◌else◌, ◌==◌, Option, Some, None, Result, Ok, Err, unwrap_or}
+use Rattle.std.specs.Option.{option_map}
+use Rattle.base_122.specs.declared.geometry.Geometry.{Geometry}
+use Rattle.segment_defs.specs.declared.head.SegmentHead.{SegmentHead}
+use Rattle.segment_defs.specs.declared.fault.HeadFault.{HeadFault}
+use Rattle.segment_defs.specs.Reading.{head_read}
+use Rattle.packet_defs.specs.declared.ancillary.Ancillary.{Ancillary}
+use Rattle.packet_defs.specs.declared.packet.Skip.{Skip}
+use Rattle.packet_defs.specs.Tests.{when, first_of}
+use Rattle.packet_defs.specs.Reading.{skip_of, flags_in, ancillary_in, text_in}
+use Rattle.stream_defs.specs.declared.fate.Fate.{Fate}
+use Rattle.stream_defs.specs.declared.fate.Fate.TheVariants.{Kept, Skipped, Foreign, Late, OutOfPlace, BadHead}
+use Rattle.stream_defs.specs.declared.fate.FateState.{FateState}
+use Rattle.stream_defs.specs.Fates.{fate, after, after_kept, is_kept, geometry_with, geometry_after, is_foreign, is_late, is_out_of_place}
+use Rattle.packet_assembly.specs.declared.note.PacketNote.{PacketNote}
+use Rattle.packet_assembly.specs.Judging.{unkept, refusal_told, ok_of, head_told, judged_by, judged, geometry_past, past_kept}
+use Rattle.packet_assembly.specs.Notes.{note_of, head_octets, start_of, text_brought, start_brought}
+
+pub fate_mine : (apid : ℕ) (s : FateState) (packet : List ℕ) → skip_of apid packet ≡ None →
+    fate apid s packet ≡ unwrap_or (unkept s (flags_in packet) (ancillary_in packet) (text_in packet)) Kept
+unfolding fate
+fate_mine apid s packet mine = rw mine refl
+
+pub fate_other : (apid : ℕ) (s : FateState) (packet : List ℕ) (skip : Skip) → skip_of apid packet ≡ Some skip → fate apid s packet ≡ Skipped skip
+unfolding fate
+fate_other apid s packet skip other = rw other refl
+
+-- what is told of a packet of the image
+abbrev pub note_mine : (number : ℕ) → Fate → List ℕ → PacketNote
+note_mine number why packet = record {
+  number = number;
+  fate = why;
+  index = (ancillary_in packet).index;
+  part = (ancillary_in packet).part;
+  octets = length (text_in packet);
+}
+
+pub record Unkept (why : Fate) : Type 0 where
+  pub unkept : is_kept why ≡ false
+  pub note : (number : ℕ) (packet : List ℕ) → note_of number why packet ≡ note_mine number why packet
+
+refusals : (b c d : Bool) (o : Option HeadFault) (why : Fate) → first_of (when b Foreign ∷ when c Late ∷ when d OutOfPlace ∷ option_map BadHead o ∷ []) ≡ Some why → Unkept why
+refusals true c d o why e = let same : Foreign ≡ why = cc in subst Unkept same (record { unkept = refl; note = λ number packet. refl })
+refusals false true d o why e = let same : Late ≡ why = cc in subst Unkept same (record { unkept = refl; note = λ number packet. refl })
+refusals false false true o why e = let same : OutOfPlace ≡ why = cc in subst Unkept same (record { unkept = refl; note = λ number packet. refl })
+refusals false false false (Some fault) why e = let same : BadHead fault ≡ why = cc in subst Unkept same (record { unkept = refl; note = λ number packet. refl })
+refusals false false false None why e = absurd cc
+
+pub judged_ok : (o : Option Fate) (head found : Option SegmentHead) → judged_by o head ≡ Ok found → (o ≡ None) × (head ≡ found)
+judged_ok None head found e = (refl, cc)
+judged_ok (Some why) head found e = absurd cc
+
+judged_not : (o : Option Fate) (head : Option SegmentHead) (why : Fate) → judged_by o head ≡ Err why → o ≡ Some why
+judged_not None head why e = absurd cc
+judged_not (Some other) head why e = cc
+
+geometry_by : (standing : Option Geometry) (a : Ancillary) (b : Bool) (r : Result SegmentHead HeadFault) →
+    geometry_past standing a (if b then ok_of r else None) ≡ (if b then geometry_with standing a r else standing)
+geometry_by standing a true (Ok head) = refl
+geometry_by standing a true (Err fault) = refl
+geometry_by standing a false r = refl
+
+-- ---- a packet that is kept, with this head
+
+pub record KeptSo (apid : ℕ) (s : FateState) (packet : List ℕ) (found : Option SegmentHead) : Type 0 where
+  pub fate_is : fate apid s packet ≡ Kept
+  pub after_is : after apid s packet ≡ past_kept s (flags_in packet) (ancillary_in packet) found
+  pub text_is : text_brought apid s packet ≡ drop (head_octets found) (text_in packet)
+  pub start_is : start_brought apid s packet ≡ start_of (ancillary_in packet) found
+  pub found_is : found ≡ head_told (ancillary_in packet) (text_in packet)
+
+pub kept_so : (apid : ℕ) (s : FateState) (packet : List ℕ) (found : Option SegmentHead) → skip_of apid packet ≡ None →
+    judged s (flags_in packet) (ancillary_in packet) (text_in packet) ≡ Ok found → KeptSo apid s packet found
+unfolding after text_brought start_brought
+kept_so apid s packet found mine e =
+    let a = ancillary_in packet in
+    let text = text_in packet in
+    let x = judged_ok (unkept s (flags_in packet) a text) (head_told a text) found e in
+    let is : fate apid s packet ≡ Kept = fate_mine apid s packet mine ∙ ap (λ o. unwrap_or o Kept) x.0 in
+    let geometry : geometry_after s.geometry packet ≡ geometry_past s.geometry a found =
+    sym (geometry_by s.geometry a (a.part == 0) (head_read text)) ∙ ap (geometry_past s.geometry a) x.1 in
+    record {
+      fate_is = is;
+      after_is = ap (λ f. if is_kept f then after_kept s packet else s) is ∙ (λ i. record (after_kept s packet) { geometry = geometry i });
+      text_is = ap (λ f. if is_kept f then drop (head_octets (head_told a text)) text else []) is ∙ ap (λ h. drop (head_octets h) text) x.1;
+      start_is = ap (λ f. if is_kept f then start_of a (head_told a text) else None) is ∙ ap (start_of a) x.1;
+      found_is = sym x.1;
+    }
+
+-- ---- one that isn't, for this reason
+
+pub record UnkeptSo (apid : ℕ) (s : FateState) (packet : List ℕ) (why : Fate) : Type 0 where
+  pub fate_is : fate apid s packet ≡ why
+  pub after_is : after apid s packet ≡ s
+  pub text_is : text_brought apid s packet ≡ []
+  pub start_is : start_brought apid s packet ≡ None
+
+pub unkept_so : (apid : ℕ) (s : FateState) (packet : List ℕ) (why : Fate) → fate apid s packet ≡ why → is_kept why ≡ false → UnkeptSo apid s packet why
+unfolding after text_brought start_brought
+unkept_so apid s packet why is none =
+    let not : is_kept (fate apid s packet) ≡ false = ap is_kept is ∙ none in
+    record { fate_is = is; after_is = rw not refl; text_is = rw not refl; start_is = rw not refl }
+
+pub judged_unkept : (apid : ℕ) (s : FateState) (packet : List ℕ) (why : Fate) → skip_of apid packet ≡ None →
+    judged s (flags_in packet) (ancillary_in packet) (text_in packet) ≡ Err why → Unkept why × UnkeptSo apid s packet why
+judged_unkept apid s packet why mine e =
+    let a = ancillary_in packet in
+    let text = text_in packet in
+    let x = judged_not (unkept s (flags_in packet) a text) (head_told a text) why e in
+    let not = refusals (is_foreign s a) (is_late s.last a) (is_out_of_place s.last (flags_in packet) a) (refusal_told s.geometry a text) why x in
+    let is : fate apid s packet ≡ why = fate_mine apid s packet mine ∙ ap (λ o. unwrap_or o Kept) x in
+    (not, unkept_so apid s packet why is not.unkept)

@@ -1,0 +1,44 @@
+-- Why a stream can't be read on, once it was told, stays so.
+use Rattle.std.proofs.Common.{◌≡◌, ℕ, refl, ap, ◌∙◌}
+use Rattle.std.specs.Prelude.{Option, Some, None, Ok, Err}
+use Rattle.bit_pipe.specs.declared.fault.InFault.{InFault}
+use Rattle.port_122.specs.Outside.{Outside}
+use Rattle.packet_defs.specs.declared.ancillary.Ancillary.{Ancillary}
+use Rattle.packet_defs.specs.declared.packet.PacketHead.{PacketHead}
+use Rattle.packet_defs.specs.declared.packet.Skip.{Skip}
+use Rattle.packet_defs.specs.declared.packet.Framing.{Framing}
+use Rattle.packet_defs.specs.declared.packet.PacketRead.TheVariants.{Mine, Skipped, Fault}
+use Rattle.space_packets.specs.Intake.{Intake, verdict, fed}
+use Rattle.space_packets.specs.PacketReads.{ReadsPacket}
+use Rattle.packet_assembly.specs.Held.{StandsAtFault}
+use Rattle.packet_assembly.proofs.Again.{over_answers}
+use Rattle.packet_assembly.proofs.OneStep.{same_intake}
+use Rattle.packet_assembly.proofs.Verdicts.{over_read}
+
+-- what was told before
+abbrev pub ToldSo : (apid : ℕ) → Intake → Option Framing → Type 0
+ToldSo apid v told = (f : Framing) → told ≡ Some f → StandsAtFault apid v f
+
+pub told_none : (apid : ℕ) (v : Intake) → ToldSo apid v None
+told_none apid v f e = absurd (let no : None ≡ Some f = e in cc)
+
+-- where a packet comes, nothing was told
+pub told_mine : (apid : ℕ) (p q : Outside) (v w : Intake) (told : Option Framing) (head : PacketHead) (tells : Ancillary) → ReadsPacket apid p q v w (Ok (Mine head tells)) →
+    ToldSo apid v told → ToldSo apid w told
+told_mine apid p q v w told head tells reads so f e = absurd (let no : Ok (Mine head tells) ≡ Ok (Fault f) = over_answers (Fault f) refl reads (so f e) in cc)
+
+pub told_skipped : (apid : ℕ) (p q : Outside) (v w : Intake) (told : Option Framing) (skip : Skip) → ReadsPacket apid p q v w (Ok (Skipped skip)) →
+    ToldSo apid v told → ToldSo apid w told
+told_skipped apid p q v w told skip reads so f e = absurd (let no : Ok (Skipped skip) ≡ Ok (Fault f) = over_answers (Fault f) refl reads (so f e) in cc)
+
+pub told_failed : (apid : ℕ) (p q : Outside) (v w : Intake) (told : Option Framing) (fault : InFault) → ReadsPacket apid p q v w (Err fault) →
+    ToldSo apid v told → ToldSo apid w told
+told_failed apid p q v w told fault reads so f e = absurd (let no : Err fault ≡ Ok (Fault f) = over_answers (Fault f) refl reads (so f e) in cc)
+
+-- where it is told
+pub told_fault : (apid : ℕ) (p q : Outside) (v w : Intake) (fault : Framing) → ReadsPacket apid p q v w (Ok (Fault fault)) → ToldSo apid w (Some fault)
+told_fault apid p q v w fault reads f e =
+    let u = fed v reads.took reads.saw_end in
+    let same = same_intake apid v w reads.took reads.saw_end (over_read apid u (Fault fault) refl reads.ends.0).0 reads.ends.1 in
+    let is : fault ≡ f = cc in
+    ap (verdict apid) same ∙ reads.ends.0 ∙ ap (λ f. Some (Ok (Fault f))) is

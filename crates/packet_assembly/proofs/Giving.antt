@@ -1,0 +1,57 @@
+-- An octet of a text that is given.
+use Rattle.std.proofs.Common.{◌≡◌, ◌<◌, ◌+◌, ℕ, List, [], ◌∷◌, length, drop, get_or, refl, sym, ap, subst, ◌∙◌, arith, add-one, length-drop, drop-cons}
+use Rattle.std.specs.Prelude.{true, Option, None, Some, Ok}
+use Rattle.std.specs.Option.{option_map}
+use Rattle.bit_pipe.specs.Sources.{Tail, Comes}
+use Rattle.port_122.specs.Outside.{Outside}
+use Rattle.packet_assembly.specs.Assembling.{Assembling}
+use Rattle.packet_assembly.specs.Segments.{GoesOn}
+use Rattle.packet_assembly.specs.Tails.{text_tail, told_tail}
+use Rattle.packet_assembly.specs.Texts.{Hears, TakesOctet}
+use Rattle.packet_assembly.proofs.TailSteps.{unheld_tail, comes_then}
+
+-- one octet less waits
+abbrev with_octet : ℕ → Assembling → Assembling
+with_octet octet b = record b { text = octet ∷ b.text }
+
+tails_differ : (b : Assembling) (octet : ℕ) (o : Option (List ℕ)) → b.held ≡ None →
+    Comes (option_map (text_tail (with_octet octet b)) o) (option_map (text_tail b) o) (octet ∷ [])
+tails_differ b octet None unheld = tt
+tails_differ b octet (Some rest) unheld =
+    let e = unheld_tail (with_octet octet b) rest unheld in
+    let f = unheld_tail b rest unheld in
+    (ap (λ (t : Tail). t.octets) e ∙ ap (λ (t : Tail). octet ∷ t.octets) (sym f), ap (λ (t : Tail). t.ends) e ∙ sym (ap (λ (t : Tail). t.ends) f))
+
+goes_less : {old new : Outside} {a b : Assembling} (octet : ℕ) → GoesOn old new a (with_octet octet b) → GoesOn old new a b
+goes_less octet g =
+    let p = g.passes in
+    record {
+      passed = g.passed;
+      passes = record {
+        took = p.took;
+        since = p.since;
+        octets_are = p.octets_are;
+        packets_are = p.packets_are;
+        apid = p.apid;
+        cap = p.cap;
+        taken = p.taken;
+        state = p.state;
+        count = p.count;
+      };
+      still = g.still;
+    }
+
+pub gives_octet : {old new : Outside} {a b c : Assembling} (octet : ℕ) → Hears old new a b (Ok true) → b ≡ with_octet octet c → octet < 256 → TakesOctet old new a c (Ok (Some octet))
+gives_octet {old = old} {new = new} {a = a} {b = b} {c = c} octet heard is small =
+    let h : Hears old new a (with_octet octet c) (Ok true) = subst (λ b. Hears old new a b (Ok true)) is heard in
+    record {
+      goes = goes_less octet h.goes;
+      silent = h.silent;
+      ends = (comes_then (told_tail old a) (told_tail new (with_octet octet c)) (told_tail new c) [] (octet ∷ []) h.comes (tails_differ c octet new.rest h.unheld), small);
+    }
+
+-- the octet that waits first
+pub waits_first : (text : List ℕ) (next : ℕ) → 0 < length (drop next text) → drop next text ≡ get_or text next 0 ∷ drop (next + 1) text
+waits_first text next some =
+    let within : next < length text = omega (arith, some, length-drop next text) in
+    rw (add-one, drop-cons text next 0) refl

@@ -1,0 +1,148 @@
+-- A text that goes on, packet by packet.
+use Rattle.std.proofs.Common.{◌≡◌, ◌<◌, [], ◌∷◌, length, refl, sym, ap, ◌∙◌}
+use Rattle.std.specs.Prelude.{true, false, is_some, Option, None, Some, Ok, Err}
+use Rattle.std.proofs.lemmas.Bool.{false≢true}
+use Rattle.bit_pipe.specs.declared.fault.InFault.{InFault}
+use Rattle.bit_pipe.specs.declared.fault.InFault.TheVariants.{ReadFault, LongInput, Broken}
+use Rattle.bit_pipe.specs.Sources.{Plainly, TooLong, InPieces}
+use Rattle.port_122.specs.Outside.{Outside}
+use Rattle.port_122.proofs.Stretches.{since_start, rose_since, loses_start}
+use Rattle.packet_assembly.specs.declared.note.Passed.{Passed}
+use Rattle.packet_assembly.specs.declared.note.SegmentStart.{SegmentStart}
+use Rattle.packet_assembly.specs.Assembling.{Assembling, Passes, StaysAt, StaysOpen, is_closed, last_index}
+use Rattle.packet_assembly.specs.Notes.{PassesNext}
+use Rattle.packet_assembly.specs.Segments.{GoesOn}
+use Rattle.packet_assembly.specs.Passing.{goes_nowhere, goes_both}
+use Rattle.packet_assembly.specs.Tails.{told_tail}
+use Rattle.packet_assembly.specs.Texts.{ComesSo, FailsSo, Hears, Silent}
+use Rattle.packet_assembly.proofs.Unhearing.{Quiet, quiet_nothing, quiet_then, quiet_more}
+use Rattle.packet_assembly.proofs.KeptPackets.{none_first, stays}
+use Rattle.packet_assembly.proofs.OneStep.{NoneOn, FailsStep, one_on, end_on, fail_on}
+use Rattle.packet_assembly.proofs.TailSteps.{tail_broken, tail_goes_on, tail_same, tail_ended, tail_long, comes_none, over_told, comes_then}
+
+-- packets were passed within a text, and no octet of it was given
+pub record Heard (old new : Outside) (a b : Assembling) : Type 0 where
+  pub goes : GoesOn old new a b
+  pub quiet : Quiet old new a b
+  pub comes : ComesSo old new a b []
+  pub unheld : b.held ≡ None
+
+comes_same : (p : Outside) (a : Assembling) → ComesSo p p a a []
+comes_same p a = comes_none p p a a [] (loses_start p.rest) (λ rest is. refl)
+
+pub heard_nothing : (p : Outside) (a : Assembling) → a.held ≡ None → Heard p p a a
+heard_nothing p a unheld = record { goes = goes_nowhere p a; quiet = quiet_nothing p a unheld; comes = comes_same p a; unheld = unheld }
+
+pub not_some : (o : Option SegmentStart) → is_some o ≡ false → o ≡ None
+not_some None e = refl
+not_some (Some start) e = absurd (false≢true (sym e))
+
+-- another segment was begun before
+pub heard_held : (p : Outside) (a : Assembling) → is_some a.held ≡ true → Hears p p a a (Err Broken)
+heard_held p a held = record {
+  goes = goes_nowhere p a;
+  silent = record { took = []; asks = since_start p _ };
+  comes = comes_same p a;
+  unheld = tt;
+  ends = over_told p a InPieces (λ rest is. rw held refl);
+}
+
+-- the text is over
+pub heard_over : {old new : Outside} {a b : Assembling} → Heard old new a b → b.text ≡ [] → is_closed b.state.last ≡ true → Hears old new a b (Ok false)
+heard_over {new = new} {b = b} x empty closed = record {
+  goes = x.goes;
+  silent = record { took = x.quiet.took; asks = x.quiet.asks };
+  comes = x.comes;
+  unheld = x.unheld;
+  ends = over_told new b Plainly (λ rest is. rw (x.unheld, empty, closed) refl);
+}
+
+-- octets wait
+pub heard_some : {old new : Outside} {a b : Assembling} → Heard old new a b → 0 < length b.text → Hears old new a b (Ok true)
+heard_some x some = record { goes = x.goes; silent = record { took = x.quiet.took; asks = x.quiet.asks }; comes = x.comes; unheld = x.unheld; ends = some }
+
+open_now : (b : Assembling) → b.held ≡ None → is_closed b.state.last ≡ false → StaysOpen b b.state
+open_now b unheld going = record { unheld = unheld; unclosed = going; same = refl }
+
+-- ---- a packet more
+
+module _ {old mid new : Outside} {a b c : Assembling} {told : Passed} (x : Heard old mid a b) (empty : b.text ≡ []) (going : is_closed b.state.last ≡ false)
+    (next : PassesNext mid new b c (Ok (Some told))) where
+  pub heard_more : told.start ≡ None → Heard old new a c
+  heard_more none =
+      let one = one_on {P = StaysOpen b} next (open_now b x.unheld going) in
+      let first = none_first b.apid b.state one.packet (sym (ap (λ (t : Passed). t.start) one.told_is) ∙ none) in
+      let same : StaysAt b c.state = ap (λ s. last_index s.last) one.state ∙ stays b.apid b.state one.packet first in
+      let goes : GoesOn mid new b c = record { passed = one.packet ∷ []; passes = one.passes; still = λ e. (x.unheld, same) } in
+      record {
+        goes = goes_both x.goes goes;
+        quiet = quiet_more x.quiet empty going one first;
+        comes = comes_then (told_tail old a) (told_tail mid b) (told_tail new c) [] [] x.comes
+            (comes_none mid new b c one.passes.took one.passes.since.rest (λ rest is. tail_goes_on one rest is x.unheld empty going none));
+        unheld = one.held ∙ x.unheld;
+      }
+
+  -- another segment was begun
+  pub heard_other : (start : SegmentStart) → told.start ≡ Some start → Hears old new a (record c { held = Some start }) (Err Broken)
+  heard_other start some =
+      let one = one_on {P = StaysOpen b} next (open_now b x.unheld going) in
+      let p = one.passes in
+      let passes : Passes (StaysOpen b) mid new b (record c { held = Some start }) (one.packet ∷ []) = record {
+        took = p.took;
+        since = p.since;
+        octets_are = p.octets_are;
+        packets_are = p.packets_are;
+        apid = p.apid;
+        cap = p.cap;
+        taken = p.taken;
+        state = p.state;
+        count = p.count;
+      } in
+      let goes : GoesOn mid new b (record c { held = Some start }) = record { passed = one.packet ∷ []; passes = passes; still = λ e. absurd (let no : Some start ≡ None = e in cc) } in
+      record {
+        goes = goes_both x.goes goes;
+        silent = quiet_then x.quiet empty going p.took one.asks;
+        comes = comes_then (told_tail old a) (told_tail mid b) (told_tail new (record c { held = Some start })) [] [] x.comes
+            (comes_none mid new b (record c { held = Some start }) p.took p.since.rest (λ rest is. tail_broken one rest is x.unheld empty going start some));
+        unheld = tt;
+        ends = over_told new (record c { held = Some start }) InPieces (λ rest is. refl);
+      }
+
+-- ---- no packet
+
+module _ {old mid new : Outside} {a b c : Assembling} (x : Heard old mid a b) (empty : b.text ≡ []) (going : is_closed b.state.last ≡ false) where
+  silent_none : NoneOn (StaysOpen b) mid new b c → Silent old new a
+  silent_none none = quiet_then x.quiet empty going none.passes.took none.asks
+
+  goes_none : NoneOn (StaysOpen b) mid new b c → GoesOn old new a c
+  goes_none none =
+      let goes : GoesOn mid new b c = record { passed = []; passes = none.passes; still = λ e. (x.unheld, ap (λ s. last_index s.last) none.state) } in
+      goes_both x.goes goes
+
+  comes_nothing : NoneOn (StaysOpen b) mid new b c → ComesSo old new a c []
+  comes_nothing none =
+      comes_then (told_tail old a) (told_tail mid b) (told_tail new c) [] [] x.comes
+      (comes_none mid new b c none.passes.took none.passes.since.rest (λ rest is. tail_same none rest is x.unheld empty going))
+
+  pub heard_end : PassesNext mid new b c (Ok None) → Hears old new a c (Err Broken)
+  heard_end next =
+      let over = end_on {P = StaysOpen b} next (open_now b x.unheld going) in
+      let none = over.none in
+      record {
+        goes = goes_none none;
+        silent = silent_none none;
+        comes = comes_nothing none;
+        unheld = tt;
+        ends = over_told new c InPieces (λ rest is. tail_ended c rest (none.held ∙ x.unheld) none.text (ap (λ s. is_closed s.last) none.state ∙ going) over.ended);
+      }
+
+  fails_so : (fault : InFault) → NoneOn (StaysOpen b) mid new b c → FailsStep fault mid new c → FailsSo fault old new c
+  fails_so ReadFault none fails = rose_since x.goes.passes.since.faults.reads fails
+  fails_so LongInput none fails =
+      over_told new c TooLong (λ rest is. tail_long c rest (none.held ∙ x.unheld) none.text (ap (λ s. is_closed s.last) none.state ∙ going) fails)
+  fails_so Broken none fails = absurd fails
+
+  pub heard_failed : (fault : InFault) → PassesNext mid new b c (Err fault) → Hears old new a c (Err fault)
+  heard_failed fault next =
+      let over = fail_on {P = StaysOpen b} next (open_now b x.unheld going) in
+      record { goes = goes_none over.none; silent = silent_none over.none; comes = comes_nothing over.none; unheld = tt; ends = fails_so fault over.none over.fails }

@@ -1,0 +1,107 @@
+-- Packets that are kept, and those that begin a segment.
+use Rattle.std.proofs.Common.{◌≡◌, ℕ, List, [], ◌∷◌, ◌++◌, drop, refl, sym, ap, ◌∙◌, arith}
+use Rattle.std.specs.Prelude.{Bool, true, false, not, ◌&&◌, ◌||◌, ◌==◌, if◌then◌else◌, Option, Some, None, Result, Ok, Err}
+use Rattle.std.proofs.lemmas.Bool.{false≢true}
+use Rattle.std.proofs.lemmas.Bool.Decides.{nat_tests}
+use Rattle.base_122.specs.declared.geometry.Geometry.{Geometry}
+use Rattle.segment_defs.specs.declared.head.SegmentHead.{SegmentHead}
+use Rattle.segment_defs.specs.declared.fault.HeadFault.{HeadFault}
+use Rattle.segment_defs.specs.Reading.{head_read}
+use Rattle.packet_defs.specs.declared.ancillary.Ancillary.{Ancillary}
+use Rattle.packet_defs.specs.Reading.{flags_in, ancillary_in, text_in}
+use Rattle.stream_defs.specs.declared.fate.Fate.TheVariants.{Kept}
+use Rattle.stream_defs.specs.declared.fate.FateState.{FateState}
+use Rattle.stream_defs.specs.declared.fate.LastPart.{LastPart}
+use Rattle.stream_defs.specs.Agreement.{head_refusal}
+use Rattle.stream_defs.specs.Fates.{fate, after, after_all, is_kept, begins, follows}
+use Rattle.stream_defs.proofs.FateLaws.{after_as_kept, after_as_other}
+use Rattle.stream_defs.proofs.KeptOrder.{is_kept_so, kept_tests, or_second}
+use Rattle.packet_assembly.specs.declared.note.SegmentStart.{SegmentStart}
+use Rattle.packet_assembly.specs.Assembling.{is_first, last_index, text_after, Starts, BeginsNone}
+use Rattle.packet_assembly.specs.Judging.{ok_of, head_told}
+use Rattle.packet_assembly.specs.Notes.{head_octets, start_of, text_brought, start_brought}
+
+-- ---- the first part
+
+-- whether a kept packet begins a segment
+start_by : (standing : Option Geometry) (a : Ancillary) (text : List ℕ) (b : Bool) (r : Result SegmentHead HeadFault) →
+    (if b then head_refusal standing a r else None) ≡ None → start_of a (if b then ok_of r else None) ≡ None → b ≡ false
+start_by standing a text true (Ok head) good none = absurd cc
+start_by standing a text true (Err fault) good none = absurd cc
+start_by standing a text false r good none = refl
+
+pub none_first : (apid : ℕ) (s : FateState) (packet : List ℕ) → start_brought apid s packet ≡ None → is_first apid s packet ≡ false
+unfolding start_brought
+none_first apid s packet none = by_kept (is_kept (fate apid s packet)) refl
+  where
+    by_kept : (b : Bool) → is_kept (fate apid s packet) ≡ b → is_first apid s packet ≡ false
+    by_kept false e = rw e refl
+    by_kept true e =
+        let kept = kept_tests apid s packet (is_kept_so (fate apid s packet) e) in
+        let here : start_of (ancillary_in packet) (head_told (ancillary_in packet) (text_in packet)) ≡ None = rw e at none in
+        let part : ((ancillary_in packet).part == 0) ≡ false = start_by s.geometry (ancillary_in packet) (text_in packet) ((ancillary_in packet).part == 0) (head_read (text_in packet)) kept.head here in
+        rw e part
+
+found_by : (a : Ancillary) (start : SegmentStart) (b : Bool) (r : Result SegmentHead HeadFault) → start_of a (if b then ok_of r else None) ≡ Some start →
+    (b ≡ true) × (r ≡ Ok start.head) × (start.ancillary ≡ a) × ((if b then ok_of r else None) ≡ Some start.head)
+found_by a start true (Ok head) e =
+    let same : record { ancillary = a; head = head } ≡ start = cc in
+    let h : head ≡ start.head = ap (λ (x : SegmentStart). x.head) same in
+    (refl, ap Ok h, sym (ap (λ (x : SegmentStart). x.ancillary) same), ap Some h)
+found_by a start true (Err fault) e = absurd cc
+found_by a start false r e = absurd cc
+
+pub record StartsSo (apid : ℕ) (s : FateState) (packet : List ℕ) (start : SegmentStart) : Type 0 where
+  pub starts : Starts apid s packet start
+  pub kept : fate apid s packet ≡ Kept
+  pub part : ((ancillary_in packet).part == 0) ≡ true
+  pub text : text_brought apid s packet ≡ text_after packet start.head
+
+pub some_first : (apid : ℕ) (s : FateState) (packet : List ℕ) (start : SegmentStart) → start_brought apid s packet ≡ Some start → StartsSo apid s packet start
+unfolding start_brought text_brought
+some_first apid s packet start some = by_kept (is_kept (fate apid s packet)) refl
+  where
+    by_kept : (b : Bool) → is_kept (fate apid s packet) ≡ b → StartsSo apid s packet start
+    by_kept false e = absurd (let no : None ≡ Some start = rw e at some in cc)
+    by_kept true e =
+        let here : start_of (ancillary_in packet) (head_told (ancillary_in packet) (text_in packet)) ≡ Some start = rw e at some in
+        let x = found_by (ancillary_in packet) start ((ancillary_in packet).part == 0) (head_read (text_in packet)) here in
+        record {
+          starts = record { first = rw e x.0; head_is = x.1; ancillary_is = x.2 };
+          kept = is_kept_so (fate apid s packet) e;
+          part = x.0;
+          text = rw e (ap (λ h. drop (head_octets h) (text_in packet)) x.3);
+        }
+
+-- ---- greater parts
+
+and_first : (a b : Bool) → (a && b) ≡ true → a ≡ true
+and_first true b e = refl
+and_first false b e = absurd (false≢true e)
+
+follows_index : (last : Option LastPart) (a : Ancillary) → follows last a ≡ true → Some a.index ≡ last_index last
+follows_index None a e = absurd (false≢true e)
+follows_index (Some last) a e =
+    let same : (a.index == last.index) ≡ true = and_first (a.index == last.index) _ e in
+    ap Some (equal a.index last.index same)
+  where
+    equal : (m n : ℕ) → (m == n) ≡ true → m ≡ n
+    equal m n e = grind (arith, nat_tests)
+
+-- what a packet that begins no segment leaves is at the same segment
+pub stays : (apid : ℕ) (s : FateState) (packet : List ℕ) → is_first apid s packet ≡ false → last_index (after apid s packet).last ≡ last_index s.last
+stays apid s packet none = by_kept (is_kept (fate apid s packet)) refl
+  where
+    by_kept : (b : Bool) → is_kept (fate apid s packet) ≡ b → last_index (after apid s packet).last ≡ last_index s.last
+    by_kept false e = ap (λ (s : FateState). last_index s.last) (after_as_other apid s packet e)
+    by_kept true e =
+        let is = is_kept_so (fate apid s packet) e in
+        let part : ((ancillary_in packet).part == 0) ≡ false = rw e at none in
+        let placed : (begins (flags_in packet) || not (follows s.last (ancillary_in packet))) ≡ false = rw part at (kept_tests apid s packet is).placed in
+        ap (λ (s : FateState). last_index s.last) (after_as_kept apid s packet is)
+        ∙ follows_index s.last (ancillary_in packet) (or_second (begins (flags_in packet)) (follows s.last (ancillary_in packet)) placed)
+
+pub begins_more : (apid : ℕ) (s : FateState) (packets : List (List ℕ)) (packet : List ℕ) → BeginsNone apid s packets → is_first apid (after_all apid s packets) packet ≡ false →
+    BeginsNone apid s (packets ++ packet ∷ [])
+begins_more apid s [] packet none e = (e, tt)
+begins_more apid s (x ∷ packets) packet none e = (none.0, begins_more apid (after apid s x) packets packet none.1 e)

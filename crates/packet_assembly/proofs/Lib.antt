@@ -1,0 +1,17 @@
+pub mod Verdicts
+pub mod FateSteps
+pub mod HeadLengths
+pub mod Steps
+pub mod KeptPackets
+pub mod Comings
+pub mod Again
+pub mod OneStep
+pub mod Seeking
+pub mod TailSteps
+pub mod Unhearing
+pub mod Hearing
+pub mod Giving
+pub mod TailParts
+pub mod TailReceived
+pub mod Ranges
+pub mod Framings

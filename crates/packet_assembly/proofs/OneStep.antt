@@ -1,0 +1,226 @@
+-- What one read leaves of a stretch: one packet more, or none.
+use Rattle.std.proofs.Common.{◌≡◌, ◌<◌, ◌+◌, ◌-◌, ℕ, List, [], ◌∷◌, ◌++◌, length, take, refl, sym, ap, subst, ◌∙◌, arith, add-zero, length-append}
+use Rattle.std.specs.Prelude.{Bool, true, false, Option, Some, None, Result, Ok, Err}
+use Rattle.std.proofs.lemmas.List.{append-nil, take-append-drop}
+use Rattle.bit_pipe.specs.declared.fault.InFault.{InFault}
+use Rattle.bit_pipe.specs.declared.fault.InFault.TheVariants.{ReadFault, LongInput, Broken}
+use Rattle.port_122.specs.Outside.{Outside, Since, AtEnd, IsUsedUp, Rose}
+use Rattle.port_122.proofs.Stretches.{since_weaker}
+use Rattle.packet_defs.specs.declared.packet.PacketRead.{PacketRead}
+use Rattle.packet_defs.specs.declared.packet.PacketRead.TheVariants.{Mine, Skipped, Ended, Fault}
+use Rattle.packet_defs.specs.Streams.{told_length, begins_packet, first_packet, after_packet, IsPacket, Splits, whole_packets}
+use Rattle.packet_defs.proofs.Fronts.{begins_so, first_is_packet}
+use Rattle.packet_defs.proofs.Splits.{splits_whole}
+use Rattle.stream_defs.specs.declared.fate.FateState.{FateState}
+use Rattle.stream_defs.specs.Fates.{after, after_all}
+use Rattle.space_packets.specs.Intake.{Intake, verdict, answered, text_mine, fed, end_read}
+use Rattle.space_packets.specs.PacketReads.{AsksUndecided, ReadsPacket}
+use Rattle.space_packets.proofs.Intakes.{answered_packet, answered_none}
+use Rattle.space_packets.proofs.StreamReads.{undecided_none}
+use Rattle.packet_assembly.specs.declared.note.Passed.{Passed}
+use Rattle.packet_assembly.specs.Assembling.{Assembling, AsksAt, Passes}
+use Rattle.packet_assembly.specs.Notes.{text_brought, passed_for, stands_after, past_next, at_end, PassesNext}
+use Rattle.packet_assembly.specs.Segments.{StandsEnded, StandsLong}
+use Rattle.packet_assembly.proofs.Verdicts.{mine_read, other_read, over_read, long_read, shorter_past}
+use Rattle.packet_assembly.specs.Tails.{coming, sees_end}
+use Rattle.packet_assembly.proofs.Comings.{coming_on, coming_past, sees_on}
+use Rattle.packet_assembly.proofs.Steps.{passed}
+
+-- octets that can be passed still
+abbrev pub measure : Assembling → ℕ
+measure a = (a.intake.cap - a.intake.taken) + length a.intake.pending
+
+-- octets that begin with no packet have none
+pub none_whole : (octets : List ℕ) → begins_packet octets ≡ false → whole_packets octets ≡ []
+none_whole octets none = let s : Splits octets [] octets = record { octets_are = refl; packets_are = tt; none_left = none } in splits_whole s
+
+-- at each read call the state is still the same
+asks_at : (P : FateState → Type 0) (a : Assembling) (took : List ℕ) → P a.state → (i j : ℕ) → AsksUndecided a.intake took i j → AsksAt P a took i j
+asks_at P a took here i j r =
+    let none = none_whole (a.intake.pending ++ take i took) (undecided_none (fed a.intake (take i took) false) r.0) in
+    (subst P (sym (ap (after_all a.apid a.state) none)) here, r.1)
+
+-- so no read call was entered where a whole packet waited
+abbrev pub AsksNone : Assembling → List ℕ → ℕ → ℕ → Type 0
+AsksNone a took i j = (whole_packets (a.intake.pending ++ take i took) ≡ []) × (j ≡ 0)
+
+asks_none : (a : Assembling) (took : List ℕ) (i j : ℕ) → AsksUndecided a.intake took i j → AsksNone a took i j
+asks_none a took i j r = (none_whole (a.intake.pending ++ take i took) (undecided_none (fed a.intake (take i took) false) r.0), r.1)
+
+-- ---- one packet more
+
+pub record OneOn (P : FateState → Type 0) (old new : Outside) (a b : Assembling) (told : Passed) : Type 0 where
+  pub packet : List ℕ
+  pub passes : Passes P old new a b (packet ∷ [])
+  pub told_is : told ≡ passed a packet
+  pub state : b.state ≡ after a.apid a.state packet
+  pub text : b.text ≡ text_brought a.apid a.state packet
+  pub held : b.held ≡ a.held
+  pub asks : Since old new passes.took [] [] (AsksNone a passes.took)
+  pub less : measure b < measure a
+  pub is_packet : IsPacket packet
+  pub comes : (rest : List ℕ) → new.rest ≡ Some rest → coming a.intake (passes.took ++ rest) ≡ packet ++ coming b.intake rest
+  pub sees : (rest : List ℕ) → new.rest ≡ Some rest → sees_end a.intake (passes.took ++ rest) ≡ sees_end b.intake rest
+
+-- where the end was seen, nothing is left
+nothing_left : (now : Outside) {saw_end : Bool} {left : List ℕ} → now.rest ≡ Some left → (saw_end ≡ true → AtEnd now) → saw_end ≡ true → left ≡ []
+nothing_left now {left = left} told seen e = used_up now.rest told (seen e)
+  where
+    used_up : (o : Option (List ℕ)) → o ≡ Some left → IsUsedUp o → left ≡ []
+    used_up None is over = absurd cc
+    used_up (Some xs) is over = let same : xs ≡ left = cc in sym same ∙ over
+
+packet_on : {P : FateState → Type 0} {old new : Outside} {a b : Assembling} {told : Passed} {read : Result PacketRead InFault} → (reads : ReadsPacket a.apid old new a.intake b.intake read) → P a.state →
+    begins_packet (fed a.intake reads.took reads.saw_end).pending ≡ true → b.intake ≡ answered a.apid (fed a.intake reads.took reads.saw_end) →
+    told ≡ passed a (first_packet (fed a.intake reads.took reads.saw_end).pending) → b ≡ past_next a (fed a.intake reads.took reads.saw_end).pending b.intake →
+    OneOn P old new a b told
+packet_on {P = P} {old = old} {new = new} {a = a} {b = b} {told = told} reads here whole intake is stands =
+    let u = fed a.intake reads.took reads.saw_end in
+    let packet = first_packet u.pending in
+    let next = intake ∙ answered_packet a.apid u whole in
+    let state : b.state ≡ after a.apid a.state packet = ap (λ (b : Assembling). b.state) stands in
+    let rest : b.intake.pending ≡ after_packet u.pending = ap (λ (w : Intake). w.pending) next in
+    let counts : b.packets ≡ a.packets + 1 = ap (λ (b : Assembling). b.packets) stands in
+    let cap : b.intake.cap ≡ a.intake.cap = ap (λ (w : Intake). w.cap) next in
+    let taken : b.intake.taken ≡ a.intake.taken + length reads.took = ap (λ (w : Intake). w.taken) next in
+    record {
+      packet = packet;
+      passes = record {
+        took = reads.took;
+        since = since_weaker reads.since (λ i j le r. asks_at P a reads.took here i j r);
+        octets_are = sym (ap (λ zs. zs ++ b.intake.pending) (append-nil packet) ∙ ap (λ zs. packet ++ zs) rest ∙ take-append-drop (told_length u.pending) u.pending);
+        packets_are = (first_is_packet (begins_so u.pending whole), tt);
+        apid = ap (λ (b : Assembling). b.apid) stands;
+        cap = cap;
+        taken = taken;
+        state = state;
+        count = counts;
+      };
+      told_is = is;
+      state = state;
+      text = ap (λ (b : Assembling). b.text) stands;
+      held = ap (λ (b : Assembling). b.held) stands;
+      asks = since_weaker reads.since (λ i j le r. asks_none a reads.took i j r);
+      less = omega (arith, reads.within, cap, taken, ap (λ zs. length zs) rest, shorter_past u whole, length-append a.intake.pending reads.took);
+      is_packet = first_is_packet (begins_so u.pending whole);
+      comes = λ left told. coming_on a.intake reads.took left reads.saw_end reads.within reads.at_once (nothing_left new told reads.end_seen)
+          ∙ coming_past u (told_length u.pending) (text_mine a.apid packet) left ∙ sym (ap (λ w. packet ++ coming w left) next);
+      sees = λ left told. sees_on a.intake reads.took left reads.saw_end reads.within (nothing_left new told reads.end_seen) reads.end_below ∙ ap (λ w. sees_end w left) (sym next);
+    }
+
+one_by : {P : FateState → Type 0} {old new : Outside} {a b : Assembling} {told : Passed} (read : Result PacketRead InFault) → (reads : ReadsPacket a.apid old new a.intake b.intake read) → P a.state →
+    Ok (Some told) ≡ passed_for a (fed a.intake reads.took reads.saw_end).pending read → b ≡ stands_after a (fed a.intake reads.took reads.saw_end).pending read b.intake →
+    OneOn P old new a b told
+one_by {P = P} {old = old} {new = new} {a = a} {b = b} {told = told} (Ok (Mine head tells)) reads here is stands =
+    packet_on {P = P} {old = old} {new = new} {a = a} {b = b} {told = told} {read = Ok (Mine head tells)} reads here (mine_read a.apid (fed a.intake reads.took reads.saw_end) head tells reads.ends.0).whole reads.ends.1 (cc) stands
+one_by {P = P} {old = old} {new = new} {a = a} {b = b} {told = told} (Ok (Skipped skip)) reads here is stands =
+    packet_on {P = P} {old = old} {new = new} {a = a} {b = b} {told = told} {read = Ok (Skipped skip)} reads here (other_read a.apid (fed a.intake reads.took reads.saw_end) skip reads.ends.0).whole reads.ends.1 (cc) stands
+one_by (Ok Ended) reads here is stands = absurd cc
+one_by (Ok (Fault fault)) reads here is stands = absurd cc
+one_by (Err fault) reads here is stands = absurd cc
+
+pub one_on : {P : FateState → Type 0} {old new : Outside} {a b : Assembling} {told : Passed} → PassesNext old new a b (Ok (Some told)) → P a.state → OneOn P old new a b told
+one_on x here = one_by x.read x.reads here x.answer x.stands
+
+-- ---- none more
+
+pub record NoneOn (P : FateState → Type 0) (old new : Outside) (a b : Assembling) : Type 0 where
+  pub passes : Passes P old new a b []
+  pub state : b.state ≡ a.state
+  pub text : b.text ≡ []
+  pub held : b.held ≡ a.held
+  pub asks : Since old new passes.took [] [] (AsksNone a passes.took)
+  pub comes : (rest : List ℕ) → new.rest ≡ Some rest → coming a.intake (passes.took ++ rest) ≡ coming b.intake rest
+  pub sees : (rest : List ℕ) → new.rest ≡ Some rest → sees_end a.intake (passes.took ++ rest) ≡ sees_end b.intake rest
+
+nothing_on : {P : FateState → Type 0} {old new : Outside} {a b : Assembling} {read : Result PacketRead InFault} (framing : _) → (reads : ReadsPacket a.apid old new a.intake b.intake read) → P a.state →
+    b.intake ≡ fed a.intake reads.took reads.saw_end → b ≡ at_end a b.intake framing → NoneOn P old new a b
+nothing_on {P = P} {new = new} {a = a} {b = b} framing reads here intake stands =
+    let state : b.state ≡ a.state = ap (λ (b : Assembling). b.state) stands in
+    let counts : b.packets ≡ a.packets = ap (λ (b : Assembling). b.packets) stands in
+    record {
+      passes = record {
+        took = reads.took;
+        since = since_weaker reads.since (λ i j le r. asks_at P a reads.took here i j r);
+        octets_are = sym (ap (λ (w : Intake). w.pending) intake);
+        packets_are = tt;
+        apid = ap (λ (b : Assembling). b.apid) stands;
+        cap = ap (λ (w : Intake). w.cap) intake;
+        taken = ap (λ (w : Intake). w.taken) intake;
+        state = state;
+        count = counts ∙ sym (add-zero a.packets);
+      };
+      state = state;
+      text = ap (λ (b : Assembling). b.text) stands;
+      held = ap (λ (b : Assembling). b.held) stands;
+      asks = since_weaker reads.since (λ i j le r. asks_none a reads.took i j r);
+      comes = λ left told. coming_on a.intake reads.took left reads.saw_end reads.within reads.at_once (nothing_left new told reads.end_seen) ∙ ap (λ w. coming w left) (sym intake);
+      sees = λ left told. sees_on a.intake reads.took left reads.saw_end reads.within (nothing_left new told reads.end_seen) reads.end_below ∙ ap (λ w. sees_end w left) (sym intake);
+    }
+
+-- what stands where there is no packet
+pub same_intake : (apid : ℕ) (v w : Intake) (took : List ℕ) (saw_end : Bool) → begins_packet (fed v took saw_end).pending ≡ false → w ≡ answered apid (fed v took saw_end) → w ≡ fed v took saw_end
+same_intake apid v w took saw_end none e = e ∙ answered_none apid (fed v took saw_end) none refl
+
+pub record EndOn (P : FateState → Type 0) (old new : Outside) (a b : Assembling) : Type 0 where
+  pub none : NoneOn P old new a b
+  pub ended : StandsEnded b
+
+end_by : {P : FateState → Type 0} {old new : Outside} {a b : Assembling} (read : Result PacketRead InFault) → (reads : ReadsPacket a.apid old new a.intake b.intake read) → P a.state →
+    Ok None ≡ passed_for a (fed a.intake reads.took reads.saw_end).pending read → b ≡ stands_after a (fed a.intake reads.took reads.saw_end).pending read b.intake → EndOn P old new a b
+end_by (Ok (Mine head tells)) reads here is stands = absurd cc
+end_by (Ok (Skipped skip)) reads here is stands = absurd cc
+end_by {a = a} {b = b} (Ok Ended) reads here is stands =
+    let u = fed a.intake reads.took reads.saw_end in
+    let same = same_intake a.apid a.intake b.intake reads.took reads.saw_end (over_read a.apid u Ended refl reads.ends.0).0 reads.ends.1 in
+    record {
+      none = nothing_on None reads here same stands;
+      ended = ap (λ w. verdict b.apid w) same ∙ ap (λ n. verdict n u) (ap (λ (b : Assembling). b.apid) stands) ∙ reads.ends.0 ∙ ap (λ f. Some (Ok (end_read f))) (sym (ap (λ (b : Assembling). b.framing) stands));
+    }
+end_by {a = a} {b = b} (Ok (Fault fault)) reads here is stands =
+    let u = fed a.intake reads.took reads.saw_end in
+    let same = same_intake a.apid a.intake b.intake reads.took reads.saw_end (over_read a.apid u (Fault fault) refl reads.ends.0).0 reads.ends.1 in
+    record {
+      none = nothing_on (Some fault) reads here same stands;
+      ended = ap (λ w. verdict b.apid w) same ∙ ap (λ n. verdict n u) (ap (λ (b : Assembling). b.apid) stands) ∙ reads.ends.0 ∙ ap (λ f. Some (Ok (end_read f))) (sym (ap (λ (b : Assembling). b.framing) stands));
+    }
+end_by (Err fault) reads here is stands = absurd cc
+
+pub end_on : {P : FateState → Type 0} {old new : Outside} {a b : Assembling} → PassesNext old new a b (Ok None) → P a.state → EndOn P old new a b
+end_on x here = end_by x.read x.reads here x.answer x.stands
+
+-- why none came
+abbrev pub FailsStep : InFault → (old new : Outside) (b : Assembling) → Type 0
+FailsStep ReadFault old new b = Rose old.read_faults new.read_faults
+FailsStep LongInput old new b = StandsLong b
+FailsStep Broken old new b = ⊥
+
+pub record FailOn (P : FateState → Type 0) (old new : Outside) (a b : Assembling) (fault : InFault) : Type 0 where
+  pub none : NoneOn P old new a b
+  pub fails : FailsStep fault old new b
+
+fail_by : {P : FateState → Type 0} {old new : Outside} {a b : Assembling} (fault : InFault) → (reads : ReadsPacket a.apid old new a.intake b.intake (Err fault)) → P a.state →
+    b ≡ at_end a b.intake a.framing → FailOn P old new a b fault
+fail_by {a = a} ReadFault reads here stands = record { none = nothing_on a.framing reads here reads.ends.2 stands; fails = reads.ends.0 }
+fail_by {a = a} {b = b} LongInput reads here stands =
+    let u = fed a.intake reads.took reads.saw_end in
+    let same = same_intake a.apid a.intake b.intake reads.took reads.saw_end (long_read a.apid u LongInput reads.ends.0).none reads.ends.1 in
+    record {
+      none = nothing_on a.framing reads here same stands;
+      fails = ap (λ w. verdict b.apid w) same ∙ ap (λ n. verdict n u) (ap (λ (b : Assembling). b.apid) stands) ∙ reads.ends.0;
+    }
+fail_by {a = a} Broken reads here stands =
+    absurd (let is : Broken ≡ LongInput = (long_read a.apid (fed a.intake reads.took reads.saw_end) Broken reads.ends.0).is in cc)
+
+fail_read : {P : FateState → Type 0} {old new : Outside} {a b : Assembling} {fault : InFault} (read : Result PacketRead InFault) → (reads : ReadsPacket a.apid old new a.intake b.intake read) → P a.state →
+    Err fault ≡ passed_for a (fed a.intake reads.took reads.saw_end).pending read → b ≡ stands_after a (fed a.intake reads.took reads.saw_end).pending read b.intake → FailOn P old new a b fault
+fail_read (Ok (Mine head tells)) reads here is stands = absurd cc
+fail_read (Ok (Skipped skip)) reads here is stands = absurd cc
+fail_read (Ok Ended) reads here is stands = absurd cc
+fail_read (Ok (Fault fault)) reads here is stands = absurd cc
+fail_read {P = P} {old = old} {new = new} {a = a} {b = b} {fault = fault} (Err other) reads here is stands =
+    let same : other ≡ fault = cc in
+    subst (λ f. FailOn P old new a b f) same (fail_by other reads here stands)
+
+pub fail_on : {P : FateState → Type 0} {old new : Outside} {a b : Assembling} {fault : InFault} → PassesNext old new a b (Err fault) → P a.state → FailOn P old new a b fault
+fail_on x here = fail_read x.read x.reads here x.answer x.stands

@@ -1,0 +1,195 @@
+-- What is still to come of a text, before a packet and after it.
+use Rattle.std.proofs.Common.{◌≡◌, ℕ, List, [], ◌∷◌, ◌++◌, refl, sym, ap, ◌∙◌, inl, inr, append_assoc}
+use Rattle.std.specs.Prelude.{Bool, true, false, ◌||◌, ◌==◌, ◌⊎◌, if◌then◌else◌, Option, None, Some, Ok}
+use Rattle.std.specs.Option.{option_map}
+use Rattle.std.proofs.lemmas.List.{append-nil}
+use Rattle.bit_pipe.specs.Sources.{End, Plainly, TooLong, InPieces, Tail, Comes, IsOver}
+use Rattle.port_122.specs.Outside.{Outside, Loses}
+use Rattle.packet_defs.specs.Packets.{joined}
+use Rattle.packet_defs.specs.Reading.{ancillary_in, flags_in, text_in}
+use Rattle.packet_defs.specs.Streams.{has_bad_version, begins_packet, whole_packets, left_over}
+use Rattle.packet_defs.specs.declared.packet.PacketRead.TheVariants.{Ended, Fault}
+use Rattle.packet_defs.specs.declared.packet.Framing.{Framing}
+use Rattle.stream_defs.specs.declared.fate.FateState.{FateState}
+use Rattle.stream_defs.specs.Fates.{fate, after, is_kept, closes}
+use Rattle.stream_defs.proofs.FateLaws.{after_as_kept, after_as_other}
+use Rattle.stream_defs.proofs.KeptOrder.{is_kept_so}
+use Rattle.space_packets.specs.Intake.{Intake, verdict, end_read}
+use Rattle.packet_assembly.specs.declared.note.Passed.{Passed}
+use Rattle.packet_assembly.specs.declared.note.SegmentStart.{SegmentStart}
+use Rattle.packet_assembly.specs.Assembling.{Assembling, is_closed, is_first}
+use Rattle.packet_assembly.specs.Notes.{text_brought}
+use Rattle.packet_assembly.specs.Segments.{StandsEnded, StandsLong}
+use Rattle.packet_assembly.specs.Passing.{whole_after, left_after}
+use Rattle.packet_assembly.specs.Tails.{coming, sees_end, stop_of, in_front, nothing, kept_tail, tail_over, tail_after, text_tail, told_tail}
+use Rattle.packet_assembly.proofs.Verdicts.{over_read, long_read}
+use Rattle.packet_assembly.proofs.KeptPackets.{none_first, some_first}
+use Rattle.packet_assembly.proofs.Comings.{StopsSo, bad_stops, ended_stops, long_stops}
+use Rattle.packet_assembly.proofs.OneStep.{OneOn, NoneOn}
+
+-- what comes of a text that is open, where no octet of it waits
+pub open_tail : (a : Assembling) (rest : List ℕ) → a.held ≡ None → a.text ≡ [] → is_closed a.state.last ≡ false →
+    text_tail a rest ≡ tail_over a.apid a.state (whole_packets (coming a.intake rest)) (stop_of a.intake rest)
+open_tail a rest unheld empty going = rw (unheld, empty, going) refl
+
+-- octets of a text that wait, and what comes after them
+pub unheld_tail : (a : Assembling) (rest : List ℕ) → a.held ≡ None → text_tail a rest ≡ in_front a.text (tail_after a rest)
+unheld_tail a rest unheld = rw unheld refl
+
+over_one : (apid : ℕ) (s : FateState) (packet : List ℕ) (packets : List (List ℕ)) (stop : End) →
+    tail_over apid s (packet ∷ packets) stop
+    ≡ (if is_kept (fate apid s packet) then kept_tail packet (tail_over apid (after apid s packet) packets stop) else tail_over apid (after apid s packet) packets stop)
+unfolding tail_over
+over_one apid s packet packets stop = refl
+
+over_none : (apid : ℕ) (s : FateState) (stop : End) → tail_over apid s [] stop ≡ nothing stop
+unfolding tail_over
+over_none apid s stop = refl
+
+stop_same : (v w : Intake) (before rest : List ℕ) → left_over (coming v before) ≡ left_over (coming w rest) → sees_end v before ≡ sees_end w rest → stop_of v before ≡ stop_of w rest
+stop_same v w before rest left sees =
+    ap (λ zs. if has_bad_version zs || sees_end v before then InPieces else TooLong) left
+    ∙ ap (λ (b : Bool). if has_bad_version (left_over (coming w rest)) || b then InPieces else TooLong) sees
+
+no_text : (apid : ℕ) (s : FateState) (packet : List ℕ) → is_kept (fate apid s packet) ≡ false → text_brought apid s packet ≡ []
+unfolding text_brought
+no_text apid s packet e = rw e refl
+
+text_greater : (apid : ℕ) (s : FateState) (packet : List ℕ) → is_kept (fate apid s packet) ≡ true → ((ancillary_in packet).part == 0) ≡ false → text_brought apid s packet ≡ text_in packet
+unfolding text_brought
+text_greater apid s packet e part = rw (e, part) refl
+
+into : (c : Bool) (text : List ℕ) (later : Tail) → (if c then in_front text (nothing Plainly) else in_front text later) ≡ in_front text (if c then nothing Plainly else later)
+into true text later = refl
+into false text later = refl
+
+-- ---- a packet more
+
+module _ {P : FateState → Type 0} {old new : Outside} {a b : Assembling} {told : Passed} (one : OneOn P old new a b told) (rest : List ℕ) (is : new.rest ≡ Some rest)
+    (unheld : a.held ≡ None) (empty : a.text ≡ []) (going : is_closed a.state.last ≡ false) where
+  abbrev before : List ℕ
+  before = one.passes.took ++ rest
+
+  abbrev later : Tail
+  later = tail_over b.apid b.state (whole_packets (coming b.intake rest)) (stop_of b.intake rest)
+
+  split : coming a.intake before ≡ joined (one.packet ∷ []) ++ coming b.intake rest
+  split = one.comes rest is ∙ ap (λ zs. zs ++ coming b.intake rest) (sym (append-nil one.packet))
+
+  wholes : whole_packets (coming a.intake before) ≡ one.packet ∷ whole_packets (coming b.intake rest)
+  wholes = ap whole_packets split ∙ whole_after (one.packet ∷ []) (coming b.intake rest) (one.is_packet, tt)
+
+  stops : stop_of a.intake before ≡ stop_of b.intake rest
+  stops = stop_same a.intake b.intake before rest (ap left_over split ∙ left_after (one.packet ∷ []) (coming b.intake rest) (one.is_packet, tt)) (one.sees rest is)
+
+  later_is : tail_over a.apid (after a.apid a.state one.packet) (whole_packets (coming b.intake rest)) (stop_of b.intake rest) ≡ later
+  later_is =
+      ap (λ s. tail_over a.apid s (whole_packets (coming b.intake rest)) (stop_of b.intake rest)) (sym one.state)
+      ∙ ap (λ n. tail_over n b.state (whole_packets (coming b.intake rest)) (stop_of b.intake rest)) (sym one.passes.apid)
+
+  tail_is : text_tail a before ≡ (if is_kept (fate a.apid a.state one.packet) then kept_tail one.packet later else later)
+  tail_is =
+      open_tail a before unheld empty going
+      ∙ ap (λ ps. tail_over a.apid a.state ps (stop_of a.intake before)) wholes
+      ∙ ap (tail_over a.apid a.state (one.packet ∷ whole_packets (coming b.intake rest))) stops
+      ∙ over_one a.apid a.state one.packet (whole_packets (coming b.intake rest)) (stop_of b.intake rest)
+      ∙ ap (λ t. if is_kept (fate a.apid a.state one.packet) then kept_tail one.packet t else t) later_is
+
+  -- another segment was begun
+  pub tail_broken : (start : SegmentStart) → told.start ≡ Some start → text_tail a before ≡ nothing InPieces
+  tail_broken start some =
+      let x = some_first a.apid a.state one.packet start (sym (ap (λ (t : Passed). t.start) one.told_is) ∙ some) in
+      tail_is ∙ ap (λ f. if is_kept f then kept_tail one.packet later else later) x.kept
+      ∙ ap (λ (b : Bool). if b then nothing InPieces else (if closes (flags_in one.packet) then in_front (text_in one.packet) (nothing Plainly) else in_front (text_in one.packet) later)) x.part
+
+  -- none was begun
+  pub tail_goes_on : told.start ≡ None → text_tail a before ≡ text_tail b rest
+  tail_goes_on none = by_kept (is_kept (fate a.apid a.state one.packet)) refl
+    where
+      by_kept : (k : Bool) → is_kept (fate a.apid a.state one.packet) ≡ k → text_tail a before ≡ text_tail b rest
+      by_kept false e =
+          let same : b.state ≡ a.state = one.state ∙ after_as_other a.apid a.state one.packet e in
+          tail_is ∙ ap (λ (k : Bool). if k then kept_tail one.packet later else later) e
+          ∙ sym (open_tail b rest (one.held ∙ unheld) (one.text ∙ no_text a.apid a.state one.packet e) (ap (λ s. is_closed s.last) same ∙ going))
+      by_kept true e =
+          let kept = is_kept_so (fate a.apid a.state one.packet) e in
+          let first : is_first a.apid a.state one.packet ≡ false = none_first a.apid a.state one.packet (sym (ap (λ (t : Passed). t.start) one.told_is) ∙ none) in
+          let part : ((ancillary_in one.packet).part == 0) ≡ false = rw e at first in
+          let text : b.text ≡ text_in one.packet = one.text ∙ text_greater a.apid a.state one.packet e part in
+          let closed : is_closed b.state.last ≡ closes (flags_in one.packet) = ap (λ s. is_closed s.last) (one.state ∙ after_as_kept a.apid a.state one.packet kept) in
+          tail_is ∙ ap (λ (k : Bool). if k then kept_tail one.packet later else later) e
+          ∙ ap (λ (b : Bool). if b then nothing InPieces else (if closes (flags_in one.packet) then in_front (text_in one.packet) (nothing Plainly) else in_front (text_in one.packet) later)) part
+          ∙ into (closes (flags_in one.packet)) (text_in one.packet) later
+          ∙ ap (λ (c : Bool). in_front (text_in one.packet) (if c then nothing Plainly else later)) (sym closed)
+          ∙ ap (λ t. in_front t (tail_after b rest)) (sym text)
+          ∙ sym (unheld_tail b rest (one.held ∙ unheld))
+
+      into : (c : Bool) (text : List ℕ) → (if c then in_front text (nothing Plainly) else in_front text later) ≡ in_front text (if c then nothing Plainly else later)
+      into true text = refl
+      into false text = refl
+
+-- ---- no packet
+
+pub tail_same : {P : FateState → Type 0} {old new : Outside} {a b : Assembling} → (x : NoneOn P old new a b) → (rest : List ℕ) → new.rest ≡ Some rest →
+    a.held ≡ None → a.text ≡ [] → is_closed a.state.last ≡ false → text_tail a (x.passes.took ++ rest) ≡ text_tail b rest
+tail_same {a = a} {b = b} x rest is unheld empty going =
+    let before = x.passes.took ++ rest in
+    let stops : stop_of a.intake before ≡ stop_of b.intake rest = stop_same a.intake b.intake before rest (ap left_over (x.comes rest is)) (x.sees rest is) in
+    open_tail a before unheld empty going
+    ∙ ap (λ zs. tail_over a.apid a.state (whole_packets zs) (stop_of a.intake before)) (x.comes rest is)
+    ∙ ap (tail_over a.apid a.state (whole_packets (coming b.intake rest))) stops
+    ∙ ap (λ s. tail_over a.apid s (whole_packets (coming b.intake rest)) (stop_of b.intake rest)) (sym x.state)
+    ∙ ap (λ n. tail_over n b.state (whole_packets (coming b.intake rest)) (stop_of b.intake rest)) (sym x.passes.apid)
+    ∙ sym (open_tail b rest (x.held ∙ unheld) x.text (ap (λ s. is_closed s.last) x.state ∙ going))
+
+stopped : (b : Assembling) (rest : List ℕ) (stop : End) → b.held ≡ None → b.text ≡ [] → is_closed b.state.last ≡ false → StopsSo b.intake rest stop → text_tail b rest ≡ nothing stop
+stopped b rest stop unheld empty going s =
+    open_tail b rest unheld empty going ∙ ap (λ ps. tail_over b.apid b.state ps (stop_of b.intake rest)) s.none
+    ∙ over_none b.apid b.state (stop_of b.intake rest) ∙ ap nothing s.stops
+
+pub tail_ended : (b : Assembling) (rest : List ℕ) → b.held ≡ None → b.text ≡ [] → is_closed b.state.last ≡ false → StandsEnded b → text_tail b rest ≡ nothing InPieces
+tail_ended b rest unheld empty going ended = by_framing b.framing ended
+  where
+    by_end : (begins_packet b.intake.pending ≡ false) × ((has_bad_version b.intake.pending ≡ true) ⊎ (b.intake.ended ≡ true)) → text_tail b rest ≡ nothing InPieces
+    by_end x = stopped b rest InPieces unheld empty going (either x.0 x.1)
+      where
+        either : begins_packet b.intake.pending ≡ false → (has_bad_version b.intake.pending ≡ true) ⊎ (b.intake.ended ≡ true) → StopsSo b.intake rest InPieces
+        either none (inl bad) = bad_stops b.intake rest bad
+        either none (inr over) = ended_stops b.intake rest none over
+
+    by_framing : (f : Option Framing) → verdict b.apid b.intake ≡ Some (Ok (end_read f)) → text_tail b rest ≡ nothing InPieces
+    by_framing None e = by_end (over_read b.apid b.intake Ended refl e)
+    by_framing (Some fault) e = by_end (over_read b.apid b.intake (Fault fault) refl e)
+
+pub tail_long : (b : Assembling) (rest : List ℕ) → b.held ≡ None → b.text ≡ [] → is_closed b.state.last ≡ false → StandsLong b → text_tail b rest ≡ nothing TooLong
+tail_long b rest unheld empty going long = stopped b rest TooLong unheld empty going (long_stops b.intake rest (long_read b.apid b.intake _ long))
+
+-- ---- where the port tells what is left
+
+pub comes_none : (old new : Outside) (a b : Assembling) (took : List ℕ) → Loses old.rest new.rest took → ((rest : List ℕ) → new.rest ≡ Some rest → text_tail a (took ++ rest) ≡ text_tail b rest) →
+    Comes (told_tail old a) (told_tail new b) []
+comes_none old new a b took loses same = by_rest old.rest new.rest loses same
+  where
+    by_rest : (o n : Option (List ℕ)) → Loses o n took → ((rest : List ℕ) → n ≡ Some rest → text_tail a (took ++ rest) ≡ text_tail b rest) →
+        Comes (option_map (text_tail a) o) (option_map (text_tail b) n) []
+    by_rest None None l f = tt
+    by_rest None (Some now) l f = absurd l
+    by_rest (Some was) None l f = absurd l
+    by_rest (Some was) (Some now) l f =
+        let e : text_tail a was ≡ text_tail b now = ap (text_tail a) l ∙ f now refl in
+        (ap (λ (t : Tail). t.octets) e, ap (λ (t : Tail). t.ends) e)
+
+pub over_told : (now : Outside) (b : Assembling) (ends : End) → ((rest : List ℕ) → now.rest ≡ Some rest → text_tail b rest ≡ nothing ends) → IsOver (told_tail now b) ends
+over_told now b ends is = by_rest now.rest is
+  where
+    by_rest : (o : Option (List ℕ)) → ((rest : List ℕ) → o ≡ Some rest → text_tail b rest ≡ nothing ends) → IsOver (option_map (text_tail b) o) ends
+    by_rest None f = tt
+    by_rest (Some rest) f = let e = f rest refl in (ap (λ (t : Tail). t.octets) e, ap (λ (t : Tail). t.ends) e)
+
+pub comes_then : (x y z : Option Tail) (xs ys : List ℕ) → Comes x y xs → Comes y z ys → Comes x z (xs ++ ys)
+comes_then None None None xs ys p q = tt
+comes_then None None (Some z) xs ys p q = absurd q
+comes_then None (Some y) z xs ys p q = absurd p
+comes_then (Some x) None z xs ys p q = absurd p
+comes_then (Some x) (Some y) None xs ys p q = absurd q
+comes_then (Some x) (Some y) (Some z) xs ys p q = (p.0 ∙ ap (λ zs. xs ++ zs) q.0 ∙ sym (append_assoc xs ys z.octets), p.1 ∙ q.1)

@@ -1,0 +1,100 @@
+-- No call reads where an octet of a text, its end or its break is at hand.
+use Rattle.std.proofs.Common.{◌≡◌, ℕ, List, [], ◌∷◌, ◌++◌, take, refl, sym, ap, subst, ◌∙◌, arith, append_assoc}
+use Rattle.std.specs.Prelude.{false, None}
+use Rattle.std.specs.List.{AllByRecursion}
+use Rattle.std.proofs.lemmas.List.{append-nil, take-append-le}
+use Rattle.std.proofs.Math.Seq.{take-append-add}
+use Rattle.port_122.specs.Outside.{Outside, Since}
+use Rattle.port_122.proofs.Stretches.{since_start, since_then, since_weaker, each_of_both}
+use Rattle.packet_defs.specs.Packets.{joined}
+use Rattle.packet_defs.specs.Streams.{IsPacket, whole_packets}
+use Rattle.packet_defs.proofs.Joins.{joined-append}
+use Rattle.stream_defs.proofs.ChosenLaws.{after_all-append}
+use Rattle.stream_defs.specs.declared.fate.FateState.{FateState}
+use Rattle.stream_defs.specs.Fates.{after, after_all}
+use Rattle.packet_assembly.specs.declared.note.Passed.{Passed}
+use Rattle.packet_assembly.specs.Assembling.{Assembling, is_first, is_closed}
+use Rattle.packet_assembly.specs.Notes.{text_brought}
+use Rattle.packet_assembly.specs.Passing.{whole_after}
+use Rattle.packet_assembly.specs.Texts.{BringsNone, Unheard, AsksUnheard, Silent}
+use Rattle.packet_assembly.proofs.OneStep.{AsksNone, OneOn}
+
+pub brings_more : (apid : ℕ) (s : FateState) (packets : List (List ℕ)) (packet : List ℕ) → BringsNone apid s packets → text_brought apid (after_all apid s packets) packet ≡ [] →
+    is_first apid (after_all apid s packets) packet ≡ false → is_closed (after apid (after_all apid s packets) packet).last ≡ false → BringsNone apid s (packets ++ packet ∷ [])
+brings_more apid s [] packet none text first closed = (text, first, closed, tt)
+brings_more apid s (x ∷ packets) packet none text first closed = (none.0, none.1, none.2, brings_more apid (after apid s x) packets packet none.3 text first closed)
+
+-- packets that were passed; where they leave the text open and no octet of it waits, no read call was entered where one was at hand
+pub record Quiet (old new : Outside) (a b : Assembling) : Type 0 where
+  pub took : List ℕ
+  pub passed : List (List ℕ)
+  pub octets_are : a.intake.pending ++ took ≡ joined passed ++ b.intake.pending
+  pub packets_are : AllByRecursion IsPacket passed
+  pub apid : b.apid ≡ a.apid
+  pub state : b.state ≡ after_all a.apid a.state passed
+  pub asks : Since old new took [] [] (AsksUnheard a took)
+  pub unheard : b.text ≡ [] → is_closed b.state.last ≡ false → Unheard a passed
+
+pub quiet_nothing : (p : Outside) (a : Assembling) → a.held ≡ None → Quiet p p a a
+quiet_nothing p a unheld = record {
+  took = [];
+  passed = [];
+  octets_are = append-nil a.intake.pending;
+  packets_are = tt;
+  apid = refl;
+  state = refl;
+  asks = since_start p _;
+  unheard = λ empty going. record { unheld = unheld; empty = empty; unclosed = going; none = tt };
+}
+
+-- a stretch whose packets left the text open, and then one in which no packet came before a read
+unheard_then : {old mid new : Outside} {a b : Assembling} → (q : Quiet old mid a b) → (more : List ℕ) → Unheard a q.passed → Since mid new more [] [] (AsksNone b more) →
+    Since old new (q.took ++ more) [] [] (AsksUnheard a (q.took ++ more))
+unheard_then {old = old} {mid = mid} {a = a} {b = b} q more unheard asks =
+    let took = q.took ++ more in
+    let first : Since old mid q.took [] [] (AsksUnheard a took) =
+    since_weaker q.asks (λ i j le r. (subst (λ zs. Unheard a (whole_packets (a.intake.pending ++ zs))) (sym (take-append-le i q.took more le)) r.0, r.1)) in
+    let here = λ (i : ℕ) (none : whole_packets (b.intake.pending ++ take i more) ≡ []).
+    ap (λ zs. whole_packets (a.intake.pending ++ zs)) (take-append-add q.took more i)
+    ∙ ap whole_packets (sym (append_assoc a.intake.pending q.took (take i more)) ∙ ap (λ zs. zs ++ take i more) q.octets_are ∙ append_assoc (joined q.passed) b.intake.pending (take i more))
+    ∙ whole_after q.passed (b.intake.pending ++ take i more) q.packets_are
+    ∙ ap (λ ps. q.passed ++ ps) none ∙ append-nil q.passed in
+    since_then first asks (λ i j le r. (subst (λ ps. Unheard a ps) (sym (here i r.0)) unheard, omega (arith, r.1)))
+
+-- a read that found no packet
+pub quiet_then : {old mid new : Outside} {a b : Assembling} → (q : Quiet old mid a b) → b.text ≡ [] → is_closed b.state.last ≡ false → (more : List ℕ) → Since mid new more [] [] (AsksNone b more) →
+    Silent old new a
+quiet_then q empty going more asks = record { took = q.took ++ more; asks = unheard_then q more (q.unheard empty going) asks }
+
+-- a packet that leaves the text as it was
+quiet_packet : {old mid : Outside} {a b : Assembling} → (q : Quiet old mid a b) → Unheard a q.passed → (packet : List ℕ) → text_brought b.apid b.state packet ≡ [] →
+    is_first b.apid b.state packet ≡ false → is_closed (after b.apid b.state packet).last ≡ false → Unheard a (q.passed ++ packet ∷ [])
+quiet_packet {a = a} {b = b} q u packet text first closed =
+    let s = after_all a.apid a.state q.passed in
+    record {
+      unheld = u.unheld;
+      empty = u.empty;
+      unclosed = u.unclosed;
+      none = brings_more a.apid a.state q.passed packet u.none
+          (subst (λ n. text_brought n s packet ≡ []) q.apid (subst (λ s. text_brought b.apid s packet ≡ []) q.state text))
+          (subst (λ n. is_first n s packet ≡ false) q.apid (subst (λ s. is_first b.apid s packet ≡ false) q.state first))
+          (subst (λ n. is_closed (after n s packet).last ≡ false) q.apid (subst (λ s. is_closed (after b.apid s packet).last ≡ false) q.state closed));
+    }
+
+-- a packet more that begins no segment
+pub quiet_more : {P : FateState → Type 0} {old mid new : Outside} {a b c : Assembling} {told : Passed} → (q : Quiet old mid a b) → b.text ≡ [] → is_closed b.state.last ≡ false → (one : OneOn P mid new b c told) →
+    is_first b.apid b.state one.packet ≡ false → Quiet old new a c
+quiet_more {a = a} {b = b} {c = c} q empty going one first =
+    let u = q.unheard empty going in
+    record {
+      took = q.took ++ one.passes.took;
+      passed = q.passed ++ one.packet ∷ [];
+      octets_are = sym (append_assoc a.intake.pending q.took one.passes.took) ∙ ap (λ zs. zs ++ one.passes.took) q.octets_are ∙ append_assoc (joined q.passed) b.intake.pending one.passes.took
+          ∙ ap (λ zs. joined q.passed ++ zs) one.passes.octets_are ∙ sym (append_assoc (joined q.passed) (joined (one.packet ∷ [])) c.intake.pending)
+          ∙ ap (λ zs. zs ++ c.intake.pending) (sym (joined-append q.passed (one.packet ∷ [])));
+      packets_are = each_of_both IsPacket q.passed (one.packet ∷ []) q.packets_are (one.is_packet, tt);
+      apid = one.passes.apid ∙ q.apid;
+      state = one.state ∙ ap (λ n. after n b.state one.packet) q.apid ∙ ap (λ s. after a.apid s one.packet) q.state ∙ sym (after_all-append a.apid a.state q.passed (one.packet ∷ []));
+      asks = unheard_then q one.passes.took u one.asks;
+      unheard = λ no_text open_still. quiet_packet q u one.packet (sym one.text ∙ no_text) first (sym (ap (λ s. is_closed s.last) one.state) ∙ open_still);
+    }

@@ -1,0 +1,162 @@
+-- What a reader's answers tell of the octets that decided them.
+use Rattle.std.proofs.Common.{◌≡◌, ◌≤◌, ◌+◌, ℕ, List, [], ◌∷◌, length, refl, sym, ap, subst, ◌∙◌, arith, inl, inr, length-drop}
+use Rattle.std.specs.Prelude.{Bool, true, false, Option, Some, None, Result, Ok, Err, ◌⊎◌, ◌==◌}
+use Rattle.std.proofs.lemmas.Bool.{false≢true}
+use Rattle.std.proofs.lemmas.Bool.Decides.{nat_tests}
+use Rattle.bit_pipe.specs.declared.fault.InFault.{InFault}
+use Rattle.bit_pipe.specs.declared.fault.InFault.TheVariants.{ReadFault, LongInput, Broken}
+use Rattle.port_122.specs.Outside.{Outside}
+use Rattle.packet_defs.specs.declared.ancillary.Ancillary.{Ancillary}
+use Rattle.packet_defs.specs.declared.packet.PacketHead.{PacketHead}
+use Rattle.packet_defs.specs.declared.packet.PacketRead.{PacketRead}
+use Rattle.packet_defs.specs.declared.packet.PacketRead.TheVariants.{Mine, Skipped, Ended, Fault}
+use Rattle.packet_defs.specs.declared.packet.Framing.{Framing}
+use Rattle.packet_defs.specs.declared.packet.Skip.{Skip}
+use Rattle.packet_defs.specs.Tests.{when, first_of}
+use Rattle.packet_defs.specs.Reading.{packet_read, read_as, skip_of, head_in, ancillary_in}
+use Rattle.packet_defs.specs.Streams.{has_bad_version, told_length, begins_packet, first_packet, after_packet}
+use Rattle.packet_defs.proofs.Fronts.{begins_so, told_least}
+use Rattle.space_packets.specs.Intake.{Intake, end_read, verdict, answered}
+use Rattle.space_packets.specs.PacketReads.{EndsPacket}
+use Rattle.space_packets.proofs.Intakes.{no_begin}
+
+-- ---- the test that decided
+
+abbrev first_answer : (a b c d : Bool) → Framing → PacketRead → Option Framing → Option (Result PacketRead InFault)
+first_answer a b c d f y o = first_of (when a (Ok (Fault f)) ∷ when b (Ok y) ∷ when c (Ok (end_read o)) ∷ when d (Err LongInput) ∷ [])
+
+mine_by : (a b c d : Bool) (f : Framing) (y : PacketRead) (o : Option Framing) (head : PacketHead) (tells : Ancillary) →
+    first_answer a b c d f y o ≡ Some (Ok (Mine head tells)) → (b ≡ true) × (y ≡ Mine head tells)
+mine_by true b c d f y o head tells e = absurd cc
+mine_by false true c d f y o head tells e = (refl, cc)
+mine_by false false true d f y None head tells e = absurd cc
+mine_by false false true d f y (Some g) head tells e = absurd cc
+mine_by false false false true f y o head tells e = absurd cc
+mine_by false false false false f y o head tells e = absurd cc
+
+skipped_by : (a b c d : Bool) (f : Framing) (y : PacketRead) (o : Option Framing) (skip : Skip) →
+    first_answer a b c d f y o ≡ Some (Ok (Skipped skip)) → (b ≡ true) × (y ≡ Skipped skip)
+skipped_by true b c d f y o skip e = absurd cc
+skipped_by false true c d f y o skip e = (refl, cc)
+skipped_by false false true d f y None skip e = absurd cc
+skipped_by false false true d f y (Some g) skip e = absurd cc
+skipped_by false false false true f y o skip e = absurd cc
+skipped_by false false false false f y o skip e = absurd cc
+
+-- the end, or why there is none, is no packet
+abbrev pub is_over : PacketRead → Bool
+is_over (Mine head tells) = false
+is_over (Skipped skip) = false
+is_over Ended = true
+is_over (Fault fault) = true
+
+over_by : (a b c d : Bool) (f : Framing) (y : PacketRead) (o : Option Framing) (r : PacketRead) → is_over r ≡ true → is_over y ≡ false → (a ≡ true → b ≡ false) →
+    first_answer a b c d f y o ≡ Some (Ok r) → (b ≡ false) × ((a ≡ true) ⊎ (c ≡ true))
+over_by true b c d f y o r over none bad e = (bad refl, inl refl)
+over_by false true c d f y o r over none bad e = absurd (let same : y ≡ r = cc in false≢true (sym none ∙ ap is_over same ∙ over))
+over_by false false true d f y o r over none bad e = (refl, inr refl)
+over_by false false false true f y o r over none bad e = absurd cc
+over_by false false false false f y o r over none bad e = absurd cc
+
+-- why no read came, where the cap decided that
+pub record AtCap (u : Intake) (fault : InFault) : Type 0 where
+  pub good : has_bad_version u.pending ≡ false
+  pub none : begins_packet u.pending ≡ false
+  pub going : u.ended ≡ false
+  pub full : u.taken ≡ u.cap
+  pub is : fault ≡ LongInput
+
+long_by : (u : Intake) (a b c d : Bool) (f : Framing) (y : PacketRead) (o : Option Framing) (fault : InFault) → has_bad_version u.pending ≡ a → begins_packet u.pending ≡ b → u.ended ≡ c → (u.taken == u.cap) ≡ d →
+    first_answer a b c d f y o ≡ Some (Err fault) → AtCap u fault
+long_by u true b c d f y o fault ea eb ec ed e = absurd cc
+long_by u false true c d f y o fault ea eb ec ed e = absurd cc
+long_by u false false true d f y o fault ea eb ec ed e = absurd cc
+long_by u false false false true f y o fault ea eb ec ed e = record { good = ea; none = eb; going = ec; full = grind (arith, nat_tests); is = cc }
+long_by u false false false false f y o fault ea eb ec ed e = absurd cc
+
+-- ---- what was read
+
+-- a packet of the image waits first
+pub record MineAt (apid : ℕ) (u : Intake) (head : PacketHead) (tells : Ancillary) : Type 0 where
+  pub whole : begins_packet u.pending ≡ true
+  pub mine : skip_of apid (first_packet u.pending) ≡ None
+  pub head_is : head ≡ head_in (first_packet u.pending)
+  pub ancillary_is : tells ≡ ancillary_in (first_packet u.pending)
+
+-- another packet waits first
+pub record OtherAt (apid : ℕ) (u : Intake) (skip : Skip) : Type 0 where
+  pub whole : begins_packet u.pending ≡ true
+  pub other : skip_of apid (first_packet u.pending) ≡ Some skip
+
+as_mine : (o : Option Skip) (packet : List ℕ) (head : PacketHead) (tells : Ancillary) → read_as o packet ≡ Mine head tells →
+    (o ≡ None) × (head ≡ head_in packet) × (tells ≡ ancillary_in packet)
+as_mine None packet head tells e = (refl, cc, cc)
+as_mine (Some skip) packet head tells e = absurd cc
+
+as_skipped : (o : Option Skip) (packet : List ℕ) (skip : Skip) → read_as o packet ≡ Skipped skip → o ≡ Some skip
+as_skipped None packet skip e = absurd cc
+as_skipped (Some other) packet skip e = cc
+
+as_none : (o : Option Skip) (packet : List ℕ) → is_over (read_as o packet) ≡ false
+as_none None packet = refl
+as_none (Some skip) packet = refl
+
+pub mine_read : (apid : ℕ) (u : Intake) (head : PacketHead) (tells : Ancillary) → verdict apid u ≡ Some (Ok (Mine head tells)) → MineAt apid u head tells
+unfolding verdict packet_read
+mine_read apid u head tells e =
+    let x = mine_by (has_bad_version u.pending) (begins_packet u.pending) u.ended (u.taken == u.cap) _ (packet_read apid (first_packet u.pending)) _ head tells e in
+    let y = as_mine (skip_of apid (first_packet u.pending)) (first_packet u.pending) head tells x.1 in
+    record { whole = x.0; mine = y.0; head_is = y.1; ancillary_is = y.2 }
+
+pub other_read : (apid : ℕ) (u : Intake) (skip : Skip) → verdict apid u ≡ Some (Ok (Skipped skip)) → OtherAt apid u skip
+unfolding verdict packet_read
+other_read apid u skip e =
+    let x = skipped_by (has_bad_version u.pending) (begins_packet u.pending) u.ended (u.taken == u.cap) _ (packet_read apid (first_packet u.pending)) _ skip e in
+    record { whole = x.0; other = as_skipped (skip_of apid (first_packet u.pending)) (first_packet u.pending) skip x.1 }
+
+pub over_read : (apid : ℕ) (u : Intake) (r : PacketRead) → is_over r ≡ true → verdict apid u ≡ Some (Ok r) →
+    (begins_packet u.pending ≡ false) × ((has_bad_version u.pending ≡ true) ⊎ (u.ended ≡ true))
+unfolding verdict packet_read
+over_read apid u r over e =
+    over_by (has_bad_version u.pending) (begins_packet u.pending) u.ended (u.taken == u.cap) _ (packet_read apid (first_packet u.pending)) _ r over
+    (as_none (skip_of apid (first_packet u.pending)) (first_packet u.pending)) (no_begin u.pending) e
+
+pub long_read : (apid : ℕ) (u : Intake) (fault : InFault) → verdict apid u ≡ Some (Err fault) → AtCap u fault
+unfolding verdict packet_read
+long_read apid u fault e =
+    long_by u (has_bad_version u.pending) (begins_packet u.pending) u.ended (u.taken == u.cap) _ (packet_read apid (first_packet u.pending)) _ fault refl refl refl refl e
+
+-- ---- what stands afterwards
+
+-- a reader that went on by no octet
+pub record GoesOn (u w : Intake) : Type 0 where
+  pub cap : w.cap ≡ u.cap
+  pub taken : w.taken ≡ u.taken
+  pub shorter : length w.pending ≤ length u.pending
+
+pub answered_none_text : (apid : ℕ) (u : Intake) → begins_packet u.pending ≡ false → answered apid u ≡ record u { text = [] }
+unfolding answered
+answered_none_text apid u none = rw none refl
+
+answered_goes : (apid : ℕ) (u : Intake) → GoesOn u (answered apid u)
+unfolding answered
+answered_goes apid u = by_front (begins_packet u.pending) refl
+  where
+    by_front : (b : Bool) → begins_packet u.pending ≡ b → GoesOn u (answered apid u)
+    by_front true e = rw e (record { cap = refl; taken = refl; shorter = omega (arith, length-drop (told_length u.pending) u.pending) })
+    by_front false e = rw e (record { cap = refl; taken = refl; shorter = omega arith })
+
+here : (apid : ℕ) (u w : Intake) → w ≡ answered apid u → GoesOn u w
+here apid u w e = subst (λ w. GoesOn u w) (sym e) (answered_goes apid u)
+
+pub ends_go : (apid : ℕ) (p q : Outside) (u w : Intake) (result : Result PacketRead InFault) → EndsPacket apid p q u w result → GoesOn u w
+ends_go apid p q u w (Ok read) ends = here apid u w ends.1
+ends_go apid p q u w (Err ReadFault) ends = subst (λ w. GoesOn u w) (sym ends.2) (record { cap = refl; taken = refl; shorter = omega arith })
+ends_go apid p q u w (Err LongInput) ends = here apid u w ends.1
+ends_go apid p q u w (Err Broken) ends = here apid u w ends.1
+
+-- a packet that is passed is no octet's
+pub shorter_past : (u : Intake) → begins_packet u.pending ≡ true → length (after_packet u.pending) + 7 ≤ length u.pending
+shorter_past u whole =
+    let fits = (begins_so u.pending whole).whole in
+    omega (arith, fits, told_least u.pending, length-drop (told_length u.pending) u.pending)

@@ -1,0 +1,12 @@
+pub mod Judging
+pub mod Assembling
+pub mod Notes
+pub mod Ranged
+pub mod Held
+pub mod Segments
+pub mod Passing
+pub mod Tails
+pub mod Texts
+pub mod TextSource
+pub mod Laws
+pub mod Wholes

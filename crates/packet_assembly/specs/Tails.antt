@@ -1,0 +1,59 @@
+-- What is still to come of an open segment's text, and how it ends. This project's own.
+use Rattle.std.specs.Prelude.{ℕ, ◌-◌, ◌==◌, ◌||◌, Bool, nat_lt, if◌then◌else◌, List, [], ◌∷◌, ◌++◌, length, take, Option, is_some}
+use Rattle.std.specs.Option.{option_map}
+use Rattle.bit_pipe.specs.Sources.{End, Plainly, TooLong, InPieces, Tail}
+use Rattle.port_122.specs.Outside.{Outside}
+use Rattle.packet_defs.specs.Reading.{ancillary_in, flags_in, text_in}
+use Rattle.packet_defs.specs.Streams.{has_bad_version, whole_packets, left_over}
+use Rattle.stream_defs.specs.declared.fate.FateState.{FateState}
+use Rattle.stream_defs.specs.Fates.{fate, after, is_kept, closes}
+use Rattle.space_packets.specs.Intake.{Intake}
+use Rattle.packet_assembly.specs.Assembling.{Assembling, is_closed}
+
+-- the octets that a reader has at hand or can still take, where these are left
+abbrev pub coming : Intake → List ℕ → List ℕ
+coming v rest = v.pending ++ (if v.ended then [] else take (v.cap - v.taken) rest)
+
+-- the end is seen before the cap
+abbrev pub sees_end : Intake → List ℕ → Bool
+sees_end v rest = v.ended || nat_lt (length rest) (v.cap - v.taken)
+
+-- how a text that isn't closed ends with the stream: in pieces at the end and at what can't be read on, else at the cap
+abbrev pub stop_of : Intake → List ℕ → End
+stop_of v rest = if has_bad_version (left_over (coming v rest)) || sees_end v rest then InPieces else TooLong
+
+-- some octets in front of what comes
+abbrev pub in_front : List ℕ → Tail → Tail
+in_front octets tail = record { octets = octets ++ tail.octets; ends = tail.ends }
+
+abbrev pub nothing : End → Tail
+nothing ends = record { octets = []; ends = ends }
+
+-- what a kept packet brings, where so much comes after it: another segment's first part ends the text in pieces
+abbrev pub kept_tail : List ℕ → Tail → Tail
+kept_tail packet later =
+    if (ancillary_in packet).part == 0 then nothing InPieces else
+    (if closes (flags_in packet) then in_front (text_in packet) (nothing Plainly) else in_front (text_in packet) later)
+
+-- what whole packets bring, and then this end
+unfoldable pub tail_over : (apid : ℕ) → FateState → List (List ℕ) → End → Tail
+tail_over apid s [] stop = nothing stop
+tail_over apid s (packet ∷ packets) stop =
+    let later = tail_over apid (after apid s packet) packets stop in
+    if is_kept (fate apid s packet) then kept_tail packet later else later
+
+-- the same after a part of the text, which may have closed it
+abbrev pub tail_from : (apid : ℕ) → FateState → List (List ℕ) → End → Tail
+tail_from apid s packets stop = if is_closed s.last then nothing Plainly else tail_over apid s packets stop
+
+-- what comes after the octets that were read
+abbrev pub tail_after : Assembling → List ℕ → Tail
+tail_after a rest = tail_from a.apid a.state (whole_packets (coming a.intake rest)) (stop_of a.intake rest)
+
+-- all that comes of the text, where these octets are left to be read; nothing where another segment was begun
+abbrev pub text_tail : Assembling → List ℕ → Tail
+text_tail a rest = if is_some a.held then nothing InPieces else in_front a.text (tail_after a rest)
+
+-- the same, where the port tells what is left
+abbrev pub told_tail : Outside → Assembling → Option Tail
+told_tail now a = option_map (text_tail a) now.rest

@@ -1,0 +1,30 @@
+-- An open segment's text as a place where octets come from. This project's own.
+use Rattle.std.proofs.Common.{◌≡◌, refl, ◌∙◌}
+use Rattle.bit_pipe.specs.Sources.{SourceOf}
+use Rattle.port_122.specs.Outside.{Outside}
+use Rattle.packet_assembly.specs.declared.text.SegmentText.{SegmentText}
+use Rattle.packet_assembly.specs.Segments.{GoesOn}
+use Rattle.packet_assembly.specs.Passing.{goes_nowhere, goes_both}
+use Rattle.packet_assembly.specs.Tails.{told_tail}
+
+-- some calls went on within the text, by the same assembly and port
+pub record Went {X : Type 0} (outside : X → Outside) (s t : SegmentText X) : Type 0 where
+  pub assembly : t.assembly.ghost_name ≡ s.assembly.ghost_name
+  pub port : t.port.ghost_name ≡ s.port.ghost_name
+  pub goes : GoesOn (outside s.port.now) (outside t.port.now) s.assembly.now t.assembly.now
+
+pub went_nowhere : {X : Type 0} (outside : X → Outside) (s : SegmentText X) → Went outside s s
+went_nowhere outside s = record { assembly = refl; port = refl; goes = goes_nowhere (outside s.port.now) s.assembly.now }
+
+pub went_both : {X : Type 0} (outside : X → Outside) (s t u : SegmentText X) → Went outside s t → Went outside t u → Went outside s u
+went_both outside s t u p q = record { assembly = q.assembly ∙ p.assembly; port = q.port ∙ p.port; goes = goes_both p.goes q.goes }
+
+-- It tells its octets where the port tells what is left to be read, and counts the port's faults of reading.
+abbrev pub segment_source : {X : Type 0} → (X → Outside) → SourceOf (SegmentText X)
+segment_source outside = record {
+  tail = λ s. told_tail (outside s.port.now) s.assembly.now;
+  faults = λ s. (outside s.port.now).read_faults;
+  Went = Went outside;
+  went_none = went_nowhere outside;
+  went_both = went_both outside;
+}

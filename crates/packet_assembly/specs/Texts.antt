@@ -1,0 +1,74 @@
+-- What a call for the next octet of a text leaves. This project's own.
+use Rattle.std.specs.Prelude.{◌≡◌, ◌<◌, ◌++◌, ℕ, take, List, [], ◌∷◌, Option, None, Some, Result, Ok, Err, IfOk, Bool, true, false, length}
+use Rattle.bit_pipe.specs.Sources.{Plainly, TooLong, InPieces, Comes, IsOver}
+use Rattle.bit_pipe.specs.declared.fault.InFault.{InFault}
+use Rattle.bit_pipe.specs.declared.fault.InFault.TheVariants.{ReadFault, LongInput, Broken}
+use Rattle.port_122.specs.Outside.{Outside, Since, Rose}
+use Rattle.packet_defs.specs.Streams.{whole_packets}
+use Rattle.stream_defs.specs.declared.fate.FateState.{FateState}
+use Rattle.stream_defs.specs.Fates.{after}
+use Rattle.packet_assembly.specs.Assembling.{Assembling, is_first, is_closed}
+use Rattle.packet_assembly.specs.Notes.{text_brought}
+use Rattle.packet_assembly.specs.Segments.{GoesOn}
+use Rattle.packet_assembly.specs.Tails.{told_tail}
+
+-- why no octet came
+abbrev pub FailsSo : InFault → (old new : Outside) (b : Assembling) → Type 0
+FailsSo ReadFault old new b = Rose old.read_faults new.read_faults
+FailsSo LongInput old new b = IsOver (told_tail new b) TooLong
+FailsSo Broken old new b = IsOver (told_tail new b) InPieces
+
+-- the octets that came
+abbrev pub ComesSo : (old new : Outside) (a b : Assembling) → List ℕ → Type 0
+ComesSo old new a b octets = Comes (told_tail old a) (told_tail new b) octets
+
+abbrev pub EndsTaken : (old new : Outside) (a b : Assembling) → Result (Option ℕ) InFault → Type 0
+EndsTaken old new a b (Ok (Some octet)) = ComesSo old new a b (octet ∷ []) × (octet < 256)
+EndsTaken old new a b (Ok None) = ComesSo old new a b [] × IsOver (told_tail new b) Plainly
+EndsTaken old new a b (Err fault) = ComesSo old new a b [] × FailsSo fault old new b
+
+-- ---- no call reads where an octet of the text, its end or its break is at hand
+
+-- none of these packets, one after another, brings an octet to the text, begins another segment or closes the text
+abbrev pub BringsNone : (apid : ℕ) → FateState → List (List ℕ) → Type 0
+BringsNone apid s [] = Unit {0}
+BringsNone apid s (packet ∷ packets) =
+    (text_brought apid s packet ≡ []) × (is_first apid s packet ≡ false) × (is_closed (after apid s packet).last ≡ false)
+    × BringsNone apid (after apid s packet) packets
+
+-- no octet waited, the text was open, and these packets left it so
+pub record Unheard (a : Assembling) (packets : List (List ℕ)) : Type 0 where
+  pub unheld : a.held ≡ None
+  pub empty : a.text ≡ []
+  pub unclosed : is_closed a.state.last ≡ false
+  pub none : BringsNone a.apid a.state packets
+
+-- a read call with i of these octets taken, whose packets leave the text so, and none given
+abbrev pub AsksUnheard : Assembling → List ℕ → ℕ → ℕ → Type 0
+AsksUnheard a took i j = Unheard a (whole_packets (a.intake.pending ++ take i took)) × (j ≡ 0)
+
+-- no read call but such
+pub record Silent (old new : Outside) (a : Assembling) : Type 0 where
+  pub took : List ℕ
+  pub asks : Since old new took [] [] (AsksUnheard a took)
+
+-- ---- the calls
+
+-- the text's next octet, or its end, or why there is none
+pub record TakesOctet (old new : Outside) (a b : Assembling) (result : Result (Option ℕ) InFault) : Type 0 where
+  pub goes : GoesOn old new a b
+  pub silent : Silent old new a
+  pub ends : EndsTaken old new a b result
+
+abbrev pub EndsHearing : (old new : Outside) (a b : Assembling) → Result Bool InFault → Type 0
+EndsHearing old new a b (Ok true) = 0 < length b.text
+EndsHearing old new a b (Ok false) = IsOver (told_tail new b) Plainly
+EndsHearing old new a b (Err fault) = FailsSo fault old new b
+
+-- octets of the text wait, or its end, or why there is none
+pub record Hears (old new : Outside) (a b : Assembling) (result : Result Bool InFault) : Type 0 where
+  pub goes : GoesOn old new a b
+  pub silent : Silent old new a
+  pub comes : ComesSo old new a b []
+  pub unheld : IfOk result (λ _. b.held ≡ None)
+  pub ends : EndsHearing old new a b result

@@ -1,0 +1,313 @@
+// The packets of a stream, one after another, and what becomes of them.
+ghost use Rattle.std.specs.Prelude.{◌≡◌, ◌≤◌, ◌<◌, ◌+◌, ◌-◌, length, drop, Some, None, IfOk, IfSome, [], MatchBool};
+ghost use Rattle.packet_assembly.specs.Notes.{head_octets, start_of};
+
+use crate::judging::{judge, past_kept};
+use crate::note::{PacketNote, Passed, SegmentStart};
+use crate::text::SegmentText;
+use base_122::Geometry;
+use bit_pipe::InFault;
+use packet_defs::{Ancillary, Framing, PacketHead, PacketRead, Skip};
+use port_122::Port;
+use segment_defs::SegmentHead;
+use space_packets::PacketReader;
+use std::alloc::{AllocError, Global};
+use std::marker::Model;
+use stream_defs::{Fate, FateState};
+
+// Octets of a data field before its text.
+const ANCILLARY: u32 = 24;
+
+/// Reads a stream as the packets of an image's segments (docs/formats.md, "Fates").
+///
+/// It takes so many octets at most, and reads on only where the octets that it has taken don't decide what comes next.
+#[derive(Drop)]
+pub struct Assembly {
+    reader: PacketReader,
+    apid: u16,
+    state: FateState,
+    packets: u64,
+    // where in the text of the reader's last packet the octets begin that weren't given yet
+    next: usize,
+    held: Option<SegmentStart>,
+    framing: Option<Framing>,
+}
+
+impl Model for Assembly {
+    ghost use Rattle.packet_assembly.specs.Assembling.{Assembling};
+
+    ghost Value = { Assembling };
+
+    ghost use Rattle.packet_assembly.specs.Held.{assembling, IsAssembled};
+
+    ghost view = { assembling };
+
+    ghost invariant = { IsAssembled };
+}
+
+impl Assembly {
+    ghost use Rattle.packet_assembly.specs.Assembling.{unread_assembly};
+    ghost use Rattle.packet_assembly.specs.Held.{StandsAtFault, told_mine, after_mine, told_other, after_other};
+    ghost use Rattle.packet_assembly.specs.Notes.{PassesNext, ReadsNote};
+    ghost use Rattle.packet_assembly.specs.Assembling.{is_closed};
+    ghost use Rattle.packet_assembly.specs.Segments.{FindsSegment};
+    ghost use Rattle.packet_assembly.specs.Texts.{TakesOctet, Hears};
+    ghost use Rattle.base_122.specs.Ranges.{IsGeometryInRange};
+
+    /// An assembly for the packets with an APID, of so many octets at most. It takes the memory of a `PacketReader`, and no call
+    /// takes more.
+    pub fn new(alloc: Global, apid: u16, octets: u64) -> Result<Assembly, AllocError>
+        ensures { IfOk result (λ made. made ≡ unread_assembly apid octets) }
+    {
+        let reader = PacketReader::new(alloc, octets)?;
+        Ok(Assembly {
+            reader,
+            apid,
+            state: FateState {
+                geometry: None,
+                last: None,
+            },
+            packets: 0,
+            next: 0,
+            held: None,
+            framing: None,
+        })
+    }
+
+    /// The geometry of the image, from its first kept packet on. Each of its fields is in range.
+    pub fn geometry(&self) -> Option<Geometry>
+        ensures standing { result ≡ self.now.state.geometry }
+        ensures in_range { IfSome result IsGeometryInRange }
+    {
+        self.state.geometry
+    }
+
+    /// Why the stream can't be read on, where that was found: the reader stands there.
+    pub fn framing(&self) -> Option<Framing>
+        ensures found { result ≡ self.now.framing }
+        ensures met { IfSome result (StandsAtFault self.now.apid self.now.intake) }
+    {
+        self.framing
+    }
+
+    /// The next packet's fate, or nothing at the end and at what can't be read on.
+    pub fn next_packet<X: Port>(&mut self, port: &mut X) -> Result<Option<PacketNote>, InFault>
+        ensures { ReadsNote (X.outside port.old) (X.outside port.new) self.old self.new result }
+    {
+        match self.pass(port) {
+            Ok(Some(passed)) => Ok(Some(passed.note)),
+            Ok(None) => Ok(None),
+            Err(fault) => Err(fault),
+        }
+    }
+
+    /// Goes on to the next segment, past what is left of an earlier one, or to the end or what can't be read on. A segment whose
+    /// first packet ended the text before isn't lost.
+    pub fn next_segment<X: Port>(&mut self, port: &mut X) -> Result<Option<SegmentStart>, InFault>
+        ensures { FindsSegment (X.outside port.old) (X.outside port.new) self.old self.new result }
+    {
+        if let Some(start) = self.held {
+            self.held = None;
+            return Ok(Some(start));
+        }
+        self.find_segment(port)
+    }
+
+    /// The text of the segment that was answered last.
+    pub fn text<'a, X: Port>(&'a mut self, port: &'a mut X) -> SegmentText<'a, X>
+        ensures assembly { result.assembly.ghost_name ≡ self.entry.ghost_name }
+        ensures port { result.port.ghost_name ≡ port.entry.ghost_name }
+        ensures now { result.assembly.now ≡ self.old }
+        ensures port_now { result.port.now ≡ port.old }
+    {
+        SegmentText {
+            assembly: self,
+            port,
+        }
+    }
+
+    /// The next octet of the segment's text, or none at its end.
+    pub fn take_octet<X: Port>(&mut self, port: &mut X) -> Result<Option<u8>, InFault>
+        ensures { TakesOctet (X.outside port.old) (X.outside port.new) self.old self.new result }
+    {
+        match self.hear(port) {
+            Ok(true) => {}
+            Ok(false) => return Ok(None),
+            Err(fault) => return Err(fault),
+        }
+        let octet = self.reader.text()[self.next];
+        self.next += 1;
+        Ok(Some(octet))
+    }
+
+    // Passes packets until one begins a segment.
+    fn find_segment<X: Port>(&mut self, port: &mut X) -> Result<Option<SegmentStart>, InFault>
+        requires unheld { self.old.held ≡ None }
+        ensures { FindsSegment (X.outside port.old) (X.outside port.new) self.old self.new result }
+    {
+        loop {
+            let passed = match self.pass(port) {
+                Ok(Some(passed)) => passed,
+                Ok(None) => return Ok(None),
+                Err(fault) => return Err(fault),
+            };
+            if let Some(start) = passed.start {
+                return Ok(Some(start));
+            }
+        }
+    }
+
+    // Passes packets until octets of the segment's text wait; answers false where the text is over.
+    fn hear<X: Port>(&mut self, port: &mut X) -> Result<bool, InFault>
+        ensures { Hears (X.outside port.old) (X.outside port.new) self.old self.new result }
+    {
+        if self.held.is_some() {
+            return Err(InFault::Broken);
+        }
+        while self.is_used_up() {
+            if self.is_closed() {
+                return Ok(false);
+            }
+            let passed = match self.pass(port) {
+                Ok(Some(passed)) => passed,
+                Ok(None) => return Err(InFault::Broken),
+                Err(fault) => return Err(fault),
+            };
+            if let Some(start) = passed.start {
+                self.held = Some(start);
+                return Err(InFault::Broken);
+            }
+        }
+        Ok(true)
+    }
+
+    // No octet of the text waits.
+    fn is_used_up(&self) -> bool
+        ensures { MatchBool result (self.now.text ≡ []) (0 < length self.now.text) }
+    {
+        self.next == self.reader.text().len()
+    }
+
+    // The last part closed its segment's text.
+    fn is_closed(&self) -> bool
+        ensures { result ≡ is_closed self.now.state.last }
+    {
+        match self.state.last {
+            None => false,
+            Some(last) => last.closed,
+        }
+    }
+
+    // Passes the next packet, or tells that none comes.
+    fn pass<X: Port>(&mut self, port: &mut X) -> Result<Option<Passed>, InFault>
+        ensures { PassesNext (X.outside port.old) (X.outside port.new) self.old self.new result }
+    {
+        self.next = 0;
+        let read = match self.reader.next(port, self.apid) {
+            Ok(read) => read,
+            Err(fault) => return Err(fault),
+        };
+        match read {
+            PacketRead::Mine { head, ancillary } => Ok(Some(self.pass_mine(&head, &ancillary))),
+            PacketRead::Skipped(skip) => Ok(Some(self.pass_other(skip))),
+            PacketRead::Ended => {
+                self.framing = None;
+                Ok(None)
+            }
+            PacketRead::Fault(fault) => {
+                self.framing = Some(fault);
+                Ok(None)
+            }
+        }
+    }
+
+    // Passes a packet of the image that was read.
+    fn pass_mine(&mut self, head: &PacketHead, ancillary: &Ancillary) -> Passed
+        requires counted { self.old.packets + length self.old.intake.pending < self.old.intake.taken }
+        requires field { 24 ≤ head.now.length }
+        requires image { ancillary.now.image ≤ 65535 }
+        ensures told { result ≡ told_mine self.old head.now ancillary.now }
+        ensures stands { self.new ≡ after_mine self.old head.now ancillary.now }
+    {
+        let text = self.reader.text();
+        let octets = text.len();
+        let judged = judge(&self.state, head.flags, ancillary, text);
+        let number = self.packets;
+        self.packets += 1;
+        match judged {
+            Ok(found) => {
+                self.state = past_kept(&self.state, head.flags, ancillary, found);
+                self.next = head_octets(found);
+                Passed {
+                    note: note_told(number, Fate::Kept, head, ancillary),
+                    start: start_of(ancillary, found),
+                }
+            }
+            Err(fate) => {
+                self.next = octets;
+                Passed {
+                    note: note_told(number, fate, head, ancillary),
+                    start: None,
+                }
+            }
+        }
+    }
+
+    // Passes another packet that was read.
+    fn pass_other(&mut self, skip: Skip) -> Passed
+        requires counted { self.old.packets + length self.old.intake.pending < self.old.intake.taken }
+        ensures told { result ≡ told_other self.old skip }
+        ensures stands { self.new ≡ after_other self.old }
+    {
+        let number = self.packets;
+        self.packets += 1;
+        self.next = self.reader.text().len();
+        Passed {
+            note: PacketNote {
+                number,
+                fate: Fate::Skipped(skip),
+                index: 0,
+                part: 0,
+                octets: 0,
+            },
+            start: None,
+        }
+    }
+}
+
+// What is told of a packet of the image.
+fn note_told(number: u64, fate: Fate, head: &PacketHead, ancillary: &Ancillary) -> PacketNote
+    requires { 24 ≤ head.now.length }
+    ensures { result ≡ record { number = number; fate = fate; index = ancillary.now.index; part = ancillary.now.part; octets = head.now.length - 24 } }
+{
+    PacketNote {
+        number,
+        fate,
+        index: ancillary.index,
+        part: ancillary.part,
+        octets: head.length - ANCILLARY,
+    }
+}
+
+// The octets of a head that was found.
+fn head_octets(found: Option<SegmentHead>) -> usize
+    ensures { result ≡ head_octets found }
+{
+    match found {
+        None => 0,
+        Some(head) => usize::from(head.octets()),
+    }
+}
+
+// The segment that begins with a packet that tells this, where there is a head in it.
+fn start_of(ancillary: &Ancillary, found: Option<SegmentHead>) -> Option<SegmentStart>
+    ensures { result ≡ start_of ancillary.now found }
+{
+    match found {
+        None => None,
+        Some(head) => Some(SegmentStart {
+            ancillary: *ancillary,
+            head,
+        }),
+    }
+}

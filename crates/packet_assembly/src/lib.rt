@@ -1,0 +1,17 @@
+//! What becomes of each packet of a stream, and the texts of the segments that the kept ones carry. The rules stand in
+//! docs/formats.md, "Fates".
+#![tactic(auto)]
+
+mod agreement;
+mod assembly;
+mod judging;
+mod laws;
+mod note;
+mod text;
+
+pub use assembly::Assembly;
+pub use laws::{answers_again, tails_tell};
+pub use note::{PacketNote, SegmentStart};
+pub use packet_defs::{Ancillary, Framing, Skip};
+pub use stream_defs::Fate;
+pub use text::SegmentText;

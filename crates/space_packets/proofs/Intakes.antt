@@ -1,0 +1,313 @@
+-- What octets more, and answers, leave of a reader's state.
+use Rattle.std.proofs.Common.{◌≡◌, ◌≢◌, ◌≤◌, ◌<◌, ◌+◌, ◌-◌, ℕ, List, [], ◌∷◌, ◌++◌, length, take, drop, refl, sym, ap, subst, ◌∙◌, arith, append_assoc, add_assoc, add-zero, length-append, length-drop}
+use Rattle.std.specs.Prelude.{Bool, true, false, ◌||◌, ◌==◌, Some, None, Result, Ok, Err, slice_range}
+use Rattle.std.proofs.lemmas.Bool.{false≢true}
+use Rattle.std.proofs.lemmas.Bool.Decides.{nat_tests}
+use Rattle.std.proofs.lemmas.List.{append-nil, take-append-le, drop-append-le, drop-take, drop-drop, length-take-le, take-take, take_at, with_items_is}
+use Rattle.std.proofs.Math.Seq.{take-append-add}
+use Rattle.std.specs.Global.{Vec}
+use Rattle.std.specs.Vec.{with_items}
+use borrow.Rule.Slice.PartMut.{put_mid, post_of}
+use Rattle.bit_pipe.specs.declared.fault.InFault.TheVariants.{LongInput, ReadFault, Broken}
+use Rattle.bit_pipe.specs.declared.fault.InFault.{InFault}
+use Rattle.port_122.specs.Outside.{Outside, Since, AtEnd, ReadFailed}
+use Rattle.port_122.proofs.Stretches.{since_start, since_weaker}
+use Rattle.port_122.proofs.ReadCalls.{since_read, since_unread, unread_rose}
+use Rattle.packet_defs.specs.Tests.{when, first_of}
+use Rattle.packet_defs.specs.declared.packet.PacketRead.{PacketRead}
+use Rattle.space_packets.specs.PacketReads.{AsksUndecided, EndsPacket, ReadsPacket, Fed}
+use Rattle.packet_defs.specs.declared.packet.PacketRead.TheVariants.{Ended, Fault, Mine, Skipped}
+use Rattle.packet_defs.specs.declared.packet.Framing.TheVariants.{BadVersion, CutPacket}
+use Rattle.packet_defs.specs.declared.packet.Skip.{Skip}
+use Rattle.packet_defs.specs.Reading.{packet_read, read_as, skip_of, head_in, ancillary_in, text_in}
+use Rattle.packet_defs.specs.Streams.{has_bad_version, begins_packet, first_packet, after_packet, framing_at, missing}
+use Rattle.packet_defs.proofs.Fronts.{begins_so}
+use Rattle.space_packets.specs.Intake.{Intake, place_of, is_decided, end_read, verdict, text_mine, answered, fed}
+
+-- two states are the same by their parts
+pub same_intake : {v w : Intake} → v.cap ≡ w.cap → v.taken ≡ w.taken → v.pending ≡ w.pending → v.text ≡ w.text → v.ended ≡ w.ended → v ≡ w
+same_intake c t p x e = λ i. record { cap = c i; taken = t i; pending = p i; text = x i; ended = e i }
+
+-- octets, and then more, or the end
+pub fed_both : (v : Intake) (xs ys : List ℕ) (saw_end : Bool) → fed (fed v xs false) ys saw_end ≡ fed v (xs ++ ys) saw_end
+fed_both v xs ys saw_end = same_intake refl
+    (add_assoc v.taken (length xs) (length ys) ∙ ap (λ n. v.taken + n) (sym (length-append xs ys)))
+    (append_assoc v.pending xs ys) refl (or_false v.ended saw_end)
+  where
+    or_false : (a b : Bool) → ((a || false) || b) ≡ (a || b)
+    or_false true b = refl
+    or_false false b = refl
+
+-- octets that were read behind those that wait
+pub waits_more : (xs piece : List ℕ) (start end count k : ℕ) → start ≤ end → end ≤ length xs → count ≤ length piece →
+    slice_range (put_mid end k xs piece) start (end + count) ≡ slice_range xs start end ++ take count piece
+waits_more xs piece start end count k order within few =
+    let front = take end xs in
+    let tail = piece ++ post_of end k xs in
+    let size : length front ≡ end = length-take-le end xs within in
+    let parts : start + (end - start) ≡ end = omega arith in
+    let waits : drop start front ≡ slice_range xs start end = subst (λ n. drop start (take n xs) ≡ slice_range xs start end) parts (drop-take start (end - start) xs) in
+    let long : length (drop start front) ≡ end - start = length-drop start front ∙ ap (λ n. n - start) size in
+    let count_is : end + count - start ≡ length (drop start front) + count = omega (arith, long) in
+    ap (λ n. take n (drop start (front ++ tail))) count_is
+    ∙ ap (take (length (drop start front) + count)) (drop-append-le start front tail (omega (arith, size)))
+    ∙ take-append-add (drop start front) tail count
+    ∙ ap (λ zs. zs ++ take count tail) waits
+    ∙ ap (λ zs. slice_range xs start end ++ zs) (take-append-le count piece (post_of end k xs) few)
+
+-- octets that wait after they were moved within a buffer
+pub waits_moved : (v : Vec ℕ) (old moved xs : List ℕ) (start s held : ℕ) → old ≡ v.items → take held (drop s moved) ≡ take held (drop start old) → length moved ≡ length old →
+    xs ≡ (with_items v moved).items → take held (drop s xs) ≡ take held (drop start v.items)
+waits_moved v old moved xs start s held was same long is =
+    let size : length moved ≡ v.len = long ∙ ap length was ∙ sym v.ok.0 in
+    ap (λ zs. take held (drop s zs)) (is ∙ with_items_is v moved size) ∙ same ∙ ap (λ zs. take held (drop start zs)) was
+
+-- what waits is as long as its bounds say
+pub length-waits : (xs : List ℕ) (start end : ℕ) → start ≤ end → end ≤ length xs → length (slice_range xs start end) ≡ end - start
+length-waits xs start end order within = length-take-le (end - start) (drop start xs) (omega (arith, length-drop start xs))
+
+-- a piece that was read behind those that wait, which stand from s on, and whether it was the end
+pub fed_piece : (v : Intake) (now xs piece : List ℕ) (s held count k : ℕ) (ended saw_end : Bool) → now ≡ put_mid (s + held) k xs piece → take held (drop s xs) ≡ v.pending → s + held ≤ length xs → count ≤ length piece →
+    ended ≡ (v.ended || saw_end) →
+    record { cap = v.cap; taken = v.taken + count; pending = slice_range now s (s + held + count); text = []; ended = ended } ≡ fed v (take count piece) saw_end
+fed_piece v now xs piece s held count k ended saw_end is waits within few over =
+    let n : s + held - s ≡ held = omega arith in
+    let here : slice_range xs s (s + held) ≡ v.pending = ap (λ m. take m (drop s xs)) n ∙ waits in
+    same_intake refl (ap (λ m. v.taken + m) (sym (length-take-le count piece few)))
+    (ap (λ zs. slice_range zs s (s + held + count)) is ∙ waits_more xs piece s (s + held) count k (omega arith) within few ∙ ap (λ zs. zs ++ take count piece) here) refl over
+
+pub fed_nothing : (v : Intake) (now xs piece : List ℕ) (s held k : ℕ) → now ≡ put_mid (s + held) k xs piece → take held (drop s xs) ≡ v.pending → s + held ≤ length xs →
+    record { cap = v.cap; taken = v.taken; pending = slice_range now s (s + held); text = []; ended = v.ended } ≡ fed v [] false
+fed_nothing v now xs piece s held k is waits within =
+    let n : s + held - s ≡ held = omega arith in
+    let here : slice_range xs s (s + held) ≡ v.pending = ap (λ m. take m (drop s xs)) n ∙ waits in
+    let more : slice_range (put_mid (s + held) k xs piece) s (s + held + 0) ≡ slice_range xs s (s + held) ++ [] =
+    waits_more xs piece s (s + held) 0 k (omega arith) within (omega arith) in
+    let same : slice_range now s (s + held) ≡ v.pending ++ [] =
+    ap (λ zs. slice_range zs s (s + held)) is ∙ ap (slice_range (put_mid (s + held) k xs piece) s) (sym (add-zero (s + held))) ∙ more ∙ ap (λ zs. zs ++ []) here in
+    same_intake refl (sym (add-zero v.taken)) same refl (sym (or_false v.ended))
+  where
+    or_false : (b : Bool) → (b || false) ≡ b
+    or_false true = refl
+    or_false false = refl
+
+pub or_true : (a : Bool) (n : ℕ) → n ≡ 0 → true ≡ (a || (n == 0))
+or_true true n e = refl
+or_true false n e = grind (arith, nat_tests)
+
+pub or_none : (a : Bool) (n : ℕ) → n ≢ 0 → a ≡ (a || (n == 0))
+or_none true n e = refl
+or_none false n e = grind (arith, nat_tests)
+
+-- ---- what is decided
+
+pub no_begin : (xs : List ℕ) → has_bad_version xs ≡ true → begins_packet xs ≡ false
+unfolding begins_packet
+no_begin xs bad = rw bad refl
+
+pub verdict_bad : (apid : ℕ) (v : Intake) → has_bad_version v.pending ≡ true → verdict apid v ≡ Some (Ok (Fault (BadVersion (place_of v))))
+unfolding verdict
+verdict_bad apid v bad = rw bad refl
+
+pub verdict_packet : (apid : ℕ) (v : Intake) → begins_packet v.pending ≡ true → verdict apid v ≡ Some (Ok (packet_read apid (first_packet v.pending)))
+unfolding verdict
+verdict_packet apid v whole = rw ((begins_so v.pending whole).version, whole) refl
+
+pub verdict_end : (apid : ℕ) (v : Intake) → has_bad_version v.pending ≡ false → begins_packet v.pending ≡ false → v.ended ≡ true →
+    verdict apid v ≡ Some (Ok (end_read (framing_at (place_of v) v.pending)))
+unfolding verdict
+verdict_end apid v good none over = rw (good, none, over) refl
+
+pub verdict_ended : (apid : ℕ) (v : Intake) → has_bad_version v.pending ≡ false → begins_packet v.pending ≡ false → v.ended ≡ true → length v.pending ≡ 0 →
+    verdict apid v ≡ Some (Ok Ended)
+unfolding framing_at
+verdict_ended apid v good none over empty =
+    let e : framing_at (place_of v) v.pending ≡ None = rw (good, empty) refl in
+    verdict_end apid v good none over ∙ ap (λ f. Some (Ok (end_read f))) e
+
+pub verdict_cut : (apid : ℕ) (v : Intake) → has_bad_version v.pending ≡ false → begins_packet v.pending ≡ false → v.ended ≡ true → length v.pending ≢ 0 →
+    verdict apid v ≡ Some (Ok (Fault (CutPacket (missing v.pending))))
+unfolding framing_at
+verdict_cut apid v good none over some =
+    let t : (length v.pending == 0) ≡ false = grind (arith, nat_tests) in
+    let e : framing_at (place_of v) v.pending ≡ Some (CutPacket (missing v.pending)) = rw (good, t) refl in
+    verdict_end apid v good none over ∙ ap (λ f. Some (Ok (end_read f))) e
+
+pub verdict_long : (apid : ℕ) (v : Intake) → has_bad_version v.pending ≡ false → begins_packet v.pending ≡ false → v.ended ≡ false → is_decided v ≡ true →
+    verdict apid v ≡ Some (Err LongInput)
+unfolding verdict is_decided
+verdict_long apid v good none going decided =
+    let full : (v.taken == v.cap) ≡ true = rw (good, none, going) at decided in
+    rw (good, none, going, full) refl
+
+pub answered_packet : (apid : ℕ) (v : Intake) → begins_packet v.pending ≡ true →
+    answered apid v ≡ record v { pending = after_packet v.pending; text = text_mine apid (first_packet v.pending) }
+unfolding answered
+answered_packet apid v whole = rw whole refl
+
+pub answered_none : (apid : ℕ) (v : Intake) → begins_packet v.pending ≡ false → v.text ≡ [] → answered apid v ≡ v
+unfolding answered
+answered_none apid v none no_text = rw none (same_intake refl refl refl (sym no_text) refl)
+
+pub read_skipped : (apid : ℕ) (packet : List ℕ) (skip : Skip) → skip_of apid packet ≡ Some skip → packet_read apid packet ≡ Skipped skip
+unfolding packet_read
+read_skipped apid packet skip e = ap (λ o. read_as o packet) e
+
+pub read_mine : (apid : ℕ) (packet : List ℕ) → skip_of apid packet ≡ None → packet_read apid packet ≡ Mine (head_in packet) (ancillary_in packet)
+unfolding packet_read
+read_mine apid packet e = ap (λ o. read_as o packet) e
+
+-- what stands after a packet of the image, and after another
+pub passed_mine : (apid : ℕ) (v : Intake) (text : List ℕ) (after : List ℕ) → begins_packet v.pending ≡ true → skip_of apid (first_packet v.pending) ≡ None →
+    after ≡ after_packet v.pending → text ≡ text_in (first_packet v.pending) → record v { pending = after; text = text } ≡ answered apid v
+passed_mine apid v text after whole mine rest is =
+    let t : text_mine apid (first_packet v.pending) ≡ text_in (first_packet v.pending) = rw mine refl in
+    same_intake refl refl rest (is ∙ sym t) refl ∙ sym (answered_packet apid v whole)
+
+pub passed_other : (apid : ℕ) (v : Intake) (text after : List ℕ) (skip : Skip) → begins_packet v.pending ≡ true → skip_of apid (first_packet v.pending) ≡ Some skip →
+    after ≡ after_packet v.pending → text ≡ [] → record v { pending = after; text = text } ≡ answered apid v
+passed_other apid v text after skip whole other rest is =
+    let t : text_mine apid (first_packet v.pending) ≡ [] = rw other refl in
+    same_intake refl refl rest (is ∙ sym t) refl ∙ sym (answered_packet apid v whole)
+
+-- a part of the octets from a place on
+drop_of_take : (n k : ℕ) (zs : List ℕ) → k ≤ n → drop k (take n zs) ≡ take (n - k) (drop k zs)
+drop_of_take n k zs within =
+    let parts : k + (n - k) ≡ n = omega arith in
+    subst (λ m. drop k (take m zs) ≡ take (n - k) (drop k zs)) parts (drop-take k (n - k) zs)
+
+-- the octets that wait, past the first of them
+pub waits_past : (xs : List ℕ) (start end count : ℕ) → start + count ≤ end → slice_range xs (start + count) end ≡ drop count (slice_range xs start end)
+waits_past xs start end count within =
+    let few : end - (start + count) ≡ (end - start) - count = omega arith in
+    ap (λ n. take n (drop (start + count) xs)) few ∙ ap (take ((end - start) - count)) (sym (drop-drop count start xs))
+    ∙ sym (drop_of_take (end - start) count (drop start xs) (omega arith))
+
+-- the text within them
+pub text_waits : (xs : List ℕ) (start end k count : ℕ) → start + count ≤ end → k ≤ count →
+    slice_range xs (start + k) (start + count) ≡ drop k (take count (slice_range xs start end))
+text_waits xs start end k count within few =
+    let n : (start + count) - (start + k) ≡ count - k = omega arith in
+    ap (λ m. take m (drop (start + k) xs)) n ∙ ap (take (count - k)) (sym (drop-drop k start xs))
+    ∙ sym (drop_of_take count k (drop start xs) few)
+    ∙ ap (drop k) (sym (take-take count (end - start) (drop start xs) (omega arith)))
+
+-- ---- up to an answer
+
+-- The octets that were taken so far, and whether the end was seen; no read call was entered where they decided what comes.
+pub record TakenSoFar (p now : Outside) (v w : Intake) : Type 0 where
+  pub took : List ℕ
+  pub saw_end : Bool
+  pub since : Since p now took [] [] (AsksUndecided v took)
+  pub end_seen : saw_end ≡ true → AtEnd now
+  pub within : v.taken + length took ≤ v.cap
+  pub at_once : is_decided (fed v [] false) ≡ true → took ≡ []
+  pub end_below : saw_end ≡ true → v.taken + length took < v.cap
+  pub stands : w ≡ fed v took saw_end
+
+pub taken_nothing : (p : Outside) (v w : Intake) → v.taken ≤ v.cap → w ≡ fed v [] false → TakenSoFar p p v w
+taken_nothing p v w capped e = record {
+  took = [];
+  saw_end = false;
+  since = since_start p _;
+  end_seen = λ no. absurd (false≢true no);
+  within = omega (arith, capped);
+  at_once = λ _. refl;
+  end_below = λ no. absurd (false≢true no);
+  stands = e;
+}
+
+-- the read calls so far, where more is taken
+asked_more : {p now : Outside} {v w : Intake} (more : List ℕ) → (s : TakenSoFar p now v w) → Since p now s.took [] [] (AsksUndecided v (s.took ++ more))
+asked_more {v = v} more s = since_weaker s.since
+    (λ i j le r. (subst (λ zs. is_decided (fed v zs false) ≡ false) (sym (take-append-le i s.took more le)) r.0, r.1))
+
+-- a read call that is entered now
+asks_now : {p now : Outside} {v w : Intake} (more : List ℕ) → (s : TakenSoFar p now v w) → s.saw_end ≡ false → is_decided w ≡ false →
+    AsksUndecided v (s.took ++ more) (length s.took) 0
+asks_now {v = v} more s unseen undecided =
+    let same : take (length s.took) (s.took ++ more) ≡ s.took = take_at s.took more (length s.took) refl in
+    let here : is_decided (fed v s.took false) ≡ false = subst (λ b. is_decided (fed v s.took b) ≡ false) unseen (subst (λ w. is_decided w ≡ false) s.stands undecided) in
+    (subst (λ zs. is_decided (fed v zs false) ≡ false) (sym same) here, refl)
+
+-- where nothing is decided, the end wasn't seen
+still_open : {p now : Outside} {v w : Intake} → (s : TakenSoFar p now v w) → w.ended ≡ false → s.saw_end ≡ false
+still_open {v = v} s going = or_right v.ended s.saw_end (sym (ap (λ w. w.ended) s.stands) ∙ going)
+  where
+    or_right : (a b : Bool) → (a || b) ≡ false → b ≡ false
+    or_right true b e = absurd (false≢true (sym e))
+    or_right false b e = e
+
+pub taken_more : {p now new : Outside} {v w u : Intake} → TakenSoFar p now v w → is_decided w ≡ false → w.taken < w.cap → w.ended ≡ false → Fed now new w u → TakenSoFar p new v u
+taken_more {p = p} {new = new} {v = v} {w = w} {u = u} s undecided below going f =
+    let unseen : s.saw_end ≡ false = still_open s going in
+    let more = take f.count f.piece in
+    let before : w ≡ fed v s.took false = rw unseen at s.stands in
+    let size : length more ≡ f.count = length-take-le f.count f.piece f.read.within in
+    record {
+      took = s.took ++ more;
+      saw_end = f.count == 0;
+      since = since_read f.count (asked_more more s) f.read (asks_now more s unseen undecided);
+      end_seen = λ none. f.read.at_end (is_none f.count none) f.some;
+      within = omega (arith, length-append s.took more, size, f.within, ap (λ w. w.taken) before, ap (λ w. w.cap) before);
+      at_once = λ decided. absurd (false≢true (sym undecided ∙ ap is_decided (before ∙ ap (λ zs. fed v zs false) (s.at_once decided)) ∙ decided));
+      end_below = λ none. let e = is_none f.count none in omega (arith, length-append s.took more, size, below, e, ap (λ w. w.taken) before, ap (λ w. w.cap) before);
+      stands = f.stands ∙ ap (λ w. fed w more (f.count == 0)) before ∙ fed_both v s.took more (f.count == 0);
+    }
+  where
+    is_none : (n : ℕ) → (n == 0) ≡ true → n ≡ 0
+    is_none n e = grind (arith, nat_tests)
+
+-- a read failed
+pub read_failed : {p now new : Outside} {v w u : Intake} (apid : ℕ) → TakenSoFar p now v w → is_decided w ≡ false → w.ended ≡ false → ReadFailed now new →
+    u ≡ fed w [] false → ReadsPacket apid p new v u (Err ReadFault)
+read_failed {p = p} {new = new} {v = v} {w = w} {u = u} apid s undecided going f e =
+    let unseen : s.saw_end ≡ false = still_open s going in
+    let before : w ≡ fed v s.took false = rw unseen at s.stands in
+    let again : fed w [] false ≡ fed v s.took false =
+    ap (λ w. fed w [] false) before ∙ fed_both v s.took [] false ∙ ap (λ zs. fed v zs false) (append-nil s.took) in
+    record {
+      took = s.took;
+      saw_end = false;
+      since = subst (λ zs. Since p new s.took [] [] (AsksUndecided v zs)) (append-nil s.took) (since_unread (asked_more [] s) f (asks_now [] s unseen undecided));
+      end_seen = λ no. absurd (false≢true no);
+      within = s.within;
+      at_once = s.at_once;
+      end_below = λ no. absurd (false≢true no);
+      ends = (unread_rose s.since f, subst (λ w. is_decided w ≡ false) before undecided, e ∙ again);
+    }
+
+-- a verdict is no read fault
+never_read_fault : (apid : ℕ) (u : Intake) → verdict apid u ≡ Some (Err ReadFault) → ⊥
+unfolding verdict
+never_read_fault apid u e = by_tests (has_bad_version u.pending) (begins_packet u.pending) u.ended (u.taken == u.cap) _ _ _ e
+  where
+    by_tests : (a b c d : Bool) (x y z : PacketRead) → first_of {X = Result PacketRead InFault} (when a (Ok x) ∷ when b (Ok y) ∷ when c (Ok z) ∷ when d (Err LongInput) ∷ []) ≡ Some (Err ReadFault) → ⊥
+    by_tests true b c d x y z e = cc
+    by_tests false true c d x y z e = cc
+    by_tests false false true d x y z e = cc
+    by_tests false false false true x y z e = cc
+    by_tests false false false false x y z e = cc
+
+-- what was decided is answered
+ends_with : (apid : ℕ) (p q : Outside) (u w : Intake) (result : Result PacketRead InFault) → verdict apid u ≡ Some result → w ≡ answered apid u → EndsPacket apid p q u w result
+ends_with apid p q u w (Ok read) e stands = (e, stands)
+ends_with apid p q u w (Err ReadFault) e stands = absurd (never_read_fault apid u e)
+ends_with apid p q u w (Err LongInput) e stands = (e, stands)
+ends_with apid p q u w (Err Broken) e stands = (e, stands)
+
+pub taken_all : {p now : Outside} {v w u : Intake} (apid : ℕ) (result : Result PacketRead InFault) → TakenSoFar p now v w → verdict apid w ≡ Some result → u ≡ answered apid w →
+    ReadsPacket apid p now v u result
+taken_all {p = p} {now = now} {v = v} {w = w} {u = u} apid result s e stands =
+    let first : verdict apid (fed v s.took s.saw_end) ≡ Some result = subst (λ w. verdict apid w ≡ Some result) s.stands e in
+    let next : u ≡ answered apid (fed v s.took s.saw_end) = subst (λ w. u ≡ answered apid w) s.stands stands in
+    record {
+      took = s.took;
+      saw_end = s.saw_end;
+      since = s.since;
+      end_seen = s.end_seen;
+      within = s.within;
+      at_once = s.at_once;
+      end_below = s.end_below;
+      ends = ends_with apid p now (fed v s.took s.saw_end) u result first next;
+    }

@@ -1,0 +1,10 @@
+use Rattle.std.proofs.Common.{◌+◌, ◌-◌}
+use Rattle.std.specs.Prelude.{if◌then◌else◌}
+use Rattle.space_packets.proofs.Intakes.{TakenSoFar}
+use Rattle.space_packets.proofs.packet_reader.PacketReader.next.Given as goal
+
+abbrev pub invariant-loop-self : goal.invariant-loop-self
+invariant-loop-self g l = TakenSoFar (g.X.Port.outside l.fn.port) (g.X.Port.outside l.port) l.fn.self l.self
+
+abbrev pub decreases-loop-self : goal.decreases-loop-self
+decreases-loop-self g l = (l.self.cap - l.self.taken) + (if l.self.ended then 0 else 1)

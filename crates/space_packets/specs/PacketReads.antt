@@ -1,0 +1,41 @@
+-- What a call that reads the next packet leaves. This project's own.
+use Rattle.std.specs.Prelude.{◌≡◌, ◌≤◌, ◌<◌, ◌+◌, ℕ, Bool, true, false, List, [], length, take, ◌==◌, Some, Result, Ok, Err, MatchResult}
+use Rattle.bit_pipe.specs.declared.fault.InFault.{InFault}
+use Rattle.bit_pipe.specs.declared.fault.InFault.TheVariants.{ReadFault}
+use Rattle.port_122.specs.Outside.{Outside, Since, AtEnd, Rose, Read, ReadFailed}
+use Rattle.packet_defs.specs.declared.packet.PacketRead.{PacketRead}
+use Rattle.space_packets.specs.Intake.{Intake, is_decided, verdict, answered, fed}
+
+-- a read call with i of these octets taken, which decide nothing, and none given
+abbrev pub AsksUndecided : Intake → List ℕ → ℕ → ℕ → Type 0
+AsksUndecided v took i j = (is_decided (fed v (take i took) false) ≡ false) × (j ≡ 0)
+
+-- why it was answered so, where u stands after the octets that were taken
+abbrev pub EndsPacket : (apid : ℕ) → (old new : Outside) → (u w : Intake) → Result PacketRead InFault → Type 0
+EndsPacket apid old new u w (Ok read) = (verdict apid u ≡ Some (Ok read)) × (w ≡ answered apid u)
+EndsPacket apid old new u w (Err ReadFault) = Rose old.read_faults new.read_faults × (is_decided u ≡ false) × (w ≡ u)
+EndsPacket apid old new u w (Err fault) = (verdict apid u ≡ Some (Err fault)) × (w ≡ answered apid u)
+
+-- One packet, the end, or why there is none: the octets that were taken, no more than the cap lets, and what they decide. No read
+-- call was entered where that was decided, so nothing was taken where it was at once, and the end was seen below the cap alone.
+pub record ReadsPacket (apid : ℕ) (old new : Outside) (v w : Intake) (result : Result PacketRead InFault) : Type 0 where
+  pub took : List ℕ
+  pub saw_end : Bool
+  pub since : Since old new took [] [] (AsksUndecided v took)
+  pub end_seen : saw_end ≡ true → AtEnd new
+  pub within : v.taken + length took ≤ v.cap
+  pub at_once : is_decided (fed v [] false) ≡ true → took ≡ []
+  pub end_below : saw_end ≡ true → v.taken + length took < v.cap
+  pub ends : EndsPacket apid old new (fed v took saw_end) w result
+
+-- what one read into a reader leaves
+pub record Fed (old new : Outside) (v w : Intake) : Type 0 where
+  pub piece : List ℕ
+  pub count : ℕ
+  pub some : 0 < length piece
+  pub read : Read old new piece count
+  pub within : v.taken + count ≤ v.cap
+  pub stands : w ≡ fed v (take count piece) (count == 0)
+
+abbrev pub FeedsOnce : {T E : Type 0} → Result T E → (old new : Outside) → (v w : Intake) → Type 0
+FeedsOnce result old new v w = MatchResult result (λ _. Fed old new v w) (λ _. ReadFailed old new × (w ≡ fed v [] false))

@@ -1,0 +1,232 @@
+// Packets in.
+ghost use Rattle.std.specs.Prelude.{◌≡◌, ◌≤◌, ◌<◌, ◌+◌, ◌-◌, ◌^◌, [], length, take, drop, true, false, Some, None, IfOk};
+ghost use Rattle.std.specs.Bool.{OnFalse};
+
+use crate::header::HEADER;
+use crate::reading::{begins_packet, has_bad_version, mine_in, missing, skip_of, told_length};
+use bit_pipe::InFault;
+use packet_defs::{Framing, PacketRead};
+use port_122::{Failed, Port};
+use std::alloc::{AllocError, Global};
+use std::marker::Model;
+
+// Octets of the longest packet.
+const LONGEST: usize = 65_542;
+
+// Octets of the buffer: what waits can always be copied to its front, or has room behind it.
+const ROOM: usize = 2 * LONGEST;
+
+// Octets that a read asks for at most.
+const PIECE: usize = 4_096;
+
+/// Reads a stream of octets as packets (docs/formats.md, "Packets").
+///
+/// It takes so many octets at most, in pieces of at most 4,096. It reads on only where the octets that it has taken don't decide
+/// what comes next.
+#[derive(Drop)]
+pub struct PacketReader {
+    buffer: Vec<u8>,
+    start: usize,
+    end: usize,
+    text_start: usize,
+    text_end: usize,
+    cap: u64,
+    taken: u64,
+    ended: bool,
+}
+
+impl Model for PacketReader {
+    ghost use Rattle.space_packets.specs.Intake.{Intake};
+
+    ghost Value = { Intake };
+
+    ghost use Rattle.space_packets.specs.Held.{intake, IsHeld};
+
+    ghost view = { intake };
+
+    ghost invariant = { IsHeld };
+}
+
+impl PacketReader {
+    ghost use Rattle.space_packets.specs.Intake.{unread, is_decided, verdict, answered, fed};
+    ghost use Rattle.space_packets.specs.PacketReads.{ReadsPacket, FeedsOnce};
+    ghost use Rattle.packet_defs.specs.Reading.{packet_read};
+    ghost use Rattle.packet_defs.specs.Streams.{begins_packet, first_packet};
+
+    /// A reader that takes at most so many octets. It takes the memory of two packets of the greatest
+    /// length, and no call takes more.
+    pub fn new(alloc: Global, octets: u64) -> Result<PacketReader, AllocError>
+        ensures { IfOk result (λ made. made ≡ unread octets) }
+    {
+        let mut buffer = Vec::with_capacity(alloc, ROOM)?;
+        buffer.resize(ROOM, 0)?;
+        Ok(PacketReader {
+            buffer,
+            start: 0,
+            end: 0,
+            text_start: 0,
+            text_end: 0,
+            cap: octets,
+            taken: 0,
+            ended: false,
+        })
+    }
+
+    /// The octets after the ancillary data of the packet that was answered last, where it was `Mine`; else none.
+    pub fn text(&self) -> &[u8]
+        ensures { result.now ≡ self.now.text }
+    {
+        &self.buffer[self.text_start..self.text_end]
+    }
+
+    /// The next packet, read for an APID, or the end, or why there is none (docs/formats.md, "Packets").
+    ///
+    /// After `Ended`, a fault of the framing and `LongInput` each further call answers the same and reads nothing. `LongInput`
+    /// comes exactly where the cap's number of octets was taken and they, without an end, decide nothing. After `ReadFault` the
+    /// next call reads again. `Broken` never comes.
+    pub fn next<X: Port>(&mut self, port: &mut X, apid: u16) -> Result<PacketRead, InFault>
+        ensures { ReadsPacket apid (X.outside port.old) (X.outside port.new) self.old self.new result }
+    {
+        self.forget_text();
+        while !self.is_decided() {
+            let Ok(()) = self.feed(port) else {
+                return Err(InFault::ReadFault);
+            };
+        }
+        self.answer(apid)
+    }
+
+    // Lets the text of the last packet go.
+    fn forget_text(&mut self)
+        ensures stands { self.new ≡ fed self.old [] false }
+        ensures capped { self.old.taken ≤ self.old.cap }
+    {
+        self.text_start = 0;
+        self.text_end = 0;
+    }
+
+    // The octets that are in no packet answered yet.
+    fn pending(&self) -> &[u8]
+        ensures waiting { result.now ≡ self.now.pending }
+        ensures counted { length result.now ≤ self.now.taken }
+    {
+        &self.buffer[self.start..self.end]
+    }
+
+    // Whether the octets at hand, the end or the cap decide what comes next. Where they don't, they are fewer than the longest
+    // packet has.
+    #[tactic(auto, unfolding(crate::specs::Intake::is_decided))]
+    fn is_decided(&self) -> bool
+        ensures value { result ≡ is_decided self.now }
+        ensures short { OnFalse result (length self.now.pending < 65542) }
+        ensures going { OnFalse result ((self.now.taken < self.now.cap) × (self.now.ended ≡ false)) }
+    {
+        let pending = self.pending();
+        if has_bad_version(pending) {
+            return true;
+        }
+        if begins_packet(pending) {
+            return true;
+        }
+        if self.ended {
+            return true;
+        }
+        self.taken == self.cap
+    }
+
+    // Reads one piece behind the octets that wait.
+    fn feed<X: Port>(&mut self, port: &mut X) -> Result<(), Failed>
+        requires short { length self.old.pending < 65542 }
+        requires below { self.old.taken < self.old.cap }
+        ensures { FeedsOnce result (X.outside port.old) (X.outside port.new) self.old self.new }
+    {
+        self.text_start = 0;
+        self.text_end = 0;
+        let held = self.end - self.start;
+        self.start = make_room(&mut self.buffer, self.start, held);
+        self.end = self.start + held;
+        let room = (self.buffer.len() - self.end).min(PIECE);
+        let most = (self.cap - self.taken).min(room as u64) as usize;
+        let Ok(count) = port.read(&mut self.buffer[self.end..self.end + most]) else {
+            return Err(Failed);
+        };
+        self.end += count;
+        self.taken += count as u64;
+        if count == 0 {
+            self.ended = true;
+        }
+        Ok(())
+    }
+
+    // What the octets at hand, the end or the cap have decided.
+    #[tactic(auto, unfolding(crate::specs::Intake::is_decided, crate::specs::Intake::verdict, crate::specs::Intake::answered))]
+    fn answer(&mut self, apid: u16) -> Result<PacketRead, InFault>
+        requires decided { is_decided self.old ≡ true }
+        requires no_text { self.old.text ≡ [] }
+        ensures answer { verdict apid self.old ≡ Some result }
+        ensures stands { self.new ≡ answered apid self.old }
+    {
+        let pending = self.pending();
+        if has_bad_version(pending) {
+            return Ok(PacketRead::Fault(Framing::BadVersion {
+                octet: self.taken - pending.len() as u64,
+            }));
+        }
+        if begins_packet(pending) {
+            return Ok(self.take_packet(apid));
+        }
+        if !self.ended {
+            return Err(InFault::LongInput);
+        }
+        if pending.is_empty() {
+            return Ok(PacketRead::Ended);
+        }
+        Ok(PacketRead::Fault(Framing::CutPacket {
+            missing: missing(pending),
+        }))
+    }
+
+    // Passes the whole packet with which the octets that wait begin.
+    fn take_packet(&mut self, apid: u16) -> PacketRead
+        requires whole { begins_packet self.old.pending ≡ true }
+        requires no_text { self.old.text ≡ [] }
+        ensures read { result ≡ packet_read apid (first_packet self.old.pending) }
+        ensures stands { self.new ≡ answered apid self.old }
+    {
+        let length = told_length(self.pending());
+        let packet = &self.pending()[..length];
+        if let Some(skip) = skip_of(packet, apid) {
+            self.start += length;
+            return PacketRead::Skipped(skip);
+        }
+        let read = mine_in(packet);
+        self.text_start = self.start + HEADER;
+        self.text_end = self.start + length;
+        self.start += length;
+        read
+    }
+}
+
+// Moves octets that wait from a place on to the buffer's front, where they don't overlap, and answers where they begin then.
+fn make_room(buffer: &mut [u8], start: usize, held: usize) -> usize
+    requires within { start + held ≤ length buffer.old }
+    ensures same { take held (drop result buffer.new) ≡ take held (drop start buffer.old) }
+    ensures near { result ≤ held }
+    ensures before { result ≤ start }
+{
+    if held > start {
+        return start;
+    }
+    copy_to_front(buffer, start, held);
+    0
+}
+
+// Copies octets from a place on to the front, where they don't overlap.
+fn copy_to_front(buffer: &mut [u8], start: usize, count: usize)
+    requires apart { count ≤ start }
+    requires within { start + count ≤ length buffer.old }
+    ensures { take count buffer.new ≡ take count (drop start buffer.old) }
+{
+    let (front, back) = buffer.split_at_mut(start);
+    front[..count].copy_from_slice(&back[..count]);
+}
