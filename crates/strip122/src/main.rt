@@ -1,7 +1,16 @@
 //! The program: standard input, output and error, the words of the command line and the status.
 #![tactic(auto)]
 
-use port_122::StdPort;
+ghost use Rattle.std.specs.Prelude.{◌≡◌, ℕ, List, Result, MatchOption};
+ghost use Rattle.std.specs.Process.{exit_status};
+ghost use Rattle.command_words.specs.declared.command.Command.{Command};
+ghost use Rattle.command_words.specs.declared.command.WordFault.{WordFault};
+ghost use Rattle.command_words.specs.Words.{texts, Says};
+ghost use Rattle.top_122.specs.Run.{Runs};
+ghost use Rattle.strip122.specs.Answers.{IsAnswer};
+
+use port_122::{Port, StdPort};
+use std::alloc::Global;
 use std::env;
 use std::io::ErrorKind;
 use std::process::ExitCode;
@@ -17,7 +26,7 @@ const WRITE_FAULT: u8 = 5;
 const NO_MEMORY: u8 = 6;
 
 const USAGE: &str = "\
-usage: strip122 encode width=N rows=N stop=dc [KEY=VALUE ..]
+usage: strip122 encode width=N rows=N [KEY=VALUE ..]
        strip122 make width=N rows=N [KEY=VALUE ..]
        strip122 --help | --version
 
@@ -27,12 +36,13 @@ make    writes a made raster to standard output, and reads nothing
 A raster has its rows from the top. A pixel has one octet where depth is at most 8, else
 two, the greater first.
 
-keys, each at most once, with the default in parentheses
-of both    width=17..1048575 depth=1..16 (8) signed=0|1 (0)
-of encode  rows=17..48 stop=dc segment=16..1048575 (64) word=1..4 (1)
+keys, each at most once, with the default in parentheses; those without one are required
+of both    width=17..1048575 rows=17..262144 depth=1..16 (8) signed=0|1 (0)
+of encode  segment=16..1048575 (64) limit=0|32..134217724 (0) fill=0|1 (0) word=1..4 (1)
+           stop=dc|PLANE.STAGE (0.3) weights=ten of 0..3 (0111222333)
            select=heuristic|optimal (optimal) apid=0..2046 (100) image=0..65535 (0)
            packet=64..65536 (1024)
-of make    rows=17..262144 seed=0..4294967295 (0)
+of make    seed=0..4294967295 (0)
 
 status  0 done, 2 the words are refused, 3 the input is refused, 4 read fault,
         5 write fault, 6 no memory
@@ -40,8 +50,12 @@ status  0 done, 2 the words are refused, 3 the input is refused, 4 read fault,
 
 const VERSION: &str = "strip122 0.1.0\n";
 
-// What the program itself answers to a lone word.
-fn answer(words: &[String]) -> Option<&'static str> {
+// What the program itself answers, to one word alone.
+fn answer(words: &[String]) -> Option<&'static str>
+    ensures { MatchOption result
+        ((text : List ℕ) → IsAnswer (texts words.now) text → ⊥)
+        (λ text. IsAnswer (texts words.now) text.now) }
+{
     let [word] = words else {
         return None;
     };
@@ -59,6 +73,14 @@ fn print(rt: &impl Print, text: &str) -> u8 {
     }
 }
 
+// Does what the words say, and ends with the status that `run` answers.
+fn run_words<X: Port>(alloc: Global, words: &[String], port: &mut X) -> ExitCode
+    ensures { (said : Result Command WordFault) × Says (texts words.now) said
+        × Runs (texts words.now) said (X.outside port.old) (X.outside port.new) (exit_status result) }
+{
+    ExitCode::from(run(alloc, words, port))
+}
+
 fn main(rt: HostRuntime) -> ExitCode {
     let mut words = match env::args(&rt) {
         Ok(words) => words,
@@ -73,5 +95,5 @@ fn main(rt: HostRuntime) -> ExitCode {
         return ExitCode::from(print(&rt, text));
     }
     let mut port = StdPort::new(rt.stdin(), rt.stdout(), rt.stderr());
-    ExitCode::from(run(rt.alloc(), words.as_slice(), &mut port))
+    run_words(rt.alloc(), words.as_slice(), &mut port)
 }

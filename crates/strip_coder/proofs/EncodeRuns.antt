@@ -1,155 +1,99 @@
--- A run of the encoder: the rows, the packets, and the end of the input.
-use Rattle.std.proofs.Common.{◌≡◌, ℕ, ◌*◌, ◌/◌, ◌<◌, ◌≤◌, ℤ, true, false, List, [], ◌∷◌, ◌++◌, length, take, refl, sym, ap, ◌∙◌, subst, arith, ltb, length-append}
-use Rattle.std.specs.Prelude.{Result, Ok, Err, IsErrAnd}
-use Rattle.std.proofs.lemmas.Bool.Decides.{nat_tests}
-use Rattle.std.proofs.lemmas.List.{append-nil, length-take-le}
+-- The end of a run: the rest of the packets, and the end of the input.
+use Rattle.std.proofs.Common.{◌≡◌, ℕ, ◌-◌, ◌<◌, ℤ, true, false, List, [], ◌∷◌, ◌++◌, length, take, refl, sym, ap, ◌∙◌, subst, arith, length-append}
+use Rattle.std.specs.Prelude.{Ok, Err}
+use Rattle.std.proofs.lemmas.List.{append-nil}
 use Rattle.std.proofs.Math.Seq.{take-append_seam}
-use Rattle.std.proofs.Math.Nat.{mul-div_left, mul_assoc, zero-div}
-use Rattle.port_122.specs.Outside.{Outside, Since, NoRead, AtStart, GivenBy, ReadFailed, Rose}
-use Rattle.port_122.proofs.Stretches.{since_start, since_out, since_weaker, rose_since}
+use Rattle.port_122.specs.Outside.{Outside, Since, AtStart, GivenBy, ReadFailed}
+use Rattle.port_122.proofs.Stretches.{since_out, rose_since}
 use Rattle.port_122.proofs.ReadCalls.{since_prompt}
+use Rattle.wave_defs.specs.Held.{SameWithin}
+use Rattle.base_122.specs.Ranges.{IsInRange}
 use Rattle.base_122.specs.declared.setting.Setting.{Setting}
-use Rattle.raster_rows.specs.Pixels.{pixel_size, whole_pixels}
+use Rattle.packet_defs.specs.Packets.{joined}
 use Rattle.raster_rows.specs.Ends.{SawEnd}
-use Rattle.stream_defs.specs.Output.{output}
+use Rattle.stream_defs.specs.Output.{image_blocks, output, packets_of}
+use Rattle.stream_defs.proofs.ImageLaws.{blocks_whole}
 use Rattle.strip_coder.specs.declared.encode.EncodeDone.{EncodeDone}
-use Rattle.strip_coder.specs.declared.encode.EncodeFault.{EncodeFault}
-use Rattle.strip_coder.specs.declared.encode.EncodeFault.TheVariants.{ReadFault, WriteFault, Short, Long, BadPixel, Memory}
-use Rattle.strip_coder.specs.Rasters.{raster_length, image_of, AreInRange, given_for}
-use Rattle.strip_coder.specs.Answers.{TookRaster, DoneFor, EncodesImage}
-use Rattle.strip_coder.specs.RowsIn.{TookImage, InRaster, RowsIn}
-use Rattle.raster_rows.proofs.PixelPlaces.{size_some}
+use Rattle.strip_coder.specs.declared.encode.EncodeFault.TheVariants.{ReadFault, WriteFault, Long}
+use Rattle.strip_coder.specs.declared.work.Work.{Work}
+use Rattle.strip_coder.specs.Rasters.{raster_length, image_of, given_for}
+use Rattle.strip_coder.specs.Answers.{TookRaster, EncodesImage}
+use Rattle.strip_coder.specs.Steps.{RowIs, EndsImage, BreaksAt}
+use Rattle.strip_coder.specs.RowsIn.{HasCome, LastStands}
+use Rattle.strip_coder.proofs.RowsGiven.{given_whole}
+use Rattle.strip_coder.proofs.RowsTakenLaws.{all_whole}
+use Rattle.strip_coder.proofs.FrontsGiven.{front_out, broke_off}
 
--- nothing stands given before the raster is whole
-given_for-short : (s : Setting) (taken : List ℕ) → length taken < raster_length s → given_for s taken ≡ []
-unfolding given_for
-given_for-short s taken lt = let e : ltb (length taken) (raster_length s) ≡ true = grind (arith, nat_tests) in rw e refl
+module _ (s : Setting) (range : IsInRange s) (p q : Outside) (w : Work) (come : HasCome s s.rows p q w) where
+  some : 0 < s.rows
+  some = let rows = range.rows.0 in omega (arith, rows)
 
--- and all packets from then on
-given_for-whole : (s : Setting) (taken more : List ℕ) → length taken ≡ raster_length s → given_for s (taken ++ more) ≡ output s (image_of s taken)
-unfolding given_for
-given_for-whole s taken more e =
-    let long : raster_length s ≤ length (taken ++ more) = omega (arith, e, length-append taken more) in
-    let f : ltb (length (taken ++ more)) (raster_length s) ≡ false = grind (arith, nat_tests) in
-    let front : take (raster_length s) (taken ++ more) ≡ taken = subst (λ n. take n (taken ++ more) ≡ taken) e (take-append_seam taken more) in
-    rw (f, front) refl
+  last : LastStands s s.rows come.took w.row.items
+  last = come.last some
 
-rows_prompt : {a b : Outside} (s : Setting) (took : List ℕ) → Since a b took [] [] (InRaster s) → Since a b took [] [] (GivenBy (given_for s) took)
-rows_prompt s took p = since_weaker p (λ i j le r.
-    let size : length (take i took) ≡ i = length-take-le i took le in
-    let none : given_for s (take i took) ≡ [] = given_for-short s (take i took) (omega (arith, size, r.0)) in
-    rw none (omega (arith, r.1)))
+  raster : TookRaster s come.took
+  raster = record { whole = come.whole; in_range = all_whole s s.rows come.took come.whole come.in_range }
 
--- the raster as a whole
-took_raster : (s : Setting) (took : List ℕ) (cells : List ℤ) → TookImage s took cells → TookRaster s took
-took_raster s took cells p =
-    let some = size_some s.depth in
-    let size : length took ≡ (s.rows * s.width) * pixel_size s.depth = p.whole ∙ sym (mul_assoc s.rows s.width (pixel_size s.depth)) in
-    let count : whole_pixels s.depth took ≡ s.rows * s.width = ap (λ n. n / pixel_size s.depth) size ∙ mul-div_left (s.rows * s.width) {n = pixel_size s.depth} some in
-    record { whole = p.whole; in_range = subst (AreInRange s took) (sym count) p.in_range }
+  itself : SameWithin s.rows s.width (image_of s come.took) (image_of s come.took)
+  itself = record { at = λ i j hi hj. refl }
 
--- ---- how a run ends
+  -- the last row of each image with these rows stands
+  row_is : (y : ℕ → ℕ → ℤ) → SameWithin s.rows s.width (image_of s come.took) y → RowIs s y (s.rows - 1) w
+  row_is y same = record { at = λ j lt. last.same.at j lt ∙ same.at (s.rows - 1) j (omega (arith, some)) lt }
 
--- no memory before anything is taken
-pub no_memory : (s : Setting) (a : Outside) → EncodesImage s a a (Err Memory)
-no_memory s a = record {
-  took = [];
-  gave = [];
-  since = since_start a _;
-  answer = (omega arith, record { each = λ k lt. absurd (omega (arith, lt, none_whole s)) }, refl);
-}
-  where
-    none_whole : (s : Setting) → whole_pixels s.depth [] ≡ 0
-    none_whole s = zero-div (pixel_size s.depth)
+  -- a write of the rest failed
+  pub end_breaks_off : {r : Outside} (new : Work) → BreaksAt s (s.rows - 1) q r w new → EncodesImage s p r (Err WriteFault)
+  end_breaks_off new breaks =
+      broke_off s come.took (joined (packets_of s (image_blocks s (image_of s come.took)) w.at.index)) s.rows w.at.index come.since
+      (record { whole = come.whole; most = omega arith; in_range = raster.in_range })
+      breaks.rose
+      (front_out s s.rows (image_of s come.took) w.at.index come.stands.taken.running.gathered.index (λ y h. breaks.breaks y (come.stands.follows y h) (row_is y h)))
+      (λ y h. ap (λ all. joined (packets_of s all w.at.index)) (blocks_whole s range (image_of s come.took) y h))
 
--- the rows weren't all taken
-pub rows_failed : {T : Type 0} {a b : Outside} (s : Setting) (cells : List ℤ) (fault : EncodeFault) → RowsIn {T = T} s a b cells (Err fault) → EncodesImage s a b (Err fault)
-rows_failed s cells ReadFault p = record {
-  took = p.took;
-  gave = [];
-  since = rows_prompt s p.took p.since;
-  answer = (p.answer.0, omega (arith, p.answer.1), p.answer.2, sym (given_for-short s p.took p.answer.1));
-}
-rows_failed s cells (Short octets) p =
-    record { took = p.took; gave = []; since = rows_prompt s p.took p.since; answer = (p.answer.0, p.answer.1, p.answer.2, p.answer.3, refl) }
-rows_failed s cells (BadPixel row column value) p =
-    record { took = p.took; gave = []; since = rows_prompt s p.took p.since; answer = (p.answer.0, p.answer.1, refl) }
-rows_failed s cells WriteFault p = absurd p.answer
-rows_failed s cells Long p = absurd p.answer
-rows_failed s cells Memory p = absurd p.answer
+  -- ---- the rest was given
 
--- the same, of a fault that is handed on
-pub rows_failed_as : {T : Type 0} {a b : Outside} (s : Setting) (cells : List ℤ) (fault : EncodeFault) (result : Result EncodeDone EncodeFault) →
-    IsErrAnd result (λ e. e ≡ fault) → RowsIn {T = T} s a b cells (Err fault) → EncodesImage s a b result
-rows_failed_as s cells fault (Ok done) is p = absurd is
-rows_failed_as {a = a} {b = b} s cells fault (Err other) is p = subst (λ e. EncodesImage s a b (Err e)) (sym is) (rows_failed s cells fault p)
+  module _ (r : Outside) (new : Work) (done : EncodeDone) (ends : EndsImage s q r w new done) where
+    all_given : Since p r come.took (output s (image_of s come.took)) [] (GivenBy (given_for s) come.took)
+    all_given =
+        let goes = ends.goes (image_of s come.took) (come.stands.follows (image_of s come.took) itself) (row_is (image_of s come.took) itself) in
+        subst (λ g. Since p r come.took g [] (GivenBy (given_for s) come.took)) goes.then_are (since_out come.since goes.out)
 
--- no memory for the transform
-pub no_memory_later : {T : Type 0} {t : T} {a b : Outside} (s : Setting) (cells : List ℤ) → RowsIn s a b cells (Ok t) → EncodesImage s a b (Err Memory)
-no_memory_later s cells p =
-    let raster = took_raster s p.took cells p.answer in
-    record {
-      took = p.took;
-      gave = [];
-      since = rows_prompt s p.took p.since;
-      answer = (omega (arith, raster.whole), raster.in_range, refl);
+    -- the end is asked for
+    asked_end : {d : Outside} {more : List ℕ} → Since r d more [] [] AtStart → Since p d (come.took ++ more) (output s (image_of s come.took)) [] (GivenBy (given_for s) (come.took ++ more))
+    asked_end {more = more} read =
+        since_prompt (given_for s) all_given read
+        (λ i j most h.
+        let e = given_whole s come.took (take i more) range come.whole in
+        omega (arith, h.1, ap length e))
+
+    same_took : come.took ++ [] ≡ come.took
+    same_took = append-nil come.took
+
+    pub run_done : {d : Outside} → SawEnd r d true → EncodesImage s p d (Ok done)
+    run_done {d = d} end = record {
+      took = come.took;
+      gave = output s (image_of s come.took);
+      since = subst (λ t. Since p d t (output s (image_of s come.took)) [] (GivenBy (given_for s) t)) same_took (asked_end end.0);
+      answer = (raster, end.1, refl, ends.done (image_of s come.took) (come.stands.follows (image_of s come.took) itself) (row_is (image_of s come.took) itself));
     }
 
--- a write failed
-pub write_failed : {T : Type 0} {t : T} {a b c : Outside} (s : Setting) (cells : List ℤ) (k : ℕ) (p : RowsIn s a b cells (Ok t)) →
-    Rose b.write_faults c.write_faults → Since b c [] (take k (output s (image_of s p.took))) [] NoRead → EncodesImage s a c (Err WriteFault)
-write_failed s cells k p rose q =
-    let raster = took_raster s p.took cells p.answer in
-    record {
-      took = p.took;
-      gave = take k (output s (image_of s p.took));
-      since = since_out (rows_prompt s p.took p.since) q;
-      answer = (rose_since p.since.faults.writes rose, raster, (k, refl));
-    }
+    pub run_long : {d : Outside} → SawEnd r d false → EncodesImage s p d (Err Long)
+    run_long end =
+        let front : take (raster_length s) (come.took ++ end.0 ∷ []) ≡ come.took = subst (λ n. take n (come.took ++ end.0 ∷ []) ≡ come.took) come.whole (take-append_seam come.took (end.0 ∷ [])) in
+        record {
+          took = come.took ++ end.0 ∷ [];
+          gave = output s (image_of s come.took);
+          since = asked_end end.1;
+          answer = (omega (arith, come.whole, length-append come.took (end.0 ∷ [])), subst (TookRaster s) (sym front) raster, ap (λ t. output s (image_of s t)) (sym front));
+        }
 
--- all packets are given, and the end is asked for
-asked_end : {T : Type 0} {t : T} {a b c d : Outside} {more : List ℕ} (s : Setting) (cells : List ℤ) (p : RowsIn s a b cells (Ok t)) →
-    Since b c [] (output s (image_of s p.took)) [] NoRead → Since c d more [] [] AtStart →
-    Since a d (p.took ++ more) (output s (image_of s p.took)) [] (GivenBy (given_for s) (p.took ++ more))
-asked_end {more = more} s cells p q r =
-    since_prompt (given_for s) (since_out (rows_prompt s p.took p.since) q) r
-    (λ i j le h.
-    let e = given_for-whole s p.took (take i more) p.answer.whole in
-    omega (arith, h.1, ap length e))
-
-pub done : {T : Type 0} {t : T} {a b c d : Outside} (s : Setting) (cells : List ℤ) (p : RowsIn s a b cells (Ok t)) (e : EncodeDone) →
-    Since b c [] (output s (image_of s p.took)) [] NoRead → SawEnd c d true → DoneFor s (image_of s p.took) e → EncodesImage s a d (Ok e)
-done {a = a} {d = d} s cells p e q end counts =
-    let raster = took_raster s p.took cells p.answer in
-    let same : p.took ++ [] ≡ p.took = append-nil p.took in
-    record {
-      took = p.took;
-      gave = output s (image_of s p.took);
-      since = subst (λ t. Since a d t (output s (image_of s p.took)) [] (GivenBy (given_for s) t)) same (asked_end s cells p q end.0);
-      answer = (raster, end.1, refl, counts);
-    }
-
-pub long : {T : Type 0} {t : T} {a b c d : Outside} (s : Setting) (cells : List ℤ) (p : RowsIn s a b cells (Ok t)) →
-    Since b c [] (output s (image_of s p.took)) [] NoRead → SawEnd c d false → EncodesImage s a d (Err Long)
-long s cells p q end =
-    let raster = took_raster s p.took cells p.answer in
-    let front : take (raster_length s) (p.took ++ end.0 ∷ []) ≡ p.took = subst (λ n. take n (p.took ++ end.0 ∷ []) ≡ p.took) raster.whole (take-append_seam p.took (end.0 ∷ [])) in
-    record {
-      took = p.took ++ end.0 ∷ [];
-      gave = output s (image_of s p.took);
-      since = asked_end s cells p q end.1;
-      answer = (omega (arith, raster.whole, length-append p.took (end.0 ∷ [])), subst (TookRaster s) (sym front) raster, ap (λ t. output s (image_of s t)) (sym front));
-    }
-
-pub end_unread : {T : Type 0} {t : T} {a b c d : Outside} (s : Setting) (cells : List ℤ) (p : RowsIn s a b cells (Ok t)) →
-    Since b c [] (output s (image_of s p.took)) [] NoRead → ReadFailed c d → EncodesImage s a d (Err ReadFault)
-end_unread {a = a} {d = d} s cells p q failed =
-    let raster = took_raster s p.took cells p.answer in
-    let same : p.took ++ [] ≡ p.took = append-nil p.took in
-    let stands : given_for s p.took ≡ output s (image_of s p.took) = subst (λ t. given_for s t ≡ output s (image_of s p.took)) same (given_for-whole s p.took [] raster.whole) in
-    record {
-      took = p.took;
-      gave = output s (image_of s p.took);
-      since = subst (λ t. Since a d t (output s (image_of s p.took)) [] (GivenBy (given_for s) t)) same (asked_end s cells p q failed.since);
-      answer = (rose_since p.since.faults.reads (rose_since q.faults.reads failed.rose), omega (arith, raster.whole), raster.in_range, sym stands);
-    }
+    pub run_unread : {d : Outside} → ReadFailed r d → EncodesImage s p d (Err ReadFault)
+    run_unread {d = d} failed =
+        let stands : given_for s come.took ≡ output s (image_of s come.took) =
+        subst (λ t. given_for s t ≡ output s (image_of s come.took)) same_took (given_whole s come.took [] range come.whole) in
+        record {
+          took = come.took;
+          gave = output s (image_of s come.took);
+          since = subst (λ t. Since p d t (output s (image_of s come.took)) [] (GivenBy (given_for s) t)) same_took (asked_end failed.since);
+          answer = (rose_since all_given.faults.reads failed.rose, omega (arith, come.whole), raster.in_range, sym stands);
+        }

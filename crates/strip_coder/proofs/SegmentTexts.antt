@@ -1,5 +1,6 @@
 -- The text of one segment of an image.
-use Rattle.std.proofs.Common.{◌≡◌, ℕ, ◌+◌, ◌-◌, ◌*◌, ◌/◌, ◌<◌, ◌≤◌, ◌==◌, ℤ, Bool, true, false, if◌then◌else◌, List, length, refl, sym, ap, ◌∙◌, subst, arith, inl, length-append}
+use Rattle.std.proofs.Common.{◌≡◌, ℕ, ◌+◌, ◌-◌, ◌*◌, ◌/◌, ◌<◌, ◌≤◌, ◌==◌, ℤ, Bool, true, false, if◌then◌else◌, List, length, refl, ap, ◌∙◌, arith, inl, inr, take, length-append, length-take}
+use Rattle.std.proofs.lemmas.Bool.Decides.{nat_tests}
 use Rattle.std.proofs.Math.Nat.{le-div_iff_mul-le, mul-le-mul_right}
 use Rattle.std.proofs.lemmas.List.FromFn.{length-map-range_with_len}
 use Rattle.base_122.specs.Sizes.{padded_size}
@@ -11,29 +12,31 @@ use Rattle.item_defs.specs.Items.{text}
 use Rattle.item_defs.proofs.BitLists.{length-copies}
 use Rattle.item_defs.proofs.OctetBits.{length-octets_of}
 use Rattle.segment_defs.specs.declared.head.SegmentHead.{SegmentHead}
-use Rattle.segment_defs.specs.Depths.{block_at, blocks_in, depth_dc_of, depth_ac_of}
+use Rattle.wave_defs.specs.Held.{block_at, blocks_in}
+use Rattle.segment_defs.specs.Depths.{block_depths, depth_dc_of, depth_ac_of}
 use Rattle.segment_defs.specs.Head.{head_bits, head_fields, IsHead}
-use Rattle.segment_defs.specs.Text.{text_octets}
-use Rattle.segment_defs.specs.Coded.{coded, coded_bits, dc_part}
+use Rattle.segment_defs.specs.Text.{cut, text_octets}
+use Rattle.segment_defs.specs.SegmentItems.{segment_items}
+use Rattle.segment_defs.specs.Coded.{coded, coded_bits, chosen_options}
 use Rattle.stream_defs.specs.Output.{head_with, segments_of}
-use Rattle.strip_coder.specs.SegmentsOut.{dc_stop, text_for}
+use Rattle.strip_coder.specs.SegmentsOut.{text_for}
 
 pub length-blocks_in : (cells : List ℤ) → length (blocks_in cells) ≡ length cells / 64
 unfolding blocks_in
 length-blocks_in cells = length-map-range_with_len (block_at cells) 0 (length cells / 64)
 
 -- a head of a setting in range can be said
-pub head_is : (s : Setting) (index count depth_dc depth_ac : ℕ) → IsInRange s → s.stop ≡ dc_stop → s.limit ≡ 0 → 1 ≤ count → count ≤ 1048575 →
+pub head_is : (s : Setting) (index count depth_dc depth_ac : ℕ) → IsInRange s → 1 ≤ count → count ≤ 1048575 →
     1 ≤ depth_dc → depth_dc ≤ 28 → depth_ac ≤ 27 → IsHead (head_with s index count depth_dc depth_ac)
-head_is s index count depth_dc depth_ac range stop limit some most least_dc most_dc most_ac = record {
+head_is s index count depth_dc depth_ac range some most least_dc most_dc most_ac = record {
   depth_dc = (least_dc, most_dc);
   depth_ac = most_ac;
   pad_rows = pads (index + 1 == segments_of s) s.rows;
   pads_last = none (index + 1 == segments_of s) s.rows;
-  limit = inl limit;
-  plane = omega (arith, range.plane);
-  stage = omega (arith, range.stage);
-  stops_at_dc = λ _. (ap (λ p. p.plane) stop, ap (λ p. p.stage) stop);
+  limit = elim range.limit [ inl none ↦ inl none | inr given ↦ inr (given.0.0, omega (arith, given.0), given.1) ];
+  plane = plane_least s.stop.dc s.stop.plane (omega (arith, range.plane));
+  stage = stage_least s.stop.dc s.stop.stage (omega (arith, range.stage));
+  stops_at_dc = λ dc. (ap (λ b. if b then 0 else s.stop.plane) dc, ap (λ b. if b then 3 else s.stop.stage) dc);
   fill = range.fill;
   blocks = (some, omega arith);
   image = record {
@@ -44,6 +47,14 @@ head_is s index count depth_dc depth_ac range stop limit some most least_dc most
   };
 }
   where
+    plane_least : (dc : Bool) (plane : ℕ) → plane < 32 → (if dc then 0 else plane) < 32
+    plane_least true plane h = omega arith
+    plane_least false plane h = h
+
+    stage_least : (dc : Bool) (stage : ℕ) → stage < 4 → (if dc then 3 else stage) < 4
+    stage_least true stage h = omega arith
+    stage_least false stage h = h
+
     pads : (last : Bool) (rows : ℕ) → (if last then padded_size rows - rows else 0) < 8
     pads true rows = omega arith
     pads false rows = omega arith
@@ -57,23 +68,26 @@ head_some : (h : SegmentHead) → 1 ≤ length (head_bits h)
 unfolding head_bits head_fields bits_of
 head_some h = omega arith
 
--- with no limit, a text is all of its padded bits
-pub coded_whole : (h : SegmentHead) (blocks : List (List ℤ)) → h.limit ≡ 0 →
-    coded h blocks ≡ octets_of (padded h.image.word h.limit h.fill (coded_bits h blocks))
-unfolding coded text_octets
-coded_whole h blocks limit = rw limit refl
+-- nor is what a limit leaves of octets
+cut_some : (limit : ℕ) (octets : List ℕ) → 0 < length octets → 0 < length (cut limit octets)
+cut_some limit octets some = by_limit (limit == 0) refl
+  where
+    by_limit : (none : Bool) → (limit == 0) ≡ none → 0 < length (if none then octets else take limit octets)
+    by_limit true e = some
+    by_limit false e = let least : 1 ≤ limit = grind (arith, nat_tests) in omega (arith, some, least, length-take limit octets)
 
 -- nor is a text that has one
-pub coded_some : (h : SegmentHead) (blocks : List (List ℤ)) → 1 ≤ h.image.word → h.limit ≡ 0 → 0 < length (coded h blocks)
-coded_some h blocks word limit =
+pub coded_some : (h : SegmentHead) (blocks : List (List ℤ)) → 1 ≤ h.image.word → 0 < length (coded h blocks)
+unfolding coded text_octets
+coded_some h blocks word =
     let bits = coded_bits h blocks in
     let unit = 8 * h.image.word in
-    let some : 1 ≤ length bits = omega (arith, head_some h, length-append (head_bits h) (text (dc_part h blocks))) in
+    let some : 1 ≤ length bits = omega (arith, head_some h, length-append (head_bits h) (text (segment_items h blocks (block_depths blocks) (chosen_options h blocks)))) in
     let least : 1 * unit ≤ rounded unit (length bits) = mul-le-mul_right {m = 1} {n = (length bits + (unit - 1)) / unit} unit (one_word unit (length bits) (omega (arith, word)) some) in
     let long : length (padded h.image.word h.limit h.fill bits) ≡ length bits + padding h.image.word h.limit h.fill (length bits) =
     length-append bits (copies (padding h.image.word h.limit h.fill (length bits)) false) ∙ ap (λ n. length bits + n) (length-copies (padding h.image.word h.limit h.fill (length bits)) false) in
     let eight : 8 ≤ length (padded h.image.word h.limit h.fill bits) = omega (arith, long, least, word) in
-    subst (λ octets. 0 < length octets) (sym (coded_whole h blocks limit)) (omega (arith, length-octets_of (padded h.image.word h.limit h.fill bits), eight))
+    cut_some h.limit (octets_of (padded h.image.word h.limit h.fill bits)) (omega (arith, length-octets_of (padded h.image.word h.limit h.fill bits), eight))
   where
     one_word : (unit n : ℕ) → 8 ≤ unit → 1 ≤ n → 1 ≤ (n + (unit - 1)) / unit
     one_word unit n some more = (le-div_iff_mul-le {k = unit} {x = 1} {y = n + (unit - 1)} (omega arith)).1 (omega arith)

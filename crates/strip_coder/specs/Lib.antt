@@ -1,6 +1,6 @@
 pub mod Rasters
 pub mod Answers
-pub mod RowsIn
-pub mod BlockRows
 pub mod SegmentsOut
-pub mod Rooms
+pub mod Works
+pub mod Steps
+pub mod RowsIn

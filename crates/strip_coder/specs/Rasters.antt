@@ -1,9 +1,11 @@
 -- The raster that an encoder takes, and what it gives for it.
-use Rattle.std.specs.Prelude.{◌*◌, ℕ, ℤ, List, [], length, take, nat_lt, if◌then◌else◌}
+use Rattle.std.specs.Prelude.{◌*◌, ◌/◌, ℕ, ℤ, List, length, min}
 use Rattle.base_122.specs.declared.setting.Setting.{Setting}
+use Rattle.packet_defs.specs.Packets.{joined}
 use Rattle.raster_rows.specs.Pixels.{pixel_size, raster_pixel}
 use Rattle.raster_rows.specs.RowReads.{FirstInRange}
-use Rattle.stream_defs.specs.Output.{output}
+use Rattle.stream_defs.specs.Output.{image_blocks, packets_of}
+use Rattle.stream_defs.specs.Settled.{settled}
 
 -- octets of a row and of the whole raster
 abbrev pub row_length : Setting → ℕ
@@ -20,7 +22,14 @@ image_of s octets = raster_pixel s.depth s.signed s.width octets
 abbrev pub AreInRange : Setting → List ℕ → ℕ → Type 0
 AreInRange s octets n = FirstInRange s.depth s.signed octets n
 
--- what is given once these octets are taken: nothing before the raster is whole, and then all packets of its image
+-- the packets of the segments that the first k rows of a raster settle
+unfoldable pub settled_octets : Setting → (taken : List ℕ) → (k : ℕ) → List ℕ
+settled_octets s taken k = joined (packets_of s (image_blocks s (image_of s taken)) (settled s k))
+
+-- the whole rows of a raster that these octets begin with
+abbrev pub whole_rows : Setting → List ℕ → ℕ
+whole_rows s taken = min s.rows (length taken / row_length s)
+
+-- what is given once these octets are taken: the packets of the segments that the whole rows settle
 unfoldable pub given_for : Setting → List ℕ → List ℕ
-given_for s taken =
-    if nat_lt (length taken) (raster_length s) then [] else output s (image_of s (take (raster_length s) taken))
+given_for s taken = settled_octets s taken (whole_rows s taken)

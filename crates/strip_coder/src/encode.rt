@@ -28,7 +28,4 @@ pub enum EncodeFault {
     /// The first value out of range.
     #[error("bad pixel {value} at row {row} column {column}")]
     BadPixel { row: u32, column: u32, value: i32 },
-    /// There is no memory for the image.
-    #[error("no memory")]
-    Memory,
 }

@@ -1,13 +1,14 @@
-//! The encoder: from a raster's octets to space packets. So far it takes the whole raster before it writes.
+//! The encoder: from a raster's octets to space packets, row by row and in the memory of a strip.
 #![tactic(auto)]
 
-mod block_row;
-mod blocks;
 mod encode;
-mod image;
-mod room;
+mod engine;
+mod gather;
 mod rows;
 mod segments;
+mod work;
 
 pub use encode::{EncodeDone, EncodeFault};
-pub use image::encode_image;
+pub use engine::{image_end, row_in, start_image};
+pub use rows::encode_rows;
+pub use work::{ImageAt, Work};

@@ -1,71 +1,93 @@
-// A raster's rows into the padded image.
-ghost use Rattle.std.specs.Prelude.{◌≡◌, ◌≤◌, ◌<◌, ◌*◌, ◌+◌, ◌^◌, length};
-ghost use Rattle.wave_defs.specs.Held.{Agrees, signal};
+// The rows of a raster in, and its packets out.
+ghost use Rattle.std.specs.Prelude.{◌≡◌, ◌<◌, ◌+◌, ◌*◌, MatchResult};
+ghost use Rattle.port_122.specs.Outside.{Outside};
 ghost use Rattle.base_122.specs.Ranges.{IsInRange};
-ghost use Rattle.base_122.specs.Sizes.{padded_size};
 ghost use Rattle.strip_coder.specs.Rasters.{row_length};
-ghost use Rattle.strip_coder.specs.RowsIn.{fault_after, ShortOf, NextRow, RowsIn};
+ghost use Rattle.strip_coder.specs.Answers.{EncodesImage};
+ghost use Rattle.strip_coder.specs.Works.{IsMadeFor, HasTaken, StandsForNone};
+ghost use Rattle.strip_coder.specs.RowsIn.{fault_after, ShortOf, HasCome};
 
-use crate::encode::EncodeFault;
+use crate::encode::{EncodeDone, EncodeFault};
+use crate::engine::{image_end, row_in, start_image};
+use crate::work::Work;
 use base_122::Setting;
 use port_122::Port;
-use raster_rows::{RowFault, pad_row, read_row};
+use raster_rows::{RowFault, at_end, read_row};
 
-/// Takes all rows of a raster into the cells of the padded image, row after row. `row` has room for one padded row.
-pub fn read_rows<X: Port>(
+/// Takes an image's raster and gives the packets of its segments, each segment as soon as the rows so far settle it
+/// (docs/formats.md, "Raster and made image" and "Packets"; docs/architecture.md, "The encoder"). It reads a row only once all
+/// packets that the whole rows before settle are given, and the end once all packets are. `BadPixel` is the first pixel out of
+/// range, and its row the number of rows before it. After `Short`, `ReadFault` and `BadPixel` the packets of the settled
+/// segments are given, after `Long` all packets, and after `WriteFault` a front of them. `ReadFault` and `WriteFault` come only
+/// where the port's count rose. The work was made for an equal setting, and serves again after any answer.
+pub fn encode_rows<X: Port>(
     port: &mut X,
     setting: &Setting,
-    row: &mut [i32],
-    cells: &mut [i64],
-) -> Result<(), EncodeFault>
+    work: &mut Work,
+) -> Result<EncodeDone, EncodeFault>
     requires in_range { IsInRange setting.now }
-    requires row { length row.old ≡ padded_size setting.now.width }
-    requires cells { length cells.old ≡ padded_size setting.now.rows * padded_size setting.now.width }
-    ensures { RowsIn setting.now (X.outside port.old) (X.outside port.new) cells.new result }
+    requires made { IsMadeFor setting.now work.old }
+    ensures made { IsMadeFor setting.now work.new }
+    ensures encodes { EncodesImage setting.now (X.outside port.old) (X.outside port.new) result }
 {
-    let width = row.len();
-    let rows = cells.len() / width;
-    for r in 0..rows {
-        next_row(port, setting, r as u32, row)?;
-        widen_row(row, &mut cells[r * width..r * width + width]);
+    start_image(setting, work);
+    take_rows(port, setting, work)?;
+    let Ok(done) = image_end(port, setting, work) else {
+        return Err(EncodeFault::WriteFault);
+    };
+    match at_end(port) {
+        Ok(true) => Ok(done),
+        Ok(false) => Err(EncodeFault::Long),
+        Err(_) => Err(EncodeFault::ReadFault),
+    }
+}
+
+// Takes all rows of a raster.
+fn take_rows<X: Port>(port: &mut X, setting: &Setting, work: &mut Work) -> Result<(), EncodeFault>
+    requires in_range { IsInRange setting.now }
+    requires start { StandsForNone setting.now work.old }
+    ensures made { IsMadeFor setting.now work.new }
+    ensures rows { MatchResult result
+        (λ _. HasCome setting.now setting.now.rows (X.outside port.old) (X.outside port.new) work.new)
+        (λ fault. EncodesImage setting.now (X.outside port.old) (X.outside port.new) (Err fault)) }
+{
+    for _ in 0..setting.rows {
+        take_row(port, setting, work)?;
     }
     Ok(())
 }
 
-// Row r of the padded image: below the raster's last row the row stays as it is.
-fn next_row<X: Port>(
-    port: &mut X,
-    setting: &Setting,
-    r: u32,
-    row: &mut [i32],
-) -> Result<(), EncodeFault>
+// Takes the next row of a raster, and gives the packets of the segments that it settles.
+fn take_row<X: Port>(port: &mut X, setting: &Setting, work: &mut Work) -> Result<(), EncodeFault>
     requires in_range { IsInRange setting.now }
-    requires row { length row.old ≡ padded_size setting.now.width }
-    ensures { NextRow setting.now r (X.outside port.old) (X.outside port.new) row.old row.new result }
+    requires taken { HasTaken setting.now work.old.at.rows work.old }
+    requires few { work.old.at.rows < setting.now.rows }
+    ensures made { IsMadeFor setting.now work.new }
+    ensures row { (start : Outside) → HasCome setting.now work.old.at.rows start (X.outside port.old) work.old → MatchResult result
+        (λ _. HasCome setting.now (work.old.at.rows + 1) start (X.outside port.new) work.new)
+        (λ fault. EncodesImage setting.now start (X.outside port.new) (Err fault)) }
 {
-    if r >= setting.rows {
-        return Ok(());
+    let row = work.at.rows;
+    if let Err(fault) = read_row(port, setting, row, &mut work.row) {
+        return Err(row_fault(setting, row, fault));
     }
-    match read_row(port, setting, r, row) {
-        Ok(()) => {
-            pad_row(setting.width, row);
-            Ok(())
-        }
-        Err(fault) => Err(row_fault(setting, r, fault)),
-    }
+    let Ok(()) = row_in(port, setting, work) else {
+        return Err(EncodeFault::WriteFault);
+    };
+    Ok(())
 }
 
-// What a fault at row r is to the whole raster.
-fn row_fault(setting: &Setting, r: u32, fault: RowFault) -> EncodeFault
+// What a fault at this row is to the whole raster.
+fn row_fault(setting: &Setting, row: u32, fault: RowFault) -> EncodeFault
     requires in_range { IsInRange setting.now }
-    requires row { r < setting.now.rows }
+    requires row { row < setting.now.rows }
     requires octets { ShortOf fault (row_length setting.now) }
-    ensures { result ≡ fault_after (r * row_length setting.now) fault }
+    ensures { result ≡ fault_after (row * row_length setting.now) fault }
 {
     match fault {
         RowFault::ReadFault => EncodeFault::ReadFault,
         RowFault::Short { octets } => EncodeFault::Short {
-            octets: u64::from(r) * row_octets(setting) + octets,
+            octets: u64::from(row) * row_octets(setting) + octets,
         },
         RowFault::BadPixel { row, column, value } => EncodeFault::BadPixel { row, column, value },
     }
@@ -77,15 +99,4 @@ fn row_octets(setting: &Setting) -> u64
 {
     let size = if setting.depth <= 8 { 1 } else { 2 };
     u64::from(setting.width) * size
-}
-
-// Puts a row of samples into a wider row.
-#[tactic(auto, using(wave_defs::proofs::Filled::fills))]
-fn widen_row(row: &[i32], into: &mut [i64])
-    requires { length into.old ≡ length row.now }
-    ensures { Agrees (length row.now) (signal into.new) (signal row.now) }
-{
-    for column in 0..row.len() {
-        into[column] = i64::from(row[column]);
-    }
 }

@@ -1,64 +1,22 @@
-// The segments of an image, as packets.
+// One segment of an image, as packets.
 ghost use Rattle.std.specs.Prelude.{◌≡◌, ◌≤◌, ◌<◌, ◌-◌, ◌*◌, ◌/◌, ◌^◌, length, MatchResult};
-ghost use Rattle.base_122.specs.Sizes.{block_count};
-ghost use Rattle.segment_defs.specs.Depths.{blocks_in};
-ghost use Rattle.space_packets.specs.Progress.{fresh};
+ghost use Rattle.wave_defs.specs.Held.{blocks_in};
 ghost use Rattle.space_packets.specs.Writes.{TextOut, TextCut};
 ghost use Rattle.space_packets.specs.declared.stage.Stage.TheVariants.{Idle};
-ghost use Rattle.strip_coder.specs.BlockRows.{HasBlocks, blocks_of};
-ghost use Rattle.strip_coder.specs.Rooms.{most_blocks};
 ghost use Rattle.segment_code.specs.Numbers.{AreBounded};
-ghost use Rattle.strip_coder.specs.SegmentsOut.{dc_stop, text_of, text_for, WritesSegments};
+ghost use Rattle.strip_coder.specs.SegmentsOut.{text_of, text_for};
 ghost use Rattle.base_122.specs.Sizes.{padded_size};
 ghost use Rattle.base_122.specs.Ranges.{IsInRange};
-ghost use Rattle.stream_defs.specs.Output.{ancillary_of, head_with, image_part, segments_of};
+ghost use Rattle.stream_defs.specs.Output.{ancillary_of, head_with, image_part, segments_of, written_stop};
 
-use crate::blocks::gather_blocks;
-use base_122::{Select, Setting};
+use base_122::{Select, Setting, Stop};
 use port_122::{Failed, Port};
 use segment_code::{encode_segment, segment_depths};
 use segment_head::{ImagePart, SegmentHead};
 use space_packets::{Ancillary, Packetiser};
-use wave_plain::Bands;
 
-/// Writes the packets of all segments of an image, one segment after another. `blocks` and `marks` have room for the
-/// blocks of one segment, and the packetiser begins anew.
-pub fn write_segments<X: Port>(
-    port: &mut X,
-    setting: &Setting,
-    bands: &Bands,
-    blocks: &mut [i32],
-    marks: &mut [i32],
-    packets: &mut Packetiser,
-) -> Result<(), Failed>
-    requires in_range { IsInRange setting.now }
-    requires stop { setting.now.stop ≡ dc_stop }
-    requires limit { setting.now.limit ≡ 0 }
-    requires bands { HasBlocks bands.now }
-    requires rows { bands.now.rows / 8 ≡ block_count setting.now.rows }
-    requires columns { bands.now.width / 8 ≡ block_count setting.now.width }
-    requires blocks { length blocks.old ≡ 64 * most_blocks setting.now }
-    requires marks { length marks.old ≡ most_blocks setting.now }
-    requires packets { packets.old ≡ fresh setting.now.packet }
-    ensures { WritesSegments result setting.now (blocks_of setting.now bands.now) (X.outside port.old) (X.outside port.new) packets.new }
-{
-    let geometry = setting.geometry();
-    for index in 0..geometry.segments() {
-        let count = geometry.blocks_of(index) as usize;
-        let segment = &mut blocks[..64 * count];
-        gather_blocks(
-            bands,
-            &setting.weights,
-            index as usize * setting.segment as usize,
-            segment,
-        );
-        write_segment(port, setting, index, segment, &mut marks[..count], packets)?;
-    }
-    Ok(())
-}
-
-// Writes the packets of one segment.
-fn write_segment<X: Port>(
+/// Writes the packets of one segment.
+pub fn write_segment<X: Port>(
     port: &mut X,
     setting: &Setting,
     index: u32,
@@ -67,8 +25,6 @@ fn write_segment<X: Port>(
     packets: &mut Packetiser,
 ) -> Result<(), Failed>
     requires in_range { IsInRange setting.now }
-    requires stop { setting.now.stop ≡ dc_stop }
-    requires limit { setting.now.limit ≡ 0 }
     requires index { index < segments_of setting.now }
     requires some { 1 ≤ length marks.old }
     requires most { length marks.old ≤ 1048575 }
@@ -112,6 +68,21 @@ fn pad_rows(setting: &Setting) -> u8
     (setting.geometry().padded_rows() - setting.rows) as u8
 }
 
+// The stop as a head says it.
+fn written_stop(stop: Stop) -> Stop
+    ensures { result ≡ written_stop stop }
+{
+    if stop.dc {
+        Stop {
+            plane: 0,
+            stage: 3,
+            ..stop
+        }
+    } else {
+        stop
+    }
+}
+
 // The head of a segment of so many blocks with these depths.
 fn make_head(setting: &Setting, index: u32, count: u32, depth_dc: u8, depth_ac: u8) -> SegmentHead
     requires in_range { IsInRange setting.now }
@@ -128,7 +99,7 @@ fn make_head(setting: &Setting, index: u32, count: u32, depth_dc: u8, depth_ac: 
         depth_ac,
         pad_rows: if last { pad_rows(setting) } else { 0 },
         limit: setting.limit,
-        stop: setting.stop,
+        stop: written_stop(setting.stop),
         fill: setting.fill,
         blocks: count,
         best_dc: best,

@@ -10,12 +10,12 @@ use Rattle.raster_rows.specs.RowReads.{IsFirstBad, FirstInRange}
 use Rattle.raster_rows.proofs.PixelPlaces.{pixel_at-append_left, whole_before, whole_pixels-above}
 use Rattle.strip_coder.specs.declared.encode.EncodeDone.{EncodeDone}
 use Rattle.strip_coder.specs.declared.encode.EncodeFault.{EncodeFault}
-use Rattle.strip_coder.specs.declared.encode.EncodeFault.TheVariants.{ReadFault, WriteFault, Short, Long, BadPixel, Memory}
+use Rattle.strip_coder.specs.declared.encode.EncodeFault.TheVariants.{ReadFault, WriteFault, Short, Long, BadPixel}
 use Rattle.strip_coder.specs.Rasters.{given_for}
 use Rattle.strip_coder.specs.Answers.{Answers, AllInRange, TookRaster}
-use Rattle.top_122.specs.declared.words.Command.{Command}
-use Rattle.top_122.specs.declared.words.Command.TheVariants.{Encode, Make}
-use Rattle.top_122.specs.Run.{encode_status, Encodes, Performs, IsSteady, HasInput, HasWrongInput, IsDone}
+use Rattle.command_words.specs.declared.command.Command.{Command}
+use Rattle.command_words.specs.declared.command.Command.TheVariants.{Encode, Make}
+use Rattle.top_122.specs.Run.{encode_status, EncodesRaster, Encodes, Performs, IsSteady, HasInput, HasWrongInput, IsDone}
 
 -- what was taken of an input, and the rest of it
 took_front : (input took : List ℕ) (old new : Option (List ℕ)) → old ≡ Some input → Loses old new took → (rest : List ℕ) × (input ≡ took ++ rest)
@@ -33,7 +33,7 @@ not_in_range depth signed took rest place value bad all =
     bad.bad (subst (IsPixel depth signed) same (all.each place (whole_pixels-above depth (took ++ rest) place more)))
 
 -- the right input, and no fault
-right_input : (s : Setting) (old new : Outside) (status : ℕ) → Encodes s old new status → HasInput (Encode s) old → IsSteady old new → IsDone (Encode s) status
+right_input : (s : Setting) (old new : Outside) (status : ℕ) → EncodesRaster s old new status → HasInput (Encode s) old → IsSteady old new → IsDone (Encode s) status
 right_input s old new status run input steady = by_answer run.answer run.cause run.since run.status_is where
   front : (rest : List ℕ) × (input.0 ≡ run.took ++ rest)
   front = took_front input.0 run.took old.rest new.rest input.1 run.since.rest
@@ -44,7 +44,6 @@ right_input s old new status run input steady = by_answer run.answer run.cause r
   by_answer : (r : Result EncodeDone EncodeFault) → Answers s old new run.took run.gave r → Since old new run.took run.gave run.wrote (GivenBy (given_for s) run.took) →
       status ≡ encode_status r → (status ≡ 0) ⊎ (status ≡ 6)
   by_answer (Ok done) k since is = inl is
-  by_answer (Err Memory) k since is = inr is
   by_answer (Err ReadFault) k since is = absurd (steady.reads k.0)
   by_answer (Err WriteFault) k since is = absurd (steady.writes k.0)
   by_answer (Err Long) k since is = absurd (omega (arith, less, k.0, input.2.whole))
@@ -54,20 +53,32 @@ right_input s old new status run input steady = by_answer run.answer run.cause r
       absurd (not_in_range s.depth s.signed run.took front.0 (row * s.width + column) value k.1.first (subst (AllInRange s) front.1 input.2.in_range))
 
 -- another input, and no fault
-pub wrong_input : (s : Setting) (old new : Outside) (status : ℕ) → Encodes s old new status → HasWrongInput s old → IsSteady old new → (status ≡ 3) ⊎ (status ≡ 6)
-wrong_input s old new status run input steady = by_answer run.answer run.cause run.since run.status_is where
+refused_input : (s : Setting) (old new : Outside) (status : ℕ) → EncodesRaster s old new status → HasWrongInput (Encode s) old → IsSteady old new → (status ≡ 3) ⊎ (status ≡ 6)
+refused_input s old new status run input steady = by_answer run.answer run.cause run.since run.status_is where
   by_answer : (r : Result EncodeDone EncodeFault) → Answers s old new run.took run.gave r → Since old new run.took run.gave run.wrote (GivenBy (given_for s) run.took) →
       status ≡ encode_status r → (status ≡ 3) ⊎ (status ≡ 6)
   by_answer (Ok done) k since is = absurd (input.2 (subst (TookRaster s) (end_told input.0 since input.1 k.1) k.0))
-  by_answer (Err Memory) k since is = inr is
   by_answer (Err ReadFault) k since is = absurd (steady.reads k.0)
   by_answer (Err WriteFault) k since is = absurd (steady.writes k.0)
   by_answer (Err Long) k since is = inl is
   by_answer (Err (Short octets)) k since is = inl is
   by_answer (Err (BadPixel row column value)) k since is = inl is
 
+encoder_refuses : (s : Setting) (old new : Outside) (status : ℕ) → Encodes s old new status → HasWrongInput (Encode s) old → IsSteady old new → (status ≡ 3) ⊎ (status ≡ 6)
+encoder_refuses s old new status run input steady = elim run [
+  | inl none ↦ inr none.status_is
+  | inr ran ↦ refused_input s old new status ran input steady
+]
+
+pub performs_wrong : (command : Command) (old new : Outside) (status : ℕ) → Performs command old new status → HasWrongInput command old → IsSteady old new → (status ≡ 3) ⊎ (status ≡ 6)
+performs_wrong (Encode setting) old new status run input steady = encoder_refuses setting old new status run input steady
+performs_wrong (Make made) old new status run input steady = absurd input
+
 pub performs_complete : (command : Command) (old new : Outside) (status : ℕ) → Performs command old new status → HasInput command old → IsSteady old new → IsDone command status
-performs_complete (Encode setting) old new status run input steady = right_input setting old new status run input steady
+performs_complete (Encode setting) old new status run input steady = elim run [
+  | inl none ↦ inr none.status_is
+  | inr ran ↦ right_input setting old new status ran input steady
+]
 performs_complete (Make made) old new status run input steady = elim run.ending [
   | inl whole ↦ whole.status_is
   | inr cut ↦ absurd (steady.writes cut.rose)

@@ -1,12 +1,3 @@
-pub mod Separators
-pub mod ValueTexts
-pub mod KeyTexts
-pub mod WordLists
-pub mod OneMeaning
-pub mod NarrowSettings
-pub mod Made
-pub mod Places
-pub mod Built
 pub mod MadeParts
 pub mod NoteLines
 pub mod Statuses

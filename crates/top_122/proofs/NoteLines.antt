@@ -6,7 +6,7 @@ use Rattle.std.proofs.lemmas.List.{take-append-le}
 use Rattle.std.proofs.Math.Seq.{take-append-add}
 use Rattle.port_122.specs.Outside.{Outside, Since, NoRead, Rose, NotesAll}
 use Rattle.port_122.proofs.Stretches.{since_out, rose_since}
-use Rattle.top_122.specs.Words.{texts}
+use Rattle.command_words.specs.Words.{texts}
 use Rattle.top_122.specs.Notes.{IsNoted, Notes, word_at}
 
 -- a part, and then the rest of the line

@@ -8,15 +8,15 @@ use Rattle.base_122.specs.declared.setting.Setting.{Setting}
 use Rattle.raster_rows.specs.declared.made.MadeImage.{MadeImage}
 use Rattle.strip_coder.specs.declared.encode.EncodeDone.{EncodeDone}
 use Rattle.strip_coder.specs.declared.encode.EncodeFault.{EncodeFault}
-use Rattle.strip_coder.specs.declared.encode.EncodeFault.TheVariants.{ReadFault, WriteFault, Short, Long, BadPixel, Memory}
+use Rattle.strip_coder.specs.declared.encode.EncodeFault.TheVariants.{ReadFault, WriteFault, Short, Long, BadPixel}
 use Rattle.strip_coder.specs.Rasters.{given_for}
 use Rattle.strip_coder.specs.Answers.{Answers, EncodesImage}
-use Rattle.top_122.specs.declared.words.Command.{Command}
-use Rattle.top_122.specs.declared.words.Command.TheVariants.{Encode, Make}
-use Rattle.top_122.specs.declared.words.WordFault.{WordFault}
-use Rattle.top_122.specs.Notes.{IsNoted, Notes, word_line, fault_status, fault_line}
+use Rattle.command_words.specs.declared.command.Command.{Command}
+use Rattle.command_words.specs.declared.command.Command.TheVariants.{Encode, Make}
+use Rattle.command_words.specs.declared.command.WordFault.{WordFault}
+use Rattle.top_122.specs.Notes.{IsNoted, Notes, word_line, fault_status, fault_line, memory_line}
 use Rattle.top_122.specs.MadeRasters.{made_raster}
-use Rattle.top_122.specs.Run.{Refuses, encode_status, encode_line, Encodes, Makes, Performs, EncodedWhole, GivesWhole, RefusesInput, GivesNothing}
+use Rattle.top_122.specs.Run.{Refuses, encode_status, encode_line, Encodes, Makes, Performs, EncodedWhole, GivesWhole, GivesPart, EncoderRefuses, RefusesInput, GivesNothing}
 use Rattle.top_122.proofs.NoteLines.{noted_since}
 
 -- ---- after the note
@@ -32,12 +32,15 @@ causes_later s a b c took gave wrote (Err (Short octets)) n k = (k.0, k.1, at_en
 causes_later s a b c took gave wrote (Err Long) n k = k
 causes_later s a b c took gave wrote (Err (BadPixel row column value)) n k = k
 causes_later s a b c took gave wrote (Err ReadFault) n k = (omega (arith, k.0, n.faults.reads), k.1, k.2, k.3)
-causes_later s a b c took gave wrote (Err WriteFault) n k = (omega (arith, k.0, n.faults.writes), k.1, k.2)
-causes_later s a b c took gave wrote (Err Memory) n k = k
+causes_later s a b c took gave wrote (Err WriteFault) n k = (omega (arith, k.0, n.faults.writes), k.1)
+
+-- no memory, and its note
+pub lacks_memory : (s : Setting) (a b : Outside) → Notes a b memory_line → Encodes s a b 6
+lacks_memory s a b n = inl (record { wrote = n.0; since = n.1; status_is = refl; noted = n.2 })
 
 -- the encoder's run, and nothing to note
 pub encoded : (s : Setting) (a b : Outside) (done : EncodeDone) → EncodesImage s a b (Ok done) → Encodes s a b 0
-encoded s a b done run = record {
+encoded s a b done run = inr (record {
   answer = Ok done;
   took = run.took;
   gave = run.gave;
@@ -46,12 +49,12 @@ encoded s a b done run = record {
   cause = run.answer;
   status_is = refl;
   noted = inl refl;
-}
+})
 
 -- the encoder's run, and then its note
 pub encode_failed : (s : Setting) (a b c : Outside) (fault : EncodeFault) (status : ℕ) → EncodesImage s a b (Err fault) → Notes b c (fault_line fault) →
     status ≡ fault_status fault → Encodes s a c status
-encode_failed s a b c fault status run n is = record {
+encode_failed s a b c fault status run n is = inr (record {
   answer = Err fault;
   took = run.took;
   gave = run.gave;
@@ -60,7 +63,7 @@ encode_failed s a b c fault status run n is = record {
   cause = causes_later s a b c run.took run.gave n.0 (Err fault) n.1 run.answer;
   status_is = is;
   noted = noted_since a b c n.0 (fault_line fault) run.since.faults.notes n.2;
-}
+})
 
 pub made_whole : (made : MadeImage) (a b : Outside) → Since a b [] (made_raster made) [] NoRead → Makes made a b 0
 made_whole made a b s = record {
@@ -94,7 +97,6 @@ not_two (Err Long) e = absurd (omega (arith, e))
 not_two (Err (BadPixel row column value)) e = absurd (omega (arith, e))
 not_two (Err ReadFault) e = absurd (omega (arith, e))
 not_two (Err WriteFault) e = absurd (omega (arith, e))
-not_two (Err Memory) e = absurd (omega (arith, e))
 
 -- a made image has status 0 or 5
 makes_status : {made : MadeImage} {old new : Outside} {status : ℕ} → Makes made old new status → (status ≡ 0) ⊎ (status ≡ 5)
@@ -104,7 +106,10 @@ makes_status run = elim run.ending [
 ]
 
 pub performs_not_two : (command : Command) (old new : Outside) (status : ℕ) → Performs command old new status → status ≡ 2 → ⊥
-performs_not_two (Encode setting) old new status run two = not_two run.answer (sym run.status_is ∙ two)
+performs_not_two (Encode setting) old new status run two = elim run [
+  | inl none ↦ absurd (omega (arith, none.status_is, two))
+  | inr ran ↦ not_two ran.answer (sym ran.status_is ∙ two)
+]
 performs_not_two (Make made) old new status run two = elim (makes_status run) [
   | inl zero ↦ absurd (omega (arith, zero, two))
   | inr five ↦ absurd (omega (arith, five, two))
@@ -130,11 +135,12 @@ encoded_whole s old new took gave wrote (Err Long) since noted k e = absurd (ome
 encoded_whole s old new took gave wrote (Err (BadPixel row column value)) since noted k e = absurd (omega (arith, e))
 encoded_whole s old new took gave wrote (Err ReadFault) since noted k e = absurd (omega (arith, e))
 encoded_whole s old new took gave wrote (Err WriteFault) since noted k e = absurd (omega (arith, e))
-encoded_whole s old new took gave wrote (Err Memory) since noted k e = absurd (omega (arith, e))
 
 pub performs_done : (command : Command) (old new : Outside) (status : ℕ) → Performs command old new status → status ≡ 0 → GivesWhole command old new
-performs_done (Encode setting) old new status run zero =
-    encoded_whole setting old new run.took run.gave run.wrote run.answer run.since run.noted run.cause (sym run.status_is ∙ zero)
+performs_done (Encode setting) old new status run zero = elim run [
+  | inl none ↦ absurd (omega (arith, none.status_is, zero))
+  | inr ran ↦ encoded_whole setting old new ran.took ran.gave ran.wrote ran.answer ran.since ran.noted ran.cause (sym ran.status_is ∙ zero)
+]
 performs_done (Make made) old new status run zero = elim run.ending [
   | inl whole ↦ subst (λ w. Since old new [] (made_raster made) w NoRead) whole.silent (subst (λ g. Since old new [] g run.wrote NoRead) whole.whole run.since)
   | inr cut ↦ absurd (omega (arith, cut.status_is, zero))
@@ -142,19 +148,37 @@ performs_done (Make made) old new status run zero = elim run.ending [
 
 refuses_input : (s : Setting) (old new : Outside) (took gave wrote : List ℕ) (r : Result EncodeDone EncodeFault) →
     Since old new took gave wrote (GivenBy (given_for s) took) → IsNoted old new wrote (encode_line r) → Answers s old new took gave r → encode_status r ≡ 3 →
-    RefusesInput s old new
+    EncoderRefuses s old new
 refuses_input s old new took gave wrote (Ok done) since noted k e = absurd (omega (arith, e))
 refuses_input s old new took gave wrote (Err fault) since noted k e =
     record { fault = fault; took = took; gave = gave; wrote = wrote; since = since; input = e; cause = k; noted = noted }
 
--- only `encode` refuses its input
-pub performs_refused : (command : Command) (old new : Outside) (status : ℕ) → Performs command old new status → status ≡ 3 →
-    (setting : Setting) × (command ≡ Encode setting) × RefusesInput setting old new
-performs_refused (Encode setting) old new status run three =
-    (setting, refl, refuses_input setting old new run.took run.gave run.wrote run.answer run.since run.noted run.cause (sym run.status_is ∙ three))
+pub performs_refused : (command : Command) (old new : Outside) (status : ℕ) → Performs command old new status → status ≡ 3 → RefusesInput command old new
+performs_refused (Encode setting) old new status run three = elim run [
+  | inl none ↦ absurd (omega (arith, none.status_is, three))
+  | inr ran ↦ refuses_input setting old new ran.took ran.gave ran.wrote ran.answer ran.since ran.noted ran.cause (sym ran.status_is ∙ three)
+]
 performs_refused (Make made) old new status run three = elim (makes_status run) [
   | inl zero ↦ absurd (omega (arith, zero, three))
   | inr five ↦ absurd (omega (arith, five, three))
+]
+
+not_one : (r : Result EncodeDone EncodeFault) → encode_status r ≡ 1 → ⊥
+not_one (Ok done) e = absurd (omega (arith, e))
+not_one (Err (Short octets)) e = absurd (omega (arith, e))
+not_one (Err Long) e = absurd (omega (arith, e))
+not_one (Err (BadPixel row column value)) e = absurd (omega (arith, e))
+not_one (Err ReadFault) e = absurd (omega (arith, e))
+not_one (Err WriteFault) e = absurd (omega (arith, e))
+
+pub performs_part : (command : Command) (old new : Outside) (status : ℕ) → Performs command old new status → status ≡ 1 → GivesPart command old new
+performs_part (Encode setting) old new status run one = elim run [
+  | inl none ↦ absurd (omega (arith, none.status_is, one))
+  | inr ran ↦ not_one ran.answer (sym ran.status_is ∙ one)
+]
+performs_part (Make made) old new status run one = elim (makes_status run) [
+  | inl zero ↦ absurd (omega (arith, zero, one))
+  | inr five ↦ absurd (omega (arith, five, one))
 ]
 
 read_status : (s : Setting) (old new : Outside) (took gave : List ℕ) (r : Result EncodeDone EncodeFault) → Answers s old new took gave r → encode_status r ≡ 4 →
@@ -165,10 +189,12 @@ read_status s old new took gave (Err (Short octets)) k e = absurd (omega (arith,
 read_status s old new took gave (Err Long) k e = absurd (omega (arith, e))
 read_status s old new took gave (Err (BadPixel row column value)) k e = absurd (omega (arith, e))
 read_status s old new took gave (Err WriteFault) k e = absurd (omega (arith, e))
-read_status s old new took gave (Err Memory) k e = absurd (omega (arith, e))
 
 pub performs_read_fault : (command : Command) (old new : Outside) (status : ℕ) → Performs command old new status → status ≡ 4 → Rose old.read_faults new.read_faults
-performs_read_fault (Encode setting) old new status run four = read_status setting old new run.took run.gave run.answer run.cause (sym run.status_is ∙ four)
+performs_read_fault (Encode setting) old new status run four = elim run [
+  | inl none ↦ absurd (omega (arith, none.status_is, four))
+  | inr ran ↦ read_status setting old new ran.took ran.gave ran.answer ran.cause (sym ran.status_is ∙ four)
+]
 performs_read_fault (Make made) old new status run four = elim (makes_status run) [
   | inl zero ↦ absurd (omega (arith, zero, four))
   | inr five ↦ absurd (omega (arith, five, four))
@@ -182,31 +208,31 @@ write_status s old new took gave (Err (Short octets)) k e = absurd (omega (arith
 write_status s old new took gave (Err Long) k e = absurd (omega (arith, e))
 write_status s old new took gave (Err (BadPixel row column value)) k e = absurd (omega (arith, e))
 write_status s old new took gave (Err ReadFault) k e = absurd (omega (arith, e))
-write_status s old new took gave (Err Memory) k e = absurd (omega (arith, e))
 
 pub performs_write_fault : (command : Command) (old new : Outside) (status : ℕ) → Performs command old new status → status ≡ 5 → Rose old.write_faults new.write_faults
-performs_write_fault (Encode setting) old new status run five = write_status setting old new run.took run.gave run.answer run.cause (sym run.status_is ∙ five)
+performs_write_fault (Encode setting) old new status run five = elim run [
+  | inl none ↦ absurd (omega (arith, none.status_is, five))
+  | inr ran ↦ write_status setting old new ran.took ran.gave ran.answer ran.cause (sym ran.status_is ∙ five)
+]
 performs_write_fault (Make made) old new status run five = elim run.ending [
   | inl whole ↦ absurd (omega (arith, whole.status_is, five))
   | inr cut ↦ cut.rose
 ]
 
-gives_nothing : (s : Setting) (old new : Outside) (took gave wrote : List ℕ) (r : Result EncodeDone EncodeFault) →
-    Since old new took gave wrote (GivenBy (given_for s) took) → Answers s old new took gave r → encode_status r ≡ 6 → GivesNothing s old new
-gives_nothing s old new took gave wrote (Err Memory) since k e =
-    (took, wrote, subst (λ g. Since old new took g wrote (GivenBy (given_for s) took)) k.2 since)
-gives_nothing s old new took gave wrote (Ok done) since k e = absurd (omega (arith, e))
-gives_nothing s old new took gave wrote (Err (Short octets)) since k e = absurd (omega (arith, e))
-gives_nothing s old new took gave wrote (Err Long) since k e = absurd (omega (arith, e))
-gives_nothing s old new took gave wrote (Err (BadPixel row column value)) since k e = absurd (omega (arith, e))
-gives_nothing s old new took gave wrote (Err ReadFault) since k e = absurd (omega (arith, e))
-gives_nothing s old new took gave wrote (Err WriteFault) since k e = absurd (omega (arith, e))
+-- the encoder itself takes no memory
+not_six : (r : Result EncodeDone EncodeFault) → encode_status r ≡ 6 → ⊥
+not_six (Ok done) e = absurd (omega (arith, e))
+not_six (Err (Short octets)) e = absurd (omega (arith, e))
+not_six (Err Long) e = absurd (omega (arith, e))
+not_six (Err (BadPixel row column value)) e = absurd (omega (arith, e))
+not_six (Err ReadFault) e = absurd (omega (arith, e))
+not_six (Err WriteFault) e = absurd (omega (arith, e))
 
--- only `encode` has no memory
-pub performs_no_memory : (command : Command) (old new : Outside) (status : ℕ) → Performs command old new status → status ≡ 6 →
-    (setting : Setting) × (command ≡ Encode setting) × GivesNothing setting old new
-performs_no_memory (Encode setting) old new status run six =
-    (setting, refl, gives_nothing setting old new run.took run.gave run.wrote run.answer run.since run.cause (sym run.status_is ∙ six))
+pub performs_no_memory : (command : Command) (old new : Outside) (status : ℕ) → Performs command old new status → status ≡ 6 → GivesNothing command old new
+performs_no_memory (Encode setting) old new status run six = elim run [
+  | inl none ↦ (none.wrote, none.since)
+  | inr ran ↦ absurd (not_six ran.answer (sym ran.status_is ∙ six))
+]
 performs_no_memory (Make made) old new status run six = elim (makes_status run) [
   | inl zero ↦ absurd (omega (arith, zero, six))
   | inr five ↦ absurd (omega (arith, five, six))

@@ -1,11 +1,3 @@
-pub mod WordKeys
-pub mod WordValues
-pub mod WordBuilt
-pub mod WordEntries
-pub mod WordCommands
-pub mod Words
-pub mod Given
-pub mod Narrow
 pub mod MadeRasters
 pub mod Notes
 pub mod Run

@@ -5,9 +5,9 @@ use Rattle.port_122.specs.Outside.{Outside, Since, NoRead, Rose}
 use Rattle.base_122.specs.declared.field.Field.{Field}
 use Rattle.base_122.specs.declared.field.Field.TheVariants.{Width, Rows, Depth, Segment, Limit, Fill, Word, Stop, Weights, Apid, Image, Packet, Pixels, Octets}
 use Rattle.strip_coder.specs.declared.encode.EncodeFault.{EncodeFault}
-use Rattle.strip_coder.specs.declared.encode.EncodeFault.TheVariants.{ReadFault, WriteFault, Short, Long, BadPixel, Memory}
-use Rattle.top_122.specs.declared.words.WordFault.{WordFault}
-use Rattle.top_122.specs.declared.words.WordFault.TheVariants.{MissingCommand, BadWord, MissingKey, OutOfRange, Unbuilt}
+use Rattle.strip_coder.specs.declared.encode.EncodeFault.TheVariants.{ReadFault, WriteFault, Short, Long, BadPixel}
+use Rattle.command_words.specs.declared.command.WordFault.{WordFault}
+use Rattle.command_words.specs.declared.command.WordFault.TheVariants.{MissingCommand, UnbuiltCommand, BadWord, MissingKey, OutOfRange}
 
 -- the line was noted, or a prefix of it where a note failed
 abbrev pub IsNoted : Outside → Outside → List ℕ → List ℕ → Type 0
@@ -43,10 +43,10 @@ field_text Octets = codes "octets"
 -- the note on words that are refused
 abbrev pub word_line : List (List ℕ) → WordFault → List ℕ
 word_line words MissingCommand = codes "strip122: missing command\n"
+word_line words UnbuiltCommand = codes "strip122: not built: " ++ word_at words 0 ++ codes "\n"
 word_line words (BadWord place) = codes "strip122: bad word: " ++ word_at words place ++ codes "\n"
 word_line words (MissingKey field) = codes "strip122: missing: " ++ field_text field ++ codes "\n"
 word_line words (OutOfRange field) = codes "strip122: out of range: " ++ field_text field ++ codes "\n"
-word_line words (Unbuilt place) = codes "strip122: not built: " ++ word_at words place ++ codes "\n"
 
 -- the status and the note for each fault of the encoder
 abbrev pub fault_status : EncodeFault → ℕ
@@ -55,7 +55,6 @@ fault_status Long = 3
 fault_status (BadPixel row column value) = 3
 fault_status ReadFault = 4
 fault_status WriteFault = 5
-fault_status Memory = 6
 
 abbrev pub fault_line : EncodeFault → List ℕ
 fault_line (Short octets) = codes "strip122: input short, " ++ decimal octets ++ codes " octets taken\n"
@@ -64,4 +63,7 @@ fault_line (BadPixel row column value) =
     codes "strip122: bad pixel " ++ signed_decimal value ++ codes " at row " ++ decimal row ++ codes " column " ++ decimal column ++ codes "\n"
 fault_line ReadFault = codes "strip122: read fault\n"
 fault_line WriteFault = codes "strip122: write fault\n"
-fault_line Memory = codes "strip122: no memory\n"
+
+-- the note on want of memory
+abbrev pub memory_line : List ℕ
+memory_line = codes "strip122: no memory\n"

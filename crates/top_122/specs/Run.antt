@@ -8,11 +8,11 @@ use Rattle.strip_coder.specs.declared.encode.EncodeDone.{EncodeDone}
 use Rattle.strip_coder.specs.declared.encode.EncodeFault.{EncodeFault}
 use Rattle.strip_coder.specs.Rasters.{image_of, given_for}
 use Rattle.strip_coder.specs.Answers.{Answers, TookRaster}
-use Rattle.top_122.specs.declared.words.Command.{Command}
-use Rattle.top_122.specs.declared.words.Command.TheVariants.{Encode, Make}
-use Rattle.top_122.specs.declared.words.WordFault.{WordFault}
+use Rattle.command_words.specs.declared.command.Command.{Command}
+use Rattle.command_words.specs.declared.command.Command.TheVariants.{Encode, Make}
+use Rattle.command_words.specs.declared.command.WordFault.{WordFault}
 use Rattle.top_122.specs.MadeRasters.{made_raster}
-use Rattle.top_122.specs.Notes.{IsNoted, word_line, fault_status, fault_line}
+use Rattle.top_122.specs.Notes.{IsNoted, word_line, fault_status, fault_line, memory_line}
 
 -- ---- all that a run leaves
 
@@ -32,8 +32,15 @@ abbrev pub encode_line : Result EncodeDone EncodeFault → List ℕ
 encode_line (Ok done) = []
 encode_line (Err fault) = fault_line fault
 
--- One run of `encode`: what was taken, given and noted, when, and the encoder's answer, which has its cause.
-pub record Encodes (setting : Setting) (old new : Outside) (status : ℕ) : Type 0 where
+-- There is no memory for the encoder: nothing is read or given.
+pub record LacksMemory (old new : Outside) (status : ℕ) : Type 0 where
+  pub wrote : List ℕ
+  pub since : Since old new [] [] wrote NoRead
+  pub status_is : status ≡ 6
+  pub noted : IsNoted old new wrote memory_line
+
+-- One run of the encoder: what was taken, given and noted, when, and its answer, which has its cause.
+pub record EncodesRaster (setting : Setting) (old new : Outside) (status : ℕ) : Type 0 where
   pub answer : Result EncodeDone EncodeFault
   pub took : List ℕ
   pub gave : List ℕ
@@ -42,6 +49,10 @@ pub record Encodes (setting : Setting) (old new : Outside) (status : ℕ) : Type
   pub cause : Answers setting old new took gave answer
   pub status_is : status ≡ encode_status answer
   pub noted : IsNoted old new wrote (encode_line answer)
+
+-- one run of `encode`
+abbrev pub Encodes : Setting → Outside → Outside → ℕ → Type 0
+Encodes setting old new status = LacksMemory old new status ⊎ EncodesRaster setting old new status
 
 -- the whole raster is given and nothing noted
 pub record MadeWhole (made : MadeImage) (gave wrote : List ℕ) (status : ℕ) : Type 0 where
@@ -88,7 +99,7 @@ GivesWhole (Encode setting) old new = EncodedWhole setting old new
 GivesWhole (Make made) old new = Since old new [] (made_raster made) [] NoRead
 
 -- The encoder refused its input: the cause and the note name the same fault.
-pub record RefusesInput (setting : Setting) (old new : Outside) : Type 0 where
+pub record EncoderRefuses (setting : Setting) (old new : Outside) : Type 0 where
   pub fault : EncodeFault
   pub took : List ℕ
   pub gave : List ℕ
@@ -98,9 +109,20 @@ pub record RefusesInput (setting : Setting) (old new : Outside) : Type 0 where
   pub cause : Answers setting old new took gave (Err fault)
   pub noted : IsNoted old new wrote (fault_line fault)
 
--- nothing is given
-abbrev pub GivesNothing : Setting → Outside → Outside → Type 0
-GivesNothing setting old new = (took : List ℕ) × (wrote : List ℕ) × Since old new took [] wrote (GivenBy (given_for setting) took)
+-- a command refused its input; `make` takes none
+abbrev pub RefusesInput : Command → Outside → Outside → Type 0
+RefusesInput (Encode setting) old new = EncoderRefuses setting old new
+RefusesInput (Make made) old new = ⊥
+
+-- what a command leaves that had no memory: `encode` has read and given nothing, and `make` takes none
+abbrev pub GivesNothing : Command → Outside → Outside → Type 0
+GivesNothing (Encode setting) old new = (wrote : List ℕ) × Since old new [] [] wrote NoRead
+GivesNothing (Make made) old new = ⊥
+
+-- what a command leaves that could give a part alone: so far no command does
+abbrev pub GivesPart : Command → Outside → Outside → Type 0
+GivesPart (Encode setting) old new = ⊥
+GivesPart (Make made) old new = ⊥
 
 -- no read and no write has failed since
 pub record IsSteady (old new : Outside) : Type 0 where
@@ -113,8 +135,9 @@ HasInput (Encode setting) old = (input : List ℕ) × (old.rest ≡ Some input) 
 HasInput (Make made) old = Unit {0}
 
 -- the input that is left is something else
-abbrev pub HasWrongInput : Setting → Outside → Type 0
-HasWrongInput setting old = (input : List ℕ) × (old.rest ≡ Some input) × (TookRaster setting input → ⊥)
+abbrev pub HasWrongInput : Command → Outside → Type 0
+HasWrongInput (Encode setting) old = (input : List ℕ) × (old.rest ≡ Some input) × (TookRaster setting input → ⊥)
+HasWrongInput (Make made) old = ⊥
 
 -- the command is done, or `encode` had no memory
 abbrev pub IsDone : Command → ℕ → Type 0

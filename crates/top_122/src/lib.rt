@@ -1,12 +1,8 @@
-//! The words of the command line, the notes and the top call.
+//! The top call: what a run does, and its notes.
 #![tactic(auto)]
 
 mod make;
 mod notes;
-#[cfg(test)]
-mod tests;
 mod top;
-mod words;
 
 pub use top::run;
-pub use words::{Command, WordFault, read_words};

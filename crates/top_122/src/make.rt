@@ -12,8 +12,8 @@ use raster_rows::{MadeImage, made_pixel, write_row};
 // Pixels of a piece, which has at most 4,096 octets.
 const PIECE: usize = 2048;
 
-/// Gives the raster of a made image (docs/formats.md, "Raster and made image"), by pieces of at most 4,096 octets. It
-/// takes no memory and reads nothing. After `Failed` a prefix of the raster is given, and `write_faults` rose.
+/// Gives the raster of a made image (docs/formats.md, "Raster and made image"), by pieces. It takes no memory and
+/// reads nothing. After `Failed` a prefix of the raster is given, and `write_faults` rose.
 pub fn write_made<X: Port>(port: &mut X, made: &MadeImage) -> Result<(), Failed>
     requires { IsDepth made.now.depth }
     ensures { WritesAll result (X.outside port.old) (X.outside port.new) (made_raster made.now) }

@@ -1,12 +1,12 @@
 // The notes.
 ghost use Rattle.std.specs.Prelude.{◌≡◌, ◌<◌, ◌++◌, length, codes, decimal};
 ghost use Rattle.std.specs.Fmt.{signed_decimal};
-ghost use Rattle.top_122.specs.Words.{texts, IsPlaced};
+ghost use Rattle.command_words.specs.Words.{texts, IsPlaced};
 ghost use Rattle.top_122.specs.Notes.{Notes, word_at, field_text, word_line, fault_line};
 
-use crate::words::WordFault;
 use arrayvec::ArrayString;
 use base_122::Field;
+use command_words::WordFault;
 use itoa::Buffer;
 use port_122::{Port, note_all};
 use strip_coder::EncodeFault;
@@ -67,6 +67,9 @@ pub fn note_refusal<X: Port>(port: &mut X, words: &[String], fault: WordFault)
 {
     match fault {
         WordFault::MissingCommand => note_line(port, "strip122: missing command\n"),
+        WordFault::UnbuiltCommand => {
+            note_parts(port, "strip122: not built: ", word(words, 0), "\n");
+        }
         WordFault::BadWord { place } => {
             note_parts(port, "strip122: bad word: ", word(words, place), "\n");
         }
@@ -75,9 +78,6 @@ pub fn note_refusal<X: Port>(port: &mut X, words: &[String], fault: WordFault)
         }
         WordFault::OutOfRange(field) => {
             note_parts(port, "strip122: out of range: ", field_name(field), "\n");
-        }
-        WordFault::Unbuilt { place } => {
-            note_parts(port, "strip122: not built: ", word(words, place), "\n");
         }
     }
 }
@@ -121,6 +121,5 @@ pub fn note_fault<X: Port>(port: &mut X, fault: EncodeFault)
         }
         EncodeFault::ReadFault => note_line(port, "strip122: read fault\n"),
         EncodeFault::WriteFault => note_line(port, "strip122: write fault\n"),
-        EncodeFault::Memory => note_line(port, "strip122: no memory\n"),
     }
 }

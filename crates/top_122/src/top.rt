@@ -4,22 +4,21 @@ ghost use Rattle.port_122.specs.Outside.{Rose};
 ghost use Rattle.base_122.specs.Ranges.{IsInRange as IsSettingInRange};
 ghost use Rattle.base_122.specs.declared.setting.Setting.{Setting};
 ghost use Rattle.raster_rows.specs.Pixels.{IsDepth};
-ghost use Rattle.top_122.specs.declared.words.WordFault.{WordFault};
-ghost use Rattle.top_122.specs.declared.words.Command.{Command};
-ghost use Rattle.top_122.specs.Words.{texts, Says, IsPlaced};
-ghost use Rattle.top_122.specs.WordBuilt.{IsSettingBuilt, IsBuilt};
-ghost use Rattle.top_122.specs.WordCommands.{IsInRange};
+ghost use Rattle.command_words.specs.declared.command.WordFault.{WordFault};
+ghost use Rattle.command_words.specs.declared.command.Command.{Command};
+ghost use Rattle.command_words.specs.Words.{texts, Says, IsPlaced};
+ghost use Rattle.command_words.specs.Commands.{IsInRange};
 ghost use Rattle.top_122.specs.Notes.{fault_status};
-ghost use Rattle.top_122.specs.Run.{Refuses, Encodes, Makes, Performs, Runs, GivesWhole, RefusesInput, GivesNothing, IsSteady, HasInput, HasWrongInput, IsDone};
+ghost use Rattle.top_122.specs.Run.{Refuses, Encodes, Makes, Performs, Runs, GivesWhole, GivesPart, RefusesInput, GivesNothing, IsSteady, HasInput, HasWrongInput, IsDone};
 
 use crate::make::write_made;
 use crate::notes::{note_fault, note_line, note_refusal};
-use crate::words::{Command, WordFault, read_words};
 use base_122::Setting;
+use command_words::{Command, WordFault, read_words};
 use port_122::Port;
 use raster_rows::MadeImage;
 use std::alloc::Global;
-use strip_coder::{EncodeFault, encode_image};
+use strip_coder::{EncodeFault, Work, encode_rows};
 
 // Refuses the words.
 fn refuse<X: Port>(words: &[String], fault: WordFault, port: &mut X) -> u8
@@ -37,17 +36,19 @@ fn fault_status(fault: EncodeFault) -> u8
         EncodeFault::Short { .. } | EncodeFault::Long | EncodeFault::BadPixel { .. } => 3,
         EncodeFault::ReadFault => 4,
         EncodeFault::WriteFault => 5,
-        EncodeFault::Memory => 6,
     }
 }
 
-// The command `encode`.
+// The command `encode`. The memory is taken first, so where there is none nothing was read.
 fn encode<X: Port>(alloc: Global, setting: &Setting, port: &mut X) -> u8
-    requires range { IsSettingInRange setting.now }
-    requires built { IsSettingBuilt setting.now }
+    requires { IsSettingInRange setting.now }
     ensures { Encodes setting.now (X.outside port.old) (X.outside port.new) result }
 {
-    match encode_image(alloc, port, setting) {
+    let Ok(mut work) = Work::new(alloc, setting) else {
+        note_line(port, "strip122: no memory\n");
+        return 6;
+    };
+    match encode_rows(port, setting, &mut work) {
         Ok(_) => 0,
         Err(fault) => {
             note_fault(port, fault);
@@ -72,8 +73,7 @@ fn make<X: Port>(made: &MadeImage, port: &mut X) -> u8
 
 // One command.
 fn perform<X: Port>(alloc: Global, command: &Command, port: &mut X) -> u8
-    requires range { IsInRange command.now }
-    requires built { IsBuilt command.now }
+    requires { IsInRange command.now }
     ensures { Performs command.now (X.outside port.old) (X.outside port.new) result }
 {
     match command {
@@ -95,17 +95,19 @@ pub fn run<X: Port>(alloc: Global, words: &[String], port: &mut X) -> u8
     ensures done { result ≡ 0 → (command : Command) × Says (texts words.now) (Ok command)
         × GivesWhole command (X.outside port.old) (X.outside port.new) }
     ensures refused { (result ≡ 2) ↔ ((fault : WordFault) × Says (texts words.now) (Err fault)) }
-    ensures input_refused { result ≡ 3 → (setting : Setting) × Says (texts words.now) (Ok (Command.Encode setting))
-        × RefusesInput setting (X.outside port.old) (X.outside port.new) }
+    ensures part { result ≡ 1 → (command : Command) × Says (texts words.now) (Ok command)
+        × GivesPart command (X.outside port.old) (X.outside port.new) }
+    ensures input_refused { result ≡ 3 → (command : Command) × Says (texts words.now) (Ok command)
+        × RefusesInput command (X.outside port.old) (X.outside port.new) }
     ensures read_fault { result ≡ 4 → Rose (X.outside port.old).read_faults (X.outside port.new).read_faults }
     ensures write_fault { result ≡ 5 → Rose (X.outside port.old).write_faults (X.outside port.new).write_faults }
-    ensures no_memory { result ≡ 6 → (setting : Setting) × Says (texts words.now) (Ok (Command.Encode setting))
-        × GivesNothing setting (X.outside port.old) (X.outside port.new) }
+    ensures no_memory { result ≡ 6 → (command : Command) × Says (texts words.now) (Ok command)
+        × GivesNothing command (X.outside port.old) (X.outside port.new) }
 
     // Valid words and no fault: with the right input the command is done, and with another one that is refused.
     ensures complete { (command : Command) → Says (texts words.now) (Ok command) → HasInput command (X.outside port.old) →
         IsSteady (X.outside port.old) (X.outside port.new) → IsDone command result }
-    ensures wrong_input { (setting : Setting) → Says (texts words.now) (Ok (Command.Encode setting)) → HasWrongInput setting (X.outside port.old) →
+    ensures wrong_input { (command : Command) → Says (texts words.now) (Ok command) → HasWrongInput command (X.outside port.old) →
         IsSteady (X.outside port.old) (X.outside port.new) → (result ≡ 3) ⊎ (result ≡ 6) }
 {
     match read_words(words) {

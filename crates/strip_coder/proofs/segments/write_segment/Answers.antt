@@ -2,12 +2,11 @@ use Rattle.std.proofs.Common.{rules, ◌≡◌, ◌<◌, ◌≤◌, ◌*◌, ◌
 use Rattle.port_122.specs.Outside.{Outside}
 use Rattle.base_122.specs.Ranges.{IsInRange}
 use Rattle.base_122.specs.declared.setting.Setting.{Setting}
-use Rattle.item_defs.specs.Bits.{octets_of}
-use Rattle.item_defs.specs.Padding.{padded}
 use Rattle.segment_defs.specs.declared.head.SegmentHead.{SegmentHead}
-use Rattle.segment_defs.specs.Depths.{blocks_in, depth_dc_of, depth_ac_of}
-use Rattle.segment_defs.specs.Coded.{coded, coded_bits}
-use Rattle.stream_defs.specs.declared.ancillary.Ancillary.{Ancillary}
+use Rattle.wave_defs.specs.Held.{blocks_in}
+use Rattle.segment_defs.specs.Depths.{depth_dc_of, depth_ac_of}
+use Rattle.segment_defs.specs.Coded.{coded}
+use Rattle.packet_defs.specs.declared.ancillary.Ancillary.{Ancillary}
 use Rattle.stream_defs.specs.Output.{ancillary_of, head_with}
 use Rattle.space_packets.specs.declared.stage.Text.{Text}
 use Rattle.space_packets.specs.declared.stage.Stage.{Stage}
@@ -18,7 +17,7 @@ use Rattle.space_packets.specs.Writes.{GoesOn, TextCut}
 use Rattle.space_packets.proofs.WholeCalls.{some_wait, text_cut, text_closed}
 use Rattle.space_packets.proofs.SinkCalls.{sink_goes_on, sink_breaks_off}
 use Rattle.strip_coder.specs.SegmentsOut.{text_of, text_for}
-use Rattle.strip_coder.proofs.SegmentTexts.{length-blocks_in, coded_some, coded_whole, text_same}
+use Rattle.strip_coder.proofs.SegmentTexts.{length-blocks_in, coded_some, text_same}
 use Rattle.strip_coder.proofs.segments.write_segment.Goals as goal
 
 -- what is behind a loan is the last value under its name
@@ -42,7 +41,7 @@ begun_with s index v a e = ap (λ a. begun v (record { apid = s.apid; ancillary 
 begun_to : (a b : Stage) → a ≡ b → IsBegun b → IsBegun a
 begun_to a b e begun = subst IsBegun (sym e) begun
 
--- the text of the head that was made, whole and with its padded bits
+-- the text of the head that was made
 made : (s : Setting) (index count depth_dc depth_ac : ℕ) (head : SegmentHead) (cells : List ℤ) → head ≡ head_with s index count depth_dc depth_ac →
     length cells ≡ 64 * count → depth_dc ≡ depth_dc_of (blocks_in cells) → depth_ac ≡ depth_ac_of (blocks_in cells) →
     coded head (blocks_in cells) ≡ text_for s index (blocks_in cells)
@@ -50,16 +49,10 @@ made s index count depth_dc depth_ac head cells e f dc ac =
     ap (λ h. coded h (blocks_in cells)) e
     ∙ text_same s index count depth_dc depth_ac (blocks_in cells) (omega (arith, length-blocks_in cells, f)) dc ac
 
-made_whole : (s : Setting) (index count depth_dc depth_ac : ℕ) (head : SegmentHead) (cells : List ℤ) → head ≡ head_with s index count depth_dc depth_ac →
-    s.limit ≡ 0 → length cells ≡ 64 * count → depth_dc ≡ depth_dc_of (blocks_in cells) → depth_ac ≡ depth_ac_of (blocks_in cells) →
-    octets_of (padded head.image.word head.limit head.fill (coded_bits head (blocks_in cells))) ≡ text_for s index (blocks_in cells)
-made_whole s index count depth_dc depth_ac head cells e limit f dc ac =
-    sym (coded_whole head (blocks_in cells) (ap (λ h. h.limit) e ∙ limit)) ∙ made s index count depth_dc depth_ac head cells e f dc ac
-
 -- and it isn't empty
-some_text : (s : Setting) (index : ℕ) (cells : List ℤ) → IsInRange s → s.limit ≡ 0 → 0 < length (text_for s index (blocks_in cells))
-some_text s index cells range limit =
-    coded_some (head_with s index (length (blocks_in cells)) (depth_dc_of (blocks_in cells)) (depth_ac_of (blocks_in cells))) (blocks_in cells) range.word.0 limit
+some_text : (s : Setting) (index : ℕ) (cells : List ℤ) → IsInRange s → 0 < length (text_for s index (blocks_in cells))
+some_text s index cells range =
+    coded_some (head_with s index (length (blocks_in cells)) (depth_dc_of (blocks_in cells)) (depth_ac_of (blocks_in cells))) (blocks_in cells) range.word.0
 
 pub returns-in_default : goal.returns-in_default
 returns-in_default g c =
@@ -67,13 +60,13 @@ returns-in_default g c =
     let cells = c.args.blocks.now in
     let least : 64 ≤ c.args.packets.now.packet = omega (arith, c.requires.packet, c.requires.in_range.packet) in
     let begins = c.sink-sink.ensures.same_packets ∙ c.begin.ensures.begun ∙ begun_with s c.args.index c.args.packets.now c.ancillary.result c.ancillary.ensures in
-    let broken = c.in_default.ensures in
+    let broken = c.in_default.ensures.text in
     let depths = c.segment_depths-depth_dc in
     let long : length cells ≡ 64 * length depths.new.marks = omega (arith, c.requires.blocks, depths.auto.marks) in
-    let same = made_whole s c.args.index _ depths.result.0 depths.result.1 c.make_head-head.result cells c.make_head-head.ensures c.requires.limit long depths.ensures.dc depths.ensures.ac in
+    let same = made s c.args.index _ depths.result.0 depths.result.1 c.make_head-head.result cells c.make_head-head.ensures long depths.ensures.dc depths.ensures.ac in
     let off = sink_breaks_off g.X.Port.outside c.sink-sink.result c.encode_segment.new.out c.args.packets.now (text_of s c.args.index) c.args.port.now broken.front begins c.sink-sink.ensures.same_port least broken.broke in
     let whole : broken.front ++ broken.more ≡ text_for s c.args.index (blocks_in cells) = sym broken.parts ∙ same in
-    let some : 0 < length (broken.front ++ broken.more) = subst (λ xs. 0 < length xs) (sym whole) (some_text s c.args.index cells c.requires.in_range c.requires.limit) in
+    let some : 0 < length (broken.front ++ broken.more) = subst (λ xs. 0 < length xs) (sym whole) (some_text s c.args.index cells c.requires.in_range) in
     let cut = rw whole at (text_cut c.args.packets.now broken.front broken.more least refl some off) in
     cut_to g.X.Port.outside _ c.encode_segment.new.out.port.now _ c.encode_segment.new.out.packets.now (search rules) (search rules) cut
 
@@ -82,7 +75,7 @@ close-requires-clause-begun g c =
     let s = c.args.setting.now in
     let least : 64 ≤ c.args.packets.now.packet = omega (arith, c.requires.packet, c.requires.in_range.packet) in
     let begins = c.sink-sink.ensures.same_packets ∙ c.begin.ensures.begun ∙ begun_with s c.args.index c.args.packets.now c.ancillary.result c.ancillary.ensures in
-    let given = c.in-Ok.ensures in
+    let given = c.in-Ok.ensures.text in
     let sent = sink_goes_on g.X.Port.outside c.sink-sink.result c.encode_segment.new.out c.args.packets.now (text_of s c.args.index) c.args.port.now _ begins c.sink-sink.ensures.same_port least given.gave in
     begun_to _ c.encode_segment.new.out.packets.now.stage (search rules) (begun_stands _ _ (ap (λ (w : Progress). w.stage) sent.stands))
 
@@ -92,13 +85,13 @@ close-requires-clause-some g c =
     let cells = c.args.blocks.now in
     let least : 64 ≤ c.args.packets.now.packet = omega (arith, c.requires.packet, c.requires.in_range.packet) in
     let begins = c.sink-sink.ensures.same_packets ∙ c.begin.ensures.begun ∙ begun_with s c.args.index c.args.packets.now c.ancillary.result c.ancillary.ensures in
-    let given = c.in-Ok.ensures in
+    let given = c.in-Ok.ensures.text in
     let depths = c.segment_depths-depth_dc in
     let long : length cells ≡ 64 * length depths.new.marks = omega (arith, c.requires.blocks, depths.auto.marks) in
     let same = made s c.args.index _ depths.result.0 depths.result.1 c.make_head-head.result cells c.make_head-head.ensures long depths.ensures.dc depths.ensures.ac in
     let gave = rw same at given.gave in
     let sent = sink_goes_on g.X.Port.outside c.sink-sink.result c.encode_segment.new.out c.args.packets.now (text_of s c.args.index) c.args.port.now _ begins c.sink-sink.ensures.same_port least gave in
-    let waits : 0 < length c.encode_segment.new.out.packets.now.pending = some_wait c.args.packets.now (text_for s c.args.index (blocks_in cells)) (some_text s c.args.index cells c.requires.in_range c.requires.limit) sent in
+    let waits : 0 < length c.encode_segment.new.out.packets.now.pending = some_wait c.args.packets.now (text_for s c.args.index (blocks_in cells)) (some_text s c.args.index cells c.requires.in_range) sent in
     grind (arith, waits)
 
 pub returns : goal.returns
@@ -107,12 +100,12 @@ returns g c =
     let cells = c.args.blocks.now in
     let least : 64 ≤ c.args.packets.now.packet = omega (arith, c.requires.packet, c.requires.in_range.packet) in
     let begins = c.sink-sink.ensures.same_packets ∙ c.begin.ensures.begun ∙ begun_with s c.args.index c.args.packets.now c.ancillary.result c.ancillary.ensures in
-    let given = c.in-Ok.ensures in
+    let given = c.in-Ok.ensures.text in
     let depths = c.segment_depths-depth_dc in
     let long : length cells ≡ 64 * length depths.new.marks = omega (arith, c.requires.blocks, depths.auto.marks) in
     let same = made s c.args.index _ depths.result.0 depths.result.1 c.make_head-head.result cells c.make_head-head.ensures long depths.ensures.dc depths.ensures.ac in
     let gave = rw same at given.gave in
     let sent = sink_goes_on g.X.Port.outside c.sink-sink.result c.encode_segment.new.out c.args.packets.now (text_of s c.args.index) c.args.port.now _ begins c.sink-sink.ensures.same_port least gave in
     text_closed c.close.result c.args.packets.now _ c.close.new.self (text_of s c.args.index) (text_for s c.args.index (blocks_in cells)) (g.X.Port.outside c.args.port.now) _ (g.X.Port.outside c.close.new.port) least refl
-    (some_text s c.args.index cells c.requires.in_range c.requires.limit)
+    (some_text s c.args.index cells c.requires.in_range)
     (sent_to g.X.Port.outside _ c.encode_segment.new.out.port.now _ c.encode_segment.new.out.packets.now (search rules) (search rules) sent) c.close.ensures

@@ -9,6 +9,3 @@ returns-in-BadPixel g c =
 
 pub returns-in-WriteFault : goal.returns-in-WriteFault
 returns-in-WriteFault g c = notes_as (fault_line c.args.fault) c.note_line-in-WriteFault.ensures (rw c.in-WriteFault.is refl)
-
-pub returns-in-Memory : goal.returns-in-Memory
-returns-in-Memory g c = notes_as (fault_line c.args.fault) c.note_line-in-Memory.ensures (rw c.in-Memory.is refl)

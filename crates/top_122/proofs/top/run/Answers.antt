@@ -1,10 +1,9 @@
-use Rattle.std.proofs.Common.{◌≡◌, ◌∙◌, ap, sym, subst}
+use Rattle.std.proofs.Common.{◌≡◌, sym, subst}
 use Rattle.std.specs.Prelude.{Ok}
-use Rattle.top_122.specs.declared.words.Command.TheVariants.{Encode}
-use Rattle.top_122.specs.Words.{texts, Says}
+use Rattle.command_words.specs.Words.{texts, Says}
 use Rattle.top_122.specs.Run.{Performs}
-use Rattle.top_122.proofs.Statuses.{performs_not_two, performs_done, performs_refused, performs_read_fault, performs_write_fault, performs_no_memory}
-use Rattle.top_122.proofs.Inputs.{performs_complete, wrong_input}
+use Rattle.top_122.proofs.Statuses.{performs_not_two, performs_done, performs_part, performs_refused, performs_read_fault, performs_write_fault, performs_no_memory}
+use Rattle.top_122.proofs.Inputs.{performs_complete, performs_wrong}
 use Rattle.top_122.proofs.top.run.Goals as goal
 
 pub returns-in-Ok-clause-done : goal.returns-in-Ok-clause-done
@@ -17,10 +16,13 @@ returns-in-Ok-clause-refused g c = (
   λ (fault, says). absurd (let e = c.read_words.ensures.only _ says in let f = c.in-Ok.is in cc),
 )
 
+pub returns-in-Ok-clause-part : goal.returns-in-Ok-clause-part
+returns-in-Ok-clause-part g c one =
+    (c.in-Ok.command, subst (Says (texts c.args.words.now)) c.in-Ok.is c.read_words.ensures.says, performs_part c.in-Ok.command _ _ c.perform.result c.perform.ensures one)
+
 pub returns-in-Ok-clause-input_refused : goal.returns-in-Ok-clause-input_refused
 returns-in-Ok-clause-input_refused g c three =
-    let found = performs_refused c.in-Ok.command _ _ c.perform.result c.perform.ensures three in
-    (found.0, subst (Says (texts c.args.words.now)) (c.in-Ok.is ∙ ap Ok found.1) c.read_words.ensures.says, found.2)
+    (c.in-Ok.command, subst (Says (texts c.args.words.now)) c.in-Ok.is c.read_words.ensures.says, performs_refused c.in-Ok.command _ _ c.perform.result c.perform.ensures three)
 
 pub returns-in-Ok-clause-read_fault : goal.returns-in-Ok-clause-read_fault
 returns-in-Ok-clause-read_fault g c four = performs_read_fault c.in-Ok.command _ _ c.perform.result c.perform.ensures four
@@ -30,8 +32,7 @@ returns-in-Ok-clause-write_fault g c five = performs_write_fault c.in-Ok.command
 
 pub returns-in-Ok-clause-no_memory : goal.returns-in-Ok-clause-no_memory
 returns-in-Ok-clause-no_memory g c six =
-    let found = performs_no_memory c.in-Ok.command _ _ c.perform.result c.perform.ensures six in
-    (found.0, subst (Says (texts c.args.words.now)) (c.in-Ok.is ∙ ap Ok found.1) c.read_words.ensures.says, found.2)
+    (c.in-Ok.command, subst (Says (texts c.args.words.now)) c.in-Ok.is c.read_words.ensures.says, performs_no_memory c.in-Ok.command _ _ c.perform.result c.perform.ensures six)
 
 pub returns-in-Ok-clause-complete : goal.returns-in-Ok-clause-complete
 returns-in-Ok-clause-complete g c command says input steady =
@@ -40,9 +41,9 @@ returns-in-Ok-clause-complete g c command says input steady =
     (subst (λ k. Performs k (g.X.Port.outside c.args.port.now) (g.X.Port.outside c.perform.new.port) c.perform.result) (sym same) c.perform.ensures) input steady
 
 pub returns-in-Ok-clause-wrong_input : goal.returns-in-Ok-clause-wrong_input
-returns-in-Ok-clause-wrong_input g c setting says input steady =
-    let same : Encode setting ≡ c.in-Ok.command = let e = c.read_words.ensures.only (Ok (Encode setting)) says in let f = c.in-Ok.is in cc in
-    wrong_input setting _ _ c.perform.result
+returns-in-Ok-clause-wrong_input g c command says input steady =
+    let same : command ≡ c.in-Ok.command = let e = c.read_words.ensures.only (Ok command) says in let f = c.in-Ok.is in cc in
+    performs_wrong command _ _ c.perform.result
     (subst (λ k. Performs k (g.X.Port.outside c.args.port.now) (g.X.Port.outside c.perform.new.port) c.perform.result) (sym same) c.perform.ensures) input steady
 
 pub returns-in-Err-clause-complete : goal.returns-in-Err-clause-complete
@@ -50,5 +51,5 @@ returns-in-Err-clause-complete g c command says input steady =
     absurd (let e = c.read_words.ensures.only (Ok command) says in let f = c.in-Err.is in cc)
 
 pub returns-in-Err-clause-wrong_input : goal.returns-in-Err-clause-wrong_input
-returns-in-Err-clause-wrong_input g c setting says input steady =
-    absurd (let e = c.read_words.ensures.only (Ok (Encode setting)) says in let f = c.in-Err.is in cc)
+returns-in-Err-clause-wrong_input g c command says input steady =
+    absurd (let e = c.read_words.ensures.only (Ok command) says in let f = c.in-Err.is in cc)

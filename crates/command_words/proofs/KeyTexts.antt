@@ -1,0 +1,94 @@
+-- A word has one key at most, and one text after it.
+use Rattle.std.proofs.Common.{◌≡◌, ◌≢◌, ◌<◌, ℕ, zero, suc, List, [], ◌∷◌, ◌++◌, length, get_or, refl, sym, ◌∙◌, ap, append_assoc, arith, true, false, lit<}
+use Rattle.std.specs.Prelude.{codes, Bool, not, cond, find, Option, Some, None, is_some, ◌==◌, MatchOption}
+use Rattle.std.specs.Borrow.{Bor}
+use Rattle.std.specs.List.{list_all}
+use Rattle.std.specs.Str.{bytes_eq}
+use Rattle.std.proofs.lemmas.Bool.{false≢true, and_parts, eq-eqb}
+use Rattle.std.proofs.lemmas.Slice.Eq.{bytes_eq-Decides}
+use Rattle.std.proofs.lemmas.Str.Pattern.{split_after, IsSplitOnceResult}
+use Rattle.command_words.proofs.Separators.{split_one}
+use Rattle.command_words.specs.declared.keys.Key.{Key}
+use Rattle.command_words.specs.declared.keys.Key.TheVariants.{Width, Rows, Depth, Signed, Segment, Limit, Fill, Word, Stop, Weights, Select, Apid, Image, Packet, Seed}
+use Rattle.command_words.specs.Keys.{key_text, key_named, all_keys}
+use Rattle.command_words.specs.Entries.{IsKeyed}
+
+-- no octet is an equals sign
+abbrev is_plain : List ℕ → Bool
+is_plain text = list_all (λ b. not (b == 61)) text
+
+plain_at : (text : List ℕ) → is_plain text ≡ true → (i : ℕ) → i < length text → get_or text i 0 ≢ 61
+plain_at [] plain i below e = absurd (omega arith)
+plain_at (b ∷ bs) plain zero below e =
+    let first = (and_parts (not (b == 61)) (is_plain bs) plain).0 in
+    false≢true (ap not (sym (eq-eqb b 61 e)) ∙ first)
+plain_at (b ∷ bs) plain (suc i) below e = plain_at bs (and_parts (not (b == 61)) (is_plain bs) plain).1 i (omega arith) e
+
+plain_key : (key : Key) → is_plain (key_text key) ≡ true
+plain_key Width = refl
+plain_key Rows = refl
+plain_key Depth = refl
+plain_key Signed = refl
+plain_key Segment = refl
+plain_key Limit = refl
+plain_key Fill = refl
+plain_key Word = refl
+plain_key Stop = refl
+plain_key Weights = refl
+plain_key Select = refl
+plain_key Apid = refl
+plain_key Image = refl
+plain_key Packet = refl
+plain_key Seed = refl
+
+-- each key has the name by which it is found
+pub named_text : (key : Key) → key_named (key_text key) ≡ Some key
+named_text Width = refl
+named_text Rows = refl
+named_text Depth = refl
+named_text Signed = refl
+named_text Segment = refl
+named_text Limit = refl
+named_text Fill = refl
+named_text Word = refl
+named_text Stop = refl
+named_text Weights = refl
+named_text Select = refl
+named_text Apid = refl
+named_text Image = refl
+named_text Packet = refl
+named_text Seed = refl
+
+passes_here : (p : Key → Bool) (key other : Key) (rest : Option Key) (b : Bool) → p other ≡ b → cond b (Some other) rest ≡ Some key →
+    (rest ≡ Some key → p key ≡ true) → p key ≡ true
+passes_here p key other rest true is e later = let same : other ≡ key = cc in ap p (sym same) ∙ is
+passes_here p key other rest false is e later = later e
+
+found_passes : (p : Key → Bool) (keys : List Key) (key : Key) → find p keys ≡ Some key → p key ≡ true
+found_passes p [] key e = absurd (cc)
+found_passes p (other ∷ keys) key e = passes_here p key other (find p keys) (p other) refl e (found_passes p keys key)
+
+pub text_of_named : (text : List ℕ) (key : Key) → key_named text ≡ Some key → key_text key ≡ text
+text_of_named text key e = (bytes_eq-Decides (key_text key) text).0 (found_passes (λ own. bytes_eq (key_text own) text) all_keys key e)
+
+-- what stands before and after the first equals sign of a word with a key
+pub keyed_parts : (word text : List ℕ) (key : Key) (r : Option (Bor (List ℕ) × Bor (List ℕ))) → IsSplitOnceResult 61 word r → IsKeyed word key text →
+    MatchOption r ⊥ (λ x. (x.0.now ≡ key_text key) × (x.1.now ≡ text))
+keyed_parts word text key r split keyed =
+    split_after 61 word (key_text key) text r split (lit< tt) (keyed ∙ append_assoc (key_text key) (codes "=") text) (plain_at (key_text key) (plain_key key))
+
+pub keyed_from_parts : (word before text : List ℕ) (key : Key) → word ≡ before ++ (61 ∷ text) → key_named before ≡ Some key → IsKeyed word key text
+keyed_from_parts word before text key e named =
+    e ∙ ap (λ front. front ++ (61 ∷ text)) (sym (text_of_named before key named)) ∙ sym (append_assoc (key_text key) (codes "=") text)
+
+-- two readings of one word have the same key and the same text
+pub keyed_one : (word text text' : List ℕ) (key key' : Key) → IsKeyed word key text → IsKeyed word key' text' → (key ≡ key') × (text ≡ text')
+keyed_one word text text' key key' is is' =
+    let parts = split_one 61 (key_text key) (key_text key') text text' (plain_at (key_text key) (plain_key key)) (plain_at (key_text key') (plain_key key'))
+    (sym (append_assoc (key_text key) (codes "=") text) ∙ sym is ∙ is' ∙ append_assoc (key_text key') (codes "=") text') in
+    let found : Some key ≡ Some key' = sym (named_text key) ∙ ap key_named parts.0 ∙ named_text key' in
+    (cc, parts.1)
+
+pub none_from : {A : Type 0} (o : Option A) → is_some o ≡ false → o ≡ None
+none_from None e = refl
+none_from (Some x) e = absurd (false≢true (sym e))

@@ -1,0 +1,135 @@
+-- Words say one thing at most.
+use Rattle.std.proofs.Common.{◌≡◌, ◌<◌, ◌+◌, ◌^◌, ℕ, List, [], ◌∷◌, ◌++◌, map, decimal, get_or, refl, sym, ◌∙◌, ap, subst, inl, inr, arith, append_assoc, true, false}
+use Rattle.std.specs.Prelude.{codes, Result, Ok, Err}
+use Rattle.std.proofs.lemmas.Fmt.{decimal_injective, decimal_nonempty}
+use Rattle.std.proofs.lemmas.List.{get_or_append_left}
+use Rattle.base_122.specs.declared.weights.Weights.{Weights as TenWeights}
+use Rattle.base_122.specs.declared.setting.Select.TheVariants.{Heuristic, Optimal}
+use Rattle.command_words.specs.declared.keys.CommandName.{CommandName}
+use Rattle.command_words.specs.declared.keys.Key.{Key}
+use Rattle.command_words.specs.declared.keys.Form.{Form}
+use Rattle.command_words.specs.declared.keys.Form.TheVariants.{Number, Flag, Stop, Weights, Select}
+use Rattle.command_words.specs.declared.values.Value.{Value}
+use Rattle.command_words.specs.declared.values.Value.TheVariants.{Number as NumberValue, Flag as FlagValue, StopDc, StopAt, Weights as WeightsValue, Select as SelectValue}
+use Rattle.command_words.specs.declared.entries.Entry.{Entry}
+use Rattle.command_words.specs.declared.command.Command.{Command}
+use Rattle.command_words.specs.declared.command.WordFault.{WordFault}
+use Rattle.command_words.specs.declared.command.WordFault.TheVariants.{MissingCommand, UnbuiltCommand, BadWord, MissingKey, OutOfRange}
+use Rattle.command_words.specs.Keys.{form_of}
+use Rattle.command_words.specs.Values.{value_text, HasForm}
+use Rattle.command_words.specs.Entries.{Finds, nothing, with_entry, IsKeyed, IsEntry, WordSays, EntriesSay}
+use Rattle.command_words.specs.Words.{name_said, made_of, RestSays, Says}
+use Rattle.command_words.proofs.Separators.{split_one}
+use Rattle.command_words.proofs.ValueTexts.{no_dot, digit}
+use Rattle.command_words.proofs.KeyTexts.{keyed_one}
+
+-- a number's text doesn't begin with a letter
+not_dc : (plane stage : ℕ) → plane < 2 ^ 32 → codes "dc" ≡ decimal plane ++ codes "." ++ decimal stage → ⊥
+not_dc plane stage small e =
+    let some = decimal_nonempty plane (omega arith) in
+    let first = digit plane small 0 some in
+    let front = get_or_append_left (decimal plane) (codes "." ++ decimal stage) 0 0 some in
+    let same = ap (λ xs. get_or xs 0 0) (e ∙ append_assoc (decimal plane) (codes ".") (decimal stage)) in
+    omega (arith, first.1, front, same)
+
+one_number : (m n : ℕ) → m < 2 ^ 32 → n < 2 ^ 32 → decimal m ≡ decimal n → m ≡ n
+one_number m n p q e = decimal_injective m n (omega arith) (omega arith) e
+
+one_stop : (p s q t : ℕ) → p < 2 ^ 32 → s < 2 ^ 32 → q < 2 ^ 32 → t < 2 ^ 32 →
+    decimal p ++ codes "." ++ decimal s ≡ decimal q ++ codes "." ++ decimal t → StopAt p s ≡ StopAt q t
+one_stop p s q t in_p in_s in_q in_t e =
+    let parts = split_one 46 (decimal p) (decimal q) (decimal s) (decimal t) (no_dot p in_p) (no_dot q in_q)
+    (sym (append_assoc (decimal p) (codes ".") (decimal s)) ∙ e ∙ append_assoc (decimal q) (codes ".") (decimal t)) in
+    let plane = one_number p q in_p in_q parts.0 in
+    let stage = one_number s t in_s in_t parts.1 in
+    ap (λ n. StopAt n s) plane ∙ ap (StopAt q) stage
+
+one_shifts : (xs ys : List ℕ) → map (λ shift. 48 + shift) xs ≡ map (λ shift. 48 + shift) ys → xs ≡ ys
+one_shifts [] [] e = refl
+one_shifts [] (y ∷ ys) e = absurd (cc)
+one_shifts (x ∷ xs) [] e = absurd (cc)
+one_shifts (x ∷ xs) (y ∷ ys) e =
+    let head : 48 + x ≡ 48 + y = cc in
+    let tail : map (λ shift. 48 + shift) xs ≡ map (λ shift. 48 + shift) ys = cc in
+    let same : x ≡ y = omega arith in
+    let rest = one_shifts xs ys tail in
+    cc
+
+value_one : (form : Form) (v w : Value) → HasForm form v → HasForm form w → value_text v ≡ value_text w → v ≡ w
+value_one Number (NumberValue m) (NumberValue n) p q e = ap NumberValue (one_number m n p q e)
+value_one Flag (FlagValue true) (FlagValue true) p q e = refl
+value_one Flag (FlagValue true) (FlagValue false) p q e = absurd (omega (arith, ap (λ xs. get_or xs 0 0) e))
+value_one Flag (FlagValue false) (FlagValue true) p q e = absurd (omega (arith, ap (λ xs. get_or xs 0 0) e))
+value_one Flag (FlagValue false) (FlagValue false) p q e = refl
+value_one Stop StopDc StopDc p q e = refl
+value_one Stop StopDc (StopAt plane stage) p q e = absurd (not_dc plane stage q.0 e)
+value_one Stop (StopAt plane stage) StopDc p q e = absurd (not_dc plane stage p.0 (sym e))
+value_one Stop (StopAt a b) (StopAt c d) p q e = one_stop a b c d p.0 p.1 q.0 q.1 e
+value_one Weights (WeightsValue v) (WeightsValue w) p q e =
+    let make : List ℕ → TenWeights = λ shifts. record { shifts = shifts } in
+    ap (λ shifts. WeightsValue (make shifts)) (one_shifts v.shifts w.shifts e)
+value_one Select (SelectValue Heuristic) (SelectValue Heuristic) p q e = refl
+value_one Select (SelectValue Heuristic) (SelectValue Optimal) p q e = absurd (omega (arith, ap (λ xs. get_or xs 0 0) e))
+value_one Select (SelectValue Optimal) (SelectValue Heuristic) p q e = absurd (omega (arith, ap (λ xs. get_or xs 0 0) e))
+value_one Select (SelectValue Optimal) (SelectValue Optimal) p q e = refl
+value_one form v w p q e = absurd assumption
+
+same_value : (word : List ℕ) (key key' : Key) (v w : Value) → IsKeyed word key (value_text v) → IsKeyed word key' (value_text w) →
+    HasForm (form_of key) v → HasForm (form_of key') w → v ≡ w
+same_value word key key' v w is is' p q =
+    let same = keyed_one word (value_text v) (value_text w) key key' is is' in
+    value_one (form_of key) v w p (subst (λ k. HasForm (form_of k) w) (sym same.0) q) same.1
+
+entry_one : (name : CommandName) (finds : Finds) (word : List ℕ) (a b : Entry) → IsEntry name finds word a → IsEntry name finds word b → a ≡ b
+entry_one name finds word a b p q =
+    let key : a.key ≡ b.key = (keyed_one word (value_text a.value) (value_text b.value) a.key b.key p.keyed q.keyed).0 in
+    let value : a.value ≡ b.value = same_value word a.key b.key a.value b.value p.keyed q.keyed p.form q.form in
+    let make : Key → Value → Entry = λ k v. record { key = k; value = v } in
+    ap (λ k. make k a.value) key ∙ ap (make b.key) value
+
+fault_not_entry : (name : CommandName) (finds : Finds) (place : ℕ) (word : List ℕ) (fault : WordFault) (a : Entry) →
+    WordSays name finds place word (Err fault) → IsEntry name finds word a → ⊥
+fault_not_entry name finds place word (BadWord m) a p q = p.1 a q
+fault_not_entry name finds place word UnbuiltCommand a p q = p
+fault_not_entry name finds place word MissingCommand a p q = p
+fault_not_entry name finds place word (MissingKey f) a p q = p
+fault_not_entry name finds place word (OutOfRange f) a p q = p
+
+fault_one : (name : CommandName) (finds : Finds) (place : ℕ) (word : List ℕ) (f g : WordFault) →
+    WordSays name finds place word (Err f) → WordSays name finds place word (Err g) → f ≡ g
+fault_one name finds place word (BadWord m) (BadWord n) p q = ap BadWord (p.0 ∙ sym q.0)
+fault_one name finds place word (BadWord m) UnbuiltCommand p q = absurd q
+fault_one name finds place word (BadWord m) MissingCommand p q = absurd q
+fault_one name finds place word (BadWord m) (MissingKey g) p q = absurd q
+fault_one name finds place word (BadWord m) (OutOfRange g) p q = absurd q
+fault_one name finds place word UnbuiltCommand g p q = absurd p
+fault_one name finds place word MissingCommand g p q = absurd p
+fault_one name finds place word (MissingKey f) g p q = absurd p
+fault_one name finds place word (OutOfRange f) g p q = absurd p
+
+entries_say_one : (name : CommandName) (words : List (List ℕ)) (finds : Finds) (place : ℕ) (a b : Result Finds WordFault) →
+    EntriesSay name finds place words a → EntriesSay name finds place words b → a ≡ b
+entries_say_one name [] finds place a b p q = p ∙ sym q
+entries_say_one name (word ∷ words) finds place a b (inl p) (inl q) = p.2 ∙ ap Err (fault_one name finds place word p.0 q.0 p.1 q.1) ∙ sym q.2
+entries_say_one name (word ∷ words) finds place a b (inl p) (inr q) = absurd (fault_not_entry name finds place word p.0 q.0 p.1 q.1)
+entries_say_one name (word ∷ words) finds place a b (inr p) (inl q) = absurd (fault_not_entry name finds place word q.0 p.0 q.1 p.1)
+entries_say_one name (word ∷ words) finds place a b (inr p) (inr q) =
+    let same : p.0 ≡ q.0 = entry_one name finds word p.0 q.0 p.1 q.1 in
+    entries_say_one name words (with_entry finds q.0) (place + 1) a b
+    (subst (λ e. EntriesSay name (with_entry finds e) (place + 1) words a) same p.2) q.2
+
+rest_says_one : (said : Result CommandName WordFault) (rest : List (List ℕ)) (a b : Result Command WordFault) → RestSays said rest a → RestSays said rest b → a ≡ b
+rest_says_one (Err fault) rest a b p q = p ∙ sym q
+rest_says_one (Ok name) rest a b p q = p.2 ∙ ap (made_of name) (entries_say_one name rest nothing 1 p.0 q.0 p.1 q.1) ∙ sym q.2
+
+pub says_one : (words : List (List ℕ)) (a b : Result Command WordFault) → Says words a → Says words b → a ≡ b
+says_one [] a b p q = p ∙ sym q
+says_one (first ∷ rest) a b p q = rest_says_one (name_said first) rest a b p q
+
+pub says_rest : (words rest : List (List ℕ)) (first : List ℕ) (name : CommandName) (said : Result Finds WordFault) → words ≡ first ∷ rest →
+    Ok name ≡ name_said first → EntriesSay name nothing 1 rest said → Says words (made_of name said)
+says_rest words rest first name said is named entries =
+    subst (λ ws. Says ws (made_of name said)) (sym is) (subst (λ n. RestSays n rest (made_of name said)) named (said, entries, refl))
+
+pub says_first : (words rest : List (List ℕ)) (first : List ℕ) (fault : WordFault) → words ≡ first ∷ rest → Err fault ≡ name_said first → Says words (Err fault)
+says_first words rest first fault is named = subst (λ ws. Says ws (Err fault)) (sym is) (subst (λ n. RestSays n rest (Err fault)) named refl)

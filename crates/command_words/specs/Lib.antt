@@ -1,0 +1,6 @@
+pub mod Keys
+pub mod Values
+pub mod Entries
+pub mod Commands
+pub mod Words
+pub mod Given

@@ -1,0 +1,37 @@
+-- How values are written. This project's own.
+use Rattle.std.specs.Prelude.{◌≡◌, ◌<◌, ◌≤◌, ◌+◌, ◌^◌, ℕ, List, ◌++◌, length, map, decimal, codes, All, true, false}
+use Rattle.base_122.specs.Weights.{IsShift}
+use Rattle.base_122.specs.declared.setting.Select.TheVariants.{Heuristic, Optimal}
+use Rattle.command_words.specs.declared.keys.Form.{Form}
+use Rattle.command_words.specs.declared.keys.Form.TheVariants.{Number, Flag, Stop, Weights, Select}
+use Rattle.command_words.specs.declared.values.Value.{Value}
+use Rattle.command_words.specs.declared.values.Value.TheVariants.{Number as NumberValue, Flag as FlagValue, StopDc, StopAt, Weights as WeightsValue, Select as SelectValue}
+
+-- a value as it is written
+abbrev pub value_text : Value → List ℕ
+value_text (NumberValue n) = decimal n
+value_text (FlagValue false) = codes "0"
+value_text (FlagValue true) = codes "1"
+value_text StopDc = codes "dc"
+value_text (StopAt plane stage) = decimal plane ++ codes "." ++ decimal stage
+value_text (WeightsValue weights) = map (λ shift. 48 + shift) weights.shifts
+value_text (SelectValue Heuristic) = codes "heuristic"
+value_text (SelectValue Optimal) = codes "optimal"
+
+-- a digit 0 to 3
+abbrev pub IsWeightDigit : ℕ → Type 0
+IsWeightDigit c = (48 ≤ c) × (c ≤ 51)
+
+-- a value of this form
+abbrev pub HasForm : Form → Value → Type 0
+HasForm Number (NumberValue n) = n < 2 ^ 32
+HasForm Flag (FlagValue b) = Unit {0}
+HasForm Stop StopDc = Unit {0}
+HasForm Stop (StopAt plane stage) = (plane < 2 ^ 32) × (stage < 2 ^ 32)
+HasForm Weights (WeightsValue weights) = (length weights.shifts ≡ 10) × All IsShift weights.shifts
+HasForm Select (SelectValue select) = Unit {0}
+HasForm form value = ⊥
+
+-- the text is that of a value of this form
+abbrev pub IsValueText : Form → List ℕ → Value → Type 0
+IsValueText form text value = HasForm form value × (text ≡ value_text value)

@@ -1,0 +1,14 @@
+//! The words of the command line: what they ask for, or the first thing that is wrong with them.
+#![tactic(auto)]
+
+mod command;
+mod entries;
+mod given;
+mod keys;
+mod reading;
+#[cfg(test)]
+mod tests;
+mod values;
+
+pub use command::{Command, WordFault};
+pub use reading::read_words;

@@ -1,0 +1,108 @@
+// The values of keys.
+ghost use Rattle.std.specs.Prelude.{◌≡◌, ◌≢◌, ◌<◌, ◌^◌, ◌↔◌, ℕ, All, IsTrue, MatchOption, decimal};
+ghost use Rattle.command_words.specs.declared.values.Value.{Value};
+ghost use Rattle.command_words.specs.Values.{IsValueText, IsWeightDigit};
+
+use crate::keys::Form;
+use base_122::{Select, Weights};
+use itoa::Buffer;
+
+/// The value of a key.
+#[derive(Clone, Copy)]
+pub enum Value {
+    Number(u32),
+    Flag(bool),
+    StopDc,
+    StopAt { plane: u32, stage: u32 },
+    Weights(Weights),
+    Select(Select),
+}
+
+// A number is 0 or digits without a leading zero.
+fn read_number(text: &str) -> Option<u32>
+    ensures { MatchOption result ((n : ℕ) → n < 2 ^ 32 → text.now ≢ decimal n) (λ n. text.now ≡ decimal n) }
+{
+    let Ok(number) = text.parse::<u32>() else {
+        return None;
+    };
+    let mut buffer = Buffer::new();
+    if buffer.format(number) == text {
+        Some(number)
+    } else {
+        None
+    }
+}
+
+fn read_flag(text: &str) -> Option<Value>
+    ensures { MatchOption result ((value : Value) → IsValueText Form.Flag text.now value → ⊥) (IsValueText Form.Flag text.now) }
+{
+    match text {
+        "0" => Some(Value::Flag(false)),
+        "1" => Some(Value::Flag(true)),
+        _ => None,
+    }
+}
+
+fn read_stop(text: &str) -> Option<Value>
+    ensures { MatchOption result ((value : Value) → IsValueText Form.Stop text.now value → ⊥) (IsValueText Form.Stop text.now) }
+{
+    if text == "dc" {
+        return Some(Value::StopDc);
+    }
+    let Some((plane, stage)) = text.split_once('.') else {
+        return None;
+    };
+    let Some(plane) = read_number(plane) else {
+        return None;
+    };
+    let Some(stage) = read_number(stage) else {
+        return None;
+    };
+    Some(Value::StopAt { plane, stage })
+}
+
+fn are_weight_digits(digits: &[u8]) -> bool
+    ensures { IsTrue result ↔ All IsWeightDigit digits.now }
+{
+    digits.iter().all(|digit| b'0' <= *digit && *digit <= b'3')
+}
+
+fn read_weights(text: &str) -> Option<Value>
+    ensures { MatchOption result ((value : Value) → IsValueText Form.Weights text.now value → ⊥) (IsValueText Form.Weights text.now) }
+{
+    let digits = text.as_bytes();
+    if digits.len() != 10 {
+        return None;
+    }
+    if !are_weight_digits(digits) {
+        return None;
+    }
+    let mut shifts = [0; 10];
+    for i in 0..10 {
+        shifts[i] = digits[i] - b'0';
+    }
+    Some(Value::Weights(Weights { shifts }))
+}
+
+fn read_select(text: &str) -> Option<Value>
+    ensures { MatchOption result ((value : Value) → IsValueText Form.Select text.now value → ⊥) (IsValueText Form.Select text.now) }
+{
+    match text {
+        "heuristic" => Some(Value::Select(Select::Heuristic)),
+        "optimal" => Some(Value::Select(Select::Optimal)),
+        _ => None,
+    }
+}
+
+/// The value that is written so, where there is one.
+pub fn read_value(form: Form, text: &str) -> Option<Value>
+    ensures { MatchOption result ((value : Value) → IsValueText form text.now value → ⊥) (IsValueText form text.now) }
+{
+    match form {
+        Form::Number => read_number(text).map(Value::Number),
+        Form::Flag => read_flag(text),
+        Form::Stop => read_stop(text),
+        Form::Weights => read_weights(text),
+        Form::Select => read_select(text),
+    }
+}

@@ -1,0 +1,231 @@
+-- A row of a raster more.
+use Rattle.std.proofs.Common.{◌≡◌, ℕ, ◌+◌, ◌-◌, ◌*◌, ◌<◌, ◌≤◌, ℤ, List, [], ◌++◌, length, take, refl, sym, ap, ◌∙◌, subst, arith, length-append}
+use Rattle.std.specs.Prelude.{Err, Vec}
+use Rattle.std.specs.Vec.{with_items}
+use Rattle.std.proofs.lemmas.List.{length-take-le, with_items_is}
+use Rattle.std.proofs.Math.Nat.{mul-le-mul_left, mul-le-mul_right}
+use Rattle.port_122.specs.Outside.{Outside, Since, GivenBy}
+use Rattle.port_122.proofs.Stretches.{since_start, since_out, rose_since}
+use Rattle.port_122.proofs.ReadCalls.{since_prompt}
+use Rattle.wave_defs.specs.Held.{SameWithin, signal}
+use Rattle.base_122.specs.Ranges.{IsInRange}
+use Rattle.base_122.specs.declared.setting.Setting.{Setting}
+use Rattle.packet_defs.specs.Packets.{joined}
+use Rattle.raster_rows.specs.Pixels.{IsPixel, pixel_at}
+use Rattle.raster_rows.specs.RowReads.{FirstInRange, BeginsWith, InRow, RowRead}
+use Rattle.raster_rows.specs.declared.reading.RowFault.{RowFault}
+use Rattle.raster_rows.specs.declared.reading.RowFault.TheVariants.{ReadFault, Short, BadPixel}
+use Rattle.raster_rows.proofs.PixelPlaces.{pixel_at-append_right}
+use Rattle.stream_defs.specs.Output.{image_blocks, packets_of}
+use Rattle.stream_defs.specs.Settled.{settled}
+use Rattle.stream_defs.proofs.ImageLaws.{images_settle}
+use Rattle.stream_defs.proofs.Outputs.{packets_of-none}
+use Rattle.strip_coder.specs.declared.encode.EncodeFault.TheVariants as encode_faults
+use Rattle.strip_coder.specs.declared.work.Work.{Work}
+use Rattle.strip_coder.specs.Rasters.{row_length, raster_length, image_of, AreInRange, settled_octets, given_for}
+use Rattle.strip_coder.specs.Answers.{FirstBad, EncodesImage}
+use Rattle.strip_coder.specs.Works.{HasTaken, FollowsImage, StandsForNone, gathered_in}
+use Rattle.strip_coder.specs.Steps.{IsRowInRange, RowIs, TakesRow, BreaksAt}
+use Rattle.strip_coder.specs.RowsIn.{fault_after, ShortOf, HasCome}
+use Rattle.strip_coder.proofs.RowTakes.{OnlyRow, row_follows}
+use Rattle.strip_coder.proofs.RowsGiven.{same_rows, same_octets, given_within}
+use Rattle.strip_coder.proofs.RowsTakenLaws.{row_pixels, all_whole, in_range-more, all_in_range-more, first_bad-more}
+use Rattle.strip_coder.proofs.SettledCounts.{count, few_gathered}
+use Rattle.strip_coder.proofs.FrontsGiven.{front_out, broke_off}
+
+-- ---- no row yet
+
+-- the first segment is present
+none_index : (s : Setting) (w : Work) → IsInRange s → HasTaken s 0 w → w.at.index ≡ 0
+none_index s w range taken =
+    let rows = range.rows.0 in
+    let less : 0 < s.rows = omega (arith, rows) in
+    let few = few_gathered s range 0 w taken.running taken.strip_rows less in
+    let none : gathered_in s w.at ≡ 0 = omega (arith, count s range 0 w taken.running taken.strip_rows less) in
+    let least : w.at.index * 16 ≤ w.at.index * s.segment = mul-le-mul_left {m = 16} {n = s.segment} w.at.index range.segment.0 in
+    omega (arith, few, none, least)
+
+pub none_come : (s : Setting) (p : Outside) (w : Work) → IsInRange s → StandsForNone s w → HasCome s 0 p p w
+none_come s p w range start =
+    let none : joined (packets_of s (image_blocks s (image_of s [])) w.at.index) ≡ [] =
+    ap (λ n. joined (packets_of s (image_blocks s (image_of s [])) n)) (none_index s w range start.taken) ∙ ap joined (packets_of-none s (image_blocks s (image_of s []))) in
+    record {
+      took = [];
+      whole = omega arith;
+      in_range = record { each = λ k lt. absurd (omega (arith, lt)) };
+      stands = record { taken = start.taken; follows = λ y same. start.follows y };
+      last = λ some. absurd (omega (arith, some));
+      since = subst (λ g. Since p p [] g [] (GivenBy (given_for s) [])) (sym none) (since_start p (GivenBy (given_for s) []));
+    }
+
+-- a row that is short has fewer octets
+pub short_of : {T : Type 0} {a b : Outside} (s : Setting) (r : ℕ) (before after : List ℤ) (fault : RowFault) →
+    RowRead {T = T} s.depth s.signed s.width r a b before after (Err fault) → ShortOf fault (row_length s)
+short_of s r before after ReadFault read = tt
+short_of s r before after (Short octets) read = omega (arith, read.answer.0, read.answer.2.inside)
+short_of s r before after (BadPixel row column value) read = tt
+
+-- a row has the pixels of these octets
+pub record HoldsRow (s : Setting) (got : List ℕ) (row : List ℤ) : Type 0 where
+  pub at : (column : ℕ) → column < s.width → signal row column ≡ pixel_at s.depth s.signed got column
+
+pub row_holds : {A : Type 0} (s : Setting) (got : List ℕ) (v : Vec ℤ A) (before after : List ℤ) → length after ≡ v.len → BeginsWith s.depth s.signed got s.width before after →
+    HoldsRow s got (with_items v after).items
+row_holds s got v before after long begins = record { at = λ column lt. ap (λ xs. signal xs column) (with_items_is v after long) ∙ begins.first column lt }
+
+pub row_values : (s : Setting) (got : List ℕ) (row : List ℤ) → FirstInRange s.depth s.signed got s.width → HoldsRow s got row → IsRowInRange s row
+row_values s got row in_range holds = record { each = λ column lt. subst (IsPixel s.depth s.signed) (sym (holds.at column lt)) (in_range.each column lt) }
+
+-- ---- after k rows
+
+module _ (s : Setting) (range : IsInRange s) (k : ℕ) (p q : Outside) (old : Work) (less : k < s.rows) (come : HasCome s k p q old) where
+  le : k ≤ s.rows
+  le = omega (arith, less)
+
+  index : old.at.index ≡ settled s k
+  index = come.stands.taken.index less
+
+  gave_is : joined (packets_of s (image_blocks s (image_of s come.took)) old.at.index) ≡ settled_octets s come.took k
+  unfolding settled_octets
+  gave_is = ap (λ n. joined (packets_of s (image_blocks s (image_of s come.took)) n)) index
+
+  so_far : Since p q come.took (settled_octets s come.took k) [] (GivenBy (given_for s) come.took)
+  so_far = subst (λ g. Since p q come.took g [] (GivenBy (given_for s) come.took)) gave_is come.since
+
+  -- octets of the next row were taken
+  part_taken : {m : Outside} (got : List ℕ) → Since q m got [] [] (InRow s.depth s.signed s.width got) →
+      Since p m (come.took ++ got) (settled_octets s come.took k) [] (GivenBy (given_for s) (come.took ++ got))
+  part_taken got read = since_prompt (given_for s) so_far read
+      (λ i j most r.
+      let size = length-take-le i got most in
+      let short : length (take i got) < row_length s = omega (arith, size, r.0) in
+      let same = given_within s k come.took (take i got) range le come.whole short in
+      omega (arith, r.1, ap length same))
+
+  row_below : k * row_length s + row_length s ≤ raster_length s
+  row_below =
+      let next : (k + 1) * row_length s ≤ s.rows * row_length s = mul-le-mul_right {m = k + 1} {n = s.rows} (row_length s) (omega (arith, less)) in
+      omega (arith, next)
+
+  -- the row wasn't read to its end
+  pub row_lacks : {T : Type 0} {m : Outside} (before after : List ℤ) (fault : RowFault) → RowRead {T = T} s.depth s.signed s.width k q m before after (Err fault) →
+      EncodesImage s p m (Err (fault_after (k * row_length s) fault))
+  row_lacks before after ReadFault read =
+      let size = length-append come.took read.took in
+      let inside = read.answer.1.inside in
+      record {
+        took = come.took ++ read.took;
+        gave = settled_octets s come.took k;
+        since = part_taken read.took read.since;
+        answer = (
+          rose_since so_far.faults.reads read.answer.0,
+          omega (arith, size, inside, come.whole, row_below),
+          all_in_range-more s k come.took read.took come.whole come.in_range read.answer.1.in_range,
+          sym (given_within s k come.took read.took range le come.whole inside),
+        );
+      }
+  row_lacks before after (Short octets) read =
+      let size = length-append come.took read.took in
+      let inside = read.answer.2.inside in
+      let count = read.answer.0 in
+      record {
+        took = come.took ++ read.took;
+        gave = settled_octets s come.took k;
+        since = part_taken read.took read.since;
+        answer = (
+          omega (arith, size, count, come.whole),
+          omega (arith, size, inside, come.whole, row_below),
+          read.answer.1,
+          all_in_range-more s k come.took read.took come.whole come.in_range read.answer.2.in_range,
+          sym (given_within s k come.took read.took range le come.whole inside),
+        );
+      }
+  row_lacks before after (BadPixel row column value) read =
+      let size = length-append come.took read.took in
+      let most = read.answer.1 in
+      let bad = first_bad-more s k column value come.took read.took come.whole come.in_range most read.answer.2 in
+      let at = sym read.answer.0 in
+      record {
+        took = come.took ++ read.took;
+        gave = settled_octets s come.took k;
+        since = part_taken read.took read.since;
+        answer = (
+          omega (arith, size, most, come.whole, row_below),
+          subst (λ r. FirstBad s (come.took ++ read.took) r column value) at bad,
+          subst (λ r. settled_octets s come.took k ≡ settled_octets s (come.took ++ read.took) r) at (sym (same_octets s k come.took read.took range le come.whole)),
+        );
+      }
+
+  -- ---- the row was read
+
+  module _ (mid : Work) (m : Outside) (got : List ℕ) (read : Since q m got [] [] (InRow s.depth s.signed s.width got)) (only : OnlyRow old mid)
+      (whole : length got ≡ row_length s) (in_range : FirstInRange s.depth s.signed got s.width)
+      (holds : HoldsRow s got mid.row.items) where
+    -- it is the next row of each image that begins so
+    row_is : (y : ℕ → ℕ → ℤ) → SameWithin (k + 1) s.width (image_of s (come.took ++ got)) y → RowIs s y k mid
+    row_is y same = record {
+      at = λ j lt.
+          holds.at j lt
+          ∙ sym (pixel_at-append_right s.depth s.signed come.took got (k * s.width) j (row_pixels s k come.took come.whole))
+          ∙ same.at k j (omega arith) lt;
+    }
+
+    before_is : (y : ℕ → ℕ → ℤ) → SameWithin (k + 1) s.width (image_of s (come.took ++ got)) y → SameWithin k s.width (image_of s come.took) y
+    before_is y same = record {
+      at = λ i j hi hj. sym ((same_rows s k come.took got come.whole).at i j hi hj) ∙ same.at i j (omega (arith, hi)) hj;
+    }
+
+    follows : (y : ℕ → ℕ → ℤ) → SameWithin (k + 1) s.width (image_of s (come.took ++ got)) y → FollowsImage s y mid
+    follows y same = row_follows s y old mid only (come.stands.follows y (before_is y same))
+
+    itself : SameWithin (k + 1) s.width (image_of s (come.took ++ got)) (image_of s (come.took ++ got))
+    itself = record { at = λ i j hi hj. refl }
+
+    mid_index : mid.at.index ≡ settled s k
+    mid_index = ap (λ a. a.index) only.at ∙ index
+
+    -- what is given is that of each image that begins so
+    gave_same : (y : ℕ → ℕ → ℤ) → SameWithin (k + 1) s.width (image_of s (come.took ++ got)) y → settled_octets s come.took k ≡ joined (packets_of s (image_blocks s y) mid.at.index)
+    unfolding settled_octets
+    gave_same y same =
+        ap joined (images_settle s range k (image_of s come.took) y le (before_is y same))
+        ∙ ap (λ n. joined (packets_of s (image_blocks s y) n)) (sym mid_index)
+
+    rows_now : (k + 1) * row_length s ≡ k * row_length s + row_length s
+    rows_now = grind arith
+
+    took_whole : length (come.took ++ got) ≡ (k + 1) * row_length s
+    took_whole = length-append come.took got ∙ ap (λ n. n + length got) come.whole ∙ ap (λ n. k * row_length s + n) whole ∙ sym rows_now
+
+    took_in_range : AreInRange s (come.took ++ got) ((k + 1) * s.width)
+    took_in_range =
+        let now : k * s.width + s.width ≡ (k + 1) * s.width = grind arith in
+        subst (AreInRange s (come.took ++ got)) now (in_range-more s k s.width come.took got come.whole come.in_range in_range)
+
+    pub row_comes : {r : Outside} (new : Work) → TakesRow s k m r mid new → HasCome s (k + 1) p r new
+    row_comes {r = r} new takes =
+        let goes = takes.goes (image_of s (come.took ++ got)) (follows (image_of s (come.took ++ got)) itself) (row_is (image_of s (come.took ++ got)) itself) in
+        let gave : settled_octets s come.took k ++ goes.gave ≡ joined (packets_of s (image_blocks s (image_of s (come.took ++ got))) new.at.index) =
+        ap (λ g. g ++ goes.gave) (gave_same (image_of s (come.took ++ got)) itself) ∙ goes.then_are in
+        let back : (k + 1) - 1 ≡ k = omega arith in
+        record {
+          took = come.took ++ got;
+          whole = took_whole;
+          in_range = took_in_range;
+          stands = record { taken = takes.taken; follows = λ y same. takes.follows y (follows y same) (row_is y same) };
+          last = λ some. record {
+            in_range = record { each = λ column lt. subst (IsPixel s.depth s.signed) (sym (takes.row.at column lt)) ((row_values s got mid.row.items in_range holds).each column lt) };
+            same = record { at = λ j lt. takes.row.at j lt ∙ (row_is (image_of s (come.took ++ got)) itself).at j lt ∙ ap (λ n. image_of s (come.took ++ got) n j) (sym back) };
+          };
+          since = subst (λ g. Since p r (come.took ++ got) g [] (GivenBy (given_for s) (come.took ++ got))) gave (since_out (part_taken got read) goes.out);
+        }
+
+    pub row_breaks_off : {r : Outside} (new : Work) → BreaksAt s k m r mid new → EncodesImage s p r (Err encode_faults.WriteFault)
+    row_breaks_off {r = r} new breaks =
+        let few = come.stands.taken.running.gathered.index in
+        let same = ap (λ a. a.index) only.at in
+        broke_off s (come.took ++ got) (settled_octets s come.took k) (k + 1) mid.at.index (part_taken got read)
+        (record { whole = took_whole; most = omega (arith, less); in_range = all_whole s (k + 1) (come.took ++ got) took_whole took_in_range })
+        breaks.rose
+        (front_out s (k + 1) (image_of s (come.took ++ got)) mid.at.index (omega (arith, few, same)) (λ y h. breaks.breaks y (follows y h) (row_is y h)))
+        gave_same

@@ -1,0 +1,180 @@
+-- A row that was pushed into a work's strip.
+use Rattle.std.proofs.Common.{◌≡◌, ◌≢◌, ℕ, ◌+◌, ◌-◌, ◌*◌, ◌/◌, ◌<◌, ◌≤◌, ℤ, List, [], sym, ap, ◌∙◌, subst, arith, vec_len, Option, Some, None, Result, Ok, Err, true, false}
+use Rattle.std.specs.Prelude.{MatchOption, is_some}
+use Rattle.std.proofs.lemmas.List.{append-nil}
+use Rattle.port_122.specs.Outside.{Outside, NoRead}
+use Rattle.port_122.proofs.Stretches.{since_start}
+use Rattle.base_122.specs.Ranges.{IsInRange}
+use Rattle.base_122.specs.Sizes.{block_count, padded_size}
+use Rattle.base_122.specs.declared.setting.Setting.{Setting}
+use Rattle.base_122.proofs.SizeBounds.{three-le-block_count}
+use Rattle.packet_defs.specs.Packets.{joined}
+use Rattle.wave_defs.specs.Held.{Agrees, signal}
+use Rattle.wave_defs.specs.Pyramid.{padded}
+use Rattle.block_families.specs.Places.{gathered}
+use Rattle.wave_strip.specs.declared.strip.StripWave.{StripWave}
+use Rattle.wave_strip.specs.Strip.{rows_of, answered_of, columns_of, has_ended, is_standing, number_in, Follows, ShowsBlockRow}
+use Rattle.wave_strip.specs.Counts.{settled}
+use Rattle.stream_defs.specs.Output.{image_blocks, packets_of}
+use Rattle.strip_coder.specs.declared.work.Work.{Work}
+use Rattle.strip_coder.specs.Works.{IsMadeFor, HasGathered, IsRunning, HoldsBlocks, StripFollows, gathered_in}
+use Rattle.strip_coder.specs.Steps.{NextAre, NextRowIs, HasGone, HasBroken, Gathers, GoesOn, BreaksOff, HasPushed, HasNotPushed, Pushes}
+use Rattle.strip_coder.proofs.RowGathers.{next_are}
+
+-- what push_row says of a strip
+pub record StripPushed (old new : StripWave) (row : List ℤ) : Type 0 where
+  pub columns : columns_of new ≡ columns_of old
+  pub rows : rows_of new ≡ rows_of old + 1
+  pub running : has_ended new ≡ false
+  pub answered : answered_of new ≡ settled (rows_of new)
+  pub follows : (image : ℕ → ℕ → ℤ) (r : ℕ) → 3 ≤ r → rows_of old < 8 * r → Follows image r old → Agrees (8 * columns_of old) (signal row) (image (rows_of old)) → Follows image r new
+  pub shows : (image : ℕ → ℕ → ℤ) (r : ℕ) → is_standing new ≡ true → 3 ≤ r → rows_of new ≤ 8 * r → Follows image r new → ShowsBlockRow image r new
+
+-- nothing but the strip of a work was changed
+pub record OnlyStrip (old mid : Work) : Type 0 where
+  pub row : mid.row ≡ old.row
+  pub blocks : mid.blocks ≡ old.blocks
+  pub marks : mid.marks ≡ old.marks
+  pub packets : mid.packets ≡ old.packets
+  pub room : mid.room ≡ old.room
+  pub at : mid.at ≡ old.at
+
+pub only_holds : (s : Setting) (old mid : Work) → OnlyStrip old mid → (all : List (List ℤ)) → HoldsBlocks s all old → HoldsBlocks s all mid
+only_holds s old mid only all holds = record {
+  blocks = rw (only.at, only.blocks) holds.blocks;
+  packets = rw (only.at, only.packets) holds.packets;
+}
+
+-- the block row that came: its rows, its number, and that it stands
+pub record Came (strip : StripWave) : Type 0 where
+  pub block_row : ℕ
+  pub rows : rows_of strip ≡ 8 * block_row + 29
+  pub stands : is_standing strip ≡ true
+
+pub it_came : (o : Option ℕ) (strip : StripWave) (answered : ℕ) → is_some o ≡ true → MatchOption o ((r : ℕ) → rows_of strip ≢ 8 * r + 29) (λ r. rows_of strip ≡ 8 * r + 29) →
+    MatchOption o (is_standing strip ≡ false) (λ r. (is_standing strip ≡ true) × (answered ≡ r + 1)) → Came strip
+it_came (Some r) strip answered e rows stands = record { block_row = r; rows = rows; stands = stands.0 }
+it_came None strip answered e rows stands = absurd cc
+
+pub none_came : (o : Option ℕ) (rows : ℕ) → is_some o ≡ false → MatchOption o ((r : ℕ) → rows ≢ 8 * r + 29) (λ r. rows ≡ 8 * r + 29) → (r : ℕ) → rows ≢ 8 * r + 29
+none_came (Some r) rows e h = absurd cc
+none_came None rows e h = h
+
+module _ (s : Setting) (range : IsInRange s) (old mid : Work) (running : IsRunning s old) (few : rows_of old.strip < padded_size s.rows) (only : OnlyStrip old mid) (pushed : StripPushed old.strip mid.strip old.row.items) where
+  tall : 3 ≤ block_count s.rows
+  tall = three-le-block_count s.rows range.rows.0
+
+  mid_made : IsMadeFor s mid
+  mid_made = let made = running.gathered.made in record {
+    row = ap (λ v. vec_len v) only.row ∙ made.row;
+    blocks = ap (λ v. vec_len v) only.blocks ∙ made.blocks;
+    marks = ap (λ v. vec_len v) only.marks ∙ made.marks;
+    strip = pushed.columns ∙ made.strip;
+    packet = ap (λ v. v.packet) only.packets ∙ made.packet;
+    room = only.room ∙ made.room;
+  }
+
+  pub mid_gathered : HasGathered s mid
+  mid_gathered = let has = running.gathered in record {
+    made = mid_made;
+    index = rw only.at has.index;
+    present = rw only.at has.present;
+    none = rw only.at has.none;
+    small = rw (only.at, only.blocks) has.small;
+    idle = ap (λ v. v.stage) only.packets ∙ has.idle;
+    texts = ap (λ v. v.texts) only.packets ∙ has.texts ∙ sym (ap (λ a. a.index) only.at);
+  }
+
+  mid_holds : (all : List (List ℤ)) → HoldsBlocks s all old → HoldsBlocks s all mid
+  mid_holds all holds = record {
+    blocks = rw (only.at, only.blocks) holds.blocks;
+    packets = rw (only.at, only.packets) holds.packets;
+  }
+
+  mid_follows : (x : ℕ → ℕ → ℤ) → StripFollows s x old → NextRowIs s x old → StripFollows s x mid
+  mid_follows x follows next =
+      let columns : 8 * columns_of old.strip ≡ padded_size s.width = (let made = running.gathered.made.strip in omega (arith, made)) in
+      pushed.follows (padded x s.rows s.width) (block_count s.rows) tall (omega (arith, few)) follows
+      (subst (λ n. Agrees n (signal old.row.items) (padded x s.rows s.width (rows_of old.strip))) (sym columns) next)
+
+  same_index : mid.at.index ≡ old.at.index
+  same_index = ap (λ a. a.index) only.at
+
+  -- no block row came
+  pub pushed_none : {p : Outside} → ((r : ℕ) → rows_of mid.strip ≢ 8 * r + 29) → HasPushed s p p old mid
+  pushed_none {p = p} none =
+      let rows = pushed.rows in
+      let same : settled (rows_of mid.strip) ≡ settled (rows_of old.strip) = (let apart = none ((rows_of old.strip - 28) / 8) in omega (arith, apart, rows)) in
+      let count : gathered_in s mid.at ≡ block_count s.width * settled (rows_of mid.strip) = ap (gathered_in s) only.at ∙ running.count ∙ ap (λ n. block_count s.width * n) (sym same) in
+      record {
+        running = record { gathered = mid_gathered; count = count; answered = pushed.answered; running = pushed.running };
+        strip_rows = rows;
+        row = only.row;
+        rows = ap (λ a. a.rows) only.at;
+        faults = omega arith;
+        follows = λ x follows next. record { strip = mid_follows x follows.strip next; holds = mid_holds (image_blocks s x) follows.holds };
+        goes = λ x follows next. record {
+          gave = [];
+          out = since_start p NoRead;
+          then_are = append-nil (joined (packets_of s (image_blocks s x) old.at.index)) ∙ ap (λ n. joined (packets_of s (image_blocks s x) n)) (sym same_index);
+        };
+      }
+
+  module _ (came : Came mid.strip) where
+    settled_before : settled (rows_of old.strip) ≡ came.block_row
+    settled_before = let rows = pushed.rows in let e = came.rows in omega (arith, rows, e)
+
+    settled_now : settled (rows_of mid.strip) ≡ came.block_row + 1
+    settled_now = let e = came.rows in omega (arith, e)
+
+    next_blocks : (x : ℕ → ℕ → ℤ) → StripFollows s x mid → NextAre s mid (block_count s.width) (gathered (number_in mid.strip) s.weights.shifts) (image_blocks s x)
+    next_blocks x follows =
+        let rows = pushed.rows in
+        let e = came.rows in
+        let last : rows_of mid.strip ≤ 8 * block_count s.rows = omega (arith, rows, few) in
+        next_are s x mid came.block_row range mid_made.strip (pushed.answered ∙ settled_now) (omega (arith, e, last))
+        (ap (gathered_in s) only.at ∙ running.count ∙ ap (λ n. block_count s.width * n) settled_before)
+        (pushed.shows (padded x s.rows s.width) (block_count s.rows) came.stands tall last follows)
+
+    pushed_gone : {p q : Outside} (new : Work) → HasGone s (gathered (number_in mid.strip) s.weights.shifts) (block_count s.width) p q mid new → HasPushed s p q old new
+    pushed_gone {p = p} {q = q} new gone =
+        let strip = gone.stays.strip in
+        let c = block_count s.width in
+        let more : c * (came.block_row + 1) ≡ c * came.block_row + c = grind arith in
+        let before : gathered_in s mid.at ≡ c * came.block_row = ap (gathered_in s) only.at ∙ running.count ∙ ap (λ n. c * n) settled_before in
+        let now : c * settled (rows_of new.strip) ≡ c * (came.block_row + 1) = ap (λ t. c * settled (rows_of t)) strip ∙ ap (λ n. c * n) settled_now in
+        let gone_count = gone.count in
+        record {
+          running = record {
+            gathered = gone.gathered;
+            count = omega (arith, gone_count, before, more, now);
+            answered = ap answered_of strip ∙ pushed.answered ∙ ap (λ t. settled (rows_of t)) (sym strip);
+            running = ap has_ended strip ∙ pushed.running;
+          };
+          strip_rows = ap rows_of strip ∙ pushed.rows;
+          row = gone.stays.row ∙ only.row;
+          rows = gone.stays.rows ∙ ap (λ a. a.rows) only.at;
+          faults = gone.faults;
+          follows = λ x follows next.
+              let f = mid_follows x follows.strip next in
+              record {
+                strip = subst (λ t. Follows (padded x s.rows s.width) (block_count s.rows) t) (sym strip) f;
+                holds = gone.holds (image_blocks s x) (next_blocks x f) (mid_holds (image_blocks s x) follows.holds);
+              };
+          goes = λ x follows next.
+              subst (λ n. GoesOn s (image_blocks s x) n new.at.index p q) same_index
+              (gone.goes (image_blocks s x) (next_blocks x (mid_follows x follows.strip next)) (mid_holds (image_blocks s x) follows.holds));
+        }
+
+    pushed_broken : {p q : Outside} (new : Work) → HasBroken s (gathered (number_in mid.strip) s.weights.shifts) (block_count s.width) p q mid new → HasNotPushed s p q old new
+    pushed_broken {p = p} {q = q} new broken = record {
+      made = broken.made;
+      rose = broken.rose;
+      breaks = λ x follows next.
+          subst (λ n. BreaksOff s (image_blocks s x) n p q) same_index
+          (broken.breaks (image_blocks s x) (next_blocks x (mid_follows x follows.strip next)) (mid_holds (image_blocks s x) follows.holds));
+    }
+
+    pub pushed_some : {T E : Type 0} (p q : Outside) (r : Result T E) (new : Work) → Gathers r s (gathered (number_in mid.strip) s.weights.shifts) (block_count s.width) p q mid new → Pushes r s p q old new
+    pushed_some p q (Ok x) new gone = pushed_gone new gone
+    pushed_some p q (Err x) new broken = pushed_broken new broken

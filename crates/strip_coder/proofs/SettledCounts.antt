@@ -1,0 +1,120 @@
+-- The segments before the present one are those that the rows so far settle.
+use Rattle.std.proofs.Common.{◌≡◌, ℕ, zero, suc, ◌+◌, ◌-◌, ◌*◌, ◌<◌, ◌≤◌, refl, sym, ap, ◌∙◌, arith, inl, inr}
+use Rattle.std.specs.Prelude.{Bool, true, false, ◌==◌, ◌||◌, nat_lt, cond}
+use Rattle.std.specs.List.{count_by, range_with_len}
+use Rattle.std.proofs.lemmas.Bool.{cases_lt}
+use Rattle.std.proofs.lemmas.Bool.Decides.{nat_tests}
+use Rattle.std.proofs.lemmas.List.Sums.{sum_by-cons}
+use Rattle.std.proofs.lemmas.Nat.{le-div}
+use Rattle.std.proofs.Math.Nat.{div-lt_iff_lt-mul, mul-le-mul_right, mul-le-mul_left}
+use Rattle.base_122.specs.Ranges.{IsInRange}
+use Rattle.base_122.specs.Sizes.{block_count, total_blocks, segment_blocks}
+use Rattle.base_122.specs.declared.setting.Setting.{Setting}
+use Rattle.base_122.proofs.SizeBounds.{three-le-block_count, one-le-segment_blocks}
+use Rattle.wave_strip.specs.Strip.{rows_of}
+use Rattle.wave_strip.specs.Counts.{settled as block_rows_in}
+use Rattle.stream_defs.specs.Output.{segments_of}
+use Rattle.stream_defs.specs.Settled.{last_block_row, is_settled, settled}
+use Rattle.strip_coder.specs.declared.work.Work.{Work}
+use Rattle.strip_coder.specs.Works.{IsRunning, gathered_in}
+use Rattle.strip_coder.proofs.GatherSteps.{more_segments, place_is}
+
+count_first : (p : ℕ → Bool) (n a m : ℕ) → m ≤ n → ((i : ℕ) → a ≤ i → i < a + m → p i ≡ true) → ((i : ℕ) → a + m ≤ i → i < a + n → p i ≡ false) → count_by p (range_with_len a n) ≡ m
+count_first p zero a m le holds fails = let t : 0 ≡ m = omega (arith, le) in t
+count_first p (suc n) a zero le holds fails =
+    let e = sum_by-cons (λ x. cond (p x) 1 0) a (range_with_len (a + 1) n) in
+    let rest = count_first p n (a + 1) zero (omega arith) (λ i low high. absurd (omega (arith, low, high))) (λ i low high. fails i (omega (arith, low)) (omega (arith, high))) in
+    let here = none (p a) (fails a (omega arith) (omega arith)) in
+    omega (arith, e, rest, here)
+  where
+    none : (b : Bool) → b ≡ false → cond b 1 0 ≤ 0
+    none true e = absurd cc
+    none false e = omega arith
+count_first p (suc n) a (suc m) le holds fails =
+    let e = sum_by-cons (λ x. cond (p x) 1 0) a (range_with_len (a + 1) n) in
+    let rest = count_first p n (a + 1) m (omega (arith, le)) (λ i low high. holds i (omega (arith, low)) (omega (arith, high))) (λ i low high. fails i (omega (arith, low)) (omega (arith, high))) in
+    let here = one (p a) (holds a (omega arith) (omega arith)) in
+    omega (arith, e, rest, here)
+  where
+    one : (b : Bool) → b ≡ true → cond b 1 0 ≤ 1 × 1 ≤ cond b 1 0
+    one true e = (omega arith, omega arith)
+    one false e = absurd cc
+
+settled_so : (s : Setting) (k i : ℕ) → 8 * last_block_row s i + 28 < k → is_settled s k i ≡ true
+settled_so s k i near = by_test (k == s.rows) (let t : nat_lt (8 * last_block_row s i + 28) k ≡ true = grind (arith, nat_tests) in t)
+  where
+    by_test : (b : Bool) → nat_lt (8 * last_block_row s i + 28) k ≡ true → (b || nat_lt (8 * last_block_row s i + 28) k) ≡ true
+    by_test true t = refl
+    by_test false t = t
+
+unsettled_so : (s : Setting) (k i : ℕ) → k < s.rows → k ≤ 8 * last_block_row s i + 28 → is_settled s k i ≡ false
+unsettled_so s k i less far =
+    let a : (k == s.rows) ≡ false = grind (arith, nat_tests) in
+    let b : nat_lt (8 * last_block_row s i + 28) k ≡ false = grind (arith, nat_tests) in
+    rw (a, b) refl
+
+module _ (s : Setting) (range : IsInRange s) (k : ℕ) (w : Work) (running : IsRunning s w) (rows : rows_of w.strip ≡ k) (less : k < s.rows) where
+  some_columns : 0 < block_count s.width
+  some_columns = let three = three-le-block_count s.width range.width.0 in omega (arith, three)
+
+  some_blocks : 0 < s.segment
+  some_blocks = let segment = range.segment in omega (arith, segment)
+
+  pub count : gathered_in s w.at ≡ block_count s.width * block_rows_in k
+  count = running.count ∙ ap (λ n. block_count s.width * block_rows_in n) rows
+
+  pub few_gathered : gathered_in s w.at < total_blocks s.width s.rows
+  few_gathered =
+      let below : block_rows_in k + 1 ≤ block_count s.rows = omega (arith, less) in
+      let next = mul-le-mul_left (block_count s.width) below in
+      let more : block_count s.width * (block_rows_in k + 1) ≡ block_count s.width * block_rows_in k + block_count s.width = grind arith in
+      omega (arith, count, next, more, some_columns)
+
+  below : w.at.index < segments_of s
+  below = more_segments s range w running.gathered few_gathered
+
+  place : w.at.index * s.segment + w.at.filled ≡ block_count s.width * block_rows_in k
+  place = sym (place_is s range w below) ∙ count
+
+  -- an earlier segment
+  before : (i : ℕ) → i < w.at.index → is_settled s k i ≡ true
+  before i lt =
+      let total = total_blocks s.width s.rows in
+      let some = one-le-segment_blocks total s.segment i some_blocks (let b = below in omega (arith, lt, b)) in
+      let next : (i + 1) * s.segment ≤ w.at.index * s.segment = mul-le-mul_right s.segment (omega (arith, lt)) in
+      let more : (i + 1) * s.segment ≡ i * s.segment + s.segment = omega arith in
+      let at = place in
+      let turned : block_count s.width * block_rows_in k ≡ block_rows_in k * block_count s.width = grind arith in
+      let last : i * s.segment + segment_blocks total s.segment i - 1 < block_rows_in k * block_count s.width = omega (arith, some, next, more, at, turned) in
+      let row : last_block_row s i < block_rows_in k = (div-lt_iff_lt-mul {k = block_count s.width} {x = i * s.segment + segment_blocks total s.segment i - 1} {y = block_rows_in k} some_columns).1 last in
+      settled_so s k i (omega (arith, row))
+
+  -- the present one or a later one
+  after : (i : ℕ) → w.at.index ≤ i → i < segments_of s → is_settled s k i ≡ false
+  after i le lt =
+      let total = total_blocks s.width s.rows in
+      let last : block_rows_in k * block_count s.width ≤ i * s.segment + segment_blocks total s.segment i - 1 = far in
+      let row : block_rows_in k ≤ last_block_row s i = le-div (block_rows_in k) (i * s.segment + segment_blocks total s.segment i - 1) (block_count s.width) some_columns last in
+      unsettled_so s k i less (omega (arith, row))
+    where
+      far : block_rows_in k * block_count s.width ≤ i * s.segment + segment_blocks (total_blocks s.width s.rows) s.segment i - 1
+      far =
+          let total = total_blocks s.width s.rows in
+          let some = one-le-segment_blocks total s.segment i some_blocks lt in
+          let present = running.gathered.present below in
+          let at = place in
+          let turned : block_count s.width * block_rows_in k ≡ block_rows_in k * block_count s.width = grind arith in
+          elim (cases_lt w.at.index i) [
+            | inl later ↦
+                let next : (w.at.index + 1) * s.segment ≤ i * s.segment = mul-le-mul_right s.segment (omega (arith, later)) in
+                let more : (w.at.index + 1) * s.segment ≡ w.at.index * s.segment + s.segment = omega arith in
+                omega (arith, some, present, at, turned, next, more)
+            | inr same ↦
+                let e : i ≡ w.at.index = omega (arith, same, le) in
+                let f : i * s.segment + segment_blocks total s.segment i ≡ w.at.index * s.segment + segment_blocks total s.segment w.at.index = ap (λ n. n * s.segment + segment_blocks total s.segment n) e in
+                omega (arith, present, at, turned, f)
+          ]
+
+  pub index_settled : w.at.index ≡ settled s k
+  unfolding settled
+  index_settled = sym (count_first (is_settled s k) (segments_of s) 0 w.at.index (let b = below in omega (arith, b)) (λ i low high. before i (omega (arith, high))) (λ i low high. after i (omega (arith, low)) (omega (arith, high))))

@@ -1,0 +1,18 @@
+use Rattle.std.proofs.Common.{refl, ap, ◌∙◌}
+use Rattle.space_packets.specs.Progress.{Progress, fresh}
+use Rattle.strip_coder.proofs.WorkStarts.{starts}
+use Rattle.strip_coder.proofs.engine.start_image.Goals as goal
+
+pub returns-clause-start : goal.returns-clause-start
+returns-clause-start c =
+    let made = c.requires.made in
+    starts c.args.setting.now _ c.requires.in_range
+    (record {
+      row = made.row;
+      blocks = made.blocks;
+      marks = made.marks;
+      strip = c.reset.ensures.columns ∙ made.strip;
+      packet = ap (λ (p : Progress). p.packet) c.reset-2.ensures ∙ made.packet;
+      room = made.room;
+    })
+    c.reset.ensures.start (c.reset-2.ensures ∙ ap fresh made.packet) refl

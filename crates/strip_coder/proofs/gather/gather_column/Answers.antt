@@ -1,0 +1,39 @@
+use Rattle.std.proofs.Common.{refl, arith, ◌∙◌}
+use Rattle.std.proofs.lemmas.List.{with_items_is}
+use Rattle.block_families.specs.Places.{gathered}
+use Rattle.wave_strip.specs.Strip.{number_in}
+use Rattle.strip_coder.proofs.GatherSteps.{put_in, put_part, put_full, put_written}
+use Rattle.strip_coder.proofs.gather.gather_column.Goals as goal
+
+pub returns-then-work-blocks_of : goal.returns-then-work-blocks_of
+returns-then-work-blocks_of g c =
+    let s = c.args.setting.now in
+    let w = c.args.work.now in
+    let numbers = gathered (number_in w.strip) s.weights.shifts c.args.column in
+    let size = rw c.geometry.ensures at c.blocks_of.ensures in
+    put_part s c.requires.in_range w _ numbers c.requires.gathered c.requires.more
+    (put_in w _ w.blocks.items c.put_block.new.blocks numbers (record { strip = refl; row = refl; blocks = refl; marks = refl; room = refl }) refl refl refl
+    (with_items_is w.blocks c.put_block.new.blocks (c.put_block.auto.blocks ∙ c.deref_mut.ensures.len)) (rw c.deref_mut.ensures.value at c.put_block.ensures))
+    (omega (arith, size, c.if-work-blocks_of.true))
+
+pub write_present-requires-clause-full : goal.write_present-requires-clause-full
+write_present-requires-clause-full g c =
+    let s = c.args.setting.now in
+    let w = c.args.work.now in
+    let numbers = gathered (number_in w.strip) s.weights.shifts c.args.column in
+    let size = rw c.geometry.ensures at c.blocks_of.ensures in
+    put_full s c.requires.in_range w _ numbers c.requires.gathered c.requires.more
+    (put_in w _ w.blocks.items c.put_block.new.blocks numbers (record { strip = refl; row = refl; blocks = refl; marks = refl; room = refl }) refl refl refl
+    (with_items_is w.blocks c.put_block.new.blocks (c.put_block.auto.blocks ∙ c.deref_mut.ensures.len)) (rw c.deref_mut.ensures.value at c.put_block.ensures))
+    (omega (arith, size, c.if-work-blocks_of.false))
+
+pub returns : goal.returns
+returns g c =
+    let s = c.args.setting.now in
+    let w = c.args.work.now in
+    let numbers = gathered (number_in w.strip) s.weights.shifts c.args.column in
+    let size = rw c.geometry.ensures at c.blocks_of.ensures in
+    put_written s c.requires.in_range (g.X.Port.outside c.args.port.now) (g.X.Port.outside c.write_present.new.port) c.write_present.result w _ c.write_present.new.work numbers c.requires.gathered c.requires.more
+    (put_in w _ w.blocks.items c.put_block.new.blocks numbers (record { strip = refl; row = refl; blocks = refl; marks = refl; room = refl }) refl refl refl
+    (with_items_is w.blocks c.put_block.new.blocks (c.put_block.auto.blocks ∙ c.deref_mut.ensures.len)) (rw c.deref_mut.ensures.value at c.put_block.ensures))
+    (omega (arith, size, c.if-work-blocks_of.false)) c.write_present.ensures

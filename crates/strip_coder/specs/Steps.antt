@@ -1,0 +1,222 @@
+-- What the steps of the encoder leave.
+use Rattle.std.specs.Prelude.{◌≡◌, ◌<◌, ◌≤◌, ◌+◌, ◌-◌, ◌*◌, ◌^◌, ℕ, ℤ, List, [], ◌++◌, length, take, Result, Ok, Err, MatchResult, slice_index_or, Bool, true, false}
+use Rattle.port_122.specs.Outside.{Outside, Since, NoRead, Rose}
+use Rattle.base_122.specs.Sizes.{block_count, padded_size, total_blocks}
+use Rattle.base_122.specs.declared.setting.Setting.{Setting}
+use Rattle.packet_defs.specs.Packets.{joined}
+use Rattle.wave_defs.specs.Held.{block_at, signal, Agrees}
+use Rattle.wave_defs.specs.Pyramid.{padded}
+use Rattle.wave_defs.specs.Within.{AllWithin}
+use Rattle.wave_strip.specs.Strip.{rows_of, answered_of}
+use Rattle.raster_rows.specs.Pixels.{IsPixel}
+use Rattle.stream_defs.specs.Output.{image_blocks, packets_of, segments_of}
+use Rattle.strip_coder.specs.declared.work.Work.{Work}
+use Rattle.strip_coder.specs.Works.{AreSmall, IsMadeFor, HasGathered, IsRunning, HasTaken, HoldsBlocks, FollowsImage, gathered_in}
+use Rattle.strip_coder.specs.declared.encode.EncodeDone.{EncodeDone}
+use Rattle.strip_coder.specs.Answers.{DoneFor}
+use Rattle.strip_coder.specs.SegmentsOut.{progress_at}
+
+-- one block was put at a place, and those before it stay
+pub record PutsBlock (place : ℕ) (old new numbers : List ℤ) : Type 0 where
+  pub before : (i : ℕ) → i < place → block_at new i ≡ block_at old i
+  pub here : block_at new place ≡ numbers
+  pub small : AreSmall (place + 1) new
+  pub same : length new ≡ length old
+
+-- the strip, the row and the rows taken are as before
+pub record Stays (old new : Work) : Type 0 where
+  pub strip : new.strip ≡ old.strip
+  pub row : new.row ≡ old.row
+  pub rows : new.at.rows ≡ old.at.rows
+
+-- an image has room for so many blocks more
+abbrev pub HasRoom : Setting → ℕ → Work → Type 0
+HasRoom s n w = gathered_in s w.at + n ≤ total_blocks s.width s.rows
+
+-- The packets of these blocks went on from the first segments before this index to those before that one.
+pub record GoesOn (s : Setting) (all : List (List ℤ)) (from to : ℕ) (p q : Outside) : Type 0 where
+  pub gave : List ℕ
+  pub out : Since p q [] gave [] NoRead
+  pub then_are : joined (packets_of s all from) ++ gave ≡ joined (packets_of s all to)
+
+-- Of the packets of these blocks, of which those before this index were out, no more than a front is.
+pub record BreaksOff (s : Setting) (all : List (List ℤ)) (from : ℕ) (p q : Outside) : Type 0 where
+  pub gave : List ℕ
+  pub out : Since p q [] gave [] NoRead
+  pub some : ℕ
+  pub front : joined (packets_of s all from) ++ gave ≡ take some (joined (packets_of s all (segments_of s)))
+
+-- these blocks are those of an image, and the next n of them after those gathered are these
+pub record NextAre (s : Setting) (w : Work) (n : ℕ) (numbers : ℕ → List ℤ) (all : List (List ℤ)) : Type 0 where
+  pub whole : length all ≡ total_blocks s.width s.rows
+  pub next : (i : ℕ) → i < n → slice_index_or all (gathered_in s w.at + i) [] ≡ numbers i
+
+-- n blocks were gathered, and each segment that became full was written
+pub record HasGone (s : Setting) (numbers : ℕ → List ℤ) (n : ℕ) (p q : Outside) (old new : Work) : Type 0 where
+  pub stays : Stays old new
+  pub gathered : HasGathered s new
+  pub count : gathered_in s new.at ≡ gathered_in s old.at + n
+  pub faults : p.write_faults ≤ q.write_faults
+  pub holds : (all : List (List ℤ)) → NextAre s old n numbers all → HoldsBlocks s all old → HoldsBlocks s all new
+  pub goes : (all : List (List ℤ)) → NextAre s old n numbers all → HoldsBlocks s all old → GoesOn s all old.at.index new.at.index p q
+
+-- a write failed meanwhile
+pub record HasBroken (s : Setting) (numbers : ℕ → List ℤ) (n : ℕ) (p q : Outside) (old new : Work) : Type 0 where
+  pub made : IsMadeFor s new
+  pub rose : Rose p.write_faults q.write_faults
+  pub breaks : (all : List (List ℤ)) → NextAre s old n numbers all → HoldsBlocks s all old → BreaksOff s all old.at.index p q
+
+abbrev pub Gathers : {T E : Type 0} → Result T E → Setting → (ℕ → List ℤ) → ℕ → Outside → Outside → Work → Work → Type 0
+Gathers result s numbers n p q old new = MatchResult result
+    (λ _. HasGone s numbers n p q old new)
+    (λ _. HasBroken s numbers n p q old new)
+
+-- the present segment was written, and none of the next is there yet
+pub record PresentOut (s : Setting) (p q : Outside) (old new : Work) : Type 0 where
+  pub stays : Stays old new
+  pub gathered : HasGathered s new
+  pub index : new.at.index ≡ old.at.index + 1
+  pub filled : new.at.filled ≡ 0
+  pub faults : p.write_faults ≤ q.write_faults
+  pub holds : (all : List (List ℤ)) → length all ≡ total_blocks s.width s.rows → HoldsBlocks s all old → HoldsBlocks s all new
+  pub goes : (all : List (List ℤ)) → length all ≡ total_blocks s.width s.rows → HoldsBlocks s all old → GoesOn s all old.at.index new.at.index p q
+
+pub record PresentCut (s : Setting) (p q : Outside) (old new : Work) : Type 0 where
+  pub made : IsMadeFor s new
+  pub rose : Rose p.write_faults q.write_faults
+  pub breaks : (all : List (List ℤ)) → length all ≡ total_blocks s.width s.rows → HoldsBlocks s all old → BreaksOff s all old.at.index p q
+
+abbrev pub WritesPresent : {T E : Type 0} → Result T E → Setting → Outside → Outside → Work → Work → Type 0
+WritesPresent result s p q old new = MatchResult result (λ _. PresentOut s p q old new) (λ _. PresentCut s p q old new)
+
+-- ---- rows
+
+-- each number of the row is at most 2 ^ 16 in magnitude
+abbrev pub IsRowSmall : Setting → Work → Type 0
+IsRowSmall s w = AllWithin (2 ^ 16) (padded_size s.width) (signal w.row.items)
+
+-- the row is the next one that the strip takes of this image
+abbrev pub NextRowIs : Setting → (ℕ → ℕ → ℤ) → Work → Type 0
+NextRowIs s x w = Agrees (padded_size s.width) (signal w.row.items) (padded x s.rows s.width (rows_of w.strip))
+
+-- the row was pushed, and the block row that came with it was gathered
+pub record HasPushed (s : Setting) (p q : Outside) (old new : Work) : Type 0 where
+  pub running : IsRunning s new
+  pub strip_rows : rows_of new.strip ≡ rows_of old.strip + 1
+  pub row : new.row ≡ old.row
+  pub rows : new.at.rows ≡ old.at.rows
+  pub faults : p.write_faults ≤ q.write_faults
+  pub follows : (x : ℕ → ℕ → ℤ) → FollowsImage s x old → NextRowIs s x old → FollowsImage s x new
+  pub goes : (x : ℕ → ℕ → ℤ) → FollowsImage s x old → NextRowIs s x old → GoesOn s (image_blocks s x) old.at.index new.at.index p q
+
+-- a write failed meanwhile
+pub record HasNotPushed (s : Setting) (p q : Outside) (old new : Work) : Type 0 where
+  pub made : IsMadeFor s new
+  pub rose : Rose p.write_faults q.write_faults
+  pub breaks : (x : ℕ → ℕ → ℤ) → FollowsImage s x old → NextRowIs s x old → BreaksOff s (image_blocks s x) old.at.index p q
+
+abbrev pub Pushes : {T E : Type 0} → Result T E → Setting → Outside → Outside → Work → Work → Type 0
+Pushes result s p q old new = MatchResult result (λ _. HasPushed s p q old new) (λ _. HasNotPushed s p q old new)
+
+-- ---- the engine
+
+-- the first places of the row are pixels in range
+pub record IsRowInRange (s : Setting) (row : List ℤ) : Type 0 where
+  pub each : (column : ℕ) → column < s.width → IsPixel s.depth s.signed (signal row column)
+
+-- the row is this one of an image
+abbrev pub RowIs : Setting → (ℕ → ℕ → ℤ) → ℕ → Work → Type 0
+RowIs s x k w = Agrees s.width (signal w.row.items) (x k)
+
+-- one more row was taken
+pub record TakesRow (s : Setting) (k : ℕ) (p q : Outside) (old new : Work) : Type 0 where
+  pub taken : HasTaken s (k + 1) new
+  pub row : Agrees s.width (signal new.row.items) (signal old.row.items)
+  pub faults : p.write_faults ≤ q.write_faults
+  pub follows : (x : ℕ → ℕ → ℤ) → FollowsImage s x old → RowIs s x k old → FollowsImage s x new
+  pub goes : (x : ℕ → ℕ → ℤ) → FollowsImage s x old → RowIs s x k old → GoesOn s (image_blocks s x) old.at.index new.at.index p q
+
+-- a write failed meanwhile
+pub record BreaksAt (s : Setting) (k : ℕ) (p q : Outside) (old new : Work) : Type 0 where
+  pub made : IsMadeFor s new
+  pub rose : Rose p.write_faults q.write_faults
+  pub breaks : (x : ℕ → ℕ → ℤ) → FollowsImage s x old → RowIs s x k old → BreaksOff s (image_blocks s x) old.at.index p q
+
+-- all packets of the image are out
+pub record EndsImage (s : Setting) (p q : Outside) (old new : Work) (result : EncodeDone) : Type 0 where
+  pub made : IsMadeFor s new
+  pub faults : p.write_faults ≤ q.write_faults
+  pub goes : (x : ℕ → ℕ → ℤ) → FollowsImage s x old → RowIs s x (s.rows - 1) old → GoesOn s (image_blocks s x) old.at.index (segments_of s) p q
+  pub done : (x : ℕ → ℕ → ℤ) → FollowsImage s x old → RowIs s x (s.rows - 1) old → DoneFor s x result
+
+-- ---- the end of an image
+
+-- the row is the last one of this image
+abbrev pub LastRowIs : Setting → (ℕ → ℕ → ℤ) → Work → Type 0
+LastRowIs s x w = Agrees (padded_size s.width) (signal w.row.items) (padded x s.rows s.width (s.rows - 1))
+
+-- the last row was pushed n times more
+pub record HasPushedOn (s : Setting) (n : ℕ) (p q : Outside) (old new : Work) : Type 0 where
+  pub running : IsRunning s new
+  pub strip_rows : rows_of new.strip ≡ rows_of old.strip + n
+  pub row : new.row ≡ old.row
+  pub faults : p.write_faults ≤ q.write_faults
+  pub follows : (x : ℕ → ℕ → ℤ) → FollowsImage s x old → LastRowIs s x old → FollowsImage s x new
+  pub goes : (x : ℕ → ℕ → ℤ) → FollowsImage s x old → LastRowIs s x old → GoesOn s (image_blocks s x) old.at.index new.at.index p q
+
+-- a write failed meanwhile
+pub record HasNotPushedOn (s : Setting) (p q : Outside) (old new : Work) : Type 0 where
+  pub made : IsMadeFor s new
+  pub rose : Rose p.write_faults q.write_faults
+  pub breaks : (x : ℕ → ℕ → ℤ) → FollowsImage s x old → LastRowIs s x old → BreaksOff s (image_blocks s x) old.at.index p q
+
+abbrev pub PushesOn : {T E : Type 0} → Result T E → Setting → ℕ → Outside → Outside → Work → Work → Type 0
+PushesOn result s n p q old new = MatchResult result (λ _. HasPushedOn s n p q old new) (λ _. HasNotPushedOn s p q old new)
+
+-- all rows of the padded image were pushed, and the first block rows of it were gathered
+pub record IsEnding (s : Setting) (w : Work) : Type 0 where
+  pub gathered : HasGathered s w
+  pub count : gathered_in s w.at ≡ block_count s.width * answered_of w.strip
+  pub rows : rows_of w.strip ≡ padded_size s.rows
+  pub most : answered_of w.strip ≤ block_count s.rows
+
+-- the next of these was gathered
+pub record HasFinished (s : Setting) (p q : Outside) (old new : Work) : Type 0 where
+  pub ending : IsEnding s new
+  pub answered : answered_of new.strip ≡ answered_of old.strip + 1
+  pub faults : p.write_faults ≤ q.write_faults
+  pub follows : (x : ℕ → ℕ → ℤ) → FollowsImage s x old → FollowsImage s x new
+  pub goes : (x : ℕ → ℕ → ℤ) → FollowsImage s x old → GoesOn s (image_blocks s x) old.at.index new.at.index p q
+
+-- there is none
+pub record HasNoMore (s : Setting) (p q : Outside) (old new : Work) : Type 0 where
+  pub all : answered_of old.strip ≡ block_count s.rows
+  pub still : q ≡ p
+  pub at : new.at ≡ old.at
+  pub packets : new.packets ≡ old.packets
+  pub made : IsMadeFor s new
+
+-- a write failed meanwhile
+pub record HasNotFinished (s : Setting) (p q : Outside) (old new : Work) : Type 0 where
+  pub made : IsMadeFor s new
+  pub rose : Rose p.write_faults q.write_faults
+  pub breaks : (x : ℕ → ℕ → ℤ) → FollowsImage s x old → BreaksOff s (image_blocks s x) old.at.index p q
+
+abbrev pub Finishes : {E : Type 0} → Result Bool E → Setting → Outside → Outside → Work → Work → Type 0
+Finishes (Ok true) s p q old new = HasFinished s p q old new
+Finishes (Ok false) s p q old new = HasNoMore s p q old new
+Finishes (Err e) s p q old new = HasNotFinished s p q old new
+
+-- some of these were gathered
+pub record HasFinishedOn (s : Setting) (p q : Outside) (old new : Work) : Type 0 where
+  pub ending : IsEnding s new
+  pub faults : p.write_faults ≤ q.write_faults
+  pub follows : (x : ℕ → ℕ → ℤ) → FollowsImage s x old → FollowsImage s x new
+  pub goes : (x : ℕ → ℕ → ℤ) → FollowsImage s x old → GoesOn s (image_blocks s x) old.at.index new.at.index p q
+
+-- all of them were, and all packets are out
+pub record AllOut (s : Setting) (p q : Outside) (old new : Work) : Type 0 where
+  pub made : IsMadeFor s new
+  pub faults : p.write_faults ≤ q.write_faults
+  pub stands : (x : ℕ → ℕ → ℤ) → FollowsImage s x old → new.packets ≡ progress_at s (image_blocks s x) (segments_of s)
+  pub goes : (x : ℕ → ℕ → ℤ) → FollowsImage s x old → GoesOn s (image_blocks s x) old.at.index (segments_of s) p q

@@ -1,0 +1,140 @@
+// The blocks of a block row, into segments that are written as they become full.
+ghost use Rattle.std.specs.Prelude.{◌≡◌, ◌≤◌, ◌<◌, ◌+◌, ◌*◌, ◌^◌, All, length, take, true, MatchResult};
+ghost use Rattle.base_122.specs.Ranges.{IsInRange};
+ghost use Rattle.base_122.specs.Sizes.{block_count};
+ghost use Rattle.base_122.specs.Weights.{IsShift};
+ghost use Rattle.block_families.specs.Places.{gathered};
+ghost use Rattle.wave_strip.specs.Strip.{columns_of, is_standing, number_in};
+ghost use Rattle.wave_defs.specs.Held.{blocks_in};
+ghost use Rattle.space_packets.specs.Writes.{TextOut, TextCut};
+ghost use Rattle.space_packets.specs.declared.stage.Stage.TheVariants.{Idle};
+ghost use Rattle.stream_defs.specs.Output.{segments_of};
+ghost use Rattle.strip_coder.specs.SegmentsOut.{text_of, text_for};
+ghost use Rattle.strip_coder.specs.Works.{AreSmall, HasGathered, IsFull};
+ghost use Rattle.strip_coder.specs.Steps.{PutsBlock, Gathers, HasRoom, WritesPresent};
+
+use crate::segments::write_segment;
+use crate::work::Work;
+use base_122::{Setting, Weights};
+use block_families::gather;
+use port_122::{Failed, Port};
+use space_packets::Packetiser;
+use wave_strip::StripWave;
+
+// Puts the block of this column of the block row that stands at a place of a segment's blocks.
+fn put_block(strip: &StripWave, weights: &Weights, column: u32, place: usize, blocks: &mut [i32])
+    requires stands { is_standing strip.now ≡ true }
+    requires column { column < columns_of strip.now }
+    requires weights { All IsShift weights.now.shifts }
+    requires room { 64 * place + 64 ≤ length blocks.old }
+    requires small { AreSmall place blocks.old }
+    ensures { PutsBlock place blocks.old blocks.new (gathered (number_in strip.now) weights.now.shifts column) }
+{
+    gather(
+        strip,
+        column,
+        weights,
+        &mut blocks[64 * place..64 * place + 64],
+    );
+}
+
+// Writes the packets of the segment of which so many blocks stand first.
+fn write_front<X: Port>(
+    port: &mut X,
+    setting: &Setting,
+    index: u32,
+    count: usize,
+    blocks: &[i32],
+    marks: &mut [i32],
+    packets: &mut Packetiser,
+) -> Result<(), Failed>
+    requires in_range { IsInRange setting.now }
+    requires index { index < segments_of setting.now }
+    requires some { 1 ≤ count }
+    requires most { count ≤ 1048575 }
+    requires blocks { 64 * count ≤ length blocks.now }
+    requires marks { count ≤ length marks.old }
+    requires small { AreSmall count blocks.now }
+    requires packet { packets.old.packet ≡ setting.now.packet }
+    requires idle { packets.old.stage ≡ Idle }
+    requires texts { packets.old.texts < 2 ^ 28 }
+    ensures { MatchResult result
+        (λ _. TextOut (text_of setting.now index) (X.outside port.old) (X.outside port.new) packets.old packets.new (text_for setting.now index (blocks_in (take (64 * count) blocks.now))))
+        (λ _. TextCut (text_of setting.now index) (X.outside port.old) (X.outside port.new) packets.old packets.new (text_for setting.now index (blocks_in (take (64 * count) blocks.now)))) }
+{
+    write_segment(
+        port,
+        setting,
+        index,
+        &blocks[..64 * count],
+        &mut marks[..count],
+        packets,
+    )
+}
+
+// Writes the present segment, which is full, and goes on to the next.
+fn write_present<X: Port>(port: &mut X, setting: &Setting, work: &mut Work) -> Result<(), Failed>
+    requires in_range { IsInRange setting.now }
+    requires full { IsFull setting.now work.old }
+    ensures { WritesPresent result setting.now (X.outside port.old) (X.outside port.new) work.old work.new }
+{
+    let count = work.at.filled as usize;
+    let Ok(()) = write_front(
+        port,
+        setting,
+        work.at.index,
+        count,
+        &work.blocks,
+        &mut work.marks,
+        &mut work.packets,
+    ) else {
+        return Err(Failed);
+    };
+    work.at.index += 1;
+    work.at.filled = 0;
+    Ok(())
+}
+
+// Gathers the block of this column of the block row that stands, and writes the present segment where that makes it full.
+fn gather_column<X: Port>(
+    port: &mut X,
+    setting: &Setting,
+    work: &mut Work,
+    column: u32,
+) -> Result<(), Failed>
+    requires in_range { IsInRange setting.now }
+    requires gathered { HasGathered setting.now work.old }
+    requires more { work.old.at.index < segments_of setting.now }
+    requires stands { is_standing work.old.strip ≡ true }
+    requires column { column < block_count setting.now.width }
+    ensures { Gathers result setting.now (λ _. gathered (number_in work.old.strip) setting.now.weights.shifts column) 1 (X.outside port.old) (X.outside port.new) work.old work.new }
+{
+    let place = work.at.filled as usize;
+    put_block(
+        &work.strip,
+        &setting.weights,
+        column,
+        place,
+        &mut work.blocks,
+    );
+    work.at.filled += 1;
+    if work.at.filled < setting.geometry().blocks_of(work.at.index) {
+        return Ok(());
+    }
+    write_present(port, setting, work)
+}
+
+/// Gathers the block row that stands, block by block, and writes each segment that becomes full.
+pub fn gather_row<X: Port>(port: &mut X, setting: &Setting, work: &mut Work) -> Result<(), Failed>
+    requires in_range { IsInRange setting.now }
+    requires gathered { HasGathered setting.now work.old }
+    requires room { HasRoom setting.now (block_count setting.now.width) work.old }
+    requires stands { is_standing work.old.strip ≡ true }
+    ensures { Gathers result setting.now (gathered (number_in work.old.strip) setting.now.weights.shifts) (block_count setting.now.width) (X.outside port.old) (X.outside port.new) work.old work.new }
+{
+    let columns = setting.geometry().padded_width() / 8;
+    for column in 0..columns {
+        gather_column(port, setting, work, column)?;
+    }
+    Ok(())
+}

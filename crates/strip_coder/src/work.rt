@@ -1,0 +1,75 @@
+// What the encoder holds.
+ghost use Rattle.std.specs.Prelude.{◌≡◌, ◌+◌, ◌*◌, ◌≤◌, vec_len};
+ghost use Rattle.wave_strip.specs.Strip.{columns_of};
+
+use base_122::{Setting, need};
+use space_packets::Packetiser;
+use std::alloc::{AllocError, Global};
+use wave_strip::StripWave;
+
+/// How far an image has come: rows taken, blocks gathered of the present segment, and its index.
+#[derive(Clone, Copy, Debug, PartialEq, Eq)]
+pub struct ImageAt {
+    pub rows: u32,
+    pub filled: u32,
+    pub index: u32,
+}
+
+/// The transform, one padded row, the blocks of one segment with their marks, one packet, and how far the image has come.
+/// All of its samples are at most `room`.
+#[derive(Drop)]
+pub struct Work {
+    pub strip: StripWave,
+    pub row: Vec<i32>,
+    pub blocks: Vec<i32>,
+    pub marks: Vec<i32>,
+    pub packets: Packetiser,
+    pub room: u64,
+    pub at: ImageAt,
+    ghost within: { 62 * (8 * columns_of strip) + vec_len row + vec_len blocks + vec_len marks ≤ room },
+}
+
+impl Work {
+    ghost use Rattle.std.specs.Prelude.{◌≡◌, ◌≤◌, IfOk};
+    ghost use Rattle.base_122.specs.Ranges.{IsInRange};
+    ghost use Rattle.strip_coder.specs.Works.{IsMadeFor, samples_of, StandsForNone};
+
+    /// Takes all memory that images of this setting need (docs/architecture.md, "The encoder"). The one error is want of
+    /// memory.
+    pub fn new(alloc: Global, setting: &Setting) -> Result<Work, AllocError>
+        requires { IsInRange setting.now }
+        ensures made { IfOk result (IsMadeFor setting.now) }
+        ensures start { IfOk result (StandsForNone setting.now) }
+    {
+        let geometry = setting.geometry();
+        let width = geometry.padded_width();
+        let count = geometry.blocks_of(0) as usize;
+        let row = vec![in alloc; 0; width as usize]?;
+        let blocks = vec![in alloc; 0; 64 * count]?;
+        let marks = vec![in alloc; 0; count]?;
+        let packets = Packetiser::new(alloc, setting.packet)?;
+        let strip = StripWave::new(alloc, width)?;
+        Ok(Work {
+            strip,
+            row,
+            blocks,
+            marks,
+            packets,
+            room: need(setting),
+            at: ImageAt {
+                rows: 0,
+                filled: 0,
+                index: 0,
+            },
+        })
+    }
+
+    /// The samples that it holds.
+    pub fn samples(&self) -> u64
+        ensures value { result ≡ samples_of self.now }
+        ensures most { result ≤ self.now.room }
+    {
+        let lists = self.row.len() + self.blocks.len() + self.marks.len();
+        self.strip.samples() + lists as u64
+    }
+}
