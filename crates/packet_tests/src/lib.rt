@@ -1,0 +1,15 @@
+//! Tests of packets: written as texts, read from a stream, what becomes of them, and the texts that they carry.
+#![tactic(auto)]
+
+#[cfg(test)]
+mod endless;
+#[cfg(test)]
+mod examples;
+#[cfg(test)]
+mod fates;
+#[cfg(test)]
+mod read;
+#[cfg(test)]
+mod texts;
+#[cfg(test)]
+mod written;

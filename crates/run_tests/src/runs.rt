@@ -1,0 +1,396 @@
+// Whole runs over ports of memory, whose octets were worked out by hand.
+use port_122::{MemoryPort, SteadyPort};
+use std::process::Abort;
+use std::test::Fail;
+use top_122::run;
+
+// One piece for each call.
+const WHOLE: usize = 65_536;
+
+// The words of a text, with a space between each two.
+fn words(rt: &impl AllocGlobal, text: &str) -> Result<Vec<String>, Fail> {
+    let mut words = Vec::new(rt.alloc());
+    for word in text.split(' ') {
+        words.push(String::from_str(rt.alloc(), word)?)?;
+    }
+    Ok(words)
+}
+
+// What a run left.
+#[derive(Drop)]
+struct Outcome {
+    status: u8,
+    port: MemoryPort,
+}
+
+// Runs these words over an input, with pieces of this size, and lets the calls of these numbers fail.
+fn run_words(
+    rt: &(impl Abort + AllocGlobal),
+    text: &str,
+    input: &[u8],
+    fail: &[u64],
+    piece: usize,
+) -> Result<Outcome, Fail> {
+    assert!(rt; piece > 0);
+    let words = words(rt, text)?;
+    let input = input.to_vec(rt.alloc())?;
+    let mut port = MemoryPort::new(rt.alloc(), input, fail.to_vec(rt.alloc())?, piece)?;
+    let status = run(rt.alloc(), words.as_slice(), &mut port);
+    Ok(Outcome { status, port })
+}
+
+// Runs these words over an input, and compares the status, what was given and what was noted.
+fn expect(
+    rt: &(impl Abort + AllocGlobal),
+    text: &str,
+    input: &[u8],
+    status: u8,
+    given: &[u8],
+    note: &str,
+) -> Result<(), Fail> {
+    for piece in [1, 7, WHOLE] {
+        let ran = run_words(rt, text, input, &[], piece)?;
+        assert_eq!(rt; ran.status, status, "{text} with pieces of {piece}");
+        assert_eq!(rt; ran.port.given(), given, "{text} with pieces of {piece}");
+        assert_eq!(rt;
+            ran.port.noted(),
+            note.as_bytes(),
+            "{text} with pieces of {piece}"
+        );
+    }
+    Ok(())
+}
+
+// The packet of an image of 17 rows that is one segment with this text, in segments of 64 blocks.
+fn packet(rt: &(impl Abort + AllocGlobal), text: &[u8]) -> Result<Vec<u8>, Fail> {
+    assert!(rt; text.len() < 200);
+    let length = 23 + text.len() as u8;
+    let mut packet = [0x08, 0x64, 0xC0, 0x00, 0x00, length].to_vec(rt.alloc())?;
+    packet.extend_from_slice(&[0x12, 0x20, 0, 0, 0, 0, 0, 0x11, 0, 0, 0, 0x40])?;
+    packet.extend_from_slice(&[0; 12])?;
+    packet.extend_from_slice(text)?;
+    Ok(packet)
+}
+
+// The text of 17 rows and columns of 0.
+const ZEROS: [u8; 22] = [
+    0xC0, 0x02, 0x07, 0xE0, 0x00, 0x00, 0x00, 0x10, 0x60, 0x00, 0x00, 0x9C, 0x88, 0x00, 0x01, 0x10,
+    0x00, 0x00, 0x00, 0x00, 0x00, 0x00,
+];
+
+const SQUARE: &str = "encode width=17 rows=17 stop=dc";
+
+// The text of 17 rows and columns of 200, with all bit planes.
+const TWO_HUNDRED: [u8; 23] = [
+    0xC0, 0x18, 0x07, 0xE0, 0x00, 0x00, 0x00, 0x00, 0x60, 0x00, 0x00, 0x9C, 0x88, 0x00, 0x01, 0x10,
+    0x00, 0x00, 0x00, 0x00, 0x06, 0x47, 0xF8,
+];
+
+#[test]
+fn an_image_becomes_a_packet(rt: HostRuntime) -> Result<(), Fail> {
+    let zeros = packet(&rt, &ZEROS)?;
+    expect(&rt, SQUARE, &[0; 289], 0, &zeros, "")?;
+    let text = [
+        0xC0, 0x18, 0x07, 0xE0, 0x00, 0x00, 0x00, 0x10, 0x60, 0x00, 0x00, 0x9C, 0x88, 0x00, 0x01,
+        0x10, 0x00, 0x00, 0x00, 0x00, 0x06, 0x47, 0xF8,
+    ];
+    expect(&rt, SQUARE, &[200; 289], 0, &packet(&rt, &text)?, "")
+}
+
+#[test]
+fn an_image_without_a_stop(rt: HostRuntime) -> Result<(), Fail> {
+    let mut text = ZEROS;
+    text[7] = 0x00;
+    let zeros = packet(&rt, &text)?;
+    expect(&rt, "encode width=17 rows=17", &[0; 289], 0, &zeros, "")?;
+    let flat = packet(&rt, &TWO_HUNDRED)?;
+    expect(&rt, "encode width=17 rows=17", &[200; 289], 0, &flat, "")?;
+    // Plane 0 up to stage 2.
+    text[8] = 0x20;
+    let stopped = packet(&rt, &text)?;
+    expect(
+        &rt,
+        "encode width=17 rows=17 stop=0.1",
+        &[0; 289],
+        0,
+        &stopped,
+        "",
+    )
+}
+
+#[test]
+fn the_greatest_pixels_and_weights(rt: HostRuntime) -> Result<(), Fail> {
+    let mut fields = Vec::new(rt.alloc());
+    for place in 0..1024u32 {
+        let pixel: [u8; 2] = if (place / 32 + place) % 2 == 0 {
+            [0, 0]
+        } else {
+            [0xFF, 0xFF]
+        };
+        fields.extend_from_slice(&pixel)?;
+    }
+    let words = "encode width=32 rows=32 depth=16 weights=3333333333";
+    let ran = run_words(&rt, words, &fields, &[], WHOLE)?;
+    assert_eq!(rt; ran.status, 0);
+    Ok(())
+}
+
+#[test]
+fn two_thousand_segments(rt: HostRuntime) -> Result<(), Fail> {
+    let zeros = vec![in rt.alloc(); 0; 128 * 16_000]?;
+    let words = "encode width=128 rows=16000 segment=16";
+    let ran = run_words(&rt, words, &zeros, &[], WHOLE)?;
+    assert_eq!(rt; ran.status, 0);
+    assert_eq!(rt; ran.port.given().len(), 1999 * 51 + 52);
+    Ok(())
+}
+
+#[test]
+fn a_million_made_pixels(rt: HostRuntime) -> Result<(), Fail> {
+    let made = run_words(
+        &rt,
+        "make width=1024 rows=1024 depth=12 seed=7",
+        &[],
+        &[],
+        WHOLE,
+    )?;
+    assert_eq!(rt; made.status, 0);
+    assert_eq!(rt; made.port.given().len(), 2_097_152);
+    let words = "encode width=1024 rows=1024 depth=12";
+    let ran = run_words(&rt, words, made.port.given(), &[], WHOLE)?;
+    assert_eq!(rt; ran.status, 0);
+    Ok(())
+}
+
+#[test]
+fn a_limit_fills_and_cuts(rt: HostRuntime) -> Result<(), Fail> {
+    let mut filled = [0; 64];
+    filled[..23].copy_from_slice(&TWO_HUNDRED);
+    filled[6] = 0x08;
+    filled[8] = 0x70;
+    let words = "encode width=17 rows=17 limit=64 fill=1";
+    expect(&rt, words, &[200; 289], 0, &packet(&rt, &filled)?, "")?;
+    let ran = run_words(
+        &rt,
+        "encode width=80 rows=80 segment=100 limit=32",
+        &[200; 6400],
+        &[],
+        WHOLE,
+    )?;
+    assert_eq!(rt; ran.status, 0);
+    let text = [
+        0xC0, 0x18, 0x07, 0x00, 0x00, 0x00, 0x04, 0x00, 0x60, 0x00, 0x06, 0x4C, 0x88, 0x00, 0x05,
+        0x00, 0x00, 0x00, 0x00, 0x00, 0x06, 0x47, 0xFF, 0xF0, 0xFF, 0xFF, 0x0F, 0xFF, 0xF0, 0xFF,
+        0xFF, 0x0F,
+    ];
+    let given = ran.port.given();
+    assert_eq!(rt; given.len(), 62);
+    assert_eq!(rt; &given[30..], text.as_slice());
+    Ok(())
+}
+
+#[test]
+fn code_words_of_four_octets(rt: HostRuntime) -> Result<(), Fail> {
+    let text = [
+        0xC0, 0x18, 0x07, 0xE0, 0x00, 0x00, 0x00, 0x10, 0x60, 0x00, 0x00, 0x9C, 0x88, 0x00, 0x01,
+        0x16, 0x00, 0x00, 0x00, 0x00, 0x06, 0x47, 0xF8, 0x00,
+    ];
+    let words = "encode width=17 rows=17 word=4 stop=dc";
+    expect(&rt, words, &[200; 289], 0, &packet(&rt, &text)?, "")
+}
+
+#[test]
+fn the_deepest_and_the_flattest_signed_pixels(rt: HostRuntime) -> Result<(), Fail> {
+    let mut least = Vec::new(rt.alloc());
+    for _ in 0..289 {
+        least.extend_from_slice(&[0x80, 0x00])?;
+    }
+    let text = [
+        0xC0, 0x26, 0x07, 0xE0, 0x00, 0x00, 0x00, 0x10, 0x60, 0x00, 0x00, 0x9C, 0x90, 0x00, 0x01,
+        0x10, 0x00, 0x00, 0x00, 0x00, 0x08, 0x03, 0xFC, 0, 0, 0, 0, 0, 0, 0,
+    ];
+    let words = "encode width=17 rows=17 depth=16 signed=1 stop=dc";
+    expect(&rt, words, &least, 0, &packet(&rt, &text)?, "")?;
+    let text = [
+        0xC0, 0x08, 0x07, 0xE0, 0x00, 0x00, 0x00, 0x10, 0x60, 0x00, 0x00, 0x9C, 0x91, 0x00, 0x01,
+        0x10, 0x00, 0x00, 0x00, 0x00, 0xFF, 0x80,
+    ];
+    let words = "encode width=17 rows=17 depth=1 signed=1 stop=dc";
+    expect(&rt, words, &[0xFF; 289], 0, &packet(&rt, &text)?, "")
+}
+
+#[test]
+fn another_number_of_octets_is_refused(rt: HostRuntime) -> Result<(), Fail> {
+    let note = "strip122: input short, 288 octets taken\n";
+    expect(&rt, SQUARE, &[0; 288], 3, &[], note)?;
+    let note = "strip122: input short, 0 octets taken\n";
+    expect(&rt, SQUARE, &[], 3, &[], note)?;
+    let zeros = packet(&rt, &ZEROS)?;
+    expect(&rt, SQUARE, &[0; 290], 3, &zeros, "strip122: input long\n")
+}
+
+#[test]
+fn a_pixel_out_of_range_is_refused(rt: HostRuntime) -> Result<(), Fail> {
+    let mut input = [0; 1360];
+    input[2 * (5 * 17 + 2)] = 0x10;
+    let words = "encode width=17 rows=40 depth=12 stop=dc";
+    let note = "strip122: bad pixel 4096 at row 5 column 2\n";
+    expect(&rt, words, &input, 3, &[], note)?;
+    let words = "encode width=17 rows=17 depth=1 signed=1 stop=dc";
+    let note = "strip122: bad pixel -2 at row 0 column 0\n";
+    expect(&rt, words, &[0xFE; 289], 3, &[], note)
+}
+
+#[test]
+fn a_segment_goes_out_as_soon_as_it_is_settled(rt: HostRuntime) -> Result<(), Fail> {
+    for piece in [7, WHOLE] {
+        let words = "encode width=64 rows=128 segment=16";
+        let ran = run_words(&rt, words, &[0; 8192], &[], piece)?;
+        assert_eq!(rt; ran.status, 0);
+        assert_eq!(rt; ran.port.given().len(), 7 * 51 + 52);
+        for (taken, given) in ran.port.asked() {
+            // Two block rows make a segment, and segment i is settled by 37 + 16i rows.
+            let settled = match taken / 64 {
+                128 => 409,
+                rows => 51 * ((rows + 11) / 16).saturating_sub(2),
+            };
+            assert_eq!(rt; *given, settled, "{taken} octets taken");
+        }
+    }
+    Ok(())
+}
+
+#[test]
+fn what_is_settled_is_given_before_a_bad_pixel(rt: HostRuntime) -> Result<(), Fail> {
+    // 37 rows settle the first segment, and 53 the second.
+    let mut input = [0; 8192];
+    input[53 * 64 + 9] = 0x80;
+    let words = "encode width=64 rows=128 depth=7 segment=16";
+    let ran = run_words(&rt, words, &input, &[], WHOLE)?;
+    assert_eq!(rt; ran.status, 3);
+    assert_eq!(rt; ran.port.given().len(), 102);
+    assert_eq!(rt;
+        ran.port.noted(),
+        "strip122: bad pixel 128 at row 53 column 9\n".as_bytes()
+    );
+    input[53 * 64 + 9] = 0;
+    input[52 * 64 + 9] = 0x80;
+    let ran = run_words(&rt, words, &input, &[], WHOLE)?;
+    assert_eq!(rt; ran.port.given().len(), 51);
+    Ok(())
+}
+
+#[test]
+fn all_rows_and_columns(rt: HostRuntime) -> Result<(), Fail> {
+    let words = "encode width=1048575 rows=262144 segment=16";
+    let ran = run_words(&rt, words, &[], &[], WHOLE)?;
+    assert_eq!(rt; ran.status, 3);
+    assert_eq!(rt;
+        ran.port.noted(),
+        "strip122: input short, 0 octets taken\n".as_bytes()
+    );
+    Ok(())
+}
+
+#[test]
+fn segments_have_packets_of_their_own(rt: HostRuntime) -> Result<(), Fail> {
+    let words = "encode width=64 rows=48 segment=16 stop=dc";
+    let ran = run_words(&rt, words, &[0; 3072], &[], WHOLE)?;
+    assert_eq!(rt; ran.status, 0);
+    let given = ran.port.given();
+    assert_eq!(rt; given.len(), 51 + 51 + 52);
+    for (at, octets) in [
+        (0, [0x08, 0x64, 0xC0, 0x00, 0x00, 0x2C]),
+        (51, [0x08, 0x64, 0xC0, 0x01, 0x00, 0x2C]),
+        (102, [0x08, 0x64, 0xC0, 0x02, 0x00, 0x2D]),
+    ] {
+        assert_eq!(rt; given.get(at..at + 6), Some(octets.as_slice()));
+    }
+    assert_eq!(rt; &given[30..33], [0x80, 0x02, 0x07].as_slice());
+    Ok(())
+}
+
+#[test]
+fn words_are_refused(rt: HostRuntime) -> Result<(), Fail> {
+    for (text, note) in [
+        (
+            "encode width=17 width=17 rows=17",
+            "strip122: bad word: width=17\n",
+        ),
+        ("encode rows=016", "strip122: bad word: rows=016\n"),
+        ("encode rows=17 stop=dc", "strip122: missing: width\n"),
+        (
+            "encode width=17 rows=17 stop=dc packet=63",
+            "strip122: out of range: packet\n",
+        ),
+        (
+            "encode width=17 rows=17 fill=1",
+            "strip122: out of range: fill\n",
+        ),
+    ] {
+        let ran = run_words(&rt, text, &[0; 289], &[], WHOLE)?;
+        assert_eq!(rt; ran.status, 2, "{text}");
+        assert_eq!(rt; ran.port.noted(), note.as_bytes());
+        assert!(rt;
+            ran.port.asked().is_empty() && ran.port.given().is_empty(),
+            "{text}"
+        );
+    }
+    Ok(())
+}
+
+#[test]
+fn no_word_is_a_missing_command(rt: HostRuntime) -> Result<(), Fail> {
+    let mut port = SteadyPort::new(rt.alloc(), Vec::new(rt.alloc()), 100)?;
+    assert_eq!(rt; run(rt.alloc(), &[], &mut port), 2);
+    assert_eq!(rt; port.noted(), "strip122: missing command\n".as_bytes());
+    Ok(())
+}
+
+#[test]
+fn a_made_image(rt: HostRuntime) -> Result<(), Fail> {
+    for piece in [7, WHOLE] {
+        let ran = run_words(&rt, "make width=17 rows=17", &[1], &[], piece)?;
+        assert_eq!(rt; ran.status, 0);
+        let given = ran.port.given();
+        assert_eq!(rt; given.len(), 289);
+        assert_eq!(rt; &given[..5], [0x00, 0x04, 0x09, 0x0E, 0x13].as_slice());
+        assert_eq!(rt; &given[16..18], [0x4C, 0x02].as_slice());
+        assert!(rt; ran.port.asked().is_empty() && ran.port.noted().is_empty());
+    }
+    Ok(())
+}
+
+#[test]
+fn a_failed_call_has_its_status(rt: HostRuntime) -> Result<(), Fail> {
+    // A read for each row, the write of the packet and the read at the end; a made row is one write.
+    for (text, number, status, given) in [
+        ("encode width=17 rows=17", 0, 4, 0),
+        ("encode width=17 rows=17", 17, 5, 0),
+        ("encode width=17 rows=17", 18, 4, 52),
+        ("make width=17 rows=17", 2, 5, 34),
+    ] {
+        let ran = run_words(&rt, text, &[0; 289], &[number], WHOLE)?;
+        assert_eq!(rt; ran.status, status, "{text}, call {number}");
+        assert_eq!(rt; ran.port.given().len(), given);
+        assert!(rt; !ran.port.starved());
+    }
+    Ok(())
+}
+
+#[test]
+fn a_note_that_fails_changes_no_status(rt: HostRuntime) -> Result<(), Fail> {
+    let ran = run_words(&rt, "encode", &[], &[1], 10)?;
+    assert_eq!(rt; ran.status, 2);
+    assert_eq!(rt; ran.port.noted(), "strip122: ".as_bytes());
+    Ok(())
+}
+
+#[test]
+fn a_steady_port_gets_the_same(rt: HostRuntime) -> Result<(), Fail> {
+    let words = words(&rt, SQUARE)?;
+    let mut port = SteadyPort::new(rt.alloc(), [0; 289].to_vec(rt.alloc())?, 100)?;
+    assert_eq!(rt; run(rt.alloc(), words.as_slice(), &mut port), 0);
+    assert_eq!(rt; port.given(), packet(&rt, &ZEROS)?.as_slice());
+    Ok(())
+}

@@ -1,0 +1,139 @@
+// Heads whose octets were worked out by hand.
+use base_122::{Stop, Weights};
+use bit_pipe::{BitOut, SliceOut};
+use segment_head::{HeadFault, HeadField, ImagePart, Odd, SegmentHead, read_head, write_head};
+use std::test::Fail;
+
+// The only segment of 17 by 17 pixels of 8 bits, whose image has 7 rows of padding.
+const ONLY: [u8; 20] = [
+    0xc0, 0x02, 0x07, 0xe0, 0x00, 0x00, 0x00, 0x00, 0x60, 0x00, 0x00, 0x9c, 0x88, 0x00, 0x01, 0x10,
+    0x00, 0x00, 0x00, 0x00,
+];
+
+// A segment between others, with a stop at the DC numbers, a limit, fill and weights of its own.
+const BETWEEN: [u8; 19] = [
+    0x01, 0x48, 0x27, 0x00, 0x00, 0x08, 0x10, 0x70, 0x00, 0x00, 0x10, 0x90, 0x00, 0x3e, 0x86, 0xf2,
+    0x72, 0x70, 0x00,
+];
+
+#[test]
+fn only_segment(rt: HostRuntime) -> Result<(), Fail> {
+    let head = read_head(&ONLY)?;
+    let image = ImagePart {
+        signed: false,
+        depth: 8,
+        width: 17,
+        word: 1,
+        weights: Weights::usual(),
+    };
+    let said = SegmentHead {
+        first: true,
+        last: true,
+        count: 0,
+        depth_dc: 1,
+        depth_ac: 0,
+        pad_rows: 7,
+        limit: 0,
+        stop: Stop {
+            dc: false,
+            plane: 0,
+            stage: 3,
+        },
+        fill: false,
+        blocks: 9,
+        best_dc: true,
+        best_ac: true,
+        image,
+    };
+    assert_eq!(rt; head, said);
+    assert_eq!(rt; head.octets(), 20);
+    let mut octets = [0xaa; 20];
+    let mut out = SliceOut::new(&mut octets);
+    let mut bits = BitOut::new(&mut out, 0, 0);
+    write_head(&mut bits, &head)?;
+    bits.end(1, false)?;
+    assert_eq!(rt; octets, ONLY);
+    Ok(())
+}
+
+#[test]
+fn segment_between(rt: HostRuntime) -> Result<(), Fail> {
+    let head = read_head(&BETWEEN)?;
+    let image = ImagePart {
+        signed: true,
+        depth: 16,
+        width: 1000,
+        word: 4,
+        weights: Weights {
+            shifts: [3, 2, 1, 0, 3, 2, 1, 0, 3, 2],
+        },
+    };
+    let said = SegmentHead {
+        first: false,
+        last: false,
+        count: 5,
+        depth_dc: 4,
+        depth_ac: 2,
+        pad_rows: 0,
+        limit: 64,
+        stop: Stop {
+            dc: true,
+            plane: 0,
+            stage: 3,
+        },
+        fill: true,
+        blocks: 1,
+        best_dc: false,
+        best_ac: false,
+        image,
+    };
+    assert_eq!(rt; head, said);
+    assert_eq!(rt; head.octets(), 19);
+    let mut octets = [0xaa; 19];
+    let mut out = SliceOut::new(&mut octets);
+    let mut bits = BitOut::new(&mut out, 0, 0);
+    write_head(&mut bits, &head)?;
+    bits.end(1, false)?;
+    assert_eq!(rt; octets, BETWEEN);
+    Ok(())
+}
+
+#[test]
+fn heads_cut_short(rt: HostRuntime) {
+    assert_eq!(rt;
+        read_head(&ONLY[..2]),
+        Err(HeadFault::HeadShort { octets: 2 })
+    );
+    assert_eq!(rt;
+        read_head(&ONLY[..19]),
+        Err(HeadFault::HeadShort { octets: 19 })
+    );
+    assert_eq!(rt;
+        read_head(&BETWEEN[..18]),
+        Err(HeadFault::HeadShort { octets: 18 })
+    );
+}
+
+#[test]
+fn two_octets_changed(rt: HostRuntime) {
+    for (at, with, fault) in [
+        (2, [0x05, 0xe0], HeadFault::MissingPart { part: 3 }),
+        (12, [0x08, 0x00], HeadFault::Unsupported(Odd::Float)),
+        (12, [0xa8, 0x00], HeadFault::Unsupported(Odd::Extended)),
+        (14, [0x01, 0x18], HeadFault::Unsupported(Odd::Transpose)),
+        (14, [0x01, 0x11], HeadFault::Unsupported(Odd::WordLength)),
+        (14, [0x00, 0x00], HeadFault::Unsupported(Odd::Width)),
+        (10, [0x00, 0x0c], HeadFault::Unsupported(Odd::Blocks)),
+        (1, [0x3a, 0x07], HeadFault::DepthTooLarge { dc: 29, ac: 0 }),
+        (1, [0x00, 0x07], HeadFault::BadValue(HeadField::DepthDc)),
+        (14, [0x01, 0x00], HeadFault::BadValue(HeadField::Width)),
+        (6, [0x03, 0xe0], HeadFault::BadValue(HeadField::Limit)),
+        (7, [0x00, 0x70], HeadFault::BadValue(HeadField::Fill)),
+    ] {
+        let mut octets = ONLY;
+        assert!(rt; at < 19);
+        octets[at] = with[0];
+        octets[at + 1] = with[1];
+        assert_eq!(rt; read_head(&octets), Err(fault), "at {at}");
+    }
+}

@@ -1,0 +1,23 @@
+//! Tests of bits, heads, numbers, words and segments, by texts that were worked out by hand.
+#![tactic(auto)]
+
+#[cfg(test)]
+mod bits;
+#[cfg(test)]
+mod dc_and_depths;
+#[cfg(test)]
+mod heads;
+#[cfg(test)]
+mod numbers;
+#[cfg(test)]
+mod numbers_read;
+#[cfg(test)]
+mod planes;
+#[cfg(test)]
+mod segment_planes;
+#[cfg(test)]
+mod segments;
+#[cfg(test)]
+mod words;
+#[cfg(test)]
+mod words_read;

@@ -1,0 +1,102 @@
+// Options and texts that were worked out by hand.
+ghost use Rattle.std.specs.Prelude.{◌≡◌, ◌<◌, ◌^◌, ◌↔◌, ℕ, length, slice_index, IsTrue};
+
+use base_122::Select;
+use bit_pipe::{BitOut, OctetOut, PutFault, SliceOut};
+use gaggle_codes::{NumberRange, choose, put_values};
+use std::process::Abort;
+use std::test::Fail;
+
+fn fit(values: &[u16], bits: u8) -> bool
+    requires { bits < 16 }
+    ensures { IsTrue result ↔ ((i : ℕ) → i < length values.now → slice_index values.now i < 2 ^ bits) }
+{
+    values.iter().all(|value| *value < 1 << bits)
+}
+
+// The heuristic option and the optimal one.
+fn options(rt: &impl Abort, values: &[u16], bits: u8) -> (u8, u8) {
+    assert!(rt; 2 <= bits && bits <= 10 && values.len() <= 16);
+    assert!(rt; fit(values, bits));
+    (
+        choose(values, bits, Select::Heuristic),
+        choose(values, bits, Select::Optimal),
+    )
+}
+
+#[test]
+fn options_of_small_gaggles(rt: HostRuntime) {
+    assert_eq!(rt; options(&rt, &[], 4), (15, 15));
+    // Both choices agree on the values of 0, 1, 1, -2.
+    assert_eq!(rt; options(&rt, &[2, 0, 5], 4), (1, 1));
+    // On each side of the heuristic's thresholds for one value of 4 bits.
+    assert_eq!(rt; options(&rt, &[1], 4), (0, 0));
+    assert_eq!(rt; options(&rt, &[2], 4), (1, 0));
+    assert_eq!(rt; options(&rt, &[3], 4), (1, 1));
+    assert_eq!(rt; options(&rt, &[6], 4), (15, 15));
+    // Two values for k take 4 bits, as many as uncoded.
+    assert_eq!(rt; options(&rt, &[5], 4), (2, 15));
+    // 2 bits know no k but 0, which ties at 1.
+    assert_eq!(rt; options(&rt, &[0], 2), (0, 0));
+    assert_eq!(rt; options(&rt, &[1], 2), (0, 15));
+    assert_eq!(rt; options(&rt, &[2], 2), (15, 15));
+    assert_eq!(rt; options(&rt, &[100], 10), (6, 6));
+    assert_eq!(rt; options(&rt, &[367], 10), (8, 15));
+}
+
+const FOUR: [i32; 4] = [0, 1, 1, -2];
+
+const RANGE: NumberRange = NumberRange {
+    signed: true,
+    bits: 4,
+};
+
+// The four numbers with no limit.
+#[tactic(auto, using(bit_pipe::proofs::Putting::open_after))]
+fn put_four<O: OctetOut>(out: &mut O, select: Select) -> Result<u64, PutFault>
+    requires { (O.sink.counts out.old).given ≡ 0 }
+{
+    let mut bits = BitOut::new(out, 0, 0);
+    put_values(&mut bits, &FOUR, 1, 0, RANGE, select)?;
+    Ok(bits.end(1, false)?)
+}
+
+// As many of their bits as one octet takes.
+#[tactic(auto, using(bit_pipe::proofs::Putting::open_later))]
+fn put_front<O: OctetOut>(out: &mut O, select: Select) -> Result<u64, PutFault>
+    requires { (O.sink.counts out.old).given ≡ 0 }
+{
+    let mut bits = BitOut::new(out, 1, 0);
+    if let Err(PutFault::Stopped) = put_values(&mut bits, &FOUR, 1, 0, RANGE, select) {
+        return Ok(bits.end(1, false)?);
+    }
+    Err(PutFault::WriteFault)
+}
+
+#[test]
+fn four_numbers(rt: HostRuntime) -> Result<(), Fail> {
+    let mut octets = [0; 2];
+    assert_eq!(rt;
+        put_four(&mut SliceOut::new(&mut octets), Select::Optimal)?,
+        2
+    );
+    assert_eq!(rt; octets, [0x41, 0x92]);
+    let mut again = [0; 2];
+    assert_eq!(rt;
+        put_four(&mut SliceOut::new(&mut again), Select::Heuristic)?,
+        2
+    );
+    assert_eq!(rt; again, octets);
+    Ok(())
+}
+
+#[test]
+fn four_numbers_stopped(rt: HostRuntime) -> Result<(), Fail> {
+    let mut octets = [0; 2];
+    assert_eq!(rt;
+        put_front(&mut SliceOut::new(&mut octets), Select::Optimal)?,
+        1
+    );
+    assert_eq!(rt; octets, [0x41, 0]);
+    Ok(())
+}

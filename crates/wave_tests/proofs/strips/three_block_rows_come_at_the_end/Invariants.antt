@@ -1,0 +1,10 @@
+use Rattle.std.proofs.Common.{◌≡◌, false}
+use Rattle.wave_strip.specs.Strip.{rows_of, columns_of, has_ended}
+use Rattle.wave_tests.proofs.strips.three_block_rows_come_at_the_end.Given as goal
+
+abbrev pub invariant-loop : goal.invariant-loop
+invariant-loop g l = record {
+  columns : columns_of l.strip ≡ 3;
+  rows : rows_of l.strip ≡ l.counter;
+  running : has_ended l.strip ≡ false;
+}
