@@ -2,20 +2,24 @@
 //! argument is how many thousands of blocks there are; without one there are 16 blocks. The times go to standard
 //! error.
 //!
-//! The blocks hold made numbers. The DC part is that of depth 11 with no AC part, so that a number has 10 bits, the
+//! Last come all planes of blocks whose magnitudes fall from band to band as a picture's do, some blocks busier than
+//! others, in segments of 64 blocks.
+//!
+//! The other blocks hold made numbers. The DC part is that of depth 11 with no AC part, so that a number has 10 bits, the
 //! most that there are, and one DC plane follows. The bit plane is plane 8 up to the last stage: about half of the
 //! AC numbers are refined there, and half of the others become significant.
 #![tactic(auto)]
 
-ghost use Rattle.std.specs.Prelude.{◌≡◌, ◌≤◌, ◌<◌, ◌*◌, ◌^◌, length, true, IfOk};
+ghost use Rattle.std.specs.Prelude.{◌≡◌, ◌≤◌, ◌<◌, ◌*◌, ◌^◌, ◌≤ℤ◌, pos, length, true, IfOk, OnOk};
 ghost use Rattle.number_defs.specs.Cells.{AreInRange};
 ghost use Rattle.number_defs.specs.DcPart.{dc_q, dc_bits};
+ghost use Rattle.bit_pipe.specs.Standing.{IsReady};
 ghost use Rattle.number_defs.specs.Ranges.{IsInRange};
 
 use base_122::{Select, Weights};
-use bit_pipe::{BitOut, PutFault, SliceOut};
+use bit_pipe::{BitOut, OctetOut, PutFault, SliceOut};
 use dc_depths::{DcPlan, put_dc};
-use plane_coder::{PlanePlan, put_plane};
+use plane_coder::{CodeTables, PlanePlan, put_plane, put_plane_with};
 use std::time::{Duration, Instant};
 use std::{env, io};
 use word_codes::profile_book;
@@ -92,6 +96,118 @@ fn put_dense_plane(into: &mut [u8], blocks: &[i32], marks: &mut [i32]) -> Result
     Ok(bits.end(1, false)?)
 }
 
+// A made number of a block like a picture's: small on the whole, more so in the finer bands, and greater where the block
+// is busy. At most 255 in magnitude.
+fn like_a_picture(block: usize, position: usize) -> i32 {
+    let place = (block as u64)
+        .wrapping_mul(64)
+        .wrapping_add(position as u64);
+    let mixed = place.wrapping_mul(0x9e37_79b9_7f4a_7c15) / 65536;
+    let busy = (block as u64 / 3).wrapping_mul(0x9e37_79b9_7f4a_7c15) / 65536 % 8;
+    let most = if position < 4 {
+        6
+    } else if position < 16 {
+        4
+    } else {
+        2
+    };
+    // Each further zero makes the number twice as great, half as often.
+    let zeros = (mixed % 256 + 256).trailing_zeros();
+    let shift = zeros.min(most + busy as u32) % 16;
+    let size = (((mixed / 256 % 16) << shift) / 16 % 256) as i32;
+    if mixed / 4096 % 2 == 1 { -size } else { size }
+}
+
+// How many bits the greatest of some magnitudes has.
+fn depth_of(numbers: &[i32]) -> i32
+    ensures within { pos 0 ≤ℤ result }
+    ensures small { result ≤ℤ pos 32 }
+{
+    let mut all = 0;
+    for number in numbers {
+        all |= number.unsigned_abs();
+    }
+    32 - all.leading_zeros() as i32
+}
+
+// Fills a block that is like a picture's. Answers its depth.
+fn fill_block(block: &mut [i32], r: usize) -> i32
+    requires { length block.old ≡ 64 }
+    ensures same { length block.new ≡ 64 }
+{
+    for position in 0..block.len() {
+        block[position] = like_a_picture(r, position);
+    }
+    depth_of(&block[1..])
+}
+
+// Fills blocks that are like a picture's, with their depths.
+fn fill_like_a_picture(blocks: &mut [i32], marks: &mut [i32])
+    requires { length blocks.old ≡ 64 * length marks.old }
+{
+    for r in 0..marks.len() {
+        marks[r] = fill_block(&mut blocks[BLOCK * r..BLOCK * r + BLOCK], r);
+    }
+}
+
+// Puts the planes of a segment.
+#[tactic(auto, using(bit_pipe::proofs::Putting::open_after))]
+fn put_planes<O: OctetOut>(
+    out: &mut BitOut<O>,
+    blocks: &[i32],
+    marks: &mut [i32],
+    tables: &CodeTables,
+) -> Result<(), PutFault>
+    requires open { IsReady O.sink out.old }
+    requires whole { length blocks.now ≡ 64 * length marks.old }
+    ensures { OnOk result (IsReady O.sink out.new) }
+{
+    for above in 0..9u8 {
+        let plan = PlanePlan {
+            plane: 8 - above,
+            q: 0,
+            weights: Weights::usual(),
+            last: 4,
+        };
+        put_plane_with(out, blocks, marks, &plan, tables)?;
+    }
+    Ok(())
+}
+
+// Puts the planes of one segment after another, each into the same octets.
+#[tactic(auto, using(bit_pipe::proofs::Putting::open_after))]
+fn put_segment(
+    into: &mut [u8],
+    blocks: &[i32],
+    marks: &mut [i32],
+    tables: &CodeTables,
+) -> Result<u64, PutFault>
+    requires { length blocks.now ≡ 64 * length marks.old }
+{
+    let mut out = SliceOut::new(into);
+    let mut bits = BitOut::new(&mut out, 0, 0);
+    put_planes(&mut bits, blocks, marks, tables)?;
+    Ok(bits.end(1, false)?)
+}
+
+// How many octets all segments have.
+fn put_segments(into: &mut [u8], blocks: &[i32], marks: &mut [i32]) -> Result<u64, PutFault>
+    requires { length blocks.now ≡ 64 * length marks.old }
+{
+    let tables = CodeTables::new(&profile_book());
+    let mut octets: u64 = 0;
+    for s in 0..marks.len() / 64 {
+        let numbers = &blocks[4096 * s..4096 * s + 4096];
+        octets = octets.saturating_add(put_segment(
+            into,
+            numbers,
+            &mut marks[64 * s..64 * s + 64],
+            &tables,
+        )?);
+    }
+    Ok(octets)
+}
+
 fn note(rt: &HostRuntime, what: &str, numbers: usize, time: Duration) -> io::Result<()> {
     let seconds = time.as_secs();
     let micros = time.subsec_micros();
@@ -130,6 +246,16 @@ fn main(rt: HostRuntime) -> io::Result<()> {
     let plane = put_dense_plane(&mut octets, &blocks, &mut marks);
     note(&rt, "put_plane", blocks.len(), start.elapsed(&rt)?)?;
 
-    let all = heuristic.is_ok() && optimal.is_ok() && plane.is_ok();
+    fill_like_a_picture(&mut blocks, &mut marks);
+    let start = Instant::now(&rt)?;
+    let planes = put_segments(&mut octets, &blocks, &mut marks);
+    note(
+        &rt,
+        "all planes",
+        blocks.len() / 4096 * 4096,
+        start.elapsed(&rt)?,
+    )?;
+
+    let all = heuristic.is_ok() && optimal.is_ok() && plane.is_ok() && planes.is_ok();
     println!(rt; "{}", if all { "done" } else { "failed" })
 }

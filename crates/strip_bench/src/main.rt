@@ -1,0 +1,155 @@
+//! Times the rolling forward transform, and the lifting of rows that it is made of. The argument is how many rows
+//! there are; without one there are 24. The times go to standard error.
+#![tactic(auto)]
+
+ghost use Rattle.std.specs.Prelude.{◌≡◌, ◌≤◌, ◌<◌, ◌*◌, ◌+◌, ◌%◌, ◌/◌, ◌^◌, ℕ, false, pos, replicate, length, IfOk};
+ghost use Rattle.wave_defs.specs.Within.{AllWithin};
+ghost use Rattle.wave_defs.specs.Held.{signal};
+ghost use Rattle.wave_strip.specs.Strip.{rows_of, columns_of, has_ended};
+
+use std::time::{Duration, Instant};
+use std::{env, io, mem};
+use wave_strip::StripWave;
+
+const WIDTH: u32 = 4096;
+
+// Pushes so many rows, and answers the last block row that came.
+fn push_rows(strip: &mut StripWave, row: &[i32], rows: u32) -> u32
+    requires wide { length row.now ≡ 8 * columns_of strip.old }
+    requires bounded { AllWithin (2 ^ 16) (8 * columns_of strip.old) (signal row.now) }
+    requires few { rows_of strip.old + rows < 262144 }
+    requires running { has_ended strip.old ≡ false }
+{
+    let mut came = 0u32;
+    for _ in 0..rows {
+        if let Some(block) = strip.push_row(row) {
+            came = block;
+        }
+    }
+    came
+}
+
+// Splits a row so many times.
+fn split_rows(row: &[i32], low: &mut [i32], high: &mut [i32], times: u32)
+    requires halves { length row.now ≡ 2 * length low.old }
+    requires same { length high.old ≡ length low.old }
+    requires long { 3 ≤ length low.old }
+    requires bounded { AllWithin (2 ^ 24) (2 * length low.old) (signal row.now) }
+{
+    for _ in 0..times {
+        lift_rows::forward_row(row, low, high);
+    }
+}
+
+fn predict_rows(into: &mut [i32], row: &[i32], times: u32)
+    requires same { length row.now ≡ length into.old }
+    requires bounded { AllWithin (2 ^ 26) (length row.now) (signal row.now) }
+{
+    for _ in 0..times {
+        into.copy_from_slice(row);
+        lift_rows::predict_sub(into, row, row, row, row);
+    }
+}
+
+fn predict_lanes(into: &mut [i32], row: &[i32], times: u32)
+    requires same { length row.now ≡ length into.old }
+    requires bounded { AllWithin (2 ^ 26) (length row.now) (signal row.now) }
+{
+    for _ in 0..times {
+        into.copy_from_slice(row);
+        lift_lanes::predict_sub(into, row, row, row, row);
+    }
+}
+
+fn copy_rows(into: &mut [i32], row: &[i32], times: u32)
+    requires same { length row.now ≡ length into.old }
+{
+    for _ in 0..times {
+        into.copy_from_slice(row);
+    }
+}
+
+fn note(rt: &HostRuntime, what: &str, rows: u32, time: Duration) -> io::Result<()> {
+    let seconds = time.as_secs();
+    let micros = time.subsec_micros();
+    eprintln!(rt; "{what}: {rows} rows of {WIDTH} in {seconds}.{micros:06} s")
+}
+
+fn rows_asked(rt: &HostRuntime) -> io::Result<u32>
+    ensures { IfOk result (λ rows. rows < 2 ^ 16) }
+{
+    let Some(word) = env::args(rt)?.nth(1) else {
+        return Ok(24);
+    };
+    match word.as_str().parse::<u16>() {
+        Ok(rows) => Ok(u32::from(rows)),
+        Err(_) => Ok(24),
+    }
+}
+
+fn time_rows(rt: &HostRuntime, row: &[i32], whole: &mut [i32], rows: u32) -> io::Result<()>
+    requires same { length row.now ≡ length whole.old }
+    requires bounded { AllWithin (2 ^ 26) (length row.now) (signal row.now) }
+{
+    let start = Instant::now(rt)?;
+    copy_rows(whole, row, rows);
+    note(rt, "copy", rows, start.elapsed(rt)?)?;
+
+    let start = Instant::now(rt)?;
+    predict_rows(whole, row, rows);
+    note(rt, "copy and predict_sub", rows, start.elapsed(rt)?)?;
+
+    let start = Instant::now(rt)?;
+    predict_lanes(whole, row, rows);
+    note(
+        rt,
+        "copy and predict_sub on lanes",
+        rows,
+        start.elapsed(rt)?,
+    )
+}
+
+fn time_split(
+    rt: &HostRuntime,
+    row: &[i32],
+    low: &mut [i32],
+    high: &mut [i32],
+    rows: u32,
+) -> io::Result<()>
+    requires halves { length row.now ≡ 2 * length low.old }
+    requires same { length high.old ≡ length low.old }
+    requires long { 3 ≤ length low.old }
+    requires bounded { AllWithin (2 ^ 24) (2 * length low.old) (signal row.now) }
+{
+    let start = Instant::now(rt)?;
+    split_rows(row, low, high, rows);
+    note(rt, "forward_row", rows, start.elapsed(rt)?)
+}
+
+fn time_strip(rt: &HostRuntime, row: &[i32], strip: &mut StripWave, rows: u32) -> io::Result<()>
+    requires wide { length row.now ≡ 8 * columns_of strip.old }
+    requires bounded { AllWithin (2 ^ 16) (8 * columns_of strip.old) (signal row.now) }
+    requires few { rows_of strip.old + rows < 262144 }
+    requires running { has_ended strip.old ≡ false }
+{
+    let start = Instant::now(rt)?;
+    let last = push_rows(strip, row, rows);
+    note(rt, "push_row", rows, start.elapsed(rt)?)?;
+    eprintln!(rt; "last block row {last}")
+}
+
+fn main(rt: HostRuntime) -> io::Result<()> {
+    let rows = rows_asked(&rt)?;
+    let width = WIDTH as usize;
+    let row = vec![in rt.alloc(); 200i32; width]?;
+    let mut low = vec![in rt.alloc(); 0i32; width / 2]?;
+    let mut high = vec![in rt.alloc(); 0i32; width / 2]?;
+    let mut whole = vec![in rt.alloc(); 0i32; width]?;
+    time_rows(&rt, &row, &mut whole, rows)?;
+    time_split(&rt, &row, &mut low, &mut high, rows)?;
+    let mut strip = StripWave::new(rt.alloc(), WIDTH)?;
+    let timed = time_strip(&rt, &row, &mut strip, rows);
+    mem::forget(strip);
+    timed?;
+    println!(rt; "done")
+}
