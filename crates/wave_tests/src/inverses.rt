@@ -1,6 +1,6 @@
 //! Images whose block rows come one after another, and their rows.
 
-ghost use Rattle.std.specs.Prelude.{◌≡◌, ◌≤◌, ◌<◌, ◌*◌, ◌^◌, ℕ, IfOk, unsigned_abs, vec_len};
+ghost use Rattle.std.specs.Prelude.{◌≡◌, ◌≤◌, ◌<◌, ◌*◌, ◌^◌, ℕ, IfOk, length, unsigned_abs, vec_len};
 ghost use Rattle.std.specs.Result.{OnOk};
 ghost use Rattle.wave_defs.specs.Within.{EachWithin, IsWithin};
 ghost use Rattle.wave_plain.specs.BlockRows.{IsBlockRow};
@@ -147,42 +147,77 @@ fn push_rows(
 const NONE: u32 = u32::MAX;
 
 /// All rows come back where the image's end is told after four of its five block rows.
-fn end_is_told_late(rt: &impl Abort, alloc: Global) -> Result<(), AllocError> {
-    let image = made_plane(alloc, 5)?;
-    let bands = forward3(alloc, &image)?;
-    let mut rows = Vec::new(alloc);
-    let mut strip = StripInverse::new(alloc, COLUMNS, 262_144)?;
-    push_rows(&mut strip, &bands, 0, 4, NONE, &mut rows).expect(rt, "memory");
+fn end_is_told_late(
+    rt: &impl Abort,
+    strip: &mut StripInverse,
+    bands: &Bands,
+    image: &Plane,
+    rows: &mut Vec<i64>,
+)
+    requires columns { columns_of strip.old ≡ 3 }
+    requires height { height_of strip.old ≡ 32768 }
+    requires taken { taken_of strip.old ≡ 0 }
+    requires idle { IsIdle 0 (next_of strip.old) (height_of strip.old) }
+    requires whole_columns { bands.now.width ≡ 24 }
+    requires block_rows { (row : ℕ) → row < 5 → IsBlockRow bands.now row }
+{
+    push_rows(strip, bands, 0, 4, NONE, rows).expect(rt, "memory");
     assert_eq!(rt; rows.len(), 11 * 24);
     strip.end_at(40);
-    push_rows(&mut strip, &bands, 4, 5, NONE, &mut rows).expect(rt, "memory");
-    assert_eq!(rt; rows, image.cells);
-    Ok(())
+    push_rows(strip, bands, 4, 5, NONE, rows).expect(rt, "memory");
+    assert_eq!(rt; *rows, image.cells);
+}
+
+/// Whether two lists of rows are the same from one row to another.
+fn are_same(a: &[i64], b: &[i64], from: usize, to: usize) -> bool
+    requires order { from ≤ to }
+    requires within { (24 * to ≤ length a.now) × (24 * to ≤ length b.now) }
+    requires few { to ≤ 96 }
+{
+    a[24 * from..24 * to] == b[24 * from..24 * to]
 }
 
 /// Where block row 5 is lost, rows 19 to 69 may differ.
-fn one_is_lost(rt: &impl Abort, alloc: Global) -> Result<(), AllocError> {
-    let image = made_plane(alloc, 12)?;
-    let bands = forward3(alloc, &image)?;
-    let mut rows = Vec::new(alloc);
-    let mut strip = StripInverse::new(alloc, COLUMNS, 96)?;
-    push_rows(&mut strip, &bands, 0, 12, 5, &mut rows).expect(rt, "memory");
+fn one_is_lost(
+    rt: &impl Abort,
+    strip: &mut StripInverse,
+    bands: &Bands,
+    image: &Plane,
+    rows: &mut Vec<i64>,
+)
+    requires columns { columns_of strip.old ≡ 3 }
+    requires height { height_of strip.old ≡ 12 }
+    requires taken { taken_of strip.old ≡ 0 }
+    requires idle { IsIdle 0 (next_of strip.old) (height_of strip.old) }
+    requires whole_columns { bands.now.width ≡ 24 }
+    requires block_rows { (row : ℕ) → row < 12 → IsBlockRow bands.now row }
+{
+    push_rows(strip, bands, 0, 12, 5, rows).expect(rt, "memory");
     assert_eq!(rt; rows.len(), 96 * 24);
     assert_eq!(rt; image.cells.len(), 96 * 24);
-    assert_eq!(rt; &rows[..19 * 24], &image.cells[..19 * 24]);
-    assert_ne!(rt; &rows[45 * 24..46 * 24], &image.cells[45 * 24..46 * 24]);
-    assert_eq!(rt; &rows[70 * 24..], &image.cells[70 * 24..]);
-    Ok(())
+    assert!(rt; are_same(rows, &image.cells, 0, 19));
+    assert!(rt; !are_same(rows, &image.cells, 45, 46));
+    assert!(rt; are_same(rows, &image.cells, 70, 96));
 }
 
 #[test]
 fn rows_come_back_where_the_end_is_told_late(rt: HostRuntime) -> Result<(), Fail> {
-    end_is_told_late(&rt, rt.alloc())?;
+    let alloc = rt.alloc();
+    let image = made_plane(alloc, 5)?;
+    let bands = forward3(alloc, &image)?;
+    let mut rows = Vec::new(alloc);
+    let mut strip = StripInverse::new(alloc, COLUMNS, 262_144)?;
+    end_is_told_late(&rt, &mut strip, &bands, &image, &mut rows);
     Ok(())
 }
 
 #[test]
 fn a_lost_block_row_changes_only_rows_in_its_reach(rt: HostRuntime) -> Result<(), Fail> {
-    one_is_lost(&rt, rt.alloc())?;
+    let alloc = rt.alloc();
+    let image = made_plane(alloc, 12)?;
+    let bands = forward3(alloc, &image)?;
+    let mut rows = Vec::new(alloc);
+    let mut strip = StripInverse::new(alloc, COLUMNS, 96)?;
+    one_is_lost(&rt, &mut strip, &bands, &image, &mut rows);
     Ok(())
 }
