@@ -6,9 +6,9 @@ pub mod Taking
 pub mod ItemReading
 pub mod OneItem
 pub mod ReadStops
-mod OctetSteps
+pub mod OctetSteps
 mod BitSteps
 mod ZeroSteps
 mod Ending
 mod PieceSteps
-mod WordOctets
+pub mod WordOctets
