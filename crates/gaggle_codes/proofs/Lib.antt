@@ -22,3 +22,4 @@ mod ScaledNumbers
 mod GaggleRead
 mod Counting
 mod NumbersRead
+pub mod AllGiven
