@@ -3,3 +3,9 @@ mod Planes
 mod DepthCells
 mod Parts
 mod TakenDepths
+mod DcNumbers
+mod DcCells
+mod TakenBits
+mod TakenPlanes
+mod TakenHigh
+mod TakenDcs

@@ -13,7 +13,7 @@ use Rattle.number_defs.specs.DcPart.{dc_bit, planes_before}
 
 module _ (q : ℕ) (dcs : List ℤ) where
   -- the plane after the first n
-  one_more : (n plane : ℕ) → plane ≡ q - (n + 1) → text (planes_before q dcs n) ++ text (map (dc_bit plane) dcs) ≡ text (planes_before q dcs (n + 1))
+  pub one_more : (n plane : ℕ) → plane ≡ q - (n + 1) → text (planes_before q dcs n) ++ text (map (dc_bit plane) dcs) ≡ text (planes_before q dcs (n + 1))
   unfolding planes_before
   one_more n plane e = let f : n + 1 ≡ suc n = omega arith in rw (e, f) (sym (text-append (planes_before q dcs n) (map (dc_bit (q - suc n)) dcs)))
 

@@ -1,13 +1,12 @@
 -- Block depths that were read.
-use Rattle.std.proofs.Common.{◌≡◌, ◌⊎◌, ℕ, ◌+◌, ◌-◌, ◌*◌, ◌^◌, ◌<◌, ◌≤◌, ℤ, pos, ◌-ℤ◌, ◌*ℤ◌, List, [], length, map, take, get_or, Bool, true, false, cond, Ok, Err, refl, sym, ap, subst, ◌∙◌, arith, inl, inr, length-take}
-use Rattle.std.specs.Prelude.{Result, Option, Some, None, ◌==◌, nat_abs, nat_lt}
+use Rattle.std.proofs.Common.{◌≡◌, ℕ, ◌+◌, ◌*◌, ◌^◌, ◌<◌, ◌≤◌, ℤ, pos, ◌*ℤ◌, List, length, map, take, get_or, Bool, true, false, cond, Ok, Err, refl, sym, ap, subst, ◌∙◌, arith, inl, inr, length-take}
+use Rattle.std.specs.Prelude.{Result, Some, None, ◌==◌, nat_abs, nat_lt}
 use Rattle.std.proofs.Math.ListN.{set}
 use Rattle.std.proofs.lemmas.Bool.{cases_lt, cases_eq}
 use Rattle.std.proofs.lemmas.Bool.Decides.{nat_tests}
 use Rattle.std.proofs.lemmas.Int.{ints}
-use Rattle.std.proofs.lemmas.List.{get_or-set_same, get_or-set_other, get_or-take, map-set, length-map, length-set, get_or-map, get_or_past}
-use Rattle.std.specs.Int.{div_ceil}
-use Rattle.item_defs.specs.Items.{Item, fixed, raw, text}
+use Rattle.std.proofs.lemmas.List.{get_or-set_same, get_or-set_other, get_or-take, map-set, length-map, get_or-map, get_or_past}
+use Rattle.item_defs.specs.Items.{fixed, raw, text}
 use Rattle.item_defs.specs.Readings.{whole, ended, refused}
 use Rattle.bit_pipe.specs.declared.fault.InFault.{InFault}
 use Rattle.bit_pipe.specs.declared.fault.Part.{Part}
@@ -22,7 +21,6 @@ use Rattle.bit_pipe.proofs.Taking.{takes_start}
 use Rattle.bit_pipe.proofs.ItemReading.{reads_whole, each_set, each_ended, each_failed, each_whole}
 use Rattle.number_defs.specs.Ranges.{number_at}
 use Rattle.number_defs.specs.Depths.{depth_bits, depth_kind, depth_items}
-use Rattle.gaggle_codes.specs.declared.range.NumberRange.{NumberRange}
 use Rattle.gaggle_codes.specs.Given.{given_number}
 use Rattle.gaggle_codes.specs.Taken.{TakesNumbers, numbers_answer}
 use Rattle.dc_depths.specs.Marks.{depths_of}

@@ -1,2 +1,4 @@
 pub mod Marks
 pub mod Taken
+pub mod TakenDc
+pub mod DcReading

@@ -2,11 +2,13 @@
 #![tactic(auto)]
 
 mod dc;
+mod dc_in;
 mod depths;
 mod depths_in;
 mod plan;
 
 pub use dc::put_dc;
+pub use dc_in::take_dc;
 pub use depths::put_depths;
 pub use depths_in::take_depths;
 pub use plan::DcPlan;

@@ -1,4 +1,4 @@
-use Rattle.std.proofs.Common.{◌≡◌, ◌≤◌, ◌<◌, ℕ, length, ap, sym, ◌∙◌, refl, arith, nat_lt}
+use Rattle.std.proofs.Common.{ap, sym, refl, arith, nat_lt}
 use Rattle.std.proofs.lemmas.Result.{err_from_is_err_and}
 use Rattle.number_defs.specs.Depths.{depth_bits}
 use Rattle.dc_depths.proofs.TakenDepths.{no_depths, coded_depths, part_ok, part_err}

@@ -1,4 +1,4 @@
-use Rattle.std.proofs.Common.{◌≡◌, ◌<◌, ◌^◌, ap, sym, arith, pos, w32, to_z}
+use Rattle.std.proofs.Common.{◌≡◌, ◌<◌, ◌^◌, arith, pos, w32, to_z}
 use Rattle.std.proofs.lemmas.Int.{to_z_pos}
 use Rattle.std.proofs.lemmas.Result.{err_from_is_err_and}
 use Rattle.bit_pipe.proofs.Taking.{in_later}

@@ -1,0 +1,133 @@
+// The DC part from bits.
+ghost use Rattle.std.specs.Prelude.{◌≡◌, ◌≤◌, ◌<◌, ◌^◌, ◌*ℤ◌, ℕ, pos, neg_ℤ, length};
+ghost use Rattle.std.specs.Int.{div_ceil};
+ghost use Rattle.bit_pipe.specs.Coming.{coming, IsIn};
+ghost use Rattle.number_defs.specs.DcPart.{dc_q, dc_bits, dc_planes};
+ghost use Rattle.dc_depths.specs.DcReading.{zero_dc, HasRoom, TakesBits, TakesHigh, TakesPlanes};
+ghost use Rattle.dc_depths.specs.TakenDc.{SetsDcs, TakesDc};
+
+use crate::plan::DcPlan;
+use bit_pipe::{BitIn, OctetIn, Part, TextFault};
+use gaggle_codes::{NumberRange, take_values};
+
+// Numbers of a block; its DC is the first.
+const BLOCK: usize = 64;
+
+// Each DC becomes 0.
+fn clear(blocks: &mut [i32])
+    ensures { SetsDcs zero_dc blocks.old blocks.new }
+{
+    for block in 0..blocks.len().div_ceil(BLOCK) {
+        blocks[block * BLOCK] = 0;
+    }
+}
+
+// A power of two.
+fn power(shift: u8) -> i32
+    requires { shift ≤ 27 }
+    ensures { result ≡ pos (2 ^ shift) }
+{
+    1 << shift
+}
+
+// A bit times what it counts.
+fn weighed(bit: u32, weight: i32) -> i32
+    requires { bit < 2 }
+    ensures { result ≡ pos bit *ℤ weight }
+{
+    if bit == 1 { weight } else { 0 }
+}
+
+// One bit of each block, which counts so much in its DC.
+fn take_bits<I: OctetIn>(
+    input: &mut BitIn<I>,
+    blocks: &mut [i32],
+    weight: i32,
+) -> Result<Part, TextFault>
+    requires open { IsIn (coming input.old) }
+    requires room { HasRoom weight blocks.old }
+    ensures { TakesBits I.source weight result (coming input.old) (coming input.new) blocks.old blocks.new }
+{
+    for block in 0..blocks.len().div_ceil(BLOCK) {
+        let Some(bit) = input.take_bits(1)? else {
+            return Ok(Part::Ended);
+        };
+        blocks[block * BLOCK] += weighed(bit, weight);
+    }
+    Ok(Part::Whole)
+}
+
+// The numbers of the DCs.
+fn take_high<I: OctetIn>(
+    input: &mut BitIn<I>,
+    blocks: &mut [i32],
+    plan: &DcPlan,
+) -> Result<Part, TextFault>
+    requires open { IsIn (coming input.old) }
+    requires dc { plan.now.depth_dc ≤ 28 }
+    requires shift { plan.now.shift ≤ 3 }
+    requires few { div_ceil (length blocks.old) 64 < 2 ^ 20 }
+    ensures { TakesHigh I.source (dc_bits plan.now.depth_dc plan.now.depth_ac plan.now.shift) (dc_q plan.now.depth_dc plan.now.depth_ac plan.now.shift)
+        result (coming input.old) (coming input.new) blocks.old blocks.new }
+{
+    let bits = plan.bits();
+    if bits == 1 {
+        clear(blocks);
+        return take_bits(input, blocks, -power(plan.q()));
+    }
+    let range = NumberRange { signed: true, bits };
+    let (part, _) = take_values(input, blocks, BLOCK, plan.q(), range)?;
+    Ok(part)
+}
+
+// The DC bit planes, from the highest down.
+fn take_planes<I: OctetIn>(
+    input: &mut BitIn<I>,
+    blocks: &mut [i32],
+    plan: &DcPlan,
+) -> Result<Part, TextFault>
+    requires open { IsIn (coming input.old) }
+    requires dc { plan.now.depth_dc ≤ 28 }
+    requires shift { plan.now.shift ≤ 3 }
+    requires room { HasRoom (pos 1073741824) blocks.old }
+    ensures { TakesPlanes I.source (dc_q plan.now.depth_dc plan.now.depth_ac plan.now.shift) (dc_planes plan.now.depth_dc plan.now.depth_ac plan.now.shift)
+        result (coming input.old) (coming input.new) blocks.old blocks.new }
+{
+    let last = plan.depth_ac.max(plan.shift);
+    let mut plane = plan.q();
+    while plane > last {
+        plane -= 1;
+        let Part::Whole = take_bits(input, blocks, power(plane))? else {
+            return Ok(Part::Ended);
+        };
+    }
+    Ok(Part::Whole)
+}
+
+/// Takes the DC part of a segment: the numbers of its blocks' DCs, then their bit planes down to the depth of AC
+/// (docs/formats.md, "DC part and block depths"). A block is 64 numbers, of which the first becomes its DC, and the
+/// others stay: the number that is given times 2^q and the low bits that are given, and 0 where no number is. The
+/// answer tells whether all items stood in the text.
+///
+/// `depth_dc` is at most 28, `shift` at most 3, and there are fewer than 2^20 blocks.
+///
+/// # Errors
+///
+/// `BadOption` and `BadDelta` at the first item that is refused, and the faults of the input. The DCs have what is
+/// given then too.
+pub fn take_dc<I: OctetIn>(
+    input: &mut BitIn<I>,
+    blocks: &mut [i32],
+    plan: &DcPlan,
+) -> Result<Part, TextFault>
+    requires open { IsIn (coming input.old) }
+    requires dc { plan.now.depth_dc ≤ 28 }
+    requires shift { plan.now.shift ≤ 3 }
+    requires few { div_ceil (length blocks.old) 64 < 2 ^ 20 }
+    ensures { TakesDc I.source plan.now.depth_dc plan.now.depth_ac plan.now.shift result (coming input.old) (coming input.new) blocks.old blocks.new }
+{
+    let Part::Whole = take_high(input, blocks, plan)? else {
+        return Ok(Part::Ended);
+    };
+    take_planes(input, blocks, plan)
+}
