@@ -28,6 +28,7 @@ use Rattle.text_defs.proofs.NumbersChoice.{left_at, right_at}
 use Rattle.text_defs.proofs.ValueChoice.{MaySay, may_same}
 use Rattle.text_defs.proofs.OptionsRead.{numbers_further}
 use Rattle.text_defs.proofs.Choices.{Chooses, choose_left, choose_right, further_from}
+use Rattle.text_defs.proofs.DcChoice.{choose_as, first_are}
 
 -- ---- the depths
 
@@ -76,9 +77,6 @@ Items depth_ac t z es u = cond t [] (cond z (map raw es) (number_items (depth_ki
 items_are : (depth_ac : ℕ) (t z : Bool) (es : List ℕ) (u : ℕ → ℕ) → eqb depth_ac 0 ≡ t → eqb depth_ac 1 ≡ z → depth_items depth_ac es u ≡ Items depth_ac t z es u
 unfolding depth_items
 items_are depth_ac t z es u e f = ap (λ t. Items depth_ac t (eqb depth_ac 1) es u) e ∙ ap (λ z. Items depth_ac t z es u) f
-
-choose_as : (k said : ℕ) (is js is' js' : List Item) → is ≡ is' → js ≡ js' → Chooses k said is' js' → Chooses k said is js
-choose_as k said is js is' js' p q c = subst (λ x. Chooses k said x js) (sym p) (subst (λ x. Chooses k said is' x) (sym q) c)
 
 any_depths : (depth_ac : ℕ) (ds : List ℕ) (o : ℕ → ℕ) (k said : ℕ) → depth_ac ≤ 27 → AreFew (depth_bits depth_ac) ds → 0 < length ds → AreItems (take k (depth_items depth_ac ds o)) → k < length (depth_items depth_ac ds o) →
     MaySay (item_at (depth_items depth_ac ds o) k) said → DepthsChosen depth_ac ds o k said
@@ -166,11 +164,6 @@ blank_spellable head xs ds es p long few = record {
     row = sym (length-map (span 0 63) (λ i. i)) ∙ length-map-span (λ i. i) 63
 
 -- ---- one item further
-
-first_are : (k : ℕ) (is js : List Item) → AreItems (take k (is ++ js)) → AreItems (take k is)
-first_are zero is js all = tt
-first_are (suc k) [] js all = tt
-first_are (suc k) (i ∷ is) js all = (all.0, first_are k is js all.1)
 
 segments_are : (head : SegmentHead) (blocks : List (List ℤ)) (depths : List ℕ) (options : Options) → head.stop.dc ≡ false →
     segment_items head blocks depths options ≡ dc_part_items head blocks options ++ (depth_items head.depth_ac depths options.depths ++ planes_items head blocks depths options head.depth_ac)

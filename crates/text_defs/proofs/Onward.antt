@@ -21,7 +21,7 @@ use Rattle.segment_defs.specs.SegmentItems.{Options, dc_shift, segment_items}
 use Rattle.text_defs.specs.Spellable.{IsSpellable}
 use Rattle.text_defs.specs.Given.{given_blocks}
 use Rattle.text_defs.specs.Outcomes.{Reading, Holds, Refused, SegmentRefusal, at_item, short_segment, overlong, length_of, bits_read, expected_length}
-use Rattle.text_defs.specs.Open.{GoesFurther, HasOutcome}
+use Rattle.text_defs.specs.Laws.{GoesFurther, HasOutcome}
 use Rattle.text_defs.proofs.LongItems.{long_at, segment_items_long}
 
 -- ---- a spelling stands next, or none does

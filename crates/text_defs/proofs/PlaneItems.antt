@@ -116,7 +116,7 @@ flat_items : {X : Type 0} (f : X → List Item) → ((x : X) → AreItems (f x))
 flat_items f all [] = tt
 flat_items f all (x ∷ xs) = are_append (f x) (flat_map f xs) (all x) (flat_items f all xs)
 
-flat_allowed : {X : Type 0} (f : X → List Step) → ((x : X) → AllByRecursion IsAllowed (f x)) → (xs : List X) → AllByRecursion IsAllowed (flat_map f xs)
+pub flat_allowed : {X : Type 0} (f : X → List Step) → ((x : X) → AllByRecursion IsAllowed (f x)) → (xs : List X) → AllByRecursion IsAllowed (flat_map f xs)
 flat_allowed f all [] = tt
 flat_allowed f all (x ∷ xs) = all_append IsAllowed (f x) (flat_map f xs) (all x) (flat_allowed f all xs)
 

@@ -1,7 +1,7 @@
 -- The laws that the definitions keep.
-use Rattle.std.specs.Prelude.{◌≡◌, ◌<◌, ◌≤◌, ℕ, ℤ, List, length, take, Bool, false}
+use Rattle.std.specs.Prelude.{◌≡◌, ◌⊎◌, ◌<◌, ◌≤◌, ℕ, suc, ℤ, None, List, ◌++◌, length, take, Bool, false}
 use lib.ListN.{get_or}
-use Rattle.item_defs.specs.Items.{Refusal}
+use Rattle.item_defs.specs.Items.{Refusal, IsSaid, spelling}
 use Rattle.item_defs.specs.Laws.{said_of}
 use Rattle.item_defs.specs.Readings.{item_at}
 use Rattle.segment_defs.specs.declared.head.SegmentHead.{SegmentHead}
@@ -44,3 +44,14 @@ abbrev pub AllGiven : Type 0
 AllGiven = (head : SegmentHead) (blocks : List (List ℤ)) (depths : List ℕ) (options : Options) → IsHead head → IsSpellable head blocks depths →
     head.stop.dc ≡ false → head.stop.plane ≡ 0 → head.stop.stage ≡ 3 → ((r : ℕ) → r < length depths → get_or depths r 0 ≤ head.depth_ac) →
     given_blocks head blocks depths options (length (segment_items head blocks depths options)) ≡ blocks
+
+-- An item that follows and isn't refused is the next one of some reading: a form refuses just what no values complete.
+abbrev pub GoesFurther : Type 0
+GoesFurther = (head : SegmentHead) (rest : List ℕ) (m : ℕ) (xs : List (List ℤ)) (ds : List ℕ) (o : Options) (more after : List Bool) (said : ℕ) → IsHead head →
+    Reading head rest xs ds o m more → m < length (segment_items head xs ds o) → IsSaid (item_at (segment_items head xs ds o) m).form.shape said →
+    (item_at (segment_items head xs ds o) m).form.refusal said ≡ None → more ≡ spelling (item_at (segment_items head xs ds o) m).form.shape said ++ after →
+    (ys : List (List ℤ)) × (es : List ℕ) × (u : Options) × Reading head rest ys es u (suc m) after
+
+-- So each text holds something or is refused.
+abbrev pub HasOutcome : Type 0
+HasOutcome = (head : SegmentHead) (rest : List ℕ) → IsHead head → ((w : List (List ℤ)) × Holds head rest w) ⊎ ((name : SegmentRefusal) × Refused head rest name)

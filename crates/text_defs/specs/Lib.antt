@@ -4,4 +4,3 @@ pub mod Given
 pub mod Outcomes
 pub mod Agreement
 pub mod Laws
-pub mod Open

@@ -1,8 +1,8 @@
 //! Definitions of what a segment's text holds: the values that it may spell, its readings, and the name by which it is
-//! refused; with the laws that a text is read in one way and has one outcome.
+//! refused; with the laws that a text is read in one way and has just one outcome.
 #![tactic(auto)]
 
-ghost use Rattle.text_defs.specs.Laws.{StepLaw, OutcomesExclude, SameGiven, AllGiven};
+ghost use Rattle.text_defs.specs.Laws.{StepLaw, OutcomesExclude, SameGiven, AllGiven, GoesFurther, HasOutcome};
 
 /// Two readings of as many items of one text say the same, and go on alike.
 pub const fn readings_agree()
@@ -12,6 +12,16 @@ pub const fn readings_agree()
 /// A text that holds something isn't refused, and one that is refused has one name.
 pub const fn outcomes_exclude()
     ensures { OutcomesExclude }
+{}
+
+/// An item that follows and isn't refused is the next one of some reading.
+pub const fn readings_go_further()
+    ensures { GoesFurther }
+{}
+
+/// Each text that begins with a head's octets holds something or is refused.
+pub const fn texts_have_outcomes()
+    ensures { HasOutcome }
 {}
 
 /// Two readings of as many items give the same numbers, so a text holds one list of blocks.

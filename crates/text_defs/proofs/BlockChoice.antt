@@ -1,0 +1,99 @@
+-- A block with another entry in one step of a plane: what it keeps.
+use Rattle.std.proofs.Common.{◌≡◌, ℕ, ◌+◌, ◌-◌, ◌*◌, ◌/◌, ◌%◌, ◌^◌, ◌<◌, ◌≤◌, min, inl, inr, Bool, true, false, List, length, refl, ap, sym, ◌∙◌, subst, arith, ℤ, pos, get_or}
+use Rattle.std.specs.Prelude.{nat_le, ◌==◌}
+use Rattle.std.specs.Int.{int_shr}
+use Rattle.std.proofs.lemmas.Bool.{cases_lt}
+use Rattle.std.proofs.lemmas.Bool.Decides.{nat_tests}
+use Rattle.std.proofs.lemmas.Nat.{pow_pos, shr-shr, div-mul-add, div-add-mod', mod_below}
+use Rattle.std.proofs.Math.Pow.{pow_mono}
+use Rattle.number_defs.specs.Ranges.{complement}
+use Rattle.plane_defs.specs.declared.entries.Entry.{Entry}
+use Rattle.plane_defs.specs.Sets.{magnitude, significant}
+use Rattle.plane_defs.specs.Laws.{IsMultiple}
+use Rattle.plane_defs.specs.Entries.{negative, stage_number, block_entries}
+use Rattle.plane_defs.specs.Steps.{block_steps}
+use Rattle.plane_defs.specs.StepLaws.{IsAc, SameAc, SeenAlike}
+use Rattle.text_defs.proofs.FlatChoice.{EntriesChoose, step_at}
+use Rattle.text_defs.proofs.EntrySpot.{Replaces}
+use Rattle.text_defs.proofs.LowBits.{twos}
+
+-- the AC numbers above a plane are the same
+pub record AboveSame (u v : List ℤ) (b : ℕ) : Type 0 where
+  pub mags : (p : ℕ) → IsAc p → magnitude u p / 2 ^ (b + 1) ≡ magnitude v p / 2 ^ (b + 1)
+  pub signs : (p : ℕ) → IsAc p → significant u (b + 1) p ≡ true → negative (get_or u p (pos 0)) ≡ negative (get_or v p (pos 0))
+
+pub record BlockChosen (u : List ℤ) (d : ℕ) (weights : List ℕ) (b q k j : ℕ) (e : Entry) : Type 0 where
+  pub v : List ℤ
+  pub whole : length v ≡ 64
+  pub multiple : IsMultiple v weights
+  pub below : (p : ℕ) → 1 ≤ p → magnitude v p < 2 ^ d
+  pub dc : (c : ℕ) → min (b + 1) q ≤ c → int_shr (get_or v 0 (pos 0)) c ≡ int_shr (get_or u 0 (pos 0)) c
+  pub above : AboveSame u v b
+  pub before : (i : ℕ) → i < k → block_entries (stage_number i) u d weights b q ≡ block_entries (stage_number i) v d weights b q
+  pub here : EntriesChoose j e (block_entries (stage_number k) u d weights b q) (block_entries (stage_number k) v d weights b q)
+
+-- the block of a stage's step may have any entry there that isn't refused
+abbrev pub MayChoose : ℕ → Type 0
+MayChoose k = (u : List ℤ) (d : ℕ) (weights : List ℕ) (b q j : ℕ) (e : Entry) → length u ≡ 64 → IsMultiple u weights → ((p : ℕ) → 1 ≤ p → magnitude u p < 2 ^ d) → j < length (block_steps (stage_number k) u d weights b q) →
+    Replaces (step_at (block_steps (stage_number k) u d weights b q) j).check (step_at (block_steps (stage_number k) u d weights b q) j).entry e → BlockChosen u d weights b q k j e
+
+-- ---- above the plane
+
+reaches : (w m n : ℕ) → 1 ≤ w → m / w ≡ n / w → w ≤ m → w ≤ n
+reaches w m n some e le =
+    elim (cases_lt n w) [
+      | inr over ↦ over
+      | inl under ↦
+          let none : (0 * w + n) / w ≡ 0 = div-mul-add 0 w n under in
+          let z : 0 * w + n ≡ n = omega arith in
+          let f : m / w ≡ 0 = e ∙ sym (ap (λ x. x / w) z) ∙ none in
+          let split : m / w * w + m % w ≡ m = div-add-mod' m w in
+          absurd (less (m / w) (m % w) f split (below m))
+    ]
+  where
+    below : (m : ℕ) → m % w < w
+    below m = mod_below m w some
+
+    less : (q r : ℕ) → q ≡ 0 → q * w + r ≡ m → r < w → ⊥
+    less q r z e lt = let f : q * w ≡ 0 = ap (λ x. x * w) z ∙ omega arith in omega (arith, e, f, lt, le)
+
+same_test : (w m n : ℕ) → 1 ≤ w → m / w ≡ n / w → nat_le w m ≡ nat_le w n
+same_test w m n some e = by_test (nat_le w m) (nat_le w n) refl refl
+  where
+    by_test : (s t : Bool) → nat_le w m ≡ s → nat_le w n ≡ t → nat_le w m ≡ nat_le w n
+    by_test true true a b = a ∙ sym b
+    by_test false false a b = a ∙ sym b
+    by_test true false a b = let le : w ≤ m = grind (arith, nat_tests) in let r = reaches w m n some e le in absurd (refused w n b r)
+      where
+        refused : (w n : ℕ) → nat_le w n ≡ false → w ≤ n → ⊥
+        refused w n b le = grind (arith, nat_tests)
+    by_test false true a b = let le : w ≤ n = grind (arith, nat_tests) in let r = reaches w n m some (sym e) le in absurd (refused w m a r)
+      where
+        refused : (w n : ℕ) → nat_le w n ≡ false → w ≤ n → ⊥
+        refused w n b le = grind (arith, nat_tests)
+
+higher : (m n a c : ℕ) → a ≤ c → m / 2 ^ a ≡ n / 2 ^ a → m / 2 ^ c ≡ n / 2 ^ c
+higher m n a c le e =
+    let z : a + (c - a) ≡ c = omega arith in
+    subst (λ k. m / 2 ^ k ≡ n / 2 ^ k) z (sym (shr-shr m a (c - a)) ∙ ap (λ x. x / 2 ^ (c - a)) e ∙ shr-shr n a (c - a))
+
+module _ (u v : List ℤ) (b : ℕ) (same : AboveSame u v b) where
+  pub acs_above : (c : ℕ) → b < c → SameAc u v c
+  unfolding significant
+  acs_above c lt p ac = same_test (2 ^ c) (magnitude u p) (magnitude v p) (pow_pos c) (higher (magnitude u p) (magnitude v p) (b + 1) c (omega (arith, lt)) (same.mags p ac))
+
+  lower : (c p : ℕ) → b < c → significant u c p ≡ true → significant u (b + 1) p ≡ true
+  unfolding significant
+  lower c p lt e = let m : 2 ^ (b + 1) ≤ 2 ^ c = pow_mono (omega (arith, lt)) in still (2 ^ (b + 1)) (2 ^ c) (magnitude u p) m e
+    where
+      still : (x y m : ℕ) → x ≤ y → nat_le y m ≡ true → nat_le x m ≡ true
+      still x y m le e = grind (arith, nat_tests)
+
+  pub seen_above : (weights : List ℕ) (c : ℕ) → b < c → IsMultiple u weights → IsMultiple v weights → int_shr (get_or u 0 (pos 0)) c ≡ int_shr (get_or v 0 (pos 0)) c → SeenAlike u v weights c
+  seen_above weights c lt first second dc = record {
+    alike = record { above = acs_above (c + 1) (omega (arith, lt)); first = first; second = second };
+    here = acs_above c lt;
+    signs = λ p ac e. same.signs p ac (lower c p lt e);
+    bits = λ p ac e. ap (λ x. x % 2 == 1) (higher (magnitude u p) (magnitude v p) (b + 1) c (omega (arith, lt)) (same.mags p ac));
+    dc = twos (get_or u 0 (pos 0)) c ∙ ap (λ z. complement 1 z == 1) dc ∙ sym (twos (get_or v 0 (pos 0)) c);
+  }

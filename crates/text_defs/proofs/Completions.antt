@@ -1,0 +1,109 @@
+-- Two completions of the same numbers: what a plane sees alike in both.
+use Rattle.std.proofs.Common.{◌≡◌, ℕ, ◌+◌, ◌-◌, ◌^◌, ◌<◌, ◌≤◌, Bool, true, false, not, ◌&&◌, cond, List, refl, ap, sym, ◌∙◌, ℤ, pos, negsuc, get_or}
+use Rattle.std.specs.Prelude.{nat_le, ◌||◌, unsigned_abs}
+use Rattle.std.specs.List.{list_any}
+use Rattle.plane_defs.specs.declared.sets.Set.{Set}
+use Rattle.plane_defs.specs.Spans.{span}
+use Rattle.plane_defs.specs.Sets.{significant, coded, members, set_significant, enclosing_significant, type_due, IsKnown}
+use Rattle.plane_defs.specs.Entries.{negative}
+use Rattle.plane_defs.specs.Steps.{is_new}
+use Rattle.plane_defs.specs.StepLaws.{IsAc, AcsAlike}
+use Rattle.plane_defs.specs.Completed.{completed, completed_number, MayComplete}
+use Rattle.plane_defs.proofs.Above.{any_alike, all_span, set_above}
+use Rattle.plane_defs.proofs.SpanLists.{get_or-map-span}
+use Rattle.plane_defs.proofs.Determined.{enclosed}
+use Rattle.plane_defs.proofs.Completing.{completes}
+use Rattle.text_defs.proofs.StageParts.{SeenAt}
+
+pub significant_same : (u v : List ℤ) (plane p : ℕ) → get_or u p (pos 0) ≡ get_or v p (pos 0) → significant u plane p ≡ significant v plane p
+unfolding significant
+significant_same u v plane p e = ap (λ z. nat_le (2 ^ plane) (unsigned_abs z)) e
+
+-- ---- one completion
+
+module _ (w : List ℤ) (weights : List ℕ) (b : ℕ) (chosen minus : ℕ → Bool) (may : MayComplete w weights b chosen) where
+  abbrev done : List ℤ
+  done = completed w b chosen minus
+
+  pub number_at : (p : ℕ) → p < 64 → get_or done p (pos 0) ≡ completed_number w b chosen minus p
+  unfolding completed
+  number_at p lt = get_or-map-span (completed_number w b chosen minus) 64 p (pos 0) lt
+
+  pub sign_at : (p : ℕ) → p < 64 → chosen p ≡ true → negative (get_or done p (pos 0)) ≡ minus p
+  sign_at p lt e = ap negative (number_at p lt ∙ ap (λ t. cond t (cond (minus p) (negsuc (2 ^ b - 1)) (pos (2 ^ b))) (get_or w p (pos 0))) e) ∙ by_sign (minus p)
+    where
+      by_sign : (t : Bool) → negative (cond t (negsuc (2 ^ b - 1)) (pos (2 ^ b))) ≡ t
+      by_sign true = refl
+      by_sign false = refl
+
+  -- the types that are due are those of the numbers below
+  pub due_is : (p : ℕ) → IsAc p → type_due done weights b p ≡ type_due w weights b p
+  unfolding type_due
+  due_is p ac = ap (λ t. not t && coded weights b p) ((completes w weights b chosen minus may).above p ac)
+
+  pub here_is : (p : ℕ) → IsAc p → significant done b p ≡ (significant w (b + 1) p || chosen p)
+  here_is p ac = (completes w weights b chosen minus may).here p ac
+
+  from_below : AcsAlike w done weights b
+  from_below = record { above = λ p ac. sym ((completes w weights b chosen minus may).above p ac); first = may.multiple; second = (completes w weights b chosen minus may).multiple }
+
+  pub set_above_is : (s : Set) → IsKnown s → set_significant done (b + 1) s ≡ set_significant w (b + 1) s
+  set_above_is s known = sym (set_above w done weights b from_below s known)
+
+  pub set_is : (s : Set) → IsKnown s → set_significant done b s ≡ (set_significant w (b + 1) s || list_any chosen (members s))
+  set_is s known = (completes w weights b chosen minus may).sets s known
+
+  -- a set that was significant above stays so
+  pub set_stays : (s : Set) → IsKnown s → set_significant w (b + 1) s ≡ true → set_significant done b s ≡ true
+  set_stays s known e = set_is s known ∙ ap (λ t. t || list_any chosen (members s)) e
+
+  -- a set that wasn't is new where it is significant
+  pub is_new_here : (s : Set) → IsKnown s → set_significant w (b + 1) s ≡ false → set_significant done b s ≡ true → is_new done b s ≡ true
+  unfolding is_new
+  is_new_here s known none e = ap (λ t. t && not (set_significant done (b + 1) s)) e ∙ ap not (set_above_is s known ∙ none)
+
+  pub any_here : (s : Set) (start count : ℕ) → ((f : ℕ → Bool) → list_any f (span start count) ≡ true → list_any f (members s) ≡ true) → list_any (significant done b) (span start count) ≡ true → set_significant done b s ≡ true
+  unfolding set_significant
+  any_here s start count inside e = inside (significant done b) e
+
+  pub encloses : (s : Set) → IsKnown s → set_significant done b s ≡ true → enclosing_significant done b s ≡ true
+  encloses s known e = enclosed done b s known e
+
+-- ---- two of them
+
+module _ (w : List ℤ) (weights : List ℕ) (b : ℕ) (chosen minus chosen' minus' : ℕ → Bool) (may : MayComplete w weights b chosen) (may' : MayComplete w weights b chosen') where
+  abbrev first : List ℤ
+  first = completed w b chosen minus
+
+  abbrev second : List ℤ
+  second = completed w b chosen' minus'
+
+  pub alike : AcsAlike first second weights b
+  alike =
+      let r = completes w weights b chosen minus may in
+      let s = completes w weights b chosen' minus' may' in
+      record { above = λ p ac. r.above p ac ∙ sym (s.above p ac); first = r.multiple; second = s.multiple }
+
+  -- a number that is chosen in both, with the same sign, or in neither
+  abbrev pub Same : ℕ → Type 0
+  Same p = (chosen p ≡ chosen' p) × (minus p ≡ minus' p)
+
+  pub seen_same : (p : ℕ) → IsAc p → Same p → SeenAt first second b p
+  seen_same p ac same =
+      let e : get_or first p (pos 0) ≡ get_or second p (pos 0) =
+      number_at w weights b chosen minus may p ac.1
+      ∙ ap (λ t. cond t (cond (minus p) (negsuc (2 ^ b - 1)) (pos (2 ^ b))) (get_or w p (pos 0))) same.0
+      ∙ ap (λ t. cond (chosen' p) (cond t (negsuc (2 ^ b - 1)) (pos (2 ^ b))) (get_or w p (pos 0))) same.1
+      ∙ sym (number_at w weights b chosen' minus' may' p ac.1) in
+      record { here = significant_same first second b p e; sign = λ s. ap negative e }
+
+  pub set_same : (s : Set) → IsKnown s → list_any chosen (members s) ≡ list_any chosen' (members s) → set_significant first b s ≡ set_significant second b s
+  set_same s known e = set_is w weights b chosen minus may s known ∙ ap (λ t. set_significant w (b + 1) s || t) e ∙ sym (set_is w weights b chosen' minus' may' s known)
+
+  -- those of a range of positions
+  pub range_same : (start count : ℕ) → ((p : ℕ) → start ≤ p → p < start + count → chosen p ≡ chosen' p) → list_any chosen (span start count) ≡ list_any chosen' (span start count)
+  range_same start count same = any_alike chosen chosen' (span start count) (all_span (λ p. (start ≤ p) × (p < start + count)) start count (λ p low high. (low, high))) (λ p h. same p h.0 h.1)
+
+  -- a set that encloses a significant one is the same in both
+  pub both_true : (s : Set) → set_significant first b s ≡ true → set_significant second b s ≡ true → set_significant first b s ≡ set_significant second b s
+  both_true s e f = e ∙ sym f

@@ -1,0 +1,83 @@
+-- The DC's bit in a plane may be chosen.
+use Rattle.std.proofs.Common.{◌≡◌, ℕ, zero, suc, ◌+◌, ◌*◌, ◌/◌, ◌^◌, ◌<◌, ◌≤◌, Bool, true, false, ◌&&◌, cond, List, [], ◌∷◌, length, set, refl, ap, sym, ◌∙◌, subst, arith, ℤ, pos, get_or, length-set}
+use Rattle.std.specs.Prelude.{◌==◌, nat_lt, unsigned_abs}
+use Rattle.std.specs.Int.{int_shr}
+use Rattle.std.proofs.lemmas.List.{get_or-set_same, get_or-set_other}
+use Rattle.item_defs.specs.Bits.{digit}
+use Rattle.plane_defs.specs.declared.entries.Entry.{Entry}
+use Rattle.plane_defs.specs.declared.entries.Entry.TheVariants.{Bit, Word}
+use Rattle.plane_defs.specs.Sets.{magnitude, coded, shift}
+use Rattle.plane_defs.specs.Laws.{IsMultiple}
+use Rattle.plane_defs.specs.Entries.{negative, twos_bit, block_entries}
+use Rattle.plane_defs.specs.Steps.{Step, step, free, bit_at, block_steps}
+use Rattle.text_defs.proofs.LowBits.{twos}
+use Rattle.text_defs.proofs.DcShifts.{with_bit, bit_chosen, bit_above, bit_times, IsTimes}
+use Rattle.text_defs.proofs.FlatChoice.{EntriesChoose, step_at}
+use Rattle.text_defs.proofs.EntrySpot.{Replaces}
+use Rattle.text_defs.proofs.BlockChoice.{BlockChosen, MayChoose}
+use Rattle.text_defs.proofs.SmallFacts.{le_from, lt_from, equal_from, unequal, both}
+
+pub digit_small : (x : Bool) → digit x < 2
+digit_small true = omega arith
+digit_small false = omega arith
+
+pub digit_back : (x : Bool) → (digit x == 1) ≡ x
+digit_back true = refl
+digit_back false = refl
+
+pub shift_low : (weights : List ℕ) (b p : ℕ) → coded weights b p ≡ true → shift weights p ≤ b
+unfolding coded
+shift_low weights b p e = le_from (shift weights p) b e
+
+-- a multiple stays one where a number is another
+pub set_multiple : (u : List ℤ) (weights : List ℕ) (p : ℕ) (z : ℤ) → IsMultiple u weights → p < length u → IsTimes (shift weights p) z → IsMultiple (set u p z) weights
+set_multiple u weights p z m lt times = record { part = λ n. cond (n == p) times.0 (m.part n); whole = λ n. by_place n (n == p) refl }
+  where
+    by_place : (n : ℕ) (t : Bool) → (n == p) ≡ t → magnitude (set u p z) n ≡ 2 ^ shift weights n * cond (n == p) times.0 (m.part n)
+    by_place n true e =
+        let same = equal_from n p e in
+        ap (λ k. magnitude (set u p z) k) same ∙ ap unsigned_abs (get_or-set_same u p z (pos 0) lt) ∙ times.1 ∙ ap (λ k. 2 ^ shift weights k * times.0) (sym same) ∙ ap (λ t. 2 ^ shift weights n * cond t times.0 (m.part n)) (sym e)
+    by_place n false e = ap unsigned_abs (get_or-set_other u p n z (pos 0) (unequal n p e)) ∙ m.whole n ∙ ap (λ t. 2 ^ shift weights n * cond t times.0 (m.part n)) (sym e)
+
+abbrev Sent : Bool → ℤ → ℕ → List Step
+Sent t z b = cond t (step free (bit_at 0) (Bit (twos_bit z b)) ∷ []) []
+
+abbrev SentEntries : Bool → ℤ → ℕ → List Entry
+SentEntries t z b = cond t (Bit (twos_bit z b) ∷ []) []
+
+pub dc_bit_choice : MayChoose 0
+unfolding block_steps block_entries
+dc_bit_choice u d weights b q j e long m below lt replaces = by_sent (coded weights b 0 && nat_lt b q) refl lt replaces
+  where
+    chosen : (j : ℕ) (e : Entry) → (coded weights b 0 && nat_lt b q) ≡ true → j < 1 → Replaces (step_at (Sent true (get_or u 0 (pos 0)) b) j).check (step_at (Sent true (get_or u 0 (pos 0)) b) j).entry e → BlockChosen u d weights b q 0 j e
+    chosen (suc j) e sent lt r = absurd (omega (arith, lt))
+    chosen zero (Word bits) sent lt r = absurd r.kind
+    chosen zero (Bit x) sent lt r =
+        let parts = both _ _ sent in
+        let low : shift weights 0 ≤ b = shift_low weights b 0 parts.0 in
+        let deep : b < q = lt_from b q parts.1 in
+        let old : ℤ = get_or u 0 (pos 0) in
+        let z : ℤ = with_bit old b (digit x) in
+        let small : digit x < 2 = digit_small x in
+        let inside : 0 < length u = omega (arith, long) in
+        let v : List ℤ = set u 0 z in
+        let new : get_or v 0 (pos 0) ≡ z = get_or-set_same u 0 z (pos 0) inside in
+        let other : (p : ℕ) → 1 ≤ p → get_or v p (pos 0) ≡ get_or u p (pos 0) = λ p some. get_or-set_other u 0 p z (pos 0) (λ e. omega (arith, e, some)) in
+        let says : twos_bit (get_or v 0 (pos 0)) b ≡ x =
+        ap (λ y. twos_bit y b) new ∙ twos z b ∙ ap (λ n. n == 1) (bit_chosen old b (digit x) small) ∙ digit_back x in
+        record {
+          v = v;
+          whole = length-set u 0 z ∙ long;
+          multiple = set_multiple u weights 0 z m inside (bit_times old b (digit x) (shift weights 0) low);
+          below = λ p some. subst (λ y. unsigned_abs y < 2 ^ d) (sym (other p some)) (below p some);
+          dc = λ c le. ap (λ y. int_shr y c) new ∙ bit_above old b (digit x) c small (omega (arith, le, deep));
+          above = record { mags = λ p ac. ap (λ y. unsigned_abs y / 2 ^ (b + 1)) (sym (other p ac.0)); signs = λ p ac e. ap negative (sym (other p ac.0)) };
+          before = λ i none. absurd (omega arith);
+          here =
+              subst (λ t. EntriesChoose 0 (Bit x) (SentEntries t old b) (SentEntries t (get_or v 0 (pos 0)) b)) (sym sent)
+              (record { within = omega arith; before = refl; next = ap Bit says });
+        }
+
+    by_sent : (t : Bool) → (coded weights b 0 && nat_lt b q) ≡ t → j < length (Sent t (get_or u 0 (pos 0)) b) → Replaces (step_at (Sent t (get_or u 0 (pos 0)) b) j).check (step_at (Sent t (get_or u 0 (pos 0)) b) j).entry e → BlockChosen u d weights b q 0 j e
+    by_sent false h lt r = absurd (omega (arith, lt))
+    by_sent true h lt r = chosen j e h lt r

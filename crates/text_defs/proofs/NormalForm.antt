@@ -1,0 +1,289 @@
+-- A block as a plane sees it: the numbers that were significant above it, and those that it makes significant.
+use Rattle.std.proofs.Common.{◌≡◌, ℕ, suc, ◌+◌, ◌-◌, ◌*◌, ◌/◌, ◌^◌, ◌<◌, ◌≤◌, inl, inr, Bool, true, false, not, ◌&&◌, cond, eqb, List, length, refl, ap, sym, ◌∙◌, subst, arith, ℤ, pos, negsuc, get_or}
+use Rattle.std.specs.Prelude.{nat_le, nat_lt, ◌||◌, unsigned_abs, map}
+use Rattle.std.specs.Int.{int_shr}
+use Rattle.std.proofs.lemmas.Bool.{cases_lt}
+use Rattle.std.proofs.lemmas.Bool.Decides.{nat_tests}
+use Rattle.std.proofs.lemmas.List.{get_or_past}
+use Rattle.std.proofs.lemmas.Nat.{pow_pos, div-mul-add}
+use Rattle.std.proofs.Math.Nat.{pow-succ'}
+use Rattle.item_defs.specs.Bits.{bit}
+use Rattle.plane_defs.specs.declared.entries.Entry.{Entry}
+use Rattle.plane_defs.specs.declared.stages.Stage.{Stage}
+use Rattle.plane_defs.specs.Spans.{span}
+use Rattle.plane_defs.specs.Sets.{magnitude, significant, coded, shift, type_due}
+use Rattle.plane_defs.specs.Laws.{IsMultiple}
+use Rattle.plane_defs.specs.Entries.{negative, twos_bit, stage_number, block_entries}
+use Rattle.plane_defs.specs.Steps.{block_steps}
+use Rattle.plane_defs.specs.StepLaws.{entries_of, IsAc, SeenAlike}
+use Rattle.plane_defs.specs.Completed.{completed, completed_number, MayComplete}
+use Rattle.plane_defs.proofs.SpanLists.{length-map-span, get_or-map-span}
+use Rattle.plane_defs.proofs.Determined.{not_coded, still_significant}
+use Rattle.plane_defs.proofs.Completing.{completes, due_above}
+use Rattle.plane_defs.proofs.ReadingTexts.{steps_entries}
+use Rattle.plane_defs.proofs.Seen.{steps_seen}
+use Rattle.text_defs.proofs.FlatChoice.{EntriesChoose, entries_as}
+use Rattle.text_defs.proofs.BlockChoice.{AboveSame, BlockChosen}
+use Rattle.text_defs.proofs.SmallFacts.{le_from, lt_from, le_to, lt_to, true_false, both}
+use Rattle.text_defs.proofs.Completions.{significant_same}
+
+not_true : (a : Bool) → not a ≡ true → a ≡ false
+not_true true e = true_false (sym e)
+not_true false e = refl
+
+insignificant_zero : (block : List ℤ) (plane p : ℕ) → get_or block p (pos 0) ≡ pos 0 → significant block plane p ≡ false
+unfolding significant
+insignificant_zero block plane p e = ap (λ z. nat_le (2 ^ plane) (unsigned_abs z)) e ∙ none (2 ^ plane) (pow_pos plane)
+  where
+    none : (w : ℕ) → 1 ≤ w → nat_le w 0 ≡ false
+    none w some = grind (arith, nat_tests)
+
+small_from : (block : List ℤ) (plane p : ℕ) → significant block plane p ≡ false → magnitude block p < 2 ^ plane
+unfolding significant
+small_from block plane p e = below (2 ^ plane) (magnitude block p) e
+  where
+    below : (a b : ℕ) → nat_le a b ≡ false → b < a
+    below a b e = grind (arith, nat_tests)
+
+no_quotient : (n w : ℕ) → n < w → n / w ≡ 0
+no_quotient n w lt = let z : 0 * w + n ≡ n = omega arith in sym (ap (λ x. x / w) z) ∙ div-mul-add 0 w n lt
+
+not_zero : (p : ℕ) → 1 ≤ p → eqb p 0 ≡ false
+not_zero p some = grind (arith, nat_tests)
+
+scaled : (z : ℤ) (t : Bool) (w k : ℕ) → unsigned_abs z ≡ w * k → unsigned_abs (cond t z (pos 0)) ≡ w * cond t k 0
+scaled z true w k e = e
+scaled z false w k e = omega arith
+
+module _ (u : List ℤ) (weights : List ℕ) (b : ℕ) (long : length u ≡ 64) (m : IsMultiple u weights) where
+  -- the numbers above the plane, and the DC
+  kept : ℕ → ℤ
+  kept p = cond (eqb p 0 || significant u (b + 1) p) (get_or u p (pos 0)) (pos 0)
+
+  pub upper : List ℤ
+  unfolding kept
+  upper = map kept (span 0 64)
+
+  -- the numbers that the plane makes significant
+  pub new_here : ℕ → Bool
+  new_here p = (nat_le 1 p && nat_lt p 64) && (significant u b p && not (significant u (b + 1) p))
+
+  pub minus_here : ℕ → Bool
+  minus_here p = negative (get_or u p (pos 0))
+
+  past_end : (p : ℕ) → 64 ≤ p → get_or u p (pos 0) ≡ pos 0
+  past_end p le = get_or_past u p (pos 0) (omega (arith, long, le))
+
+  upper_long : length upper ≡ 64
+  unfolding upper
+  upper_long = length-map-span kept 64
+
+  upper_at : (p : ℕ) → get_or upper p (pos 0) ≡ kept p
+  unfolding upper kept
+  upper_at p =
+      elim (cases_lt p 64) [
+        | inl lt ↦ get_or-map-span kept 64 p (pos 0) lt
+        | inr le ↦ get_or_past upper p (pos 0) (omega (arith, le, upper_long)) ∙ sym (none (eqb p 0 || significant u (b + 1) p) (past_end p le))
+      ]
+    where
+      none : {z : ℤ} (t : Bool) → z ≡ pos 0 → cond t z (pos 0) ≡ pos 0
+      none true e = e
+      none false e = refl
+
+  kept_above : (p : ℕ) → significant u (b + 1) p ≡ true → get_or upper p (pos 0) ≡ get_or u p (pos 0)
+  unfolding kept
+  kept_above p e = upper_at p ∙ ap (λ t. cond t (get_or u p (pos 0)) (pos 0)) (ap (λ t. eqb p 0 || t) e ∙ any_true (eqb p 0))
+    where
+      any_true : (a : Bool) → (a || true) ≡ true
+      any_true true = refl
+      any_true false = refl
+
+  kept_dc : get_or upper 0 (pos 0) ≡ get_or u 0 (pos 0)
+  unfolding kept
+  kept_dc = upper_at 0
+
+  dropped : (p : ℕ) → 1 ≤ p → significant u (b + 1) p ≡ false → get_or upper p (pos 0) ≡ pos 0
+  unfolding kept
+  dropped p some e = upper_at p ∙ ap (λ t. cond (t || significant u (b + 1) p) (get_or u p (pos 0)) (pos 0)) (not_zero p some) ∙ ap (λ t. cond t (get_or u p (pos 0)) (pos 0)) e
+
+  upper_above : (p : ℕ) → 1 ≤ p → significant upper (b + 1) p ≡ significant u (b + 1) p
+  upper_above p some = by_test (significant u (b + 1) p) refl
+    where
+      by_test : (t : Bool) → significant u (b + 1) p ≡ t → significant upper (b + 1) p ≡ significant u (b + 1) p
+      by_test true e = significant_same upper u (b + 1) p (kept_above p e)
+      by_test false e = insignificant_zero upper (b + 1) p (dropped p some e) ∙ sym e
+
+  upper_here : (p : ℕ) → 1 ≤ p → significant upper b p ≡ significant upper (b + 1) p
+  upper_here p some = by_test (significant u (b + 1) p) refl
+    where
+      by_test : (t : Bool) → significant u (b + 1) p ≡ t → significant upper b p ≡ significant upper (b + 1) p
+      by_test true e = significant_same upper u b p (kept_above p e) ∙ still_significant u b p e ∙ sym (significant_same upper u (b + 1) p (kept_above p e) ∙ e)
+      by_test false e = insignificant_zero upper b p (dropped p some e) ∙ sym (insignificant_zero upper (b + 1) p (dropped p some e))
+
+  upper_multiple : IsMultiple upper weights
+  unfolding kept
+  upper_multiple = record {
+    part = λ p. cond (eqb p 0 || significant u (b + 1) p) (m.part p) 0;
+    whole = λ p. ap unsigned_abs (upper_at p) ∙ scaled (get_or u p (pos 0)) (eqb p 0 || significant u (b + 1) p) (2 ^ shift weights p) (m.part p) (m.whole p);
+  }
+
+  new_from : (p : ℕ) → new_here p ≡ true → IsAc p × (significant u b p ≡ true) × (significant u (b + 1) p ≡ false)
+  unfolding new_here
+  new_from p e =
+      let parts = both _ _ e in
+      let range = both (nat_le 1 p) (nat_lt p 64) parts.0 in
+      let here = both (significant u b p) _ parts.1 in
+      ((le_from 1 p range.0, lt_from p 64 range.1), here.0, not_true (significant u (b + 1) p) here.1)
+
+  new_is : (p : ℕ) → IsAc p → new_here p ≡ (significant u b p && not (significant u (b + 1) p))
+  unfolding new_here
+  new_is p ac = ap (λ t. (t && nat_lt p 64) && (significant u b p && not (significant u (b + 1) p))) (le_to 1 p ac.0) ∙ ap (λ t. t && (significant u b p && not (significant u (b + 1) p))) (lt_to p 64 ac.1)
+
+  pub may_new : MayComplete upper weights b new_here
+  unfolding type_due
+  may_new = record {
+    whole = upper_long;
+    multiple = upper_multiple;
+    none_new = λ p ac. upper_here p ac.0;
+    chosen_acs = λ p e. (new_from p e).0;
+    chosen_due = λ p e.
+        let f = new_from p e in
+        ap (λ t. not t && coded weights b p) (upper_above p f.0.0 ∙ f.2) ∙ is_coded p f.1 f.2 (coded weights b p) refl;
+  }
+    where
+      is_coded : (p : ℕ) → significant u b p ≡ true → significant u (b + 1) p ≡ false → (t : Bool) → coded weights b p ≡ t → coded weights b p ≡ true
+      is_coded p here above true e = e
+      is_coded p here above false e = true_false (sym here ∙ not_coded u weights b p m e ∙ above)
+
+  -- ---- the same block as the plane sees it
+
+  abbrev pub shown : List ℤ
+  shown = completed upper b new_here minus_here
+
+  module _ (chosen minus : ℕ → Bool) (may : MayComplete upper weights b chosen) where
+    abbrev v : List ℤ
+    v = completed upper b chosen minus
+
+    v_at : (p : ℕ) → p < 64 → get_or v p (pos 0) ≡ completed_number upper b chosen minus p
+    unfolding completed
+    v_at p lt = get_or-map-span (completed_number upper b chosen minus) 64 p (pos 0) lt
+
+    not_chosen : (p : ℕ) → p < 64 → chosen p ≡ false → get_or v p (pos 0) ≡ get_or upper p (pos 0)
+    not_chosen p lt e = v_at p lt ∙ ap (λ t. cond t (cond (minus p) (negsuc (2 ^ b - 1)) (pos (2 ^ b))) (get_or upper p (pos 0))) e
+
+    is_chosen : (p : ℕ) → p < 64 → chosen p ≡ true → get_or v p (pos 0) ≡ cond (minus p) (negsuc (2 ^ b - 1)) (pos (2 ^ b))
+    is_chosen p lt e = v_at p lt ∙ ap (λ t. cond t (cond (minus p) (negsuc (2 ^ b - 1)) (pos (2 ^ b))) (get_or upper p (pos 0))) e
+
+    pub sign_chosen : (p : ℕ) → p < 64 → chosen p ≡ true → negative (get_or v p (pos 0)) ≡ minus p
+    sign_chosen p lt e = ap negative (is_chosen p lt e) ∙ by_sign (minus p)
+      where
+        by_sign : (t : Bool) → negative (cond t (negsuc (2 ^ b - 1)) (pos (2 ^ b))) ≡ t
+        by_sign true = refl
+        by_sign false = refl
+
+    chosen_size : (p : ℕ) → p < 64 → chosen p ≡ true → magnitude v p ≡ 2 ^ b
+    chosen_size p lt e = ap unsigned_abs (is_chosen p lt e) ∙ by_sign (minus p)
+      where
+        by_sign : (t : Bool) → unsigned_abs (cond t (negsuc (2 ^ b - 1)) (pos (2 ^ b))) ≡ 2 ^ b
+        by_sign true = grown (2 ^ b) (pow_pos b)
+          where
+            grown : (w : ℕ) → 1 ≤ w → suc (w - 1) ≡ w
+            grown w some = omega (arith, some)
+        by_sign false = refl
+
+    chosen_none_above : (p : ℕ) → chosen p ≡ true → significant u (b + 1) p ≡ false
+    chosen_none_above p e = sym (upper_above p (may.chosen_acs p e).0) ∙ due_above upper weights b p (may.chosen_due p e)
+
+    reached_not_chosen : (p : ℕ) → significant u (b + 1) p ≡ true → chosen p ≡ false
+    reached_not_chosen p e = by_test (chosen p) refl
+      where
+        by_test : (t : Bool) → chosen p ≡ t → chosen p ≡ false
+        by_test false f = f
+        by_test true f = true_false (sym e ∙ chosen_none_above p f)
+
+    reached_same : (p : ℕ) → IsAc p → significant u (b + 1) p ≡ true → get_or v p (pos 0) ≡ get_or u p (pos 0)
+    reached_same p ac e = not_chosen p ac.1 (reached_not_chosen p e) ∙ kept_above p e
+
+    dc_same : get_or v 0 (pos 0) ≡ get_or u 0 (pos 0)
+    dc_same = (completes upper weights b chosen minus may).dc ∙ kept_dc
+
+    small_here : (p : ℕ) → IsAc p → significant u (b + 1) p ≡ false → magnitude v p < 2 ^ (b + 1)
+    small_here p ac e = by_test (chosen p) refl
+      where
+        twice : 2 ^ (b + 1) ≡ 2 * 2 ^ b
+        twice = (let z : b + 1 ≡ suc b = omega arith in ap (λ n. 2 ^ n) z) ∙ pow-succ' 2 b
+
+        by_test : (t : Bool) → chosen p ≡ t → magnitude v p < 2 ^ (b + 1)
+        by_test true f = let size = chosen_size p ac.1 f in omega (arith, size, twice, pow_pos b)
+        by_test false f = let none : magnitude v p ≡ 0 = ap unsigned_abs (not_chosen p ac.1 f ∙ dropped p ac.0 e) in omega (arith, none, pow_pos (b + 1))
+
+    above_same : AboveSame u v b
+    above_same = record { mags = λ p ac. by_test p ac (significant u (b + 1) p) refl; signs = λ p ac e. ap negative (sym (reached_same p ac e)) }
+      where
+        by_test : (p : ℕ) → IsAc p → (t : Bool) → significant u (b + 1) p ≡ t → magnitude u p / 2 ^ (b + 1) ≡ magnitude v p / 2 ^ (b + 1)
+        by_test p ac true e = ap (λ z. unsigned_abs z / 2 ^ (b + 1)) (sym (reached_same p ac e))
+        by_test p ac false e = no_quotient (magnitude u p) (2 ^ (b + 1)) (small_from u (b + 1) p e) ∙ sym (no_quotient (magnitude v p) (2 ^ (b + 1)) (small_here p ac e))
+
+    upper_small : (d p : ℕ) → 1 ≤ p → magnitude u p < 2 ^ d → magnitude upper p < 2 ^ d
+    upper_small d p some lt = by_test (significant u (b + 1) p) refl
+      where
+        by_test : (t : Bool) → significant u (b + 1) p ≡ t → magnitude upper p < 2 ^ d
+        by_test true e = subst (λ z. unsigned_abs z < 2 ^ d) (sym (kept_above p e)) lt
+        by_test false e = subst (λ z. unsigned_abs z < 2 ^ d) (sym (dropped p some e)) (pow_pos d)
+
+    v_small : (d : ℕ) → b < d → ((p : ℕ) → 1 ≤ p → magnitude u p < 2 ^ d) → (p : ℕ) → 1 ≤ p → magnitude v p < 2 ^ d
+    v_small d deep below p some =
+        elim (cases_lt p 64) [
+          | inl lt ↦ (completes upper weights b chosen minus may).below d p deep (some, lt) (upper_small d p some (below p some))
+          | inr le ↦
+              let none : magnitude v p ≡ 0 = ap unsigned_abs (get_or_past v p (pos 0) (omega (arith, le, (completes upper weights b chosen minus may).whole))) in
+              omega (arith, none, pow_pos d)
+        ]
+
+  seen_shown : SeenAlike u shown weights b
+  unfolding minus_here
+  seen_shown =
+      let r = completes upper weights b new_here minus_here may_new in
+      record {
+        alike = record { above = λ p ac. sym (r.above p ac ∙ upper_above p ac.0); first = m; second = r.multiple };
+        here = λ p ac. sym (r.here p ac ∙ ap (λ t. t || new_here p) (upper_above p ac.0) ∙ ap (λ t. significant u (b + 1) p || t) (new_is p ac) ∙ whole p (significant u (b + 1) p) (significant u b p) refl refl);
+        signs = λ p ac e. by_new p ac e (new_here p) refl;
+        bits = λ p ac e. ap (λ z. bit (unsigned_abs z) b) (sym (reached_same new_here minus_here may_new p ac e));
+        dc = ap (λ z. twos_bit z b) (sym (dc_same new_here minus_here may_new));
+      }
+    where
+      whole : (p : ℕ) (x y : Bool) → significant u (b + 1) p ≡ x → significant u b p ≡ y → (x || (y && not x)) ≡ y
+      whole p true true e f = refl
+      whole p true false e f = true_false (sym (still_significant u b p e) ∙ f)
+      whole p false true e f = refl
+      whole p false false e f = refl
+
+      missed : (x y : Bool) → (x && not y) ≡ false → x ≡ true → y ≡ true
+      missed true true e f = refl
+      missed true false e f = true_false e
+      missed false y e f = true_false (sym f)
+
+      by_new : (p : ℕ) → IsAc p → significant u b p ≡ true → (t : Bool) → new_here p ≡ t → negative (get_or u p (pos 0)) ≡ negative (get_or shown p (pos 0))
+      by_new p ac e true f = sym (sign_chosen new_here minus_here may_new p ac.1 f)
+      by_new p ac e false f = ap negative (sym (reached_same new_here minus_here may_new p ac (missed (significant u b p) (significant u (b + 1) p) (sym (new_is p ac) ∙ f) e)))
+
+  pub steps_shown : (stage : Stage) (d q : ℕ) → block_steps stage u d weights b q ≡ block_steps stage shown d weights b q
+  steps_shown stage d q = steps_seen u shown weights b seen_shown stage d q
+
+  entries_shown : (stage : Stage) (d q : ℕ) → block_entries stage u d weights b q ≡ block_entries stage shown d weights b q
+  entries_shown stage d q = sym (steps_entries stage u d weights b q) ∙ ap entries_of (steps_shown stage d q) ∙ steps_entries stage shown d weights b q
+
+  -- another completion of the numbers above serves
+  pub from_completion : (d q k j : ℕ) (e : Entry) → b < d → ((p : ℕ) → 1 ≤ p → magnitude u p < 2 ^ d) → (chosen minus : ℕ → Bool) → MayComplete upper weights b chosen →
+      ((i : ℕ) → i < k → block_entries (stage_number i) shown d weights b q ≡ block_entries (stage_number i) (completed upper b chosen minus) d weights b q) →
+      EntriesChoose j e (block_entries (stage_number k) shown d weights b q) (block_entries (stage_number k) (completed upper b chosen minus) d weights b q) → BlockChosen u d weights b q k j e
+  from_completion d q k j e deep below chosen minus may before here = record {
+    v = completed upper b chosen minus;
+    whole = (completes upper weights b chosen minus may).whole;
+    multiple = (completes upper weights b chosen minus may).multiple;
+    below = v_small chosen minus may d deep below;
+    dc = λ c le. ap (λ z. int_shr z c) (dc_same chosen minus may);
+    above = above_same chosen minus may;
+    before = λ i lt. entries_shown (stage_number i) d q ∙ before i lt;
+    here = entries_as j e _ _ _ _ (entries_shown (stage_number k) d q) refl here;
+  }

@@ -1,0 +1,104 @@
+-- The bits of a word, spread over the places that are due.
+use Rattle.std.proofs.Common.{◌≡◌, ℕ, zero, suc, ◌+◌, ◌-◌, ◌^◌, ◌<◌, ◌≤◌, Bool, true, false, not, cond, List, [], ◌∷◌, ◌++◌, length, take, map, refl, ap, sym, ◌∙◌, subst, arith, get_or, add-one, length-append, append-nil}
+use Rattle.std.specs.Prelude.{filter, ◌||◌, ◌&&◌}
+use Rattle.std.specs.List.{list_any, AllByRecursion}
+use Rattle.std.proofs.lemmas.List.{map-append, take_more, take_all}
+use Rattle.std.proofs.Math.Nat.{mod-eq_of_lt}
+use Rattle.item_defs.specs.Bits.{bits_of, copies}
+use Rattle.item_defs.proofs.NumberBits.{length-bits_of, value_of-bits_of, bits_of_zero, same_number}
+use Rattle.plane_defs.specs.declared.entries.Entry.TheVariants.{Word}
+use Rattle.plane_defs.specs.Spans.{span}
+use Rattle.plane_defs.specs.Entries.{word}
+use Rattle.plane_defs.specs.Steps.{lacks_one}
+use Rattle.plane_defs.proofs.SpanLists.{filter-span-suc}
+
+-- the bit that a place has
+pub spread : (start : ℕ) → (due : ℕ → Bool) → (bits : List Bool) → ℕ → Bool
+spread start due bits p = get_or bits (length (filter due (span start (p - start)))) false
+
+filter_more : (due : ℕ → Bool) (start n : ℕ) → filter due (span start (suc n)) ≡ filter due (span start n) ++ cond (due (start + n)) ((start + n) ∷ []) []
+filter_more due start n = ap (λ m. filter due (span start m)) (sym (add-one n)) ∙ filter-span-suc due start n
+
+module _ (start : ℕ) (due : ℕ → Bool) (bits : List Bool) where
+  spread_at : (n : ℕ) → spread start due bits (start + n) ≡ get_or bits (length (filter due (span start n))) false
+  unfolding spread
+  spread_at n = let z : start + n - start ≡ n = omega arith in ap (λ k. get_or bits (length (filter due (span start k))) false) z
+
+  one_more : (n : ℕ) (t : Bool) → due (start + n) ≡ t → length (filter due (span start (suc n))) ≤ length bits →
+      (length (filter due (span start n)) ≤ length bits → map (spread start due bits) (filter due (span start n)) ≡ take (length (filter due (span start n))) bits) →
+      map (spread start due bits) (filter due (span start (suc n))) ≡ take (length (filter due (span start (suc n)))) bits
+  one_more n true e le before =
+      let L : List ℕ = filter due (span start n) in
+      let more : filter due (span start (suc n)) ≡ L ++ (start + n) ∷ [] = filter_more due start n ∙ ap (λ t. L ++ cond t ((start + n) ∷ []) []) e in
+      let long : length (filter due (span start (suc n))) ≡ length L + 1 = ap length more ∙ length-append L ((start + n) ∷ []) in
+      ap (map (spread start due bits)) more ∙ map-append (spread start due bits) L ((start + n) ∷ [])
+      ∙ ap (λ l. l ++ spread start due bits (start + n) ∷ []) (before (omega (arith, le, long))) ∙ ap (λ x. take (length L) bits ++ x ∷ []) (spread_at n)
+      ∙ sym (take_more bits (length L) false (omega (arith, le, long))) ∙ ap (λ k. take k bits) (sym long)
+  one_more n false e le before =
+      let L : List ℕ = filter due (span start n) in
+      let more : filter due (span start (suc n)) ≡ L = filter_more due start n ∙ ap (λ t. L ++ cond t ((start + n) ∷ []) []) e ∙ append-nil L in
+      ap (map (spread start due bits)) more ∙ before (subst (λ l. length l ≤ length bits) more le) ∙ ap (λ l. take (length l) bits) (sym more)
+
+  spread_front : (n : ℕ) → length (filter due (span start n)) ≤ length bits → map (spread start due bits) (filter due (span start n)) ≡ take (length (filter due (span start n))) bits
+  unfolding span
+  spread_front zero le = refl
+  spread_front (suc n) le = one_more n (due (start + n)) refl le (spread_front n)
+
+  pub spread_is : (n : ℕ) → length bits ≡ length (filter due (span start n)) → map (spread start due bits) (filter due (span start n)) ≡ bits
+  spread_is n same = spread_front n (omega (arith, same)) ∙ ap (λ k. take k bits) (sym same) ∙ take_all (length bits) bits (omega arith)
+
+pub word_is : (n x : ℕ) → x < 2 ^ n → word (bits_of n x) ≡ Word (record { value = x; count = n })
+word_is n x lt =
+    ap (λ v. Word (record { value = v; count = length (bits_of n x) })) (value_of-bits_of n x ∙ mod-eq_of_lt lt) ∙ ap (λ k. Word (record { value = x; count = k })) (length-bits_of n x)
+
+-- a word that isn't 0 has a one
+no_one : (bits : List Bool) → list_any (λ b. b) bits ≡ false → bits ≡ copies (length bits) false
+unfolding copies
+no_one [] e = refl
+no_one (true ∷ bits) e = cc
+no_one (false ∷ bits) e = ap (λ l. false ∷ l) (no_one bits e)
+
+pub some_bit : (n x : ℕ) → x < 2 ^ n → (x ≡ 0 → ⊥) → list_any (λ b. b) (bits_of n x) ≡ true
+some_bit n x lt some = by_any (list_any (λ b. b) (bits_of n x)) refl
+  where
+    by_any : (t : Bool) → list_any (λ b. b) (bits_of n x) ≡ t → list_any (λ b. b) (bits_of n x) ≡ true
+    by_any true e = e
+    by_any false e =
+        let same : bits_of n x ≡ bits_of n 0 = no_one (bits_of n x) e ∙ ap (λ k. copies k false) (length-bits_of n x) ∙ sym (bits_of_zero n) in
+        absurd (some (same_number n x 0 lt (omega (arith, lt)) same))
+
+pub any_of_map : {X : Type 0} (f : X → Bool) (xs : List X) → list_any (λ b. b) (map f xs) ≡ list_any f xs
+any_of_map f [] = refl
+any_of_map f (x ∷ xs) = ap (λ b. f x || b) (any_of_map f xs)
+
+-- one of those that pass a test is one of all
+pub any_of_filter : {X : Type 0} (f t : X → Bool) (xs : List X) → list_any f (filter t xs) ≡ true → list_any f xs ≡ true
+any_of_filter f t [] e = e
+any_of_filter {X} f t (x ∷ xs) e = by_test (t x) e (any_of_filter f t xs)
+  where
+    right : (a b : Bool) → b ≡ true → (a || b) ≡ true
+    right true b e = refl
+    right false b e = e
+
+    either : (a b c : Bool) → (a || b) ≡ true → (b ≡ true → c ≡ true) → (a || c) ≡ true
+    either true b c e more = refl
+    either false b c e more = more e
+
+    by_test : (s : Bool) → list_any f (cond s (x ∷ filter t xs) (filter t xs)) ≡ true → (list_any f (filter t xs) ≡ true → list_any f xs ≡ true) → (f x || list_any f xs) ≡ true
+    by_test true e more = either (f x) (list_any f (filter t xs)) (list_any f xs) e more
+    by_test false e more = right (f x) (list_any f xs) (more e)
+
+-- where a word lacks no wanted one, each wanted place has it
+pub wants_had : {X : Type 0} (want has : X → Bool) (xs : List X) → lacks_one (map want xs) (map has xs) ≡ false → AllByRecursion (λ x. want x ≡ true → has x ≡ true) xs
+wants_had want has [] e = tt
+wants_had want has (x ∷ xs) e = (first (want x) (has x) _ e, wants_had want has xs (rest (want x) (has x) _ e))
+  where
+    first : (w h r : Bool) → ((w && not h) || r) ≡ false → w ≡ true → h ≡ true
+    first true true r e f = refl
+    first true false r e f = cc
+    first false h r e f = cc
+
+    rest : (w h r : Bool) → ((w && not h) || r) ≡ false → r ≡ false
+    rest true true r e = e
+    rest true false r e = cc
+    rest false h r e = e
