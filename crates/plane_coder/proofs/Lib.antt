@@ -2,6 +2,7 @@ mod MarkParts
 mod Pushing
 mod Viewing
 mod Saying
+mod Keeping
 mod Speaking
 mod BlockSets
 mod CodeRows

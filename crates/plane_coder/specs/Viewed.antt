@@ -1,5 +1,5 @@
 -- The numbers of a block as masks, and the sets that they make.
-use Rattle.std.specs.Prelude.{◌≡◌, ℕ, ◌+◌, ℤ, pos, Bool, List}
+use Rattle.std.specs.Prelude.{◌≡◌, ℕ, ◌+◌, ◌*◌, ℤ, pos, Bool, List, Option, None, Some, slice_range}
 use Rattle.std.specs.List.{list_any}
 use lib.ListN.{get_or}
 use Rattle.item_defs.specs.Bits.{bit}
@@ -15,6 +15,10 @@ pub record IsView (block : List ℤ) (plane : ℕ) (m : Masks) : Type 0 where
   pub above : Shows m.above (significant block (plane + 1)) 0 64
   pub bits : Shows m.bits (λ p. bit (magnitude block p) plane) 0 64
   pub negative : Shows m.negative (λ p. negative (get_or block p (pos 0))) 0 64
+
+-- the masks that are kept are those of their blocks
+pub record AreKept (blocks : List ℤ) (plane : ℕ) (kept : List (Option Masks)) : Type 0 where
+  pub at : (r : ℕ) (m : Masks) → get_or kept r None ≡ Some m → IsView (slice_range blocks (64 * r) (64 * r + 64)) plane m
 
 -- which sets have a member of this kind
 pub record AreSets (f : ℕ → Bool) (s : Sets) : Type 0 where

@@ -10,7 +10,6 @@ ghost use Rattle.plane_coder.specs.Chosen.{Chooses, words_of_block};
 ghost use Rattle.plane_coder.specs.Views.{plane_in};
 
 use crate::gaggle::{Gaggle, depth_of, store};
-use crate::seen::Seen;
 use crate::tally::Tally;
 use crate::view::View;
 use plane_defs::Book;
@@ -27,7 +26,7 @@ fn tally_block(tally: &mut Tally, view: &View, marks: &[i32], r: usize)
     if depth_of(marks[r]) <= view.plan.plane {
         return;
     }
-    tally.add_block(&Seen::of(&view.blocks[64 * r..64 * r + 64], view.plan));
+    tally.add_block(&view.seen(r));
 }
 
 fn tally_gaggle(view: &View, marks: &[i32], g: usize) -> Tally

@@ -1,12 +1,13 @@
 // What the numbers of a block are in a plane.
 
-ghost use Rattle.std.specs.Prelude.{◌≡◌, ◌+◌, ◌<◌, ◌^◌, ℕ, Bool, pos, length, slice_index_or};
+ghost use Rattle.std.specs.Prelude.{◌≡◌, ◌+◌, ◌*◌, ◌<◌, ◌^◌, ℕ, Bool, pos, length, slice_index_or, IfSome};
 ghost use Rattle.item_defs.specs.Bits.{bit};
 ghost use Rattle.plane_defs.specs.Sets.{magnitude, significant};
 ghost use Rattle.plane_defs.specs.Entries.{negative as is_negative};
 ghost use Rattle.block_masks.specs.Masks.{Shows};
-ghost use Rattle.plane_coder.specs.Viewed.{IsView};
+ghost use Rattle.plane_coder.specs.Viewed.{IsView, AreKept};
 
+use crate::gaggle::depth_of;
 use block_masks::{having_bit, joined, negative, reaching};
 
 // For each position: the number is significant above the plane, has the plane's bit, and is negative.
@@ -85,4 +86,30 @@ impl Masks {
             negative: all_negative(block),
         }
     }
+}
+
+// The masks of a block that is deep enough to have a bit of the plane.
+#[inline(always)]
+fn deep_masks(block: &[i32], depth: u8, plane: u8) -> Option<Masks>
+    requires whole { length block.now ≡ 64 }
+    requires low { plane < 30 }
+    ensures { IfSome result (IsView block.now plane) }
+{
+    if depth <= plane {
+        return None;
+    }
+    Some(Masks::new(block, plane))
+}
+
+// The masks of the first blocks of a segment, where they are deep enough.
+pub(crate) fn first_masks(blocks: &[i32], marks: &[i32], plane: u8) -> [Option<Masks>; 64]
+    requires whole { length blocks.now ≡ 64 * length marks.now }
+    requires low { plane < 30 }
+    ensures { AreKept blocks.now plane result }
+{
+    let mut kept = [None; 64];
+    for r in 0..marks.len().min(64) {
+        kept[r] = deep_masks(&blocks[64 * r..64 * r + 64], depth_of(marks[r]), plane);
+    }
+    kept
 }

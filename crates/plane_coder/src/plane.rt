@@ -9,6 +9,7 @@ ghost use Rattle.plane_coder.specs.Sends.{chosen_items};
 ghost use Rattle.plane_coder.specs.Views.{plane_of, plane_in};
 
 use crate::choose::choose_all;
+use crate::masks::first_masks;
 use crate::plan::{CodedPlane, PlanePlan};
 use crate::stages::put_stage;
 use crate::tables::CodeTables;
@@ -83,6 +84,7 @@ pub fn put_plane_with<O: OctetOut>(
         blocks,
         plan: &coded,
         tables,
+        kept: first_masks(blocks, marks, plan.plane),
     };
     put_stages(out, &view, marks, plan.last)
 }

@@ -1,6 +1,6 @@
 // The stages of a block.
 
-ghost use Rattle.std.specs.Prelude.{◌≡◌, ◌&&◌, ◌<◌, ◌≤◌, [], cond, length, nat_lt};
+ghost use Rattle.std.specs.Prelude.{◌≡◌, ◌+◌, ◌*◌, ◌&&◌, ◌<◌, ◌≤◌, [], cond, length, nat_lt, slice_range};
 ghost use Rattle.bit_pipe.specs.Standing.{stand, IsReady};
 ghost use Rattle.plane_defs.specs.declared.sets.Set.TheVariants.{Grandchildren};
 ghost use Rattle.plane_defs.specs.Sets.{significant, set_significant, coded};
@@ -18,6 +18,7 @@ use crate::seen::Seen;
 use crate::sets::Sets;
 use crate::speech::Speech;
 use crate::spoken::Spoken;
+use crate::view::View;
 use bit_pipe::{BitOut, OctetOut, PutFault};
 use block_masks::has;
 use plane_defs::Stage;
@@ -168,31 +169,30 @@ fn put_refinement<O: OctetOut>(
     second.put(out)
 }
 
-// Puts one stage of a block of this depth.
+// Puts one stage of block r, which has this depth.
 #[inline]
 pub(crate) fn put_block<O: OctetOut>(
     out: &mut BitOut<O>,
     gaggle: &mut Gaggle,
     spoken: &Spoken,
     stage: Stage,
-    block: &[i32],
+    view: &View,
     depth: u8,
-    plan: &CodedPlane,
+    r: usize,
 ) -> Result<(), PutFault>
     requires open { IsReady O.sink out.old }
-    requires whole { length block.now ≡ 64 }
+    requires within { 64 * r + 64 ≤ length view.now.blocks.now }
     requires same { spoken.now.options ≡ gaggle.old.options }
-    ensures { Spells O.sink spoken.now.tables.now.book gaggle.old gaggle.new result (stand O.sink out.old) (stand O.sink out.new) (block_entries stage block.now depth plan.now.weights.shifts plan.now.plane plan.now.q) }
+    ensures { Spells O.sink spoken.now.tables.now.book gaggle.old gaggle.new result (stand O.sink out.old) (stand O.sink out.new)
+        (block_entries stage (slice_range view.now.blocks.now (64 * r) (64 * r + 64)) depth view.now.plan.now.weights.shifts view.now.plan.now.plane view.now.plan.now.q) }
 {
-    let is_deep = plan.plane < depth;
+    let is_deep = view.plan.plane < depth;
     match stage {
-        Stage::DcBits => put_dc_bit(out, block, plan),
-        Stage::Parents if is_deep => put_parents(out, gaggle, spoken, &Seen::of(block, plan)),
-        Stage::Children if is_deep => put_children(out, gaggle, spoken, &Seen::of(block, plan)),
-        Stage::Grandchildren if is_deep => {
-            put_grandchildren(out, gaggle, spoken, &Seen::of(block, plan))
-        }
-        Stage::Refinement if is_deep => put_refinement(out, gaggle, &Seen::of(block, plan)),
+        Stage::DcBits => put_dc_bit(out, &view.blocks[64 * r..64 * r + 64], view.plan),
+        Stage::Parents if is_deep => put_parents(out, gaggle, spoken, &view.seen(r)),
+        Stage::Children if is_deep => put_children(out, gaggle, spoken, &view.seen(r)),
+        Stage::Grandchildren if is_deep => put_grandchildren(out, gaggle, spoken, &view.seen(r)),
+        Stage::Refinement if is_deep => put_refinement(out, gaggle, &view.seen(r)),
         _ => Ok(()),
     }
 }

@@ -63,16 +63,6 @@ impl<'a> Seen<'a> {
         }
     }
 
-    // A block of 64 numbers in a plane.
-    #[inline(always)]
-    pub fn of(block: &'a [i32], plan: &'a CodedPlane) -> Seen<'a>
-        requires { length block.now ≡ 64 }
-        ensures block { result.block.now ≡ block.now }
-        ensures plan { result.plan.now ≡ plan.now }
-    {
-        Seen::new(block, plan, Masks::new(block, plan.plane))
-    }
-
     // The types of up to four positions, and their signs.
     #[inline(always)]
     pub fn types(&self, at: u8, count: u8) -> Typed

@@ -35,16 +35,7 @@ fn put_block_at<O: OctetOut>(
     requires within { r < length marks.now }
     ensures { Spells O.sink view.now.tables.now.book gaggle.old gaggle.new result (stand O.sink out.old) (stand O.sink out.new) (of_block (plane_in view.now (depths_of marks.now)) stage r) }
 {
-    let block = &view.blocks[64 * r..64 * r + 64];
-    put_block(
-        out,
-        gaggle,
-        spoken,
-        stage,
-        block,
-        depth_of(marks[r]),
-        view.plan,
-    )
+    put_block(out, gaggle, spoken, stage, view, depth_of(marks[r]), r)
 }
 
 // Puts a stage of gaggle g.

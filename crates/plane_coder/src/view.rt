@@ -1,18 +1,49 @@
 // What a call reads and never changes.
 
-ghost use Rattle.std.specs.Prelude.{◌≡◌, ◌<◌};
+ghost use Rattle.std.specs.Prelude.{◌≡◌, ◌+◌, ◌*◌, ◌<◌, ◌≤◌, length, slice_range};
 ghost use Rattle.plane_defs.specs.Entries.{stage_number};
+ghost use Rattle.plane_coder.specs.Viewed.{IsView, AreKept};
 
+use crate::masks::Masks;
 use crate::plan::CodedPlane;
+use crate::seen::Seen;
 use crate::tables::CodeTables;
 use plane_defs::Stage;
 
-// The blocks of a segment, 64 numbers each, with the plane and the codes.
-#[derive(Clone, Copy)]
+// The blocks of a segment, 64 numbers each, with the plane and the codes. The masks that are kept serve all stages; those
+// of other blocks are made anew in each.
+#[derive(Drop)]
 pub(crate) struct View<'a> {
     pub blocks: &'a [i32],
     pub plan: &'a CodedPlane,
     pub tables: &'a CodeTables,
+    pub kept: [Option<Masks>; 64],
+    ghost are_kept: { AreKept blocks.now plan.now.plane kept },
+}
+
+impl<'a> View<'a> {
+    #[inline(always)]
+    fn masks(&self, r: usize) -> Masks
+        requires { 64 * r + 64 ≤ length self.now.blocks.now }
+        ensures { IsView (slice_range self.now.blocks.now (64 * r) (64 * r + 64)) self.now.plan.now.plane result }
+    {
+        if r < 64
+            && let Some(masks) = self.kept[r]
+        {
+            return masks;
+        }
+        Masks::new(&self.blocks[64 * r..64 * r + 64], self.plan.plane)
+    }
+
+    // Block r as the plane sees it.
+    #[inline(always)]
+    pub fn seen(&self, r: usize) -> Seen<'a>
+        requires { 64 * r + 64 ≤ length self.now.blocks.now }
+        ensures block { result.block.now ≡ slice_range self.now.blocks.now (64 * r) (64 * r + 64) }
+        ensures plan { result.plan.now ≡ self.now.plan.now }
+    {
+        Seen::new(&self.blocks[64 * r..64 * r + 64], self.plan, self.masks(r))
+    }
 }
 
 // A stage by its number.

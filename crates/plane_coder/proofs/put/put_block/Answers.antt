@@ -1,5 +1,5 @@
 use Rattle.std.proofs.Common.{◌<◌, ◌≤◌, sym, subst, arith}
-use Rattle.std.specs.Prelude.{Ok}
+use Rattle.std.specs.Prelude.{Ok, ◌+◌, ◌*◌, slice_range}
 use Rattle.bit_pipe.specs.Standing.{stand}
 use Rattle.plane_defs.specs.declared.stages.Stage.TheVariants as stages
 use Rattle.plane_defs.specs.Entries.{block_entries, parents, children, grandchildren, refinement}
@@ -15,51 +15,63 @@ returns-in-DcBits g c = rw c.in-DcBits.is (c.put_dc_bit.ensures c.args.spoken.no
 pub returns-in_default : goal.returns-in_default
 returns-in_default g c =
     let k = g.O.OctetOut.sink in
-    let p = c.args.plan.now in
+    let p = c.args.view.now.plan.now in
+    let block = slice_range c.args.view.now.blocks.now (64 * c.args.r) (64 * c.args.r + 64) in
     let le : c.args.depth ≤ p.plane = omega arith in
     subst (λ l. Spells k c.args.spoken.now.tables.now.book c.args.gaggle.now c.args.gaggle.now (Ok tt) (stand k c.args.out.now) (stand k c.args.out.now) l)
-    (sym (shallow c.args.stage c.args.block.now p.weights.shifts p.plane p.q c.args.depth c.in_default.not-DcBits le)) (spells_none c.args.gaggle.now _ c.requires.«open»)
+    (sym (shallow c.args.stage block p.weights.shifts p.plane p.q c.args.depth c.in_default.not-DcBits le)) (spells_none c.args.gaggle.now _ c.requires.«open»)
 
 pub returns-in_default-2 : goal.returns-in_default-2
 returns-in_default-2 g c =
     let k = g.O.OctetOut.sink in
-    let p = c.args.plan.now in
+    let p = c.args.view.now.plan.now in
+    let block = slice_range c.args.view.now.blocks.now (64 * c.args.r) (64 * c.args.r + 64) in
     let le : c.args.depth ≤ p.plane = omega arith in
     subst (λ l. Spells k c.args.spoken.now.tables.now.book c.args.gaggle.now c.args.gaggle.now (Ok tt) (stand k c.args.out.now) (stand k c.args.out.now) l)
-    (sym (shallow c.args.stage c.args.block.now p.weights.shifts p.plane p.q c.args.depth c.in_default.not-DcBits le)) (spells_none c.args.gaggle.now _ c.requires.«open»)
+    (sym (shallow c.args.stage block p.weights.shifts p.plane p.q c.args.depth c.in_default.not-DcBits le)) (spells_none c.args.gaggle.now _ c.requires.«open»)
 
 pub returns-in_default-3 : goal.returns-in_default-3
 returns-in_default-3 g c =
     let k = g.O.OctetOut.sink in
-    let p = c.args.plan.now in
+    let p = c.args.view.now.plan.now in
+    let block = slice_range c.args.view.now.blocks.now (64 * c.args.r) (64 * c.args.r + 64) in
     let le : c.args.depth ≤ p.plane = omega arith in
     subst (λ l. Spells k c.args.spoken.now.tables.now.book c.args.gaggle.now c.args.gaggle.now (Ok tt) (stand k c.args.out.now) (stand k c.args.out.now) l)
-    (sym (shallow c.args.stage c.args.block.now p.weights.shifts p.plane p.q c.args.depth c.in_default.not-DcBits le)) (spells_none c.args.gaggle.now _ c.requires.«open»)
+    (sym (shallow c.args.stage block p.weights.shifts p.plane p.q c.args.depth c.in_default.not-DcBits le)) (spells_none c.args.gaggle.now _ c.requires.«open»)
 
 pub returns-in_default-4 : goal.returns-in_default-4
 returns-in_default-4 g c =
     let k = g.O.OctetOut.sink in
-    let p = c.args.plan.now in
+    let p = c.args.view.now.plan.now in
+    let block = slice_range c.args.view.now.blocks.now (64 * c.args.r) (64 * c.args.r + 64) in
     let le : c.args.depth ≤ p.plane = omega arith in
     subst (λ l. Spells k c.args.spoken.now.tables.now.book c.args.gaggle.now c.args.gaggle.now (Ok tt) (stand k c.args.out.now) (stand k c.args.out.now) l)
-    (sym (shallow c.args.stage c.args.block.now p.weights.shifts p.plane p.q c.args.depth c.in_default.not-DcBits le)) (spells_none c.args.gaggle.now _ c.requires.«open»)
+    (sym (shallow c.args.stage block p.weights.shifts p.plane p.q c.args.depth c.in_default.not-DcBits le)) (spells_none c.args.gaggle.now _ c.requires.«open»)
 
 pub returns-in-Parents : goal.returns-in-Parents
 returns-in-Parents g c =
-    let lt : c.args.plan.now.plane < c.args.depth = omega arith in
-    rw c.in-Parents.is (spells_deep parents stages.Parents c.args.block.now _ c.args.plan.now _ c.args.depth deep_parents c.of.ensures.block c.of.ensures.plan lt c.put_parents.ensures)
+    let plan = c.args.view.now.plan.now in
+    let block = slice_range c.args.view.now.blocks.now (64 * c.args.r) (64 * c.args.r + 64) in
+    let lt : plan.plane < c.args.depth = omega arith in
+    rw c.in-Parents.is (spells_deep parents stages.Parents block _ plan _ c.args.depth deep_parents c.seen.ensures.block c.seen.ensures.plan lt c.put_parents.ensures)
 
 pub returns-in-Children : goal.returns-in-Children
 returns-in-Children g c =
-    let lt : c.args.plan.now.plane < c.args.depth = omega arith in
-    rw c.in-Children.is (spells_deep children stages.Children c.args.block.now _ c.args.plan.now _ c.args.depth deep_children c.of-in-Children.ensures.block c.of-in-Children.ensures.plan lt c.put_children.ensures)
+    let plan = c.args.view.now.plan.now in
+    let block = slice_range c.args.view.now.blocks.now (64 * c.args.r) (64 * c.args.r + 64) in
+    let lt : plan.plane < c.args.depth = omega arith in
+    rw c.in-Children.is (spells_deep children stages.Children block _ plan _ c.args.depth deep_children c.seen-in-Children.ensures.block c.seen-in-Children.ensures.plan lt c.put_children.ensures)
 
 pub returns-in-Grandchildren : goal.returns-in-Grandchildren
 returns-in-Grandchildren g c =
-    let lt : c.args.plan.now.plane < c.args.depth = omega arith in
-    rw c.in-Grandchildren.is (spells_deep grandchildren stages.Grandchildren c.args.block.now _ c.args.plan.now _ c.args.depth deep_grandchildren c.of-in-Grandchildren.ensures.block c.of-in-Grandchildren.ensures.plan lt c.put_grandchildren.ensures)
+    let plan = c.args.view.now.plan.now in
+    let block = slice_range c.args.view.now.blocks.now (64 * c.args.r) (64 * c.args.r + 64) in
+    let lt : plan.plane < c.args.depth = omega arith in
+    rw c.in-Grandchildren.is (spells_deep grandchildren stages.Grandchildren block _ plan _ c.args.depth deep_grandchildren c.seen-in-Grandchildren.ensures.block c.seen-in-Grandchildren.ensures.plan lt c.put_grandchildren.ensures)
 
 pub returns-in-Refinement : goal.returns-in-Refinement
 returns-in-Refinement g c =
-    let lt : c.args.plan.now.plane < c.args.depth = omega arith in
-    rw c.in-Refinement.is (spells_deep refinement stages.Refinement c.args.block.now _ c.args.plan.now _ c.args.depth deep_refinement c.of-in-Refinement.ensures.block c.of-in-Refinement.ensures.plan lt (c.put_refinement.ensures c.args.spoken.now.tables.now.book))
+    let plan = c.args.view.now.plan.now in
+    let block = slice_range c.args.view.now.blocks.now (64 * c.args.r) (64 * c.args.r + 64) in
+    let lt : plan.plane < c.args.depth = omega arith in
+    rw c.in-Refinement.is (spells_deep refinement stages.Refinement block _ plan _ c.args.depth deep_refinement c.seen-in-Refinement.ensures.block c.seen-in-Refinement.ensures.plan lt (c.put_refinement.ensures c.args.spoken.now.tables.now.book))
