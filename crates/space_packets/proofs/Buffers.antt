@@ -1,6 +1,6 @@
 -- The octets that wait in a buffer.
-use Rattle.std.proofs.Common.{◌≡◌, ◌≤◌, ◌<◌, ◌+◌, ◌*◌, ◌^◌, ℕ, List, [], ◌∷◌, ◌++◌, length, take, drop, refl, ap, ◌∙◌, arith, length-take}
-use Rattle.std.specs.Prelude.{nat_lt, Bool, true, false}
+use Rattle.std.proofs.Common.{◌≡◌, ◌≤◌, ◌<◌, ◌+◌, ◌*◌, ◌^◌, ℕ, List, [], ◌++◌, length, take, drop, refl, ap, ◌∙◌, arith, length-take}
+use Rattle.std.specs.Prelude.{nat_lt, nat_le, Bool, true, false, Result, Ok, is_ok, if◌then◌else◌}
 use Rattle.std.proofs.lemmas.Bool.Decides.{nat_tests}
 use Rattle.std.specs.Bool.{OnTrue, OnFalse}
 use Rattle.std.proofs.lemmas.List.{drop_all, drop-append-le}
@@ -13,9 +13,9 @@ use Rattle.space_packets.specs.Stages.{IsBegun, given_in, room_of, parts_of}
 pub header_alone : (items now : List ℕ) → now ≡ take 30 items → drop 30 now ≡ []
 header_alone items now e = ap (drop 30) e ∙ drop_all 30 (take 30 items) (omega (arith, length-take 30 items))
 
--- one more
-pub one_waits : (items now : List ℕ) (octet : ℕ) → 30 ≤ length items → now ≡ items ++ octet ∷ [] → drop 30 now ≡ drop 30 items ++ octet ∷ []
-one_waits items now octet long e = ap (drop 30) e ∙ drop-append-le 30 items (octet ∷ []) long
+-- more
+pub more_wait : (items now octets : List ℕ) → 30 ≤ length items → now ≡ items ++ octets → drop 30 now ≡ drop 30 items ++ octets
+more_wait items now octets long e = ap (drop 30) e ∙ drop-append-le 30 items octets long
 
 -- never more than a part
 pub room_least : (s : Stage) (size : ℕ) → room_of s size ≤ size
@@ -29,10 +29,16 @@ given_begun Idle size pending few = omega (arith, few)
 given_begun (Begun t) size pending few = tt
 given_begun Broken size pending few = omega (arith, few)
 
-pub given_parts : (s : Stage) (size pending : ℕ) → given_in s size pending < 2 ^ 32 → parts_of s * size + pending < 2 ^ 32
-given_parts Idle size pending few = absurd (omega (arith, few))
-given_parts (Begun t) size pending few = few
-given_parts Broken size pending few = absurd (omega (arith, few))
+pub given_count : (s : Stage) (size pending : ℕ) → given_in s size pending < 2 ^ 32 → given_in s size pending ≡ parts_of s * size + pending
+given_count Idle size pending few = absurd (omega (arith, few))
+given_count (Begun t) size pending few = refl
+given_count Broken size pending few = absurd (omega (arith, few))
+
+-- and more of them count as more
+pub given_more : (s : Stage) (size pending count now : ℕ) → given_in s size pending < 2 ^ 32 → now ≡ pending + count → given_in s size now ≡ given_in s size pending + count
+given_more Idle size pending count now few e = absurd (omega (arith, few))
+given_more (Begun t) size pending count now few e = omega (arith, e)
+given_more Broken size pending count now few e = absurd (omega (arith, few))
 
 pub given_room : (s : Stage) (size pending : ℕ) → given_in s size pending < 2 ^ 32 → room_of s size ≡ size
 given_room Idle size pending few = absurd (omega (arith, few))
@@ -65,3 +71,13 @@ on_less a b f = on_true (nat_lt a b) (λ e. f (is_less a b e))
 
 pub on_not_less : {P : Type 0} (a b : ℕ) → (b ≤ a → P) → OnFalse (nat_lt a b) P
 on_not_less a b f = on_false (nat_lt a b) (λ e. f (not_less a b e))
+
+at_most : (a b : ℕ) → nat_le a b ≡ true → a ≤ b
+at_most a b e = grind (arith, nat_tests)
+
+pub on_at_most : {P : Type 0} (a b : ℕ) → (a ≤ b → P) → OnTrue (nat_le a b) P
+on_at_most a b f = on_true (nat_le a b) (λ e. f (at_most a b e))
+
+-- a vector that took other items
+pub extended : {T E : Type 0} (r : Result T E) (x : T) (items now other octets : List ℕ) → r ≡ Ok x → now ≡ (if is_ok r then items ++ other else items) → other ≡ octets → now ≡ items ++ octets
+extended r x items now other octets ok e f = e ∙ ap (λ r. if is_ok r then items ++ other else items) ok ∙ ap (λ o. items ++ o) f

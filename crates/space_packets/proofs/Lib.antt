@@ -3,6 +3,6 @@ pub mod WholeCalls
 pub mod SinkCalls
 mod Buffers
 mod Sound
-mod OneOctet
+mod MoreOctets
 pub mod Intakes
 pub mod StreamReads

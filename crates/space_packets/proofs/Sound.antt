@@ -12,7 +12,7 @@ use Rattle.space_packets.specs.declared.stage.Text.{Text}
 use Rattle.space_packets.specs.Parts.{text_at}
 use Rattle.space_packets.specs.Stages.{apid_of, parts_of, open_texts, room_of, given_in}
 use Rattle.space_packets.specs.Inside.{IsSound}
-use Rattle.space_packets.proofs.Buffers.{given_parts, given_room}
+use Rattle.space_packets.proofs.Buffers.{given_count, given_room}
 
 -- what is known of the numbers of a begun text
 record Known (a : Inside) (t : Text) : Type 0 where
@@ -41,14 +41,15 @@ known a t sound e =
       octets = omega (arith, sound.octets, texts, parts);
     }
 
--- after one more octet
-pub sound_more : (a : Inside) (buffer : Vec ℕ) → IsSound a → length a.buffer.items - 30 < part_size a.packet →
-    given_in a.stage (part_size a.packet) (length a.buffer.items - 30) < 2 ^ 32 →
-    length buffer.items ≡ length a.buffer.items + 1 → vec_capacity buffer ≡ vec_capacity a.buffer → IsSound (record a { buffer = buffer })
-sound_more a buffer sound room fits long same =
+-- after so many more octets
+pub sound_more : (a : Inside) (buffer : Vec ℕ) (count : ℕ) → IsSound a → 0 < count → length a.buffer.items - 30 + count ≤ part_size a.packet →
+    given_in a.stage (part_size a.packet) (length a.buffer.items - 30) + count ≤ 2 ^ 32 →
+    length buffer.items ≡ length a.buffer.items + count → vec_capacity a.buffer ≤ vec_capacity buffer → IsSound (record a { buffer = buffer })
+sound_more a buffer count sound some room fits long same =
     let size = part_size a.packet in
-    let given = given_parts a.stage size (length a.buffer.items - 30) fits in
-    let whole = given_room a.stage size (length a.buffer.items - 30) fits in
+    let less : given_in a.stage size (length a.buffer.items - 30) < 2 ^ 32 = omega (arith, fits, some) in
+    let parts = given_count a.stage size (length a.buffer.items - 30) less in
+    let whole = given_room a.stage size (length a.buffer.items - 30) less in
     record {
       least = sound.least;
       most = sound.most;
@@ -58,7 +59,7 @@ sound_more a buffer sound room fits long same =
       apid = sound.apid;
       texts = sound.texts;
       begun = sound.begun;
-      text = omega (arith, given, long, sound.header);
+      text = omega (arith, parts, fits, long, sound.header);
       packets = sound.packets;
       octets = sound.octets;
     }

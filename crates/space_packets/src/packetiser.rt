@@ -1,6 +1,7 @@
 // Texts in, packets out.
 ghost use Rattle.std.specs.Prelude.{◌≡◌, ◌≤◌, ◌<◌, ◌+◌, ◌*◌, ◌^◌, ◌++◌, ◌∷◌, [], ℕ, length, drop, true, false, IfOk, MatchResult, vec_capacity, if◌then◌else◌};
 ghost use Rattle.std.specs.Bool.{OnTrue, OnFalse};
+ghost use Rattle.std.specs.Int.{w64, to_be_bytes};
 ghost use Rattle.packet_defs.specs.Packets.{part_size};
 ghost use Rattle.port_122.specs.Outside.{WritesAll};
 ghost use Rattle.space_packets.specs.Parts.{packet_of, text_at};
@@ -178,6 +179,22 @@ impl Packetiser {
         ensures { self.new ≡ record self.old { pending = self.old.pending ++ octet ∷ [] } }
     {
         self.buffer.push_reserved(octet);
+    }
+
+    // Whether the part has room for the eight octets of a word.
+    pub(crate) fn has_room_for_word(&self) -> bool
+        ensures { OnTrue result (length self.now.pending + 8 ≤ part_size self.now.packet) }
+    {
+        self.buffer.len() + 8 <= PRIMARY + self.packet
+    }
+
+    // Takes the eight octets of a word, highest first, that the part has room for.
+    pub(crate) fn add_word(&mut self, word: u64)
+        requires room { length self.old.pending + 8 ≤ part_size self.old.packet }
+        requires fits { given_octets self.old + 8 ≤ 2 ^ 32 }
+        ensures { self.new ≡ record self.old { pending = self.old.pending ++ to_be_bytes w64 word } }
+    {
+        self.buffer.extend_from_slice(&word.to_be_bytes()).unwrap();
     }
 
     // Writes the octets that wait as one packet of this text, which a full part or the last one needs.

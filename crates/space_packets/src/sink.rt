@@ -1,4 +1,10 @@
 // A text that goes on by octets.
+ghost use Rattle.std.specs.Prelude.{◌≤◌, ◌+◌, ◌^◌};
+ghost use Rattle.item_defs.specs.Bits.{bits_of};
+ghost use Rattle.bit_pipe.specs.Sinks.{PutsOctets};
+ghost use Rattle.space_packets.specs.Progress.{given_octets};
+ghost use Rattle.space_packets.specs.PacketSink.{packet_sink};
+
 use crate::packetiser::Packetiser;
 use bit_pipe::OctetOut;
 use port_122::Port;
@@ -13,6 +19,21 @@ pub struct PacketSink<'a, X> {
     pub port: &'a mut X,
 }
 
+impl<'a, X: Port> PacketSink<'a, X> {
+    // Gives the octets of a word one by one, as where they go to two packets.
+    fn put_each(&mut self, word: u64) -> Result<(), bit_pipe::Failed>
+        requires { given_octets self.old.packets.now + 8 ≤ 2 ^ 32 }
+        ensures { PutsOctets (packet_sink X.outside) result self.old self.new (bits_of 64 word) }
+    {
+        let mut left: u8 = 64;
+        while left > 0 {
+            left -= 8;
+            self.put(((word >> left) & 0xff) as u8)?;
+        }
+        Ok(())
+    }
+}
+
 impl<'a, X: Port> OctetOut for PacketSink<'a, X> {
     ghost use Rattle.space_packets.specs.PacketSink.{packet_sink};
 
@@ -22,6 +43,14 @@ impl<'a, X: Port> OctetOut for PacketSink<'a, X> {
         let Ok(()) = self.packets.put(self.port, octet) else {
             return Err(bit_pipe::Failed);
         };
+        Ok(())
+    }
+
+    fn put_word(&mut self, word: u64) -> Result<(), bit_pipe::Failed> {
+        if !self.packets.has_room_for_word() {
+            return self.put_each(word);
+        }
+        self.packets.add_word(word);
         Ok(())
     }
 }

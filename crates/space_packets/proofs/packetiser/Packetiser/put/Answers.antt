@@ -1,7 +1,7 @@
 use Rattle.packet_defs.specs.Packets.{part_size}
-use Rattle.std.proofs.Common.{length}
+use Rattle.std.proofs.Common.{length, ◌∷◌, [], arith}
 use Rattle.space_packets.proofs.Buffers.{given_text}
-use Rattle.space_packets.proofs.OneOctet.{goes_on_in, goes_on_past, breaks_off_at}
+use Rattle.space_packets.proofs.MoreOctets.{goes_on_in, goes_on_past, breaks_off_at}
 use Rattle.space_packets.proofs.packetiser.Packetiser.put.Goals as goal
 
 pub returns-then-has_room : goal.returns-then-has_room
@@ -12,7 +12,7 @@ returns-then-has_room g c =
     record {
       text = begun.0;
       was_open = going;
-      ends = goes_on_in going c.args.octet c.if-has_room.ensures.room c.add.ensures;
+      ends = goes_on_in going (c.args.octet ∷ []) (omega (arith, c.if-has_room.ensures.room)) c.add.ensures;
     }
 
 pub returns-in_default : goal.returns-in_default

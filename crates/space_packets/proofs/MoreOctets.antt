@@ -1,5 +1,5 @@
--- A text goes on by one octet.
-use Rattle.std.proofs.Common.{◌≡◌, ◌<◌, ◌+◌, ◌*◌, ℕ, [], ◌∷◌, ◌++◌, length, take, drop, refl, sym, ◌∙◌, ap, subst, arith, add-zero, length-append}
+-- A text goes on by octets that its part has room for, or by one past a full part.
+use Rattle.std.proofs.Common.{◌≡◌, ◌≤◌, ◌+◌, ◌*◌, ℕ, List, [], ◌∷◌, ◌++◌, length, take, drop, refl, sym, ◌∙◌, ap, subst, arith, add-zero, length-append}
 use Rattle.std.specs.Prelude.{false}
 use Rattle.std.proofs.Math.Nat.{zero-mul, one-mul}
 use Rattle.std.proofs.lemmas.List.{append-nil, drop_at, take_at}
@@ -16,20 +16,20 @@ use Rattle.space_packets.specs.Going.{same_progress, text_here}
 
 -- ---- where the part has room
 
-none_full : {t : Text} {v : Progress} → IsOpen t v → (octet : ℕ) → length v.pending < part_size v.packet → full_count v (octet ∷ []) ≡ 0
-none_full {v = v} going octet room =
-    full_parts_none (part_size v.packet) (length (v.pending ++ octet ∷ [])) (omega (arith, length-append v.pending (octet ∷ []), room)) (omega (arith, going.packet))
+none_full : {t : Text} {v : Progress} → IsOpen t v → (octets : List ℕ) → length v.pending + length octets ≤ part_size v.packet → full_count v octets ≡ 0
+none_full {v = v} going octets room =
+    full_parts_none (part_size v.packet) (length (v.pending ++ octets)) (omega (arith, length-append v.pending octets, room)) (omega (arith, going.packet))
 
-pub goes_on_in : {t : Text} {p : Outside} {v w : Progress} → IsOpen t v → (octet : ℕ) → length v.pending < part_size v.packet →
-    w ≡ record v { pending = v.pending ++ octet ∷ [] } → GoesOn t p p v w (octet ∷ [])
+pub goes_on_in : {t : Text} {p : Outside} {v w : Progress} → IsOpen t v → (octets : List ℕ) → length v.pending + length octets ≤ part_size v.packet →
+    w ≡ record v { pending = v.pending ++ octets } → GoesOn t p p v w octets
 unfolding first_packets
-goes_on_in {t = t} {p = p} {v = v} {w = w} going octet room e =
-    let none : full_count v (octet ∷ []) ≡ 0 = none_full going octet room in
-    let nothing : written t v (octet ∷ []) ≡ [] = ap (first_octets t v (octet ∷ [])) none in
-    let all = v.pending ++ octet ∷ [] in
+goes_on_in {t = t} {p = p} {v = v} {w = w} going octets room e =
+    let none : full_count v octets ≡ 0 = none_full going octets room in
+    let nothing : written t v octets ≡ [] = ap (first_octets t v octets) none in
+    let all = v.pending ++ octets in
     record {
       out = subst (λ gave. Since p p [] gave [] NoRead) (sym nothing) (since_start p NoRead);
-      stands = e ∙ sym (same_progress {v = after t v (octet ∷ [])} {w = record v { pending = all }} refl
+      stands = e ∙ sym (same_progress {v = after t v octets} {w = record v { pending = all }} refl
           (ap (λ n. Begun (text_at t n)) none ∙ ap Begun (text_here t) ∙ sym going.stage) refl
           (ap (λ n. v.packets + n) none ∙ add-zero v.packets)
           (ap (λ xs. v.octets + length xs) nothing ∙ add-zero v.octets)
