@@ -1,12 +1,16 @@
-//! Times the rolling forward transform, and the lifting of rows that it is made of. The argument is how many rows
-//! there are; without one there are 24. The times go to standard error.
+//! Times the rolling transform both ways at three widths, and the lifting of rows that it is made of. The argument is how
+//! many rows there are; without one there are 24. The times go to standard error.
 #![tactic(auto)]
 
 ghost use Rattle.std.specs.Prelude.{◌≡◌, ◌≤◌, ◌<◌, ◌*◌, ◌+◌, ◌%◌, ◌/◌, ◌^◌, ℕ, false, pos, replicate, length, IfOk};
 ghost use Rattle.wave_defs.specs.Within.{AllWithin};
 ghost use Rattle.wave_defs.specs.Held.{signal};
 ghost use Rattle.wave_strip.specs.Strip.{rows_of, columns_of, has_ended};
+ghost use Rattle.inverse_strip.specs.Kept.{IsIdle};
+ghost use Rattle.inverse_strip.specs.Strip.{Keeps, columns_of as blocks_of, height_of, next_of, taken_of};
 
+use block_families::place_of;
+use inverse_strip::StripInverse;
 use std::time::{Duration, Instant};
 use std::{env, io, mem};
 use wave_strip::StripWave;
@@ -69,10 +73,56 @@ fn copy_rows(into: &mut [i32], row: &[i32], times: u32)
     }
 }
 
-fn note(rt: &HostRuntime, what: &str, rows: u32, time: Duration) -> io::Result<()> {
+// Puts the same number at each place of a block.
+fn put_block(inverse: &mut StripInverse, column: u32)
+    requires within { column < blocks_of inverse.old }
+    requires stands { taken_of inverse.old < height_of inverse.old }
+    ensures { Keeps inverse.old inverse.new }
+{
+    for position in 0..64 {
+        inverse.put(place_of(position, column), 5);
+    }
+}
+
+fn put_blocks(inverse: &mut StripInverse, columns: u32)
+    requires columns { blocks_of inverse.old ≡ columns }
+    requires stands { taken_of inverse.old < height_of inverse.old }
+    ensures { Keeps inverse.old inverse.new }
+{
+    for column in 0..columns {
+        put_block(inverse, column);
+    }
+}
+
+// Makes all rows that can be made.
+fn make_rows(inverse: &mut StripInverse)
+    ensures columns { blocks_of inverse.new ≡ blocks_of inverse.old }
+    ensures height { height_of inverse.new ≡ height_of inverse.old }
+    ensures taken { taken_of inverse.new ≡ taken_of inverse.old }
+    ensures idle { IsIdle (taken_of inverse.new) (next_of inverse.new) (height_of inverse.new) }
+{
+    while inverse.make_row() {}
+}
+
+// Pushes all block rows, and makes all rows of the image.
+fn inverse_rows(inverse: &mut StripInverse, columns: u32, block_rows: u32)
+    requires columns { blocks_of inverse.old ≡ columns }
+    requires height { height_of inverse.old ≡ block_rows }
+    requires taken { taken_of inverse.old ≡ 0 }
+    requires next { next_of inverse.old ≡ 0 }
+    requires some { 3 ≤ block_rows }
+{
+    for _ in 0..block_rows {
+        put_blocks(inverse, columns);
+        inverse.push_block_row();
+        make_rows(inverse);
+    }
+}
+
+fn note(rt: &HostRuntime, what: &str, rows: u32, width: u32, time: Duration) -> io::Result<()> {
     let seconds = time.as_secs();
     let micros = time.subsec_micros();
-    eprintln!(rt; "{what}: {rows} rows of {WIDTH} in {seconds}.{micros:06} s")
+    eprintln!(rt; "{what}: {rows} rows of {width} in {seconds}.{micros:06} s")
 }
 
 fn rows_asked(rt: &HostRuntime) -> io::Result<u32>
@@ -93,11 +143,11 @@ fn time_rows(rt: &HostRuntime, row: &[i32], whole: &mut [i32], rows: u32) -> io:
 {
     let start = Instant::now(rt)?;
     copy_rows(whole, row, rows);
-    note(rt, "copy", rows, start.elapsed(rt)?)?;
+    note(rt, "copy", rows, WIDTH, start.elapsed(rt)?)?;
 
     let start = Instant::now(rt)?;
     predict_rows(whole, row, rows);
-    note(rt, "copy and predict_sub", rows, start.elapsed(rt)?)?;
+    note(rt, "copy and predict_sub", rows, WIDTH, start.elapsed(rt)?)?;
 
     let start = Instant::now(rt)?;
     predict_lanes(whole, row, rows);
@@ -105,6 +155,7 @@ fn time_rows(rt: &HostRuntime, row: &[i32], whole: &mut [i32], rows: u32) -> io:
         rt,
         "copy and predict_sub on lanes",
         rows,
+        WIDTH,
         start.elapsed(rt)?,
     )
 }
@@ -123,10 +174,16 @@ fn time_split(
 {
     let start = Instant::now(rt)?;
     split_rows(row, low, high, rows);
-    note(rt, "forward_row", rows, start.elapsed(rt)?)
+    note(rt, "forward_row", rows, WIDTH, start.elapsed(rt)?)
 }
 
-fn time_strip(rt: &HostRuntime, row: &[i32], strip: &mut StripWave, rows: u32) -> io::Result<()>
+fn time_strip(
+    rt: &HostRuntime,
+    row: &[i32],
+    strip: &mut StripWave,
+    rows: u32,
+    width: u32,
+) -> io::Result<()>
     requires wide { length row.now ≡ 8 * columns_of strip.old }
     requires bounded { AllWithin (2 ^ 16) (8 * columns_of strip.old) (signal row.now) }
     requires few { rows_of strip.old + rows < 262144 }
@@ -134,8 +191,50 @@ fn time_strip(rt: &HostRuntime, row: &[i32], strip: &mut StripWave, rows: u32) -
 {
     let start = Instant::now(rt)?;
     let last = push_rows(strip, row, rows);
-    note(rt, "push_row", rows, start.elapsed(rt)?)?;
+    note(rt, "push_row", rows, width, start.elapsed(rt)?)?;
     eprintln!(rt; "last block row {last}")
+}
+
+fn time_forward(rt: &HostRuntime, width: u32, rows: u32) -> io::Result<()>
+    requires whole { width ≡ 8 * (width / 8) }
+    requires wide { 24 ≤ width }
+    requires short { width ≤ 2 ^ 20 }
+    requires few { rows < 2 ^ 16 }
+{
+    let row = vec![in rt.alloc(); 200i32; width as usize]?;
+    let mut strip = StripWave::new(rt.alloc(), width)?;
+    let timed = time_strip(rt, &row, &mut strip, rows, width);
+    mem::forget(strip);
+    timed
+}
+
+fn time_inverse(rt: &HostRuntime, width: u32, block_rows: u32) -> io::Result<()>
+    requires whole { width ≡ 8 * (width / 8) }
+    requires wide { 24 ≤ width }
+    requires short { width ≤ 2 ^ 20 }
+    requires some { 3 ≤ block_rows }
+    requires few { block_rows ≤ 2 ^ 13 }
+{
+    let mut inverse = StripInverse::new(rt.alloc(), width, 8 * block_rows)?;
+    let start = Instant::now(rt)?;
+    inverse_rows(&mut inverse, width / 8, block_rows);
+    note(
+        rt,
+        "put and make_row",
+        8 * block_rows,
+        width,
+        start.elapsed(rt)?,
+    )
+}
+
+fn time_transform(rt: &HostRuntime, width: u32, rows: u32) -> io::Result<()>
+    requires whole { width ≡ 8 * (width / 8) }
+    requires wide { 24 ≤ width }
+    requires short { width ≤ 2 ^ 20 }
+    requires few { rows < 2 ^ 16 }
+{
+    time_forward(rt, width, rows)?;
+    time_inverse(rt, width, (rows / 8).max(3))
 }
 
 fn main(rt: HostRuntime) -> io::Result<()> {
@@ -147,9 +246,8 @@ fn main(rt: HostRuntime) -> io::Result<()> {
     let mut whole = vec![in rt.alloc(); 0i32; width]?;
     time_rows(&rt, &row, &mut whole, rows)?;
     time_split(&rt, &row, &mut low, &mut high, rows)?;
-    let mut strip = StripWave::new(rt.alloc(), WIDTH)?;
-    let timed = time_strip(&rt, &row, &mut strip, rows);
-    mem::forget(strip);
-    timed?;
+    time_transform(&rt, 512, rows)?;
+    time_transform(&rt, 4096, rows)?;
+    time_transform(&rt, 65_536, rows)?;
     println!(rt; "done")
 }

@@ -9,7 +9,3 @@ time_rows-requires-clause-bounded c =
 pub time_split-requires-clause-bounded : goal.time_split-requires-clause-bounded
 time_split-requires-clause-bounded c =
     flat_within (2 ^ 24) _ 4096 _ (c.deref-2.ensures.value ∙ c.in_ok-row.ensures.items_if_clones_equal (λ y h. h)) (omega arith) (omega (arith, c.in_ok-low.ensures.len))
-
-pub time_strip-timed-requires-clause-bounded : goal.time_strip-timed-requires-clause-bounded
-time_strip-timed-requires-clause-bounded c =
-    flat_within (2 ^ 16) _ 4096 _ (c.deref-3.ensures.value ∙ c.in_ok-row.ensures.items_if_clones_equal (λ y h. h)) (omega arith) (omega (arith, c.in_ok-strip.ensures.columns))
