@@ -76,13 +76,14 @@ all_words length word v few all below =
 
 -- ---- the options of a gaggle
 
-pub rows_chosen : (options : List ℕ) (n : ℕ) → n ≤ 4 → get_or (0 ∷ 1 ∷ (2 + get_or options 0 0) ∷ (4 + get_or options 1 0) ∷ (7 + get_or options 2 0) ∷ []) n 0 ≡ row_of n (option_for options n)
-rows_chosen options zero le = refl
-rows_chosen options (suc zero) le = refl
-rows_chosen options (suc (suc zero)) le = refl
-rows_chosen options (suc (suc (suc zero))) le = refl
-rows_chosen options (suc (suc (suc (suc zero)))) le = refl
-rows_chosen options (suc (suc (suc (suc (suc n))))) le = absurd (omega arith)
+pub rows_chosen : (rows : List (List Code)) (options : List ℕ) (n : ℕ) → n ≤ 4 →
+    get_or (get_or rows 0 [] ∷ get_or rows 1 [] ∷ get_or rows (2 + get_or options 0 0) [] ∷ get_or rows (4 + get_or options 1 0) [] ∷ get_or rows (7 + get_or options 2 0) [] ∷ []) n [] ≡ get_or rows (row_of n (option_for options n)) []
+rows_chosen rows options zero le = refl
+rows_chosen rows options (suc zero) le = refl
+rows_chosen rows options (suc (suc zero)) le = refl
+rows_chosen rows options (suc (suc (suc zero))) le = refl
+rows_chosen rows options (suc (suc (suc (suc zero)))) le = refl
+rows_chosen rows options (suc (suc (suc (suc (suc n))))) le = absurd (omega arith)
 
 pub word_of_length : (options : List ℕ) (word : ℕ) → AreOptions options → IsPacked word → IsWordOf (word / 16) (option_for options (word / 16)) (word % 16)
 word_of_length options word known packed = record {

@@ -13,6 +13,7 @@ pub(crate) struct Gaggle {
     pub sent: [bool; 3],
 }
 
+#[inline]
 pub(crate) fn depth_of(mark: i32) -> u8
     ensures value { result ≡ depth_in mark }
     ensures within { result < 32 }

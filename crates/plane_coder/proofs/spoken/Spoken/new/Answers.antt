@@ -1,5 +1,4 @@
-use Rattle.plane_coder.proofs.CodeRows.{rows_chosen}
 use Rattle.plane_coder.proofs.spoken.Spoken.new.Goals as goal
 
 pub invariant_of-result : goal.invariant_of-result
-invariant_of-result c = record { known = c.requires; chosen = rows_chosen c.args.options }
+invariant_of-result c = record { known = c.requires; chosen = c.new.ensures }
