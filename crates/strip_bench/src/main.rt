@@ -208,16 +208,21 @@ fn time_forward(rt: &HostRuntime, width: u32, rows: u32) -> io::Result<()>
     timed
 }
 
-fn time_inverse(rt: &HostRuntime, width: u32, block_rows: u32) -> io::Result<()>
-    requires whole { width ≡ 8 * (width / 8) }
-    requires wide { 24 ≤ width }
-    requires short { width ≤ 2 ^ 20 }
+fn time_inverse(
+    rt: &HostRuntime,
+    inverse: &mut StripInverse,
+    width: u32,
+    block_rows: u32,
+) -> io::Result<()>
+    requires columns { blocks_of inverse.old ≡ width / 8 }
+    requires height { height_of inverse.old ≡ block_rows }
+    requires taken { taken_of inverse.old ≡ 0 }
+    requires next { next_of inverse.old ≡ 0 }
     requires some { 3 ≤ block_rows }
     requires few { block_rows ≤ 2 ^ 13 }
 {
-    let mut inverse = StripInverse::new(rt.alloc(), width, 8 * block_rows)?;
     let start = Instant::now(rt)?;
-    inverse_rows(&mut inverse, width / 8, block_rows);
+    inverse_rows(inverse, width / 8, block_rows);
     note(
         rt,
         "put and make_row",
@@ -227,6 +232,19 @@ fn time_inverse(rt: &HostRuntime, width: u32, block_rows: u32) -> io::Result<()>
     )
 }
 
+fn time_backward(rt: &HostRuntime, width: u32, block_rows: u32) -> io::Result<()>
+    requires whole { width ≡ 8 * (width / 8) }
+    requires wide { 24 ≤ width }
+    requires short { width ≤ 2 ^ 20 }
+    requires some { 3 ≤ block_rows }
+    requires few { block_rows ≤ 2 ^ 13 }
+{
+    let mut inverse = StripInverse::new(rt.alloc(), width, 8 * block_rows)?;
+    let timed = time_inverse(rt, &mut inverse, width, block_rows);
+    mem::forget(inverse);
+    timed
+}
+
 fn time_transform(rt: &HostRuntime, width: u32, rows: u32) -> io::Result<()>
     requires whole { width ≡ 8 * (width / 8) }
     requires wide { 24 ≤ width }
@@ -234,7 +252,7 @@ fn time_transform(rt: &HostRuntime, width: u32, rows: u32) -> io::Result<()>
     requires few { rows < 2 ^ 16 }
 {
     time_forward(rt, width, rows)?;
-    time_inverse(rt, width, (rows / 8).max(3))
+    time_backward(rt, width, (rows / 8).max(3))
 }
 
 fn main(rt: HostRuntime) -> io::Result<()> {
