@@ -97,3 +97,6 @@ fn main(rt: HostRuntime) -> ExitCode {
     let mut port = StdPort::new(rt.stdin(), rt.stdout(), rt.stderr());
     run_words(rt.alloc(), words.as_slice(), &mut port)
 }
+
+#[cfg(test)]
+mod tests;
