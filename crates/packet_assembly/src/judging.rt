@@ -8,7 +8,7 @@ ghost use Rattle.segment_defs.specs.Reading.{head_read};
 ghost use Rattle.packet_assembly.specs.Judging.{judged, past_kept};
 
 use crate::agreement::{blocks_of, disagreement, geometry_for};
-use base_122::Geometry;
+use base_122::{FieldRange, Geometry};
 use packet_defs::Ancillary;
 use segment_defs::{HeadFault, SegmentHead};
 use segment_head::read_head;
@@ -105,7 +105,7 @@ fn is_foreign(state: &FateState, ancillary: &Ancillary) -> bool
 fn is_size(rows: u32, segment: u32) -> bool
     ensures { result ≡ (is_within rows_range rows && is_within segment_range segment) }
 {
-    17 <= rows && rows <= 262_144 && 16 <= segment && segment <= 1_048_575
+    FieldRange::ROWS.contains(u64::from(rows)) && FieldRange::SEGMENT.contains(u64::from(segment))
 }
 
 // The packet tells of another image than this, or of a block past its last.

@@ -21,8 +21,7 @@ const PIECE: usize = 4_096;
 
 /// Reads a stream of octets as packets (docs/formats.md, "Packets").
 ///
-/// It takes so many octets at most, in pieces of at most 4,096. It reads on only where the octets that it has taken don't decide
-/// what comes next.
+/// It takes so many octets at most, and reads on only where the octets that it has taken don't decide what comes next.
 #[derive(Drop)]
 pub struct PacketReader {
     buffer: Vec<u8>,
