@@ -94,11 +94,10 @@ impl Assembly {
     pub fn next_packet<X: Port>(&mut self, port: &mut X) -> Result<Option<PacketNote>, InFault>
         ensures { ReadsNote (X.outside port.old) (X.outside port.new) self.old self.new result }
     {
-        match self.pass(port) {
-            Ok(Some(passed)) => Ok(Some(passed.note)),
-            Ok(None) => Ok(None),
-            Err(fault) => Err(fault),
-        }
+        let Some(passed) = self.pass(port)? else {
+            return Ok(None);
+        };
+        Ok(Some(passed.note))
     }
 
     /// Goes on to the next segment, past what is left of an earlier one, or to the end or what can't be read on. A segment whose

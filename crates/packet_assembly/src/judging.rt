@@ -74,10 +74,7 @@ fn read_first(
         (λ fault. head_refusal standing ancillary.now (head_read text.now) ≡ Some fault) }
     ensures fits { IfOk result (λ head. IsHead head) }
 {
-    let head = match read_head(text) {
-        Ok(head) => head,
-        Err(fault) => return Err(fault),
-    };
+    let head = read_head(text)?;
     let geometry = geometry_for(standing, ancillary, &head.image);
     match disagreement(&geometry, ancillary, &head) {
         None => Ok(head),
