@@ -17,7 +17,8 @@ use Rattle.segment_defs.specs.declared.head.SegmentHead.{SegmentHead}
 use Rattle.segment_defs.specs.Depths.{dc_of, dcs_of}
 use Rattle.segment_defs.specs.SegmentItems.{Options, dc_shift, q_of, dc_part_items}
 use Rattle.text_defs.specs.Spellable.{IsSpellable, block_of}
-use Rattle.text_defs.specs.Given.{numbers_through, dc_through, high_count, is_dc_bit_given}
+use Rattle.number_defs.specs.Given.{numbers_through}
+use Rattle.text_defs.specs.Given.{dc_through, high_count, is_dc_bit_given}
 use Rattle.text_defs.proofs.Prefixes.{SaySame, Inside, Past, split, first_part}
 use Rattle.text_defs.proofs.NumbersTold.{by_length, numbers_told}
 

@@ -24,7 +24,8 @@ use Rattle.segment_defs.specs.Depths.{dc_of, dcs_of}
 use Rattle.segment_defs.specs.SegmentItems.{Options, dc_shift, q_of, dc_part_items, segment_items}
 use Rattle.wave_defs.specs.Blocks as wave_blocks
 use Rattle.text_defs.specs.Spellable.{IsSpellable, block_of}
-use Rattle.text_defs.specs.Given.{numbers_through, dc_through, high_count, is_dc_bit_given, given_in, has_bit, has_sign, given_magnitude, given_ac, given_low, given_dc, given_block, given_blocks}
+use Rattle.number_defs.specs.Given.{numbers_through}
+use Rattle.text_defs.specs.Given.{dc_through, high_count, is_dc_bit_given, given_in, has_bit, has_sign, given_magnitude, given_ac, given_low, given_dc, given_block, given_blocks}
 use Rattle.text_defs.specs.Laws.{AllGiven}
 use Rattle.text_defs.proofs.SegmentAlike.{list_same}
 use Rattle.text_defs.proofs.SameTold.{any_bit, any_sign}

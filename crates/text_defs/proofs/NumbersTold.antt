@@ -10,7 +10,7 @@ use Rattle.item_defs.specs.Laws.{said_of}
 use Rattle.number_defs.specs.Gaggles.{Kind, uncoded, value_at, first_place, places, uncoded_value, unary_part, rest_part, value_items, lead_items, gaggle_items, items_before, gaggle_count, number_items}
 use Rattle.number_defs.proofs.Stepping as stepping
 use Rattle.plane_defs.proofs.Settled.{head_same, tail_same}
-use Rattle.text_defs.specs.Given.{numbers_through}
+use Rattle.number_defs.specs.Given.{numbers_through}
 use Rattle.text_defs.proofs.Prefixes.{SaySame, split}
 use Rattle.text_defs.proofs.PlaneTold.{Parts, say_as}
 

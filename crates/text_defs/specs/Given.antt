@@ -6,9 +6,9 @@ use Rattle.std.specs.Int.{int_shr}
 use lib.ListN.{get_or}
 use Rattle.item_defs.specs.Bits.{bit}
 use Rattle.number_defs.specs.Ranges.{shifted_height, complement}
-use Rattle.number_defs.specs.Gaggles.{Kind, uncoded, first_place, places, lead_items, items_before}
 use Rattle.number_defs.specs.DcPart.{dc_bits, dc_kind, dc_planes, high_items}
 use Rattle.number_defs.specs.Depths.{depth_items}
+use Rattle.number_defs.specs.Given.{numbers_through}
 use Rattle.plane_defs.specs.declared.codes.Book.{Book}
 use Rattle.plane_defs.specs.declared.entries.Entry.{Entry}
 use Rattle.plane_defs.specs.Spans.{span}
@@ -22,16 +22,6 @@ use Rattle.segment_defs.specs.declared.head.SegmentHead.{SegmentHead}
 use Rattle.segment_defs.specs.Depths.{dc_of, dcs_of}
 use Rattle.segment_defs.specs.SegmentItems.{Options, dc_shift, q_of, plane_at, stages_sent, dc_part_items, planes_items}
 use Rattle.text_defs.specs.Spellable.{block_of}
-
--- ---- numbers by differences: how many items make the number at a place whole, with all before it
-
-abbrev pub numbers_through : Kind → List ℕ → (ℕ → ℕ) → ℕ → ℕ
-numbers_through kind heights options i =
-    let g = i / 16 in
-    let option = options g in
-    let lead = length (items_before kind heights options g) + 1 + length (lead_items kind heights g) in
-    let unary = if option == uncoded kind.bits || option == 0 then 0 else length (places (length heights) g) in
-    if i == 0 then lead else lead + unary + (i - first_place g + 1)
 
 -- ---- the DC part: its numbers, and then plane by plane a bit of each
 
