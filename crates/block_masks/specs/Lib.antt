@@ -1,2 +1,5 @@
 pub mod Masks
 pub mod Picks
+pub mod SetMasks
+pub mod Gaggles
+pub mod Stored

@@ -1,10 +1,26 @@
-//! What the numbers of a block are in a bit plane, as masks: bit k of a mask tells of the k-th position.
+//! What the numbers of a block are in a bit plane, as masks of 64 bits, and what the writer and the reader of a plane share
+//! (docs/formats.md, "Bit planes").
+//!
+//! Bit k of a mask tells of the k-th position. `plan` makes a `CodedPlane` of a `PlanePlan`, once for all blocks. `masks`
+//! reads a block, `nibbles` makes masks of masks, `sets` tells which sets of positions have a member of a mask, and `picks`
+//! gathers the bits of up to four positions. `stages` has the stages by their numbers; from one stage to the next `gaggle`
+//! keeps in the marks which options and words the gaggles have, and which families of a block are significant.
 #![tactic(auto)]
 
+mod gaggle;
 mod masks;
 mod nibbles;
 mod picks;
+mod plan;
+mod sets;
+mod stages;
 
-pub use masks::{having_bit, negative, reaching};
+pub use gaggle::{
+    Gaggle, depth_of, families_of, gaggle_in, load, mark_of, store, store_families, with_families,
+};
+pub use masks::{all_having_bit, all_negative, all_reaching};
 pub use nibbles::{beside, both, either, four, has, is_any, joined, masked, one, part, three};
-pub use picks::pick;
+pub use picks::{pick, spread};
+pub use plan::{CodedPlane, PlanePlan};
+pub use sets::{Sets, is_any_of, quads_of};
+pub use stages::stage_at;

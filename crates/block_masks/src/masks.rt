@@ -1,12 +1,13 @@
-// Masks of sixteen numbers.
+// Masks of the numbers of a block, sixteen at a time.
 
-ghost use Rattle.std.specs.Prelude.{◌≡◌, ◌+◌, ◌≤◌, ◌<◌, ℕ, ◌≤ℤ◌, ◌^◌, length, pos, slice_index_or, unsigned_abs, nat_lt, FitsSigned};
+ghost use Rattle.std.specs.Prelude.{◌≡◌, ◌+◌, ◌≤◌, ◌<◌, ℕ, ◌≤ℤ◌, ◌^◌, Bool, length, pos, slice_index_or, unsigned_abs, nat_lt, FitsSigned};
 ghost use Rattle.std.specs.Int.{w32};
 ghost use Rattle.item_defs.specs.Bits.{bit};
 ghost use Rattle.plane_defs.specs.Sets.{magnitude, significant};
 ghost use Rattle.plane_defs.specs.Entries.{negative as is_negative};
 ghost use Rattle.block_masks.specs.Masks.{Shows};
 
+use crate::nibbles::joined;
 use std::simd::prelude::*;
 
 // Reads sixteen numbers for the proof, which then knows that each fits its type. No code is left of it.
@@ -34,9 +35,9 @@ fn outside(block: &[i32], start: usize, most: i32) -> u64
     (above | below).to_bitmask()
 }
 
-/// Which of the sixteen numbers from `start` on are at least 2^plane in magnitude.
+// Which of the sixteen numbers from `start` on are at least 2^plane in magnitude.
 #[inline(always)]
-pub fn reaching(block: &[i32], start: usize, plane: u8) -> u64
+fn reaching(block: &[i32], start: usize, plane: u8) -> u64
     requires within { start + 16 ≤ length block.now }
     requires low { plane < 31 }
     ensures { Shows result (significant block.now plane) start 16 }
@@ -45,9 +46,9 @@ pub fn reaching(block: &[i32], start: usize, plane: u8) -> u64
     outside(block, start, most as i32)
 }
 
-/// Which of the sixteen numbers from `start` on are below 0.
+// Which of the sixteen numbers from `start` on are below 0.
 #[inline(always)]
-pub fn negative(block: &[i32], start: usize) -> u64
+fn negative(block: &[i32], start: usize) -> u64
     requires { start + 16 ≤ length block.now }
     ensures { Shows result (λ p. is_negative (slice_index_or block.now p (pos 0))) start 16 }
 {
@@ -56,9 +57,9 @@ pub fn negative(block: &[i32], start: usize) -> u64
     numbers.simd_lt(i32x16::splat(0)).to_bitmask()
 }
 
-/// Which of the sixteen numbers from `start` on have the bit of weight 2^plane in their magnitude.
+// Which of the sixteen numbers from `start` on have the bit of weight 2^plane in their magnitude.
 #[inline(always)]
-pub fn having_bit(block: &[i32], start: usize, plane: u8) -> u64
+fn having_bit(block: &[i32], start: usize, plane: u8) -> u64
     requires within { start + 16 ≤ length block.now }
     requires low { plane < 31 }
     ensures { Shows result (λ p. bit (magnitude block.now p) plane) start 16 }
@@ -67,4 +68,62 @@ pub fn having_bit(block: &[i32], start: usize, plane: u8) -> u64
     let sizes = i32x16::from_slice(&block[start..]).abs();
     let bits = sizes & i32x16::splat(1i32 << plane);
     bits.simd_ne(i32x16::splat(0)).to_bitmask()
+}
+
+// Four masks of sixteen positions, one behind the other.
+#[inline(always)]
+fn whole(first: u64, second: u64, third: u64, fourth: u64) -> u64
+    requires first { first < 2 ^ 16 }
+    requires second { second < 2 ^ 16 }
+    requires third { third < 2 ^ 16 }
+    requires fourth { fourth < 2 ^ 16 }
+    ensures { (f : ℕ → Bool) → Shows first f 0 16 → Shows second f 16 16 → Shows third f 32 16 → Shows fourth f 48 16 → Shows result f 0 64 }
+{
+    let low = joined(first, second, 16);
+    let high = joined(third, fourth, 16);
+    joined(low, high, 32)
+}
+
+/// Which numbers of a block are significant in a plane: at least 2^plane in magnitude.
+#[inline(always)]
+pub fn all_reaching(block: &[i32], plane: u8) -> u64
+    requires whole { length block.now ≡ 64 }
+    requires low { plane < 31 }
+    ensures { Shows result (significant block.now plane) 0 64 }
+{
+    whole(
+        reaching(block, 0, plane),
+        reaching(block, 16, plane),
+        reaching(block, 32, plane),
+        reaching(block, 48, plane),
+    )
+}
+
+/// Which numbers of a block have the bit of weight 2^plane in their magnitude.
+#[inline(always)]
+pub fn all_having_bit(block: &[i32], plane: u8) -> u64
+    requires whole { length block.now ≡ 64 }
+    requires low { plane < 31 }
+    ensures { Shows result (λ p. bit (magnitude block.now p) plane) 0 64 }
+{
+    whole(
+        having_bit(block, 0, plane),
+        having_bit(block, 16, plane),
+        having_bit(block, 32, plane),
+        having_bit(block, 48, plane),
+    )
+}
+
+/// Which numbers of a block are below 0.
+#[inline(always)]
+pub fn all_negative(block: &[i32]) -> u64
+    requires { length block.now ≡ 64 }
+    ensures { Shows result (λ p. is_negative (slice_index_or block.now p (pos 0))) 0 64 }
+{
+    whole(
+        negative(block, 0),
+        negative(block, 16),
+        negative(block, 32),
+        negative(block, 48),
+    )
 }

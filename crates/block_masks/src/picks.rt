@@ -1,6 +1,7 @@
-// The bits of four positions that are due.
+// The bits of four positions that are due, as a word and back.
 
-ghost use Rattle.std.specs.Prelude.{◌≡◌, ◌<◌, ◌≤◌, ◌/◌, ◌%◌, ◌^◌, ℕ, Bool, map, filter};
+ghost use Rattle.std.specs.Prelude.{◌≡◌, ◌<◌, ◌≤◌, ◌/◌, ◌%◌, ◌^◌, ◌&&◌, ◌-◌, ℕ, Bool, count_ones, map, filter};
+ghost use Rattle.item_defs.specs.Bits.{bit, value_of};
 ghost use Rattle.plane_defs.specs.Spans.{span};
 ghost use Rattle.block_masks.specs.Masks.{Shows};
 ghost use Rattle.block_masks.specs.Picks.{packed};
@@ -67,4 +68,39 @@ pub fn pick(due: u64, bits: u64) -> u8
     ensures fits { result % 16 < 2 ^ (result / 16) }
 {
     PICKS[due as usize][bits as usize]
+}
+
+// For each mask of what is due, and each number that the bits of the due positions make, the first highest: the positions
+// whose bit is 1. Numbers of more bits stand for none.
+const SPREADS: [[u8; 16]; 16] = [
+    [0, 0, 0, 0, 0, 0, 0, 0, 0, 0, 0, 0, 0, 0, 0, 0],
+    [0, 1, 0, 0, 0, 0, 0, 0, 0, 0, 0, 0, 0, 0, 0, 0],
+    [0, 2, 0, 0, 0, 0, 0, 0, 0, 0, 0, 0, 0, 0, 0, 0],
+    [0, 2, 1, 3, 0, 0, 0, 0, 0, 0, 0, 0, 0, 0, 0, 0],
+    [0, 4, 0, 0, 0, 0, 0, 0, 0, 0, 0, 0, 0, 0, 0, 0],
+    [0, 4, 1, 5, 0, 0, 0, 0, 0, 0, 0, 0, 0, 0, 0, 0],
+    [0, 4, 2, 6, 0, 0, 0, 0, 0, 0, 0, 0, 0, 0, 0, 0],
+    [0, 4, 2, 6, 1, 5, 3, 7, 0, 0, 0, 0, 0, 0, 0, 0],
+    [0, 8, 0, 0, 0, 0, 0, 0, 0, 0, 0, 0, 0, 0, 0, 0],
+    [0, 8, 1, 9, 0, 0, 0, 0, 0, 0, 0, 0, 0, 0, 0, 0],
+    [0, 8, 2, 10, 0, 0, 0, 0, 0, 0, 0, 0, 0, 0, 0, 0],
+    [0, 8, 2, 10, 1, 9, 3, 11, 0, 0, 0, 0, 0, 0, 0, 0],
+    [0, 8, 4, 12, 0, 0, 0, 0, 0, 0, 0, 0, 0, 0, 0, 0],
+    [0, 8, 4, 12, 1, 9, 5, 13, 0, 0, 0, 0, 0, 0, 0, 0],
+    [0, 8, 4, 12, 2, 10, 6, 14, 0, 0, 0, 0, 0, 0, 0, 0],
+    [0, 8, 4, 12, 2, 10, 6, 14, 1, 9, 5, 13, 3, 11, 7, 15],
+];
+
+/// The positions of a word: those among up to four due ones whose bit is 1, where the first of them has the word's highest
+/// bit.
+#[inline(always)]
+pub fn spread(due: u64, word: u8) -> u64
+    requires due { due < 16 }
+    requires word { word < 16 }
+    ensures told { (f g : ℕ → Bool) (start count : ℕ) → count ≤ 4 → Shows due g start count → value_of (map f (filter g (span start count))) ≡ word → Shows result (λ p. g p && f p) start count }
+    ensures back { (g : ℕ → Bool) (start count : ℕ) → count ≤ 4 → Shows due g start count → word < 2 ^ count_ones due →
+        value_of (map (λ p. bit result (p - start)) (filter g (span start count))) ≡ word }
+    ensures within { result < 16 }
+{
+    u64::from(SPREADS[due as usize][word as usize])
 }

@@ -9,8 +9,8 @@ use Rattle.plane_defs.specs.declared.entries.Entry.{Entry}
 use Rattle.plane_defs.specs.declared.stages.Stage.{Stage}
 use Rattle.plane_defs.specs.declared.stages.Stage.TheVariants as stages
 use Rattle.plane_defs.specs.Entries.{block_entries, parents, children, grandchildren, refinement}
-use Rattle.plane_coder.specs.declared.gaggle.Gaggle.{Gaggle}
-use Rattle.plane_coder.specs.declared.plan.CodedPlane.{CodedPlane}
+use Rattle.block_masks.specs.declared.gaggle.Gaggle.{Gaggle}
+use Rattle.block_masks.specs.declared.plan.CodedPlane.{CodedPlane}
 use Rattle.plane_coder.specs.Spells.{Spells}
 use Rattle.std.specs.List.{slice_range}
 use Rattle.wave_defs.specs.Held.{blocks_in}

@@ -16,8 +16,8 @@ use Rattle.plane_defs.specs.Marks.{depths_of}
 use Rattle.plane_defs.proofs.SpanLists.{length-map-span, get_or-map-span, flat_map-span-suc, flat_map-span-none}
 use Rattle.plane_coder.specs.declared.tally.Tally.{Tally}
 use Rattle.plane_coder.specs.declared.view.View.{View}
-use Rattle.plane_coder.specs.Gaggles.{first_mark, AreOptions, options_in, sent_in}
-use Rattle.plane_coder.specs.Stored.{Stores}
+use Rattle.block_masks.specs.Gaggles.{first_mark, AreOptions, options_in, sent_in}
+use Rattle.block_masks.specs.Stored.{Stores}
 use Rattle.plane_coder.specs.Tallies.{count_at, counts_in, Counts, CountsOf, AreAtMost}
 use Rattle.plane_coder.specs.Views.{plane_in}
 use Rattle.plane_coder.proofs.Tallying.{count_by-append, counts_none, counts_less}

@@ -9,10 +9,10 @@ use Rattle.plane_defs.specs.declared.codes.Code.{Code}
 use Rattle.plane_defs.specs.declared.codes.Book.{Book}
 use Rattle.plane_defs.specs.Codes.{code_bits, no_code, word_item}
 use Rattle.plane_coder.specs.Coding.{IsCodeOf, IsWordOf, row_of, code_in, option_for}
-use Rattle.plane_coder.specs.Gaggles.{AreOptions}
+use Rattle.block_masks.specs.Gaggles.{AreOptions}
 use Rattle.plane_coder.specs.Picked.{IsPacked}
 use Rattle.plane_defs.specs.Spelled.{option_of}
-use Rattle.plane_coder.proofs.Spelling.{option_known}
+use Rattle.block_masks.proofs.Agreeing.{option_known}
 
 no_less : (n : ℕ) → 2 ≤ n → nat_lt n 2 ≡ false
 no_less n h = grind arith

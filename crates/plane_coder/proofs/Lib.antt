@@ -1,6 +1,4 @@
-mod MarkParts
 mod Pushing
-mod Viewing
 mod Saying
 mod Keeping
 mod Speaking

@@ -1,5 +1,5 @@
 -- Items put one stretch of a span after another.
-use Rattle.std.proofs.Common.{◌≡◌, ◌≢◌, ◌⊎◌, inl, inr, ℕ, zero, suc, add-one, ◌+◌, ◌-◌, ◌*◌, ◌/◌, ◌<◌, ◌≤◌, ℤ, false, List, [], ◌∷◌, ◌++◌, length, refl, ap, sym, ◌∙◌, subst, arith, append_assoc, zero-add, get_or}
+use Rattle.std.proofs.Common.{◌≡◌, ℕ, zero, suc, add-one, ◌+◌, ◌-◌, ◌*◌, ◌/◌, ◌<◌, ℤ, false, List, [], ◌∷◌, ◌++◌, length, refl, ap, sym, ◌∙◌, subst, arith, append_assoc, zero-add, get_or}
 use Rattle.std.specs.Prelude.{Result, Ok, Err, OnOk}
 use Rattle.std.specs.List.{flat_map, list_any}
 use Rattle.base_122.specs.declared.weights.Weights.{Weights}
@@ -19,16 +19,15 @@ use Rattle.wave_defs.specs.Held.{blocks_in}
 use Rattle.plane_defs.specs.Planes.{Plane, gaggles, of_gaggle, before_stage, gaggle_items, stage_items, plane_items, chosen}
 use Rattle.plane_defs.specs.Marks.{depths_of}
 use Rattle.plane_defs.proofs.SpanLists.{flat_map-span-suc, flat_map-span-none, flat_map-span-parts}
-use Rattle.plane_coder.specs.declared.gaggle.Gaggle.{Gaggle}
+use Rattle.block_masks.specs.declared.gaggle.Gaggle.{Gaggle}
 use Rattle.plane_coder.specs.declared.view.View.{View}
-use Rattle.plane_coder.specs.Gaggles.{Agrees, AreOptions, AreKnown, SameMarks, options_in, sent_in, options_at, sent_at}
-use Rattle.plane_coder.specs.Stored.{Stores}
+use Rattle.block_masks.specs.Gaggles.{Agrees, AreKnown, SameMarks, options_at, AllAgree}
 use Rattle.plane_coder.specs.Spells.{Spells}
-use Rattle.plane_coder.specs.declared.plan.PlanePlan.{PlanePlan}
+use Rattle.block_masks.specs.declared.plan.PlanePlan.{PlanePlan}
 use Rattle.plane_coder.specs.Chosen.{Chooses}
-use Rattle.plane_coder.specs.Sends.{AllAgree, chosen_items}
+use Rattle.plane_coder.specs.Sends.{chosen_items}
 use Rattle.plane_coder.specs.Views.{plane_of, plane_in}
-use Rattle.plane_coder.proofs.BlockReads.{length-depths_of}
+use Rattle.block_masks.proofs.Marking.{length-depths_of}
 use Rattle.plane_coder.proofs.Spelling.{on_ok_map, spells_none, spells_both, spells_cut}
 
 -- a list of a span's places, one more
@@ -109,60 +108,6 @@ gaggle_agrees view d0 d1 stage j g {a} {b} {r} same is agrees p =
     let more : before ++ of_gaggle (plane_in view d1) stage g ≡ before_stage (plane_in view d0) (j + 1) g =
     ap (λ l. before ++ l) (gaggle_there view d0 d1 stage j g same is) ∙ before_more (plane_in view d0) j g in
     on_ok_map r (subst (Agrees b.sent) more) (p.agrees before agrees)
-
--- ---- the marks
-
-pub same_marks : (marks : List ℤ) → SameMarks marks marks
-same_marks marks = record { depths = refl; whole = refl; options = λ g. refl }
-
-pub same_then : (m0 m1 m2 : List ℤ) → SameMarks m0 m1 → SameMarks m1 m2 → SameMarks m0 m2
-same_then m0 m1 m2 p q = record { depths = q.depths ∙ p.depths; whole = q.whole ∙ p.whole; options = λ g. q.options g ∙ p.options g }
-
-same_or_other : (h g : ℕ) → (h ≡ g) ⊎ (h ≢ g)
-same_or_other h g = grind arith
-
--- a gaggle is kept with the options that it had
-pub same_stored : (m0 m1 m2 : List ℤ) (g : ℕ) (gaggle : Gaggle) → SameMarks m0 m1 → Stores m1 m2 g gaggle → gaggle.options ≡ options_at m1 g → SameMarks m0 m2
-same_stored m0 m1 m2 g gaggle same put kept = record {
-  depths = put.depths ∙ same.depths;
-  whole = put.whole ∙ same.whole;
-  options = λ h.
-      elim (same_or_other h g) [
-        | inl e ↦ ap (options_at m2) e ∙ put.options ∙ kept ∙ ap (options_at m1) (sym e) ∙ same.options h
-        | inr apart ↦ ap options_in (put.others h apart) ∙ same.options h
-      ];
-}
-
-pub known_same : (m0 m1 : List ℤ) → SameMarks m0 m1 → AreKnown m0 → AreKnown m1
-known_same m0 m1 same known = record {
-  at = λ g below. subst AreOptions (sym (same.options g)) (known.at g (omega (arith, same.whole)));
-}
-
--- the flags of the gaggles put so far, and of those to come
-pub record SomeAgree (p : Plane) (j : ℕ) (marks : List ℤ) (g : ℕ) : Type 0 where
-  pub done : (h : ℕ) → h < g → Agrees (sent_at marks h) (before_stage p (j + 1) h)
-  pub todo : (h : ℕ) → g ≤ h → h < gaggles p → Agrees (sent_at marks h) (before_stage p j h)
-
-pub none_agree : (p : Plane) (j : ℕ) (marks : List ℤ) → AllAgree p j marks → SomeAgree p j marks 0
-none_agree p j marks agree = record { done = λ h below. absurd (omega arith); todo = λ h above below. agree.at h below }
-
-pub more_agree : (p : Plane) (j : ℕ) (m1 m2 : List ℤ) (g : ℕ) (gaggle : Gaggle) → SomeAgree p j m1 g → Stores m1 m2 g gaggle →
-    Agrees gaggle.sent (before_stage p (j + 1) g) → SomeAgree p j m2 (g + 1)
-more_agree p j m1 m2 g gaggle so_far put here = record {
-  done = λ h below.
-      elim (same_or_other h g) [
-        | inl e ↦
-            let there = subst (λ f. Agrees f (before_stage p (j + 1) g)) (sym put.sent) here in
-            subst (λ i. Agrees (sent_at m2 i) (before_stage p (j + 1) i)) (sym e) there
-        | inr apart ↦ subst (λ m. Agrees (sent_in m) (before_stage p (j + 1) h)) (sym (put.others h apart)) (so_far.done h (omega arith))
-      ];
-  todo = λ h above below.
-      let apart : h ≢ g = omega arith in
-      subst (λ m. Agrees (sent_in m) (before_stage p j h)) (sym (put.others h apart)) (so_far.todo h (omega arith) below);
-}
-
-pub all_agree : (p : Plane) (j : ℕ) (marks : List ℤ) (g : ℕ) → gaggles p ≤ g → SomeAgree p j marks g → AllAgree p (j + 1) marks
-all_agree p j marks g all agree = record { at = λ h below. agree.done h (omega arith) }
 
 -- ---- the same items by equal options and depths
 

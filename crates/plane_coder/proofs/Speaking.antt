@@ -17,14 +17,15 @@ use Rattle.plane_defs.specs.declared.entries.Bits.{Bits}
 use Rattle.plane_defs.specs.Codes.{word_item, option_item, identifier_width}
 use Rattle.plane_defs.specs.Spelled.{is_word_of, option_of, entry_items, spelled_after, opening}
 use Rattle.plane_defs.proofs.SpelledLists.{spelled_after-append}
-use Rattle.plane_coder.specs.declared.gaggle.Gaggle.{Gaggle}
-use Rattle.plane_coder.specs.Gaggles.{Agrees}
+use Rattle.block_masks.specs.declared.gaggle.Gaggle.{Gaggle}
+use Rattle.block_masks.specs.Gaggles.{Agrees}
 use Rattle.plane_coder.specs.Spells.{Spells}
 use Rattle.plane_coder.specs.declared.speech.Speech.{Speech}
 use Rattle.plane_coder.specs.Picked.{word_of}
 use Rattle.plane_coder.specs.Coding.{word_bits, option_for, unopened}
 use Rattle.plane_coder.specs.Speaks.{Speaks, Opens, identified, said, load}
-use Rattle.plane_coder.proofs.Spelling.{on_ok, puts_open, raw_text, short_text, again_text, first_text, agrees_other, agrees_again, agrees_first}
+use Rattle.block_masks.proofs.Agreeing.{agrees_other, agrees_again, agrees_first}
+use Rattle.plane_coder.proofs.Spelling.{on_ok, puts_open, raw_text, short_text, again_text, first_text}
 
 -- entries that nothing says
 pub speaks_none : (book : Book) (a : Speech) → Speaks book a a [] 0

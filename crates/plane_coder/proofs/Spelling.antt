@@ -1,8 +1,7 @@
 -- Entries put one after another.
-use Rattle.std.proofs.Common.{◌≡◌, ◌≢◌, ℕ, zero, suc, ◌-◌, ◌<◌, ◌≤◌, ◌⊎◌, inl, inr, Bool, true, false, cond, List, [], ◌∷◌, ◌++◌, length, refl, ap, sym, ◌∙◌, subst, arith, append_assoc, append-nil, get_or, set, get_or-set_same, get_or-set_other}
-use Rattle.std.specs.Prelude.{◌==◌, ◌||◌, Result, Ok, Err, OnOk}
+use Rattle.std.proofs.Common.{◌≡◌, ℕ, ◌<◌, ◌≤◌, ◌⊎◌, inl, inr, Bool, true, false, cond, List, [], ◌∷◌, ◌++◌, refl, ap, sym, ◌∙◌, subst, arith, append_assoc, append-nil}
+use Rattle.std.specs.Prelude.{◌==◌, Result, Ok, Err, OnOk}
 use Rattle.std.specs.List.{list_any}
-use Rattle.std.proofs.lemmas.List.Folds.{list_any-append}
 use Rattle.item_defs.specs.Bits.{bits_of}
 use Rattle.item_defs.proofs.NumberBits.{bits_none}
 use Rattle.item_defs.specs.Items.{item_bits, text}
@@ -18,8 +17,9 @@ use Rattle.plane_defs.specs.declared.entries.Bits.{Bits}
 use Rattle.plane_defs.specs.Codes.{word_item, option_item}
 use Rattle.plane_defs.specs.Spelled.{is_word_of, option_of, entry_items, spelled_after}
 use Rattle.plane_defs.proofs.SpelledLists.{spelled_after-append}
-use Rattle.plane_coder.specs.declared.gaggle.Gaggle.{Gaggle}
-use Rattle.plane_coder.specs.Gaggles.{Agrees, AreOptions}
+use Rattle.block_masks.specs.declared.gaggle.Gaggle.{Gaggle}
+use Rattle.block_masks.specs.Gaggles.{Agrees}
+use Rattle.block_masks.proofs.Agreeing.{agrees_other}
 use Rattle.plane_coder.specs.Spells.{Spells}
 
 pub on_ok : {T E P : Type 0} (r : Result T E) → P → OnOk r P
@@ -93,68 +93,6 @@ module _ {S : Type 0} {k : SinkOf S} {book : Book} where
     options = same;
   }
 
--- ---- which flags agree after one more entry
-
-list_any-last : (p : Entry → Bool) (xs : List Entry) (y : Entry) → list_any p (xs ++ y ∷ []) ≡ (list_any p xs || p y)
-list_any-last p xs y = list_any-append p xs (y ∷ []) ∙ ap (λ b. list_any p xs || b) (or_false (p y))
-  where
-    or_false : (b : Bool) → (b || false) ≡ b
-    or_false true = refl
-    or_false false = refl
-
-or_no : (a b : Bool) → b ≡ false → a ≡ (a || b)
-or_no true b h = refl
-or_no false b h = sym h
-
-or_true : (b : Bool) → true ≡ (b || true)
-or_true true = refl
-or_true false = refl
-
--- an entry that is no word of two bits or more changes nothing
-pub agrees_other : (sent : List Bool) (before : List Entry) (x : Entry) → ((n : ℕ) → 2 ≤ n → is_word_of n x ≡ false) → Agrees sent before → Agrees sent (before ++ x ∷ [])
-agrees_other sent before x none agrees = record {
-  at = λ n low high. agrees.at n low high ∙ or_no _ _ (none n low) ∙ sym (list_any-last (is_word_of n) before x);
-}
-
-same_length : (there : Bool) (m n : ℕ) → (m ≡ n → there ≡ true) → there ≡ (there || (m == n))
-same_length true m n h = refl
-same_length false m n h = grind arith
-
--- nor does a word whose length was sent before
-pub agrees_again : (sent : List Bool) (before : List Entry) (bits : Bits) → 2 ≤ bits.count → bits.count ≤ 4 → get_or sent (bits.count - 2) false ≡ true →
-    Agrees sent before → Agrees sent (before ++ Word bits ∷ [])
-agrees_again sent before bits low high was agrees = record {
-  at = λ n l h.
-      agrees.at n l h ∙
-      same_length (list_any (is_word_of n) before) bits.count n (λ e. sym (agrees.at n l h) ∙ ap (λ m. get_or sent (m - 2) false) (sym e) ∙ was) ∙
-      sym (list_any-last (is_word_of n) before (Word bits));
-}
-
-opened : (sent : List Bool) (m n : ℕ) (there : Bool) → 2 ≤ m → m ≤ 4 → 2 ≤ n → n ≤ 4 → length sent ≡ 3 → get_or sent (n - 2) false ≡ there →
-    get_or (set sent (m - 2) true) (n - 2) false ≡ (there || (m == n))
-opened sent m n there lm hm ln hn three e =
-    elim (m == n) as (λ b. (m == n) ≡ b → get_or (set sent (m - 2) true) (n - 2) false ≡ (there || b)) [
-      | true ↦ λ t.
-          let same : n ≡ m = grind arith in
-          let within : m - 2 < length sent = omega arith in
-          let now : get_or (set sent (m - 2) true) (m - 2) false ≡ true = rw get_or-set_same refl in
-          ap (λ k. get_or (set sent (m - 2) true) (k - 2) false) same ∙ now ∙ or_true there
-      | false ↦ λ f.
-          let apart : m ≢ n = grind arith in
-          let other : n - 2 ≢ m - 2 = omega arith in
-          let kept : get_or (set sent (m - 2) true) (n - 2) false ≡ get_or sent (n - 2) false = rw get_or-set_other refl in
-          kept ∙ e ∙ or_no there false refl
-    ] refl
-
--- the first word of its length sets the flag
-pub agrees_first : (sent : List Bool) (before : List Entry) (bits : Bits) → 2 ≤ bits.count → bits.count ≤ 4 → length sent ≡ 3 →
-    Agrees sent before → Agrees (set sent (bits.count - 2) true) (before ++ Word bits ∷ [])
-agrees_first sent before bits low high three agrees = record {
-  at = λ n l h.
-      opened sent bits.count n (list_any (is_word_of n) before) low high l h three (agrees.at n l h) ∙
-      sym (list_any-last (is_word_of n) before (Word bits));
-}
-
 -- ---- the items of one entry
 
 equal_no : (m n : ℕ) → n < m → (m == n) ≡ false
@@ -202,14 +140,3 @@ module _ {S : Type 0} {k : SinkOf S} {book : Book} (a : Gaggle) (r : Result (Uni
   spells_raw b h p =
       one_entry (Bit b) (λ before agrees. subst (λ bits. Puts k r s t bits) (sym (raw_text book a.options before b)) p)
       (λ before agrees. agrees_other a.sent before (Bit b) (λ n low. refl) agrees) (puts_open r s t (b ∷ []) h p) refl
-
-pub known_later : {options later : List ℕ} → later ≡ options → AreOptions options → AreOptions later
-known_later same known = subst AreOptions (sym same) known
-
-pub option_known : (options : List ℕ) (n : ℕ) → AreOptions options → 2 ≤ n → n ≤ 4 → option_of options n < n
-option_known options zero known low high = absurd (omega arith)
-option_known options (suc zero) known low high = absurd (omega arith)
-option_known options (suc (suc zero)) known low high = known.two
-option_known options (suc (suc (suc zero))) known low high = known.three
-option_known options (suc (suc (suc (suc zero)))) known low high = known.four
-option_known options (suc (suc (suc (suc (suc n))))) known low high = absurd (omega arith)

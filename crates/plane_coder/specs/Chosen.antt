@@ -5,7 +5,7 @@ use Rattle.plane_defs.specs.declared.stages.Stage.TheVariants.{Parents, Children
 use Rattle.plane_defs.specs.Planes.{Plane, of_block, chosen}
 use Rattle.plane_defs.specs.Marks.{depths_of}
 use Rattle.plane_coder.specs.declared.view.View.{View}
-use Rattle.plane_coder.specs.Gaggles.{AreOptions, options_at, sent_at}
+use Rattle.block_masks.specs.Gaggles.{AreOptions, options_at, sent_at}
 use Rattle.plane_coder.specs.Views.{plane_in}
 
 -- what block r sends in the stages whose words count

@@ -1,8 +1,6 @@
-pub mod Gaggles
 pub mod Spells
 pub mod Tallies
 pub mod Views
-pub mod Stored
 pub mod Chosen
 pub mod Sends
 pub mod Viewed

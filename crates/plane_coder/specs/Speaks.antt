@@ -8,7 +8,7 @@ use Rattle.plane_defs.specs.declared.entries.Bits.{Bits}
 use Rattle.plane_defs.specs.declared.entries.Entry.TheVariants.{Word}
 use Rattle.plane_defs.specs.Spelled.{spelled_after, opening}
 use Rattle.plane_coder.specs.declared.speech.Speech.{Speech}
-use Rattle.plane_coder.specs.Gaggles.{Agrees}
+use Rattle.block_masks.specs.Gaggles.{Agrees}
 use Rattle.plane_coder.specs.Coding.{unopened}
 
 -- the bits so far

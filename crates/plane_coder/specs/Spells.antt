@@ -7,8 +7,8 @@ use Rattle.bit_pipe.specs.declared.fault.PutFault.{PutFault}
 use Rattle.plane_defs.specs.declared.codes.Book.{Book}
 use Rattle.plane_defs.specs.declared.entries.Entry.{Entry}
 use Rattle.plane_defs.specs.Spelled.{spelled_after}
-use Rattle.plane_coder.specs.declared.gaggle.Gaggle.{Gaggle}
-use Rattle.plane_coder.specs.Gaggles.{Agrees}
+use Rattle.block_masks.specs.declared.gaggle.Gaggle.{Gaggle}
+use Rattle.block_masks.specs.Gaggles.{Agrees}
 
 -- for all entries that went before, as the gaggle's flags tell them
 pub record Spells {S : Type 0} (k : SinkOf S) (book : Book) (old new : Gaggle) (result : Result (Unit {0}) PutFault) (from to : Standing S) (entries : List Entry) : Type 0 where

@@ -2,7 +2,7 @@
 use Rattle.std.specs.Prelude.{ℕ, ℤ, List}
 use Rattle.wave_defs.specs.Held.{blocks_in}
 use Rattle.plane_defs.specs.Planes.{Plane}
-use Rattle.plane_coder.specs.declared.plan.PlanePlan.{PlanePlan}
+use Rattle.block_masks.specs.declared.plan.PlanePlan.{PlanePlan}
 use Rattle.plane_coder.specs.declared.view.View.{View}
 
 -- with the blocks' depths as the marks tell them

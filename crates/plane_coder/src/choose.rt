@@ -4,14 +4,14 @@ ghost use Rattle.std.specs.Prelude.{◌≡◌, ◌+◌, ◌*◌, ◌<◌, ◌≤
 ghost use Rattle.plane_defs.specs.Choice.{cheapest};
 ghost use Rattle.plane_defs.specs.Planes.{counted, chosen};
 ghost use Rattle.plane_defs.specs.Marks.{depths_of};
-ghost use Rattle.plane_coder.specs.Gaggles.{AreOptions, options_at, sent_at};
+ghost use Rattle.block_masks.specs.Gaggles.{AreOptions, options_at, sent_at};
 ghost use Rattle.plane_coder.specs.Tallies.{Counts, CountsOf, AreAtMost, counts_in};
 ghost use Rattle.plane_coder.specs.Chosen.{Chooses, words_of_block};
 ghost use Rattle.plane_coder.specs.Views.{plane_in};
 
-use crate::gaggle::{Gaggle, depth_of, store};
 use crate::tally::Tally;
 use crate::view::View;
+use block_masks::{Gaggle, depth_of, store};
 use plane_defs::Book;
 use word_codes::best_option;
 

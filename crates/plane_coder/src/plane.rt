@@ -10,11 +10,11 @@ ghost use Rattle.plane_coder.specs.Views.{plane_of, plane_in};
 
 use crate::choose::choose_all;
 use crate::masks::first_masks;
-use crate::plan::{CodedPlane, PlanePlan};
 use crate::stages::put_stage;
 use crate::tables::CodeTables;
 use crate::view::View;
 use bit_pipe::{BitOut, OctetOut, PutFault};
+use block_masks::{CodedPlane, PlanePlan};
 use plane_defs::Book;
 
 // Puts the stages of a plane up to the last one asked, with the options of fewest bits.

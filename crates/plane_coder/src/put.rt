@@ -5,22 +5,19 @@ ghost use Rattle.bit_pipe.specs.Standing.{stand, IsReady};
 ghost use Rattle.plane_defs.specs.declared.sets.Set.TheVariants.{Grandchildren};
 ghost use Rattle.plane_defs.specs.Sets.{significant, set_significant, coded};
 ghost use Rattle.plane_defs.specs.Entries.{twos_bit, dc_bits, parents, children, quads, all_quads, grandchildren, refinement, block_entries};
-ghost use Rattle.plane_coder.specs.Gaggles.{AreOptions};
-ghost use Rattle.plane_coder.specs.Viewed.{AreSets};
+ghost use Rattle.block_masks.specs.Gaggles.{AreOptions};
+ghost use Rattle.block_masks.specs.SetMasks.{AreSets};
 ghost use Rattle.plane_coder.specs.Spells.{Spells};
 ghost use Rattle.plane_defs.specs.declared.codes.Book.{Book as BookValue};
-ghost use Rattle.plane_coder.specs.declared.gaggle.Gaggle.{Gaggle as GaggleValue};
+ghost use Rattle.block_masks.specs.declared.gaggle.Gaggle.{Gaggle as GaggleValue};
 
-use crate::gaggle::Gaggle;
-use crate::plan::CodedPlane;
 use crate::say::{say_children, say_parents, say_quads, say_refinement};
 use crate::seen::Seen;
-use crate::sets::Sets;
 use crate::speech::Speech;
 use crate::spoken::Spoken;
 use crate::view::View;
 use bit_pipe::{BitOut, OctetOut, PutFault};
-use block_masks::has;
+use block_masks::{CodedPlane, Gaggle, Sets, has};
 use plane_defs::Stage;
 
 // The bit of weight 2^place of a two's complement form.

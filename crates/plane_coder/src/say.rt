@@ -7,15 +7,14 @@ ghost use Rattle.plane_defs.specs.Sets.{significant, set_significant, refined as
 ghost use Rattle.plane_defs.specs.Entries.{typed, parents, children, children_types, quads, quads_types};
 ghost use Rattle.plane_defs.specs.declared.codes.Book.{Book as BookValue};
 ghost use Rattle.block_masks.specs.Masks.{Shows};
-ghost use Rattle.plane_coder.specs.Viewed.{AreSets, AreQuads};
+ghost use Rattle.block_masks.specs.SetMasks.{AreSets, AreQuads};
 ghost use Rattle.plane_coder.specs.Speaks.{Speaks, load};
 ghost use Rattle.plane_coder.specs.Refining.{refining};
 
 use crate::seen::Seen;
-use crate::sets::{Sets, is_any_of};
 use crate::speech::Speech;
 use crate::spoken::Spoken;
-use block_masks::has;
+use block_masks::{Sets, has, is_any_of};
 
 // The types of four positions and their signs, where their set is significant.
 #[inline(always)]

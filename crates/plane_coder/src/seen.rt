@@ -10,9 +10,7 @@ ghost use Rattle.plane_defs.specs.Entries.{negative as is_negative, word, typed,
 ghost use Rattle.block_masks.specs.Masks.{Shows};
 
 use crate::masks::Masks;
-use crate::plan::CodedPlane;
-use crate::sets::{Sets, quads_of};
-use block_masks::{beside, both, either, masked, one, part, pick};
+use block_masks::{CodedPlane, Sets, beside, both, either, masked, one, part, pick, quads_of};
 
 // The word of the types of some positions and the signs after it, each as it is picked.
 #[derive(Clone, Copy)]
@@ -41,7 +39,8 @@ pub(crate) struct Seen<'a> {
 }
 
 impl<'a> Seen<'a> {
-    ghost use Rattle.plane_coder.specs.Viewed.{IsView, AreSets, AreQuads};
+    ghost use Rattle.block_masks.specs.SetMasks.{AreSets, AreQuads};
+    ghost use Rattle.plane_coder.specs.Viewed.{IsView};
     ghost use Rattle.plane_coder.specs.Refining.{refining};
     ghost use Rattle.plane_coder.specs.Picked.{IsPacked, ArePacked, word_of, raws_of, entries_of};
 

@@ -6,15 +6,15 @@ ghost use Rattle.item_defs.specs.Items.{item_bits};
 ghost use Rattle.plane_defs.specs.Codes.{option_item, identifier_width as width_of, identifier_number as number_of};
 ghost use Rattle.plane_defs.specs.declared.codes.Book.{Book as BookValue};
 ghost use Rattle.plane_defs.specs.Spelled.{option_of};
-ghost use Rattle.plane_coder.specs.Gaggles.{AreOptions};
+ghost use Rattle.block_masks.specs.Gaggles.{AreOptions};
 ghost use Rattle.plane_coder.specs.Picked.{IsPacked, ArePacked, word_of, raws_of, entries_of};
 ghost use Rattle.plane_coder.specs.Coding.{unopened};
 ghost use Rattle.bit_pipe.specs.Standing.{Writes, IsReady};
 
-use crate::gaggle::Gaggle;
 use crate::seen::Typed;
 use crate::spoken::Spoken;
 use bit_pipe::{BitOut, OctetOut, PutFault};
+use block_masks::Gaggle;
 
 fn identifier_width(length: u8) -> u8
     ensures { result ≡ width_of length }

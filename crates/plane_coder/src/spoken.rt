@@ -1,7 +1,7 @@
 // The codes of a gaggle.
 
 ghost use Rattle.std.specs.Prelude.{◌≡◌, ◌<◌, ◌≤◌, ◌/◌, ◌%◌, ℕ, [], slice_index_or};
-ghost use Rattle.plane_coder.specs.Gaggles.{AreOptions};
+ghost use Rattle.block_masks.specs.Gaggles.{AreOptions};
 ghost use Rattle.plane_coder.specs.Coding.{IsCodeOf, row_of, option_for};
 ghost use Rattle.plane_coder.specs.Picked.{IsPacked};
 

@@ -5,16 +5,15 @@ ghost use Rattle.item_defs.specs.Items.{text};
 ghost use Rattle.bit_pipe.specs.Standing.{stand, Puts, IsReady, Writes};
 ghost use Rattle.plane_defs.specs.Planes.{of_block, of_gaggle, stage_items};
 ghost use Rattle.plane_defs.specs.Marks.{depths_of};
-ghost use Rattle.plane_coder.specs.Gaggles.{AreOptions, AreKnown, SameMarks, options_at};
+ghost use Rattle.block_masks.specs.Gaggles.{AllAgree, AreOptions, AreKnown, SameMarks, options_at};
 ghost use Rattle.plane_coder.specs.Spells.{Spells};
-ghost use Rattle.plane_coder.specs.Sends.{AllAgree};
 ghost use Rattle.plane_coder.specs.Views.{plane_in};
 
-use crate::gaggle::{Gaggle, depth_of, load, store};
 use crate::put::put_block;
 use crate::spoken::Spoken;
-use crate::view::{View, stage_at};
+use crate::view::View;
 use bit_pipe::{BitOut, OctetOut, PutFault};
+use block_masks::{Gaggle, depth_of, load, stage_at, store};
 use plane_defs::Stage;
 
 // Puts a stage of block r.

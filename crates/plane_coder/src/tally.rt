@@ -7,8 +7,7 @@ ghost use Rattle.plane_defs.specs.Sets.{significant, set_significant};
 ghost use Rattle.plane_defs.specs.Entries.{typed, parents, children, children_types, quads, quads_types, all_quads, grandchildren};
 
 use crate::seen::Seen;
-use crate::sets::Sets;
-use block_masks::has;
+use block_masks::{Sets, has};
 
 // Where each word is counted, as it is picked: sixteen times its length, and its symbol. Words of a bit or none have
 // places of their own that nothing reads.
@@ -29,7 +28,7 @@ pub(crate) struct Tally {
 impl Tally {
     ghost use Rattle.plane_coder.specs.Tallies.{Counts, AreAtMost, counts_in};
     ghost use Rattle.plane_coder.specs.Picked.{IsPacked, word_of};
-    ghost use Rattle.plane_coder.specs.Viewed.{AreSets};
+    ghost use Rattle.block_masks.specs.SetMasks.{AreSets};
 
     pub fn new() -> Tally
         ensures { AreAtMost result 0 }

@@ -1,14 +1,12 @@
 // What a call reads and never changes.
 
 ghost use Rattle.std.specs.Prelude.{◌≡◌, ◌+◌, ◌*◌, ◌<◌, ◌≤◌, length, slice_range};
-ghost use Rattle.plane_defs.specs.Entries.{stage_number};
 ghost use Rattle.plane_coder.specs.Viewed.{IsView, AreKept};
 
 use crate::masks::Masks;
-use crate::plan::CodedPlane;
 use crate::seen::Seen;
 use crate::tables::CodeTables;
-use plane_defs::Stage;
+use block_masks::CodedPlane;
 
 // The blocks of a segment, 64 numbers each, with the plane and the codes. The masks that are kept serve all stages; those
 // of other blocks are made anew in each.
@@ -43,19 +41,5 @@ impl<'a> View<'a> {
         ensures plan { result.plan.now ≡ self.now.plan.now }
     {
         Seen::new(&self.blocks[64 * r..64 * r + 64], self.plan, self.masks(r))
-    }
-}
-
-// A stage by its number.
-pub(crate) fn stage_at(number: u8) -> Stage
-    requires { number < 5 }
-    ensures { result ≡ stage_number number }
-{
-    match number {
-        0 => Stage::DcBits,
-        1 => Stage::Parents,
-        2 => Stage::Children,
-        3 => Stage::Grandchildren,
-        _ => Stage::Refinement,
     }
 }

@@ -14,7 +14,7 @@ use Rattle.plane_defs.specs.Planes.{Plane, plane_items, chosen}
 use Rattle.plane_defs.specs.Reading.{plane_reading}
 use Rattle.plane_defs.proofs.SpanLists.{flat_map-span-none}
 use Rattle.plane_defs.proofs.ReadingTexts.{plane_text}
-use Rattle.plane_coder.specs.declared.plan.PlanePlan.{PlanePlan}
+use Rattle.block_masks.specs.declared.plan.PlanePlan.{PlanePlan}
 use Rattle.plane_coder.specs.Sends.{chosen_items}
 use Rattle.plane_coder.specs.Views.{plane_of}
 use Rattle.segment_defs.specs.declared.head.SegmentHead.{SegmentHead}

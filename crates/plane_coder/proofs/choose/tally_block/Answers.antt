@@ -3,7 +3,7 @@ use Rattle.std.specs.List.{slice_range}
 use Rattle.std.proofs.lemmas.Int.{to_z-of_z}
 use Rattle.plane_defs.specs.Marks.{depth_of}
 use Rattle.plane_defs.specs.Entries.{parents, children, grandchildren}
-use Rattle.plane_coder.specs.declared.plan.CodedPlane.{CodedPlane}
+use Rattle.block_masks.specs.declared.plan.CodedPlane.{CodedPlane}
 use Rattle.plane_coder.specs.Tallies.{Counts}
 use Rattle.plane_coder.proofs.Tallying.{counts_none, counts_less}
 use Rattle.plane_coder.proofs.BlockStages.{deep_words, shallow_words, words_there}

@@ -3,7 +3,7 @@ use Rattle.plane_defs.specs.Planes.{gaggle_size}
 use Rattle.plane_defs.specs.Marks.{depths_of}
 use Rattle.plane_coder.specs.Tallies.{CountsOf}
 use Rattle.plane_coder.specs.Views.{plane_in}
-use Rattle.plane_coder.proofs.BlockReads.{length-depths_of}
+use Rattle.block_masks.proofs.Marking.{length-depths_of}
 use Rattle.plane_coder.proofs.Tallying.{at_most_later}
 use Rattle.plane_coder.proofs.Choosing.{so_far, from_nothing, none_counted, one_counted, counted_is}
 use Rattle.plane_coder.proofs.choose.tally_gaggle.Goals as goal

@@ -2,9 +2,10 @@ use Rattle.std.proofs.Common.{◌≡◌, ◌+◌, ◌<◌, ◌∙◌, arith}
 use Rattle.std.proofs.lemmas.Result.{err_from_is_err_and}
 use Rattle.plane_defs.specs.Planes.{stage_items}
 use Rattle.plane_defs.specs.Marks.{depths_of}
-use Rattle.plane_coder.specs.Gaggles.{options_at}
+use Rattle.block_masks.specs.Gaggles.{options_at}
 use Rattle.plane_coder.specs.Views.{plane_in}
-use Rattle.plane_coder.proofs.Sending.{none_put, more_put, put_ended, put_whole, same_marks, same_then, known_same, chosen_agree, chosen_known, agree_moved, agree_back, stage_then, plane_whole}
+use Rattle.block_masks.proofs.Marking.{same_marks, same_then, known_same}
+use Rattle.plane_coder.proofs.Sending.{none_put, more_put, put_ended, put_whole, chosen_agree, chosen_known, agree_moved, agree_back, stage_then, plane_whole}
 use Rattle.plane_coder.proofs.plane.put_stages.Goals as goal
 
 pub loop-number-init : goal.loop-number-init

@@ -4,8 +4,7 @@ use Rattle.bit_pipe.specs.Standing.{stand, IsOpen, Adds}
 use Rattle.plane_defs.specs.Spans.{span}
 use Rattle.plane_defs.specs.Planes.{stage_items}
 use Rattle.plane_defs.specs.Marks.{depths_of}
-use Rattle.plane_coder.specs.Gaggles.{AreKnown, SameMarks, options_at}
-use Rattle.plane_coder.specs.Sends.{AllAgree}
+use Rattle.block_masks.specs.Gaggles.{AreKnown, SameMarks, options_at, AllAgree}
 use Rattle.plane_coder.specs.Views.{plane_in}
 use Rattle.plane_coder.proofs.plane.put_stages.Given as goal
 

@@ -1,8 +1,8 @@
 use Rattle.std.proofs.Common.{◌∙◌, sym, ap, subst, arith}
 use Rattle.std.proofs.lemmas.Result.{err_from_is_err_and}
 use Rattle.plane_defs.specs.Entries.{all_quads}
-use Rattle.plane_coder.specs.declared.gaggle.Gaggle.{Gaggle}
-use Rattle.plane_coder.specs.Gaggles.{AreOptions}
+use Rattle.block_masks.specs.declared.gaggle.Gaggle.{Gaggle}
+use Rattle.block_masks.specs.Gaggles.{AreOptions}
 use Rattle.plane_coder.proofs.Speaking.{spells_said}
 use Rattle.plane_coder.proofs.Spelling.{spells_both, spells_cut}
 use Rattle.plane_coder.proofs.put.put_grandchildren.Goals as goal

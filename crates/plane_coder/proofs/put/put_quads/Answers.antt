@@ -1,6 +1,6 @@
 use Rattle.std.proofs.Common.{◌∙◌, sym, ap, subst, arith}
-use Rattle.plane_coder.specs.declared.gaggle.Gaggle.{Gaggle}
-use Rattle.plane_coder.specs.Gaggles.{AreOptions}
+use Rattle.block_masks.specs.declared.gaggle.Gaggle.{Gaggle}
+use Rattle.block_masks.specs.Gaggles.{AreOptions}
 use Rattle.plane_coder.proofs.Speaking.{spells_said}
 use Rattle.plane_coder.proofs.Spelling.{spells_if, spells_if_not}
 use Rattle.plane_coder.proofs.put.put_quads.Goals as goal

@@ -3,8 +3,8 @@ use Rattle.std.specs.Prelude.{Err}
 use Rattle.std.proofs.lemmas.Result.{err_from_is_err_and}
 use Rattle.bit_pipe.specs.Standing.{stand}
 use Rattle.plane_defs.specs.Profile.{profile}
-use Rattle.plane_coder.specs.declared.gaggle.Gaggle.{Gaggle}
-use Rattle.plane_coder.specs.Gaggles.{AreOptions}
+use Rattle.block_masks.specs.declared.gaggle.Gaggle.{Gaggle}
+use Rattle.block_masks.specs.Gaggles.{AreOptions}
 use Rattle.plane_coder.specs.Refining.{refining}
 use Rattle.plane_coder.specs.Spells.{Spells}
 use Rattle.plane_coder.specs.Speaks.{Speaks}

@@ -8,7 +8,7 @@ use Rattle.plane_defs.specs.Planes.{of_block, gaggle_size}
 use Rattle.plane_defs.specs.Marks.{depths_of}
 use Rattle.plane_coder.specs.Spells.{Spells}
 use Rattle.plane_coder.specs.Views.{plane_in}
-use Rattle.plane_coder.proofs.BlockReads.{length-depths_of}
+use Rattle.block_masks.proofs.Marking.{length-depths_of}
 use Rattle.plane_coder.proofs.Sending.{none_spelled, more_spelled, spelled_ended}
 use Rattle.plane_coder.proofs.stages.put_gaggle.Goals as goal
 

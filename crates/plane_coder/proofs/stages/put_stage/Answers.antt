@@ -2,10 +2,12 @@ use Rattle.std.proofs.Common.{◌≡◌, ◌*◌, ◌<◌, length, ◌∙◌, sy
 use Rattle.std.proofs.lemmas.Result.{err_from_is_err_and}
 use Rattle.plane_defs.specs.Planes.{gaggles, gaggle_items, before_stage}
 use Rattle.plane_defs.specs.Marks.{depths_of}
-use Rattle.plane_coder.specs.Gaggles.{Agrees, AreOptions, options_at}
+use Rattle.block_masks.specs.Gaggles.{Agrees, AreOptions, options_at}
 use Rattle.plane_coder.specs.Views.{plane_in}
-use Rattle.plane_coder.proofs.BlockReads.{length-depths_of}
-use Rattle.plane_coder.proofs.Sending.{none_put, more_put, put_ended, put_whole, gaggle_puts, gaggle_agrees, same_marks, same_stored, none_agree, more_agree, all_agree}
+use Rattle.block_masks.proofs.Marking.{length-depths_of}
+use Rattle.block_masks.proofs.Marking.{same_marks, same_stored}
+use Rattle.block_masks.proofs.Agreeing.{none_agree, more_agree, all_agree}
+use Rattle.plane_coder.proofs.Sending.{none_put, more_put, put_ended, put_whole, gaggle_puts, gaggle_agrees}
 use Rattle.plane_coder.proofs.stages.put_stage.Goals as goal
 
 pub loop-g-init : goal.loop-g-init

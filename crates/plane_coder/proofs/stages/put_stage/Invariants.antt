@@ -4,9 +4,9 @@ use Rattle.bit_pipe.specs.Standing.{stand, IsOpen, Adds}
 use Rattle.plane_defs.specs.Spans.{span}
 use Rattle.plane_defs.specs.Planes.{gaggle_items}
 use Rattle.plane_defs.specs.Marks.{depths_of}
-use Rattle.plane_coder.specs.Gaggles.{SameMarks, options_at}
+use Rattle.block_masks.specs.Gaggles.{SameMarks, options_at}
 use Rattle.plane_coder.specs.Views.{plane_in}
-use Rattle.plane_coder.proofs.Sending.{SomeAgree}
+use Rattle.block_masks.proofs.Agreeing.{SomeAgree}
 use Rattle.plane_coder.proofs.stages.put_stage.Given as goal
 
 abbrev pub invariant-loop-g : goal.invariant-loop-g

@@ -2,7 +2,7 @@ use Rattle.std.proofs.Common.{◌+◌}
 use Rattle.item_defs.specs.Bits.{bit}
 use Rattle.plane_defs.specs.Sets.{significant, magnitude, coded, type_due}
 use Rattle.block_masks.proofs.LaneMasks.{shows_same}
-use Rattle.plane_coder.proofs.Viewing.{reached_is}
+use Rattle.block_masks.proofs.Viewing.{reached_is}
 use Rattle.plane_coder.proofs.seen.Seen.new.Goals as goal
 
 pub invariant_of-result : goal.invariant_of-result

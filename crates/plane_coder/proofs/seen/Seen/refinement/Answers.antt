@@ -1,7 +1,7 @@
 use Rattle.std.proofs.Common.{ℕ}
 use Rattle.item_defs.specs.Bits.{bit}
 use Rattle.plane_defs.specs.Sets.{magnitude, refined}
-use Rattle.plane_coder.proofs.Viewing.{from_zero, nibble_small}
+use Rattle.block_masks.proofs.Viewing.{from_zero, nibble_small}
 use Rattle.plane_coder.proofs.Saying.{refining_is, is_packed}
 use Rattle.plane_coder.proofs.seen.Seen.refinement.Goals as goal
 

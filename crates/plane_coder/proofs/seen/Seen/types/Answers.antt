@@ -1,7 +1,7 @@
 use Rattle.std.proofs.Common.{ℕ, ◌&&◌, get_or, pos}
 use Rattle.plane_defs.specs.Sets.{significant, type_due, newly_significant}
 use Rattle.plane_defs.specs.Entries.{negative}
-use Rattle.plane_coder.proofs.Viewing.{from_zero, nibble_small}
+use Rattle.block_masks.proofs.Viewing.{from_zero, nibble_small}
 use Rattle.plane_coder.proofs.Saying.{typed_is, is_packed}
 use Rattle.plane_coder.proofs.seen.Seen.types.Goals as goal
 

@@ -1,11 +1,11 @@
 use Rattle.std.proofs.Common.{rules, ◌≡◌, ◌≤◌, ℕ, length, ◌++◌, ap, ◌∙◌, arith}
 use Rattle.std.proofs.lemmas.Bool.Decides.{nat_tests}
-use Rattle.plane_coder.specs.declared.gaggle.Gaggle.{Gaggle}
+use Rattle.block_masks.specs.declared.gaggle.Gaggle.{Gaggle}
 use Rattle.plane_coder.specs.Coding.{unopened}
 use Rattle.item_defs.specs.Bits.{bits_of}
 use Rattle.plane_defs.specs.Codes.{identifier_width}
 use Rattle.plane_coder.specs.Speaks.{said}
-use Rattle.plane_coder.proofs.Spelling.{option_known}
+use Rattle.block_masks.proofs.Agreeing.{option_known}
 use Rattle.plane_coder.proofs.Speaking.{opened_less}
 use Rattle.plane_coder.proofs.speech.Speech.open.Goals as goal
 

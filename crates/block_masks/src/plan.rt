@@ -1,0 +1,84 @@
+// What a call is told of a plane, and what the weights settle for all of its blocks.
+
+ghost use Rattle.std.specs.Prelude.{◌≡◌, ◌<◌, ◌≤◌, ◌+◌, ℕ, slice_index};
+ghost use Rattle.plane_defs.specs.Sets.{coded as is_coded_at};
+ghost use Rattle.block_masks.specs.Masks.{Shows};
+ghost use Rattle.block_masks.specs.SetMasks.{AreSets, AreQuads};
+
+use crate::nibbles::{joined, one};
+use crate::sets::{Sets, quads_of};
+use base_122::Weights;
+use block_families::place_of;
+
+/// A bit plane and how far it is sent (docs/formats.md, "Bit planes").
+#[derive(Clone, Copy, Debug, PartialEq, Eq)]
+pub struct PlanePlan {
+    /// The plane's number, at most 26: bits of weight 2^plane.
+    pub plane: u8,
+    /// How many low bits of the DC numbers the DC part left out.
+    pub q: u8,
+    pub weights: Weights,
+    /// The last stage that is sent, 0 to 4.
+    pub last: u8,
+}
+
+/// A plane as all of its blocks have it: at which positions a number can have a bit of it, and which sets are live in it
+/// (docs/formats.md, "Bit planes").
+#[derive(Drop)]
+pub struct CodedPlane {
+    /// The plane's number.
+    pub plane: u8,
+    /// How many low bits of the DC numbers the DC part left out.
+    pub q: u8,
+    pub weights: Weights,
+    /// The positions that are coded in the plane.
+    pub coded: u64,
+    /// The sets that have such a position.
+    pub live: Sets,
+    /// For each family, its sets of four grandchildren that have such a position.
+    pub live_quads: [u64; 3],
+    ghost low: { plane < 27 },
+    ghost shown: { Shows coded (is_coded_at weights.shifts plane) 0 64 },
+    ghost live_shown: { AreSets (is_coded_at weights.shifts plane) live },
+    ghost quads_shown: { (i : ℕ) → i < 3 → AreQuads (is_coded_at weights.shifts plane) i (slice_index live_quads i) },
+}
+
+// A bit of the plane can be other than 0 at the position.
+#[tactic(auto, unfolding(plane_defs::specs::Sets::coded))]
+fn can_have_bit(plan: &PlanePlan, position: u8) -> bool
+    requires { position < 64 }
+    ensures { result ≡ is_coded_at plan.now.weights.shifts plan.now.plane position }
+{
+    plan.weights.shift(place_of(position, 0).band) <= plan.plane
+}
+
+// The positions at which a number can have a bit of the plane.
+fn coded_positions(plan: &PlanePlan) -> u64
+    ensures { Shows result (is_coded_at plan.now.weights.shifts plan.now.plane) 0 64 }
+{
+    let mut coded = 0;
+    for position in 0..64u8 {
+        coded = joined(coded, one(can_have_bit(plan, position)), position);
+    }
+    coded
+}
+
+impl CodedPlane {
+    /// The plane of a plan.
+    pub fn new(plan: &PlanePlan) -> CodedPlane
+        requires { plan.now.plane < 27 }
+        ensures plane { result.plane ≡ plan.now.plane }
+        ensures q { result.q ≡ plan.now.q }
+        ensures weights { result.weights ≡ plan.now.weights }
+    {
+        let coded = coded_positions(plan);
+        CodedPlane {
+            plane: plan.plane,
+            q: plan.q,
+            weights: plan.weights,
+            coded,
+            live: Sets::of(coded),
+            live_quads: [quads_of(coded, 0), quads_of(coded, 1), quads_of(coded, 2)],
+        }
+    }
+}

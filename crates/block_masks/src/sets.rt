@@ -1,0 +1,75 @@
+// The sets of a block that have some member of a mask.
+
+ghost use Rattle.std.specs.Prelude.{◌<◌, ◌+◌, ◌*◌, ◌≤◌, ◌≡◌, ℕ, Bool, ◌||◌};
+ghost use Rattle.std.specs.List.{list_any};
+ghost use Rattle.plane_defs.specs.Spans.{span};
+ghost use Rattle.block_masks.specs.Masks.{Shows};
+ghost use Rattle.block_masks.specs.SetMasks.{AreSets, AreQuads};
+
+use crate::nibbles::{four, is_any, part, three};
+
+/// Some position of a part of a mask is told.
+#[inline(always)]
+pub fn is_any_of(mask: u64, at: u8, count: u8) -> bool
+    requires within { at + count ≤ 64 }
+    requires at { at < 64 }
+    requires count { count < 64 }
+    ensures { (f : ℕ → Bool) → Shows mask f 0 64 → result ≡ list_any f (span at count) }
+{
+    is_any(part(mask, at, count))
+}
+
+#[inline(always)]
+fn or(a: bool, b: bool) -> bool
+    ensures { result ≡ (a || b) }
+{
+    a || b
+}
+
+/// Which sets of a block have a member of some kind (docs/formats.md, "Bit planes").
+#[derive(Clone, Copy)]
+pub struct Sets {
+    /// The set of all descendants.
+    pub descendants: bool,
+    /// The families: bit i tells of family i.
+    pub families: u64,
+    /// The sets of grandchildren: bit i tells of those of family i.
+    pub grandchildren: u64,
+}
+
+impl Sets {
+    /// The sets that have a member in a mask of all positions.
+    #[inline(always)]
+    pub fn of(mask: u64) -> Sets
+        ensures { (f : ℕ → Bool) → Shows mask f 0 64 → AreSets f result }
+    {
+        let first = is_any_of(mask, 16, 16);
+        let second = is_any_of(mask, 32, 16);
+        let third = is_any_of(mask, 48, 16);
+        Sets {
+            descendants: is_any_of(mask, 4, 60),
+            families: three(
+                or(is_any_of(mask, 4, 4), first),
+                or(is_any_of(mask, 8, 4), second),
+                or(is_any_of(mask, 12, 4), third),
+            ),
+            grandchildren: three(first, second, third),
+        }
+    }
+}
+
+/// The sets of four grandchildren in family i that have a member in a mask of all positions: bit j tells of those below
+/// child j.
+#[inline(always)]
+pub fn quads_of(mask: u64, i: u8) -> u64
+    requires { i < 3 }
+    ensures { (f : ℕ → Bool) → Shows mask f 0 64 → AreQuads f i result }
+{
+    let start = 16 + 16 * i;
+    four(
+        is_any_of(mask, start, 4),
+        is_any_of(mask, start + 4, 4),
+        is_any_of(mask, start + 8, 4),
+        is_any_of(mask, start + 12, 4),
+    )
+}
