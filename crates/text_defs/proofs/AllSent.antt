@@ -13,8 +13,9 @@ use Rattle.plane_defs.specs.Entries.{twos_bit, stage_number}
 use Rattle.plane_defs.specs.Laws.{IsMultiple}
 use Rattle.plane_defs.specs.StepLaws.{IsAc}
 use Rattle.plane_defs.specs.Steps.{Check, free, bit_at, Step, step, parents_steps, children_steps, grandchildren_steps, refinement_steps, typed_steps, block_steps}
-use Rattle.text_defs.specs.Given.{tells_bit, tells_sign}
-use Rattle.text_defs.proofs.SameTold.{any_bit, any_sign, bit_reached}
+use Rattle.plane_texts.specs.Given.{tells_bit, tells_sign}
+use Rattle.plane_texts.proofs.NothingTold.{any_bit, any_sign}
+use Rattle.text_defs.proofs.SameTold.{bit_reached}
 use Rattle.text_defs.proofs.Sent.{has_span, has_filter, any_flat, any_map, itself, bit_coded, typed_tells, typed_signs, child_sent, grandchild_sent}
 
 abbrev pub all_stages : List ℤ → ℕ → List ℕ → (plane q : ℕ) → List Step

@@ -18,8 +18,8 @@ use Rattle.text_defs.proofs.NumbersChoice.{left_at, right_at, said_both}
 use Rattle.text_defs.proofs.ValueChoice.{MaySay, may_same}
 use Rattle.text_defs.proofs.OptionsRead.{numbers_further}
 use Rattle.text_defs.proofs.Choices.{Chooses, choose_left, choose_right}
-use Rattle.text_defs.proofs.SmallFacts.{set_at}
-use Rattle.text_defs.proofs.DcShifts.{lifted, lifted_back, lifted_times, with_bit, bit_chosen, bit_above, bit_times, IsTimes}
+use Rattle.plane_texts.proofs.SmallFacts.{set_at}
+use Rattle.plane_texts.proofs.DcShifts.{lifted, lifted_back, lifted_times, with_bit, bit_chosen, bit_above, bit_times, IsTimes}
 
 -- ---- a bit of each number of a list
 

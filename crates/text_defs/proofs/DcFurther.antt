@@ -21,7 +21,7 @@ use Rattle.text_defs.specs.Outcomes.{Reading}
 use Rattle.text_defs.proofs.NumbersChoice.{left_at}
 use Rattle.text_defs.proofs.ValueChoice.{MaySay, may_same}
 use Rattle.text_defs.proofs.Choices.{Chooses, choose_left, further_from}
-use Rattle.text_defs.proofs.DcShifts.{IsTimes}
+use Rattle.plane_texts.proofs.DcShifts.{IsTimes}
 use Rattle.text_defs.proofs.DcChoice.{dc_choice, first_are, choose_as}
 
 -- the DC's band has position 0

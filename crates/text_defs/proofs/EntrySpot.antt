@@ -15,14 +15,15 @@ use Rattle.plane_defs.specs.Codes.{symbol, codes_of, code_bits, code_at, option_
 use Rattle.plane_defs.specs.Spelled.{is_word_of, option_of}
 use Rattle.plane_defs.specs.Profile.{profile}
 use Rattle.plane_defs.specs.Steps.{Check, refuses}
-use Rattle.plane_defs.specs.StepLaws.{SameKind, value_of_entry}
+use Rattle.plane_defs.specs.StepLaws.{value_of_entry}
 use Rattle.plane_defs.specs.Reading.{word_of, checked, checked_word, entry_reading}
 use Rattle.plane_defs.proofs.SpanLists.{length-map-span, list_any-span-suc}
 use Rattle.plane_defs.proofs.Tables.{list_all-span-zero}
 use Rattle.plane_defs.proofs.StepItems.{AreOptionsOf}
+use Rattle.plane_texts.specs.Candidates.{Replaces}
 use Rattle.text_defs.proofs.ValueChoice.{MaySay}
 use Rattle.text_defs.proofs.Choices.{Chooses}
-use Rattle.text_defs.proofs.SmallFacts.{equal_from}
+use Rattle.plane_texts.proofs.SmallFacts.{equal_from}
 
 -- ---- words and their symbols
 
@@ -57,17 +58,6 @@ word-small : (n s : ℕ) → 2 ≤ n → n ≤ 4 → s < 2 ^ n → word_of n s <
 word-small n s low high lt = below_from (word_of n s) (2 ^ n) (list_all-span-zero (λ s. below (2 ^ n) (word_of n s)) (2 ^ n) s (words_below n low high) lt)
 
 -- ---- an entry in place of another
-
--- a word has some bits
-abbrev pub HasBits : Entry → Type 0
-HasBits (Bit b) = Unit {0}
-HasBits (Word bits) = 1 ≤ bits.count
-
-pub record Replaces (check : Check) (x e : Entry) : Type 0 where
-  pub kind : SameKind x e
-  pub fit : IsEntry e
-  pub passes : refuses check (value_of_entry e) ≡ false
-  pub has_bits : HasBits e
 
 pub record EntrySpot (o : List ℕ) (before : List Entry) (check : Check) (x : Entry) (c said : ℕ) : Type 0 where
   pub e : Entry

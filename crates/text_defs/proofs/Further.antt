@@ -1,5 +1,5 @@
 -- An item that follows and isn't refused is the next one of some reading, so each text has an outcome.
-use Rattle.std.proofs.Common.{◌≡◌, ℕ, zero, suc, ◌+◌, ◌<◌, ◌≤◌, inl, inr, Bool, true, false, cond, List, ◌++◌, length, ap, refl, arith, ℤ}
+use Rattle.std.proofs.Common.{◌≡◌, ℕ, suc, ◌+◌, ◌≤◌, inl, inr, Bool, true, false, cond, List, ◌++◌, length, ap, refl, arith, ℤ}
 use Rattle.std.proofs.lemmas.Bool.{cases_lt}
 use Rattle.number_defs.specs.Depths.{depth_items}
 use Rattle.segment_defs.specs.declared.head.SegmentHead.{SegmentHead}
@@ -9,21 +9,8 @@ use Rattle.text_defs.specs.Laws.{GoesFurther, HasOutcome}
 use Rattle.text_defs.proofs.Onward.{outcome_from}
 use Rattle.text_defs.proofs.DepthsFurther.{depths_further}
 use Rattle.text_defs.proofs.DcFurther.{dc_further}
-use Rattle.text_defs.proofs.BlockChoice.{MayChoose}
+use Rattle.plane_texts.proofs.BlocksChoose.{may_choose}
 use Rattle.text_defs.proofs.PlanesFurther.{planes_further}
-use Rattle.text_defs.proofs.DcBitChoice.{dc_bit_choice}
-use Rattle.text_defs.proofs.ParentsChoice.{parents_choice}
-use Rattle.text_defs.proofs.ChildTypesChoice.{children_choice}
-use Rattle.text_defs.proofs.QuadsChoice.{grandchildren_choice}
-use Rattle.text_defs.proofs.RefinementChoice.{refinement_choice}
-
-may_choose : (k : ℕ) → k < 5 → MayChoose k
-may_choose zero lt = dc_bit_choice
-may_choose (suc zero) lt = parents_choice
-may_choose (suc (suc zero)) lt = children_choice
-may_choose (suc (suc (suc zero))) lt = grandchildren_choice
-may_choose (suc (suc (suc (suc zero)))) lt = refinement_choice
-may_choose (suc (suc (suc (suc (suc k))))) lt = absurd (omega arith)
 
 dc_alone : (head : SegmentHead) (blocks : List (List ℤ)) (depths : List ℕ) (options : Options) → head.stop.dc ≡ true → segment_items head blocks depths options ≡ dc_part_items head blocks options
 unfolding segment_items

@@ -25,14 +25,16 @@ use Rattle.segment_defs.specs.Depths.{dc_of, dcs_of}
 use Rattle.segment_defs.specs.SegmentItems.{Options, dc_shift, q_of, plane_at, stages_sent, dc_part_items, planes_items, segment_items}
 use Rattle.wave_defs.specs.Blocks as blocks
 use Rattle.text_defs.specs.Spellable.{IsSpellable, AreWordOptions, block_of}
-use Rattle.text_defs.specs.Given.{dc_through, high_count, is_dc_bit_given, before_plane, steps_given, given_in, has_bit, has_sign, given_magnitude, given_ac, given_low, given_dc, given_block, given_blocks}
+use Rattle.text_defs.specs.Given.{dc_through, high_count, is_dc_bit_given, before_plane, given_in, has_bit, has_sign, given_magnitude, given_ac, given_low, given_dc, given_block, given_blocks}
+use Rattle.plane_texts.specs.Given.{steps_given}
 use Rattle.text_defs.proofs.Prefixes.{SaySame, first_part}
-use Rattle.text_defs.proofs.Says.{bit_there}
-use Rattle.text_defs.proofs.SameTold.{SameTold, TellsNone, any_sign}
+use Rattle.plane_texts.proofs.Says.{bit_there}
+use Rattle.plane_texts.proofs.NothingTold.{TellsNone, any_sign}
+use Rattle.text_defs.proofs.SameTold.{SameTold}
 use Rattle.text_defs.proofs.SegmentTold.{plane_none, told_in}
 use Rattle.text_defs.specs.Laws.{SameGiven}
 use Rattle.text_defs.proofs.OutcomeLaws.{step_law}
-use Rattle.text_defs.proofs.LowBits.{none_below, twos, left_over}
+use Rattle.plane_texts.proofs.LowBits.{none_below, twos, left_over}
 use Rattle.text_defs.proofs.DcTold.{through_told, bits_told, dc_long}
 
 -- ---- tests that come out alike

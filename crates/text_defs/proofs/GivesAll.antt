@@ -28,15 +28,16 @@ use Rattle.number_defs.specs.Given.{numbers_through}
 use Rattle.text_defs.specs.Given.{dc_through, high_count, is_dc_bit_given, given_in, has_bit, has_sign, given_magnitude, given_ac, given_low, given_dc, given_block, given_blocks}
 use Rattle.text_defs.specs.Laws.{AllGiven}
 use Rattle.text_defs.proofs.SegmentAlike.{list_same}
-use Rattle.text_defs.proofs.SameTold.{any_bit, any_sign}
+use Rattle.plane_texts.proofs.NothingTold.{any_bit, any_sign}
 use Rattle.text_defs.proofs.NumbersTold.{before_parts, length-range, map_long}
 use Rattle.text_defs.proofs.DcTold.{dc_long}
-use Rattle.text_defs.proofs.LowBits.{none_below, left_over}
+use Rattle.plane_texts.proofs.LowBits.{none_below, left_over}
 use Rattle.text_defs.proofs.GivenAlike.{sum_alike}
 use Rattle.text_defs.proofs.Sent.{has_span, some_member}
 use Rattle.text_defs.proofs.AllSent.{all_stages, bit_sent, sign_sent, dc_sent}
 use Rattle.text_defs.proofs.BitSums.{sum_bits, low_bit, sum_low, parts_whole}
-use Rattle.text_defs.proofs.WholeGiven.{part_long, segment_long, given_whole}
+use Rattle.plane_texts.proofs.PlaneParts.{part_long}
+use Rattle.text_defs.proofs.WholeGiven.{segment_long, given_whole}
 
 -- ---- tests
 
@@ -151,7 +152,7 @@ module _ (head : SegmentHead) (blocks : List (List ℤ)) (depths : List ℕ) (op
   within = omega (arith, inside, p.depths_all)
 
   given : (b : ℕ) → b < head.depth_ac → given_in head blocks depths options m r b ≡ all_stages B d head.image.weights.shifts b (q_of head)
-  given b lt = given_whole head blocks depths options goes_on low_plane last_stage p.multiples r b within lt
+  given b lt = given_whole head blocks depths options goes_on low_plane last_stage r b within lt
 
   below : (n : ℕ) → 1 ≤ n → magnitude B n < 2 ^ head.depth_ac
   below n first = let le : 2 ^ d ≤ 2 ^ head.depth_ac = pow_mono (deep r within) in omega (arith, le, p.below r n first)
@@ -189,7 +190,7 @@ module _ (head : SegmentHead) (blocks : List (List ℤ)) (depths : List ℕ) (op
   counted = p.blocks_all
 
   part_within : length (dc_part_items head blocks options) ≤ m
-  part_within = omega (arith, segment_long head blocks depths options goes_on low_plane last_stage p.multiples)
+  part_within = omega (arith, segment_long head blocks depths options goes_on low_plane last_stage)
 
   through : dc_through head blocks options r ≤ m
   through = omega (arith, by_bits (dc_bits head.depth_dc head.depth_ac shift), dc_long head blocks options, part_within)

@@ -12,7 +12,8 @@ use Rattle.number_defs.proofs.Stepping as stepping
 use Rattle.plane_defs.proofs.Settled.{head_same, tail_same}
 use Rattle.number_defs.specs.Given.{numbers_through}
 use Rattle.text_defs.proofs.Prefixes.{SaySame, split}
-use Rattle.text_defs.proofs.PlaneTold.{Parts, say_as}
+use Rattle.plane_texts.proofs.PlaneParts.{Parts}
+use Rattle.text_defs.proofs.PlaneTold.{say_as}
 
 -- ---- lists of one length that say the same
 

@@ -24,10 +24,12 @@ use Rattle.plane_defs.proofs.StepItems.{AreOptionsOf, Fits}
 use Rattle.plane_defs.proofs.PlaneSteps.{block_fits, flat_fits, block_same}
 use Rattle.text_defs.proofs.ValueChoice.{MaySay}
 use Rattle.text_defs.proofs.Choices.{Chooses}
-use Rattle.text_defs.proofs.FlatChoice.{flat_more, locate, EntriesChoose, entries_as, step_at, StepLocated, locate_step}
-use Rattle.text_defs.proofs.EntrySpot.{Replaces, Elsewhere}
+use Rattle.plane_texts.proofs.EntryChoices.{flat_more, entries_as, StepLocated, locate_step}
+use Rattle.text_defs.proofs.FlatChoice.{locate}
+use Rattle.plane_texts.specs.Candidates.{EntriesChoose, step_at, Replaces}
+use Rattle.text_defs.proofs.EntrySpot.{Elsewhere}
 use Rattle.text_defs.proofs.StepSpot.{StepSpot, spot, read_options}
-use Rattle.text_defs.proofs.SmallFacts.{neither_left, neither_right}
+use Rattle.plane_texts.proofs.SmallFacts.{neither_left, neither_right}
 use Rattle.text_defs.proofs.PlaneItems.{flat_allowed}
 
 all_of : {X : Type 0} {P : X → Type 0} → ((x : X) → P x) → (xs : List X) → AllByRecursion P xs

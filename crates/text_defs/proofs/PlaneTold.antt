@@ -1,50 +1,31 @@
 -- The steps of a block that the first items of two readings of a plane give tell the same.
-use Rattle.std.proofs.Common.{◌≡◌, ℕ, suc, ◌+◌, ◌-◌, ◌*◌, ◌/◌, ◌<◌, ◌≤◌, inl, inr, min, List, [], ◌∷◌, ◌++◌, length, ap, sym, ◌∙◌, subst, arith, ℤ, get_or, append_assoc, append-nil, zero-add}
+use Rattle.std.proofs.Common.{◌≡◌, ℕ, suc, ◌+◌, ◌-◌, ◌*◌, ◌/◌, ◌<◌, ◌≤◌, inl, inr, min, List, [], ◌++◌, length, ap, sym, ◌∙◌, subst, arith, ℤ, get_or, append_assoc}
 use Rattle.std.specs.List.{flat_map, AllByRecursion}
 use Rattle.item_defs.specs.Items.{Item}
 use Rattle.item_defs.specs.Readings.{StepsAlike}
 use Rattle.item_defs.specs.Laws.{said_of}
 use Rattle.plane_defs.specs.declared.codes.Book.{Book}
-use Rattle.plane_defs.specs.declared.entries.Entry.{Entry}
 use Rattle.plane_defs.specs.Spans.{span}
 use Rattle.plane_defs.specs.Entries.{stage_number}
 use Rattle.plane_defs.specs.Steps.{Step}
-use Rattle.plane_defs.specs.Planes.{Plane, gaggles, gaggle_size, of_block, before_stage}
-use Rattle.plane_defs.specs.Reading.{step_reading, read_after, steps_of_block, steps_of_gaggle, gaggle_reading, stage_reading, plane_reading}
-use Rattle.plane_defs.specs.StepLaws.{entry_of, entries_of, SameSteps, AcsAlike}
-use Rattle.plane_defs.proofs.SpanLists.{flat_map-span-parts}
-use Rattle.plane_defs.proofs.ReadingTexts.{map_flat, steps_entries}
+use Rattle.plane_defs.specs.Planes.{Plane, gaggles, before_stage}
+use Rattle.plane_defs.specs.Reading.{read_after, steps_of_block, gaggle_reading, stage_reading, plane_reading}
+use Rattle.plane_defs.specs.StepLaws.{entries_of, SameSteps, AcsAlike}
 use Rattle.plane_defs.proofs.Above.{all_span}
 use Rattle.plane_defs.proofs.AlikeSteps.{at_span, flat_steps}
 use Rattle.plane_defs.proofs.StepItems.{flat_alike, AreOptionsOf, OptionsAgree, Fits, after_alike}
 use Rattle.plane_defs.proofs.PlaneSteps as steps
-use Rattle.text_defs.specs.Given.{whole_steps, entries_before, count_before, steps_given}
+use Rattle.plane_texts.specs.Given.{whole_steps, entries_before, count_before, steps_given}
 use Rattle.text_defs.proofs.Prefixes.{SaySame, split, first_part}
 use Rattle.text_defs.proofs.Told.{ToldAlike, told_alike}
-use Rattle.text_defs.proofs.Says.{AllSay, steps_say}
-use Rattle.text_defs.proofs.SameTold.{SameTold, TellsNone, told_flat, from_alike, from_none, whole_say, nothing_told}
-
--- steps after others
-pub read_append : (book : Book) (options : List ℕ) (before : List Entry) (ss ts : List Step) →
-    read_after book options before (ss ++ ts) ≡ read_after book options before ss ++ read_after book options (before ++ entries_of ss) ts
-read_append book options before [] ts = ap (λ b. read_after book options b ts) (sym (append-nil before))
-read_append book options before (s ∷ ss) ts =
-    ap (λ l. step_reading book options before s ++ l) (read_append book options (before ++ s.entry ∷ []) ss ts)
-    ∙ sym (append_assoc (step_reading book options before s) (read_after book options (before ++ s.entry ∷ []) ss) _)
-    ∙ ap (λ b. (step_reading book options before s ++ read_after book options (before ++ s.entry ∷ []) ss) ++ read_after book options b ts) (append_assoc before (s.entry ∷ []) (entries_of ss))
+use Rattle.plane_texts.proofs.Says.{AllSay, steps_say}
+use Rattle.plane_texts.proofs.NothingTold.{TellsNone, nothing_told}
+use Rattle.plane_texts.proofs.PlaneParts as parts
+use Rattle.plane_texts.proofs.PlaneParts.{Parts, parts_of}
+use Rattle.text_defs.proofs.SameTold.{SameTold, told_flat, from_alike, from_none, whole_say}
 
 pub say_as : (m : ℕ) (is js is' js' : List Item) → is ≡ is' → js ≡ js' → SaySame m is js → SaySame m is' js'
 say_as m is js is' js' p q e = subst (λ x. SaySame m x js') p (subst (SaySame m is) q e)
-
--- a list of which a part stands after others
-pub record Parts (whole first second : List Item) : Type 0 where
-  pub others : List Item
-  pub same : whole ≡ first ++ (second ++ others)
-
-pub parts_of : (f : ℕ → List Item) (count place : ℕ) → place < count → Parts (flat_map f (span 0 count)) (flat_map f (span 0 place)) (f place)
-parts_of f count place lt =
-    let r = flat_map-span-parts f 0 count place lt in
-    record { others = r.0; same = r.1 ∙ ap (λ k. (flat_map f (span 0 place) ++ f k) ++ r.0) (zero-add place) ∙ append_assoc (flat_map f (span 0 place)) (f place) r.0 }
 
 module _ (book : Book) (o u : ℕ → List ℕ) (known : (g : ℕ) → AreOptionsOf (o g)) (also : (g : ℕ) → AreOptionsOf (u g))
     (xs ys : List (List ℤ)) (depths : List ℕ) (weights : List ℕ) (number q : ℕ)
@@ -74,39 +55,22 @@ module _ (book : Book) (o u : ℕ → List ℕ) (known : (g : ℕ) → AreOption
   pub none_there : (k m n r : ℕ) → m ≡ 0 → n ≡ 0 → Told k m n r
   none_there k m n r e f = from_none (get_or xs r []) (get_or ys r []) number _ _ (none_of o xs k r m e) (none_of u ys k r n f)
 
-  -- the steps of a gaggle before a block, and those of the block
+  -- the steps of a gaggle before a block, and what is read of them and of the block
   abbrev before_block : List (List ℤ) → (k r : ℕ) → List Step
-  before_block blocks k r = flat_map (steps_of_block (plane_with blocks) (stage_number k)) (span (16 * (r / 16)) (r - 16 * (r / 16)))
+  before_block blocks k r = parts.steps_before (plane_with blocks) k r
 
   before_entries : (blocks : List (List ℤ)) (k r : ℕ) → before_stage (plane_with blocks) k (r / 16) ++ entries_of (before_block blocks k r) ≡ entries_before (plane_with blocks) k r
-  before_entries blocks k r =
-      ap (λ l. before_stage (plane_with blocks) k (r / 16) ++ l)
-      (map_flat entry_of (steps_of_block (plane_with blocks) (stage_number k)) (of_block (plane_with blocks) (stage_number k))
-      (λ j. steps_entries (stage_number k) (get_or blocks j []) (get_or depths j 0) weights number q) (span (16 * (r / 16)) (r - 16 * (r / 16))))
+  before_entries blocks k r = parts.before_entries (plane_with blocks) k r
 
   abbrev read_before : (ℕ → List ℕ) → List (List ℤ) → (k r : ℕ) → List Item
-  read_before options blocks k r = read_after book (options (r / 16)) (before_stage (plane_with blocks) k (r / 16)) (before_block blocks k r)
+  read_before options blocks k r = parts.read_before book options (plane_with blocks) k r
 
   abbrev read_here : (ℕ → List ℕ) → List (List ℤ) → (k r : ℕ) → List Item
-  read_here options blocks k r = read_after book (options (r / 16)) (entries_before (plane_with blocks) k r) (steps_of_block (plane_with blocks) (stage_number k) r)
+  read_here options blocks k r = parts.read_here book options (plane_with blocks) k r
 
-  pub gaggle_parts : (options : ℕ → List ℕ) (blocks : List (List ℤ)) (k r : ℕ) → r < length depths →
+  gaggle_parts : (options : ℕ → List ℕ) (blocks : List (List ℤ)) (k r : ℕ) → r < length depths →
       Parts (gaggle_reading book options (plane_with blocks) k (r / 16)) (read_before options blocks k r) (read_here options blocks k r)
-  gaggle_parts options blocks k r within =
-      let g = r / 16 in
-      let f = steps_of_block (plane_with blocks) (stage_number k) in
-      let s = flat_map-span-parts f (16 * g) (gaggle_size (plane_with blocks) g) (r - 16 * g) (omega arith) in
-      let at : 16 * g + (r - 16 * g) ≡ r = omega arith in
-      let whole : steps_of_gaggle (plane_with blocks) (stage_number k) g ≡ before_block blocks k r ++ (f r ++ s.0) =
-      s.1 ∙ ap (λ j. (before_block blocks k r ++ f j) ++ s.0) at ∙ append_assoc (before_block blocks k r) (f r) s.0 in
-      let b = before_stage (plane_with blocks) k g in
-      let e = b ++ entries_of (before_block blocks k r) in
-      record {
-        others = read_after book (options g) (entries_before (plane_with blocks) k r ++ entries_of (f r)) s.0;
-        same =
-            ap (read_after book (options g) b) whole ∙ read_append book (options g) b (before_block blocks k r) (f r ++ s.0)
-            ∙ ap (λ l. read_before options blocks k r ++ l) (ap (λ c. read_after book (options g) c (f r ++ s.0)) (before_entries blocks k r) ∙ read_append book (options g) (entries_before (plane_with blocks) k r) (f r) s.0);
-      }
+  gaggle_parts options blocks k r within = parts.gaggle_parts book options (plane_with blocks) k r within
 
   -- ---- inside a gaggle
 

@@ -30,11 +30,12 @@ use Rattle.text_defs.proofs.ValueChoice.{MaySay, may_same}
 use Rattle.text_defs.proofs.Choices.{Chooses, choose_right, further_from}
 use Rattle.text_defs.proofs.SegmentAlike.{sent_most}
 use Rattle.text_defs.proofs.DcChoice.{choose_as}
-use Rattle.text_defs.proofs.SmallFacts.{itself, not_equal, set_at}
-use Rattle.text_defs.proofs.FlatChoice.{locate, EntriesChoose}
+use Rattle.plane_texts.proofs.SmallFacts.{itself, not_equal, set_at}
+use Rattle.text_defs.proofs.FlatChoice.{locate}
+use Rattle.plane_texts.specs.Candidates.{EntriesChoose, BlockChosen, MayChoose}
 use Rattle.text_defs.proofs.EntrySpot.{Elsewhere}
 use Rattle.text_defs.proofs.PlaneSpot as spots
-use Rattle.text_defs.proofs.BlockChoice.{BlockChosen, MayChoose, acs_above, seen_above}
+use Rattle.plane_texts.proofs.BlockChoice.{acs_above, seen_above}
 
 -- ---- the DC part sees the high bits alone
 

@@ -1,7 +1,5 @@
 -- The steps of a block that the first items of two readings of a segment give tell the same.
-use Rattle.std.proofs.Common.{◌≡◌, ℕ, ◌+◌, ◌-◌, ◌/◌, ◌<◌, ◌≤◌, inl, inr, Bool, true, false, cond, List, [], ◌∷◌, ◌++◌, length, take, refl, ap, sym, ◌∙◌, subst, arith, ℤ, get_or}
-use Rattle.std.specs.Prelude.{◌||◌}
-use Rattle.std.specs.List.{flat_map}
+use Rattle.std.proofs.Common.{◌≡◌, ℕ, ◌+◌, ◌-◌, ◌/◌, ◌<◌, ◌≤◌, inl, inr, Bool, true, false, cond, List, [], ◌++◌, length, take, ap, sym, ◌∙◌, subst, arith, ℤ, get_or}
 use Rattle.std.proofs.lemmas.Bool.{cases_lt}
 use Rattle.std.proofs.lemmas.List.{get_or_past, length-map}
 use Rattle.item_defs.specs.Readings.{AreItems}
@@ -9,7 +7,6 @@ use Rattle.number_defs.specs.Depths.{depth_items}
 use Rattle.number_defs.proofs.SegmentSteps.{dcs_alike, depths_alike}
 use Rattle.number_defs.proofs.NotRefused.{depths_allowed, depths_said}
 use Rattle.plane_defs.specs.declared.codes.Book.{Book}
-use Rattle.plane_defs.specs.Spans.{span}
 use Rattle.plane_defs.specs.Entries.{stage_number}
 use Rattle.plane_defs.specs.Profile.{profile}
 use Rattle.plane_defs.specs.Planes.{Plane}
@@ -19,33 +16,23 @@ use Rattle.plane_defs.proofs.StepItems.{AreOptionsOf}
 use Rattle.plane_defs.proofs.SpanLists.{flat_map-span-none}
 use Rattle.plane_defs.specs.Steps.{Step}
 use Rattle.plane_defs.proofs.PlaneSteps.{plane_both}
-use Rattle.std.proofs.lemmas.List.Folds.{list_any-append}
 use Rattle.segment_defs.specs.declared.head.SegmentHead.{SegmentHead}
 use Rattle.segment_defs.specs.Head.{IsHead}
 use Rattle.segment_defs.specs.Depths.{dc_of, dcs_of}
 use Rattle.segment_defs.specs.SegmentItems.{Options, dc_shift, q_of, plane_at, stages_sent, dc_part_items, nth_plane, nth_plane_items, planes_items, segment_items}
 use Rattle.text_defs.specs.Spellable.{IsSpellable, AreWordOptions, block_of}
-use Rattle.text_defs.specs.Given.{whole_steps, entries_before, count_before, steps_given, before_plane, given_in, tells_bit, tells_sign}
+use Rattle.plane_texts.specs.Given.{whole_steps, entries_before, count_before, steps_given}
+use Rattle.text_defs.specs.Given.{before_plane, given_in}
 use Rattle.text_defs.proofs.Prefixes.{SaySame, split, first_part, are_past, are_rest}
 use Rattle.text_defs.proofs.SegmentAlike.{list_same, planes_both, sent_none, sent_most}
-use Rattle.text_defs.proofs.Says.{steps_say}
-use Rattle.text_defs.proofs.SameTold.{SameTold, TellsNone, any_bit, any_sign, none_told, from_none, nothing_told}
+use Rattle.plane_texts.proofs.NothingTold.{TellsNone}
+use Rattle.plane_texts.proofs.SplitReading.{given_none}
+use Rattle.plane_texts.proofs.PlaneParts.{parts_of}
+use Rattle.text_defs.proofs.SameTold.{SameTold, none_told, from_none}
 use Rattle.text_defs.proofs.PlaneTold as planes
 
-none_flat : {X : Type 0} (f : X → List Step) → ((x : X) → TellsNone (f x)) → (xs : List X) → TellsNone (flat_map f xs)
-none_flat f each [] p = (refl, refl)
-none_flat f each (x ∷ xs) p = (
-  list_any-append (λ s. tells_bit p s.tells) (f x) (flat_map f xs) ∙ ap (λ b. b || any_bit p (flat_map f xs)) (each x p).0 ∙ (none_flat f each xs p).0,
-  list_any-append (λ s. tells_sign p s.tells) (f x) (flat_map f xs) ∙ ap (λ b. b || any_sign p (flat_map f xs)) (each x p).1 ∙ (none_flat f each xs p).1,
-)
-
 pub plane_none : (book : Book) (options : ℕ → List ℕ) (p : Plane) (stages m r : ℕ) → m ≡ 0 → TellsNone (steps_given book options p stages m r)
-plane_none book options p stages m r e =
-    none_flat (λ k. whole_steps book (options (r / 16)) (entries_before p k r) (m - count_before book options p k r) (steps_of_block p (stage_number k) r)) (λ k.
-    let z : 0 ≡ m - count_before book options p k r = omega arith in
-    subst (λ n. TellsNone (whole_steps book (options (r / 16)) (entries_before p k r) n (steps_of_block p (stage_number k) r))) z
-    (nothing_told (get_or p.blocks r []) p.number book (options (r / 16)) (entries_before p k r) (steps_of_block p (stage_number k) r) (steps_say (stage_number k) (get_or p.blocks r []) (get_or p.depths r 0) p.weights p.number p.q)))
-    (span 0 stages)
+plane_none book options p stages m r e = subst (λ n. TellsNone (steps_given book options p stages n r)) (sym e) (given_none book options p stages r)
 
 -- the steps that are given in the nth plane from the top
 abbrev pub given_nth : SegmentHead → List (List ℤ) → List ℕ → Options → (k r n b : ℕ) → List Step
@@ -65,8 +52,8 @@ module _ (head : SegmentHead) (fits : IsHead head) (xs ys : List (List ℤ)) (o 
         ToldAt ds ds (m - length (planes_items head xs ds o n)) (m - length (planes_items head ys ds u n)) r n (nth_plane head n)
     nth_told m r n within inside e =
         let b = nth_plane head n in
-        let left = planes.parts_of (nth_plane_items head xs ds o) head.depth_ac n within in
-        let right = planes.parts_of (nth_plane_items head ys ds u) head.depth_ac n within in
+        let left = parts_of (nth_plane_items head xs ds o) head.depth_ac n within in
+        let right = parts_of (nth_plane_items head ys ds u) head.depth_ac n within in
         let whole = planes.say_as m _ _ _ _ left.same right.same e in
         let both = planes_both head fits xs ys ds o u p q k l deep n (omega arith) in
         elim (split m (planes_items head xs ds o n) (planes_items head ys ds u n) _ _ both.0 whole) [

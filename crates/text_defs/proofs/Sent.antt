@@ -14,9 +14,9 @@ use Rattle.plane_defs.specs.Sets.{magnitude, significant, shift, coded, members,
 use Rattle.plane_defs.specs.Entries.{negative, flags, significant_families}
 use Rattle.plane_defs.specs.Laws.{IsMultiple}
 use Rattle.plane_defs.specs.Steps.{Check, free, flags_alone, sign_at, Step, step, some_one_where, is_new, typed_steps, children_check, children_steps, quads_steps, grandchildren_steps}
-use Rattle.text_defs.specs.Given.{tells_sign}
-use Rattle.text_defs.proofs.SameTold.{any_bit, any_sign}
-use Rattle.text_defs.proofs.LowBits.{even_part, halves}
+use Rattle.plane_texts.specs.Given.{tells_sign}
+use Rattle.plane_texts.proofs.NothingTold.{any_bit, any_sign}
+use Rattle.plane_texts.proofs.LowBits.{even_part, halves}
 
 -- ---- members of lists
 

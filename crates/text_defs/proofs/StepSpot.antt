@@ -22,9 +22,9 @@ use Rattle.plane_defs.proofs.StepItems.{AreOptionsOf, Fits}
 use Rattle.text_defs.proofs.NumbersChoice.{left_at, right_at}
 use Rattle.text_defs.proofs.ValueChoice.{MaySay, may_same}
 use Rattle.text_defs.proofs.Choices.{Chooses, choose_left, choose_right}
-use Rattle.text_defs.proofs.FlatChoice.{EntriesChoose, step_at}
-use Rattle.text_defs.proofs.EntrySpot.{Replaces, Elsewhere, entry_spot}
-use Rattle.text_defs.proofs.SmallFacts.{neither_left, neither_right, unequal}
+use Rattle.plane_texts.specs.Candidates.{EntriesChoose, step_at, Replaces}
+use Rattle.text_defs.proofs.EntrySpot.{Elsewhere, entry_spot}
+use Rattle.plane_texts.proofs.SmallFacts.{neither_left, neither_right, unequal}
 
 or_false : (b : Bool) → (b || false) ≡ b
 or_false true = refl

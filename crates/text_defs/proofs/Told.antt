@@ -10,7 +10,7 @@ use Rattle.plane_defs.specs.Steps.{Step}
 use Rattle.plane_defs.specs.StepLaws.{SameSteps}
 use Rattle.plane_defs.specs.Reading.{entry_reading, step_reading, read_after}
 use Rattle.plane_defs.proofs.StepItems.{AreOptionsOf, OptionsAgree, Fits, entry_alike}
-use Rattle.text_defs.specs.Given.{whole_steps}
+use Rattle.plane_texts.specs.Given.{whole_steps}
 use Rattle.text_defs.proofs.Prefixes.{SaySame, split}
 
 abbrev pub ToldAlike : List Step → List Step → Type 0

@@ -1,7 +1,7 @@
 -- What the first m items of a segment's text give of its numbers; what they don't give is 0, and positive.
 -- (this project's own)
-use Rattle.std.specs.Prelude.{ℕ, ◌+◌, ◌-◌, ◌*◌, ◌/◌, ◌^◌, ◌==◌, ◌&&◌, ◌||◌, ℤ, pos, neg_ℤ, ◌+ℤ◌, ◌*ℤ◌, Bool, true, false, if◌then◌else◌, nat_le, nat_lt, List, [], ◌∷◌, ◌++◌, length, map, sum_by}
-use Rattle.std.specs.List.{flat_map, list_any}
+use Rattle.std.specs.Prelude.{ℕ, ◌+◌, ◌-◌, ◌*◌, ◌^◌, ◌==◌, ◌&&◌, ◌||◌, ℤ, pos, neg_ℤ, ◌+ℤ◌, ◌*ℤ◌, Bool, true, if◌then◌else◌, nat_le, nat_lt, List, [], ◌∷◌, length, map, sum_by}
+use Rattle.std.specs.List.{list_any}
 use Rattle.std.specs.Int.{int_shr}
 use lib.ListN.{get_or}
 use Rattle.item_defs.specs.Bits.{bit}
@@ -9,18 +9,15 @@ use Rattle.number_defs.specs.Ranges.{shifted_height, complement}
 use Rattle.number_defs.specs.DcPart.{dc_bits, dc_kind, dc_planes, high_items}
 use Rattle.number_defs.specs.Depths.{depth_items}
 use Rattle.number_defs.specs.Given.{numbers_through}
-use Rattle.plane_defs.specs.declared.codes.Book.{Book}
-use Rattle.plane_defs.specs.declared.entries.Entry.{Entry}
 use Rattle.plane_defs.specs.Spans.{span}
 use Rattle.plane_defs.specs.Sets.{magnitude}
-use Rattle.plane_defs.specs.Entries.{negative, stage_number}
+use Rattle.plane_defs.specs.Entries.{negative}
 use Rattle.plane_defs.specs.Profile.{profile}
-use Rattle.plane_defs.specs.Steps.{Step, Told, flags_alone, types_at, sign_at, bit_at}
-use Rattle.plane_defs.specs.Planes.{Plane, of_block, before_stage}
-use Rattle.plane_defs.specs.Reading.{step_reading, read_after, steps_of_block, gaggle_reading, plane_reading}
+use Rattle.plane_defs.specs.Steps.{Step}
 use Rattle.segment_defs.specs.declared.head.SegmentHead.{SegmentHead}
 use Rattle.segment_defs.specs.Depths.{dc_of, dcs_of}
 use Rattle.segment_defs.specs.SegmentItems.{Options, dc_shift, q_of, plane_at, stages_sent, dc_part_items, planes_items}
+use Rattle.plane_texts.specs.Given.{steps_given, has_bit_in, has_sign_in}
 use Rattle.text_defs.specs.Spellable.{block_of}
 
 -- ---- the DC part: its numbers, and then plane by plane a bit of each
@@ -43,41 +40,6 @@ is_dc_bit_given head blocks options m r b =
 
 -- ---- the planes
 
--- those of the steps that stand whole in the first m items, with these entries before them
-abbrev pub whole_steps : Book → List ℕ → List Entry → ℕ → List Step → List Step
-whole_steps book options before m [] = []
-whole_steps book options before m (s ∷ more) =
-    let used = length (step_reading book options before s) in
-    if nat_le used m then s ∷ whole_steps book options (before ++ s.entry ∷ []) (m - used) more else []
-
--- the entries of stage k that stand before block r in its gaggle, and the items before it in its plane
-abbrev pub entries_before : Plane → (k r : ℕ) → List Entry
-entries_before p k r =
-    let g = r / 16 in before_stage p k g ++ flat_map (of_block p (stage_number k)) (span (16 * g) (r - 16 * g))
-
-abbrev pub count_before : Book → (ℕ → List ℕ) → Plane → (k r : ℕ) → ℕ
-count_before book options p k r =
-    let g = r / 16 in
-    length (plane_reading book options p k) + length (flat_map (gaggle_reading book options p k) (span 0 g)) +
-    length (read_after book (options g) (before_stage p k g) (flat_map (steps_of_block p (stage_number k)) (span (16 * g) (r - 16 * g))))
-
--- the steps of block r that the plane's first m items give
-abbrev pub steps_given : Book → (ℕ → List ℕ) → Plane → (stages m r : ℕ) → List Step
-steps_given book options p stages m r =
-    flat_map (λ k. whole_steps book (options (r / 16)) (entries_before p k r) (m - count_before book options p k r) (steps_of_block p (stage_number k) r)) (span 0 stages)
-
-abbrev pub tells_bit : ℕ → Told → Bool
-tells_bit p flags_alone = false
-tells_bit p (types_at positions) = list_any (λ q. q == p) positions
-tells_bit p (sign_at q) = false
-tells_bit p (bit_at q) = q == p
-
-abbrev pub tells_sign : ℕ → Told → Bool
-tells_sign p flags_alone = false
-tells_sign p (types_at positions) = false
-tells_sign p (sign_at q) = q == p
-tells_sign p (bit_at q) = false
-
 -- the items before the nth plane
 abbrev pub before_plane : SegmentHead → List (List ℤ) → List ℕ → Options → ℕ → ℕ
 before_plane head blocks depths options n =
@@ -95,10 +57,10 @@ given_in head blocks depths options m r b =
 
 module _ (head : SegmentHead) (blocks : List (List ℤ)) (depths : List ℕ) (options : Options) (m : ℕ) where
   abbrev pub has_bit : (r p b : ℕ) → Bool
-  has_bit r p b = list_any (λ s. tells_bit p s.tells) (given_in head blocks depths options m r b)
+  has_bit r p b = has_bit_in (given_in head blocks depths options m r b) p
 
   abbrev pub has_sign : (r p : ℕ) → Bool
-  has_sign r p = list_any (λ b. list_any (λ s. tells_sign p s.tells) (given_in head blocks depths options m r b)) (span 0 head.depth_ac)
+  has_sign r p = list_any (λ b. has_sign_in (given_in head blocks depths options m r b) p) (span 0 head.depth_ac)
 
   abbrev pub given_magnitude : (r p : ℕ) → ℕ
   given_magnitude r p = sum_by (λ b. if has_bit r p b && bit (magnitude (block_of blocks r) p) b then 2 ^ b else 0) (span 0 head.depth_ac)

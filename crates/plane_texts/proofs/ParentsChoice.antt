@@ -10,12 +10,11 @@ use Rattle.plane_defs.specs.Entries.{twos_bit, typed, parents, stage_number, blo
 use Rattle.plane_defs.specs.Steps.{free, typed_steps, parents_steps, block_steps}
 use Rattle.plane_defs.specs.Completed.{completed, MayComplete}
 use Rattle.plane_defs.proofs.Completing.{completes}
-use Rattle.text_defs.proofs.FlatChoice.{EntriesChoose, entries_as, step_at}
-use Rattle.text_defs.proofs.EntrySpot.{Replaces}
-use Rattle.text_defs.proofs.BlockChoice.{BlockChosen, MayChoose}
-use Rattle.text_defs.proofs.SmallFacts.{lt_from}
-use Rattle.text_defs.proofs.NormalForm.{upper, new_here, minus_here, may_new, steps_shown, from_completion}
-use Rattle.text_defs.proofs.GroupChoice.{group_choice}
+use Rattle.plane_texts.specs.Candidates.{EntriesChoose, step_at, Replaces, BlockChosen, MayChoose}
+use Rattle.plane_texts.proofs.EntryChoices.{entries_as}
+use Rattle.plane_texts.proofs.SmallFacts.{lt_from}
+use Rattle.plane_texts.proofs.NormalForm.{upper, new_here, minus_here, may_new, steps_shown, from_completion}
+use Rattle.plane_texts.proofs.GroupChoice.{group_choice}
 
 -- ---- choices of a completion
 

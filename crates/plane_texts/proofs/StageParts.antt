@@ -16,7 +16,7 @@ use Rattle.plane_defs.proofs.Alike.{all_filter, filter_same}
 use Rattle.plane_defs.proofs.ReadingTexts.{map_map}
 use Rattle.plane_defs.proofs.Above.{all_zip, all_span, members_acs, any_alike, due_filter, types_filter, newly_same}
 use Rattle.plane_defs.proofs.AlikeSteps.{all_both}
-use Rattle.text_defs.proofs.SmallFacts.{map_equal, passed}
+use Rattle.plane_texts.proofs.SmallFacts.{map_equal, passed}
 
 -- ---- chosen parts of a list
 

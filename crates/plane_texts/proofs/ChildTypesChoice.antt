@@ -18,16 +18,15 @@ use Rattle.plane_defs.specs.Completed.{completed, MayComplete}
 use Rattle.plane_defs.proofs.Above.{all_span}
 use Rattle.plane_defs.proofs.Completing.{live_member}
 use Rattle.plane_defs.proofs.Determined.{enclosed}
-use Rattle.text_defs.proofs.FlatChoice.{EntriesChoose, entries_right, entries_as, step_at, step_left, step_right, StepLocated, locate_step}
-use Rattle.text_defs.proofs.EntrySpot.{Replaces}
-use Rattle.text_defs.proofs.BlockChoice.{MayChoose}
-use Rattle.text_defs.proofs.StageParts.{SeenAt, typed_kept}
-use Rattle.text_defs.proofs.Completions as two
-use Rattle.text_defs.proofs.GroupChoice.{GroupChosen, group_choice, Outside}
-use Rattle.text_defs.proofs.ParentsChoice.{StageChosen, MayComplete', from_completions}
-use Rattle.text_defs.proofs.ChildrenChoice as kids
-use Rattle.text_defs.proofs.ChildrenChoice.{any_member, in_span, family_sends, family_steps, types_sent, types_said, family_entries, children_sent, descendants_choice, families_choice}
-use Rattle.text_defs.proofs.SmallFacts.{or_right, or_left, equal_from, not_equal, true_false, unequal, strictly, itself}
+use Rattle.plane_texts.specs.Candidates.{EntriesChoose, step_at, Replaces, MayChoose}
+use Rattle.plane_texts.proofs.EntryChoices.{entries_right, entries_as, step_left, step_right, StepLocated, locate_step}
+use Rattle.plane_texts.proofs.StageParts.{SeenAt, typed_kept}
+use Rattle.plane_texts.proofs.Completions as two
+use Rattle.plane_texts.proofs.GroupChoice.{GroupChosen, group_choice, Outside}
+use Rattle.plane_texts.proofs.ParentsChoice.{StageChosen, MayComplete', from_completions}
+use Rattle.plane_texts.proofs.ChildrenChoice as kids
+use Rattle.plane_texts.proofs.ChildrenChoice.{any_member, in_span, family_sends, family_steps, types_sent, types_said, family_entries, children_sent, descendants_choice, families_choice}
+use Rattle.plane_texts.proofs.SmallFacts.{or_right, or_left, equal_from, not_equal, true_false, unequal, strictly, itself}
 
 -- a raw bit of a list
 raw_at : (j : ℕ) (ys : List Bool) → j < length ys → (y : Bool) × (step_at (map (λ y. step free flags_alone (Bit y)) ys) j ≡ step free flags_alone (Bit y))

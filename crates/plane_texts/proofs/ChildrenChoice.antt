@@ -20,13 +20,14 @@ use Rattle.plane_defs.specs.Choosing.{family_of, AreApart}
 use Rattle.plane_defs.proofs.Above.{all_span, flag_same}
 use Rattle.plane_defs.proofs.Chosen.{words_chosen}
 use Rattle.plane_defs.proofs.ReadingTexts.{map_flat}
-use Rattle.text_defs.proofs.FlatChoice.{EntriesChoose, entries_left, entries_right, entries_as}
-use Rattle.text_defs.proofs.StageParts.{filter_flat, typed_entries, flags_kept, parents_kept}
-use Rattle.text_defs.proofs.WordParts.{word_is}
-use Rattle.text_defs.proofs.Completions as two
-use Rattle.text_defs.proofs.FlagChoice as flagged
-use Rattle.text_defs.proofs.ParentsChoice.{StageChosen, dc_kept}
-use Rattle.text_defs.proofs.SmallFacts.{or_right, equal_from, unequal}
+use Rattle.plane_texts.specs.Candidates.{EntriesChoose}
+use Rattle.plane_texts.proofs.EntryChoices.{entries_left, entries_right, entries_as}
+use Rattle.plane_texts.proofs.StageParts.{filter_flat, typed_entries, flags_kept, parents_kept}
+use Rattle.plane_texts.proofs.WordParts.{word_is}
+use Rattle.plane_texts.proofs.Completions as two
+use Rattle.plane_texts.proofs.FlagChoice as flagged
+use Rattle.plane_texts.proofs.ParentsChoice.{StageChosen, dc_kept}
+use Rattle.plane_texts.proofs.SmallFacts.{or_right, equal_from, unequal}
 
 -- ---- members
 

@@ -13,7 +13,7 @@ use Rattle.plane_defs.proofs.Above.{any_alike, all_span, set_above}
 use Rattle.plane_defs.proofs.SpanLists.{get_or-map-span}
 use Rattle.plane_defs.proofs.Determined.{enclosed}
 use Rattle.plane_defs.proofs.Completing.{completes}
-use Rattle.text_defs.proofs.StageParts.{SeenAt}
+use Rattle.plane_texts.proofs.StageParts.{SeenAt}
 
 pub significant_same : (u v : List ℤ) (plane p : ℕ) → get_or u p (pos 0) ≡ get_or v p (pos 0) → significant u plane p ≡ significant v plane p
 unfolding significant

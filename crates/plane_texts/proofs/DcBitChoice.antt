@@ -10,12 +10,10 @@ use Rattle.plane_defs.specs.Sets.{magnitude, coded, shift}
 use Rattle.plane_defs.specs.Laws.{IsMultiple}
 use Rattle.plane_defs.specs.Entries.{negative, twos_bit, block_entries}
 use Rattle.plane_defs.specs.Steps.{Step, step, free, bit_at, block_steps}
-use Rattle.text_defs.proofs.LowBits.{twos}
-use Rattle.text_defs.proofs.DcShifts.{with_bit, bit_chosen, bit_above, bit_times, IsTimes}
-use Rattle.text_defs.proofs.FlatChoice.{EntriesChoose, step_at}
-use Rattle.text_defs.proofs.EntrySpot.{Replaces}
-use Rattle.text_defs.proofs.BlockChoice.{BlockChosen, MayChoose}
-use Rattle.text_defs.proofs.SmallFacts.{le_from, lt_from, equal_from, unequal, both}
+use Rattle.plane_texts.proofs.LowBits.{twos}
+use Rattle.plane_texts.proofs.DcShifts.{with_bit, bit_chosen, bit_above, bit_times, IsTimes}
+use Rattle.plane_texts.specs.Candidates.{EntriesChoose, step_at, Replaces, BlockChosen, MayChoose}
+use Rattle.plane_texts.proofs.SmallFacts.{le_from, lt_from, equal_from, unequal, both}
 
 pub digit_small : (x : Bool) → digit x < 2
 digit_small true = omega arith

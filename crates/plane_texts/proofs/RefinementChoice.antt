@@ -19,13 +19,13 @@ use Rattle.plane_defs.specs.Steps.{Step, step, free, bit_at, block_steps, refine
 use Rattle.plane_defs.specs.StepLaws.{entries_of, IsAc, AcsAlike}
 use Rattle.plane_defs.proofs.Determined.{still_significant}
 use Rattle.plane_defs.proofs.ReadingTexts.{steps_entries}
-use Rattle.text_defs.proofs.FlatChoice.{EntriesChoose, entries_as, step_at, StepLocated, locate_step}
-use Rattle.text_defs.proofs.EntrySpot.{Replaces}
-use Rattle.text_defs.proofs.BlockChoice.{AboveSame, BlockChosen, MayChoose, acs_above}
-use Rattle.text_defs.proofs.DcBitChoice.{digit_small, digit_back, shift_low, set_multiple}
-use Rattle.text_defs.proofs.StageParts.{SeenAt, map_filter_flat, parents_kept, children_kept, grandchildren_kept, sets_seen}
-use Rattle.text_defs.proofs.SmallFacts.{both, le_from, lt_from, equal_from, unequal, set_at}
-use Rattle.text_defs.proofs.Completions.{significant_same}
+use Rattle.plane_texts.specs.Candidates.{EntriesChoose, step_at, Replaces, AboveSame, BlockChosen, MayChoose}
+use Rattle.plane_texts.proofs.EntryChoices.{entries_as, StepLocated, locate_step}
+use Rattle.plane_texts.proofs.BlockChoice.{acs_above}
+use Rattle.plane_texts.proofs.DcBitChoice.{digit_small, digit_back, shift_low, set_multiple}
+use Rattle.plane_texts.proofs.StageParts.{SeenAt, map_filter_flat, parents_kept, children_kept, grandchildren_kept, sets_seen}
+use Rattle.plane_texts.proofs.SmallFacts.{both, le_from, lt_from, equal_from, unequal, set_at}
+use Rattle.plane_texts.proofs.Completions.{significant_same}
 
 -- ---- stages before the refinement
 

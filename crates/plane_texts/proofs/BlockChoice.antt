@@ -1,5 +1,5 @@
 -- A block with another entry in one step of a plane: what it keeps.
-use Rattle.std.proofs.Common.{◌≡◌, ℕ, ◌+◌, ◌-◌, ◌*◌, ◌/◌, ◌%◌, ◌^◌, ◌<◌, ◌≤◌, min, inl, inr, Bool, true, false, List, length, refl, ap, sym, ◌∙◌, subst, arith, ℤ, pos, get_or}
+use Rattle.std.proofs.Common.{◌≡◌, ℕ, ◌+◌, ◌-◌, ◌*◌, ◌/◌, ◌%◌, ◌^◌, ◌<◌, ◌≤◌, inl, inr, Bool, true, false, List, refl, ap, sym, ◌∙◌, subst, arith, ℤ, pos, get_or}
 use Rattle.std.specs.Prelude.{nat_le, ◌==◌}
 use Rattle.std.specs.Int.{int_shr}
 use Rattle.std.proofs.lemmas.Bool.{cases_lt}
@@ -7,35 +7,11 @@ use Rattle.std.proofs.lemmas.Bool.Decides.{nat_tests}
 use Rattle.std.proofs.lemmas.Nat.{pow_pos, shr-shr, div-mul-add, div-add-mod', mod_below}
 use Rattle.std.proofs.Math.Pow.{pow_mono}
 use Rattle.number_defs.specs.Ranges.{complement}
-use Rattle.plane_defs.specs.declared.entries.Entry.{Entry}
 use Rattle.plane_defs.specs.Sets.{magnitude, significant}
 use Rattle.plane_defs.specs.Laws.{IsMultiple}
-use Rattle.plane_defs.specs.Entries.{negative, stage_number, block_entries}
-use Rattle.plane_defs.specs.Steps.{block_steps}
-use Rattle.plane_defs.specs.StepLaws.{IsAc, SameAc, SeenAlike}
-use Rattle.text_defs.proofs.FlatChoice.{EntriesChoose, step_at}
-use Rattle.text_defs.proofs.EntrySpot.{Replaces}
-use Rattle.text_defs.proofs.LowBits.{twos}
-
--- the AC numbers above a plane are the same
-pub record AboveSame (u v : List ℤ) (b : ℕ) : Type 0 where
-  pub mags : (p : ℕ) → IsAc p → magnitude u p / 2 ^ (b + 1) ≡ magnitude v p / 2 ^ (b + 1)
-  pub signs : (p : ℕ) → IsAc p → significant u (b + 1) p ≡ true → negative (get_or u p (pos 0)) ≡ negative (get_or v p (pos 0))
-
-pub record BlockChosen (u : List ℤ) (d : ℕ) (weights : List ℕ) (b q k j : ℕ) (e : Entry) : Type 0 where
-  pub v : List ℤ
-  pub whole : length v ≡ 64
-  pub multiple : IsMultiple v weights
-  pub below : (p : ℕ) → 1 ≤ p → magnitude v p < 2 ^ d
-  pub dc : (c : ℕ) → min (b + 1) q ≤ c → int_shr (get_or v 0 (pos 0)) c ≡ int_shr (get_or u 0 (pos 0)) c
-  pub above : AboveSame u v b
-  pub before : (i : ℕ) → i < k → block_entries (stage_number i) u d weights b q ≡ block_entries (stage_number i) v d weights b q
-  pub here : EntriesChoose j e (block_entries (stage_number k) u d weights b q) (block_entries (stage_number k) v d weights b q)
-
--- the block of a stage's step may have any entry there that isn't refused
-abbrev pub MayChoose : ℕ → Type 0
-MayChoose k = (u : List ℤ) (d : ℕ) (weights : List ℕ) (b q j : ℕ) (e : Entry) → length u ≡ 64 → IsMultiple u weights → ((p : ℕ) → 1 ≤ p → magnitude u p < 2 ^ d) → j < length (block_steps (stage_number k) u d weights b q) →
-    Replaces (step_at (block_steps (stage_number k) u d weights b q) j).check (step_at (block_steps (stage_number k) u d weights b q) j).entry e → BlockChosen u d weights b q k j e
+use Rattle.plane_defs.specs.StepLaws.{SameAc, SeenAlike}
+use Rattle.plane_texts.specs.Candidates.{AboveSame}
+use Rattle.plane_texts.proofs.LowBits.{twos}
 
 -- ---- above the plane
 

@@ -22,10 +22,10 @@ use Rattle.plane_defs.proofs.Determined.{not_coded, still_significant}
 use Rattle.plane_defs.proofs.Completing.{completes, due_above}
 use Rattle.plane_defs.proofs.ReadingTexts.{steps_entries}
 use Rattle.plane_defs.proofs.Seen.{steps_seen}
-use Rattle.text_defs.proofs.FlatChoice.{EntriesChoose, entries_as}
-use Rattle.text_defs.proofs.BlockChoice.{AboveSame, BlockChosen}
-use Rattle.text_defs.proofs.SmallFacts.{le_from, lt_from, le_to, lt_to, true_false, both}
-use Rattle.text_defs.proofs.Completions.{significant_same}
+use Rattle.plane_texts.specs.Candidates.{EntriesChoose, AboveSame, BlockChosen}
+use Rattle.plane_texts.proofs.EntryChoices.{entries_as}
+use Rattle.plane_texts.proofs.SmallFacts.{le_from, lt_from, le_to, lt_to, true_false, both}
+use Rattle.plane_texts.proofs.Completions.{significant_same}
 
 not_true : (a : Bool) → not a ≡ true → a ≡ false
 not_true true e = true_false (sym e)

@@ -20,12 +20,12 @@ use Rattle.plane_defs.proofs.AlikeSteps.{all_both}
 use Rattle.plane_defs.proofs.Freedom.{types_free}
 use Rattle.plane_defs.proofs.Completing.{due_above}
 use Rattle.plane_defs.proofs.ReadingTexts.{map_map}
-use Rattle.text_defs.proofs.FlatChoice.{EntriesChoose, entries_as, entries_right, step_at, StepLocated, locate_step}
-use Rattle.text_defs.proofs.EntrySpot.{Replaces}
-use Rattle.text_defs.proofs.StageParts.{SeenAt, map_filter_flat, newly_here}
-use Rattle.text_defs.proofs.WordParts.{spread, spread_is, word_is, some_bit, any_of_map, any_of_filter}
-use Rattle.text_defs.proofs.Completions as two
-use Rattle.text_defs.proofs.SmallFacts.{map_equal, passed, le_to, lt_to, le_from, lt_from, both, itself, unequal, not_equal}
+use Rattle.plane_texts.specs.Candidates.{EntriesChoose, step_at, Replaces}
+use Rattle.plane_texts.proofs.EntryChoices.{entries_as, entries_right, StepLocated, locate_step}
+use Rattle.plane_texts.proofs.StageParts.{SeenAt, map_filter_flat, newly_here}
+use Rattle.plane_texts.proofs.WordParts.{spread, spread_is, word_is, some_bit, any_of_map, any_of_filter}
+use Rattle.plane_texts.proofs.Completions as two
+use Rattle.plane_texts.proofs.SmallFacts.{map_equal, passed, le_to, lt_to, le_from, lt_from, both, itself, unequal, not_equal}
 
 -- the positions of a range
 inside : (start count : ℕ) → ℕ → Bool

@@ -17,19 +17,18 @@ use Rattle.plane_defs.specs.StepLaws.{entries_of, IsAc}
 use Rattle.plane_defs.specs.Completed.{completed, MayComplete}
 use Rattle.plane_defs.specs.Choosing.{AreApart}
 use Rattle.plane_defs.proofs.Above.{all_span, flag_same}
-use Rattle.text_defs.proofs.FlatChoice.{EntriesChoose, entries_right, entries_as, step_at, StepLocated, locate_step}
-use Rattle.text_defs.proofs.EntrySpot.{Replaces}
-use Rattle.text_defs.proofs.BlockChoice.{MayChoose}
-use Rattle.text_defs.proofs.StageParts.{SeenAt, typed_kept, flags_kept}
-use Rattle.text_defs.proofs.WordParts.{word_is}
-use Rattle.text_defs.proofs.Completions as two
-use Rattle.text_defs.proofs.GroupChoice.{GroupChosen, group_choice, Outside}
-use Rattle.text_defs.proofs.FlagChoice as flagged
-use Rattle.text_defs.proofs.ParentsChoice.{StageChosen, MayComplete', from_completions}
-use Rattle.text_defs.proofs.ChildrenChoice.{in_span}
-use Rattle.text_defs.proofs.GrandchildrenChoice as grand
-use Rattle.text_defs.proofs.GrandchildrenChoice.{quad_sends, quad_steps, quad_entries, quads_sent, quads_said, sixteen_sends, sixteen_steps, sixteens_sent, grandchildren_sent, sixteens_choice}
-use Rattle.text_defs.proofs.SmallFacts.{le_to, lt_to, equal_from, unequal, strictly}
+use Rattle.plane_texts.specs.Candidates.{EntriesChoose, step_at, Replaces, MayChoose}
+use Rattle.plane_texts.proofs.EntryChoices.{entries_right, entries_as, StepLocated, locate_step}
+use Rattle.plane_texts.proofs.StageParts.{SeenAt, typed_kept, flags_kept}
+use Rattle.plane_texts.proofs.WordParts.{word_is}
+use Rattle.plane_texts.proofs.Completions as two
+use Rattle.plane_texts.proofs.GroupChoice.{GroupChosen, group_choice, Outside}
+use Rattle.plane_texts.proofs.FlagChoice as flagged
+use Rattle.plane_texts.proofs.ParentsChoice.{StageChosen, MayComplete', from_completions}
+use Rattle.plane_texts.proofs.ChildrenChoice.{in_span}
+use Rattle.plane_texts.proofs.GrandchildrenChoice as grand
+use Rattle.plane_texts.proofs.GrandchildrenChoice.{quad_sends, quad_steps, quad_entries, quads_sent, quads_said, sixteen_sends, sixteen_steps, sixteens_sent, grandchildren_sent, sixteens_choice}
+use Rattle.plane_texts.proofs.SmallFacts.{le_to, lt_to, equal_from, unequal, strictly}
 
 -- ---- the sets of four of a family
 

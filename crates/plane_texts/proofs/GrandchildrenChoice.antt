@@ -21,15 +21,16 @@ use Rattle.plane_defs.specs.Choosing.{sixteen_of}
 use Rattle.plane_defs.proofs.Above.{all_span, any_alike, flag_same}
 use Rattle.plane_defs.proofs.Chosen.{words_chosen}
 use Rattle.plane_defs.proofs.ReadingTexts.{map_flat}
-use Rattle.text_defs.proofs.FlatChoice.{EntriesChoose, entries_right, entries_as, StepLocated}
-use Rattle.text_defs.proofs.StageParts.{filter_flat, typed_entries, grandchildren_flags_kept, quads_kept, children_kept}
-use Rattle.text_defs.proofs.WordParts.{word_is}
-use Rattle.text_defs.proofs.Completions as two
-use Rattle.text_defs.proofs.GroupChoice.{Outside}
-use Rattle.text_defs.proofs.FlagChoice as flagged
-use Rattle.text_defs.proofs.ParentsChoice.{StageChosen}
-use Rattle.text_defs.proofs.ChildrenChoice as kids
-use Rattle.text_defs.proofs.SmallFacts.{or_left, equal_from, unequal, strictly}
+use Rattle.plane_texts.specs.Candidates.{EntriesChoose}
+use Rattle.plane_texts.proofs.EntryChoices.{entries_right, entries_as, StepLocated}
+use Rattle.plane_texts.proofs.StageParts.{filter_flat, typed_entries, grandchildren_flags_kept, quads_kept, children_kept}
+use Rattle.plane_texts.proofs.WordParts.{word_is}
+use Rattle.plane_texts.proofs.Completions as two
+use Rattle.plane_texts.proofs.GroupChoice.{Outside}
+use Rattle.plane_texts.proofs.FlagChoice as flagged
+use Rattle.plane_texts.proofs.ParentsChoice.{StageChosen}
+use Rattle.plane_texts.proofs.ChildrenChoice as kids
+use Rattle.plane_texts.proofs.SmallFacts.{or_left, equal_from, unequal, strictly}
 
 -- ---- the stage's parts
 

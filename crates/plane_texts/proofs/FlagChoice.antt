@@ -17,9 +17,9 @@ use Rattle.plane_defs.proofs.Above.{all_span, all_zip}
 use Rattle.plane_defs.proofs.AlikeSteps.{all_both, of_filter, at_span}
 use Rattle.plane_defs.proofs.ReadingTexts.{map_map}
 use Rattle.plane_defs.proofs.Freedom.{flags_free}
-use Rattle.text_defs.proofs.WordParts.{spread, spread_is, some_bit, any_of_map, wants_had}
-use Rattle.text_defs.proofs.Completions as two
-use Rattle.text_defs.proofs.SmallFacts.{map_equal, passed, lt_to, lt_from}
+use Rattle.plane_texts.proofs.WordParts.{spread, spread_is, some_bit, any_of_map, wants_had}
+use Rattle.plane_texts.proofs.Completions as two
+use Rattle.plane_texts.proofs.SmallFacts.{map_equal, passed, lt_to, lt_from}
 
 filter_map : {X A : Type 0} (f : X → A) (t : A → Bool) (xs : List X) → filter t (map f xs) ≡ map f (filter (λ x. t (f x)) xs)
 filter_map f t [] = refl

@@ -1,0 +1,83 @@
+-- Steps that take no item tell nothing.
+use Rattle.std.proofs.Common.{◌≡◌, ℕ, ◌-◌, ◌≤◌, Bool, true, false, cond, eqb, List, [], ◌∷◌, ◌++◌, length, map, refl, ap, sym, ◌∙◌, subst, arith, ℤ, length-append}
+use Rattle.std.specs.Prelude.{nat_le, ◌||◌, ◌==◌}
+use Rattle.std.specs.List.{flat_map, list_any}
+use Rattle.std.proofs.lemmas.List.{length-map}
+use Rattle.std.proofs.lemmas.Bool.Decides.{nat_tests}
+use Rattle.std.proofs.lemmas.List.Folds.{list_any-append}
+use Rattle.item_defs.specs.Bits.{value_of}
+use Rattle.item_defs.specs.Items.{raw}
+use Rattle.plane_defs.specs.declared.codes.Book.{Book}
+use Rattle.plane_defs.specs.declared.entries.Entry.{Entry}
+use Rattle.plane_defs.specs.declared.entries.Entry.TheVariants.{Bit}
+use Rattle.plane_defs.specs.Sets.{significant}
+use Rattle.plane_defs.specs.Entries.{word}
+use Rattle.plane_defs.specs.Spelled.{option_of, opening}
+use Rattle.plane_defs.specs.Steps.{Check, refuses, Told, flags_alone, types_at, sign_at, bit_at, Step}
+use Rattle.plane_defs.specs.Reading.{checked, checked_word, entry_reading, step_reading}
+use Rattle.plane_texts.specs.Given.{whole_steps, tells_bit, tells_sign, has_bit_in, has_sign_in}
+use Rattle.plane_texts.proofs.Says.{Tells, AllSay}
+
+abbrev pub any_bit : ℕ → List Step → Bool
+any_bit p steps = has_bit_in steps p
+
+abbrev pub any_sign : ℕ → List Step → Bool
+any_sign p steps = has_sign_in steps p
+
+abbrev pub TellsNone : List Step → Type 0
+TellsNone steps = (p : ℕ) → (any_bit p steps ≡ false) × (any_sign p steps ≡ false)
+
+empty_entry : (book : Book) (o : List ℕ) (before : List Entry) (check : Check) (e : Entry) → length (entry_reading book o before check e) ≤ 0 → (b : Bool) → e ≡ Bit b → ⊥
+unfolding entry_reading
+empty_entry book o before check e le b same = let long : length (entry_reading book o before check (Bit b)) ≤ 0 = subst (λ k. length (entry_reading book o before check k) ≤ 0) same le in omega (arith, long)
+
+empty_word : (book : Book) (o : List ℕ) (before : List Entry) (check : Check) (bits : List Bool) → length (entry_reading book o before check (word bits)) ≤ 0 → length bits ≡ 0
+unfolding entry_reading
+empty_word book o before check bits le = by_count (eqb (length bits) 0) (eqb (length bits) 1) refl le
+  where
+    none : (n : ℕ) → eqb n 0 ≡ true → n ≡ 0
+    none n e = grind (arith, nat_tests)
+
+    by_count : (a b : Bool) → eqb (length bits) 0 ≡ a → length (cond a [] (cond b (checked (refuses check) (raw (value_of bits)) ∷ []) (opening o before (length bits) ++ checked_word book (length bits) (option_of o (length bits)) (value_of bits) check ∷ []))) ≤ 0 → length bits ≡ 0
+    by_count true b e le = none (length bits) e
+    by_count false true e le = absurd (omega (arith, le))
+    by_count false false e le = absurd (omega (arith, le, length-append (opening o before (length bits)) (checked_word book (length bits) (option_of o (length bits)) (value_of bits) check ∷ [])))
+
+pub nothing_told : (u : List ℤ) (plane : ℕ) (book : Book) (o : List ℕ) (before : List Entry) (ss : List Step) → AllSay u plane ss → TellsNone (whole_steps book o before 0 ss)
+nothing_told u plane book o before [] a = λ p. (refl, refl)
+nothing_told u plane book o before (s ∷ ss) a =
+    let used = length (step_reading book o before s) in
+    let z : 0 ≡ 0 - used = omega arith in
+    by_test (nat_le used 0) refl (subst (λ k. TellsNone (whole_steps book o (before ++ s.entry ∷ []) k ss)) z (nothing_told u plane book o (before ++ s.entry ∷ []) ss a.1))
+  where
+    low : (n : ℕ) → nat_le n 0 ≡ true → n ≤ 0
+    low n e = grind (arith, nat_tests)
+
+    none_list : {X : Type 0} (xs : List X) → length xs ≡ 0 → xs ≡ []
+    none_list [] e = refl
+    none_list (x ∷ xs) e = absurd (omega (arith, e))
+
+    told_none : (t : Told) → Tells u plane t s.entry → length (step_reading book o before s) ≤ 0 → (p : ℕ) → (tells_bit p t ≡ false) × (tells_sign p t ≡ false)
+    told_none flags_alone says le p = (refl, refl)
+    told_none (types_at ps) says le p =
+        let long : length (entry_reading book o before s.check (word (map (significant u plane) ps))) ≤ 0 = subst (λ e. length (entry_reading book o before s.check e) ≤ 0) says.0 le in
+        let none : ps ≡ [] = none_list ps (sym (length-map ps (significant u plane)) ∙ empty_word book o before s.check (map (significant u plane) ps) long) in
+        (ap (list_any (λ q. q == p)) none, refl)
+    told_none (sign_at q) says le p = absurd (empty_entry book o before s.check s.entry le _ says)
+    told_none (bit_at q) says le p = absurd (empty_entry book o before s.check s.entry le _ says)
+
+    by_test : (b : Bool) → nat_le (length (step_reading book o before s)) 0 ≡ b → TellsNone (whole_steps book o (before ++ s.entry ∷ []) (0 - length (step_reading book o before s)) ss) →
+        TellsNone (cond b (s ∷ whole_steps book o (before ++ s.entry ∷ []) (0 - length (step_reading book o before s)) ss) [])
+    by_test false e rest p = (refl, refl)
+    by_test true e rest p =
+        let here = told_none s.tells a.0 (low _ e) p in (
+          ap (λ x. x || any_bit p (whole_steps book o (before ++ s.entry ∷ []) (0 - length (step_reading book o before s)) ss)) here.0 ∙ (rest p).0,
+          ap (λ x. x || any_sign p (whole_steps book o (before ++ s.entry ∷ []) (0 - length (step_reading book o before s)) ss)) here.1 ∙ (rest p).1,
+        )
+
+pub none_flat : {X : Type 0} (f : X → List Step) → ((x : X) → TellsNone (f x)) → (xs : List X) → TellsNone (flat_map f xs)
+none_flat f each [] p = (refl, refl)
+none_flat f each (x ∷ xs) p = (
+  list_any-append (λ s. tells_bit p s.tells) (f x) (flat_map f xs) ∙ ap (λ b. b || any_bit p (flat_map f xs)) (each x p).0 ∙ (none_flat f each xs p).0,
+  list_any-append (λ s. tells_sign p s.tells) (f x) (flat_map f xs) ∙ ap (λ b. b || any_sign p (flat_map f xs)) (each x p).1 ∙ (none_flat f each xs p).1,
+)

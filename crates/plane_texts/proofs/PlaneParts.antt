@@ -1,0 +1,110 @@
+-- The parts of a plane's reading: what stands before a block of a stage, the block's own items, and what follows.
+use Rattle.std.proofs.Common.{◌≡◌, ℕ, ◌+◌, ◌-◌, ◌*◌, ◌/◌, ◌<◌, ◌≤◌, List, [], ◌∷◌, ◌++◌, length, ap, sym, ◌∙◌, arith, get_or, append_assoc, append-nil, length-append, zero-add}
+use Rattle.std.specs.List.{flat_map}
+use Rattle.item_defs.specs.Items.{Item}
+use Rattle.plane_defs.specs.declared.codes.Book.{Book}
+use Rattle.plane_defs.specs.declared.entries.Entry.{Entry}
+use Rattle.plane_defs.specs.Spans.{span}
+use Rattle.plane_defs.specs.Entries.{stage_number}
+use Rattle.plane_defs.specs.Steps.{Step}
+use Rattle.plane_defs.specs.StepLaws.{entry_of, entries_of}
+use Rattle.plane_defs.specs.Planes.{Plane, gaggles, gaggle_size, of_block, before_stage}
+use Rattle.plane_defs.specs.Reading.{step_reading, read_after, steps_of_block, gaggle_reading, stage_reading, plane_reading}
+use Rattle.plane_defs.proofs.SpanLists.{flat_map-span-parts}
+use Rattle.plane_defs.proofs.ReadingTexts.{map_flat, steps_entries}
+use Rattle.plane_texts.specs.Given.{entries_before, count_before}
+
+-- steps after others
+pub read_append : (book : Book) (options : List ℕ) (before : List Entry) (ss ts : List Step) →
+    read_after book options before (ss ++ ts) ≡ read_after book options before ss ++ read_after book options (before ++ entries_of ss) ts
+read_append book options before [] ts = ap (λ b. read_after book options b ts) (sym (append-nil before))
+read_append book options before (s ∷ ss) ts =
+    ap (λ l. step_reading book options before s ++ l) (read_append book options (before ++ s.entry ∷ []) ss ts)
+    ∙ sym (append_assoc (step_reading book options before s) (read_after book options (before ++ s.entry ∷ []) ss) _)
+    ∙ ap (λ b. (step_reading book options before s ++ read_after book options (before ++ s.entry ∷ []) ss) ++ read_after book options b ts) (append_assoc before (s.entry ∷ []) (entries_of ss))
+
+-- a list of which a part stands after others
+pub record Parts (whole first second : List Item) : Type 0 where
+  pub others : List Item
+  pub same : whole ≡ first ++ (second ++ others)
+
+pub part_long : (w a b : List Item) → Parts w a b → length a + length b ≤ length w
+part_long w a b p = omega (arith, ap length p.same, length-append a (b ++ p.others), length-append b p.others)
+
+pub parts_of : (f : ℕ → List Item) (count place : ℕ) → place < count → Parts (flat_map f (span 0 count)) (flat_map f (span 0 place)) (f place)
+parts_of f count place lt =
+    let r = flat_map-span-parts f 0 count place lt in
+    record { others = r.0; same = r.1 ∙ ap (λ k. (flat_map f (span 0 place) ++ f k) ++ r.0) (zero-add place) ∙ append_assoc (flat_map f (span 0 place)) (f place) r.0 }
+
+-- a part of a part
+pub parts_within : (w a b c e : List Item) → Parts w a b → Parts b c e → Parts w (a ++ c) e
+parts_within w a b c e p q = record {
+  others = q.others ++ p.others;
+  same =
+      p.same ∙ ap (λ l. a ++ (l ++ p.others)) q.same ∙ ap (λ l. a ++ l) (append_assoc c (e ++ q.others) p.others ∙ ap (λ l. c ++ l) (append_assoc e q.others p.others))
+      ∙ sym (append_assoc a c (e ++ (q.others ++ p.others)));
+}
+
+-- ---- a gaggle
+
+-- the steps of a gaggle before a block, and the items of these and of the block
+abbrev pub steps_before : Plane → (k r : ℕ) → List Step
+steps_before p k r = flat_map (steps_of_block p (stage_number k)) (span (16 * (r / 16)) (r - 16 * (r / 16)))
+
+abbrev pub read_before : Book → (ℕ → List ℕ) → Plane → (k r : ℕ) → List Item
+read_before book o p k r = read_after book (o (r / 16)) (before_stage p k (r / 16)) (steps_before p k r)
+
+abbrev pub read_here : Book → (ℕ → List ℕ) → Plane → (k r : ℕ) → List Item
+read_here book o p k r = read_after book (o (r / 16)) (entries_before p k r) (steps_of_block p (stage_number k) r)
+
+pub before_entries : (p : Plane) (k r : ℕ) → before_stage p k (r / 16) ++ entries_of (steps_before p k r) ≡ entries_before p k r
+before_entries p k r =
+    ap (λ l. before_stage p k (r / 16) ++ l)
+    (map_flat entry_of (steps_of_block p (stage_number k)) (of_block p (stage_number k))
+    (λ j. steps_entries (stage_number k) (get_or p.blocks j []) (get_or p.depths j 0) p.weights p.number p.q) (span (16 * (r / 16)) (r - 16 * (r / 16))))
+
+module _ (book : Book) (o : ℕ → List ℕ) (p : Plane) where
+  -- the first blocks of a gaggle, of which this is one
+  pub rows_parts : (k r c : ℕ) → r < 16 * (r / 16) + c →
+      Parts (read_after book (o (r / 16)) (before_stage p k (r / 16)) (flat_map (steps_of_block p (stage_number k)) (span (16 * (r / 16)) c))) (read_before book o p k r) (read_here book o p k r)
+  rows_parts k r c within =
+      let g : ℕ = r / 16 in
+      let f : ℕ → List Step = steps_of_block p (stage_number k) in
+      let s = flat_map-span-parts f (16 * g) c (r - 16 * g) (omega (arith, within)) in
+      let at : 16 * g + (r - 16 * g) ≡ r = omega arith in
+      let whole : flat_map f (span (16 * g) c) ≡ steps_before p k r ++ (f r ++ s.0) =
+      s.1 ∙ ap (λ j. (steps_before p k r ++ f j) ++ s.0) at ∙ append_assoc (steps_before p k r) (f r) s.0 in
+      let b : List Entry = before_stage p k g in
+      record {
+        others = read_after book (o g) (entries_before p k r ++ entries_of (f r)) s.0;
+        same =
+            ap (read_after book (o g) b) whole ∙ read_append book (o g) b (steps_before p k r) (f r ++ s.0)
+            ∙ ap (λ l. read_before book o p k r ++ l) (ap (λ c. read_after book (o g) c (f r ++ s.0)) (before_entries p k r) ∙ read_append book (o g) (entries_before p k r) (f r) s.0);
+      }
+
+  pub gaggle_parts : (k r : ℕ) → r < length p.depths → Parts (gaggle_reading book o p k (r / 16)) (read_before book o p k r) (read_here book o p k r)
+  gaggle_parts k r within = rows_parts k r (gaggle_size p (r / 16)) (omega (arith, within))
+
+  -- ---- the plane
+
+  abbrev pub gaggles_before : (k r : ℕ) → List Item
+  gaggles_before k r = flat_map (gaggle_reading book o p k) (span 0 (r / 16))
+
+  -- the items before a block's in its stage, and before these
+  abbrev pub items_before : (k r : ℕ) → List Item
+  items_before k r = plane_reading book o p k ++ (gaggles_before k r ++ read_before book o p k r)
+
+  pub stage_parts : (k r : ℕ) → r < length p.depths → Parts (stage_reading book o p k) (gaggles_before k r ++ read_before book o p k r) (read_here book o p k r)
+  stage_parts k r within =
+      parts_within _ _ _ _ _ (parts_of (gaggle_reading book o p k) (gaggles p) (r / 16) (omega (arith, within))) (gaggle_parts k r within)
+
+  -- a plane's reading, split at a block
+  pub plane_parts : (stages k r : ℕ) → k < stages → r < length p.depths → Parts (plane_reading book o p stages) (items_before k r) (read_here book o p k r)
+  plane_parts stages k r below within = parts_within _ _ _ _ _ (parts_of (stage_reading book o p) stages k below) (stage_parts k r within)
+
+  pub before_long : (k r : ℕ) → length (items_before k r) ≡ count_before book o p k r
+  before_long k r = omega (
+    arith,
+    length-append (plane_reading book o p k) (gaggles_before k r ++ read_before book o p k r),
+    length-append (gaggles_before k r) (read_before book o p k r),
+  )

@@ -1,0 +1,112 @@
+-- What is read of a plane depends on the steps of its blocks alone: planes whose blocks send the same up to a block of a stage are read
+-- alike up to there.
+use Rattle.std.proofs.Common.{◌≡◌, ℕ, ◌+◌, ◌-◌, ◌*◌, ◌/◌, ◌<◌, ◌≤◌, min, List, [], ◌∷◌, ◌++◌, length, refl, ap, sym, ◌∙◌, arith, get_or}
+use Rattle.std.specs.List.{flat_map, AllByRecursion}
+use Rattle.plane_defs.specs.declared.codes.Book.{Book}
+use Rattle.plane_defs.specs.Spans.{span}
+use Rattle.plane_defs.specs.Entries.{stage_number}
+use Rattle.plane_defs.specs.StepLaws.{entries_of}
+use Rattle.plane_defs.specs.Planes.{Plane, gaggles, gaggle_size, of_block, of_gaggle, before_stage}
+use Rattle.plane_defs.specs.Reading.{read_after, steps_of_block, steps_of_gaggle, gaggle_reading, stage_reading, plane_reading}
+use Rattle.plane_defs.proofs.Above.{all_span}
+use Rattle.plane_defs.proofs.ReadingTexts.{steps_entries}
+use Rattle.plane_texts.specs.Given.{entries_before, count_before}
+
+pub flat_same : {X : Type 0} (f g : ℕ → List X) (xs : List ℕ) → AllByRecursion (λ x. f x ≡ g x) xs → flat_map f xs ≡ flat_map g xs
+flat_same f g [] all = refl
+flat_same f g (x ∷ xs) all = ap (λ l. l ++ flat_map f xs) all.0 ∙ ap (λ l. g x ++ l) (flat_same f g xs all.1)
+
+-- what both functions make of the numbers of a span
+pub span_same : {X : Type 0} (f g : ℕ → List X) (start count : ℕ) → ((r : ℕ) → start ≤ r → r < start + count → f r ≡ g r) → flat_map f (span start count) ≡ flat_map g (span start count)
+span_same f g start count same = flat_same f g (span start count) (all_span (λ r. f r ≡ g r) start count same)
+
+-- as many blocks, which send the same in the stages before stage k, and in stage k those below n
+pub record SendSame (p p' : Plane) (k n : ℕ) : Type 0 where
+  pub size : length p.depths ≡ length p'.depths
+  pub early : (j r : ℕ) → j < k → r < length p.depths → steps_of_block p (stage_number j) r ≡ steps_of_block p' (stage_number j) r
+  pub here : (r : ℕ) → r < n → steps_of_block p (stage_number k) r ≡ steps_of_block p' (stage_number k) r
+
+-- so they do in an earlier stage, in all blocks
+pub send_earlier : (p p' : Plane) (k n j : ℕ) → SendSame p p' k n → j < k → SendSame p p' j (length p.depths)
+send_earlier p p' k n j same lt = record {
+  size = same.size;
+  early = λ i r less within. same.early i r (omega (arith, lt, less)) within;
+  here = λ r within. same.early j r lt within;
+}
+
+pub block_entries_of : (p : Plane) (k r : ℕ) → entries_of (steps_of_block p (stage_number k) r) ≡ of_block p (stage_number k) r
+block_entries_of p k r = steps_entries (stage_number k) (get_or p.blocks r []) (get_or p.depths r 0) p.weights p.number p.q
+
+-- equal steps have equal entries
+entries_same : (p p' : Plane) (k r : ℕ) → steps_of_block p (stage_number k) r ≡ steps_of_block p' (stage_number k) r → of_block p (stage_number k) r ≡ of_block p' (stage_number k) r
+entries_same p p' k r e = sym (block_entries_of p k r) ∙ ap entries_of e ∙ block_entries_of p' k r
+
+-- ---- one stage
+
+module _ (p p' : Plane) (k n : ℕ) (same : SendSame p p' k n) where
+  same_size : (g : ℕ) → gaggle_size p g ≡ gaggle_size p' g
+  same_size g = ap (λ m. min 16 (m - 16 * g)) same.size
+
+  -- the steps of some blocks of the stage
+  pub rows_same : (start count : ℕ) → ((r : ℕ) → start ≤ r → r < start + count → r < n) →
+      flat_map (steps_of_block p (stage_number k)) (span start count) ≡ flat_map (steps_of_block p' (stage_number k)) (span start count)
+  rows_same start count within = span_same (steps_of_block p (stage_number k)) (steps_of_block p' (stage_number k)) start count (λ r low high. same.here r (within r low high))
+
+  row_entries_same : (start count : ℕ) → start + count ≤ n → flat_map (of_block p (stage_number k)) (span start count) ≡ flat_map (of_block p' (stage_number k)) (span start count)
+  row_entries_same start count le =
+      span_same (of_block p (stage_number k)) (of_block p' (stage_number k)) start count (λ r low high. entries_same p p' k r (same.here r (omega (arith, le, high))))
+
+  -- what stands before the stage in a gaggle
+  stage_entries_same : (j g : ℕ) → j < k → of_gaggle p (stage_number j) g ≡ of_gaggle p' (stage_number j) g
+  stage_entries_same j g lt =
+      span_same (of_block p (stage_number j)) (of_block p' (stage_number j)) (16 * g) (gaggle_size p g)
+      (λ r low high. entries_same p p' j r (same.early j r lt (omega (arith, low, high))))
+      ∙ ap (λ m. flat_map (of_block p' (stage_number j)) (span (16 * g) m)) (same_size g)
+
+  pub before_same : (g : ℕ) → before_stage p k g ≡ before_stage p' k g
+  before_same g = span_same (λ j. of_gaggle p (stage_number j) g) (λ j. of_gaggle p' (stage_number j) g) 0 k (λ j low high. stage_entries_same j g (omega (arith, high)))
+
+  -- what stands before a block
+  pub entries_before_same : (r : ℕ) → r ≤ n → entries_before p k r ≡ entries_before p' k r
+  entries_before_same r le =
+      ap (λ l. l ++ flat_map (of_block p (stage_number k)) (span (16 * (r / 16)) (r - 16 * (r / 16)))) (before_same (r / 16))
+      ∙ ap (λ l. before_stage p' k (r / 16) ++ l) (row_entries_same (16 * (r / 16)) (r - 16 * (r / 16)) (omega (arith, le)))
+
+  -- the items of the first blocks of a gaggle
+  pub read_same : (book : Book) (options : List ℕ) (g c : ℕ) → 16 * g + c ≤ n →
+      read_after book options (before_stage p k g) (flat_map (steps_of_block p (stage_number k)) (span (16 * g) c)) ≡
+      read_after book options (before_stage p' k g) (flat_map (steps_of_block p' (stage_number k)) (span (16 * g) c))
+  read_same book options g c le =
+      ap (λ b. read_after book options b (flat_map (steps_of_block p (stage_number k)) (span (16 * g) c))) (before_same g)
+      ∙ ap (read_after book options (before_stage p' k g)) (rows_same (16 * g) c (λ r low high. omega (arith, le, high)))
+
+  -- the first gaggles, which have no other blocks than the first n
+  gaggle_same : (book : Book) (o : ℕ → List ℕ) (g : ℕ) → ((r : ℕ) → 16 * g ≤ r → r < 16 * g + gaggle_size p g → r < n) → gaggle_reading book o p k g ≡ gaggle_reading book o p' k g
+  gaggle_same book o g within =
+      ap (λ b. read_after book (o g) b (steps_of_gaggle p (stage_number k) g)) (before_same g)
+      ∙ ap (read_after book (o g) (before_stage p' k g)) (rows_same (16 * g) (gaggle_size p g) within ∙ ap (λ m. flat_map (steps_of_block p' (stage_number k)) (span (16 * g) m)) (same_size g))
+
+  pub gaggles_same : (book : Book) (o : ℕ → List ℕ) (g : ℕ) → min (16 * g) (length p.depths) ≤ n →
+      flat_map (gaggle_reading book o p k) (span 0 g) ≡ flat_map (gaggle_reading book o p' k) (span 0 g)
+  gaggles_same book o g le =
+      span_same (gaggle_reading book o p k) (gaggle_reading book o p' k) 0 g (λ j low high. gaggle_same book o j (λ r from to. omega (arith, le, high, from, to)))
+
+  -- all gaggles, where all blocks are among the first
+  pub stage_same : (book : Book) (o : ℕ → List ℕ) → length p.depths ≤ n → stage_reading book o p k ≡ stage_reading book o p' k
+  stage_same book o le = gaggles_same book o (gaggles p) (omega (arith, le)) ∙ ap (λ m. flat_map (gaggle_reading book o p' k) (span 0 ((m + 15) / 16))) same.size
+
+-- ---- the stages before, and how many items stand before a block
+
+pub early_same : (book : Book) (o : ℕ → List ℕ) (p p' : Plane) (k n : ℕ) → SendSame p p' k n → plane_reading book o p k ≡ plane_reading book o p' k
+early_same book o p p' k n same =
+    span_same (stage_reading book o p) (stage_reading book o p') 0 k (λ j low high. stage_same p p' j (length p.depths) (send_earlier p p' k n j same (omega (arith, high))) book o (omega arith))
+
+pub count_same : (book : Book) (o : ℕ → List ℕ) (p p' : Plane) (k n r : ℕ) → SendSame p p' k n → r ≤ n → count_before book o p k r ≡ count_before book o p' k r
+count_same book o p p' k n r same le =
+    let g : ℕ = r / 16 in
+    omega (
+      arith,
+      ap length (early_same book o p p' k n same),
+      ap length (gaggles_same p p' k n same book o g (omega (arith, le))),
+      ap length (read_same p p' k n same book (o g) g (r - 16 * g) (omega (arith, le))),
+    )

@@ -1,0 +1,8 @@
+-- The laws that the definitions keep.
+use Rattle.std.specs.Prelude.{ℕ, ◌<◌}
+use Rattle.plane_texts.specs.Candidates.{MayChoose}
+
+-- In each stage any entry that the check of a step lets through is sent by some block that is the same above the plane and in what
+-- it sent before.
+abbrev pub BlocksChoose : Type 0
+BlocksChoose = (k : ℕ) → k < 5 → MayChoose k
