@@ -13,11 +13,11 @@ use Rattle.bit_pipe.specs.Sources.{Tail, SourceOf, Comes, Fails, GivesOctet}
 use Rattle.bit_pipe.specs.Coming.{Coming, Takes, IsIn, FailsSo, EndsBit, EndsItem, GivesBit, GivesItem}
 use Rattle.bit_pipe.proofs.Giving.{rose_since}
 
-comes_same : (t : Option Tail) → Comes t t []
+pub comes_same : (t : Option Tail) → Comes t t []
 comes_same None = tt
 comes_same (Some t) = (refl, refl)
 
-comes_then : (a b c : Option Tail) (xs ys : List ℕ) → Comes a b xs → Comes b c ys → Comes a c (xs ++ ys)
+pub comes_then : (a b c : Option Tail) (xs ys : List ℕ) → Comes a b xs → Comes b c ys → Comes a c (xs ++ ys)
 comes_then None None None xs ys p q = tt
 comes_then None None (Some c) xs ys p q = absurd q
 comes_then None (Some b) c xs ys p q = absurd p

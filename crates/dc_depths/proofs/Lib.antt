@@ -6,6 +6,6 @@ mod TakenDepths
 mod DcNumbers
 mod DcCells
 mod TakenBits
-mod TakenPlanes
+pub mod TakenPlanes
 mod TakenHigh
-mod TakenDcs
+pub mod TakenDcs

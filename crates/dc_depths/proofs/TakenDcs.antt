@@ -50,13 +50,13 @@ no_low z = omega (arith, ints)
 
 -- ---- how many items were read
 
-cut_same : (c d : ℕ) (e : Ending) → IsCut e → items_read c e ≡ items_read d e
+pub cut_same : (c d : ℕ) (e : Ending) → IsCut e → items_read c e ≡ items_read d e
 cut_same c d (stopped whole) cut = absurd cut
 cut_same c d (stopped (ended m)) cut = refl
 cut_same c d (stopped (refused m s name)) cut = refl
 cut_same c d (failed m e) cut = refl
 
-later_items : (n d c : ℕ) (e : Ending) → c ≡ n + d → items_read c (later_by n e) ≡ n + items_read d e
+pub later_items : (n d c : ℕ) (e : Ending) → c ≡ n + d → items_read c (later_by n e) ≡ n + items_read d e
 later_items n d c (stopped whole) h = h
 later_items n d c (stopped (ended m)) h = refl
 later_items n d c (stopped (refused m s name)) h = refl

@@ -47,6 +47,7 @@ no_depths {I} {k} depth_ac a now e h none = rw e (record {
   answer = refl;
   given = length now;
   given_are = λ i lt. (λ g. omega arith, λ g. omega (arith, lt, length-map now nat_abs));
+  low = λ i lt within. rw (zero_at i) (omega arith);
   marks = λ i lt. none i ∙ ap pos (sym (either i (nat_lt i (length now))));
 })
   where
@@ -116,6 +117,7 @@ module _ {I : Type 0} {k : SourceOf I} where
         answer = answer;
         given = items_read (length (map raw (depths_of now))) e;
         given_are = λ i lt. (λ g. omega (arith, g), λ g. omega (arith, g));
+        low = λ i lt within. omega (arith, s.few i);
         marks = λ i lt. s.are i ∙ ap pos (sym (either i));
       }
     where
@@ -175,6 +177,7 @@ coded_depths {now = now} depth_ac N answer low bits same_size like t =
       answer = like t.ending t.given t.answer;
       given = t.given;
       given_are = λ i lt. rw (z, o) (t.given_are i lt);
+      low = λ i lt within. not_above depth_ac (get_or t.heights i 0) (t.allowed i lt within);
       marks = λ i lt.
           let place : i * 1 ≡ i = omega arith in
           let at : get_or now i (pos 0) ≡ given_number (record { signed = false; bits = N }) 0 (take t.given t.heights) i =
@@ -182,6 +185,9 @@ coded_depths {now = now} depth_ac N answer low bits same_size like t =
           at ∙ mark_is t.heights t.given i (omega (arith, lt, count));
     }
   where
+    not_above : (a b : ℕ) → nat_lt a b ≡ false → b ≤ a
+    not_above a b e = grind (arith, nat_tests)
+
     mark_is : (hs : List ℕ) (given i : ℕ) → i < length hs → given_number (record { signed = false; bits = N }) 0 (take given hs) i ≡ pos (cond (nat_lt i given) (get_or hs i 0) 0)
     mark_is hs given i lt = elim (cases_lt i given) [
       | inl less ↦

@@ -16,7 +16,8 @@ abbrev pub depths_through : ℕ → List ℕ → (ℕ → ℕ) → ℕ → ℕ
 depths_through depth_ac depths options i =
     if depth_ac == 0 then 0 else if depth_ac == 1 then i + 1 else numbers_through (depth_kind depth_ac) depths options i
 
--- Block depths were read into marks, as far as their items go: the marks are those that are given, and 0 for further ones.
+-- Block depths were read into marks, as far as their items go: the marks are those that are given, and 0 for further ones. One that
+-- is given isn't above the greatest.
 pub record TakesDepths {I : Type 0} (k : SourceOf I) (depth_ac : ℕ) (result : Result Part TextFault) (old new : Coming I) (now : List ℤ) : Type 0 where
   pub depths : List ℕ
   pub all : length depths ≡ length now
@@ -30,4 +31,5 @@ pub record TakesDepths {I : Type 0} (k : SourceOf I) (depth_ac : ℕ) (result : 
   pub given_are : (i : ℕ) → i < length depths →
       let m = items_read (length (depth_items depth_ac depths options)) ending in
       (i < given → depths_through depth_ac depths options i ≤ m) × (depths_through depth_ac depths options i ≤ m → i < given)
+  pub low : (i : ℕ) → i < given → i < length depths → slice_index depths i ≤ depth_ac
   pub marks : (i : ℕ) → i < length now → slice_index_or now i (pos 0) ≡ pos (if nat_lt i given then slice_index depths i else 0)

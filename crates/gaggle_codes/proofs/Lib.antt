@@ -21,5 +21,6 @@ mod Setting
 mod ScaledNumbers
 mod GaggleRead
 mod Counting
+mod LowNumbers
 mod NumbersRead
 pub mod AllGiven

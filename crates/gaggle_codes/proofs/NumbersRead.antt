@@ -73,6 +73,16 @@ both_few bound xs ys few more i = elim (cases_lt i (length xs)) [
       rw e (more (i - length xs))
 ]
 
+both_allowed : (too_great : ℕ → Bool) (xs ys : List ℕ) → ((i : ℕ) → i < length xs → too_great (get_or xs i 0) ≡ false) → ((i : ℕ) → i < length ys → too_great (get_or ys i 0) ≡ false) →
+    (i : ℕ) → i < length (xs ++ ys) → too_great (get_or (xs ++ ys) i 0) ≡ false
+both_allowed too_great xs ys first more i lt = elim (cases_lt i (length xs)) [
+  | inl less ↦ ap too_great (get_or_append_left xs ys 0 i less) ∙ first i less
+  | inr ge ↦
+      let z : i ≡ length xs + (i - length xs) = omega arith in
+      let e : get_or (xs ++ ys) i 0 ≡ get_or ys (i - length xs) 0 = ap (λ n. get_or (xs ++ ys) n 0) z ∙ get_or-append-add xs ys (i - length xs) 0 in
+      ap too_great e ∙ more (i - length xs) (omega (arith, lt, ge, length-append xs ys))
+]
+
 pub with_option : (ℕ → ℕ) → ℕ → ℕ → ℕ → ℕ
 with_option o g option h = cond (eqb h g) option (o h)
 
@@ -122,6 +132,7 @@ pub record SoFar {I : Type 0} (k : SourceOf I) (range : NumberRange) (too_great 
   pub heights : List ℕ
   pub all : length heights ≡ min count (16 * g)
   pub few : (i : ℕ) → get_or heights i 0 < 2 ^ range.bits
+  pub allowed : (i : ℕ) → i < length heights → too_great (get_or heights i 0) ≡ false
   pub options : ℕ → ℕ
   pub known : (h : ℕ) → IsOption range.bits (options h)
   pub first : g ≡ 0 → last ≡ 0
@@ -137,6 +148,7 @@ module _ {I : Type 0} {k : SourceOf I} (range : NumberRange) (too_great : ℕ �
     heights = [];
     all = omega arith;
     few = λ i. pow_pos range.bits;
+    allowed = λ i lt. absurd (omega (arith, lt));
     options = λ g. uncoded range.bits;
     known = λ g. uncoded_is range.bits;
     first = λ e. refl;
@@ -202,10 +214,10 @@ module _ {I : Type 0} {k : SourceOf I} (range : NumberRange) (too_great : ℕ �
 
       -- ---- where not all of its items were read
 
-      pub numbers_stop : {now : List ℤ} (answer : Result (Part × ℕ) TextFault) → ((e : Ending) (n : ℕ) → r ≡ part_answer e → answer ≡ numbers_answer (later_by n e) (16 * g + length got)) → IsCut t.ending →
+      pub numbers_stop : {now : List ℤ} (answer : Result (Part × ℕ) TextFault) → ((i : ℕ) → i < length got → too_great (get_or got i 0) ≡ false) → ((e : Ending) (n : ℕ) → r ≡ part_answer e → answer ≡ numbers_answer (later_by n e) (16 * g + length got)) → IsCut t.ending →
           count ≡ div_ceil (length before) stride → SetsCells range shift stride (s.heights ++ got) before now → TakesNumbers k (kind_of range too_great) range shift stride answer a c before now
       unfolding kind list options m
-      numbers_stop {now} answer like cut count_is cells =
+      numbers_stop {now} answer low like cut count_is cells =
           let base = length (items_before kind list options g) in
           let more = gaggles_rest kind list options (g + 1) (gaggle_count count - (g + 1)) in
           let gaggles : g + 1 + (gaggle_count count - (g + 1)) ≡ gaggle_count count = omega (arith, lt) in
@@ -224,6 +236,10 @@ module _ {I : Type 0} {k : SourceOf I} (range : NumberRange) (too_great : ℕ �
             ending = later_by base t.ending;
             read = subst (λ l. Reads k l (later_by base t.ending) a c) joined both;
             given = 16 * g + length got;
+            allowed = λ i less inside.
+                let front : get_or (take (16 * g + length got) list) i 0 ≡ get_or list i 0 = get_or-take (16 * g + length got) list i 0 less in
+                ap too_great (sym front ∙ ap (λ l. get_or l i 0) (front_given size_given))
+                ∙ both_allowed too_great s.heights got s.allowed low i (omega (arith, less, long, length-append s.heights got));
             given_are = λ i less. given_there size_given i (omega (arith, less, length-padded count (s.heights ++ t.heights)));
             answer = like t.ending base t.answer;
             cells = sets_as range shift stride (sym (front_given size_given)) cells;
@@ -300,9 +316,9 @@ module _ {I : Type 0} {k : SourceOf I} (range : NumberRange) (too_great : ℕ �
         pub got_few : (i : ℕ) → get_or got i 0 < 2 ^ range.bits
         got_few i = rw got_all (t.few i)
 
-        pub so_more : {now : List ℤ} (next : ℕ) → next ≡ get_or got (length got - 1) 0 → SetsCells range shift stride (s.heights ++ got) before now → SoFar k range too_great shift stride count (g + 1) next a c before now
+        pub so_more : {now : List ℤ} (next : ℕ) → ((i : ℕ) → i < length got → too_great (get_or got i 0) ≡ false) → next ≡ get_or got (length got - 1) 0 → SetsCells range shift stride (s.heights ++ got) before now → SoFar k range too_great shift stride count (g + 1) next a c before now
         unfolding kind list options
-        so_more {now} next e cells =
+        so_more {now} next low e cells =
             let here : Takes k b c (text t.items) = (let q = subst (λ x. Reads k t.items x b c) whole_here t.read in q.ends) in
             let both = takes_then (taken t.option t.heights) here in
             let joined : text (items_before kind list options g) ++ text t.items ≡ text (items_before kind list options (g + 1)) =
@@ -311,6 +327,7 @@ module _ {I : Type 0} {k : SourceOf I} (range : NumberRange) (too_great : ℕ �
               heights = s.heights ++ t.heights;
               all = omega (arith, length-append s.heights t.heights, long, t.all, size_is, lt);
               few = both_few (2 ^ range.bits) s.heights t.heights s.few t.few;
+              allowed = both_allowed too_great s.heights t.heights s.allowed (subst (λ l. (i : ℕ) → i < length l → too_great (get_or l i 0) ≡ false) got_all low);
               options = options;
               known = with_known range.bits s.options g t.option s.known t.known;
               first = λ z. absurd (omega (arith, z));
@@ -353,6 +370,7 @@ module _ {I : Type 0} {k : SourceOf I} (range : NumberRange) (too_great : ℕ �
         read = reads_whole (subst (λ l. Takes k a b (text l)) items s.so_far);
         given = count;
         given_are = λ i less. (λ h. within i (omega (arith, h)), λ h. omega (arith, less, length-padded count s.heights));
+        allowed = λ i less inside. ap too_great (padded_at count s.heights i less) ∙ s.allowed i (omega (arith, less, long));
         answer = refl;
         cells = sets_as range shift stride (sym same) s.cells;
       }

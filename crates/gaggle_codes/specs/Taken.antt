@@ -1,5 +1,5 @@
 -- What calls leave that read the numbers of a gaggle. (This project's own.)
-use Rattle.std.specs.Prelude.{◌≡◌, ◌<◌, ◌≤◌, ◌⊎◌, ℕ, zero, suc, min, ℤ, ◌+◌, ◌-◌, ◌*◌, ◌/◌, ◌^◌, ◌==◌, ◌||◌, Bool, true, if◌then◌else◌, nat_lt, List, [], ◌∷◌, ◌++◌, length, map, take, slice_index, Option, None, Some, Result, Ok, Err}
+use Rattle.std.specs.Prelude.{◌≡◌, ◌<◌, ◌≤◌, ◌⊎◌, ℕ, zero, suc, min, ℤ, ◌+◌, ◌-◌, ◌*◌, ◌/◌, ◌^◌, ◌==◌, ◌||◌, Bool, true, false, if◌then◌else◌, nat_lt, List, [], ◌∷◌, ◌++◌, length, map, take, slice_index, Option, None, Some, Result, Ok, Err}
 use Rattle.std.specs.List.{range_with_len}
 use Rattle.std.specs.Int.{div_ceil}
 use Rattle.item_defs.specs.Items.{Shape, fixed, zeros_to, Item, identifier, IsSaid, spelling}
@@ -22,6 +22,14 @@ use Rattle.gaggle_codes.specs.Given.{SetsCells}
 -- numbers of N bits are too great just above `most`
 pub record IsBound (most N : ℕ) (too_great : ℕ → Bool) : Type 0 where
   pub at : (height : ℕ) → height < 2 ^ N → too_great height ≡ nat_lt most height
+
+-- no number is higher than this
+pub record AreLow (most : ℕ) (heights : List ℕ) : Type 0 where
+  pub at : (i : ℕ) → slice_index heights i ≤ most
+
+-- and none comes that is
+pub record StayLow (most : ℕ) (before now : List ℕ) : Type 0 where
+  pub kept : AreLow most before → AreLow most now
 
 -- ---- one value
 
@@ -154,7 +162,7 @@ numbers_answer (stopped (refused m spelt name)) given = Err (of_refusal name)
 numbers_answer (failed m e) given = Err (of_input e)
 
 -- Numbers of a kind were read into every so many cells, as far as their items go: the cells have those that are given, and 0 for
--- further ones. A number is given where its items stand, and those of all numbers before it.
+-- further ones. A number is given where its items stand, and those of all numbers before it; then it isn't too great.
 pub record TakesNumbers {I : Type 0} (k : SourceOf I) (kind : Kind) (range : NumberRange) (shift stride : ℕ) (result : Result (Part × ℕ) TextFault) (old new : Coming I) (before now : List ℤ) : Type 0 where
   pub heights : List ℕ
   pub all : length heights ≡ div_ceil (length before) stride
@@ -167,5 +175,6 @@ pub record TakesNumbers {I : Type 0} (k : SourceOf I) (kind : Kind) (range : Num
   pub given_are : (i : ℕ) → i < length heights →
       let m = items_read (length (number_items kind heights options)) ending in
       (i < given → numbers_through kind heights options i ≤ m) × (numbers_through kind heights options i ≤ m → i < given)
+  pub allowed : (i : ℕ) → i < given → i < length heights → kind.too_great (slice_index heights i) ≡ false
   pub answer : result ≡ numbers_answer ending given
   pub cells : SetsCells range shift stride (take given heights) before now

@@ -7,7 +7,7 @@ ghost use Rattle.number_defs.specs.Mapping.{unmapped};
 ghost use Rattle.number_defs.specs.Gaggles.{uncoded, is_option};
 ghost use Rattle.gaggle_codes.specs.Written.{kind_of};
 ghost use Rattle.gaggle_codes.specs.Given.{got};
-ghost use Rattle.gaggle_codes.specs.Taken.{IsBound, TakesValue, itself, whole_shape, whole_value, TakesZeros, TakesWhole};
+ghost use Rattle.gaggle_codes.specs.Taken.{IsBound, StayLow, TakesValue, itself, whole_shape, whole_value, TakesZeros, TakesWhole};
 
 use crate::got::Got;
 use crate::range::NumberRange;
@@ -121,8 +121,9 @@ pub(crate) fn take_whole<I: OctetIn>(
     requires before { before < 2 ^ range.bits }
     requires zeros { (j : ℕ) → slice_index zeros.now j < 2 ^ (range.bits - option) }
     requires room { length (got numbers.old) + length zeros.now ≤ 16 }
-    ensures { (too_great : ℕ → Bool) → IsBound most range.bits too_great →
+    ensures takes { (too_great : ℕ → Bool) → IsBound most range.bits too_great →
         TakesWhole I.source (kind_of range too_great) option before zeros.now result (coming input.old) (coming input.new) (got numbers.old) (got numbers.new) }
+    ensures low { StayLow most (got numbers.old) (got numbers.new) }
 {
     let mut before = before;
     for zeros in zeros {

@@ -5,7 +5,7 @@ ghost use Rattle.bit_pipe.specs.Answers.{TakesOne};
 ghost use Rattle.number_defs.specs.Gaggles.{is_option};
 ghost use Rattle.gaggle_codes.specs.Written.{kind_of};
 ghost use Rattle.gaggle_codes.specs.Given.{got};
-ghost use Rattle.gaggle_codes.specs.Taken.{IsBound, IsOption, option_item, TakesReference, TakesDifferences, TakesGaggle};
+ghost use Rattle.gaggle_codes.specs.Taken.{IsBound, AreLow, StayLow, IsOption, option_item, TakesReference, TakesDifferences, TakesGaggle};
 
 use crate::got::{GAGGLE, Got};
 use crate::mapped_values::{take_unary_parts, take_whole, uncoded_of};
@@ -49,8 +49,9 @@ fn take_reference<I: OctetIn>(
     requires low { 2 ≤ range.bits }
     requires high { range.bits ≤ 10 }
     requires room { length (got numbers.old) < 16 }
-    ensures { (too_great : ℕ → Bool) → IsBound most range.bits too_great →
+    ensures takes { (too_great : ℕ → Bool) → IsBound most range.bits too_great →
         TakesReference I.source (kind_of range too_great) result (coming input.old) (coming input.new) (got numbers.old) (got numbers.new) }
+    ensures low { StayLow most (got numbers.old) (got numbers.new) }
 {
     let Some(number) = input.take_bits(range.bits)? else {
         return Ok(None);
@@ -78,8 +79,9 @@ fn take_differences<I: OctetIn>(
     requires option { is_option range.bits option ≡ true }
     requires before { before < 2 ^ range.bits }
     requires room { length (got numbers.old) + count ≤ 16 }
-    ensures { (too_great : ℕ → Bool) → IsBound most range.bits too_great →
+    ensures takes { (too_great : ℕ → Bool) → IsBound most range.bits too_great →
         TakesDifferences I.source (kind_of range too_great) option before count result (coming input.old) (coming input.new) (got numbers.old) (got numbers.new) }
+    ensures low { StayLow most (got numbers.old) (got numbers.new) }
 {
     let mut room = [0; GAGGLE];
     let zeros = &mut room[..count];
@@ -106,8 +108,9 @@ pub(crate) fn take_first<I: OctetIn>(
     requires some { 1 ≤ size }
     requires room { size ≤ 16 }
     requires none { got numbers.old ≡ [] }
-    ensures { (too_great : ℕ → Bool) → IsBound most range.bits too_great →
+    ensures takes { (too_great : ℕ → Bool) → IsBound most range.bits too_great →
         TakesGaggle I.source (kind_of range too_great) 0 0 size result (coming input.old) (coming input.new) (got numbers.new) }
+    ensures low { AreLow most (got numbers.new) }
 {
     let Some(option) = take_identifier(input, range.bits)? else {
         return Ok(Part::Ended);
@@ -133,8 +136,9 @@ pub(crate) fn take_next<I: OctetIn>(
     requires before { before < 2 ^ range.bits }
     requires room { size ≤ 16 }
     requires none { got numbers.old ≡ [] }
-    ensures { (too_great : ℕ → Bool) → IsBound most range.bits too_great → (g : ℕ) →
+    ensures takes { (too_great : ℕ → Bool) → IsBound most range.bits too_great → (g : ℕ) →
         TakesGaggle I.source (kind_of range too_great) (g + 1) before size result (coming input.old) (coming input.new) (got numbers.new) }
+    ensures low { AreLow most (got numbers.new) }
 {
     let Some(option) = take_identifier(input, range.bits)? else {
         return Ok(Part::Ended);
@@ -160,8 +164,9 @@ pub(crate) fn take_gaggle<I: OctetIn>(
     requires some { 1 ≤ size }
     requires room { size ≤ 16 }
     requires none { got numbers.old ≡ [] }
-    ensures { (too_great : ℕ → Bool) → IsBound most range.bits too_great →
+    ensures takes { (too_great : ℕ → Bool) → IsBound most range.bits too_great →
         TakesGaggle I.source (kind_of range too_great) gaggle before size result (coming input.old) (coming input.new) (got numbers.new) }
+    ensures low { AreLow most (got numbers.new) }
 {
     if gaggle == 0 {
         return take_first(input, range, most, size, numbers);

@@ -2,6 +2,7 @@ use Rattle.std.proofs.Common.{arith, length-append, ap, length}
 use Rattle.std.proofs.lemmas.Result.{err_from_is_err_and}
 use Rattle.bit_pipe.proofs.Taking.{in_later}
 use Rattle.gaggle_codes.specs.Given.{got}
+use Rattle.gaggle_codes.proofs.LowNumbers.{low_same, low_more, low_stays}
 use Rattle.gaggle_codes.proofs.WholeLoop.{whole_start, whole_more, whole_all, whole_ended, whole_fault, whole_depth}
 use Rattle.gaggle_codes.proofs.mapped_values.take_whole.Goals as goal
 
@@ -9,18 +10,19 @@ pub loop-zeros-init : goal.loop-zeros-init
 loop-zeros-init g c = record {
   is_in = c.requires.open;
   so_far = whole_start c.args.range c.args.option c.args.before c.args.zeros.now (got c.args.numbers.now) _ c.requires.open c.requires.before;
+  low = low_same c.args.most (got c.args.numbers.now);
 }
 
 pub take_value-requires-clause-open : goal.take_value-requires-clause-open
 take_value-requires-clause-open g c = c.loop-zeros.invariant.is_in
 
-pub returns-in_err-value : goal.returns-in_err-value
-returns-in_err-value g c = λ too_great bound.
+pub returns-in_err-value-clause-takes : goal.returns-in_err-value-clause-takes
+returns-in_err-value-clause-takes g c = λ too_great bound.
     let p = err_from_is_err_and c.from_residual.result c.from_residual.ensures.1 in
     rw (p.1, p.2) (whole_fault c.args.range c.args.option c.args.before c.args.zeros.now c.requires.option c.requires.zeros too_great _ (omega arith) c.loop-zeros.invariant.so_far c.in_err-value.ensures.ends)
 
-pub returns-in_default : goal.returns-in_default
-returns-in_default g c = λ too_great bound.
+pub returns-in_default-clause-takes : goal.returns-in_default-clause-takes
+returns-in_default-clause-takes g c = λ too_great bound.
     let h = rw c.in_default.is at c.in_ok-value.ensures in
     whole_ended c.args.range c.args.option c.args.before c.args.zeros.now c.requires.option c.requires.zeros too_great (omega arith) c.loop-zeros.invariant.so_far h.ends
 
@@ -35,8 +37,8 @@ follow-requires-clause-before g c = c.loop-zeros.invariant.so_far.chained.small
 pub follow-requires-clause-value : goal.follow-requires-clause-value
 follow-requires-clause-value g c = let h = rw c.in-Some.is at c.in_ok-value.ensures in h.ends.3
 
-pub returns-in_err-before : goal.returns-in_err-before
-returns-in_err-before g c = λ too_great bound.
+pub returns-in_err-before-clause-takes : goal.returns-in_err-before-clause-takes
+returns-in_err-before-clause-takes g c = λ too_great bound.
     let p = err_from_is_err_and c.from_residual-in_err-before.result c.from_residual-in_err-before.ensures.1 in
     let h = rw c.in-Some.is at c.in_ok-value.ensures in
     rw (p.1, p.2, c.in_err-before.ensures.is, c.in_err-before.ensures.numbers)
@@ -49,7 +51,11 @@ loop-zeros-preserved g c =
     record {
       is_in = in_later i.is_in h.ends.4;
       so_far = whole_more c.args.range c.args.option c.args.before c.args.zeros.now c.in-Some.value c.in_ok-before.before i.so_far h.ends c.in_ok-before.ensures.is c.in_ok-before.ensures.numbers;
+      low = low_more c.args.most c.in_ok-before.before i.low c.in_ok-before.ensures.bound c.in_ok-before.ensures.numbers;
     }
 
-pub returns : goal.returns
-returns g c = λ too_great bound. whole_all c.args.range c.args.option c.args.before c.args.zeros.now too_great (omega arith) c.loop-zeros.invariant.so_far
+pub returns-clause-takes : goal.returns-clause-takes
+returns-clause-takes g c = λ too_great bound. whole_all c.args.range c.args.option c.args.before c.args.zeros.now too_great (omega arith) c.loop-zeros.invariant.so_far
+
+pub returns-in_err-before-clause-low : goal.returns-in_err-before-clause-low
+returns-in_err-before-clause-low g c = low_stays c.args.most c.loop-zeros.invariant.low c.in_err-before.ensures.numbers

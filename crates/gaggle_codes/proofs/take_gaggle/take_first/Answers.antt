@@ -13,13 +13,13 @@ is_bound : (most N : ℕ) → IsBound most N (above most)
 unfolding above
 is_bound most N = record { at = λ height lt. refl }
 
-pub returns-in_err-option : goal.returns-in_err-option
-returns-in_err-option g c = λ too_great bound.
+pub returns-in_err-option-clause-takes : goal.returns-in_err-option-clause-takes
+returns-in_err-option-clause-takes g c = λ too_great bound.
     let p = err_from_is_err_and c.from_residual.result c.from_residual.ensures.1 in
     rw (p.1, p.2, c.requires.none) (first_unread (kind_of c.args.range too_great) 0 c.args.size c.requires.some (λ e v q. fault_from e v _ q) c.in_err-option.ensures)
 
-pub returns-in_default : goal.returns-in_default
-returns-in_default g c = λ too_great bound.
+pub returns-in_default-clause-takes : goal.returns-in_default-clause-takes
+returns-in_default-clause-takes g c = λ too_great bound.
     let t = rw c.in_default.is at c.in_ok-option.ensures in
     rw c.requires.none (first_unread (kind_of c.args.range too_great) 0 c.args.size c.requires.some (λ e v q. none_from e v q) t)
 
@@ -28,38 +28,38 @@ take_reference-requires-clause-open g c =
     let t = rw c.in-Some.is at c.in_ok-option.ensures in
     in_after_option (kind_of c.args.range (above c.args.most)) c.requires.open t
 
-pub returns-in_err-before : goal.returns-in_err-before
-returns-in_err-before g c = λ too_great bound.
+pub returns-in_err-before-clause-takes : goal.returns-in_err-before-clause-takes
+returns-in_err-before-clause-takes g c = λ too_great bound.
     let p = err_from_is_err_and c.from_residual-in_err-before.result c.from_residual-in_err-before.ensures.1 in
     let t = rw c.in-Some.is at c.in_ok-option.ensures in
-    let f = rw c.requires.none at (c.in_err-before.ensures too_great bound) in
+    let f = rw c.requires.none at (c.in_err-before.ensures.takes too_great bound) in
     rw (p.1, p.2) (first_unled (kind_of c.args.range too_great) 0 c.args.size c.in-Some.option c.requires.some (λ e v q. fault_from e v _ q) t f)
 
-pub returns-in_default-2 : goal.returns-in_default-2
-returns-in_default-2 g c = λ too_great bound.
+pub returns-in_default-2-clause-takes : goal.returns-in_default-2-clause-takes
+returns-in_default-2-clause-takes g c = λ too_great bound.
     let t = rw c.in-Some.is at c.in_ok-option.ensures in
-    let f = rw (c.in_default-2.is, c.requires.none) at (c.in_ok-before.ensures too_great bound) in
+    let f = rw (c.in_default-2.is, c.requires.none) at (c.in_ok-before.ensures.takes too_great bound) in
     first_unled (kind_of c.args.range too_great) 0 c.args.size c.in-Some.option c.requires.some (λ e v q. none_from e v q) t f
 
 pub take_differences-requires-clause-open : goal.take_differences-requires-clause-open
 take_differences-requires-clause-open g c =
     let t = rw c.in-Some.is at c.in_ok-option.ensures in
-    let f = rw c.in-Some-2.is at (c.in_ok-before.ensures (above c.args.most) (is_bound c.args.most c.args.range.bits)) in
+    let f = rw c.in-Some-2.is at (c.in_ok-before.ensures.takes (above c.args.most) (is_bound c.args.most c.args.range.bits)) in
     in_after_reference (kind_of c.args.range (above c.args.most)) (in_after_option (kind_of c.args.range (above c.args.most)) c.requires.open t) f
 
 pub take_differences-requires-clause-before : goal.take_differences-requires-clause-before
 take_differences-requires-clause-before g c =
-    let f = rw (c.in-Some-2.is, c.requires.none) at (c.in_ok-before.ensures (above c.args.most) (is_bound c.args.most c.args.range.bits)) in
+    let f = rw (c.in-Some-2.is, c.requires.none) at (c.in_ok-before.ensures.takes (above c.args.most) (is_bound c.args.most c.args.range.bits)) in
     (reference_led (kind_of c.args.range (above c.args.most)) f).1
 
 pub take_differences-requires-clause-room : goal.take_differences-requires-clause-room
 take_differences-requires-clause-room g c =
-    let f = rw (c.in-Some-2.is, c.requires.none) at (c.in_ok-before.ensures (above c.args.most) (is_bound c.args.most c.args.range.bits)) in
+    let f = rw (c.in-Some-2.is, c.requires.none) at (c.in_ok-before.ensures.takes (above c.args.most) (is_bound c.args.most c.args.range.bits)) in
     let led = (reference_led (kind_of c.args.range (above c.args.most)) f).0 in
     omega (arith, ap length led, c.requires.some, c.requires.room)
 
-pub returns : goal.returns
-returns g c = λ too_great bound.
+pub returns-clause-takes : goal.returns-clause-takes
+returns-clause-takes g c = λ too_great bound.
     let t = rw c.in-Some.is at c.in_ok-option.ensures in
-    let f = rw (c.in-Some-2.is, c.requires.none) at (c.in_ok-before.ensures too_great bound) in
-    first_read (kind_of c.args.range too_great) 0 c.args.size c.in-Some.option c.in-Some-2.before c.requires.some t f (c.take_differences.ensures too_great bound)
+    let f = rw (c.in-Some-2.is, c.requires.none) at (c.in_ok-before.ensures.takes too_great bound) in
+    first_read (kind_of c.args.range too_great) 0 c.args.size c.in-Some.option c.in-Some-2.before c.requires.some t f (c.take_differences.ensures.takes too_great bound)

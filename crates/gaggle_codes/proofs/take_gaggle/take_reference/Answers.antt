@@ -6,26 +6,26 @@ use Rattle.gaggle_codes.specs.Given.{got}
 use Rattle.gaggle_codes.proofs.Leads.{reference_one, reference_great, reference_ended, reference_failed, reference_code}
 use Rattle.gaggle_codes.proofs.take_gaggle.take_reference.Goals as goal
 
-pub returns-in_err-number : goal.returns-in_err-number
-returns-in_err-number g c = λ too_great bound.
+pub returns-in_err-number-clause-takes : goal.returns-in_err-number-clause-takes
+returns-in_err-number-clause-takes g c = λ too_great bound.
     let p = err_from_is_err_and c.from_residual.result c.from_residual.ensures.1 in
     rw (p.1, p.2) (reference_failed (kind_of c.args.range too_great) (got c.args.numbers.now) c.in_err-number.field-0.0 c.in_err-number.ensures.ends)
 
-pub returns-in_default : goal.returns-in_default
-returns-in_default g c = λ too_great bound.
+pub returns-in_default-clause-takes : goal.returns-in_default-clause-takes
+returns-in_default-clause-takes g c = λ too_great bound.
     let h = rw c.in_default.is at c.in_ok-number.ensures in
     reference_ended (kind_of c.args.range too_great) (got c.args.numbers.now) h.ends
 
-pub returns-then-height-most : goal.returns-then-height-most
-returns-then-height-most g c = λ too_great bound.
+pub returns-then-height-most-clause-takes : goal.returns-then-height-most-clause-takes
+returns-then-height-most-clause-takes g c = λ too_great bound.
     let range = c.args.range in
     let h = rw c.in-Some.is at c.in_ok-number.ensures in
     let code : (c.in-Some.number + c.negatives.result) % (1 * 2 ^ range.bits % 65536) ≡ (c.in-Some.number + negatives range.signed range.bits) % 2 ^ range.bits =
     reference_code range.bits c.in-Some.number c.negatives.result c.requires.high ∙ ap (λ n. (c.in-Some.number + n) % 2 ^ range.bits) c.negatives.ensures.is in
     reference_great (kind_of range too_great) c.in-Some.number (omega (arith, c.requires.low)) h.ends.0 c.args.most ((c.in-Some.number + c.negatives.result) % (1 * 2 ^ range.bits % 65536)) (got c.args.numbers.now) bound code c.if-height-most.true h.ends.1
 
-pub returns : goal.returns
-returns g c = λ too_great bound.
+pub returns-clause-takes : goal.returns-clause-takes
+returns-clause-takes g c = λ too_great bound.
     let range = c.args.range in
     let h = rw c.in-Some.is at c.in_ok-number.ensures in
     let code : (c.in-Some.number + c.negatives.result) % (1 * 2 ^ range.bits % 65536) ≡ (c.in-Some.number + negatives range.signed range.bits) % 2 ^ range.bits =

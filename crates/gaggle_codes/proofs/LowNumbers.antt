@@ -1,0 +1,47 @@
+-- Numbers that aren't too great.
+use Rattle.std.proofs.Common.{◌≡◌, ℕ, ◌^◌, ◌<◌, ◌≤◌, inl, inr, Bool, false, List, [], ◌∷◌, ◌++◌, length, get_or, sym, ap, ◌∙◌, subst, arith, nat_lt, length-append}
+use Rattle.std.proofs.lemmas.Bool.{cases_lt}
+use Rattle.std.proofs.lemmas.Bool.Decides.{nat_tests}
+use Rattle.std.proofs.lemmas.List.{get_or_append_left, get_or_past}
+use Rattle.std.proofs.Math.Seq.{get_or-append_seam}
+use Rattle.gaggle_codes.specs.Taken.{IsBound, AreLow, StayLow}
+
+pub low_same : (most : ℕ) (xs : List ℕ) → StayLow most xs xs
+low_same most xs = record { kept = λ low. low }
+
+pub low_stays : {xs ys zs : List ℕ} (most : ℕ) → StayLow most xs ys → zs ≡ ys → StayLow most xs zs
+low_stays {xs} most s e = subst (StayLow most xs) (sym e) s
+
+pub low_none : (most : ℕ) → AreLow most []
+low_none most = record { at = λ i. omega arith }
+
+low_push : (most height : ℕ) (ys : List ℕ) → height ≤ most → AreLow most ys → AreLow most (ys ++ height ∷ [])
+low_push most height ys le low = record {
+  at = λ i. elim (cases_lt i (length ys)) [
+    | inl lt ↦ (let e = get_or_append_left ys (height ∷ []) 0 i lt in let h = low.at i in omega (arith, e, h))
+    | inr ge ↦ elim (cases_lt (length ys) i) [
+      | inl past ↦ (let e = get_or_past (ys ++ height ∷ []) i 0 (omega (arith, past, length-append ys (height ∷ []))) in omega (arith, e))
+      | inr here ↦
+          (let same : i ≡ length ys = omega arith in
+          let e : get_or (ys ++ height ∷ []) i 0 ≡ height = ap (λ n. get_or (ys ++ height ∷ []) n 0) same ∙ get_or-append_seam ys height [] 0 in
+          omega (arith, e, le))
+    ]
+  ];
+}
+
+pub low_more : {xs ys zs : List ℕ} (most height : ℕ) → StayLow most xs ys → height ≤ most → zs ≡ ys ++ height ∷ [] → StayLow most xs zs
+low_more {xs} {ys} most height s le e = subst (StayLow most xs) (sym e) (record { kept = λ low. low_push most height ys le (s.kept low) })
+
+pub low_then : {xs ys zs : List ℕ} (most : ℕ) → StayLow most xs ys → StayLow most ys zs → StayLow most xs zs
+low_then most s t = record { kept = λ low. t.kept (s.kept low) }
+
+-- where there was none before
+pub low_from : {xs ys : List ℕ} (most : ℕ) → xs ≡ [] → StayLow most xs ys → AreLow most ys
+low_from {xs} {ys} most none s = s.kept (subst (AreLow most) (sym none) (low_none most))
+
+-- no test of a bound refuses them
+pub low_allowed : {most N : ℕ} (too_great : ℕ → Bool) → IsBound most N too_great → {xs : List ℕ} → AreLow most xs → ((i : ℕ) → get_or xs i 0 < 2 ^ N) → (i : ℕ) → i < length xs → too_great (get_or xs i 0) ≡ false
+low_allowed {most} {N} too_great bound {xs} low few i lt = bound.at (get_or xs i 0) (few i) ∙ not_above most (get_or xs i 0) (low.at i)
+  where
+    not_above : (a b : ℕ) → b ≤ a → nat_lt a b ≡ false
+    not_above a b le = grind (arith, nat_tests)
