@@ -28,7 +28,7 @@ unfolding lifted
 lifted_back (pos a) q = ap pos (shl-shr a q)
 lifted_back (negsuc a) q = ap negsuc (shr_high a q (2 ^ q - 1) (omega (arith, pow_pos q)))
 
-shr_twice : (z : ℤ) (j k : ℕ) → int_shr (int_shr z j) k ≡ int_shr z (j + k)
+pub shr_twice : (z : ℤ) (j k : ℕ) → int_shr (int_shr z j) k ≡ int_shr z (j + k)
 shr_twice (pos a) j k = ap pos (shr-shr a j k)
 shr_twice (negsuc a) j k = ap negsuc (shr-shr a j k)
 

@@ -37,7 +37,7 @@ abbrev pub AllSay : List ℤ → ℕ → List Step → Type 0
 AllSay block plane steps = AllByRecursion (Says block plane) steps
 
 -- what a filter keeps passes its test
-kept : {X : Type 0} (P : X → Type 0) (p : X → Bool) (xs : List X) → AllByRecursion P xs → AllByRecursion (λ x. P x × (p x ≡ true)) (filter p xs)
+pub kept : {X : Type 0} (P : X → Type 0) (p : X → Bool) (xs : List X) → AllByRecursion P xs → AllByRecursion (λ x. P x × (p x ≡ true)) (filter p xs)
 kept P p [] all = tt
 kept {X} P p (x ∷ xs) all = by_test (p x) refl (kept P p xs all.1)
   where
@@ -53,7 +53,7 @@ parts_say : {X : Type 0} (block : List ℤ) (plane : ℕ) (f : X → List Step) 
 parts_say block plane f each [] = tt
 parts_say block plane f each (x ∷ xs) = all_append (Says block plane) (f x) (flat_map f xs) (each x) (parts_say block plane f each xs)
 
-anything : {X : Type 0} (P : X → Type 0) → ((x : X) → P x) → (xs : List X) → AllByRecursion P xs
+pub anything : {X : Type 0} (P : X → Type 0) → ((x : X) → P x) → (xs : List X) → AllByRecursion P xs
 anything P each [] = tt
 anything P each (x ∷ xs) = (each x, anything P each xs)
 

@@ -13,7 +13,7 @@ use lib.Pow as pow
 sum_more : (f : ℕ → ℕ) (xs : List ℕ) (x : ℕ) → sum_by f (xs ++ x ∷ []) ≡ sum_by f xs + f x
 sum_more f xs x = sum_by-append f xs (x ∷ []) ∙ ap (λ n. sum_by f xs + n) (let z : 0 + f x ≡ f x = omega arith in z)
 
-sum_span : (f : ℕ → ℕ) (w : ℕ) → sum_by f (span 0 (suc w)) ≡ sum_by f (span 0 w) + f w
+pub sum_span : (f : ℕ → ℕ) (w : ℕ) → sum_by f (span 0 (suc w)) ≡ sum_by f (span 0 w) + f w
 unfolding span
 sum_span f w = sum_more f (span 0 w) (0 + w) ∙ (let z : 0 + w ≡ w = omega arith in ap (λ k. sum_by f (span 0 w) + f k) z)
 

@@ -61,12 +61,12 @@ either_true true b h = refl
 either_true false b (inl e) = absurd cc
 either_true false b (inr e) = e
 
-span_long : (a n : ℕ) → length (span a n) ≡ n
+pub span_long : (a n : ℕ) → length (span a n) ≡ n
 unfolding span
 span_long a zero = refl
 span_long a (suc n) = length-append (span a n) ((a + n) ∷ []) ∙ (let e = span_long a n in omega (arith, e))
 
-span_at : (a n i : ℕ) → i < n → get_or (span a n) i 0 ≡ a + i
+pub span_at : (a n i : ℕ) → i < n → get_or (span a n) i 0 ≡ a + i
 unfolding span
 span_at a zero i lt = absurd (omega arith)
 span_at a (suc n) i lt =
@@ -96,7 +96,7 @@ gaggle_long : (kind : Kind) (heights : List ℕ) (option g : ℕ) → length (ga
 unfolding gaggle_items
 gaggle_long kind heights option g = omega (arith, length-append (lead_items kind heights g) (value_items kind heights option (places (length heights) g)))
 
-numbers_fit : (kind : Kind) (heights : List ℕ) (options : ℕ → ℕ) (i : ℕ) → i < length heights → numbers_through kind heights options i ≤ length (number_items kind heights options)
+pub numbers_fit : (kind : Kind) (heights : List ℕ) (options : ℕ → ℕ) (i : ℕ) → i < length heights → numbers_through kind heights options i ≤ length (number_items kind heights options)
 numbers_fit kind heights options i lt =
     let g = i / 16 in
     by_zero (eqb i 0) refl (part_long _ _ _ (before_parts kind heights options (gaggle_count (length heights)) g (omega arith)))
@@ -119,7 +119,7 @@ numbers_fit kind heights options i lt =
 -- ---- an AC number
 
 -- the highest bit of a number
-top : (w n : ℕ) → 1 ≤ n → n < 2 ^ w → (b : ℕ) × (b < w) × (2 ^ b ≤ n) × (n < 2 ^ (b + 1))
+pub top : (w n : ℕ) → 1 ≤ n → n < 2 ^ w → (b : ℕ) × (b < w) × (2 ^ b ≤ n) × (n < 2 ^ (b + 1))
 top zero n some lt = absurd (omega arith)
 top (suc w) n some lt =
     elim (cases_lt n (2 ^ w)) [

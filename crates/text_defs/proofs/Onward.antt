@@ -110,7 +110,7 @@ zero_number [] i = refl
 zero_number (x ∷ xs) zero = refl
 zero_number (x ∷ xs) (suc i) = zero_number xs i
 
-zero_depth : (xs : List ℕ) (i : ℕ) → get_or (zeros xs) i 0 ≡ 0
+pub zero_depth : (xs : List ℕ) (i : ℕ) → get_or (zeros xs) i 0 ≡ 0
 zero_depth [] i = refl
 zero_depth (x ∷ xs) zero = refl
 zero_depth (x ∷ xs) (suc i) = zero_depth xs i

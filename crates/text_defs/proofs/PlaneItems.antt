@@ -112,7 +112,7 @@ steps_are_items options known before (s ∷ steps) fit all =
 
 -- ---- a plane
 
-flat_items : {X : Type 0} (f : X → List Item) → ((x : X) → AreItems (f x)) → (xs : List X) → AreItems (flat_map f xs)
+pub flat_items : {X : Type 0} (f : X → List Item) → ((x : X) → AreItems (f x)) → (xs : List X) → AreItems (flat_map f xs)
 flat_items f all [] = tt
 flat_items f all (x ∷ xs) = are_append (f x) (flat_map f xs) (all x) (flat_items f all xs)
 

@@ -52,7 +52,7 @@ planes_same q (suc n) vs ws long le same =
     ap (λ l. l ++ map (dc_bit (q - suc n)) vs) (planes_same q n vs ws long (omega (arith, le)) (λ i c low high. same i c (omega (arith, low)) high))
     ∙ ap (λ l. planes_before q ws n ++ l) (map_at (dc_bit (q - suc n)) vs ws long (λ i. ap (λ x. raw (complement 1 x)) (same i (q - suc n) (omega arith) (omega (arith, le)))))
 
-dc_same : (depth_dc depth_ac shift : ℕ) (vs ws : List ℤ) (o : ℕ → ℕ) → length ws ≡ length vs →
+pub dc_same : (depth_dc depth_ac shift : ℕ) (vs ws : List ℤ) (o : ℕ → ℕ) → length ws ≡ length vs →
     ((i c : ℕ) → min depth_ac (dc_q depth_dc depth_ac shift) ≤ c → int_shr (get_or vs i (pos 0)) c ≡ int_shr (get_or ws i (pos 0)) c) → dc_items depth_dc depth_ac shift vs o ≡ dc_items depth_dc depth_ac shift ws o
 unfolding dc_items
 dc_same depth_dc depth_ac shift vs ws o long same =
@@ -107,7 +107,7 @@ in_plane w b g new c = cond (eqb c b) (in_gaggle (w c) g new) (w c)
 
 -- ---- the planes
 
-planes_are : (head : SegmentHead) (blocks : List (List ℤ)) (depths : List ℕ) (options : Options) → head.stop.dc ≡ false →
+pub planes_are : (head : SegmentHead) (blocks : List (List ℤ)) (depths : List ℕ) (options : Options) → head.stop.dc ≡ false →
     segment_items head blocks depths options ≡ dc_part_items head blocks options ++ (depth_items head.depth_ac depths options.depths ++ planes_items head blocks depths options head.depth_ac)
 unfolding segment_items
 planes_are head blocks depths options e =

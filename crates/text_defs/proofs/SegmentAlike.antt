@@ -34,7 +34,7 @@ use Rattle.text_defs.proofs.FrontLaws.{alike_from, alike_append}
 pub sent_none : (head : SegmentHead) (b : ℕ) → b < head.stop.plane → stages_sent head b ≡ 0
 sent_none head b lt = grind (arith, nat_tests)
 
-sent_all : (head : SegmentHead) (b : ℕ) → head.stop.plane < b → stages_sent head b ≡ 5
+pub sent_all : (head : SegmentHead) (b : ℕ) → head.stop.plane < b → stages_sent head b ≡ 5
 sent_all head b lt = grind (arith, nat_tests)
 
 pub sent_most : (head : SegmentHead) (b : ℕ) → head.stop.stage < 4 → stages_sent head b ≤ 5

@@ -15,7 +15,7 @@ use Rattle.plane_texts.proofs.SplitReading.{given_all}
 use Rattle.text_defs.proofs.AllSent.{all_stages}
 
 -- all stages of a block
-plane_whole : (options : ℕ → List ℕ) (blocks : List (List ℤ)) (depths weights : List ℕ) (number q m r : ℕ) →
+pub plane_whole : (options : ℕ → List ℕ) (blocks : List (List ℤ)) (depths weights : List ℕ) (number q m r : ℕ) →
     let p : Plane = record { blocks = blocks; depths = depths; weights = weights; number = number; q = q } in
     r < length depths → length (plane_reading profile options p 5) ≤ m → steps_given profile options p 5 m r ≡ all_stages (get_or blocks r []) (get_or depths r 0) weights number q
 plane_whole options blocks depths weights number q m r within le =
