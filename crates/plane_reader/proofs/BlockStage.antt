@@ -1,0 +1,64 @@
+-- A stage of a block that isn't deep enough: nothing of it is sent.
+use Rattle.std.proofs.Common.{◌≡◌, ℕ, zero, suc, ◌<◌, ◌≤◌, false, cond, ℤ, List, [], refl, ap, sym, subst, arith, append-nil}
+use Rattle.std.specs.Prelude.{Ok, nat_lt}
+use Rattle.std.proofs.lemmas.Bool.Decides.{nat_tests}
+use Rattle.item_defs.specs.Readings.{whole}
+use Rattle.plane_defs.specs.declared.codes.Book.{Book}
+use Rattle.plane_defs.specs.Steps.{Step, parents_steps, children_steps, grandchildren_steps, refinement_steps, block_steps}
+use Rattle.block_masks.specs.declared.gaggle.Gaggle.{Gaggle}
+use Rattle.block_masks.specs.declared.plan.CodedPlane.{CodedPlane}
+use Rattle.block_masks.specs.Gaggles.{AreOptions, Agrees}
+use Rattle.bit_pipe.specs.declared.fault.Part.TheVariants.{Whole}
+use Rattle.bit_pipe.specs.Sources.{SourceOf}
+use Rattle.bit_pipe.specs.Coming.{Coming, IsIn, Takes}
+use Rattle.bit_pipe.specs.Reading.{stopped}
+use Rattle.plane_reader.specs.Frames.{Frame, steps_of}
+use Rattle.plane_reader.specs.Pieces.{ReadsSteps}
+use Rattle.plane_reader.specs.Stages.{StandsBefore, StageTaken}
+use Rattle.plane_reader.specs.Terms.{IsFrame}
+use Rattle.plane_reader.proofs.ToldBlocks.{told_none}
+
+module _ (f : Frame) (low : f.depth ≤ f.plane) (v : List ℤ) where
+  not_deep : nat_lt f.plane f.depth ≡ false
+  not_deep = no f.plane f.depth low
+    where
+      no : (a b : ℕ) → b ≤ a → nat_lt a b ≡ false
+      no a b le = grind (arith, nat_tests)
+
+  none_sent : (k : ℕ) → 1 ≤ k → k < 5 → steps_of f k v ≡ []
+  unfolding block_steps
+  none_sent zero some below = absurd (omega (arith, some))
+  none_sent (suc zero) some below = ap (λ t. cond t (parents_steps v f.weights f.plane) []) not_deep
+  none_sent (suc (suc zero)) some below = ap (λ t. cond t (children_steps v f.weights f.plane) []) not_deep
+  none_sent (suc (suc (suc zero))) some below = ap (λ t. cond t (grandchildren_steps v f.weights f.plane) []) not_deep
+  none_sent (suc (suc (suc (suc zero)))) some below = ap (λ t. cond t (refinement_steps v f.weights f.plane) []) not_deep
+  none_sent (suc (suc (suc (suc (suc k))))) some below = absurd (omega (arith, below))
+
+pub stage_none : {I : Type 0} {k : SourceOf I} {book : Book} {f : Frame} {plan : CodedPlane} {depth stage : ℕ} {earlier : ℕ → List Step} {g : Gaggle} {mark : ℤ} {x : List ℤ} {a : Coming I} → AreOptions g.options → IsIn a → Takes k a a [] → 1 ≤ stage → stage < 5 → depth ≤ plan.plane →
+    IsFrame f plan depth → StandsBefore f stage earlier mark x → StageTaken k book f stage earlier (Ok Whole) g g mark x a a
+stage_none {k = k} {book = book} {f = f} {plan = plan} {depth = depth} {stage = stage} {earlier = earlier} {g = g} {x = x} {a = a} known at_start takes some below low frame stands = record {
+  part = [];
+  ending = stopped whole;
+  answer = refl;
+  is_in = λ w. at_start;
+  possible = stands.possible;
+  read = λ v s sent options agrees knows. subst (λ l. ReadsSteps k book options sent [] (stopped whole) l a a) (sym (none_sent f shallow_here v stage some below)) (record { reads = record { ends = takes }; stops = refl });
+  agrees = λ w sent agrees. subst (Agrees g.sent) (sym (append-nil sent)) agrees;
+  knows = λ options knows. knows;
+  options = known;
+  tells = λ v s. told_none f stage earlier [] v x refl (stands.tells v s);
+  families = λ w e deep v s. absurd (omega (arith, shallow_here, deep));
+}
+  where
+    shallow_here : f.depth ≤ f.plane
+    shallow_here = let d = frame.deep in let p = frame.plane in omega (arith, d, p, low)
+
+pub is_deep : {f : Frame} {plan : CodedPlane} {depth told : ℕ} → IsFrame f plan depth → told ≡ depth → plan.plane < told → f.plane < f.depth
+is_deep frame same lt = let d = frame.deep in let p = frame.plane in omega (arith, d, p, same, lt)
+
+pub shallow : {depth told plane : ℕ} → told ≡ depth → told ≤ plane → depth ≤ plane
+shallow same le = omega (arith, same, le)
+
+pub first_or_later : (stage : ℕ) → (stage ≡ 0 → ⊥) → 1 ≤ stage
+first_or_later zero other = absurd (other refl)
+first_or_later (suc k) other = omega arith

@@ -1,0 +1,71 @@
+-- What a block sends of its children, piece by piece.
+use Rattle.std.proofs.Common.{◌≡◌, ◌⊎◌, inl, inr, ℕ, ◌+◌, Bool, true, false, not, ◌&&◌, ◌||◌, cond, ℤ, List, [], ◌∷◌, ◌++◌, refl, ap, sym, ◌∙◌}
+use Rattle.std.specs.Prelude.{Ok, Some, Result, Option, map}
+use Rattle.plane_defs.specs.declared.codes.Book.{Book}
+use Rattle.plane_defs.specs.declared.entries.Entry.TheVariants.{Bit}
+use Rattle.plane_defs.specs.declared.sets.Set.TheVariants.{Descendants}
+use Rattle.plane_defs.specs.Sets.{set_significant, live, enclosing_significant, flag_due}
+use Rattle.plane_defs.specs.Steps.{free, flags_alone, Step, step}
+use Rattle.block_masks.specs.declared.gaggle.Gaggle.{Gaggle}
+use Rattle.block_masks.specs.Gaggles.{AreOptions}
+use Rattle.bit_pipe.specs.declared.fault.TextFault.{TextFault}
+use Rattle.bit_pipe.specs.Sources.{SourceOf}
+use Rattle.bit_pipe.specs.Coming.{Coming, IsIn, Takes}
+use Rattle.plane_reader.specs.declared.found.Found.{Found}
+use Rattle.plane_reader.specs.Frames.{Frame, Sends}
+use Rattle.plane_reader.specs.Pieces.{FoundPiece}
+use Rattle.plane_reader.specs.Words.{TakesFlag}
+use Rattle.plane_reader.specs.Children.{descendants_steps, DescendantsNext, AreDescendants}
+use Rattle.plane_reader.proofs.StepPieces.{bit_step}
+use Rattle.plane_reader.proofs.IndexPieces.{found_as, leads_as, found_nothing}
+use Rattle.plane_reader.proofs.FoundPieces.{flags_piece}
+use Rattle.plane_reader.proofs.SetFacts.{flag_is, set_now}
+
+-- ---- the flag of all descendants
+
+module _ {f : Frame} {stage : ℕ} {earlier : ℕ → List Step} {done : List Step} {is_live was : Bool} {after : List ℤ → List Step} (next : DescendantsNext f stage earlier done is_live was after) where
+  due_all : (v : List ℤ) → Sends f stage earlier done v → flag_due v f.weights f.plane Descendants ≡ (not was && is_live)
+  unfolding enclosing_significant
+  due_all v s =
+      flag_is f v s.candidate Descendants tt ∙ and_true (not (set_significant f.block (f.plane + 1) Descendants) && live f.weights f.plane Descendants)
+      ∙ ap (λ t. not t && live f.weights f.plane Descendants) (sym next.was_is) ∙ ap (λ t. not was && t) (sym next.live_is)
+    where
+      and_true : (t : Bool) → (t && true) ≡ t
+      and_true true = refl
+      and_true false = refl
+
+  as_one : (v : List ℤ) (t : Bool) → flag_due v f.weights f.plane Descendants ≡ t → descendants_steps f v ≡ cond t (step free flags_alone (Bit (set_significant v f.plane Descendants)) ∷ []) []
+  as_one v true e = ap (λ t. map (λ b. step free flags_alone (Bit b)) (map (set_significant v f.plane) (cond t (Descendants ∷ []) []))) e
+  as_one v false e = ap (λ t. map (λ b. step free flags_alone (Bit b)) (map (set_significant v f.plane) (cond t (Descendants ∷ []) []))) e
+
+  all_now : (v : List ℤ) → Sends f stage earlier done v → set_significant v f.plane Descendants ≡ (was || ((not was && is_live) && set_significant v f.plane Descendants))
+  all_now v s = set_now f v s.candidate Descendants tt ∙ ap (λ t. t || (flag_due v f.weights f.plane Descendants && set_significant v f.plane Descendants)) (sym next.was_is) ∙ ap (λ t. was || (t && set_significant v f.plane Descendants)) (due_all v s)
+
+  module _ {I : Type 0} {k : SourceOf I} {book : Book} {g : Gaggle} {m : Found} (known : AreOptions g.options) {a : Coming I} where
+    -- it isn't due
+    pub descendants_known : (was ≡ true) ⊎ (is_live ≡ false) → IsIn a → Takes k a a [] → FoundPiece k book f stage earlier done (descendants_steps f) (AreDescendants f) (Ok (Some was)) g g m m a a
+    descendants_known none i t =
+        found_as book f stage earlier done (descendants_steps f) (λ v s. sym (as_one v false (due_all v s ∙ not_due was is_live none)))
+        (found_nothing book f stage earlier was (AreDescendants f) done known i t next.possible (λ v s. all_now v s ∙ stays was is_live (set_significant v f.plane Descendants) none))
+      where
+        not_due : (w l : Bool) → (w ≡ true) ⊎ (l ≡ false) → (not w && l) ≡ false
+        not_due true l e = refl
+        not_due false true (inl e) = cc
+        not_due false true (inr e) = cc
+        not_due false false e = refl
+
+        stays : (w l s : Bool) → (w ≡ true) ⊎ (l ≡ false) → (w || ((not w && l) && s)) ≡ w
+        stays true l s e = refl
+        stays false true s (inl e) = cc
+        stays false true s (inr e) = cc
+        stays false false s e = refl
+
+    -- it is
+    pub descendants_read : was ≡ false → is_live ≡ true → {r : Result (Option Bool) TextFault} {b : Coming I} → TakesFlag k r a b → FoundPiece k book f stage earlier done (descendants_steps f) (AreDescendants f) r g g m m a b
+    descendants_read none lives t =
+        found_as book f stage earlier done (descendants_steps f) (λ v s. sym (as_one v true (due v s)))
+        (flags_piece m (bit_step f stage next.below earlier done book flags_alone (λ v. set_significant v f.plane Descendants)
+        (leads_as done (λ v. step free flags_alone (Bit (set_significant v f.plane Descendants)) ∷ []) after (λ v s. ap (λ l. l ++ after v) (as_one v true (due v s))) next.leads) g known next.possible t))
+      where
+        due : (v : List ℤ) → Sends f stage earlier done v → flag_due v f.weights f.plane Descendants ≡ true
+        due v s = due_all v s ∙ ap (λ t. not t && is_live) none ∙ lives

@@ -1,0 +1,159 @@
+-- A call for a block of a gaggle, as its loop goes on by it or stops.
+use Rattle.std.proofs.Common.{◌≡◌, ℕ, ◌+◌, ◌-◌, ◌*◌, ◌<◌, ◌≤◌, min, ℤ, pos, List, [], length, get_or, set, take, drop, refl, ap, sym, ◌∙◌, subst, arith, get_or-set_same, get_or-set_other}
+use Rattle.std.specs.Prelude.{Result, Ok}
+use borrow.Rule.Slice.PartMut.{put_mid}
+use Rattle.item_defs.specs.Readings.{whole, ended, refused}
+use Rattle.wave_defs.specs.Held.{block_at}
+use Rattle.plane_defs.specs.declared.codes.Book.{Book}
+use Rattle.plane_defs.specs.Marks.{depth_of}
+use Rattle.plane_defs.specs.Steps.{Step}
+use Rattle.block_masks.specs.declared.gaggle.Gaggle.{Gaggle}
+use Rattle.block_masks.specs.declared.plan.CodedPlane.{CodedPlane}
+use Rattle.block_masks.specs.Gaggles.{AreOptions}
+use Rattle.block_masks.proofs.Marking.{depth_there, length-depths_of}
+use Rattle.bit_pipe.specs.declared.fault.Part.{Part}
+use Rattle.bit_pipe.specs.declared.fault.Part.TheVariants.{Whole}
+use Rattle.bit_pipe.specs.declared.fault.TextFault.{TextFault}
+use Rattle.bit_pipe.specs.Sources.{SourceOf}
+use Rattle.bit_pipe.specs.Coming.{Coming, IsIn}
+use Rattle.bit_pipe.specs.Reading.{Ending, stopped, failed, IsCut}
+use Rattle.bit_pipe.specs.Answers.{part_answer}
+use Rattle.plane_reader.specs.Frames.{Frame, steps_of}
+use Rattle.plane_reader.specs.Stages.{StandsBefore, StageTaken}
+use Rattle.plane_reader.specs.Terms.{IsFrame}
+use Rattle.plane_reader.specs.Progress.{Start, IsStart, frame_of, Held, held, kept, with_one, Progress, GoesOn, Stops, Leaves, Reaches, Advances, KeepsGaggles}
+use Rattle.plane_reader.proofs.PlaneSteps.{ReadsBlock, block_further, gaggle_further}
+use Rattle.plane_reader.proofs.PlaneStop.{plane_cut}
+use Rattle.plane_reader.proofs.GaggleMarks.{one_there, one_other, kept_same, block_put, blocks_stay, put_long}
+
+-- what was read up to some place goes on from there
+pub goes_to : {I : Type 0} {source : SourceOf I} {book : Book} {plan : CodedPlane} {k g c stage gaggle block : ℕ} {old new : Held I} → GoesOn source book plan k g c old →
+    Reaches source book plan k g c stage gaggle block old new → GoesOn source book plan stage gaggle block new
+goes_to goes reaches = record { start = goes.start; from = goes.from; is_start = goes.is_start; so_far = reaches.so_far goes.start goes.from goes.is_start goes.so_far }
+
+pub reaches_none : {I : Type 0} {source : SourceOf I} {book : Book} {plan : CodedPlane} {k g c : ℕ} (now : Held I) → Reaches source book plan k g c k g c now now
+reaches_none now = record { so_far = λ s from start p. p }
+
+-- ---- what a call for a block may use
+
+pub goes_in : {I : Type 0} {source : SourceOf I} {book : Book} {plan : CodedPlane} {k g c : ℕ} {now : Held I} → GoesOn source book plan k g c now → IsIn now.input
+goes_in goes = goes.so_far.is_in
+
+pub goes_known : {I : Type 0} {source : SourceOf I} {book : Book} {plan : CodedPlane} {k g c : ℕ} (h : ℕ) (marks blocks : List ℤ) (x : Gaggle) (input : Coming I) →
+    GoesOn source book plan k g c (held (with_one (kept marks) h x) marks blocks input) → AreOptions x.options
+goes_known h marks blocks x input goes = subst (λ y. AreOptions y.options) (one_there (kept marks) h x) (goes.so_far.known h)
+
+-- a call changed block r in the slices
+pub changes_block : {I : Type 0} (marks blocks : List ℤ) (g r n : ℕ) (m : ℤ) (b : List ℤ) (x y : Gaggle) (i j : Coming I) → r < length marks → length blocks ≡ 64 * length marks → n ≡ 64 → length b ≡ 64 →
+    length (put_mid (64 * r) n blocks b) ≡ length blocks → KeepsGaggles marks (set marks r m) →
+    ReadsBlock g r m b (held (with_one (kept marks) g x) marks blocks i) (held (with_one (kept (set marks r m)) g y) (set marks r m) (put_mid (64 * r) n blocks b) j)
+changes_block marks blocks g r n m b x y i j within cells size long same keeps =
+    let room : 64 * r + 64 ≤ length blocks = omega (arith, within, cells) in
+    record {
+      others = λ h apart. one_other (kept (set marks r m)) g y h apart ∙ kept_same marks (set marks r m) keeps h ∙ sym (one_other (kept marks) g x h apart);
+      mark = get_or-set_same marks r m (pos 0) within;
+      marks = λ h apart. get_or-set_other marks r h m (pos 0) apart;
+      block = block_put blocks r n b room size long;
+      blocks = λ h apart. blocks_stay blocks r n b room size long h apart;
+      size = same;
+      depths = keeps.depths;
+    }
+
+-- ---- one block
+
+module _ {I : Type 0} {source : SourceOf I} {book : Book} {plan : CodedPlane} {k : ℕ} (g c r : ℕ) {now : Held I} {mark : ℤ} {block : List ℤ}
+    (place : 16 * g + c ≡ r) (within : r < length now.marks) (mark_is : get_or now.marks r (pos 0) ≡ mark) (block_is : block_at now.blocks r ≡ block)
+    (s : Start) {from : Coming I} (start : IsStart s plan) (so_far : Progress source book s k g c from now) where
+  pub inside : 16 * g + c < length s.depths
+  inside = omega (arith, place, within, ap length so_far.depths, length-depths_of now.marks)
+
+  mark_there : get_or now.marks (16 * g + c) (pos 0) ≡ mark
+  mark_there = ap (λ n. get_or now.marks n (pos 0)) place ∙ mark_is
+
+  block_there : block_at now.blocks (16 * g + c) ≡ block
+  block_there = ap (block_at now.blocks) place ∙ block_is
+
+  pub frame_there : IsFrame (frame_of s (16 * g + c)) plan (depth_of mark)
+  frame_there = record {
+    weights = start.weights;
+    plane = start.plane;
+    q = start.q;
+    deep = ap (λ d. get_or d (16 * g + c) 0) (sym so_far.depths) ∙ depth_there now.marks (16 * g + c) ∙ ap depth_of mark_there;
+    awaits = start.awaits (16 * g + c) inside;
+  }
+
+  -- the block stands before its stage
+  pub stands_there : StandsBefore (frame_of s (16 * g + c)) k (λ j. steps_of (frame_of s (16 * g + c)) j (get_or so_far.values (16 * g + c) [])) mark block
+  stands_there =
+      let earlier : ℕ → List Step = λ j. steps_of (frame_of s (16 * g + c)) j (get_or so_far.values (16 * g + c) []) in
+      subst (λ z. StandsBefore (frame_of s (16 * g + c)) k earlier z block) mark_there
+      (subst (λ z. StandsBefore (frame_of s (16 * g + c)) k earlier (get_or now.marks (16 * g + c) (pos 0)) z) block_there
+      (so_far.after (16 * g + c) (omega arith) inside))
+
+module _ {I : Type 0} {source : SourceOf I} {book : Book} {plan : CodedPlane} {k : ℕ} (g c r : ℕ) {now new : Held I} {result : Result Part TextFault} {mark m : ℤ} {block b : List ℤ} (x y : Gaggle)
+    (few : c < 16) (place : 16 * g + c ≡ r) (within : r < length now.marks) (mark_is : get_or now.marks r (pos 0) ≡ mark) (block_is : block_at now.blocks r ≡ block) (x_is : now.gaggles g ≡ x) (y_is : new.gaggles g ≡ y)
+    (read : ReadsBlock g r m b now new)
+    (call : (f : Frame) (earlier : ℕ → List Step) → IsFrame f plan (depth_of mark) → StandsBefore f k earlier mark block → StageTaken source book f k earlier result x y m b now.input new.input)
+    (s : Start) (from : Coming I) (start : IsStart s plan) (so_far : Progress source book s k g c from now) where
+  within_plane : 16 * g + c < length s.depths
+  within_plane = inside g c r place within mark_is block_is s start so_far
+
+  read_there : ReadsBlock g (16 * g + c) m b now new
+  read_there = subst (λ n. ReadsBlock g n m b now new) (sym place) read
+
+  abbrev earlier : ℕ → List Step
+  earlier j = steps_of (frame_of s (16 * g + c)) j (get_or so_far.values (16 * g + c) [])
+
+  taken : StageTaken source book (frame_of s (16 * g + c)) k earlier result (now.gaggles g) (new.gaggles g) m b now.input new.input
+  taken =
+      subst (λ z. StageTaken source book (frame_of s (16 * g + c)) k earlier result z (new.gaggles g) m b now.input new.input) (sym x_is)
+      (subst (λ z. StageTaken source book (frame_of s (16 * g + c)) k earlier result x z m b now.input new.input) (sym y_is)
+      (call (frame_of s (16 * g + c)) earlier (frame_there g c r place within mark_is block_is s start so_far) (stands_there g c r place within mark_is block_is s start so_far)))
+
+  abbrev Next : Type 0
+  Next = Progress source book s k g (c + 1) from new
+
+  abbrev Stop : Type 0
+  Stop = Stops source book s k result from new.input new.blocks
+
+  stop : IsCut taken.ending → Stop
+  stop cut = record { takes = λ stages below. plane_cut g c few within_plane so_far taken read_there cut stages below }
+
+  pub block_leaves : Leaves result Next Stop
+  block_leaves = by_ending taken.ending refl
+    where
+      by_ending : (e : Ending) → taken.ending ≡ e → Leaves result Next Stop
+      by_ending (stopped whole) h = subst (λ z. Leaves z Next Stop) (sym (taken.answer ∙ ap part_answer h)) (block_further g c few within_plane so_far taken read_there h)
+      by_ending (stopped (ended n)) h = subst (λ z. Leaves z Next Stop) (sym (taken.answer ∙ ap part_answer h)) (stop (subst IsCut (sym h) tt))
+      by_ending (stopped (refused n spelt name)) h = subst (λ z. Leaves z Next Stop) (sym (taken.answer ∙ ap part_answer h)) (stop (subst IsCut (sym h) tt))
+      by_ending (failed n fault) h = subst (λ z. Leaves z Next Stop) (sym (taken.answer ∙ ap part_answer h)) (stop (subst IsCut (sym h) tt))
+
+-- a call for block r, with slices of the marks and the blocks
+pub call_leaves : {I : Type 0} {source : SourceOf I} {book : Book} {plan : CodedPlane} {k : ℕ} (g r : ℕ) (marks blocks : List ℤ) (x y : Gaggle) (i j : Coming I) (m : ℤ) (b : List ℤ) {result : Result Part TextFault} {old : Held I} →
+    16 * g ≤ r → r < 16 * g + 16 → r < length marks → length blocks ≡ 64 * length marks → length b ≡ 64 → KeepsGaggles marks (set marks r m) →
+    Reaches source book plan k g 0 k g (r - 16 * g) old (held (with_one (kept marks) g x) marks blocks i) →
+    ((f : Frame) (earlier : ℕ → List Step) → IsFrame f plan (depth_of (get_or marks r (pos 0))) →
+    StandsBefore f k earlier (get_or marks r (pos 0)) (take (64 * r + 64 - 64 * r) (drop (64 * r) blocks)) → StageTaken source book f k earlier result x y m b i j) →
+    (s : Start) (from : Coming I) → IsStart s plan → Progress source book s k g 0 from old →
+    Leaves result (Progress source book s k g (r + 1 - 16 * g) from (held (with_one (kept (set marks r m)) g y) (set marks r m) (put_mid (64 * r) (64 * r + 64 - 64 * r) blocks b) j))
+    (Stops source book s k result from j (put_mid (64 * r) (64 * r + 64 - 64 * r) blocks b))
+call_leaves {I = I} {source = source} {book = book} {k = k} g r marks blocks x y i j m b {result = result} low high within cells long keeps reaches call s from start p =
+    let n : ℕ = 64 * r + 64 - 64 * r in
+    let size : n ≡ 64 = omega arith in
+    let now : Held I = held (with_one (kept marks) g x) marks blocks i in
+    let new : Held I = held (with_one (kept (set marks r m)) g y) (set marks r m) (put_mid (64 * r) n blocks b) j in
+    let same : length (put_mid (64 * r) n blocks b) ≡ length blocks = put_long blocks r n b (omega (arith, within, cells)) size long in
+    let next : r + 1 - 16 * g ≡ r - 16 * g + 1 = omega (arith, low) in
+    subst (λ c. Leaves result (Progress source book s k g c from new) (Stops source book s k result from j (put_mid (64 * r) n blocks b))) (sym next)
+    (block_leaves g (r - 16 * g) r x y (omega (arith, low, high)) (omega (arith, low)) within refl (ap (λ w. take w (drop (64 * r) blocks)) (sym size)) (one_there (kept marks) g x) (one_there (kept (set marks r m)) g y)
+    (changes_block marks blocks g r n m b x y i j within cells size long same keeps) call s from start (reaches.so_far s from start p))
+
+-- ---- a gaggle's end
+
+pub gaggle_ends : {I : Type 0} {source : SourceOf I} {book : Book} {plan : CodedPlane} {k : ℕ} (g c : ℕ) {old now : Held I} → c ≡ min 16 (length now.marks - 16 * g) →
+    Reaches source book plan k g 0 k g c old now → Advances source book plan k g k (g + 1) (Ok Whole) old now
+gaggle_ends g c {old = old} {now = now} all reaches = record {
+  leaves = λ s from start p.
+      let so_far = reaches.so_far s from start p in
+      gaggle_further g c (omega (arith, all, ap length so_far.depths, length-depths_of now.marks)) so_far;
+}

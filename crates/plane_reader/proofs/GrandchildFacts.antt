@@ -1,0 +1,72 @@
+-- What a block sends of its sets of grandchildren: which are new, and which parts of a stage are sent.
+use Rattle.std.proofs.Common.{◌≡◌, ℕ, ◌+◌, ◌<◌, ◌^◌, Bool, true, false, not, ◌&&◌, ◌||◌, cond, ℤ, List, [], ◌∷◌, ◌++◌, refl, ap, sym, ◌∙◌, arith, zero-add}
+use Rattle.std.specs.Prelude.{filter}
+use Rattle.std.specs.List.{flat_map, AllByRecursion}
+use Rattle.item_defs.specs.Bits.{bit}
+use Rattle.plane_defs.specs.declared.sets.Set.{Set}
+use Rattle.plane_defs.specs.Spans.{span}
+use Rattle.plane_defs.specs.Sets.{significant, coded, set_significant, live, enclosing_significant, type_due, flag_due, IsKnown}
+use Rattle.plane_defs.specs.Steps.{is_new}
+use Rattle.plane_defs.specs.StepLaws.{IsAc}
+use Rattle.plane_defs.proofs.Above.{all_span}
+use Rattle.plane_texts.specs.Candidates.{IsCandidate}
+use Rattle.plane_texts.proofs.StageParts.{filter_flat}
+use Rattle.block_masks.specs.Masks.{Shows}
+use Rattle.plane_reader.specs.Frames.{Frame}
+use Rattle.plane_reader.proofs.SetFacts.{above_same, flag_is, set_now}
+
+-- ---- masks from the first place on
+
+pub at_zero : {mask count : ℕ} {f : ℕ → Bool} → Shows mask f 0 count → (k : ℕ) → k < count → bit mask k ≡ f k
+at_zero {f = f} s k lt = s.at k lt ∙ ap f (zero-add k)
+
+pub shows_within : {mask count : ℕ} {f g : ℕ → Bool} → ((k : ℕ) → k < count → f k ≡ g k) → Shows mask f 0 count → Shows mask g 0 count
+shows_within {f = f} {g = g} same s = record { at = λ k lt. at_zero s k lt ∙ same k lt ∙ ap g (sym (zero-add k)); small = s.small }
+
+-- a mask tells its own bits
+pub own_bits : {mask count : ℕ} → mask < 2 ^ count → Shows mask (bit mask) 0 count
+own_bits {mask} small = record { at = λ k lt. ap (bit mask) (sym (zero-add k)); small = small }
+
+-- ---- parts that are sent
+
+flat_all : {A : Type 0} (f g : ℕ → List A) (xs : List ℕ) → AllByRecursion (λ i. f i ≡ g i) xs → flat_map f xs ≡ flat_map g xs
+flat_all f g [] all = refl
+flat_all f g (x ∷ xs) all = ap (λ l. l ++ flat_map f xs) all.0 ∙ ap (λ l. g x ++ l) (flat_all f g xs all.1)
+
+-- the same places send the same
+pub flat_chosen : {A : Type 0} (f g : ℕ → List A) (s t : ℕ → Bool) (count : ℕ) → ((i : ℕ) → i < count → s i ≡ t i) → ((i : ℕ) → i < count → f i ≡ g i) → flat_map f (filter s (span 0 count)) ≡ flat_map g (filter t (span 0 count))
+flat_chosen f g s t count same alike =
+    filter_flat f s (span 0 count)
+    ∙ flat_all (λ i. cond (s i) (f i) []) (λ i. cond (t i) (g i) []) (span 0 count)
+    (all_span (λ i. cond (s i) (f i) [] ≡ cond (t i) (g i) []) 0 count (λ i low high. let lt : i < count = omega arith in ap (λ x. cond x (f i) []) (same i lt) ∙ ap (λ l. cond (t i) l []) (alike i lt)))
+    ∙ sym (filter_flat g t (span 0 count))
+
+-- ---- new sets
+
+module _ (f : Frame) (v : List ℤ) (c : IsCandidate f.weights f.plane f.q f.depth f.block v) where
+  pub new_is : (s : Set) → IsKnown s → is_new v f.plane s ≡ (set_significant v f.plane s && not (set_significant f.block (f.plane + 1) s))
+  unfolding is_new
+  new_is s known = ap (λ t. set_significant v f.plane s && not t) (above_same f v c s known)
+
+  -- a set is new where its flag is due and 1
+  pub new_due : (s : Set) → IsKnown s → is_new v f.plane s ≡ (flag_due v f.weights f.plane s && set_significant v f.plane s)
+  new_due s known =
+      new_is s known
+      ∙ by_flag (set_significant f.block (f.plane + 1) s) (live f.weights f.plane s) (enclosing_significant v f.plane s) (flag_due v f.weights f.plane s) (set_significant v f.plane s) (flag_is f v c s known) (set_now f v c s known)
+    where
+      by_flag : (a l e d s : Bool) → d ≡ ((not a && l) && e) → s ≡ (a || (d && s)) → (s && not a) ≡ (d && s)
+      by_flag true l e true s is now = cc
+      by_flag true l e false true is now = refl
+      by_flag true l e false false is now = refl
+      by_flag false l e true true is now = refl
+      by_flag false l e false true is now = cc
+      by_flag false l e true false is now = refl
+      by_flag false l e false false is now = refl
+
+-- ---- types
+
+-- the positions above the plane, and those that are coded in it, tell which types are due
+pub types_due : (f : Frame) (above types : ℕ) → ((p : ℕ) → IsAc p → bit above p ≡ significant f.block (f.plane + 1) p) → Shows types (λ p. not (bit above p) && coded f.weights f.plane p) 0 64 →
+    (p : ℕ) → IsAc p → bit types p ≡ type_due f.block f.weights f.plane p
+unfolding type_due
+types_due f above types marked shown p ac = at_zero shown p ac.1 ∙ ap (λ t. not t && coded f.weights f.plane p) (marked p ac)

@@ -1,0 +1,84 @@
+-- The sets of a block above a plane, as masks, and what its candidates share.
+use Rattle.std.proofs.Common.{◌≡◌, ℕ, ◌+◌, ◌<◌, Bool, true, false, not, ◌&&◌, ◌||◌, cond, ℤ, List, [], ◌∷◌, refl, ap, sym, ◌∙◌, arith}
+use Rattle.std.specs.Prelude.{map, filter}
+use Rattle.std.specs.List.{list_any}
+use Rattle.item_defs.specs.Bits.{bit}
+use Rattle.plane_defs.specs.declared.sets.Set.{Set}
+use Rattle.plane_defs.specs.declared.sets.Set.TheVariants.{Family, Grandchildren, Quad}
+use Rattle.plane_defs.specs.Spans.{span}
+use Rattle.plane_defs.specs.Sets.{significant, coded, members, set_significant, live, enclosing_significant, flag_due, IsKnown}
+use Rattle.plane_defs.specs.Entries.{flags}
+use Rattle.plane_defs.specs.StepLaws.{IsAc}
+use Rattle.plane_defs.proofs.Above.{members_acs, any_alike}
+use Rattle.plane_defs.proofs.Determined.{undue}
+use Rattle.plane_texts.specs.Candidates.{IsCandidate}
+use Rattle.plane_texts.proofs.BlockChoice.{acs_above}
+use Rattle.plane_reader.specs.Frames.{Frame, due_bits}
+use Rattle.plane_reader.proofs.TypePieces.{filter_span}
+
+-- a mask tells of the AC numbers above: so of sets
+pub marked_set : (f : Frame) (mask : ℕ) → ((p : ℕ) → IsAc p → bit mask p ≡ significant f.block (f.plane + 1) p) → (s : Set) → IsKnown s → list_any (λ p. bit mask p) (members s) ≡ set_significant f.block (f.plane + 1) s
+unfolding set_significant
+marked_set f mask marked s known = any_alike (λ p. bit mask p) (significant f.block (f.plane + 1)) (members s) (members_acs s known) marked
+
+pub live_set : (weights : List ℕ) (plane : ℕ) (s : Set) → list_any (coded weights plane) (members s) ≡ live weights plane s
+unfolding live
+live_set weights plane s = refl
+
+module _ (f : Frame) (v : List ℤ) (c : IsCandidate f.weights f.plane f.q f.depth f.block v) where
+  pub above_same : (s : Set) → IsKnown s → set_significant v (f.plane + 1) s ≡ set_significant f.block (f.plane + 1) s
+  unfolding set_significant
+  above_same s known = any_alike (significant v (f.plane + 1)) (significant f.block (f.plane + 1)) (members s) (members_acs s known) (λ p ac. sym (acs_above f.block v f.plane c.above (f.plane + 1) (omega arith) p ac))
+
+  -- which flags are due
+  pub flag_is : (s : Set) → IsKnown s → flag_due v f.weights f.plane s ≡ ((not (set_significant f.block (f.plane + 1) s) && live f.weights f.plane s) && enclosing_significant v f.plane s)
+  unfolding flag_due
+  flag_is s known = ap (λ t. (not t && live f.weights f.plane s) && enclosing_significant v f.plane s) (above_same s known)
+
+  -- a set is significant where it was above, or where its flag is due and 1
+  pub set_now : (s : Set) → IsKnown s → set_significant v f.plane s ≡ (set_significant f.block (f.plane + 1) s || (flag_due v f.weights f.plane s && set_significant v f.plane s))
+  set_now s known = by_due (flag_due v f.weights f.plane s) refl
+    where
+      not_above : flag_due v f.weights f.plane s ≡ true → set_significant f.block (f.plane + 1) s ≡ false
+      not_above e = of_not (set_significant f.block (f.plane + 1) s) (live f.weights f.plane s) (enclosing_significant v f.plane s) (sym (flag_is s known) ∙ e)
+        where
+          of_not : (a b c : Bool) → ((not a && b) && c) ≡ true → a ≡ false
+          of_not true b c e = cc
+          of_not false b c e = refl
+
+      or_false : (t : Bool) → t ≡ (t || false)
+      or_false true = refl
+      or_false false = refl
+
+      by_due : (d : Bool) → flag_due v f.weights f.plane s ≡ d → set_significant v f.plane s ≡ (set_significant f.block (f.plane + 1) s || (d && set_significant v f.plane s))
+      by_due true e = sym (ap (λ t. t || set_significant v f.plane s) (not_above e))
+      by_due false e = undue v f.weights f.plane s known c.multiple e ∙ above_same s known ∙ or_false (set_significant f.block (f.plane + 1) s)
+
+-- ---- flags of sets that go by an index
+
+map_filter_index : (F : ℕ → Set) (S D : Set → Bool) (xs : List ℕ) → map S (filter D (map F xs)) ≡ map (λ i. S (F i)) (filter (λ i. D (F i)) xs)
+map_filter_index F S D [] = refl
+map_filter_index F S D (x ∷ xs) = one (D (F x)) (map_filter_index F S D xs)
+  where
+    one : (t : Bool) → map S (filter D (map F xs)) ≡ map (λ i. S (F i)) (filter (λ i. D (F i)) xs) → map S (cond t (F x ∷ filter D (map F xs)) (filter D (map F xs))) ≡ map (λ i. S (F i)) (cond t (x ∷ filter (λ i. D (F i)) xs) (filter (λ i. D (F i)) xs))
+    one true e = ap (λ l. S (F x) ∷ l) e
+    one false e = e
+
+-- their word is that of the places that are due
+pub flags_by : (v : List ℤ) (weights : List ℕ) (plane : ℕ) (F : ℕ → Set) (count : ℕ) (due : ℕ → Bool) → ((i : ℕ) → i < count → flag_due v weights plane (F i) ≡ due i) →
+    flags v weights plane (map F (span 0 count)) ≡ due_bits due (λ x i. set_significant x plane (F i)) 0 count v
+flags_by v weights plane F count due same =
+    map_filter_index F (set_significant v plane) (flag_due v weights plane) (span 0 count)
+    ∙ ap (map (λ i. set_significant v plane (F i))) (filter_span (λ i. flag_due v weights plane (F i)) due 0 count (λ i low high. same i (omega (arith, high))))
+
+pub three_families_are : (Family 0 ∷ Family 1 ∷ Family 2 ∷ []) ≡ map Family (span 0 3)
+unfolding span
+three_families_are = refl
+
+pub three_grandchildren_are : (Grandchildren 0 ∷ Grandchildren 1 ∷ Grandchildren 2 ∷ []) ≡ map Grandchildren (span 0 3)
+unfolding span
+three_grandchildren_are = refl
+
+pub four_quads_are : (i : ℕ) → (Quad i 0 ∷ Quad i 1 ∷ Quad i 2 ∷ Quad i 3 ∷ []) ≡ map (Quad i) (span 0 4)
+unfolding span
+four_quads_are i = refl

@@ -1,0 +1,13 @@
+pub mod Taken
+pub mod Frames
+pub mod Pieces
+pub mod Words
+pub mod Stages
+pub mod Terms
+pub mod Progress
+pub mod Places
+pub mod Children
+pub mod Refining
+pub mod Applied
+pub mod Grandchildren
+pub mod Blocks

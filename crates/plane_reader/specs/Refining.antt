@@ -1,0 +1,30 @@
+-- The refinement bits of a block, and the DC's bit. (This project's own.)
+use Rattle.std.specs.Prelude.{◌≡◌, ◌<◌, ℕ, ◌&&◌, ℤ, pos, Bool, List, []}
+use lib.ListN.{get_or}
+use Rattle.item_defs.specs.Bits.{bit}
+use Rattle.plane_defs.specs.Sets.{refined}
+use Rattle.plane_defs.specs.Entries.{twos_bit}
+use Rattle.plane_defs.specs.Steps.{Step, dc_steps, refinement_steps}
+use Rattle.plane_defs.specs.StepLaws.{IsAc}
+use Rattle.plane_texts.specs.Given.{has_bit_in}
+use Rattle.block_masks.specs.declared.plan.CodedPlane.{CodedPlane}
+use Rattle.plane_reader.specs.Frames.{Frame, Possible, Leads}
+
+-- the refinement bits come next, at the positions of a mask
+pub record RefinementNext (f : Frame) (stage : ℕ) (earlier : ℕ → List Step) (done : List Step) (mask : ℕ) (after : List ℤ → List Step) : Type 0 where
+  pub below : stage < 5
+  pub shown : (p : ℕ) → IsAc p → bit mask p ≡ refined f.block f.weights f.plane p
+  pub leads : Leads f stage earlier done (λ v. refinement_steps v f.weights f.plane) after
+  pub possible : Possible f stage earlier done
+
+-- the DC's bit comes first, where it is due in a plane
+pub record DcBitNext (f : Frame) (plan : CodedPlane) (earlier : ℕ → List Step) (after : List ℤ → List Step) : Type 0 where
+  pub weights : f.weights ≡ plan.weights.shifts
+  pub plane : f.plane ≡ plan.plane
+  pub q : f.q ≡ plan.q
+  pub leads : Leads f 0 earlier [] (λ v. dc_steps v f.weights f.plane f.q) after
+  pub possible : Possible f 0 earlier []
+
+-- whether the DC's bit is 1, and not where none is due
+abbrev pub IsDcBit : Frame → Bool → List ℤ → Type 0
+IsDcBit f x v = x ≡ (has_bit_in (dc_steps v f.weights f.plane f.q) 0 && twos_bit (get_or v 0 (pos 0)) f.plane)

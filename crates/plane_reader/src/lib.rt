@@ -1,0 +1,20 @@
+//! A bit plane of a segment, read (docs/formats.md, "Bit planes", "Words and codes" and "Reading a segment").
+//!
+//! `take_plane` puts into the blocks of a segment the bits and signs that the plane's text gives. `plane` goes over the stages,
+//! gaggles and blocks, and `stages` takes what a block sends in a stage, by masks of 64 positions: `children`, `grandchildren`
+//! and `refine` its parts, `groups` and `types` flags, types and signs, and `word` the words of a gaggle. `found` gathers what
+//! they give, and `apply` puts it into the block. `block_masks` keeps in the marks what lasts from one stage to the next.
+#![tactic(auto)]
+
+mod apply;
+mod children;
+mod found;
+mod grandchildren;
+mod groups;
+mod plane;
+mod refine;
+mod stages;
+mod types;
+mod word;
+
+pub use plane::take_plane;

@@ -1,0 +1,129 @@
+// A plane of a segment, stage by stage and gaggle by gaggle.
+
+ghost use Rattle.std.specs.Prelude.{◌≡◌, ◌+◌, ◌*◌, ◌≤◌, ◌<◌, IsTrue, length};
+ghost use Rattle.bit_pipe.specs.Coming.{coming, IsIn};
+ghost use Rattle.plane_defs.specs.Codes.{is_book_sound};
+ghost use Rattle.plane_defs.specs.Marks.{depths_of};
+ghost use Rattle.plane_reader.specs.Progress.{held, kept, with_one, GoesOn, Advances, KeepsGaggles, Clears};
+ghost use Rattle.plane_reader.specs.Taken.{AwaitPlane, TakesPlane};
+
+use crate::stages::{Terms, take_block};
+use bit_pipe::{BitIn, OctetIn, Part, TextFault};
+use block_masks::{CodedPlane, Gaggle, PlanePlan, depth_of, load, mark_of, store};
+use plane_defs::Book;
+
+// Numbers of a block.
+const BLOCK: usize = 64;
+
+// Blocks of a gaggle.
+const GAGGLE: usize = 16;
+
+// Each mark keeps its depth, and nothing of a gaggle or of families.
+fn clear(marks: &mut [i32])
+    ensures { Clears marks.old marks.new }
+{
+    let none = Gaggle {
+        options: [0; 3],
+        sent: [false; 3],
+    };
+    for place in 0..marks.len() {
+        marks[place] = mark_of(depth_of(marks[place]), none);
+    }
+}
+
+// Takes a stage of gaggle g.
+fn take_gaggle<I: OctetIn>(
+    input: &mut BitIn<I>,
+    terms: &Terms,
+    gaggle: &mut Gaggle,
+    number: u8,
+    blocks: &mut [i32],
+    marks: &mut [i32],
+    g: usize,
+) -> Result<Part, TextFault>
+    requires goes { GoesOn I.source terms.now.book.now terms.now.plan.now number g 0 (held (with_one (kept marks.old) g gaggle.old) marks.old blocks.old (coming input.old)) }
+    requires number { number < 5 }
+    requires whole { length blocks.old ≡ 64 * length marks.old }
+    requires within { 16 * g < length marks.old }
+    ensures advances { Advances I.source terms.now.book.now terms.now.plan.now number g number (g + 1) result
+        (held (with_one (kept marks.old) g gaggle.old) marks.old blocks.old (coming input.old)) (held (with_one (kept marks.new) g gaggle.new) marks.new blocks.new (coming input.new)) }
+    ensures marks { KeepsGaggles marks.old marks.new }
+    ensures size { length blocks.new ≡ length blocks.old }
+{
+    let first = GAGGLE * g;
+    for r in first..marks.len().min(first + GAGGLE) {
+        let block = &mut blocks[BLOCK * r..BLOCK * r + BLOCK];
+        let Part::Whole = take_block(input, terms, gaggle, number, &mut marks[r], block)? else {
+            return Ok(Part::Ended);
+        };
+    }
+    Ok(Part::Whole)
+}
+
+// Takes a stage of all blocks, with what the marks keep.
+fn take_stage<I: OctetIn>(
+    input: &mut BitIn<I>,
+    terms: &Terms,
+    number: u8,
+    blocks: &mut [i32],
+    marks: &mut [i32],
+) -> Result<Part, TextFault>
+    requires goes { GoesOn I.source terms.now.book.now terms.now.plan.now number 0 0 (held (kept marks.old) marks.old blocks.old (coming input.old)) }
+    requires number { number < 5 }
+    requires whole { length blocks.old ≡ 64 * length marks.old }
+    ensures advances { Advances I.source terms.now.book.now terms.now.plan.now number 0 (number + 1) 0 result
+        (held (kept marks.old) marks.old blocks.old (coming input.old)) (held (kept marks.new) marks.new blocks.new (coming input.new)) }
+    ensures depths { depths_of marks.new ≡ depths_of marks.old }
+    ensures size { length blocks.new ≡ length blocks.old }
+{
+    for g in 0..marks.len().div_ceil(GAGGLE) {
+        let mut gaggle = load(marks, g);
+        let Part::Whole = take_gaggle(input, terms, &mut gaggle, number, blocks, marks, g)? else {
+            return Ok(Part::Ended);
+        };
+        store(marks, g, gaggle);
+    }
+    Ok(Part::Whole)
+}
+
+/// Takes a bit plane of a segment up to the plan's last stage (docs/formats.md, "Bit planes" and "Reading a segment"): the
+/// bits and signs that the text gives go into the blocks, and nothing else of them changes. The answer is `Whole` where all
+/// items stood in the text, and `Ended` where the text ended before.
+///
+/// `blocks` has the 64 weighted numbers of each block, one block after another, and `marks` one number for each block, whose
+/// lowest five bits are the block's depth, at most 27. Before the call a block has no bit of the plane or below it, but for a
+/// DC of which the DC part had the plane. The plane is at most 26, the last stage at most 4, and the book sound.
+///
+/// The other bits of the marks are free, and the call writes there; the depths stay, whatever it answers.
+///
+/// # Errors
+///
+/// `BadOption` at the first identifier that names no option, `FalseFlag` at the first word that leaves a set without a
+/// significant member, and the faults of the input. The blocks have what was read whole before then too.
+pub fn take_plane<I: OctetIn>(
+    input: &mut BitIn<I>,
+    blocks: &mut [i32],
+    marks: &mut [i32],
+    plan: &PlanePlan,
+    book: &Book,
+) -> Result<Part, TextFault>
+    requires open { IsIn (coming input.old) }
+    requires whole { length blocks.old ≡ 64 * length marks.old }
+    requires plane { plan.now.plane ≤ 26 }
+    requires last { plan.now.last ≤ 4 }
+    requires sound { IsTrue (is_book_sound book.now) }
+    requires awaits { AwaitPlane plan.now.weights.shifts plan.now.plane plan.now.q (depths_of marks.old) blocks.old }
+    ensures takes { TakesPlane I.source book.now plan.now.plane plan.now.q plan.now.weights.shifts (plan.now.last + 1) (depths_of marks.old)
+        result (coming input.old) (coming input.new) blocks.old blocks.new }
+    ensures depths { depths_of marks.new ≡ depths_of marks.old }
+{
+    let coded = CodedPlane::new(plan);
+    let terms = Terms { plan: &coded, book };
+    clear(marks);
+    for number in 0..plan.last + 1 {
+        let Part::Whole = take_stage(input, &terms, number, blocks, marks)? else {
+            return Ok(Part::Ended);
+        };
+    }
+    Ok(Part::Whole)
+}

@@ -1,0 +1,86 @@
+// The refinement bits of a block, and the DC's bit.
+
+ghost use Rattle.std.specs.Prelude.{◌≡◌, ◌<◌, ◌&&◌, ℕ, ℤ, true, false, [], List, nat_lt};
+ghost use Rattle.item_defs.specs.Bits.{bit as bit_in};
+ghost use Rattle.bit_pipe.specs.Coming.{coming, IsIn};
+ghost use Rattle.plane_defs.specs.Sets.{coded};
+ghost use Rattle.plane_defs.specs.Steps.{Step, dc_steps, refinement_steps};
+ghost use Rattle.plane_defs.specs.declared.codes.Book.{Book as BookValue};
+ghost use Rattle.block_masks.specs.declared.gaggle.Gaggle.{Gaggle as GaggleValue};
+ghost use Rattle.block_masks.specs.Gaggles.{AreOptions};
+ghost use Rattle.plane_reader.specs.Frames.{Frame};
+ghost use Rattle.plane_reader.specs.Pieces.{Piece, FoundPiece, Anything, OnSome};
+ghost use Rattle.plane_reader.specs.Refining.{RefinementNext, DcBitNext, IsDcBit};
+
+use crate::found::Found;
+use crate::word::take_flag;
+use bit_pipe::{BitIn, OctetIn, TextFault};
+use block_masks::{CodedPlane, has, one};
+
+// The first position of a mask that has some.
+fn first_in(mask: u64) -> u8
+    requires some { 0 < mask }
+    ensures within { result < 64 }
+    ensures here { bit_in mask result ≡ true }
+    ensures none_before { (k : ℕ) → k < result → bit_in mask k ≡ false }
+{
+    mask.trailing_zeros() as u8
+}
+
+// The positions of a mask but this.
+fn without(mask: u64, position: u8) -> u64
+    requires position { position < 64 }
+    ensures gone { bit_in result position ≡ false }
+    ensures others { (k : ℕ) → k < 64 → (k ≡ position → ⊥) → bit_in result k ≡ bit_in mask k }
+    ensures fewer { bit_in mask position ≡ true → result < mask }
+{
+    mask & !(1 << position)
+}
+
+// Takes the plane's bit of each AC number of this mask.
+pub(crate) fn take_refinement<I: OctetIn>(
+    input: &mut BitIn<I>,
+    found: &mut Found,
+    refined: u64,
+) -> Result<Option<()>, TextFault>
+    requires open { IsIn (coming input.old) }
+    ensures refinement { (book : BookValue) (gaggle : GaggleValue) (f : Frame) (stage : ℕ) (earlier : ℕ → List Step) (done : List Step) (after : List ℤ → List Step) →
+        AreOptions gaggle.options → RefinementNext f stage earlier done refined after →
+        FoundPiece I.source book f stage earlier done (λ v. refinement_steps v f.weights f.plane) Anything result gaggle gaggle found.old found.new (coming input.old) (coming input.new) }
+    ensures is_in { OnSome result (IsIn (coming input.new)) }
+{
+    let mut left = without(refined, 0);
+    while left != 0 {
+        let position = first_in(left);
+        let Some(bit) = take_flag(input)? else {
+            return Ok(None);
+        };
+        found.add_bits(one(bit), position);
+        left = without(left, position);
+    }
+    Ok(Some(()))
+}
+
+// The DC part left the plane's bit out, and it can be other than 0.
+fn is_dc_bit_due(plan: &CodedPlane) -> bool
+    ensures { result ≡ (coded plan.now.weights.shifts plan.now.plane 0 && nat_lt plan.now.plane plan.now.q) }
+{
+    has(plan.coded, 0) && plan.plane < plan.q
+}
+
+// Takes the DC's bit where it is due: whether it is 1.
+pub(crate) fn take_dc_bit<I: OctetIn>(
+    input: &mut BitIn<I>,
+    plan: &CodedPlane,
+) -> Result<Option<bool>, TextFault>
+    requires open { IsIn (coming input.old) }
+    ensures bit { (book : BookValue) (gaggle : GaggleValue) (f : Frame) (earlier : ℕ → List Step) (after : List ℤ → List Step) →
+        AreOptions gaggle.options → DcBitNext f plan.now earlier after →
+        Piece I.source book f 0 earlier [] (λ v. dc_steps v f.weights f.plane f.q) (IsDcBit f) result gaggle gaggle (coming input.old) (coming input.new) }
+    ensures is_in { OnSome result (IsIn (coming input.new)) }
+{
+    if !is_dc_bit_due(plan) {
+        return Ok(Some(false));
+    }
+    take_flag(input)
+}

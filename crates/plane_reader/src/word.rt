@@ -1,0 +1,103 @@
+// A word of a block's stage.
+
+ghost use Rattle.std.specs.Prelude.{◌≡◌, ◌≤◌, ◌<◌, ◌-◌, IsTrue};
+ghost use Rattle.item_defs.specs.Items.{raw};
+ghost use Rattle.bit_pipe.specs.Coming.{coming, IsIn};
+ghost use Rattle.bit_pipe.specs.Answers.{IsBelow, TakesOne};
+ghost use Rattle.plane_defs.specs.Codes.{is_book_sound};
+ghost use Rattle.block_masks.specs.Gaggles.{AreOptions};
+ghost use Rattle.plane_reader.specs.Pieces.{TakesWord};
+ghost use Rattle.plane_reader.specs.Words.{OpensLength, TakesFlag, TakesDue};
+
+use bit_pipe::{BitIn, OctetIn, TextFault};
+use block_masks::{Gaggle, spread};
+use plane_defs::Book;
+use word_codes::{take_option, take_word};
+
+// A word of one bit.
+fn take_raw<I: OctetIn>(input: &mut BitIn<I>) -> Result<Option<u8>, TextFault>
+    requires open { IsIn (coming input.old) }
+    ensures { TakesOne I.source (IsBelow 2) raw result (coming input.old) (coming input.new) }
+{
+    let Some(bit) = input.take_bits(1)? else {
+        return Ok(None);
+    };
+    Ok(Some(bit as u8))
+}
+
+// The identifier of a length's option, where none was read yet.
+fn open<I: OctetIn>(
+    input: &mut BitIn<I>,
+    gaggle: &mut Gaggle,
+    length: u8,
+) -> Result<Option<u8>, TextFault>
+    requires open { IsIn (coming input.old) }
+    requires short { 2 ≤ length }
+    requires long { length ≤ 4 }
+    requires known { AreOptions gaggle.old.options }
+    ensures { OpensLength I.source length result gaggle.old gaggle.new (coming input.old) (coming input.new) }
+{
+    let place = length as usize - 2;
+    if gaggle.sent[place] {
+        return Ok(Some(gaggle.options[place]));
+    }
+    let Some(option) = take_option(input, length)? else {
+        return Ok(None);
+    };
+    gaggle.options[place] = option;
+    gaggle.sent[place] = true;
+    Ok(Some(option))
+}
+
+// Takes a word of up to four bits: an empty one is nothing, one of one bit is raw, and before the first longer one of its
+// length stands the identifier of its option.
+pub(crate) fn take_any<I: OctetIn>(
+    input: &mut BitIn<I>,
+    book: &Book,
+    gaggle: &mut Gaggle,
+    count: u8,
+) -> Result<Option<u8>, TextFault>
+    requires open { IsIn (coming input.old) }
+    requires sound { IsTrue (is_book_sound book.now) }
+    requires few { count ≤ 4 }
+    requires known { AreOptions gaggle.old.options }
+    ensures { TakesWord I.source book.now count result gaggle.old gaggle.new (coming input.old) (coming input.new) }
+{
+    if count == 0 {
+        return Ok(Some(0));
+    }
+    if count == 1 {
+        return take_raw(input);
+    }
+    let Some(option) = open(input, gaggle, count)? else {
+        return Ok(None);
+    };
+    take_word(input, book, option, count)
+}
+
+// Takes a raw bit.
+pub(crate) fn take_flag<I: OctetIn>(input: &mut BitIn<I>) -> Result<Option<bool>, TextFault>
+    requires open { IsIn (coming input.old) }
+    ensures { TakesFlag I.source result (coming input.old) (coming input.new) }
+{
+    Ok(input.take()?)
+}
+
+// Takes the word of up to four due places: the places whose bit is 1.
+pub(crate) fn take_due<I: OctetIn>(
+    input: &mut BitIn<I>,
+    book: &Book,
+    gaggle: &mut Gaggle,
+    due: u64,
+) -> Result<Option<u64>, TextFault>
+    requires open { IsIn (coming input.old) }
+    requires sound { IsTrue (is_book_sound book.now) }
+    requires due { due < 16 }
+    requires known { AreOptions gaggle.old.options }
+    ensures { TakesDue I.source book.now due result gaggle.old gaggle.new (coming input.old) (coming input.new) }
+{
+    let Some(word) = take_any(input, book, gaggle, due.count_ones() as u8)? else {
+        return Ok(None);
+    };
+    Ok(Some(spread(due, word)))
+}
