@@ -39,7 +39,7 @@ marks_all cells marks n e count h =
 -- ---- bounds
 
 -- a cell of a block
-cell_of : (cells : List ℤ) (r j : ℕ) → j < 64 → get_or (block_at cells r) j (pos 0) ≡ get_or cells (64 * r + j) (pos 0)
+pub cell_of : (cells : List ℤ) (r j : ℕ) → j < 64 → get_or (block_at cells r) j (pos 0) ≡ get_or cells (64 * r + j) (pos 0)
 cell_of cells r j lt = get_or-take 64 (drop (64 * r) cells) j (pos 0) lt ∙ get_or-drop (64 * r) cells j (pos 0)
 
 pub dc_within : (cells : List ℤ) (r : ℕ) → AreBounded cells → 64 * r < length cells → signed_size (dc_of (block_at cells r)) ≤ 28

@@ -12,5 +12,22 @@ mod PlaneBits
 mod NumberBits
 mod TextBits
 mod DepthMarks
+mod EndOctets
+mod Decoding
+mod BriefItems
+mod LowParts
+mod GivenTests
+mod GivenParts
+mod DcGiven
+mod ItemFronts
+mod DcReads
+mod PartReads
+mod StepFacts
+mod NumberCuts
+mod PlaneGiven
+mod PlaneSteps
+mod PlaneStates
+mod FromText
+mod ReadNames
 pub mod CodedHeld
 pub mod CodedOptions

@@ -2,3 +2,8 @@ pub mod Numbers
 pub mod Text
 pub mod Parts
 pub mod Laws
+pub mod Faults
+pub mod TakenPlanes
+pub mod TakenText
+pub mod TextEnds
+pub mod Decoded

@@ -1,13 +1,19 @@
-//! A whole segment: its depths and its text (docs/formats.md, "Segments and depths" and "Stops, cut and fill").
+//! A whole segment: its depths and its text, written and read (docs/formats.md, "Segments and depths", "Stops, cut and fill" and
+//! "Reading a segment").
 #![tactic(auto)]
 
+mod decode;
 mod depths;
 mod encode;
+mod end_in;
 mod planes;
+mod planes_in;
 mod tells;
+mod text_in;
 
 ghost use Rattle.segment_code.specs.Laws.{CodedHolds, TextsAreShort};
 
+pub use decode::{SegmentFault, decode_segment};
 pub use depths::segment_depths;
 pub use encode::encode_segment;
 

@@ -32,7 +32,7 @@ fn stages_sent(head: &SegmentHead, plane: u8) -> u8
 }
 
 // A plane up to its last stage.
-fn plane_plan(head: &SegmentHead, plane: u8, last: u8) -> PlanePlan
+pub(crate) fn plane_plan(head: &SegmentHead, plane: u8, last: u8) -> PlanePlan
     ensures plane { result.plane ≡ plane }
     ensures q { result.q ≡ q_of head.now }
     ensures weights { result.weights ≡ head.now.image.weights }

@@ -1,0 +1,52 @@
+-- Tests of numbers, and what they make of what is given.
+use Rattle.std.proofs.Common.{◌≡◌, ◌⊎◌, ℕ, ◌<◌, ◌≤◌, inl, inr, Bool, true, false, cond, refl, arith, ℤ, pos, negsuc}
+use Rattle.std.specs.Prelude.{◌&&◌, ◌||◌, nat_lt, nat_le, unsigned_abs}
+use Rattle.std.proofs.lemmas.Bool.Decides.{nat_tests}
+use Rattle.plane_defs.specs.Entries.{negative}
+
+pub at_least : (a b : ℕ) → nat_le a b ≡ true → a ≤ b
+at_least a b e = grind (arith, nat_tests)
+
+pub at_least_test : (a b : ℕ) → a ≤ b → nat_le a b ≡ true
+at_least_test a b le = grind (arith, nat_tests)
+
+pub below_test : (a b : ℕ) → b < a → nat_le a b ≡ false
+below_test a b lt = grind (arith, nat_tests)
+
+pub less_test : (a b : ℕ) → a < b → nat_lt a b ≡ true
+less_test a b lt = grind (arith, nat_tests)
+
+pub not_less_test : (a b : ℕ) → b ≤ a → nat_lt a b ≡ false
+not_less_test a b le = grind (arith, nat_tests)
+
+-- what holds wherever a bit is 1 makes no difference to it
+pub absorbs : (h c : Bool) → (c ≡ true → h ≡ true) → (h && c) ≡ c
+absorbs true c f = refl
+absorbs false true f = f refl
+absorbs false false f = refl
+
+pub none_without : (h c : Bool) (w : ℕ) → h ≡ false → cond (h && c) w 0 ≡ 0
+none_without true c w e = absurd cc
+none_without false c w e = refl
+
+pub no_both : (x y : Bool) → x ≡ false → (x && y) ≡ false
+no_both true y e = absurd cc
+no_both false y e = refl
+
+pub either_true : (a b : Bool) → (a ≡ true) ⊎ (b ≡ true) → (a || b) ≡ true
+either_true true b h = refl
+either_true false b (inl e) = absurd cc
+either_true false b (inr e) = e
+
+pub not_both : (a : Bool) → a ≡ true → a ≡ false → ⊥
+not_both a x y = cc
+
+-- ---- signs
+
+pub no_size : (z : ℤ) → unsigned_abs z ≡ 0 → negative z ≡ false
+no_size (pos a) e = refl
+no_size (negsuc a) e = absurd (omega (arith, e))
+
+pub some_size : (z : ℤ) → negative z ≡ true → 1 ≤ unsigned_abs z
+some_size (pos a) e = absurd cc
+some_size (negsuc a) e = omega arith

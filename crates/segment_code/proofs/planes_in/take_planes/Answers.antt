@@ -1,0 +1,38 @@
+use Rattle.std.proofs.Common.{◌≡◌, ◌+◌, arith, refl, ◌∙◌}
+use Rattle.std.proofs.lemmas.Result.{err_from_is_err_and}
+use Rattle.std.proofs.lemmas.Bool.Decides.{nat_tests}
+use Rattle.bit_pipe.specs.Coming.{coming}
+use Rattle.plane_defs.specs.Marks.{depths_of}
+use Rattle.segment_defs.specs.declared.head.SegmentHead.{SegmentHead}
+use Rattle.segment_defs.specs.SegmentItems.{stages_sent}
+use Rattle.segment_code.proofs.PlaneStates.{none_sent, takes_stop, in_above}
+use Rattle.segment_code.proofs.planes_in.take_planes.Goals as goal
+
+at_stop : (head : SegmentHead) → stages_sent head head.stop.plane ≡ head.stop.stage + 1 + 1
+at_stop head = let e : stages_sent head head.stop.plane ≡ head.stop.stage + 2 = grind (arith, nat_tests) in e ∙ omega arith
+
+pub returns-then-head-clause-takes : goal.returns-then-head-clause-takes
+returns-then-head-clause-takes g c = none_sent g.I.OctetIn.source c.args.head.now (depths_of c.args.marks.now) (coming c.args.input.now) c.args.blocks.now c.requires.open c.requires.dcs (omega arith)
+
+pub returns-in_err-take_whole_planes-clause-takes : goal.returns-in_err-take_whole_planes-clause-takes
+returns-in_err-take_whole_planes-clause-takes g c =
+    let e = err_from_is_err_and c.from_residual.result c.from_residual.ensures.1 in
+    rw (e.1, e.2) c.in_err-take_whole_planes.ensures.takes.ends
+
+pub returns-in_default-clause-takes : goal.returns-in_default-clause-takes
+returns-in_default-clause-takes g c = let t = rw c.in_default.is at c.in_ok-take_whole_planes.ensures.takes in t.ends
+
+pub take_stages-requires-clause-open : goal.take_stages-requires-clause-open
+take_stages-requires-clause-open g c = let t = rw c.in-Whole.is at c.in_ok-take_whole_planes.ensures.takes in in_above c.requires.open t.ends
+
+pub take_stages-requires-clause-awaits : goal.take_stages-requires-clause-awaits
+take_stages-requires-clause-awaits g c =
+    let t = rw c.in-Whole.is at c.in_ok-take_whole_planes.ensures.takes in
+    rw c.in_ok-take_whole_planes.ensures.depths t.ends.awaits
+
+pub returns-clause-takes : goal.returns-clause-takes
+returns-clause-takes g c =
+    let head = c.args.head.now in
+    let t = rw c.in-Whole.is at c.in_ok-take_whole_planes.ensures.takes in
+    let p = rw c.in_ok-take_whole_planes.ensures.depths at c.take_stages.ensures.takes in
+    takes_stop head c.requires.goes_on (depths_of c.args.marks.now) head.stop.plane (head.stop.stage + 1 + 1) (omega arith) (omega arith) (at_stop head) t.ends p refl c.requires.dcs.deep

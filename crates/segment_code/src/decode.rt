@@ -1,0 +1,123 @@
+// A segment's text, read.
+ghost use Rattle.std.specs.Prelude.{◌≡◌, ◌*◌, length};
+ghost use Rattle.segment_defs.specs.Head.{IsHead};
+ghost use Rattle.segment_code.specs.Decoded.{DecodesSegment};
+ghost use Rattle.segment_code.specs.TakenText.{AreClear, TakesFrom};
+
+use crate::end_in::{end_cut, end_whole};
+use crate::text_in::take_text;
+use bit_pipe::{BitIn, InFault, OctetIn, Part, TextFault};
+use segment_head::SegmentHead;
+
+/// Why a segment's text isn't taken (docs/formats.md, "Reading a segment").
+#[derive(Clone, Copy, Debug, PartialEq, Eq)]
+pub enum SegmentFault {
+    /// An identifier names no option.
+    BadOption,
+    /// A unary part has too many zeros.
+    BadDelta,
+    /// A block depth is above that of the head.
+    BadDepth,
+    /// A flag tells of a set whose members can't be significant.
+    FalseFlag,
+    /// The text ends before its items and their padding do.
+    ShortSegment,
+    /// Octets stand after the text's end.
+    Overlong,
+    /// The packets of the text don't all follow one another.
+    BrokenSegment,
+    /// The input failed.
+    ReadFault,
+    /// The input is longer than its cap.
+    LongInput,
+}
+
+impl From<InFault> for SegmentFault {
+    ghost use Rattle.segment_code.specs.Faults.{of_input};
+
+    ghost from_gives = { λ f e. e ≡ of_input f };
+
+    fn from(fault: InFault) -> SegmentFault {
+        match fault {
+            InFault::ReadFault => SegmentFault::ReadFault,
+            InFault::LongInput => SegmentFault::LongInput,
+            InFault::Broken => SegmentFault::BrokenSegment,
+        }
+    }
+}
+
+impl From<TextFault> for SegmentFault {
+    ghost use Rattle.segment_code.specs.Faults.{of_text};
+
+    ghost from_gives = { λ f e. e ≡ of_text f };
+
+    fn from(fault: TextFault) -> SegmentFault {
+        match fault {
+            TextFault::BadOption => SegmentFault::BadOption,
+            TextFault::BadDelta => SegmentFault::BadDelta,
+            TextFault::BadDepth => SegmentFault::BadDepth,
+            TextFault::FalseFlag => SegmentFault::FalseFlag,
+            TextFault::ReadFault => SegmentFault::ReadFault,
+            TextFault::LongInput => SegmentFault::LongInput,
+            TextFault::Broken => SegmentFault::BrokenSegment,
+        }
+    }
+}
+
+// All numbers become 0.
+fn clear(blocks: &mut [i32])
+    ensures size { length blocks.new ≡ length blocks.old }
+    ensures clear { AreClear blocks.new }
+{
+    for number in blocks.iter_mut() {
+        *number = 0;
+    }
+}
+
+// Takes the items of a text, up to the limit; and how many bits they and the head have.
+fn take_from<I: OctetIn>(
+    input: &mut I,
+    head: &SegmentHead,
+    blocks: &mut [i32],
+    marks: &mut [i32],
+) -> Result<(Part, u64), TextFault>
+    requires fits { IsHead head.now }
+    requires count { length blocks.old ≡ 64 * length marks.old }
+    requires marks { length marks.old ≡ head.now.blocks }
+    requires clear { AreClear blocks.old }
+    ensures takes { TakesFrom I.source head.now result input.old input.new blocks.new }
+    ensures sizes { (length blocks.new ≡ length blocks.old) × (length marks.new ≡ length marks.old) }
+    ensures ten { length head.now.image.weights.shifts ≡ 10 }
+{
+    let mut bits = BitIn::new(input, u64::from(head.limit), u64::from(head.octets()));
+    let part = take_text(&mut bits, head, blocks, marks)?;
+    Ok((part, bits.used()))
+}
+
+/// Reads a segment's text from the octets after its head into 64 numbers for each block (docs/formats.md, "Reading a
+/// segment"). `Whole` says that all items stood in the text, `Ended` that the limit cut them; what isn't given is 0, and
+/// positive. It asks for the input's end before it answers either. There is a mark for each block, and the call writes
+/// there.
+///
+/// # Errors
+///
+/// The name by which the text is refused, or how the input ended. Blocks and marks have no meaning then.
+pub fn decode_segment<I: OctetIn>(
+    input: &mut I,
+    head: &SegmentHead,
+    blocks: &mut [i32],
+    marks: &mut [i32],
+) -> Result<Part, SegmentFault>
+    requires fits { IsHead head.now }
+    requires count { length blocks.old ≡ 64 * length marks.old }
+    requires marks { length marks.old ≡ head.now.blocks }
+    ensures decodes { DecodesSegment I.source head.now result input.old input.new blocks.new }
+    ensures sizes { (length blocks.new ≡ length blocks.old) × (length marks.new ≡ length marks.old) }
+{
+    clear(blocks);
+    let (part, used) = take_from(input, head, blocks, marks)?;
+    match part {
+        Part::Whole => end_whole(input, head, used),
+        Part::Ended => end_cut(input, head, used),
+    }
+}

@@ -1,0 +1,70 @@
+// The end of a segment's text.
+ghost use Rattle.std.specs.Prelude.{◌≡◌, ◌≤◌, ◌<◌, ◌*◌, ◌^◌};
+ghost use Rattle.item_defs.specs.Padding.{padded_length};
+ghost use Rattle.bit_pipe.specs.declared.fault.Part.TheVariants.{Whole, Ended};
+ghost use Rattle.bit_pipe.specs.Bounds.{bound_of};
+ghost use Rattle.segment_defs.specs.Head.{IsHead};
+ghost use Rattle.segment_code.specs.TextEnds.{wanted_bits, EndsAfter, EndsWhole, EndsCut};
+
+use crate::decode::SegmentFault;
+use bit_pipe::{OctetIn, Part};
+use segment_head::SegmentHead;
+
+// Asks for so many octets more and then for the end.
+fn end_after<I: OctetIn>(input: &mut I, count: u64, part: Part) -> Result<Part, SegmentFault>
+    ensures { EndsAfter I.source count part result input.old input.new }
+{
+    for _ in 0..count {
+        let Some(_) = input.take()? else {
+            return Err(SegmentFault::ShortSegment);
+        };
+    }
+    let None = input.take()? else {
+        return Err(SegmentFault::Overlong);
+    };
+    Ok(part)
+}
+
+// How many octets a text has of which so many bits are head and items.
+fn expected_octets(head: &SegmentHead, used: u64) -> u64
+    requires fits { IsHead head.now }
+    requires bound { used ≤ 8 * bound_of head.now.limit }
+    ensures { 8 * result ≡ wanted_bits head.now used }
+{
+    if head.fill {
+        return u64::from(head.limit);
+    }
+    let word = u64::from(head.image.word);
+    used.div_ceil(8 * word) * word
+}
+
+// The end of a text whose items are all given: it has the expected length.
+pub(crate) fn end_whole<I: OctetIn>(
+    input: &mut I,
+    head: &SegmentHead,
+    used: u64,
+) -> Result<Part, SegmentFault>
+    requires fits { IsHead head.now }
+    requires bound { used ≤ 8 * bound_of head.now.limit }
+    ensures { EndsWhole I.source head.now used result input.old input.new }
+{
+    end_after(
+        input,
+        expected_octets(head, used) - used.div_ceil(8),
+        Part::Whole,
+    )
+}
+
+// The end of a text in which an item isn't given: it has the limit's octets.
+pub(crate) fn end_cut<I: OctetIn>(
+    input: &mut I,
+    head: &SegmentHead,
+    used: u64,
+) -> Result<Part, SegmentFault>
+    ensures { EndsCut I.source head.now used result input.old input.new }
+{
+    if head.limit == 0 || used < 8 * u64::from(head.limit) {
+        return Err(SegmentFault::ShortSegment);
+    }
+    end_after(input, 0, Part::Ended)
+}

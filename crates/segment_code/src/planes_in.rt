@@ -1,0 +1,104 @@
+// The bit planes of a segment, read.
+ghost use Rattle.std.specs.Prelude.{◌≡◌, ◌<◌, ◌≤◌, ◌+◌, ◌-◌, ◌*◌, IsTrue, false, length};
+ghost use Rattle.bit_pipe.specs.Coming.{coming, IsIn};
+ghost use Rattle.plane_defs.specs.Codes.{is_book_sound};
+ghost use Rattle.plane_defs.specs.Marks.{depths_of};
+ghost use Rattle.plane_defs.specs.Profile.{profile};
+ghost use Rattle.plane_reader.specs.Taken.{AwaitPlane, TakesPlane};
+ghost use Rattle.segment_defs.specs.Head.{IsHead};
+ghost use Rattle.segment_defs.specs.SegmentItems.{q_of};
+ghost use Rattle.segment_code.specs.TakenPlanes.{HaveDcs, TakesWholePlanes, TakesPlanes};
+
+use crate::planes::plane_plan;
+use bit_pipe::{BitIn, OctetIn, Part, TextFault};
+use plane_defs::Book;
+use plane_reader::take_plane;
+use segment_head::SegmentHead;
+use word_codes::profile_book;
+
+// The last stage of a plane.
+const LAST: u8 = 4;
+
+// Takes a plane up to its last stage.
+fn take_stages<I: OctetIn>(
+    input: &mut BitIn<I>,
+    head: &SegmentHead,
+    blocks: &mut [i32],
+    marks: &mut [i32],
+    book: &Book,
+    plane: u8,
+    last: u8,
+) -> Result<Part, TextFault>
+    requires open { IsIn (coming input.old) }
+    requires whole { length blocks.old ≡ 64 * length marks.old }
+    requires plane { plane ≤ 26 }
+    requires last { last ≤ 4 }
+    requires book { book.now ≡ profile }
+    requires awaits { AwaitPlane head.now.image.weights.shifts plane (q_of head.now) (depths_of marks.old) blocks.old }
+    ensures takes { TakesPlane I.source profile plane (q_of head.now) head.now.image.weights.shifts (last + 1) (depths_of marks.old)
+        result (coming input.old) (coming input.new) blocks.old blocks.new }
+    ensures depths { depths_of marks.new ≡ depths_of marks.old }
+{
+    let plan = plane_plan(head, plane, last);
+    take_plane(input, blocks, marks, &plan, book)
+}
+
+// Takes the planes above the stop's, from the top down.
+fn take_whole_planes<I: OctetIn>(
+    input: &mut BitIn<I>,
+    head: &SegmentHead,
+    blocks: &mut [i32],
+    marks: &mut [i32],
+    book: &Book,
+) -> Result<Part, TextFault>
+    requires fits { IsHead head.now }
+    requires open { IsIn (coming input.old) }
+    requires count { length blocks.old ≡ 64 * length marks.old }
+    requires book { book.now ≡ profile }
+    requires sent { head.now.stop.plane < head.now.depth_ac }
+    requires goes_on { head.now.stop.dc ≡ false }
+    requires dcs { HaveDcs head.now (depths_of marks.old) blocks.old }
+    ensures takes { TakesWholePlanes I.source head.now (depths_of marks.old) result (coming input.old) (coming input.new) blocks.old blocks.new }
+    ensures depths { depths_of marks.new ≡ depths_of marks.old }
+{
+    for n in 0..head.depth_ac - 1 - head.stop.plane {
+        let plane = head.depth_ac - 1 - n;
+        let Part::Whole = take_stages(input, head, blocks, marks, book, plane, LAST)? else {
+            return Ok(Part::Ended);
+        };
+    }
+    Ok(Part::Whole)
+}
+
+// Takes the planes from the top down, as far as they are sent.
+pub(crate) fn take_planes<I: OctetIn>(
+    input: &mut BitIn<I>,
+    head: &SegmentHead,
+    blocks: &mut [i32],
+    marks: &mut [i32],
+) -> Result<Part, TextFault>
+    requires fits { IsHead head.now }
+    requires open { IsIn (coming input.old) }
+    requires count { length blocks.old ≡ 64 * length marks.old }
+    requires goes_on { head.now.stop.dc ≡ false }
+    requires dcs { HaveDcs head.now (depths_of marks.old) blocks.old }
+    ensures takes { TakesPlanes I.source head.now (depths_of marks.old) result (coming input.old) (coming input.new) blocks.old blocks.new }
+    ensures depths { depths_of marks.new ≡ depths_of marks.old }
+{
+    if head.stop.plane >= head.depth_ac {
+        return Ok(Part::Whole);
+    }
+    let book = profile_book();
+    let Part::Whole = take_whole_planes(input, head, blocks, marks, &book)? else {
+        return Ok(Part::Ended);
+    };
+    take_stages(
+        input,
+        head,
+        blocks,
+        marks,
+        &book,
+        head.stop.plane,
+        head.stop.stage + 1,
+    )
+}
