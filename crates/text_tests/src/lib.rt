@@ -18,6 +18,8 @@ mod segment_planes;
 #[cfg(test)]
 mod segments;
 #[cfg(test)]
+mod segments_read;
+#[cfg(test)]
 mod words;
 #[cfg(test)]
 mod words_read;

@@ -5,12 +5,12 @@ use crate::segments::assert_coded;
 
 // One block, neither first nor last, all weights 0: DC 5, first parent -3, a grandchild 1. In turn the head's parts, the
 // DC 1 01, the depth 1 10, plane 1 and plane 0.
-const THREE_NUMBERS: [u8; 24] = [
+pub(crate) const THREE_NUMBERS: [u8; 24] = [
     0x00, 0x08, 0x27, 0x00, 0x00, 0x00, 0x00, 0x60, 0x00, 0x00, 0x1c, 0x88, 0x00, 0x01, 0x10, 0x80,
     0x00, 0x00, 0x00, 0xb8, 0x35, 0x89, 0x91, 0x40,
 ];
 
-fn three_numbers() -> [i32; 64] {
+pub(crate) fn three_numbers() -> [i32; 64] {
     let mut block = [0; 64];
     block[0] = 5;
     block[1] = -3;
@@ -49,12 +49,12 @@ fn stopped_above_all_planes(rt: HostRuntime) {
 }
 
 // One block with the usual weights: DC 8, and 1 in the band HH1 alone of which plane 0 has bits.
-const DIAGONAL: [u8; 21] = [
+pub(crate) const DIAGONAL: [u8; 21] = [
     0x00, 0x0a, 0x17, 0x00, 0x00, 0x00, 0x00, 0x60, 0x00, 0x00, 0x1c, 0x88, 0x00, 0x01, 0x10, 0x00,
     0x00, 0x00, 0x00, 0xbe, 0x28,
 ];
 
-fn diagonal() -> [i32; 64] {
+pub(crate) fn diagonal() -> [i32; 64] {
     let mut block = [0; 64];
     block[0] = 8;
     block[48] = 1;
