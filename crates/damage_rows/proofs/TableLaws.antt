@@ -61,7 +61,7 @@ none_listed f (x ∷ xs) none =
 -- ---- the numbers from a on that pass a test
 
 -- none of them passes another test
-any_none : (f p : ℕ → Bool) (n a : ℕ) → ((i : ℕ) → a ≤ i → i < a + n → p i ≡ true → f i ≡ false) → list_any f (filter p (range_with_len a n)) ≡ false
+pub any_none : (f p : ℕ → Bool) (n a : ℕ) → ((i : ℕ) → a ≤ i → i < a + n → p i ≡ true → f i ≡ false) → list_any f (filter p (range_with_len a n)) ≡ false
 any_none f p zero a none = refl
 any_none f p (suc n) a none =
     at (p a) refl (any_none f p n (a + 1) (λ i low high. none i (omega (arith, low)) (omega (arith, high))))
@@ -71,7 +71,7 @@ any_none f p (suc n) a none =
     at false e rest = rest
 
 -- one of them passes it
-any_there : (f p : ℕ → Bool) (n a i : ℕ) → a ≤ i → i < a + n → p i ≡ true → f i ≡ true → list_any f (filter p (range_with_len a n)) ≡ true
+pub any_there : (f p : ℕ → Bool) (n a i : ℕ) → a ≤ i → i < a + n → p i ≡ true → f i ≡ true → list_any f (filter p (range_with_len a n)) ≡ true
 any_there f p zero a i low high e h = absurd (omega (arith, low, high))
 any_there f p (suc n) a i low high e h = elim (cases_lt a i) [
   | inl later ↦ past (p a) (any_there f p n (a + 1) i (omega (arith, later)) (omega (arith, high)) e h)
@@ -86,7 +86,7 @@ any_there f p (suc n) a i low high e h = elim (cases_lt a i) [
     first b e h = rw e (true_or (f a) _ h)
 
 -- tests that agree on them choose the same
-filter_same : (p q : ℕ → Bool) (n a : ℕ) → ((i : ℕ) → a ≤ i → i < a + n → p i ≡ q i) → filter p (range_with_len a n) ≡ filter q (range_with_len a n)
+pub filter_same : (p q : ℕ → Bool) (n a : ℕ) → ((i : ℕ) → a ≤ i → i < a + n → p i ≡ q i) → filter p (range_with_len a n) ≡ filter q (range_with_len a n)
 filter_same p q zero a same = refl
 filter_same p q (suc n) a same =
     let rest : filter p (range_with_len (a + 1) n) ≡ filter q (range_with_len (a + 1) n) = filter_same p q n (a + 1) (λ i low high. same i (omega (arith, low)) (omega (arith, high))) in
@@ -94,13 +94,13 @@ filter_same p q (suc n) a same =
     ∙ ap (λ xs. cond (q a) (a ∷ xs) xs) rest
 
 -- none passes from a on
-filter_none_from : (p : ℕ → Bool) (n a : ℕ) → ((i : ℕ) → a ≤ i → p i ≡ false) → filter p (range_with_len a n) ≡ []
+pub filter_none_from : (p : ℕ → Bool) (n a : ℕ) → ((i : ℕ) → a ≤ i → p i ≡ false) → filter p (range_with_len a n) ≡ []
 filter_none_from p zero a none = refl
 filter_none_from p (suc n) a none =
     ap (λ b. cond b (a ∷ filter p (range_with_len (a + 1) n)) (filter p (range_with_len (a + 1) n))) (none a (omega arith)) ∙ filter_none_from p n (a + 1) (λ i far. none i (omega (arith, far)))
 
 -- a test that none passes from a number on chooses the same as one before it
-filter_front : (p q : ℕ → Bool) (m n : ℕ) → m ≤ n → ((i : ℕ) → i < m → p i ≡ q i) → ((i : ℕ) → m ≤ i → p i ≡ false) → filter p (range_with_len 0 n) ≡ filter q (range_with_len 0 m)
+pub filter_front : (p q : ℕ → Bool) (m n : ℕ) → m ≤ n → ((i : ℕ) → i < m → p i ≡ q i) → ((i : ℕ) → m ≤ i → p i ≡ false) → filter p (range_with_len 0 n) ≡ filter q (range_with_len 0 m)
 filter_front p q m n le same none = by 0 m n le (λ i low high. same i (omega (arith, high))) (λ i far. none i (omega (arith, far)))
   where
     by : (a m n : ℕ) → m ≤ n → ((i : ℕ) → a ≤ i → i < a + m → p i ≡ q i) → ((i : ℕ) → a + m ≤ i → p i ≡ false) → filter p (range_with_len a n) ≡ filter q (range_with_len a m)

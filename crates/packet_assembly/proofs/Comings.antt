@@ -12,7 +12,8 @@ use Rattle.packet_defs.proofs.Fronts.{version-append}
 use Rattle.packet_defs.proofs.Splits.{splits_whole, splits_left}
 use Rattle.space_packets.specs.Intake.{Intake, is_decided, fed}
 use Rattle.space_packets.proofs.Intakes.{no_begin}
-use Rattle.packet_assembly.specs.Tails.{coming, sees_end, stop_of}
+use Rattle.packet_assembly.specs.Comings.{coming, sees_end}
+use Rattle.packet_assembly.specs.Tails.{stop_of}
 use Rattle.packet_assembly.proofs.Verdicts.{AtCap}
 
 -- ---- a read

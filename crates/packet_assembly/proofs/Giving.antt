@@ -22,8 +22,8 @@ tails_differ b octet (Some rest) unheld =
     let f = unheld_tail b rest unheld in
     (ap (λ (t : Tail). t.octets) e ∙ ap (λ (t : Tail). octet ∷ t.octets) (sym f), ap (λ (t : Tail). t.ends) e ∙ sym (ap (λ (t : Tail). t.ends) f))
 
-goes_less : {old new : Outside} {a b : Assembling} (octet : ℕ) → GoesOn old new a (with_octet octet b) → GoesOn old new a b
-goes_less octet g =
+goes_less : {old new : Outside} {a b : Assembling} (octet : ℕ) → b.held ≡ None → GoesOn old new a (with_octet octet b) → GoesOn old new a b
+goes_less octet unheld g =
     let p = g.passes in
     record {
       passed = g.passed;
@@ -37,16 +37,23 @@ goes_less octet g =
         taken = p.taken;
         state = p.state;
         count = p.count;
+        capped = p.capped;
+        comes = p.comes;
+        sees = p.sees;
       };
       still = g.still;
+      begins_none = g.begins_none;
+      began = λ e start h. absurd (let no : None ≡ Some start = sym unheld ∙ h in cc);
+      held_on = λ start h. absurd (let no : None ≡ Some start = sym unheld ∙ (g.held_on start h).1 in cc);
     }
 
 pub gives_octet : {old new : Outside} {a b c : Assembling} (octet : ℕ) → Hears old new a b (Ok true) → b ≡ with_octet octet c → octet < 256 → TakesOctet old new a c (Ok (Some octet))
 gives_octet {old = old} {new = new} {a = a} {b = b} {c = c} octet heard is small =
     let h : Hears old new a (with_octet octet c) (Ok true) = subst (λ b. Hears old new a b (Ok true)) is heard in
     record {
-      goes = goes_less octet h.goes;
+      goes = goes_less octet h.unheld h.goes;
       silent = h.silent;
+      closed = λ e. absurd (let no : Ok (Some octet) ≡ Ok None = e in cc);
       ends = (comes_then (told_tail old a) (told_tail new (with_octet octet c)) (told_tail new c) [] (octet ∷ []) h.comes (tails_differ c octet new.rest h.unheld), small);
     }
 

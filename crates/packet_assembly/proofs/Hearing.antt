@@ -1,5 +1,5 @@
 -- A text that goes on, packet by packet.
-use Rattle.std.proofs.Common.{◌≡◌, ◌<◌, [], ◌∷◌, length, refl, sym, ap, ◌∙◌}
+use Rattle.std.proofs.Common.{◌≡◌, ◌<◌, [], ◌∷◌, length, refl, sym, ap, subst, ◌∙◌}
 use Rattle.std.specs.Prelude.{true, false, is_some, Option, None, Some, Ok, Err}
 use Rattle.std.proofs.lemmas.Bool.{false≢true}
 use Rattle.bit_pipe.specs.declared.fault.InFault.{InFault}
@@ -11,12 +11,12 @@ use Rattle.packet_assembly.specs.declared.note.Passed.{Passed}
 use Rattle.packet_assembly.specs.declared.note.SegmentStart.{SegmentStart}
 use Rattle.packet_assembly.specs.Assembling.{Assembling, Passes, StaysAt, StaysOpen, is_closed, last_index}
 use Rattle.packet_assembly.specs.Notes.{PassesNext}
-use Rattle.packet_assembly.specs.Segments.{GoesOn}
+use Rattle.packet_assembly.specs.Segments.{GoesOn, BeganAt}
 use Rattle.packet_assembly.specs.Passing.{goes_nowhere, goes_both}
 use Rattle.packet_assembly.specs.Tails.{told_tail}
 use Rattle.packet_assembly.specs.Texts.{ComesSo, FailsSo, Hears, Silent}
 use Rattle.packet_assembly.proofs.Unhearing.{Quiet, quiet_nothing, quiet_then, quiet_more}
-use Rattle.packet_assembly.proofs.KeptPackets.{none_first, stays}
+use Rattle.packet_assembly.proofs.KeptPackets.{none_first, some_first, stays}
 use Rattle.packet_assembly.proofs.OneStep.{NoneOn, FailsStep, one_on, end_on, fail_on}
 use Rattle.packet_assembly.proofs.TailSteps.{tail_broken, tail_goes_on, tail_same, tail_ended, tail_long, comes_none, over_told, comes_then}
 
@@ -44,6 +44,7 @@ heard_held p a held = record {
   silent = record { took = []; asks = since_start p _ };
   comes = comes_same p a;
   unheld = tt;
+  closed = λ e. absurd (let no : Err Broken ≡ Ok false = e in cc);
   ends = over_told p a InPieces (λ rest is. rw held refl);
 }
 
@@ -54,12 +55,13 @@ heard_over {new = new} {b = b} x empty closed = record {
   silent = record { took = x.quiet.took; asks = x.quiet.asks };
   comes = x.comes;
   unheld = x.unheld;
+  closed = λ e. closed;
   ends = over_told new b Plainly (λ rest is. rw (x.unheld, empty, closed) refl);
 }
 
 -- octets wait
 pub heard_some : {old new : Outside} {a b : Assembling} → Heard old new a b → 0 < length b.text → Hears old new a b (Ok true)
-heard_some x some = record { goes = x.goes; silent = record { took = x.quiet.took; asks = x.quiet.asks }; comes = x.comes; unheld = x.unheld; ends = some }
+heard_some x some = record { goes = x.goes; silent = record { took = x.quiet.took; asks = x.quiet.asks }; comes = x.comes; unheld = x.unheld; closed = λ e. absurd (let no : Ok true ≡ Ok false = e in cc); ends = some }
 
 open_now : (b : Assembling) → b.held ≡ None → is_closed b.state.last ≡ false → StaysOpen b b.state
 open_now b unheld going = record { unheld = unheld; unclosed = going; same = refl }
@@ -73,7 +75,7 @@ module _ {old mid new : Outside} {a b c : Assembling} {told : Passed} (x : Heard
       let one = one_on {P = StaysOpen b} next (open_now b x.unheld going) in
       let first = none_first b.apid b.state one.packet (sym (ap (λ (t : Passed). t.start) one.told_is) ∙ none) in
       let same : StaysAt b c.state = ap (λ s. last_index s.last) one.state ∙ stays b.apid b.state one.packet first in
-      let goes : GoesOn mid new b c = record { passed = one.packet ∷ []; passes = one.passes; still = λ e. (x.unheld, same) } in
+      let goes : GoesOn mid new b c = record { passed = one.packet ∷ []; passes = one.passes; still = λ e. (x.unheld, same); begins_none = λ e. (first, tt); began = λ e start h. absurd (let no : None ≡ Some start = sym (one.held ∙ x.unheld) ∙ h in cc); held_on = λ start h. absurd (let no : None ≡ Some start = sym x.unheld ∙ h in cc) } in
       record {
         goes = goes_both x.goes goes;
         quiet = quiet_more x.quiet empty going one first;
@@ -97,14 +99,27 @@ module _ {old mid new : Outside} {a b c : Assembling} {told : Passed} (x : Heard
         taken = p.taken;
         state = p.state;
         count = p.count;
+        capped = p.capped;
+        comes = p.comes;
+        sees = p.sees;
       } in
-      let goes : GoesOn mid new b (record c { held = Some start }) = record { passed = one.packet ∷ []; passes = passes; still = λ e. absurd (let no : Some start ≡ None = e in cc) } in
+      let begins = some_first b.apid b.state one.packet start (sym (ap (λ (t : Passed). t.start) one.told_is) ∙ some) in
+      let began : BeganAt b (one.packet ∷ []) start c.text = record { front = []; packet = one.packet; passed_are = refl; none_before = tt; starts = begins.starts; text_is = one.text ∙ begins.text } in
+      let goes : GoesOn mid new b (record c { held = Some start }) = record {
+        passed = one.packet ∷ [];
+        passes = passes;
+        still = λ e. absurd (let no : Some start ≡ None = e in cc);
+        begins_none = λ e. absurd (let no : Some start ≡ None = e in cc);
+        began = λ e s h. let same : start ≡ s = cc in subst (λ (s : SegmentStart). BeganAt b (one.packet ∷ []) s c.text) same began;
+        held_on = λ s h. absurd (let no : None ≡ Some s = sym x.unheld ∙ h in cc);
+      } in
       record {
         goes = goes_both x.goes goes;
         silent = quiet_then x.quiet empty going p.took one.asks;
         comes = comes_then (told_tail old a) (told_tail mid b) (told_tail new (record c { held = Some start })) [] [] x.comes
             (comes_none mid new b (record c { held = Some start }) p.took p.since.rest (λ rest is. tail_broken one rest is x.unheld empty going start some));
         unheld = tt;
+        closed = λ e. absurd (let no : Err Broken ≡ Ok false = e in cc);
         ends = over_told new (record c { held = Some start }) InPieces (λ rest is. refl);
       }
 
@@ -116,7 +131,14 @@ module _ {old mid new : Outside} {a b c : Assembling} (x : Heard old mid a b) (e
 
   goes_none : NoneOn (StaysOpen b) mid new b c → GoesOn old new a c
   goes_none none =
-      let goes : GoesOn mid new b c = record { passed = []; passes = none.passes; still = λ e. (x.unheld, ap (λ s. last_index s.last) none.state) } in
+      let goes : GoesOn mid new b c = record {
+        passed = [];
+        passes = none.passes;
+        still = λ e. (x.unheld, ap (λ s. last_index s.last) none.state);
+        begins_none = λ e. tt;
+        began = λ e start h. absurd (let no : None ≡ Some start = sym (none.held ∙ x.unheld) ∙ h in cc);
+        held_on = λ start h. absurd (let no : None ≡ Some start = sym x.unheld ∙ h in cc);
+      } in
       goes_both x.goes goes
 
   comes_nothing : NoneOn (StaysOpen b) mid new b c → ComesSo old new a c []
@@ -133,6 +155,7 @@ module _ {old mid new : Outside} {a b c : Assembling} (x : Heard old mid a b) (e
         silent = silent_none none;
         comes = comes_nothing none;
         unheld = tt;
+        closed = λ e. absurd (let no : Err Broken ≡ Ok false = e in cc);
         ends = over_told new c InPieces (λ rest is. tail_ended c rest (none.held ∙ x.unheld) none.text (ap (λ s. is_closed s.last) none.state ∙ going) over.ended);
       }
 
@@ -145,4 +168,4 @@ module _ {old mid new : Outside} {a b c : Assembling} (x : Heard old mid a b) (e
   pub heard_failed : (fault : InFault) → PassesNext mid new b c (Err fault) → Hears old new a c (Err fault)
   heard_failed fault next =
       let over = fail_on {P = StaysOpen b} next (open_now b x.unheld going) in
-      record { goes = goes_none over.none; silent = silent_none over.none; comes = comes_nothing over.none; unheld = tt; ends = fails_so fault over.none over.fails }
+      record { goes = goes_none over.none; silent = silent_none over.none; comes = comes_nothing over.none; unheld = tt; closed = λ e. absurd (let no : Err fault ≡ Ok false = e in cc); ends = fails_so fault over.none over.fails }

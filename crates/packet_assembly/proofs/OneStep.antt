@@ -22,7 +22,7 @@ use Rattle.packet_assembly.specs.Assembling.{Assembling, AsksAt, Passes}
 use Rattle.packet_assembly.specs.Notes.{text_brought, passed_for, stands_after, past_next, at_end, PassesNext}
 use Rattle.packet_assembly.specs.Segments.{StandsEnded, StandsLong}
 use Rattle.packet_assembly.proofs.Verdicts.{mine_read, other_read, over_read, long_read, shorter_past}
-use Rattle.packet_assembly.specs.Tails.{coming, sees_end}
+use Rattle.packet_assembly.specs.Comings.{coming, sees_end}
 use Rattle.packet_assembly.proofs.Comings.{coming_on, coming_past, sees_on}
 use Rattle.packet_assembly.proofs.Steps.{passed}
 
@@ -83,6 +83,9 @@ packet_on {P = P} {old = old} {new = new} {a = a} {b = b} {told = told} reads he
     let counts : b.packets ≡ a.packets + 1 = ap (λ (b : Assembling). b.packets) stands in
     let cap : b.intake.cap ≡ a.intake.cap = ap (λ (w : Intake). w.cap) next in
     let taken : b.intake.taken ≡ a.intake.taken + length reads.took = ap (λ (w : Intake). w.taken) next in
+    let next_comes = λ (left : List ℕ) (told : new.rest ≡ Some left). coming_on a.intake reads.took left reads.saw_end reads.within reads.at_once (nothing_left new told reads.end_seen)
+    ∙ coming_past u (told_length u.pending) (text_mine a.apid packet) left ∙ sym (ap (λ w. packet ++ coming w left) next) in
+    let next_sees = λ (left : List ℕ) (told : new.rest ≡ Some left). sees_on a.intake reads.took left reads.saw_end reads.within (nothing_left new told reads.end_seen) reads.end_below ∙ ap (λ w. sees_end w left) (sym next) in
     record {
       packet = packet;
       passes = record {
@@ -95,6 +98,9 @@ packet_on {P = P} {old = old} {new = new} {a = a} {b = b} {told = told} reads he
         taken = taken;
         state = state;
         count = counts;
+        capped = λ _. omega (arith, reads.within, cap, taken);
+        comes = λ left told. next_comes left told ∙ ap (λ zs. zs ++ coming b.intake left) (sym (append-nil packet));
+        sees = next_sees;
       };
       told_is = is;
       state = state;
@@ -103,9 +109,8 @@ packet_on {P = P} {old = old} {new = new} {a = a} {b = b} {told = told} reads he
       asks = since_weaker reads.since (λ i j le r. asks_none a reads.took i j r);
       less = omega (arith, reads.within, cap, taken, ap (λ zs. length zs) rest, shorter_past u whole, length-append a.intake.pending reads.took);
       is_packet = first_is_packet (begins_so u.pending whole);
-      comes = λ left told. coming_on a.intake reads.took left reads.saw_end reads.within reads.at_once (nothing_left new told reads.end_seen)
-          ∙ coming_past u (told_length u.pending) (text_mine a.apid packet) left ∙ sym (ap (λ w. packet ++ coming w left) next);
-      sees = λ left told. sees_on a.intake reads.took left reads.saw_end reads.within (nothing_left new told reads.end_seen) reads.end_below ∙ ap (λ w. sees_end w left) (sym next);
+      comes = next_comes;
+      sees = next_sees;
     }
 
 one_by : {P : FateState → Type 0} {old new : Outside} {a b : Assembling} {told : Passed} (read : Result PacketRead InFault) → (reads : ReadsPacket a.apid old new a.intake b.intake read) → P a.state →
@@ -138,6 +143,8 @@ nothing_on : {P : FateState → Type 0} {old new : Outside} {a b : Assembling} {
 nothing_on {P = P} {new = new} {a = a} {b = b} framing reads here intake stands =
     let state : b.state ≡ a.state = ap (λ (b : Assembling). b.state) stands in
     let counts : b.packets ≡ a.packets = ap (λ (b : Assembling). b.packets) stands in
+    let none_comes = λ (left : List ℕ) (told : new.rest ≡ Some left). coming_on a.intake reads.took left reads.saw_end reads.within reads.at_once (nothing_left new told reads.end_seen) ∙ ap (λ w. coming w left) (sym intake) in
+    let none_sees = λ (left : List ℕ) (told : new.rest ≡ Some left). sees_on a.intake reads.took left reads.saw_end reads.within (nothing_left new told reads.end_seen) reads.end_below ∙ ap (λ w. sees_end w left) (sym intake) in
     record {
       passes = record {
         took = reads.took;
@@ -149,13 +156,16 @@ nothing_on {P = P} {new = new} {a = a} {b = b} framing reads here intake stands 
         taken = ap (λ (w : Intake). w.taken) intake;
         state = state;
         count = counts ∙ sym (add-zero a.packets);
+        capped = λ _. let cap : b.intake.cap ≡ a.intake.cap = ap (λ (w : Intake). w.cap) intake in let taken : b.intake.taken ≡ a.intake.taken + length reads.took = ap (λ (w : Intake). w.taken) intake in omega (arith, reads.within, cap, taken);
+        comes = none_comes;
+        sees = none_sees;
       };
       state = state;
       text = ap (λ (b : Assembling). b.text) stands;
       held = ap (λ (b : Assembling). b.held) stands;
       asks = since_weaker reads.since (λ i j le r. asks_none a reads.took i j r);
-      comes = λ left told. coming_on a.intake reads.took left reads.saw_end reads.within reads.at_once (nothing_left new told reads.end_seen) ∙ ap (λ w. coming w left) (sym intake);
-      sees = λ left told. sees_on a.intake reads.took left reads.saw_end reads.within (nothing_left new told reads.end_seen) reads.end_below ∙ ap (λ w. sees_end w left) (sym intake);
+      comes = none_comes;
+      sees = none_sees;
     }
 
 -- what stands where there is no packet

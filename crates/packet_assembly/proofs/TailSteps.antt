@@ -21,7 +21,8 @@ use Rattle.packet_assembly.specs.Assembling.{Assembling, is_closed, is_first}
 use Rattle.packet_assembly.specs.Notes.{text_brought}
 use Rattle.packet_assembly.specs.Segments.{StandsEnded, StandsLong}
 use Rattle.packet_assembly.specs.Passing.{whole_after, left_after}
-use Rattle.packet_assembly.specs.Tails.{coming, sees_end, stop_of, in_front, nothing, kept_tail, tail_over, tail_after, text_tail, told_tail}
+use Rattle.packet_assembly.specs.Comings.{coming, sees_end}
+use Rattle.packet_assembly.specs.Tails.{stop_of, in_front, nothing, kept_tail, tail_over, tail_after, text_tail, told_tail}
 use Rattle.packet_assembly.proofs.Verdicts.{over_read, long_read}
 use Rattle.packet_assembly.proofs.KeptPackets.{none_first, some_first}
 use Rattle.packet_assembly.proofs.Comings.{StopsSo, bad_stops, ended_stops, long_stops}

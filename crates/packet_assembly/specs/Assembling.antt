@@ -1,5 +1,5 @@
 -- How far an assembly has come. This project's own.
-use Rattle.std.specs.Prelude.{◌≡◌, ℕ, ◌+◌, ◌==◌, Bool, true, false, if◌then◌else◌, List, [], ◌∷◌, ◌++◌, length, take, drop, Option, None, Some, Ok}
+use Rattle.std.specs.Prelude.{◌≡◌, ◌≤◌, ℕ, ◌+◌, ◌==◌, Bool, true, false, if◌then◌else◌, List, [], ◌∷◌, ◌++◌, length, take, drop, Option, None, Some, Ok}
 use Rattle.std.specs.List.{AllByRecursion}
 use Rattle.segment_defs.specs.declared.head.SegmentHead.{SegmentHead}
 use Rattle.segment_defs.specs.Head.{head_length}
@@ -14,6 +14,7 @@ use Rattle.stream_defs.specs.declared.fate.LastPart.{LastPart}
 use Rattle.stream_defs.specs.Fates.{fresh, fate, after, after_all, is_kept}
 use Rattle.space_packets.specs.Intake.{Intake, unread}
 use Rattle.packet_assembly.specs.declared.note.SegmentStart.{SegmentStart}
+use Rattle.packet_assembly.specs.Comings.{coming, sees_end}
 
 -- The APID; the reader; what the packets so far leave for the next one's fate, and how many they are; the octets of the open
 -- segment's text that were read and not given yet; the start of the segment whose first packet ended the text before it, if
@@ -72,7 +73,8 @@ abbrev pub AsksAt : (FateState → Type 0) → Assembling → List ℕ → ℕ �
 AsksAt P a took i j = P (state_with a (take i took)) × (j ≡ 0)
 
 -- Whole packets were passed, one after another, and the octets after them wait. At each read call the octets that were taken so
--- far left a state for which P held.
+-- far left a state for which P held. No more was taken than the cap lets come, and what is still to come is what was before without
+-- these packets.
 pub record Passes (P : FateState → Type 0) (old new : Outside) (a b : Assembling) (passed : List (List ℕ)) : Type 0 where
   pub took : List ℕ
   pub since : Since old new took [] [] (AsksAt P a took)
@@ -83,6 +85,9 @@ pub record Passes (P : FateState → Type 0) (old new : Outside) (a b : Assembli
   pub taken : b.intake.taken ≡ a.intake.taken + length took
   pub state : b.state ≡ after_all a.apid a.state passed
   pub count : b.packets ≡ a.packets + length passed
+  pub capped : a.intake.taken ≤ a.intake.cap → b.intake.taken ≤ b.intake.cap
+  pub comes : (rest : List ℕ) → new.rest ≡ Some rest → coming a.intake (took ++ rest) ≡ joined passed ++ coming b.intake rest
+  pub sees : (rest : List ℕ) → new.rest ≡ Some rest → sees_end a.intake (took ++ rest) ≡ sees_end b.intake rest
 
 -- the segment of the last place is the one before the stretch, or there is none before and after
 abbrev pub StaysAt : Assembling → FateState → Type 0

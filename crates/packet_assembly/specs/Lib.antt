@@ -1,4 +1,5 @@
 pub mod Judging
+pub mod Comings
 pub mod Assembling
 pub mod Notes
 pub mod Ranged

@@ -1,19 +1,22 @@
 -- Stretches in which packets were passed, one after another. These laws stand here since the meaning of a text holds them.
-use Rattle.std.proofs.Common.{◌≡◌, ℕ, List, [], ◌++◌, take, refl, sym, ap, subst, ◌∙◌, arith, append_assoc, add-zero, length-append}
+use Rattle.std.proofs.Common.{◌≡◌, ℕ, List, [], ◌∷◌, ◌++◌, take, refl, sym, ap, subst, ◌∙◌, arith, append_assoc, add-zero, length-append}
 use Rattle.std.specs.List.{AllByRecursion}
 use Rattle.std.proofs.lemmas.List.{append-nil, take-append-le}
 use Rattle.std.proofs.Math.Seq.{take-append-add}
-use Rattle.port_122.specs.Outside.{Outside, Since}
+use Rattle.port_122.specs.Outside.{Outside, Since, Loses}
 use Rattle.port_122.proofs.Stretches.{since_start, since_then, since_weaker, each_of_both}
 use Rattle.packet_defs.specs.Packets.{joined}
 use Rattle.packet_defs.specs.Streams.{IsPacket, Splits, whole_packets, left_over}
 use Rattle.packet_defs.proofs.Joins.{joined-append}
 use Rattle.packet_defs.proofs.Splits.{whole_splits, splits_whole, splits_left}
 use Rattle.stream_defs.specs.declared.fate.FateState.{FateState}
-use Rattle.stream_defs.specs.Fates.{after_all}
+use Rattle.stream_defs.specs.Fates.{after, after_all}
 use Rattle.stream_defs.proofs.ChosenLaws.{after_all-append}
-use Rattle.packet_assembly.specs.Assembling.{Assembling, state_with, AsksAt, Passes}
-use Rattle.packet_assembly.specs.Segments.{GoesOn}
+use Rattle.std.specs.Prelude.{Option, None, Some}
+use Rattle.packet_assembly.specs.declared.note.SegmentStart.{SegmentStart}
+use Rattle.packet_assembly.specs.Assembling.{Assembling, state_with, AsksAt, Passes, BeginsNone, Starts}
+use Rattle.packet_assembly.specs.Comings.{coming, sees_end}
+use Rattle.packet_assembly.specs.Segments.{GoesOn, BeganAt}
 
 -- packets in front of octets
 both_split : (packets : List (List ℕ)) (rest : List ℕ) → AllByRecursion IsPacket packets → Splits (joined packets ++ rest) (packets ++ whole_packets rest) (left_over rest)
@@ -56,7 +59,17 @@ passes_none p a = record {
   taken = sym (add-zero a.intake.taken);
   state = refl;
   count = sym (add-zero a.packets);
+  capped = λ le. le;
+  comes = λ rest told. refl;
+  sees = λ rest told. refl;
 }
+
+-- what was left before octets were taken
+before_loses : (o n : Option (List ℕ)) (took rest : List ℕ) → Loses o n took → n ≡ Some rest → o ≡ Some (took ++ rest)
+before_loses None None took rest loses told = absurd cc
+before_loses (Some before) (Some now) took rest loses told = let same : now ≡ rest = cc in ap Some (loses ∙ ap (λ zs. took ++ zs) same)
+before_loses None (Some now) took rest loses told = absurd loses
+before_loses (Some before) None took rest loses told = absurd loses
 
 pub passes_then : {P Q : FateState → Type 0} {old mid new : Outside} {a b c : Assembling} {xs ys : List (List ℕ)} → ((s : FateState) → Q s → P s) →
     Passes P old mid a b xs → Passes Q mid new b c ys → Passes P old new a c (xs ++ ys)
@@ -76,16 +89,97 @@ passes_then {P = P} {Q = Q} {old = old} {mid = mid} {new = new} {a = a} {b = b} 
       taken = omega (arith, q.taken, p.taken, length-append p.took q.took);
       state = q.state ∙ ap (λ n. after_all n b.state ys) p.apid ∙ ap (λ s. after_all a.apid s ys) p.state ∙ sym (after_all-append a.apid a.state xs ys);
       count = omega (arith, q.count, p.count, length-append xs ys);
+      capped = λ le. q.capped (p.capped le);
+      comes = λ rest told.
+          let there = before_loses mid.rest new.rest q.took rest q.since.rest told in
+          ap (coming a.intake) (append_assoc p.took q.took rest) ∙ p.comes (q.took ++ rest) there ∙ ap (λ zs. joined xs ++ zs) (q.comes rest told)
+          ∙ sym (append_assoc (joined xs) (joined ys) (coming c.intake rest)) ∙ ap (λ zs. zs ++ coming c.intake rest) (sym (joined-append xs ys));
+      sees = λ rest told.
+          let there = before_loses mid.rest new.rest q.took rest q.since.rest told in
+          ap (sees_end a.intake) (append_assoc p.took q.took rest) ∙ p.sees (q.took ++ rest) there ∙ q.sees rest told;
     }
 
 -- ---- within a text
 
-pub goes_nowhere : (p : Outside) (a : Assembling) → GoesOn p p a a
-goes_nowhere p a = record { passed = []; passes = passes_none p a; still = λ e. (e, refl) }
+-- packets that begin no segment, one part after another
+begins_both : (apid : ℕ) (s : FateState) (xs ys : List (List ℕ)) → BeginsNone apid s xs → BeginsNone apid (after_all apid s xs) ys → BeginsNone apid s (xs ++ ys)
+begins_both apid s [] ys p q = q
+begins_both apid s (x ∷ xs) ys p q = (p.0, begins_both apid (after apid s x) xs ys p.1 q)
 
-pub goes_both : {old mid new : Outside} {a b c : Assembling} → GoesOn old mid a b → GoesOn mid new b c → GoesOn old new a c
-goes_both {a = a} {b = b} p q = record {
-  passed = p.passed ++ q.passed;
-  passes = passes_then (λ s open_there. let x = p.still open_there.unheld in record { unheld = x.0; unclosed = open_there.unclosed; same = open_there.same ∙ x.1 }) p.passes q.passes;
-  still = λ e. let y = q.still e in let x = p.still y.0 in (x.0, y.1 ∙ x.1);
+pub goes_nowhere : (p : Outside) (a : Assembling) → GoesOn p p a a
+goes_nowhere p a = record {
+  passed = [];
+  passes = passes_none p a;
+  still = λ e. (e, refl);
+  begins_none = λ e. tt;
+  began = λ e start h. absurd (let no : None ≡ Some start = sym e ∙ h in cc);
+  held_on = λ start h. (refl, h, refl);
 }
+
+module _ {old mid new : Outside} {a b c : Assembling} (p : GoesOn old mid a b) (q : GoesOn mid new b c) where
+  -- the packets of both stretches, from the start of the first
+  none_both : c.held ≡ None → BeginsNone a.apid a.state (p.passed ++ q.passed)
+  none_both e =
+      let unheld = (q.still e).0 in
+      let later : BeginsNone a.apid (after_all a.apid a.state p.passed) q.passed =
+      subst (λ s. BeginsNone a.apid s q.passed) p.passes.state (subst (λ n. BeginsNone n b.state q.passed) p.passes.apid (q.begins_none e)) in
+      begins_both a.apid a.state p.passed q.passed (p.begins_none unheld) later
+
+  -- a segment that was begun in the second stretch
+  began_later : (start : SegmentStart) → b.held ≡ None → BeganAt b q.passed start c.text → BeganAt a (p.passed ++ q.passed) start c.text
+  began_later start unheld x =
+      let state : b.state ≡ after_all a.apid a.state p.passed = p.passes.state in
+      let none : BeginsNone a.apid (after_all a.apid a.state p.passed) x.front =
+      subst (λ s. BeginsNone a.apid s x.front) state (subst (λ n. BeginsNone n b.state x.front) p.passes.apid x.none_before) in
+      let there : after_all b.apid b.state x.front ≡ after_all a.apid a.state (p.passed ++ x.front) =
+      ap (λ n. after_all n b.state x.front) p.passes.apid ∙ ap (λ s. after_all a.apid s x.front) state ∙ sym (after_all-append a.apid a.state p.passed x.front) in
+      let starts : Starts a.apid (after_all a.apid a.state (p.passed ++ x.front)) x.packet start =
+      subst (λ s. Starts a.apid s x.packet start) there (subst (λ n. Starts n (after_all b.apid b.state x.front) x.packet start) p.passes.apid x.starts) in
+      record {
+        front = p.passed ++ x.front;
+        packet = x.packet;
+        passed_are = ap (λ zs. p.passed ++ zs) x.passed_are ∙ sym (append_assoc p.passed x.front (x.packet ∷ []));
+        none_before = begins_both a.apid a.state p.passed x.front (p.begins_none unheld) none;
+        starts = starts;
+        text_is = x.text_is;
+      }
+
+  -- a segment that was begun in the first one
+  began_before : (start : SegmentStart) → b.held ≡ Some start → BeganAt a p.passed start b.text → BeganAt a (p.passed ++ q.passed) start c.text
+  began_before start held x =
+      let on = q.held_on start held in
+      record {
+        front = x.front;
+        packet = x.packet;
+        passed_are = ap (λ zs. p.passed ++ zs) on.0 ∙ append-nil p.passed ∙ x.passed_are;
+        none_before = x.none_before;
+        starts = x.starts;
+        text_is = on.2 ∙ x.text_is;
+      }
+
+  began_both : a.held ≡ None → (start : SegmentStart) → c.held ≡ Some start → BeganAt a (p.passed ++ q.passed) start c.text
+  began_both unheld start held = by b.held refl
+    where
+      by : (o : Option SegmentStart) → b.held ≡ o → BeganAt a (p.passed ++ q.passed) start c.text
+      by None e = began_later start e (q.began e start held)
+      by (Some before) e =
+          let on = q.held_on before e in
+          let same : Some before ≡ Some start = sym on.1 ∙ held in
+          let here : b.held ≡ Some start = e ∙ same in
+          began_before start here (p.began unheld start here)
+
+  held_both : (start : SegmentStart) → a.held ≡ Some start → (p.passed ++ q.passed ≡ []) × (c.held ≡ Some start) × (c.text ≡ a.text)
+  held_both start held =
+      let x = p.held_on start held in
+      let y = q.held_on start x.1 in
+      (ap (λ zs. zs ++ q.passed) x.0 ∙ y.0, y.1, y.2 ∙ x.2)
+
+  pub goes_both : GoesOn old new a c
+  goes_both = record {
+    passed = p.passed ++ q.passed;
+    passes = passes_then (λ s open_there. let x = p.still open_there.unheld in record { unheld = x.0; unclosed = open_there.unclosed; same = open_there.same ∙ x.1 }) p.passes q.passes;
+    still = λ e. let y = q.still e in let x = p.still y.0 in (x.0, y.1 ∙ x.1);
+    begins_none = none_both;
+    began = began_both;
+    held_on = held_both;
+  }

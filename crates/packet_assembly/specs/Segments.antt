@@ -60,9 +60,22 @@ pub record FindsSegment (old new : Outside) (a b : Assembling) (result : Result 
 
 -- ---- a segment's text
 
+-- the last of the packets that were passed begins a segment, and no other does; the octets that wait are of its text
+pub record BeganAt (a : Assembling) (passed : List (List ℕ)) (start : SegmentStart) (text : List ℕ) : Type 0 where
+  pub front : List (List ℕ)
+  pub packet : List ℕ
+  pub passed_are : passed ≡ front ++ packet ∷ []
+  pub none_before : BeginsNone a.apid a.state front
+  pub starts : Starts a.apid (after_all a.apid a.state front) packet start
+  pub text_is : text ≡ text_after packet start.head
+
 -- Some calls went on within a text: packets were passed, and at each read call the octets that were taken so far left the text
--- of the same segment open. Where no other segment was begun, that segment is still the last one's.
+-- of the same segment open. Where no other segment was begun, that segment is still the last one's; else the last packet that was
+-- passed begins the other one, and no call goes further.
 pub record GoesOn (old new : Outside) (a b : Assembling) : Type 0 where
   pub passed : List (List ℕ)
   pub passes : Passes (StaysOpen a) old new a b passed
   pub still : b.held ≡ None → (a.held ≡ None) × StaysAt a b.state
+  pub begins_none : b.held ≡ None → BeginsNone a.apid a.state passed
+  pub began : a.held ≡ None → (start : SegmentStart) → b.held ≡ Some start → BeganAt a passed start b.text
+  pub held_on : (start : SegmentStart) → a.held ≡ Some start → (passed ≡ []) × (b.held ≡ Some start) × (b.text ≡ a.text)

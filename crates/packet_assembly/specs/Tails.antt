@@ -8,15 +8,8 @@ use Rattle.packet_defs.specs.Streams.{has_bad_version, whole_packets, left_over}
 use Rattle.stream_defs.specs.declared.fate.FateState.{FateState}
 use Rattle.stream_defs.specs.Fates.{fate, after, is_kept, closes}
 use Rattle.space_packets.specs.Intake.{Intake}
+use Rattle.packet_assembly.specs.Comings.{coming, sees_end}
 use Rattle.packet_assembly.specs.Assembling.{Assembling, is_closed}
-
--- the octets that a reader has at hand or can still take, where these are left
-abbrev pub coming : Intake → List ℕ → List ℕ
-coming v rest = v.pending ++ (if v.ended then [] else take (v.cap - v.taken) rest)
-
--- the end is seen before the cap
-abbrev pub sees_end : Intake → List ℕ → Bool
-sees_end v rest = v.ended || nat_lt (length rest) (v.cap - v.taken)
 
 -- how a text that isn't closed ends with the stream: in pieces at the end and at what can't be read on, else at the cap
 abbrev pub stop_of : Intake → List ℕ → End

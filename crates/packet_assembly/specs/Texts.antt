@@ -54,10 +54,11 @@ pub record Silent (old new : Outside) (a : Assembling) : Type 0 where
 
 -- ---- the calls
 
--- the text's next octet, or its end, or why there is none
+-- The text's next octet, or its end, or why there is none. At the end the packets that were passed have closed the text.
 pub record TakesOctet (old new : Outside) (a b : Assembling) (result : Result (Option ℕ) InFault) : Type 0 where
   pub goes : GoesOn old new a b
   pub silent : Silent old new a
+  pub closed : result ≡ Ok None → (b.held ≡ None) × (is_closed b.state.last ≡ true)
   pub ends : EndsTaken old new a b result
 
 abbrev pub EndsHearing : (old new : Outside) (a b : Assembling) → Result Bool InFault → Type 0
@@ -71,4 +72,5 @@ pub record Hears (old new : Outside) (a b : Assembling) (result : Result Bool In
   pub silent : Silent old new a
   pub comes : ComesSo old new a b []
   pub unheld : IfOk result (λ _. b.held ≡ None)
+  pub closed : result ≡ Ok false → is_closed b.state.last ≡ true
   pub ends : EndsHearing old new a b result

@@ -3,5 +3,5 @@ mod HeadTests
 pub mod WrittenFields
 mod WrittenParts
 pub mod WrittenHeads
-mod ReadHeads
+pub mod ReadHeads
 pub mod PuttingFields

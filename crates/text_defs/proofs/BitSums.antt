@@ -17,7 +17,7 @@ pub sum_span : (f : ℕ → ℕ) (w : ℕ) → sum_by f (span 0 (suc w)) ≡ sum
 unfolding span
 sum_span f w = sum_more f (span 0 w) (0 + w) ∙ (let z : 0 + w ≡ w = omega arith in ap (λ k. sum_by f (span 0 w) + f k) z)
 
-sum_none : (f : ℕ → ℕ) → sum_by f (span 0 0) ≡ 0
+pub sum_none : (f : ℕ → ℕ) → sum_by f (span 0 0) ≡ 0
 unfolding span
 sum_none f = refl
 

@@ -35,3 +35,4 @@ pub mod StepSpot
 pub mod PlaneSpot
 pub mod PlanesFurther
 pub mod Further
+pub mod GivenParts

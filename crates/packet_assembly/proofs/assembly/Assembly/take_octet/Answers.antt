@@ -1,4 +1,4 @@
-use Rattle.std.proofs.Common.{◌≡◌, ◌<◌, ◌+◌, ◌∷◌, length, drop, get_or, sym, ap, subst, ◌∙◌, rules}
+use Rattle.std.proofs.Common.{◌≡◌, ◌<◌, ◌+◌, ◌∷◌, length, drop, get_or, refl, sym, ap, subst, ◌∙◌, rules}
 use Rattle.packet_assembly.specs.Assembling.{Assembling}
 use Rattle.packet_assembly.proofs.Giving.{gives_octet, waits_first}
 use Rattle.packet_assembly.proofs.assembly.Assembly.take_octet.Goals as goal
@@ -18,4 +18,9 @@ returns g c =
 pub returns-in-Ok-false : goal.returns-in-Ok-false
 returns-in-Ok-false g c =
     let heard = rw c.in-Ok-false.field-0-test at c.in-Ok-false.ensures in
-    record { goes = heard.goes; silent = heard.silent; ends = (heard.comes, heard.ends) }
+    record { goes = heard.goes; silent = heard.silent; closed = λ e. (heard.unheld, heard.closed refl); ends = (heard.comes, heard.ends) }
+
+pub returns-in-Err : goal.returns-in-Err
+returns-in-Err g c =
+    let heard = c.in-Err.ensures in
+    record { goes = heard.goes; silent = heard.silent; closed = λ e. absurd cc; ends = (heard.comes, heard.ends) }
