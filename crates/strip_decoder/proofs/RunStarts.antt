@@ -1,0 +1,174 @@
+-- A run begins.
+use Rattle.std.proofs.Common.{◌≡◌, ◌≤◌, ◌<◌, ◌+◌, ◌*◌, ℕ, zero, suc, ℤ, List, [], ◌∷◌, ◌++◌, length, take, refl, sym, ap, subst, ◌∙◌, inl, inr, arith, append_assoc}
+use Rattle.std.specs.Prelude.{Bool, true, false, min, filter, Option, None, Some, Result, Ok, Err, MatchOption}
+use Rattle.std.specs.List.{range_with_len}
+use Rattle.std.proofs.lemmas.Bool.{false≢true}
+use Rattle.std.proofs.lemmas.List.{append-nil}
+use Rattle.port_122.specs.Outside.{Outside, Since}
+use Rattle.port_122.proofs.Stretches.{since_weaker}
+use Rattle.base_122.specs.Sizes.{first_block}
+use Rattle.base_122.specs.declared.geometry.Geometry.{Geometry}
+use Rattle.raster_rows.specs.Pixels.{raster_octets}
+use Rattle.packet_defs.specs.Streams.{whole_packets}
+use Rattle.stream_defs.specs.declared.fate.FateState.{FateState}
+use Rattle.stream_defs.specs.declared.fate.LastPart.{LastPart}
+use Rattle.stream_defs.specs.Fates.{fresh, after, after_all, kept, state_after, geometry_in, part_in}
+use Rattle.stream_defs.specs.Received.{IsReceived}
+use Rattle.stream_defs.specs.Marks.{Marks, most_block_rows}
+use Rattle.stream_defs.specs.Picture.{picture_with}
+use Rattle.stream_defs.proofs.KeptOrder.{does, HasReached, reached_on}
+use Rattle.damage_rows.proofs.TableLaws.{filter_none_from}
+use Rattle.packet_assembly.specs.declared.note.SegmentStart.{SegmentStart}
+use Rattle.packet_assembly.specs.Assembling.{Assembling, Passes, StaysAt, Starts, BeginsNone, last_index, state_with, unread_assembly}
+use Rattle.packet_assembly.specs.Segments.{WasFound, FoundNone, FindsSegment}
+use Rattle.packet_assembly.specs.Passing.{whole_after}
+use Rattle.strip_decoder.specs.Fronts.{front}
+use Rattle.strip_decoder.specs.Pictures.{Shown, IsFresh, passed_in}
+use Rattle.strip_decoder.specs.Steps.{is_marked, IsListed}
+use Rattle.strip_decoder.specs.Runs.{Run, HasRead, holds_after, Numbers, IsPrompt, AsksPrompt, IsFrontFor, is_lost, Shows, HasComeTo, IsBegun, ComesTo, HasBroken, future}
+use Rattle.strip_decoder.proofs.Between.{index_stays}
+use Rattle.strip_decoder.proofs.Receiving.{none_received, between_none}
+use Rattle.strip_decoder.proofs.Asking.{state_then}
+use Rattle.strip_decoder.proofs.RunFinds.{end_on}
+
+-- ---- before the first segment
+
+-- no packet was kept
+pub none_kept : (apid : ℕ) (packets : List (List ℕ)) → last_index (after_all apid fresh packets).last ≡ None → (after_all apid fresh packets).geometry ≡ None
+none_kept apid [] none = refl
+none_kept apid (x ∷ xs) none = elim (does apid fresh x) [
+  | inl lost ↦ ap (λ s. (after_all apid s xs).geometry) lost.same ∙ none_kept apid xs (sym (ap (λ s. last_index (after_all apid s xs).last) lost.same) ∙ none)
+  | inr here ↦ elim here [
+    | inl b ↦
+        let r = reached_on 0 apid (after apid fresh x) xs record { last = part_in x; last_is = b.last; least = omega arith } in
+        absurd (let both : None ≡ Some r.last.index = sym none ∙ ap last_index r.last_is in cc)
+    | inr next ↦ absurd (let both : None ≡ Some next.before = next.before_is in cc)
+  ]
+]
+
+-- an assembly that has read some of a stream's octets
+pub first_read : {P : FateState → Type 0} (w : Run) (new : Outside) (a b : Assembling) (went : List (List ℕ)) → a ≡ unread_assembly w.apid w.cap → (q : Passes P w.start new a b went) → HasRead w b q.took went
+first_read w new a b went unread q =
+    let none : a.intake.taken ≡ 0 = ap (λ (a : Assembling). a.intake.taken) unread in
+    record {
+      apid = q.apid ∙ ap (λ (a : Assembling). a.apid) unread;
+      taken = omega (arith, q.taken, none);
+      cap = q.cap ∙ ap (λ (a : Assembling). a.intake.cap) unread;
+      capped = q.capped (omega (arith, none));
+      octets_are = sym (ap (λ (a : Assembling). a.intake.pending ++ q.took) unread) ∙ q.octets_are;
+      packets_are = q.packets_are;
+      state = q.state ∙ ap (λ (a : Assembling). after_all a.apid a.state went) unread;
+    }
+
+-- at each read call nothing is given, and there is no geometry
+pub first_asks : (w : Run) (new : Outside) (a b : Assembling) (went : List (List ℕ)) → a ≡ unread_assembly w.apid w.cap → (q : Passes (StaysAt a) w.start new a b went) → Since w.start new q.took [] [] (AsksPrompt w.apid w.start q.took [])
+first_asks w new a b went unread q =
+    since_weaker q.since (λ i j le asks. (
+      omega (arith, asks.1),
+      λ all told.
+          let last : last_index (state_with a (take i q.took)).last ≡ None = asks.0 ∙ ap (λ (a : Assembling). last_index a.state.last) unread in
+          let state : state_with a (take i q.took) ≡ state_after w.apid (take i q.took) = ap (λ (a : Assembling). state_with a (take i q.took)) unread in
+          let none = none_kept w.apid (whole_packets (take i q.took)) (sym (ap (λ (s : FateState). last_index s.last) state) ∙ last) in
+          record {
+            none = λ e. nothing j;
+            some = λ g received there are. absurd (let both : None ≡ Some g = sym none ∙ there in cc);
+          },
+    ))
+  where
+    nothing : (j : ℕ) → take j (let xs : List ℕ = [] in xs) ≡ []
+    nothing zero = refl
+    nothing (suc j) = refl
+
+-- a fault came before the first segment
+unfoldable pub first_broken : (w : Run) (new : Outside) (a b : Assembling) → a ≡ unread_assembly w.apid w.cap → FoundNone w.start new a b → HasBroken w new
+first_broken w new a b unread found = record {
+  took = found.passes.took;
+  gave = [];
+  since = first_asks w new a b found.passed unread found.passes;
+  front = λ all told. record { none = λ e. refl; some = λ g received there are. (0, refl) };
+}
+
+-- where the end was seen, nothing is left
+pub first_end : {P : FateState → Type 0} (w : Run) (new : Outside) (a b : Assembling) (went : List (List ℕ)) → a ≡ unread_assembly w.apid w.cap → Passes P w.start new a b went → (rest : List ℕ) → new.rest ≡ Some rest → b.intake.ended ≡ true → rest ≡ []
+first_end w new a b went unread q =
+    end_on w.start new a b went q (λ rest told ended. absurd (let both : false ≡ true = sym (ap (λ (a : Assembling). a.intake.ended) unread) ∙ ended in false≢true both))
+
+-- ---- the first segment
+
+pub record HasFound (w : Run) (new : Outside) (b : Assembling) (start : SegmentStart) : Type 0 where
+  pub took : List ℕ
+  pub went : List (List ℕ)
+  pub since : Since w.start new took [] [] (AsksPrompt w.apid w.start took [])
+  pub read : HasRead w b took went
+  pub begun : IsBegun w.apid went b.text start 0
+  pub at_end : (rest : List ℕ) → new.rest ≡ Some rest → b.intake.ended ≡ true → rest ≡ []
+
+first_found : (w : Run) (new : Outside) (a b : Assembling) (start : SegmentStart) → a ≡ unread_assembly w.apid w.cap → WasFound w.start new a b start → HasFound w new b start
+first_found w new a b start unread found = record {
+  took = found.passed.took;
+  went = found.front ++ found.packet ∷ [];
+  since = first_asks w new a b (found.front ++ found.packet ∷ []) unread found.passed;
+  read = first_read w new a b (found.front ++ found.packet ∷ []) unread found.passed;
+  at_end = first_end w new a b (found.front ++ found.packet ∷ []) unread found.passed;
+  begun = record {
+    before = found.front;
+    packet = found.packet;
+    passed_are = refl;
+    starts = subst (λ (a : Assembling). Starts a.apid (after_all a.apid a.state found.front) found.packet start) unread found.starts;
+    text_is = found.text;
+    below = λ l is. absurd (
+        let none : last_index (after_all w.apid fresh found.front).last ≡ None = index_stays w.apid fresh found.front (subst (λ (a : Assembling). BeginsNone a.apid a.state found.front) unread found.none_before) in
+        let both : None ≡ Some l.index = sym none ∙ ap last_index is in cc);
+    later = omega arith;
+  };
+}
+
+pub found_one : (w : Run) (new : Outside) (a b : Assembling) (start : SegmentStart) → a ≡ unread_assembly w.apid w.cap → FindsSegment w.start new a b (Ok (Some start)) → HasFound w new b start
+found_one w new a b start unread finds = elim finds.ends [
+  | inl held ↦ absurd (let both : None ≡ Some start = sym (ap (λ (a : Assembling). a.held) unread) ∙ held.held in cc)
+  | inr found ↦ first_found w new a b start unread found
+]
+
+-- a picture of which nothing was taken shows nothing
+shows_nothing : (g : Geometry) (p : Shown) → IsFresh g p → Shows p (λ index. None) []
+unfolding front
+shows_nothing g p fresh_picture =
+    let none : passed_in p ≡ 0 = rw (fresh_picture.row, fresh_picture.column) (omega arith) in
+    let missing : p.damage.missing ≡ [] = ap (λ (m : Marks). m.missing) fresh_picture.damage in
+    record {
+      stands = λ numbers of. fresh_picture.stands numbers;
+      given = λ numbers of. let zero_rows : min p.at.next p.geometry.rows ≡ 0 = omega (arith, fresh_picture.next) in sym (ap (λ n. raster_octets p.geometry.depth n p.geometry.width (picture_with p.geometry numbers)) zero_rows);
+      marked = λ row low. ap (λ xs. is_marked xs row) missing ∙ sym (ap (λ n. is_lost p.geometry (λ index. None) n row) none);
+      listed = missing ∙ sym (ap (λ xs. filter (is_marked xs) (range_with_len 0 most_block_rows)) missing ∙ filter_none_from (is_marked []) most_block_rows 0 (λ i far. refl));
+    }
+
+pub first_comes : (w : Run) (new : Outside) (b : Assembling) (p : Shown) (start : SegmentStart) (g : Geometry) → HasFound w new b start → IsFresh g p → ComesTo w new b p start
+first_comes w new b p start g found fresh_picture =
+    let none : passed_in p ≡ 0 = rw (fresh_picture.row, fresh_picture.column) (omega arith) in
+    record {
+      come = record {
+        took = found.took;
+        gave = [];
+        passed = found.went;
+        sofar = λ index. None;
+        since = found.since;
+        read = found.read;
+        knows = λ rest told. record {
+          at = λ next more are index lt v x. none_received (kept w.apid fresh (found.went ++ next)) index v (between_none w.apid found.went b.text start 0 index next found.begun (omega arith) lt) x;
+        };
+        above = λ index le. refl;
+        shows = shows_nothing g p fresh_picture;
+        few = omega (arith, none);
+        at_end = found.at_end;
+      };
+      begun = record {
+        before = found.begun.before;
+        packet = found.begun.packet;
+        passed_are = found.begun.passed_are;
+        starts = found.begun.starts;
+        text_is = found.begun.text_is;
+        below = λ l is. absurd (omega (arith, found.begun.below l is));
+        later = omega arith;
+      };
+      lost = λ block low high. refl;
+    }

@@ -1,0 +1,121 @@
+-- What the steps from segment to segment leave. This project's own.
+use Rattle.std.specs.Prelude.{◌≡◌, ◌≤◌, ◌<◌, ◌+◌, ◌-◌, ◌*◌, ℕ, ℤ, List, [], take, min, Bool, true, false, Option, None, Some, Result, Ok, Err}
+use Rattle.port_122.specs.Outside.{Outside, Rose, NoFewerFaults}
+use Rattle.base_122.specs.Sizes.{first_block}
+use Rattle.base_122.specs.declared.geometry.Geometry.{Geometry}
+use Rattle.wave_defs.specs.Held.{blocks_in}
+use Rattle.bit_pipe.specs.declared.fault.InFault.TheVariants as in_faults
+use Rattle.bit_pipe.specs.Sources.{End, Plainly}
+use Rattle.segment_defs.specs.declared.head.SegmentHead.{SegmentHead}
+use Rattle.segment_defs.specs.Head.{IsHead}
+use Rattle.text_defs.specs.Outcomes.{Holds}
+use Rattle.packet_assembly.specs.declared.note.SegmentStart.{SegmentStart}
+use Rattle.packet_assembly.specs.Assembling.{Assembling, last_index, is_closed}
+use Rattle.packet_assembly.specs.Segments as assembling
+use Rattle.packet_assembly.specs.Tails.{text_tail}
+use Rattle.stream_defs.specs.Agreement.{blocks_of}
+use Rattle.strip_decoder.specs.declared.decode.DecodeFault.{DecodeFault}
+use Rattle.strip_decoder.specs.declared.decode.DecodeFault.TheVariants.{ReadFault, WriteFault, NoSegment, TooManyPixels, LongInput, Memory}
+use Rattle.strip_decoder.specs.Pictures.{Shown, IsStanding, passed_in}
+use Rattle.strip_decoder.specs.Steps.{PassesBlocks, Unmarked, MarksRows, AreHeld, AreLost}
+
+-- ---- where a segment is
+
+-- what is told of a segment is so in an image of this geometry
+pub record FitsImage (g : Geometry) (start : SegmentStart) : Type 0 where
+  pub first : start.ancillary.first ≡ first_block g.segment start.ancillary.index
+  pub within : start.ancillary.first < blocks_of g
+  pub blocks : start.head.blocks ≡ min g.segment (blocks_of g - start.ancillary.first)
+  pub head : IsHead start.head
+  pub weights : start.head.image.weights.shifts ≡ g.weights.shifts
+
+-- and the picture hasn't come past its first block
+pub record FitsNext (p : Shown) (start : SegmentStart) : Type 0 where
+  pub fits : FitsImage p.geometry start
+  pub reached : passed_in p ≤ start.ancillary.first
+
+-- an assembly answered this segment last
+pub record IsAt (a : Assembling) (p : Shown) (start : SegmentStart) : Type 0 where
+  pub geometry : a.state.geometry ≡ Some p.geometry
+  pub unheld : a.held ≡ None
+  pub last : last_index a.state.last ≡ Some start.ancillary.index
+  pub next : FitsNext p start
+
+-- The last place is in a segment that the picture has passed; or the segment that comes next was begun.
+pub record IsBetween (a : Assembling) (p : Shown) : Type 0 where
+  pub geometry : a.state.geometry ≡ Some p.geometry
+  pub unheld : a.held ≡ None → (index : ℕ) × (last_index a.state.last ≡ Some index) × (passed_in p ≤ first_block p.geometry.segment (index + 1))
+  pub held : (start : SegmentStart) → a.held ≡ Some start → (last_index a.state.last ≡ Some start.ancillary.index) × FitsNext p start
+
+-- ---- the calls
+
+-- the next segment was found, or there is none, as the assembly has it
+abbrev pub FindsNext : (old new : Outside) (a b : Assembling) → Result (Option SegmentStart) DecodeFault → Type 0
+FindsNext old new a b (Ok found) = assembling.FindsSegment old new a b (Ok found)
+FindsNext old new a b (Err LongInput) = assembling.FindsSegment old new a b (Err in_faults.LongInput)
+FindsNext old new a b (Err ReadFault) = assembling.FindsSegment old new a b (Err in_faults.ReadFault)
+FindsNext old new a b (Err other) = ⊥
+
+-- A text was asked for its end, where the port tells what is left: it is over, and its closing part was passed; or it has more
+-- octets, or ends otherwise.
+pub record HasEnded (old new : Outside) (a b : Assembling) : Type 0 where
+  pub goes : assembling.GoesOn old new a b
+  pub unheld : b.held ≡ None
+  pub closed : is_closed b.state.last ≡ true
+
+pub record HasNotEnded (old new : Outside) (a b : Assembling) : Type 0 where
+  pub goes : assembling.GoesOn old new a b
+  pub told : (rest : List ℕ) → old.rest ≡ Some rest → (text_tail a rest).octets ≡ [] → (text_tail a rest).ends ≡ Plainly → ⊥
+
+pub record HasFailed (old new : Outside) (a b : Assembling) : Type 0 where
+  pub goes : assembling.GoesOn old new a b
+  pub rose : Rose old.read_faults new.read_faults
+
+abbrev pub EndsText : (old new : Outside) (a b : Assembling) → Result Bool DecodeFault → Type 0
+EndsText old new a b (Ok true) = HasEnded old new a b
+EndsText old new a b (Ok false) = HasNotEnded old new a b
+EndsText old new a b (Err ReadFault) = HasFailed old new a b
+EndsText old new a b (Err other) = ⊥
+
+-- the numbers of a segment with this head, which stand first
+abbrev pub cells_of : SegmentHead → List ℤ → List ℤ
+cells_of head cells = take (64 * head.blocks) cells
+
+-- A segment's text was read whole, and holds these blocks; its closing part was passed.
+pub record Accepts (old new : Outside) (a b : Assembling) (head : SegmentHead) (cells : List ℤ) : Type 0 where
+  pub goes : assembling.GoesOn old new a b
+  pub unheld : b.held ≡ None
+  pub closed : is_closed b.state.last ≡ true
+  pub some : List ℕ
+  pub holds : Holds head some (blocks_in (cells_of head cells))
+  pub told : (rest : List ℕ) → old.rest ≡ Some rest → ((text_tail a rest).ends ≡ Plainly) × Holds head (text_tail a rest).octets (blocks_in (cells_of head cells))
+
+-- It breaks off, or it holds nothing.
+pub record Refuses (old new : Outside) (a b : Assembling) (head : SegmentHead) : Type 0 where
+  pub goes : assembling.GoesOn old new a b
+  pub told : (rest : List ℕ) → old.rest ≡ Some rest → (text_tail a rest).ends ≡ Plainly → (w : List (List ℤ)) → Holds head (text_tail a rest).octets w → ⊥
+
+abbrev pub ReadsText : (old new : Outside) (a b : Assembling) (head : SegmentHead) (cells : List ℤ) → Result Bool DecodeFault → Type 0
+ReadsText old new a b head cells (Ok true) = Accepts old new a b head cells
+ReadsText old new a b head cells (Ok false) = Refuses old new a b head
+ReadsText old new a b head cells (Err ReadFault) = HasFailed old new a b
+ReadsText old new a b head cells (Err other) = ⊥
+
+-- the n blocks of a segment were passed: put where it was accepted, else lost
+abbrev pub PassesSegment : {T E : Type 0} → Result T E → Bool → (n : ℕ) (p q : Outside) (old new : Shown) → Type 0
+PassesSegment result true n p q old new = PassesBlocks result Unmarked (AreHeld 0 n old) n p q old new
+PassesSegment result false n p q old new = PassesBlocks result (MarksRows old n) (AreLost n old) n p q old new
+
+-- a segment was taken
+pub record HasTaken (p q : Outside) (a b : Assembling) (old new : Shown) : Type 0 where
+  pub standing : IsStanding new
+  pub geometry : new.geometry ≡ old.geometry
+  pub between : IsBetween b new
+  pub more : passed_in old < passed_in new
+  pub faults : NoFewerFaults p q
+
+abbrev pub TakesSegment : (p q : Outside) (a b : Assembling) (old new : Shown) → Result (Unit {0}) DecodeFault → Type 0
+TakesSegment p q a b old new (Ok done) = HasTaken p q a b old new
+TakesSegment p q a b old new (Err ReadFault) = Rose p.read_faults q.read_faults
+TakesSegment p q a b old new (Err WriteFault) = Rose p.write_faults q.write_faults
+TakesSegment p q a b old new (Err other) = ⊥
