@@ -4,7 +4,13 @@
 #[cfg(test)]
 mod bits;
 #[cfg(test)]
+mod cuts;
+#[cfg(test)]
 mod dc_and_depths;
+#[cfg(test)]
+mod flipped_bits;
+#[cfg(test)]
+mod gaggles_read;
 #[cfg(test)]
 mod heads;
 #[cfg(test)]
@@ -13,6 +19,8 @@ mod numbers;
 mod numbers_read;
 #[cfg(test)]
 mod planes;
+#[cfg(test)]
+mod planes_read;
 #[cfg(test)]
 mod segment_planes;
 #[cfg(test)]

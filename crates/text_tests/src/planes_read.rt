@@ -1,0 +1,134 @@
+// Planes of one block from bits.
+ghost use Rattle.std.specs.Prelude.{◌≡◌, ◌<◌, ◌≤◌, [], ◌∷◌, length};
+ghost use Rattle.plane_defs.specs.Marks.{depths_of};
+ghost use Rattle.plane_reader.specs.Taken.{AwaitPlane};
+
+use base_122::Weights;
+use bit_pipe::{BitIn, Part, SliceIn, TextFault};
+use plane_coder::PlanePlan;
+use plane_reader::take_plane;
+use std::process::Abort;
+use word_codes::profile_book;
+
+// The plane of one block with this mark; the octets begin with so many bits of no meaning.
+#[tactic(auto, using(bit_pipe::proofs::Taking::in_after_item))]
+fn take(
+    octets: &[u8],
+    lead: u8,
+    block: &mut [i32],
+    mark: i32,
+    plan: &PlanePlan,
+) -> Result<Part, TextFault>
+    requires lead { lead < 8 }
+    requires whole { length block.old ≡ 64 }
+    requires plane { plan.now.plane ≤ 26 }
+    requires last { plan.now.last ≤ 4 }
+    requires awaits { AwaitPlane plan.now.weights.shifts plan.now.plane plan.now.q (depths_of (mark ∷ [])) block.old }
+{
+    let mut source = SliceIn::new(octets);
+    let mut input = BitIn::new(&mut source, 0, 0);
+    input.take_bits(lead)?;
+    take_plane(&mut input, block, &mut [mark], plan, &profile_book())
+}
+
+// As many of these bits, right-aligned, and how many bits stand before them in the first octet.
+pub(crate) fn aligned(bits: u64, count: usize) -> ([u8; 8], usize, u8)
+    requires { count ≤ 64 }
+    ensures first { result.1 ≤ 8 }
+    ensures lead { result.2 < 8 }
+{
+    let octets = count.div_ceil(8);
+    (bits.to_be_bytes(), 8 - octets, (8 * octets - count) as u8)
+}
+
+// Plane 0 of a block whose planes above gave the DC 4 and the first parent -2.
+fn lowest(bits: u64, count: usize) -> (Result<Part, TextFault>, [i32; 64])
+    requires { count ≤ 64 }
+{
+    let plan = PlanePlan {
+        plane: 0,
+        q: 2,
+        weights: Weights { shifts: [0; 10] },
+        last: 4,
+    };
+    let mut block = [0; 64];
+    block[0] = 4;
+    block[1] = -2;
+    let (octets, first, lead) = aligned(bits, count);
+    let result = take(&octets[first..], lead, &mut block, 2, &plan);
+    (result, block)
+}
+
+#[test]
+fn a_plane_cut_after_each_bit(rt: HostRuntime) {
+    // DC 1; parents' types 00 as 0 1; flag 1; families' flags 100 as 00 01; children's types 0000 as 00 1;
+    // grandchildren's flag 1; quads' flags 0100 as 001; types 0010 as 0001 and sign 0; refinement 1.
+    let bits = 0b1_01_1_0001_001_1_001_0001_0_1;
+    let mut expected = [0; 64];
+    expected[0] = 4;
+    expected[1] = -2;
+    for count in 0..22 {
+        match count {
+            1 => expected[0] = 5,
+            19 => expected[22] = 1,
+            21 => expected[1] = -3,
+            _ => {}
+        }
+        let part = if count < 21 { Part::Ended } else { Part::Whole };
+        let (result, block) = lowest(bits >> (21 - count), count);
+        assert_eq!(rt; result, Ok(part), "{count} bits");
+        assert_eq!(rt; block, expected, "{count} bits");
+    }
+}
+
+// Plane 0 of a block of depth 1.
+fn only(bits: u64, count: usize, weights: Weights) -> (Result<Part, TextFault>, [i32; 64])
+    requires { count ≤ 64 }
+{
+    let plan = PlanePlan {
+        plane: 0,
+        q: 0,
+        weights,
+        last: 4,
+    };
+    let mut block = [0; 64];
+    let (octets, first, lead) = aligned(bits, count);
+    let result = take(&octets[first..], lead, &mut block, 1, &plan);
+    (result, block)
+}
+
+// The last of these bits shows that a flag is false; what was read before stands in the block.
+fn assert_false(rt: &impl Abort, bits: u64, count: usize, weights: Weights, expected: &[i32; 64])
+    requires { (1 ≤ count) × (count ≤ 64) }
+{
+    let (result, block) = only(bits >> 1, count - 1, weights);
+    assert_eq!(rt; result, Ok(Part::Ended));
+    assert_eq!(rt; block, *expected);
+    let (result, block) = only(bits, count, weights);
+    assert_eq!(rt; result, Err(TextFault::FalseFlag));
+    assert_eq!(rt; block, *expected);
+}
+
+#[test]
+fn false_flags(rt: HostRuntime) {
+    let all = Weights { shifts: [0; 10] };
+    let coarse = Weights {
+        shifts: [1, 1, 1, 0, 0, 0, 0, 0, 0, 0],
+    };
+    // Each text begins with the parents' types 100 as 00 01, the sign 1, and the flag 1 of all descendants.
+    let mut expected = [0; 64];
+    expected[1] = -1;
+    // Families' flags 000 as 1.
+    assert_false(&rt, 0b00011_1_1, 7, all, &expected);
+    // Families' flags 100 as 01, and children's types 0000 as 00 1; no grandchild can have a bit.
+    assert_false(&rt, 0b00011_1_01_001, 11, coarse, &expected);
+    // The same; grandchildren's flag 0.
+    assert_false(&rt, 0b00011_1_01_001_0, 12, all, &expected);
+    // Grandchildren's flag 1, and quads' flags 0000 as 1.
+    assert_false(&rt, 0b00011_1_01_001_1_1, 13, all, &expected);
+    // Quads' flags 1000 as 01, and types 0000 as 1.
+    assert_false(&rt, 0b00011_1_01_001_1_01_1, 15, all, &expected);
+    // Families' flags 110 as 00001; types 0000 as 00 1, and 1000 as 01 with the sign 1; grandchildren's flags 00 as 0 1.
+    expected[8] = -1;
+    assert_false(&rt, 0b00011_1_00001_001_01_1_01, 19, all, &expected);
+}
