@@ -1,13 +1,12 @@
 -- What is given at each read call.
 use Rattle.std.proofs.Common.{◌≡◌, ◌≤◌, ◌<◌, ◌+◌, ◌-◌, ◌*◌, ◌/◌, ◌==◌, ℕ, ℤ, List, [], ◌∷◌, ◌++◌, length, take, drop, refl, sym, ap, subst, ◌∙◌, inl, inr, arith, append_assoc, length-append}
 use Rattle.std.specs.Prelude.{Bool, true, false, min, if◌then◌else◌, Option, None, Some, is_some, MatchOption}
-use Rattle.std.specs.List.{AllByRecursion}
 use Rattle.std.proofs.lemmas.Bool.{cases_lt}
 use Rattle.std.proofs.lemmas.Bool.Decides.{nat_tests}
 use Rattle.std.proofs.lemmas.List.{append-nil, take-append-le, take-append-drop}
 use Rattle.std.proofs.lemmas.Nat.{div_below}
 use Rattle.std.proofs.Math.Seq.{take-append-add}
-use Rattle.port_122.specs.Outside.{Outside, Since, NoRead, Loses}
+use Rattle.port_122.specs.Outside.{Outside, Since, NoRead}
 use Rattle.port_122.proofs.Stretches.{since_then, since_out, since_weaker, each_of_both}
 use Rattle.base_122.specs.Sizes.{block_count, first_block, segment_blocks}
 use Rattle.raster_rows.specs.Pixels.{raster_octets}
@@ -22,14 +21,14 @@ use Rattle.stream_defs.specs.declared.fate.LastPart.{LastPart}
 use Rattle.stream_defs.specs.Fates.{fresh, after_all, kept, kept_in, state_after, geometry_in}
 use Rattle.stream_defs.specs.Received.{IsReceived, ReceivedIn}
 use Rattle.stream_defs.specs.Picture.{number_at, picture_with}
-use Rattle.stream_defs.specs.Settled.{ready, rows_after, rows_through, blocks_through, block_rows_before}
+use Rattle.stream_defs.specs.Settled.{ready, rows_through, blocks_through, block_rows_before}
 use Rattle.stream_defs.proofs.ChosenLaws.{after_all-append}
 use Rattle.packet_assembly.specs.Comings.{coming}
 use Rattle.packet_assembly.specs.Assembling.{Assembling, Passes, state_with}
 use Rattle.packet_assembly.specs.Passing.{whole_after}
 use Rattle.strip_decoder.specs.Fronts.{front}
 use Rattle.strip_decoder.specs.Pictures.{Shown, IsSized, IsStanding, passed_in}
-use Rattle.strip_decoder.specs.Runs.{Run, HasRead, holds_after, Numbers, IsPrompt, AsksPrompt, IsFrontFor, Knows, AreOf, Shows, HasComeTo, future}
+use Rattle.strip_decoder.specs.Runs.{Run, HasRead, holds_after, Numbers, IsPrompt, AsksPrompt, HasFew, IsFrontFor, Knows, AreOf, Shows, future}
 use Rattle.strip_decoder.proofs.RowGives.{front-begins}
 use Rattle.strip_decoder.proofs.Between.{geometry_stays}
 use Rattle.strip_decoder.proofs.Receiving.{one_received}
@@ -57,6 +56,28 @@ state_then w a took octets passed read =
     let more = whole_packets (a.intake.pending ++ octets) in
     ap (after_all w.apid fresh) (packets_then w a took octets passed read) ∙ after_all-append w.apid fresh passed more
     ∙ ap (λ s. after_all w.apid s more) (sym read.state) ∙ ap (λ n. after_all n a.state more) (sym read.apid)
+
+-- the geometry that its octets tell
+pub geometry_read : (w : Run) (a : Assembling) (took : List ℕ) (passed : List (List ℕ)) (g : Geometry) → HasRead w a took passed → a.state.geometry ≡ Some g → geometry_in w.apid took ≡ Some g
+geometry_read w a took passed g read told =
+    ap (λ zs. geometry_in w.apid zs) (sym (append-nil took)) ∙ ap (λ (s : FateState). s.geometry) (state_then w a took [] passed read) ∙ geometry_stays a.apid a.state (whole_packets (a.intake.pending ++ [])) g told
+
+-- its pixels are few
+pub geometry_small : (pixels apid : ℕ) (octets : List ℕ) (g : Geometry) → geometry_in apid octets ≡ Some g → g.width * g.rows ≤ pixels → HasFew pixels apid octets
+geometry_small pixels apid octets g told small h there =
+    let same : g ≡ h = (let both : Some g ≡ Some h = sym told ∙ there in cc) in
+    subst (λ (g : Geometry). g.width * g.rows ≤ pixels) same small
+
+pub small_read : (w : Run) (a : Assembling) (p : Shown) (took : List ℕ) (passed : List (List ℕ)) → HasRead w a took passed → a.state.geometry ≡ Some p.geometry → p.geometry.width * p.geometry.rows ≤ w.pixels → HasFew w.pixels w.apid took
+small_read w a p took passed read told small = geometry_small w.pixels w.apid took p.geometry (geometry_read w a took passed p.geometry read told) small
+
+-- and so they are in the first octets
+pub few_before : (pixels apid : ℕ) (took : List ℕ) (i : ℕ) → HasFew pixels apid took → HasFew pixels apid (take i took)
+few_before pixels apid took i few g there =
+    let early = take i took in
+    let parts = front_packets early (drop i took) in
+    few g (ap (λ zs. geometry_in apid zs) (sym (take-append-drop i took)) ∙ ap (λ xs. (after_all apid fresh xs).geometry) parts.1 ∙ ap (λ (s : FateState). s.geometry) (after_all-append apid fresh (whole_packets early) parts.0)
+    ∙ geometry_stays apid (after_all apid fresh (whole_packets early)) parts.0 g there)
 
 -- what was passed is the first of what was to come
 pub future_past : {P : FateState → Type 0} {old new : Outside} {a b : Assembling} {went : List (List ℕ)} → (q : Passes P old new a b went) → (rest : List ℕ) → new.rest ≡ Some rest → future a (q.took ++ rest) ≡ went ++ future b rest

@@ -1,12 +1,12 @@
 -- The numbers of a block in the bands of blocks that stand one after another.
-use Rattle.std.proofs.Common.{◌≡◌, ◌<◌, ◌≤◌, ◌+◌, ◌*◌, ◌/◌, ◌%◌, ◌^◌, ◌==◌, ◌*ℤ◌, ℕ, ℤ, pos, Bool, true, List, [], ◌∷◌, get_or, map, refl, sym, ap, subst, ◌∙◌, arith}
+use Rattle.std.proofs.Common.{◌≡◌, ◌<◌, ◌≤◌, ◌+◌, ◌*◌, ◌/◌, ◌%◌, ◌^◌, ◌==◌, ◌*ℤ◌, ℕ, ℤ, pos, true, List, [], ◌∷◌, get_or, map, refl, sym, ap, ◌∙◌, arith}
 use Rattle.std.specs.Prelude.{All}
 use Rattle.std.specs.List.{range_with_len, list_all}
 use Rattle.std.proofs.lemmas.Nat.{div-mul-add, mod-mul-add}
 use Rattle.std.proofs.lemmas.List.FromFn.{get_or-map-range_with_len}
 use Rattle.base_122.specs.Weights.{IsShift}
 use Rattle.wave_defs.specs.Line.{floor_div}
-use Rattle.wave_defs.specs.Pyramid.{Pyramid, band_of}
+use Rattle.wave_defs.specs.Pyramid.{band_of}
 use Rattle.wave_defs.specs.Blocks.{Place, IsPlace, place_of, block_side, coefficient, weight_at}
 use Rattle.wave_defs.proofs.BlockLaws.{passes, place_of-is_place}
 use Rattle.stream_defs.specs.Picture.{position_of, band_with, pyramid_with}

@@ -3,7 +3,7 @@ use Rattle.std.proofs.Common.{◌≡◌, ◌≤◌, ◌<◌, ◌+◌, ◌*◌, �
 use Rattle.std.specs.Prelude.{Bool, true, false, ◌==◌, if◌then◌else◌, Option, None, Some, Result, Ok, Err}
 use Rattle.std.proofs.Math.Nat.{mul-le-mul_right}
 use Rattle.port_122.specs.Outside.{Outside, NoFewerFaults}
-use Rattle.base_122.specs.Sizes.{first_block, block_count}
+use Rattle.base_122.specs.Sizes.{first_block}
 use Rattle.base_122.specs.declared.geometry.Geometry.{Geometry}
 use Rattle.segment_defs.specs.declared.head.SegmentHead.{SegmentHead}
 use Rattle.segment_defs.specs.declared.fault.HeadFault.{HeadFault}
@@ -13,18 +13,17 @@ use Rattle.packet_defs.specs.Reading.{ancillary_in, text_in}
 use Rattle.stream_defs.specs.declared.fate.FateState.{FateState}
 use Rattle.stream_defs.specs.declared.fate.LastPart.{LastPart}
 use Rattle.stream_defs.specs.Agreement.{geometry_for}
-use Rattle.stream_defs.specs.Fates.{fresh, fate, after, after_all, is_kept, geometry_with, geometry_after, part_in}
-use Rattle.stream_defs.specs.Received.{index_in}
+use Rattle.stream_defs.specs.Fates.{fresh, fate, after, after_all, is_kept, geometry_with}
 use Rattle.stream_defs.proofs.FateLaws.{after_as_kept, after_as_other}
 use Rattle.stream_defs.proofs.KeptOrder.{is_kept_so}
 use Rattle.stream_defs.proofs.ChosenLaws.{after_all-append}
 use Rattle.packet_assembly.specs.declared.note.SegmentStart.{SegmentStart}
-use Rattle.packet_assembly.specs.Assembling.{Assembling, Starts, BeginsNone, Passes, StaysAt, last_index, unread_assembly}
-use Rattle.packet_assembly.specs.Segments.{WasHeld, WasFound, BeganAt, GoesOn, FindsSegment}
+use Rattle.packet_assembly.specs.Assembling.{Assembling, Starts, BeginsNone, last_index, unread_assembly}
+use Rattle.packet_assembly.specs.Segments.{GoesOn, FindsSegment}
 use Rattle.packet_assembly.proofs.KeptPackets.{stays}
 use Rattle.strip_decoder.specs.Pictures.{Shown, IsFresh, passed_in}
 use Rattle.strip_decoder.specs.Segments.{FitsImage, FitsNext, IsAt, IsBetween}
-use Rattle.strip_decoder.proofs.Fits.{geometry_at, Begun, begun_by}
+use Rattle.strip_decoder.proofs.Fits.{geometry_at, begun_by}
 
 -- ---- states
 

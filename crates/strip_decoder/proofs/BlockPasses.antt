@@ -1,31 +1,28 @@
 -- Blocks of a picture that are passed, one after another.
-use Rattle.std.proofs.Common.{◌≡◌, ◌<◌, ◌≤◌, ◌+◌, ◌-◌, ◌*◌, ◌/◌, ◌==◌, ◌*ℤ◌, ℕ, ℤ, zero, suc, pos, Bool, true, false, List, [], ◌∷◌, ◌++◌, length, take, get_or, refl, sym, ap, subst, ◌∙◌, arith, inl, inr, append_assoc}
+use Rattle.std.proofs.Common.{◌≡◌, ◌<◌, ◌≤◌, ◌+◌, ◌-◌, ◌*◌, ◌/◌, ◌==◌, ◌*ℤ◌, ℕ, ℤ, zero, suc, pos, Bool, true, false, [], ◌∷◌, ◌++◌, get_or, refl, sym, ap, subst, ◌∙◌, arith, inl, inr}
 use Rattle.std.specs.Prelude.{◌||◌, filter, Result, Ok, Err, IsErr}
 use Rattle.std.specs.List.{range_with_len, list_any}
 use Rattle.std.proofs.lemmas.Bool.{cases_lt, false≢true}
 use Rattle.std.proofs.lemmas.Bool.Decides.{nat_tests}
 use Rattle.std.proofs.lemmas.List.{append-nil}
-use Rattle.std.proofs.lemmas.Nat.{div-mul-add, mod-mul-add}
-use Rattle.std.proofs.Math.Nat.{mul-le-mul_left}
+use Rattle.std.proofs.lemmas.Nat.{div-mul-add}
 use Rattle.port_122.specs.Outside.{Outside, NoRead}
 use Rattle.port_122.proofs.Stretches.{since_start}
 use Rattle.base_122.specs.Sizes.{block_count, padded_size}
-use Rattle.base_122.specs.Weights.{IsShift}
 use Rattle.base_122.specs.declared.geometry.Geometry.{Geometry}
 use Rattle.wave_defs.specs.Pyramid.{Pyramid}
-use Rattle.wave_defs.specs.Blocks.{Place, place_of, block_side, coefficient, weight_at}
+use Rattle.wave_defs.specs.Blocks.{Place, place_of, block_side, weight_at}
 use Rattle.wave_defs.specs.Held.{block_at}
 use Rattle.wave_defs.proofs.BlockLaws.{place_of-is_place}
 use Rattle.block_families.specs.Places.{place_in, Scatters}
 use Rattle.inverse_strip.specs.declared.strip.StripInverse.{StripInverse}
-use Rattle.inverse_strip.specs.Kept.{IsIdle}
 use Rattle.inverse_strip.specs.Strip.{columns_of, height_of, taken_of, next_of, numbers_of, FollowStrip, IsNext, Keeps}
 use Rattle.inverse_strip.proofs.NextLemmas.{IsNext-blocks}
 use Rattle.stream_defs.specs.Marks.{Marks, marked, and_missing, most_block_rows}
 use Rattle.damage_rows.proofs.TableLaws.{any_there, any_none, filter_same}
 use Rattle.strip_decoder.specs.Fronts.{bands_of, front}
-use Rattle.strip_decoder.specs.Pictures.{Shown, IsSized, IsStanding, StandsTo, StandsFor, HasRoom, passed_in, total_in}
-use Rattle.strip_decoder.specs.Steps.{GoesOn, BreaksOff, StoodFor, SameBut, HasNone, HasNextSet, AreHeld, AreLost, HasPassed, PassesBlocks, GivesRows, Unmarked, MarksRows, is_marked, is_touched, IsListed}
+use Rattle.strip_decoder.specs.Pictures.{Shown, IsSized, IsStanding, StandsFor, HasRoom, passed_in}
+use Rattle.strip_decoder.specs.Steps.{GoesOn, BreaksOff, StoodFor, HasNone, HasNextSet, AreHeld, AreLost, HasPassed, PassesBlocks, GivesRows, Unmarked, MarksRows, is_marked, is_touched, IsListed}
 use Rattle.strip_decoder.proofs.BandBlocks.{coefficient_with, part_is, zero_is}
 use Rattle.strip_decoder.proofs.RowGives.{goes_then, breaks_then}
 
@@ -109,25 +106,6 @@ module _ (p : Shown) (t : StripInverse) (standing : IsStanding p) (room : HasRoo
   full : p.at.column + 1 ≡ block_count p.geometry.width
   full = let column = standing.sized.column in omega (arith, column, last)
 
-  pub row_sized : IsSized (past_row p t)
-  row_sized =
-      let sized = standing.sized in
-      let inside = row_there p sized room in
-      let column = sized.column in
-      record {
-        range = sized.range;
-        columns = pushed.width ∙ sized.columns;
-        height = pushed.height ∙ sized.height;
-        taken = pushed.taken ∙ ap (λ n. n + 1) sized.taken;
-        next = pushed.next ∙ sized.next;
-        rows = omega (arith, inside);
-        column = omega (arith, column);
-        none = λ e. refl;
-        damage = sized.damage;
-        marks = sized.marks;
-        blocks = sized.blocks;
-      }
-
   row_stands : (numbers : ℕ → ℕ → ℤ) → HasNextSet p numbers → StandsFor numbers (past_row p t)
   row_stands numbers set =
       let sized = standing.sized in
@@ -209,26 +187,6 @@ marked_listed m r =
 -- the picture with a block row missing
 abbrev pub with_missing : Shown → Shown
 with_missing p = record p { damage = marked p.damage p.at.row }
-
-pub missing_standing : (p : Shown) → IsStanding p → IsStanding (with_missing p)
-missing_standing p standing =
-    let sized = standing.sized in
-    record {
-      sized = record {
-        range = sized.range;
-        columns = sized.columns;
-        height = sized.height;
-        taken = sized.taken;
-        next = sized.next;
-        rows = sized.rows;
-        column = sized.column;
-        none = sized.none;
-        damage = sized.damage;
-        marks = sized.marks;
-        blocks = sized.blocks;
-      };
-      idle = standing.idle;
-    }
 
 -- a block whose numbers are 0 was set
 pub zero_set : (p : Shown) → IsStanding p → (numbers : ℕ → ℕ → ℤ) → AreLost 1 p numbers → HasNextSet p numbers
@@ -322,26 +280,6 @@ with_strip p strip = record p { strip = strip }
 
 module _ (p : Shown) (t : StripInverse) (place : ℕ) (standing : IsStanding p) (room : HasRoom 1 p) (keeps : Keeps p.strip t)
     (scattered : Scatters (numbers_of p.strip) (numbers_of t) p.geometry.weights.shifts p.at.column (block_at p.cells place)) where
-  pub strip_standing : IsStanding (with_strip p t)
-  strip_standing =
-      let sized = standing.sized in
-      record {
-        sized = record {
-          range = sized.range;
-          columns = keeps.width ∙ sized.columns;
-          height = keeps.height ∙ sized.height;
-          taken = keeps.taken ∙ sized.taken;
-          next = keeps.given ∙ sized.next;
-          rows = sized.rows;
-          column = sized.column;
-          none = sized.none;
-          damage = sized.damage;
-          marks = sized.marks;
-          blocks = sized.blocks;
-        };
-        idle = subst (λ h. IsIdle (taken_of t) (next_of t) h) (sym keeps.height) (subst (λ n. IsIdle (taken_of t) n (height_of p.strip)) (sym keeps.given) (subst (λ k. IsIdle k (next_of p.strip) (height_of p.strip)) (sym keeps.taken) standing.idle));
-      }
-
   -- another block has the numbers that it had
   stays : (column i : ℕ) → i < 64 → (column ≡ p.at.column → ⊥) → numbers_of t (place_in column i) ≡ numbers_of p.strip (place_in column i)
   stays column i small other = scattered.others (place_in column i) (λ j lt same. other (apart column p.at.column i j small lt same))
@@ -518,9 +456,3 @@ held_then n k p x z lt before one = record {
 
 pub held_then_broke : {a b c : Outside} (n k : ℕ) (p x : Shown) → k < n → HasPassed Unmarked (AreHeld 0 n p) k a b p x → BreaksOff (AreHeld k 1 x) b c x → BreaksOff (AreHeld 0 n p) a c p
 held_then_broke n k p x lt before broken = breaks_then before.geometry (held_next n k p x lt before) before.goes broken
-
--- the blocks that are left have room
-pub room_on : (n k : ℕ) (p x : Shown) → k < n → HasRoom n p → x.geometry ≡ p.geometry → passed_in x ≡ passed_in p + k → HasRoom 1 x
-room_on n k p x lt room same count =
-    let total : total_in x ≡ total_in p = ap (λ (g : Geometry). block_count g.width * block_count g.rows) same in
-    omega (arith, lt, room, count, total)

@@ -1,49 +1,55 @@
 -- How a whole decoder ends.
-use Rattle.std.proofs.Common.{◌≡◌, ◌≤◌, ◌<◌, ◌*◌, ℕ, List, [], ◌∷◌, ◌++◌, length, refl, sym, ap, subst, ◌∙◌, arith}
-use Rattle.std.specs.Prelude.{Option, None, Some, Result, Ok, Err}
-use Rattle.std.proofs.lemmas.List.{append-nil}
-use Rattle.port_122.specs.Outside.{Outside, Since, Rose}
-use Rattle.port_122.proofs.Stretches.{rose_since}
+use Rattle.std.proofs.Common.{◌≡◌, ◌≤◌, ◌<◌, ◌*◌, ℕ, List, [], ◌∷◌, ◌++◌, refl, sym, ap, subst, ◌∙◌, arith}
+use Rattle.std.specs.Prelude.{Option, None, Some, Ok, Err}
+use Rattle.port_122.specs.Outside.{Outside, Since}
+use Rattle.port_122.proofs.Stretches.{rose_since, since_weaker}
 use Rattle.base_122.specs.declared.geometry.Geometry.{Geometry}
 use Rattle.packet_defs.specs.declared.packet.Framing.{Framing}
-use Rattle.packet_defs.specs.Streams.{whole_packets}
 use Rattle.stream_defs.specs.declared.fate.FateState.{FateState}
-use Rattle.stream_defs.specs.Fates.{fresh, after, after_all, geometry_in}
-use Rattle.stream_defs.specs.Marks.{Marks}
+use Rattle.stream_defs.specs.Fates.{fresh, after, after_all}
 use Rattle.stream_defs.proofs.ChosenLaws.{after_all-append}
 use Rattle.packet_assembly.specs.declared.note.SegmentStart.{SegmentStart}
 use Rattle.packet_assembly.specs.Assembling.{Assembling, last_index, unread_assembly}
 use Rattle.packet_assembly.specs.Segments.{FindsSegment, FoundNone}
-use Rattle.strip_decoder.specs.declared.decode.DecodeDone.{DecodeDone}
 use Rattle.strip_decoder.specs.declared.decode.DecodeWish.{DecodeWish}
 use Rattle.strip_decoder.specs.declared.decode.DecodeFault.{DecodeFault}
 use Rattle.strip_decoder.specs.declared.decode.DecodeFault.TheVariants.{ReadFault, WriteFault, NoSegment, TooManyPixels, LongInput, Memory}
 use Rattle.strip_decoder.specs.Pictures.{Shown}
 use Rattle.strip_decoder.specs.Segments.{FindsNext}
-use Rattle.strip_decoder.specs.Runs.{Run, BreaksRun, IsWhole}
-use Rattle.strip_decoder.specs.Answers.{Decodes, GivesPicture}
+use Rattle.strip_decoder.specs.Runs.{Run, AsksPrompt, HasFew, HasBroken, BreaksRun, IsWhole}
+use Rattle.strip_decoder.specs.Answers.{Asks, Decodes, GivesPicture}
 use Rattle.strip_decoder.proofs.Fits.{begun_by}
-use Rattle.strip_decoder.proofs.Between.{geometry_stays}
-use Rattle.strip_decoder.proofs.Asking.{state_then}
-use Rattle.strip_decoder.proofs.RunStarts.{HasFound, found_one, first_broken, first_read, first_asks, first_end, none_kept}
-use Rattle.strip_decoder.proofs.RunFinishes.{ended_packets, ended_out, long_full, long_good}
+use Rattle.strip_decoder.proofs.Asking.{geometry_read, geometry_small, few_before}
+use Rattle.strip_decoder.proofs.RunStarts.{HasFound, first_front, none_few, first_read, first_asks, first_end, none_kept}
+use Rattle.strip_decoder.proofs.RunFinishes.{ended_packets, long_packets, ended_out, long_full, long_good}
 
 -- the run that a wish asks for
 abbrev pub run_of : DecodeWish → Outside → Run
-run_of wish start = record { apid = wish.apid; cap = wish.octets; start = start }
+run_of wish start = record { apid = wish.apid; cap = wish.octets; pixels = wish.pixels; start = start }
 
 -- ---- before the first segment
 
-pub first_fails : (wish : DecodeWish) (old new : Outside) (a b : Assembling) → a ≡ unread_assembly wish.apid wish.octets → (fault : DecodeFault) → FindsNext old new a b (Err fault) → Decodes wish old new (Err fault)
-unfolding first_broken
-first_fails wish old new a b unread ReadFault finds =
-    let broken = first_broken (run_of wish old) new a b unread finds.ends.0 in
-    record { took = broken.took; gave = []; since = broken.since; answer = (finds.ends.1, broken.front) }
-first_fails wish old new a b unread LongInput finds =
-    let found = finds.ends.0 in
-    let broken = first_broken (run_of wish old) new a b unread found in
+-- no packet was kept
+first_last : (wish : DecodeWish) (old new : Outside) (a b : Assembling) (found : FoundNone old new a b) → a ≡ unread_assembly wish.apid wish.octets → last_index (after_all wish.apid fresh found.passed).last ≡ None
+first_last wish old new a b found unread =
     let read = first_read (run_of wish old) new a b found.passed unread found.passes in
-    record { took = found.passes.took; gave = []; since = broken.since; answer = (long_full (run_of wish old) b found.passes.took found.passed read finds.ends.1, long_good (run_of wish old) b found.passes.took found.passed read finds.ends.1, broken.front) }
+    ap (λ (s : FateState). last_index s.last) (sym read.state) ∙ found.stays ∙ ap (λ (a : Assembling). last_index a.state.last) unread
+
+pub first_fails : (wish : DecodeWish) (old new : Outside) (a b : Assembling) → a ≡ unread_assembly wish.apid wish.octets → (fault : DecodeFault) → FindsNext old new a b (Err fault) → Decodes wish old new (Err fault)
+first_fails wish old new a b unread ReadFault finds =
+    let found = finds.ends.0 in
+    record { took = found.passes.took; gave = []; since = first_asks (run_of wish old) new a b found.passed unread found.passes; answer = (finds.ends.1, λ all told. first_front wish.apid found.passes.took) }
+first_fails wish old new a b unread LongInput finds =
+    let w = run_of wish old in
+    let found = finds.ends.0 in
+    let read = first_read w new a b found.passed unread found.passes in
+    let none = ap (λ xs. (after_all wish.apid fresh xs).geometry) (long_packets w b found.passes.took found.passed read finds.ends.1) ∙ none_kept wish.apid found.passed (first_last wish old new a b found unread) in
+    record {
+      took = found.passes.took;
+      gave = [];
+      since = first_asks w new a b found.passed unread found.passes;
+      answer = (long_full w b found.passes.took found.passed read finds.ends.1, long_good w b found.passes.took found.passed read finds.ends.1, none_few wish.pixels wish.apid found.passes.took none, λ all told. first_front wish.apid found.passes.took);
+    }
 first_fails wish old new a b unread WriteFault finds = absurd finds
 first_fails wish old new a b unread NoSegment finds = absurd finds
 first_fails wish old new a b unread (TooManyPixels pixels) finds = absurd finds
@@ -55,7 +61,7 @@ first_none wish old new a b unread finds =
     let found = finds.ends.0 in
     let read = first_read w new a b found.passed unread found.passes in
     let whole = ended_packets w b found.passes.took found.passed read finds.ends.1 in
-    let last : last_index (after_all wish.apid fresh found.passed).last ≡ None = ap (λ (s : FateState). last_index s.last) (sym read.state) ∙ found.stays ∙ ap (λ (a : Assembling). last_index a.state.last) unread in
+    let last = first_last wish old new a b found unread in
     record {
       took = found.passes.took;
       gave = [];
@@ -66,12 +72,6 @@ first_none wish old new a b unread finds =
 -- ---- the first segment
 
 module _ (wish : DecodeWish) (old new : Outside) (b : Assembling) (start : SegmentStart) (found : HasFound (run_of wish old) new b start) where
-  geometry_is : (g : Geometry) → b.state.geometry ≡ Some g → geometry_in wish.apid found.took ≡ Some g
-  geometry_is g told =
-      ap (λ zs. geometry_in wish.apid zs) (sym (append-nil found.took))
-      ∙ ap (λ (s : FateState). s.geometry) (state_then (run_of wish old) b found.took [] found.went found.read)
-      ∙ geometry_stays b.apid b.state (whole_packets (b.intake.pending ++ [])) g told
-
   -- there is a geometry then
   pub never_none : b.state.geometry ≡ None → ⊥
   never_none none =
@@ -82,12 +82,19 @@ module _ (wish : DecodeWish) (old new : Outside) (b : Assembling) (start : Segme
       absurd (let both = sym none ∙ told in cc)
 
   pub too_many : (g : Geometry) (pixels : ℕ) → b.state.geometry ≡ Some g → pixels ≡ g.width * g.rows → wish.pixels < pixels → Decodes wish old new (Err (TooManyPixels pixels))
-  too_many g pixels told is lt = record { took = found.took; gave = []; since = found.since; answer = ((g, geometry_is g told, is), lt, refl) }
+  too_many g pixels told is lt = record { took = found.took; gave = []; since = found.since; answer = ((g, geometry_read (run_of wish old) b found.took found.went g found.read told, is), lt, refl) }
 
   pub no_memory : Decodes wish old new (Err Memory)
   no_memory = record { took = found.took; gave = []; since = found.since; answer = refl }
 
 -- ---- the picture
+
+-- what is asked where the pixels are few
+few_asks : (wish : DecodeWish) (old new : Outside) (took gave : List ℕ) → HasFew wish.pixels wish.apid took → Since old new took gave [] (AsksPrompt wish.apid old took gave) → Since old new took gave [] (Asks wish old took gave)
+few_asks wish old new took gave few since = since_weaker since (λ i j le asks. (asks, few_before wish.pixels wish.apid took i few))
+
+broken_asks : (wish : DecodeWish) (old new : Outside) → (broken : HasBroken (run_of wish old) new) → Since old new broken.took broken.gave [] (Asks wish old broken.took broken.gave)
+broken_asks wish old new broken = few_asks wish old new broken.took broken.gave broken.small broken.since
 
 pub picture_done : (wish : DecodeWish) (old new : Outside) (q : Shown) (g : Geometry) (found told : Option Framing) → IsWhole (run_of wish old) new q.geometry q.damage found → q.geometry ≡ g → told ≡ found → g.width * g.rows ≤ wish.pixels →
     Decodes wish old new (Ok (record { geometry = g; damage = q.damage; framing = told }))
@@ -96,14 +103,14 @@ picture_done wish old new q g found told whole same is few =
     record {
       took = here.took;
       gave = here.gave;
-      since = here.since;
+      since = few_asks wish old new here.took here.gave (geometry_small wish.pixels wish.apid here.took g here.geometry few) here.since;
       answer = record { geometry = here.geometry; few = few; framing_is = is ∙ here.framing_is; out = here.out; rows = here.rows; told = here.told };
     }
 
 pub picture_fails : (wish : DecodeWish) (old mid new : Outside) (p q : Shown) → old.read_faults ≤ mid.read_faults → old.write_faults ≤ mid.write_faults → (fault : DecodeFault) → GivesPicture mid new p q (Err fault) → BreaksRun (run_of wish old) new fault → Decodes wish old new (Err fault)
-picture_fails wish old mid new p q reads writes ReadFault gives broken = record { took = broken.took; gave = broken.gave; since = broken.since; answer = (rose_since reads gives, broken.front) }
-picture_fails wish old mid new p q reads writes WriteFault gives broken = record { took = broken.took; gave = broken.gave; since = broken.since; answer = (rose_since writes gives, broken.front) }
-picture_fails wish old mid new p q reads writes LongInput gives long = record { took = long.broken.took; gave = long.broken.gave; since = long.broken.since; answer = (long.full, long.good, long.broken.front) }
+picture_fails wish old mid new p q reads writes ReadFault gives broken = record { took = broken.took; gave = broken.gave; since = broken_asks wish old new broken; answer = (rose_since reads gives, broken.front) }
+picture_fails wish old mid new p q reads writes WriteFault gives broken = record { took = broken.took; gave = broken.gave; since = broken_asks wish old new broken; answer = (rose_since writes gives, broken.small, broken.front) }
+picture_fails wish old mid new p q reads writes LongInput gives long = record { took = long.broken.took; gave = long.broken.gave; since = broken_asks wish old new long.broken; answer = (long.full, long.good, long.broken.small, long.broken.front) }
 picture_fails wish old mid new p q reads writes NoSegment gives broken = absurd gives
 picture_fails wish old mid new p q reads writes (TooManyPixels pixels) gives broken = absurd gives
 picture_fails wish old mid new p q reads writes Memory gives broken = absurd gives

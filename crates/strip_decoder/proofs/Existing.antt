@@ -10,7 +10,6 @@ use Rattle.segment_defs.specs.declared.fault.HeadFault.{HeadFault}
 use Rattle.segment_defs.specs.Head.{head_length}
 use Rattle.segment_defs.specs.Reading.{head_read}
 use Rattle.segment_head.proofs.ReadHeads.{read_fits}
-use Rattle.text_defs.specs.Outcomes.{Holds, Refused, SegmentRefusal}
 use Rattle.text_defs.proofs.OutcomeLaws.{outcomes_exclude}
 use Rattle.text_defs.proofs.Further.{has_outcome}
 use Rattle.packet_defs.specs.Reading.{flags_in, text_in}

@@ -1,6 +1,6 @@
 -- A segment that begins fits the image.
 use Rattle.std.proofs.Common.{◌≡◌, ◌≤◌, ◌<◌, ◌+◌, ◌-◌, ◌*◌, ℕ, List, [], ◌∷◌, refl, sym, ap, subst, ◌∙◌, inl, inr, arith}
-use Rattle.std.specs.Prelude.{Bool, true, false, ◌==◌, ◌&&◌, ◌||◌, not, nat_le, min, if◌then◌else◌, Option, None, Some, Result, Ok, Err}
+use Rattle.std.specs.Prelude.{Bool, true, false, ◌==◌, ◌&&◌, ◌||◌, not, nat_le, min, if◌then◌else◌, Option, None, Some}
 use Rattle.std.specs.Str.{bytes_eq}
 use Rattle.std.proofs.lemmas.Bool.{false≢true}
 use Rattle.std.proofs.lemmas.Bool.Decides.{nat_tests}
@@ -9,20 +9,19 @@ use Rattle.base_122.specs.declared.geometry.Geometry.{Geometry}
 use Rattle.segment_defs.specs.declared.head.SegmentHead.{SegmentHead}
 use Rattle.segment_defs.specs.declared.head.ImagePart.{ImagePart}
 use Rattle.segment_defs.specs.declared.fault.HeadFault.{HeadFault}
-use Rattle.segment_defs.specs.Reading.{head_read}
 use Rattle.segment_head.proofs.ReadHeads.{read_fits}
 use Rattle.packet_defs.specs.declared.ancillary.Ancillary.{Ancillary}
 use Rattle.packet_defs.specs.Reading.{ancillary_in, text_in}
 use Rattle.packet_defs.specs.Tests.{when, first_of}
 use Rattle.stream_defs.specs.declared.fate.FateState.{FateState}
 use Rattle.stream_defs.specs.declared.fate.LastPart.{LastPart}
-use Rattle.stream_defs.specs.Agreement.{geometry_for, blocks_of, same_flag, is_of_image, disagreement, head_refusal}
-use Rattle.stream_defs.specs.Fates.{fate, after, differs, is_kept, refusal_in, geometry_with, geometry_after, part_in}
+use Rattle.stream_defs.specs.Agreement.{geometry_for, blocks_of, same_flag, is_of_image, disagreement}
+use Rattle.stream_defs.specs.Fates.{fate, after, differs, is_kept, geometry_after, part_in}
 use Rattle.stream_defs.specs.Received.{index_in}
 use Rattle.stream_defs.proofs.FateLaws.{after_as_kept}
 use Rattle.stream_defs.proofs.KeptOrder.{is_kept_so, kept_tests, Begins, does}
 use Rattle.packet_assembly.specs.declared.note.SegmentStart.{SegmentStart}
-use Rattle.packet_assembly.specs.Assembling.{Starts, last_index, is_first}
+use Rattle.packet_assembly.specs.Assembling.{Starts, is_first}
 use Rattle.strip_decoder.specs.Segments.{FitsImage}
 
 -- ---- tests that pass

@@ -1,10 +1,9 @@
 -- Which segments are received, as a decoder comes past them.
 use Rattle.std.proofs.Common.{◌≡◌, ◌≤◌, ◌<◌, ◌+◌, ◌*◌, ℕ, ℤ, List, [], ◌∷◌, ◌++◌, length, drop, refl, sym, ap, subst, ◌∙◌, inl, inr, arith, append_assoc, length-append}
-use Rattle.std.specs.Prelude.{Bool, true, false, Option, None, Some, Result, Ok, MatchOption, slice_index_or}
+use Rattle.std.specs.Prelude.{true, false, None, Some, Result, Ok, MatchOption, slice_index_or}
 use Rattle.std.proofs.lemmas.Bool.{cases_lt}
 use Rattle.std.proofs.lemmas.List.{drop-append-le}
-use Rattle.wave_defs.specs.Held.{blocks_in}
-use Rattle.bit_pipe.specs.Sources.{End, Plainly, TooLong, InPieces, Tail}
+use Rattle.bit_pipe.specs.Sources.{Plainly, InPieces, Tail}
 use Rattle.segment_defs.specs.declared.head.SegmentHead.{SegmentHead}
 use Rattle.segment_defs.specs.Head.{IsHead, head_length}
 use Rattle.segment_defs.specs.declared.fault.HeadFault.{HeadFault}
@@ -16,20 +15,19 @@ use Rattle.text_defs.proofs.OutcomeLaws.{outcomes_exclude}
 use Rattle.text_defs.proofs.GivenAlike.{same_given}
 use Rattle.packet_defs.specs.Reading.{text_in}
 use Rattle.stream_defs.specs.declared.fate.FateState.{FateState}
-use Rattle.stream_defs.specs.declared.fate.LastPart.{LastPart}
 use Rattle.stream_defs.specs.Fates.{fresh, after, after_all, kept, part_in}
-use Rattle.stream_defs.specs.Received.{index_in, packets_at, IsComplete, text_of_parts, IsReceived}
+use Rattle.stream_defs.specs.Received.{index_in, packets_at, text_of_parts, IsReceived}
 use Rattle.stream_defs.proofs.ChosenLaws.{kept-append, after_all-append}
-use Rattle.stream_defs.proofs.KeptOrder.{Begins, at_none, at_same, at_other, at_both, shut, before_none}
+use Rattle.stream_defs.proofs.KeptOrder.{at_other, at_both, shut, before_none}
 use Rattle.packet_assembly.specs.declared.note.SegmentStart.{SegmentStart}
-use Rattle.packet_assembly.specs.Assembling.{Assembling, Starts, last_index, is_closed, text_after}
-use Rattle.packet_assembly.specs.Tails.{stop_of, in_front, nothing, tail_from, tail_after, text_tail}
-use Rattle.packet_assembly.specs.Wholes.{parts_in, tail_past, TellsParts}
+use Rattle.packet_assembly.specs.Assembling.{Assembling, last_index, is_closed}
+use Rattle.packet_assembly.specs.Tails.{stop_of, in_front, tail_from, text_tail}
+use Rattle.packet_assembly.specs.Wholes.{tail_past, TellsParts}
 use Rattle.packet_assembly.proofs.TailParts.{tells_parts}
 use Rattle.packet_assembly.proofs.TailSteps.{unheld_tail}
 use Rattle.packet_assembly.proofs.HeadLengths.{head_within}
 use Rattle.strip_decoder.specs.Runs.{holds_after, Numbers, Knows, IsBegun, future}
-use Rattle.strip_decoder.proofs.Fits.{begins_so, Begun, begun_by}
+use Rattle.strip_decoder.proofs.Fits.{begins_so, begun_by}
 use Rattle.strip_decoder.proofs.TailLaws.{from_more, from_closes, from_closed}
 
 in_pieces : InPieces ≡ Plainly → ⊥
@@ -63,12 +61,6 @@ none_received packets index w none x = by x.whole.front x.whole.closing (sym x.w
     by front closing e = let long = ap length e in absurd (omega (arith, long, length-append front (closing ∷ [])))
 
 -- ---- a segment that is begun
-
--- its last place is in it
-begun_last : (apid : ℕ) (passed : List (List ℕ)) (text : List ℕ) (start : SegmentStart) (bound : ℕ) → (b : IsBegun apid passed text start bound) → (after_all apid fresh passed).last ≡ Some (part_in b.packet)
-begun_last apid passed text start bound b =
-    ap (λ xs. (after_all apid fresh xs).last) b.passed_are ∙ ap (λ (s : FateState). s.last) (after_all-append apid fresh b.before (b.packet ∷ []))
-    ∙ (begun_by apid (after_all apid fresh b.before) b.packet start b.starts).last
 
 begun_index : (apid : ℕ) (passed : List (List ℕ)) (text : List ℕ) (start : SegmentStart) (bound : ℕ) → (b : IsBegun apid passed text start bound) → index_in b.packet ≡ start.ancillary.index
 begun_index apid passed text start bound b = (begun_by apid (after_all apid fresh b.before) b.packet start b.starts).index

@@ -1,5 +1,5 @@
 -- A row of a picture that is made and given.
-use Rattle.std.proofs.Common.{◌≡◌, ◌<◌, ◌≤◌, ◌+◌, ◌-◌, ◌*◌, ◌^◌, ℕ, ℤ, suc, pos, Bool, true, false, List, [], ◌∷◌, ◌++◌, length, take, map, get_or, refl, sym, ap, subst, ◌∙◌, arith, ⊎_elim, append_assoc, length-append}
+use Rattle.std.proofs.Common.{◌≡◌, ◌<◌, ◌≤◌, ◌+◌, ◌-◌, ◌*◌, ◌^◌, ℕ, ℤ, Bool, true, false, List, [], ◌∷◌, ◌++◌, length, take, map, refl, sym, ap, subst, ◌∙◌, arith, ⊎_elim, append_assoc}
 use Rattle.std.specs.Prelude.{min, Result, Ok, Err, IsErr}
 use Rattle.std.proofs.lemmas.Bool.{false≢true}
 use Rattle.std.specs.List.{range_with_len}
@@ -23,7 +23,7 @@ use Rattle.inverse_strip.specs.declared.strip.StripInverse.{StripInverse}
 use Rattle.inverse_strip.specs.Strip.{columns_of, height_of, taken_of, next_of, numbers_of, row_of, FollowStrip}
 use Rattle.inverse_strip.specs.Kept.{IsCompletion, HasNext, IsIdle}
 use Rattle.strip_decoder.specs.Fronts.{bands_of, front}
-use Rattle.strip_decoder.specs.Pictures.{Shown, IsSized, IsStanding, StandsTo, StandsFor}
+use Rattle.strip_decoder.specs.Pictures.{Shown, IsSized, StandsTo, StandsFor}
 use Rattle.strip_decoder.specs.Steps.{GoesOn, BreaksOff, StoodFor, SameBut, HasGiven, HasNone, HasGivenSome, GivesRow, GivesRows}
 
 -- ---- the first rows as octets

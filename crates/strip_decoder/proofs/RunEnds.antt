@@ -1,37 +1,33 @@
 -- A run that has come to the end of its packets.
-use Rattle.std.proofs.Common.{◌≡◌, ◌≤◌, ◌<◌, ◌+◌, ◌-◌, ◌*◌, ◌/◌, ◌%◌, ◌^◌, ◌==◌, ℕ, ℤ, zero, suc, Bool, true, false, List, [], ◌∷◌, ◌++◌, length, refl, sym, ap, subst, ◌∙◌, inl, inr, arith, append_assoc}
-use Rattle.std.specs.Prelude.{◌||◌, ◌&&◌, not, min, filter, Option, None, Some, is_some, MatchOption}
+use Rattle.std.proofs.Common.{◌≡◌, ◌≤◌, ◌<◌, ◌+◌, ◌-◌, ◌*◌, ◌/◌, ◌%◌, ◌^◌, ◌==◌, ℕ, ℤ, zero, suc, Bool, true, false, List, [], ◌∷◌, ◌++◌, refl, sym, ap, subst, ◌∙◌, inl, inr, arith}
+use Rattle.std.specs.Prelude.{◌||◌, ◌&&◌, not, min, Some, is_some, MatchOption}
 use Rattle.std.specs.List.{range_with_len, list_any}
 use Rattle.std.proofs.lemmas.Bool.{cases_lt, false≢true}
 use Rattle.std.proofs.lemmas.Bool.Decides.{nat_tests}
 use Rattle.std.proofs.lemmas.List.{append-nil}
 use Rattle.std.proofs.lemmas.Nat.{div-add-mod', mod_below, div_below, div-mul-add}
 use Rattle.std.proofs.Math.Nat.{mul-le-mul_right}
-use Rattle.port_122.specs.Outside.{Outside, Since, NoRead}
-use Rattle.base_122.specs.Sizes.{block_count, first_block, segment_blocks, total_blocks}
+use Rattle.port_122.specs.Outside.{Outside}
+use Rattle.base_122.specs.Sizes.{block_count}
 use Rattle.base_122.specs.declared.geometry.Geometry.{Geometry}
 use Rattle.base_122.proofs.SizeBounds.{block_count-rows}
 use Rattle.raster_rows.specs.Pixels.{raster_octets}
-use Rattle.packet_defs.specs.Streams.{begins_packet, whole_packets}
-use Rattle.space_packets.specs.Intake.{verdict, end_read}
+use Rattle.packet_defs.specs.Streams.{whole_packets}
 use Rattle.stream_defs.specs.declared.fate.FateState.{FateState}
-use Rattle.stream_defs.specs.declared.fate.LastPart.{LastPart}
-use Rattle.stream_defs.specs.Fates.{fresh, after_all, kept, kept_in, geometry_in}
-use Rattle.stream_defs.specs.Received.{IsReceived, ReceivedIn, AreReceived, packets_at}
+use Rattle.stream_defs.specs.Fates.{fresh, after_all, kept}
+use Rattle.stream_defs.specs.Received.{IsReceived, ReceivedIn, packets_at}
 use Rattle.stream_defs.specs.Picture.{number_at, picture_with, picture_octets}
 use Rattle.stream_defs.specs.Damage.{is_missing, missing_rows}
-use Rattle.stream_defs.specs.Marks.{Marks, most_block_rows}
+use Rattle.stream_defs.specs.Marks.{most_block_rows}
 use Rattle.stream_defs.proofs.KeptOrder.{before_none}
 use Rattle.damage_rows.proofs.TableLaws.{any_none, filter_front, most_is}
 use Rattle.packet_assembly.specs.Assembling.{Assembling, last_index}
 use Rattle.strip_decoder.specs.Fronts.{front}
 use Rattle.strip_decoder.specs.Pictures.{Shown, IsStanding, passed_in, total_in}
-use Rattle.strip_decoder.specs.Steps.{HasPassed, BreaksOff, MarksRows, AreLost, is_marked, IsListed}
-use Rattle.strip_decoder.specs.Runs.{Run, HasRead, holds_after, Numbers, AreOf, is_lost, Knows, Shows, HasComeTo, future}
-use Rattle.strip_decoder.proofs.Between.{geometry_stays}
+use Rattle.strip_decoder.specs.Steps.{is_marked}
+use Rattle.strip_decoder.specs.Runs.{Run, holds_after, Numbers, is_lost, Shows, HasComeTo, future}
 use Rattle.strip_decoder.proofs.Receiving.{none_received}
 use Rattle.strip_decoder.proofs.RunFinds.{last_of}
-use Rattle.strip_decoder.proofs.Counts.{passed_few}
 
 -- ---- tests over a range
 

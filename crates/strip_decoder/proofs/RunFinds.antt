@@ -1,13 +1,13 @@
 -- A run goes on to the next segment.
 use Rattle.std.proofs.Common.{◌≡◌, ◌≤◌, ◌<◌, ◌+◌, ◌-◌, ◌*◌, ◌/◌, ◌%◌, ℕ, zero, suc, ℤ, List, [], ◌∷◌, ◌++◌, length, take, refl, sym, ap, subst, ◌∙◌, inl, inr, arith, append_assoc, length-append}
-use Rattle.std.specs.Prelude.{Bool, true, false, min, nat_lt, if◌then◌else◌, Option, None, Some, is_some, Ok}
+use Rattle.std.specs.Prelude.{Bool, true, false, nat_lt, if◌then◌else◌, Option, None, Some, is_some, Ok}
 use Rattle.std.proofs.lemmas.Bool.{cases_lt}
 use Rattle.std.proofs.lemmas.Bool.Decides.{nat_tests}
 use Rattle.std.proofs.lemmas.List.{append-nil}
 use Rattle.packet_defs.specs.Packets.{joined}
 use Rattle.std.proofs.lemmas.Nat.{div-add-mod', mod_below}
 use Rattle.std.proofs.Math.Nat.{mul-le-mul_right}
-use Rattle.port_122.specs.Outside.{Outside, Since, Loses, NoRead}
+use Rattle.port_122.specs.Outside.{Outside, Loses}
 use Rattle.base_122.specs.Sizes.{first_block, segment_blocks}
 use Rattle.packet_defs.specs.Streams.{whole_packets}
 use Rattle.stream_defs.specs.declared.fate.FateState.{FateState}
@@ -18,15 +18,15 @@ use Rattle.stream_defs.specs.Settled.{blocks_through}
 use Rattle.stream_defs.proofs.KeptOrder.{before_none}
 use Rattle.stream_defs.proofs.ChosenLaws.{after_all-append}
 use Rattle.packet_assembly.specs.declared.note.SegmentStart.{SegmentStart}
-use Rattle.packet_assembly.specs.Assembling.{Assembling, Passes, StaysAt, Starts, BeginsNone, last_index, state_with}
-use Rattle.packet_assembly.specs.Segments.{WasHeld, WasFound, FindsSegment}
+use Rattle.packet_assembly.specs.Assembling.{Assembling, Passes, StaysAt, Starts, last_index, state_with}
+use Rattle.packet_assembly.specs.Segments.{WasFound, FindsSegment}
 use Rattle.strip_decoder.specs.Pictures.{Shown, IsStanding, passed_in, total_in}
-use Rattle.strip_decoder.specs.Segments.{FitsNext, IsAt, IsBetween}
-use Rattle.strip_decoder.specs.Runs.{Run, HasRead, holds_after, IsPrompt, Knows, Shows, HasComeTo, IsBegun, ComesTo, ComesPast, future}
-use Rattle.strip_decoder.proofs.TextReads.{IsLeft, left_after}
+use Rattle.strip_decoder.specs.Segments.{FitsNext, IsBetween}
+use Rattle.strip_decoder.specs.Runs.{Run, holds_after, IsPrompt, Knows, HasComeTo, IsBegun, ComesTo, ComesPast, SawEnd, future}
+use Rattle.strip_decoder.proofs.TextReads.{left_after}
 use Rattle.strip_decoder.proofs.Between.{index_stays, comes_next, found_at}
 use Rattle.strip_decoder.proofs.Receiving.{none_received, knows_to}
-use Rattle.strip_decoder.proofs.Asking.{future_past, future_part, read_on, knows_on, took_on, wrote_on, packets_then, state_then, is_prompt}
+use Rattle.strip_decoder.proofs.Asking.{future_past, future_part, read_on, knows_on, took_on, packets_then, state_then, is_prompt}
 
 -- what was left before octets were taken
 pub left_before : (o n : Option (List ℕ)) (took rest : List ℕ) → Loses o n took → n ≡ Some rest → o ≡ Some (took ++ rest)
@@ -49,8 +49,8 @@ pub nothing_more : (took rest : List ℕ) → length (took ++ rest) ≡ length t
 nothing_more took [] e = refl
 nothing_more took (x ∷ rest) e = absurd (omega (arith, e, length-append took (x ∷ rest)))
 
-all_nothing : (took rest : List ℕ) → took ++ rest ≡ [] → rest ≡ []
-all_nothing [] rest e = e
+all_nothing : (took rest : List ℕ) → took ++ rest ≡ [] → (rest ≡ []) × (length took ≡ 0)
+all_nothing [] rest e = (e, refl)
 all_nothing (x ∷ took) rest e = absurd (let long = ap length e in omega (arith, long))
 
 take_all : (k : ℕ) (xs : List ℕ) → length xs ≤ k → take k xs ≡ xs
@@ -60,12 +60,14 @@ take_all zero (x ∷ xs) le = absurd (omega arith)
 take_all (suc k) (x ∷ xs) le = ap (λ zs. x ∷ zs) (take_all k xs (omega (arith, le)))
 
 -- where the end was seen, nothing is left
-pub end_on : {P : FateState → Type 0} (old new : Outside) (a b : Assembling) (went : List (List ℕ)) → (q : Passes P old new a b went) → ((rest : List ℕ) → old.rest ≡ Some rest → a.intake.ended ≡ true → rest ≡ []) →
-    (rest : List ℕ) → new.rest ≡ Some rest → b.intake.ended ≡ true → rest ≡ []
+pub end_on : {P : FateState → Type 0} (old new : Outside) (a b : Assembling) (went : List (List ℕ)) → (q : Passes P old new a b went) → SawEnd old a → SawEnd new b
 end_on old new a b went q before rest told ended = by a.intake.ended refl
   where
-    by : (c : Bool) → a.intake.ended ≡ c → rest ≡ []
-    by true e = all_nothing q.took rest (before (q.took ++ rest) (left_before old.rest new.rest q.took rest q.since.rest told) e)
+    by : (c : Bool) → a.intake.ended ≡ c → (rest ≡ []) × (b.intake.taken < b.intake.cap)
+    by true e =
+        let early = before (q.took ++ rest) (left_before old.rest new.rest q.took rest q.since.rest told) e in
+        let none = all_nothing q.took rest early.0 in
+        (none.0, omega (arith, none.1, early.1, q.taken, q.cap))
     by false e =
         let n : ℕ = a.intake.cap - a.intake.taken in
         let sees : nat_lt (length (q.took ++ rest)) n ≡ true = rw (e, ended) at (q.sees rest told) in
@@ -73,8 +75,10 @@ end_on old new a b went q before rest told ended = by a.intake.ended refl
         let comes : a.intake.pending ++ take n (q.took ++ rest) ≡ joined went ++ (b.intake.pending ++ []) = rw (e, ended) at (q.comes rest told) in
         let all : take n (q.took ++ rest) ≡ q.took ++ rest = take_all n (q.took ++ rest) (omega (arith, fewer)) in
         let long = ap length comes in
-        let short = ap length q.octets_are in
-        nothing_more q.took rest (omega (arith, long, short, ap length all, length-append a.intake.pending (take n (q.took ++ rest)), length-append a.intake.pending q.took, length-append (joined went) (b.intake.pending ++ []), length-append (joined went) b.intake.pending, ap length (append-nil b.intake.pending)))
+        let short = ap length q.octets_are in (
+          nothing_more q.took rest (omega (arith, long, short, ap length all, length-append a.intake.pending (take n (q.took ++ rest)), length-append a.intake.pending q.took, length-append (joined went) (b.intake.pending ++ []), length-append (joined went) b.intake.pending, ap length (append-nil b.intake.pending))),
+          omega (arith, fewer, length-append q.took rest, q.taken, q.cap),
+        )
       where
         less : (m k : ℕ) → nat_lt m k ≡ true → m < k
         less m k e = grind (arith, nat_tests)
@@ -98,6 +102,7 @@ read_come w now new a b p bound went come q right = record {
   shows = come.shows;
   few = come.few;
   at_end = end_on now new a b went q come.at_end;
+  small = come.small;
 }
 
 -- at a read call the packets so far are some of those to come, and no later segment was begun
@@ -150,6 +155,7 @@ to_segment w now a p start index standing come begun reached next =
         shows = come.shows;
         few = omega (arith, next.reached, next.fits.first);
         at_end = come.at_end;
+        small = come.small;
       };
       begun = record {
         before = begun.before;
@@ -180,6 +186,7 @@ held_come w now a p bound come = record {
   shows = come.shows;
   few = come.few;
   at_end = come.at_end;
+  small = come.small;
 }
 
 found_held : (w : Run) (now : Outside) (a : Assembling) (p : Shown) (start : SegmentStart) → IsStanding p → (past : ComesPast w now a p) → a.held ≡ Some start → FitsNext p start → ComesTo w now (record a { held = None }) p start

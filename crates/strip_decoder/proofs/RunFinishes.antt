@@ -1,45 +1,42 @@
 -- A run ends.
-use Rattle.std.proofs.Common.{◌≡◌, ◌≤◌, ◌<◌, ◌+◌, ◌-◌, ◌*◌, ◌/◌, ℕ, ℤ, List, [], ◌∷◌, ◌++◌, length, take, drop, refl, sym, ap, subst, ◌∙◌, inl, inr, arith, append_assoc, length-append}
-use Rattle.std.specs.Prelude.{Bool, true, false, ◌==◌, ◌||◌, min, not, if◌then◌else◌, Option, None, Some, Result, Ok, Err, IsErr}
+use Rattle.std.proofs.Common.{◌≡◌, ◌≤◌, ◌<◌, ◌+◌, ◌-◌, ◌*◌, ◌/◌, ℕ, List, [], ◌∷◌, ◌++◌, length, take, refl, sym, ap, subst, ◌∙◌, inl, inr, arith, length-append}
+use Rattle.std.specs.Prelude.{Bool, true, false, ◌==◌, ◌||◌, if◌then◌else◌, Option, None, Some, Result, Ok, Err}
 use Rattle.std.proofs.lemmas.Bool.{false≢true}
-use Rattle.std.proofs.lemmas.List.{append-nil}
-use Rattle.port_122.specs.Outside.{Outside, Since, NoRead, Rose, IsUsedUp}
+use Rattle.port_122.specs.Outside.{Outside, Since, IsUsedUp}
 use Rattle.port_122.proofs.Stretches.{at_end_later}
-use Rattle.base_122.specs.Sizes.{first_block, segment_blocks, total_blocks}
+use Rattle.base_122.specs.Sizes.{total_blocks}
 use Rattle.base_122.specs.declared.geometry.Geometry.{Geometry}
 use Rattle.bit_pipe.specs.declared.fault.InFault.{InFault}
 use Rattle.bit_pipe.specs.declared.fault.InFault.TheVariants as in_faults
 use Rattle.packet_defs.specs.Packets.{joined}
 use Rattle.packet_defs.specs.Tests.{when, first_of}
 use Rattle.packet_defs.specs.declared.packet.Framing.{Framing}
-use Rattle.packet_defs.specs.declared.packet.Framing.TheVariants.{BadVersion, CutPacket}
+use Rattle.packet_defs.specs.declared.packet.Framing.TheVariants.{BadVersion}
 use Rattle.packet_defs.specs.declared.packet.PacketRead.{PacketRead}
-use Rattle.packet_defs.specs.declared.packet.PacketRead.TheVariants.{Ended, Fault}
-use Rattle.packet_defs.specs.Streams.{Splits, has_bad_version, begins_packet, whole_packets, left_over, place_after, framing_at, framing, missing}
+use Rattle.packet_defs.specs.declared.packet.PacketRead.TheVariants.{Fault}
+use Rattle.packet_defs.specs.Streams.{Splits, has_bad_version, begins_packet, whole_packets, left_over, place_after, framing_at, framing}
 use Rattle.packet_defs.proofs.Splits.{splits_whole, splits_left}
-use Rattle.space_packets.specs.Intake.{Intake, verdict, end_read, place_of}
+use Rattle.space_packets.specs.Intake.{verdict, end_read, place_of}
 use Rattle.stream_defs.specs.declared.fate.FateState.{FateState}
 use Rattle.stream_defs.specs.Fates.{fresh, after_all, kept_in, geometry_in}
 use Rattle.stream_defs.specs.Picture.{number_at}
 use Rattle.strip_decoder.specs.Fronts.{front}
-use Rattle.packet_assembly.specs.Assembling.{Assembling, Passes, StaysAt, last_index, state_with, unread_assembly}
-use Rattle.packet_assembly.specs.Segments.{FoundNone, StandsEnded, StandsLong, FindsSegment}
+use Rattle.packet_assembly.specs.Assembling.{Assembling}
+use Rattle.packet_assembly.specs.Segments.{FoundNone, StandsEnded, StandsLong}
 use Rattle.packet_assembly.proofs.Verdicts.{is_over, over_read, long_read}
-use Rattle.packet_assembly.proofs.OneStep.{none_whole}
 use Rattle.strip_decoder.specs.declared.decode.DecodeFault.{DecodeFault}
 use Rattle.strip_decoder.specs.declared.decode.DecodeFault.TheVariants.{ReadFault, WriteFault, NoSegment, TooManyPixels, LongInput, Memory}
 use Rattle.strip_decoder.specs.Pictures.{Shown, IsStanding, passed_in, total_in}
 use Rattle.strip_decoder.specs.Steps.{HasPassed, BreaksOff, MarksRows, AreLost}
 use Rattle.strip_decoder.specs.Segments.{IsBetween, FindsNext, TakesSegment}
-use Rattle.strip_decoder.specs.Runs.{Run, HasRead, Numbers, AreOf, HasComeTo, ComesPast, ComesToEnd, HasBroken, HasLong, BreaksRun, IsReadOut, IsWhole}
+use Rattle.strip_decoder.specs.Runs.{Run, HasRead, AreOf, HasComeTo, ComesPast, ComesToEnd, HasBroken, HasLong, BreaksRun, SawEnd, IsReadOut, IsWhole}
 use Rattle.strip_decoder.proofs.TextReads.{left_after}
 use Rattle.strip_decoder.proofs.Between.{geometry_stays}
 use Rattle.strip_decoder.proofs.Counts.{passed_few}
 use Rattle.strip_decoder.proofs.Showing.{shows_lost, are_lost, number_by}
-use Rattle.strip_decoder.proofs.Asking.{state_then, packets_then, wrote_on, both_tell}
-use Rattle.strip_decoder.proofs.RunFinds.{stays_come, read_come, le_div}
-use Rattle.strip_decoder.proofs.RunTakes.{wrote_come}
-use Rattle.strip_decoder.proofs.RunPasses.{come_broken, write_broken}
+use Rattle.strip_decoder.proofs.Asking.{geometry_small, wrote_on, both_tell}
+use Rattle.strip_decoder.proofs.RunFinds.{left_before, stays_come, le_div}
+use Rattle.strip_decoder.proofs.RunPasses.{come_broken}
 use Rattle.strip_decoder.proofs.RunEnds.{all_missing, all_given, all_received}
 
 -- ---- the end of the packets
@@ -91,22 +88,26 @@ ended_framing w b took passed read ended =
     ∙ ap (λ n. framing_at n v.pending) (sym place) ∙ ap (framing_at (place_after took)) (sym left)
 
 -- the end was read, or what can't be read on
-pub ended_out : (w : Run) (now : Outside) (b : Assembling) (took : List ℕ) (passed : List (List ℕ)) → HasRead w b took passed → StandsEnded b → ((rest : List ℕ) → now.rest ≡ Some rest → b.intake.ended ≡ true → rest ≡ []) → IsReadOut now took
+pub ended_out : (w : Run) (now : Outside) (b : Assembling) (took : List ℕ) (passed : List (List ℕ)) → HasRead w b took passed → StandsEnded b → SawEnd now b → IsReadOut w.cap now took
 ended_out w now b took passed read ended at_end =
     let splits : Splits took passed b.intake.pending = record { octets_are = read.octets_are; packets_are = read.packets_are; none_left = ended_none b ended } in
     let left = splits_left splits in
     elim (over_read b.apid b.intake (end_read b.framing) (end_is_over b.framing) ended).1 [
       | inl bad ↦ inl (ap has_bad_version left ∙ bad)
-      | inr seen ↦ inr (used_up now.rest (λ rest told. at_end rest told seen))
+      | inr seen ↦ inr (used_up now.rest (λ rest told. (at_end rest told seen).0), λ rest told. let fewer = (at_end rest told seen).1 in omega (arith, fewer, read.taken, read.cap))
     ]
   where
     used_up : (o : Option (List ℕ)) → ((rest : List ℕ) → o ≡ Some rest → rest ≡ []) → IsUsedUp o
     used_up None none = tt
     used_up (Some rest) none = none rest refl
 
-out_later : {Q : ℕ → ℕ → Type 0} (now new : Outside) (took g : List ℕ) → Since now new [] g [] Q → IsReadOut now took → IsReadOut new took
-out_later now new took g since (inl bad) = inl bad
-out_later now new took g since (inr over) = inr (at_end_later since over)
+out_later : {Q : ℕ → ℕ → Type 0} (cap : ℕ) (now new : Outside) (took g : List ℕ) → Since now new [] g [] Q → IsReadOut cap now took → IsReadOut cap new took
+out_later cap now new took g since (inl bad) = inl bad
+out_later cap now new took g since (inr over) = inr (at_end_later since over.0, λ rest told. over.1 rest (left_before now.rest new.rest [] rest since.rest told))
+
+-- and so it is where all octets that the cap lets were taken
+pub long_packets : (w : Run) (b : Assembling) (took : List ℕ) (passed : List (List ℕ)) → HasRead w b took passed → StandsLong b → whole_packets took ≡ passed
+long_packets w b took passed read long = splits_whole record { octets_are = read.octets_are; packets_are = read.packets_are; none_left = (long_read b.apid b.intake in_faults.LongInput long).none }
 
 -- no packet can't be read on at the cap
 pub long_good : (w : Run) (b : Assembling) (took : List ℕ) (passed : List (List ℕ)) → HasRead w b took passed → StandsLong b → has_bad_version (left_over took) ≡ false
@@ -180,7 +181,7 @@ module _ (w : Run) (now new : Outside) (a : Assembling) (p q : Shown) (standing 
         since = wrote_on w.apid come.took come.gave passed.goes.gave come.since passed.goes.out;
         geometry = ap (λ xs. (after_all w.apid fresh xs).geometry) whole ∙ ap (λ (s : FateState). s.geometry) (sym come.read.state) ∙ end.geometry ∙ ap Some (sym passed.geometry);
         framing_is = ended_framing w a come.took come.passed come.read end.ended;
-        out = out_later now new come.took passed.goes.gave passed.goes.out (ended_out w now a come.took come.passed come.read end.ended come.at_end);
+        out = out_later w.cap now new come.took passed.goes.gave passed.goes.out (ended_out w now a come.took come.passed come.read end.ended come.at_end);
         rows = passed.standing.sized.damage;
         told = λ every told.
             let rest = left_after w.start.rest now.rest come.took every come.since.rest told in
@@ -192,6 +193,7 @@ module _ (w : Run) (now new : Outside) (a : Assembling) (p q : Shown) (standing 
     took = end.come.took;
     gave = end.come.gave ++ broken.gave;
     since = wrote_on w.apid end.come.took end.come.gave broken.gave end.come.since broken.out;
+    small = geometry_small w.pixels w.apid end.come.took p.geometry geometry_told end.come.small;
     front = λ every told. record {
       none = λ none. absurd (let both : None ≡ Some p.geometry = sym none ∙ geometry_told in cc);
       some = λ g received there are.

@@ -1,34 +1,31 @@
 -- A run past the blocks of a segment, or to a fault.
-use Rattle.std.proofs.Common.{◌≡◌, ◌≤◌, ◌<◌, ◌+◌, ◌-◌, ◌*◌, ◌/◌, ℕ, ℤ, List, [], ◌∷◌, ◌++◌, length, take, refl, sym, ap, subst, ◌∙◌, inl, inr, arith, append_assoc}
-use Rattle.std.specs.Prelude.{Bool, true, false, min, if◌then◌else◌, Option, None, Some, Result, Ok, Err, IsOk, IsErr}
+use Rattle.std.proofs.Common.{◌≡◌, ◌≤◌, ◌<◌, ◌+◌, ◌-◌, ◌*◌, ◌/◌, ℕ, ℤ, List, [], ◌∷◌, ◌++◌, length, take, refl, sym, ap, subst, ◌∙◌, inl, inr, arith}
+use Rattle.std.specs.Prelude.{Bool, true, false, if◌then◌else◌, Option, None, Some, Result, Ok, Err, IsOk, IsErr}
 use Rattle.std.proofs.lemmas.Bool.{false≢true}
 use Rattle.std.proofs.lemmas.List.{append-nil}
 use Rattle.std.proofs.lemmas.Nat.{div-mul-add}
-use Rattle.port_122.specs.Outside.{Outside, Since, NoRead}
+use Rattle.port_122.specs.Outside.{Outside}
 use Rattle.base_122.specs.Sizes.{first_block, segment_blocks, total_blocks}
 use Rattle.base_122.specs.declared.geometry.Geometry.{Geometry}
 use Rattle.wave_defs.specs.Held.{blocks_in}
 use Rattle.packet_defs.specs.Streams.{whole_packets}
 use Rattle.stream_defs.specs.declared.fate.FateState.{FateState}
-use Rattle.stream_defs.specs.Fates.{geometry_in}
 use Rattle.strip_decoder.specs.declared.decode.DecodeFault.{DecodeFault}
 use Rattle.strip_decoder.specs.declared.decode.DecodeFault.TheVariants.{ReadFault, WriteFault, NoSegment, TooManyPixels, LongInput, Memory}
 use Rattle.strip_decoder.proofs.Between.{geometry_stays}
-use Rattle.stream_defs.specs.Received.{ReceivedIn}
 use Rattle.stream_defs.specs.Picture.{number_at}
 use Rattle.packet_assembly.specs.declared.note.SegmentStart.{SegmentStart}
-use Rattle.packet_assembly.specs.Comings.{coming}
-use Rattle.packet_assembly.specs.Assembling.{Assembling, last_index, is_closed}
+use Rattle.packet_assembly.specs.Assembling.{Assembling, last_index}
 use Rattle.packet_assembly.specs.Segments.{GoesOn}
 use Rattle.strip_decoder.specs.Fronts.{front}
 use Rattle.strip_decoder.specs.Pictures.{Shown, IsStanding, passed_in, total_in}
 use Rattle.strip_decoder.specs.Steps.{HasPassed, BreaksOff, Unmarked, MarksRows, AreHeld, AreLost}
 use Rattle.strip_decoder.specs.Segments.{FitsImage, IsAt, ReadsText, Accepts, Refuses, HasFailed, PassesSegment, cells_of}
-use Rattle.strip_decoder.specs.Runs.{Run, HasRead, holds_after, Numbers, IsFrontFor, AreOf, Knows, Shows, HasComeTo, IsBegun, ComesTo, ComesPast, HasBroken, with_segment, future}
+use Rattle.strip_decoder.specs.Runs.{Run, IsFrontFor, AreOf, HasComeTo, IsBegun, ComesTo, ComesPast, HasBroken, with_segment, future}
 use Rattle.strip_decoder.proofs.TextReads.{left_after}
 use Rattle.strip_decoder.proofs.SegmentTakes.{with_cells}
-use Rattle.strip_decoder.proofs.Showing.{shows_cells, shows_lost, shows_held, are_lost, are_held, number_lost}
-use Rattle.strip_decoder.proofs.Asking.{front_packets, wrote_on, geometry_then, not_none, known_same, of_received, is_front}
+use Rattle.strip_decoder.proofs.Showing.{shows_cells, shows_lost, shows_held, are_lost, are_held}
+use Rattle.strip_decoder.proofs.Asking.{small_read, front_packets, wrote_on, geometry_then, not_none, known_same, of_received, is_front}
 use Rattle.strip_decoder.proofs.RunTakes.{wrote_come, went_come, decided, decides_some, decides_none, begun_next, segment_there}
 
 -- ---- a fault
@@ -51,7 +48,7 @@ come_front w now a p bound come standing geometry all told =
     (is_front w a p come.took come.gave [] come.passed bound come.sofar come.read geometry come.shows standing.sized come.few (future a left.rest) hand.0 hand.1 (come.knows left.rest left.told))
 
 unfoldable pub come_broken : (w : Run) (now : Outside) (a : Assembling) (p : Shown) (bound : ℕ) → HasComeTo w now a p bound → IsStanding p → a.state.geometry ≡ Some p.geometry → HasBroken w now
-come_broken w now a p bound come standing geometry = record { took = come.took; gave = come.gave; since = come.since; front = come_front w now a p bound come standing geometry }
+come_broken w now a p bound come standing geometry = record { took = come.took; gave = come.gave; since = come.since; front = come_front w now a p bound come standing geometry; small = small_read w a p come.took come.passed come.read geometry come.small }
 
 -- a write failed among the next n blocks, which are known
 pub write_broken : {Before : (ℕ → ℕ → ℤ) → Type 0} (w : Run) (now new : Outside) (a : Assembling) (p : Shown) (bound n : ℕ) → (come : HasComeTo w now a p bound) → IsStanding p → a.state.geometry ≡ Some p.geometry → passed_in p + n ≤ first_block p.geometry.segment bound →
@@ -77,6 +74,7 @@ write_broken w now new a p bound n come standing geometry few right broken = rec
             let given = broken.given numbers (right numbers of) in
             (given.0, ap (λ zs. zs ++ broken.gave) (come.shows.given numbers fewer) ∙ given.1));
       };
+  small = small_read w a p come.took come.passed come.read geometry come.small;
 }
 
 -- ---- past the segment
@@ -103,6 +101,7 @@ module _ (w : Run) (now new last_out : Outside) (a b : Assembling) (p q : Shown)
     shows = shows_cells p c.sofar c.gave cells c.shows;
     few = c.few;
     at_end = c.at_end;
+    small = c.small;
   }
 
   end_few : first_block p.geometry.segment index + segment_blocks (total_in p) p.geometry.segment index ≤ start.ancillary.first + count
@@ -139,7 +138,7 @@ module _ (w : Run) (now new last_out : Outside) (a b : Assembling) (p q : Shown)
       let some : with_segment index (Some v) come.sofar index ≡ Some (blocks_in (take (64 * count) held)) =
       segment_there w now new a b p start come begun standing geometry unheld last reached fits goes (Some v) ∙ ap (λ xs. Some (blocks_in (take (64 * count) xs))) (sym is) in
       let shows = shows_held (with_cells p held) q index count (with_segment index (Some v) come.sofar) come.gave (reached ∙ fits.first) (omega (arith, fits.blocks)) (subst (λ xs. 64 * count ≤ length xs) (sym is) long) some with_read.shows passed in
-      comes_past goes (wrote_come w new last_out b (with_cells p held) q (index + 1) passed.goes.gave with_read passed.goes.out shows (past_few passed.geometry end)) refl passed.geometry end
+      comes_past goes (wrote_come w new last_out b (with_cells p held) q (index + 1) passed.goes.gave with_read passed.goes.out shows (past_few passed.geometry end) passed.geometry) refl passed.geometry end
 
   -- they were lost
   past_lost : (cells held : List ℤ) → (reads : Refuses now new a b start.head) → HasPassed (MarksRows (with_cells p held) count) (AreLost count (with_cells p held)) count new last_out (with_cells p held) q → ComesPast w last_out b q
@@ -151,7 +150,7 @@ module _ (w : Run) (now new last_out : Outside) (a b : Assembling) (p q : Shown)
       let with_read = cells_come None held goes known in
       let end : passed_in q ≡ start.ancillary.first + count = omega (arith, passed.count, reached) in
       let shows = shows_lost (with_cells p held) q count (with_segment index None come.sofar) come.gave with_read.shows (λ block low high. none_there goes block (omega (arith, low, reached)) (omega (arith, high, reached))) passed in
-      comes_past goes (wrote_come w new last_out b (with_cells p held) q (index + 1) passed.goes.gave with_read passed.goes.out shows (past_few passed.geometry end)) refl passed.geometry end
+      comes_past goes (wrote_come w new last_out b (with_cells p held) q (index + 1) passed.goes.gave with_read passed.goes.out shows (past_few passed.geometry end) passed.geometry) refl passed.geometry end
     where
       none_there : (goes : GoesOn now new a b) (block : ℕ) → start.ancillary.first ≤ block → block < start.ancillary.first + count → with_segment index None come.sofar (block / p.geometry.segment) ≡ None
       none_there goes block low high =

@@ -1,12 +1,12 @@
 -- A run through a whole segment.
 use Rattle.std.proofs.Common.{◌≡◌, ◌≤◌, ◌+◌, ◌-◌, ◌*◌, ℕ, ℤ, List, [], length, refl, sym, ap, subst, ◌∙◌, arith}
-use Rattle.std.specs.Prelude.{Bool, Option, None, Some, Result, Ok, Err, IsOk, IsErr}
+use Rattle.std.specs.Prelude.{Bool, Some, Result, Ok, Err, IsOk, IsErr}
 use Rattle.std.proofs.lemmas.Bool.{false≢true}
 use Rattle.port_122.specs.Outside.{Outside}
 use Rattle.packet_assembly.specs.declared.note.SegmentStart.{SegmentStart}
 use Rattle.packet_assembly.specs.Assembling.{Assembling}
 use Rattle.strip_decoder.specs.declared.decode.DecodeFault.{DecodeFault}
-use Rattle.strip_decoder.specs.Pictures.{Shown, IsStanding, passed_in}
+use Rattle.strip_decoder.specs.Pictures.{Shown, passed_in}
 use Rattle.strip_decoder.specs.Steps.{HasPassed, MarksRows, AreLost}
 use Rattle.strip_decoder.specs.Segments.{FitsImage, IsAt, ReadsText, PassesSegment}
 use Rattle.strip_decoder.specs.Runs.{Run, HasComeTo, IsBegun, ComesTo, ComesPast, HasBroken, RunsSegment}

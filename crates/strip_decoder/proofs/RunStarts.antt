@@ -1,34 +1,28 @@
 -- A run begins.
-use Rattle.std.proofs.Common.{◌≡◌, ◌≤◌, ◌<◌, ◌+◌, ◌*◌, ℕ, zero, suc, ℤ, List, [], ◌∷◌, ◌++◌, length, take, refl, sym, ap, subst, ◌∙◌, inl, inr, arith, append_assoc}
-use Rattle.std.specs.Prelude.{Bool, true, false, min, filter, Option, None, Some, Result, Ok, Err, MatchOption}
+use Rattle.std.proofs.Common.{◌≡◌, ◌≤◌, ◌<◌, ◌+◌, ◌*◌, ℕ, zero, suc, List, [], ◌∷◌, ◌++◌, take, refl, sym, ap, subst, ◌∙◌, inl, inr, arith}
+use Rattle.std.specs.Prelude.{true, false, min, filter, None, Some, Ok}
 use Rattle.std.specs.List.{range_with_len}
 use Rattle.std.proofs.lemmas.Bool.{false≢true}
-use Rattle.std.proofs.lemmas.List.{append-nil}
 use Rattle.port_122.specs.Outside.{Outside, Since}
 use Rattle.port_122.proofs.Stretches.{since_weaker}
-use Rattle.base_122.specs.Sizes.{first_block}
 use Rattle.base_122.specs.declared.geometry.Geometry.{Geometry}
 use Rattle.raster_rows.specs.Pixels.{raster_octets}
 use Rattle.packet_defs.specs.Streams.{whole_packets}
 use Rattle.stream_defs.specs.declared.fate.FateState.{FateState}
-use Rattle.stream_defs.specs.declared.fate.LastPart.{LastPart}
 use Rattle.stream_defs.specs.Fates.{fresh, after, after_all, kept, state_after, geometry_in, part_in}
-use Rattle.stream_defs.specs.Received.{IsReceived}
 use Rattle.stream_defs.specs.Marks.{Marks, most_block_rows}
 use Rattle.stream_defs.specs.Picture.{picture_with}
-use Rattle.stream_defs.proofs.KeptOrder.{does, HasReached, reached_on}
+use Rattle.stream_defs.proofs.KeptOrder.{does, reached_on}
 use Rattle.damage_rows.proofs.TableLaws.{filter_none_from}
 use Rattle.packet_assembly.specs.declared.note.SegmentStart.{SegmentStart}
 use Rattle.packet_assembly.specs.Assembling.{Assembling, Passes, StaysAt, Starts, BeginsNone, last_index, state_with, unread_assembly}
-use Rattle.packet_assembly.specs.Segments.{WasFound, FoundNone, FindsSegment}
-use Rattle.packet_assembly.specs.Passing.{whole_after}
+use Rattle.packet_assembly.specs.Segments.{WasFound, FindsSegment}
 use Rattle.strip_decoder.specs.Fronts.{front}
 use Rattle.strip_decoder.specs.Pictures.{Shown, IsFresh, passed_in}
-use Rattle.strip_decoder.specs.Steps.{is_marked, IsListed}
-use Rattle.strip_decoder.specs.Runs.{Run, HasRead, holds_after, Numbers, IsPrompt, AsksPrompt, IsFrontFor, is_lost, Shows, HasComeTo, IsBegun, ComesTo, HasBroken, future}
+use Rattle.strip_decoder.specs.Steps.{is_marked}
+use Rattle.strip_decoder.specs.Runs.{Run, HasRead, AsksPrompt, HasFew, IsFrontFor, is_lost, Shows, SawEnd, IsBegun, ComesTo}
 use Rattle.strip_decoder.proofs.Between.{index_stays}
 use Rattle.strip_decoder.proofs.Receiving.{none_received, between_none}
-use Rattle.strip_decoder.proofs.Asking.{state_then}
 use Rattle.strip_decoder.proofs.RunFinds.{end_on}
 
 -- ---- before the first segment
@@ -60,36 +54,43 @@ first_read w new a b went unread q =
       state = q.state ∙ ap (λ (a : Assembling). after_all a.apid a.state went) unread;
     }
 
+-- there is no geometry where the last place stays as it was
+none_yet : (w : Run) (a : Assembling) (octets : List ℕ) → a ≡ unread_assembly w.apid w.cap → StaysAt a (state_with a octets) → geometry_in w.apid octets ≡ None
+none_yet w a octets unread stays =
+    let last : last_index (state_with a octets).last ≡ None = stays ∙ ap (λ (a : Assembling). last_index a.state.last) unread in
+    let state : state_with a octets ≡ state_after w.apid octets = ap (λ (a : Assembling). state_with a octets) unread in
+    none_kept w.apid (whole_packets octets) (sym (ap (λ (s : FateState). last_index s.last) state) ∙ last)
+
+-- no image was told of, so it has few pixels
+pub none_few : (pixels apid : ℕ) (octets : List ℕ) → geometry_in apid octets ≡ None → HasFew pixels apid octets
+none_few pixels apid octets none g there = absurd (let both : None ≡ Some g = sym none ∙ there in cc)
+
 -- at each read call nothing is given, and there is no geometry
-pub first_asks : (w : Run) (new : Outside) (a b : Assembling) (went : List (List ℕ)) → a ≡ unread_assembly w.apid w.cap → (q : Passes (StaysAt a) w.start new a b went) → Since w.start new q.took [] [] (AsksPrompt w.apid w.start q.took [])
+pub first_asks : (w : Run) (new : Outside) (a b : Assembling) (went : List (List ℕ)) → a ≡ unread_assembly w.apid w.cap → (q : Passes (StaysAt a) w.start new a b went) →
+    Since w.start new q.took [] [] (λ i j. AsksPrompt w.apid w.start q.took [] i j × HasFew w.pixels w.apid (take i q.took))
 first_asks w new a b went unread q =
-    since_weaker q.since (λ i j le asks. (
-      omega (arith, asks.1),
-      λ all told.
-          let last : last_index (state_with a (take i q.took)).last ≡ None = asks.0 ∙ ap (λ (a : Assembling). last_index a.state.last) unread in
-          let state : state_with a (take i q.took) ≡ state_after w.apid (take i q.took) = ap (λ (a : Assembling). state_with a (take i q.took)) unread in
-          let none = none_kept w.apid (whole_packets (take i q.took)) (sym (ap (λ (s : FateState). last_index s.last) state) ∙ last) in
-          record {
-            none = λ e. nothing j;
-            some = λ g received there are. absurd (let both : None ≡ Some g = sym none ∙ there in cc);
-          },
+    since_weaker q.since (λ i j le asks.
+    let none = none_yet w a (take i q.took) unread asks.0 in (
+      (
+        omega (arith, asks.1),
+        λ all told. record {
+          none = λ e. nothing j;
+          some = λ g received there are. absurd (let both : None ≡ Some g = sym none ∙ there in cc);
+        },
+      ),
+      none_few w.pixels w.apid (take i q.took) none,
     ))
   where
     nothing : (j : ℕ) → take j (let xs : List ℕ = [] in xs) ≡ []
     nothing zero = refl
     nothing (suc j) = refl
 
--- a fault came before the first segment
-unfoldable pub first_broken : (w : Run) (new : Outside) (a b : Assembling) → a ≡ unread_assembly w.apid w.cap → FoundNone w.start new a b → HasBroken w new
-first_broken w new a b unread found = record {
-  took = found.passes.took;
-  gave = [];
-  since = first_asks w new a b found.passed unread found.passes;
-  front = λ all told. record { none = λ e. refl; some = λ g received there are. (0, refl) };
-}
+-- a front is nothing
+pub first_front : (apid : ℕ) (took : List ℕ) → IsFrontFor apid took []
+first_front apid took = record { none = λ e. refl; some = λ g received there are. (0, refl) }
 
 -- where the end was seen, nothing is left
-pub first_end : {P : FateState → Type 0} (w : Run) (new : Outside) (a b : Assembling) (went : List (List ℕ)) → a ≡ unread_assembly w.apid w.cap → Passes P w.start new a b went → (rest : List ℕ) → new.rest ≡ Some rest → b.intake.ended ≡ true → rest ≡ []
+pub first_end : {P : FateState → Type 0} (w : Run) (new : Outside) (a b : Assembling) (went : List (List ℕ)) → a ≡ unread_assembly w.apid w.cap → Passes P w.start new a b went → SawEnd new b
 first_end w new a b went unread q =
     end_on w.start new a b went q (λ rest told ended. absurd (let both : false ≡ true = sym (ap (λ (a : Assembling). a.intake.ended) unread) ∙ ended in false≢true both))
 
@@ -98,10 +99,10 @@ first_end w new a b went unread q =
 pub record HasFound (w : Run) (new : Outside) (b : Assembling) (start : SegmentStart) : Type 0 where
   pub took : List ℕ
   pub went : List (List ℕ)
-  pub since : Since w.start new took [] [] (AsksPrompt w.apid w.start took [])
+  pub since : Since w.start new took [] [] (λ i j. AsksPrompt w.apid w.start took [] i j × HasFew w.pixels w.apid (take i took))
   pub read : HasRead w b took went
   pub begun : IsBegun w.apid went b.text start 0
-  pub at_end : (rest : List ℕ) → new.rest ≡ Some rest → b.intake.ended ≡ true → rest ≡ []
+  pub at_end : SawEnd new b
 
 first_found : (w : Run) (new : Outside) (a b : Assembling) (start : SegmentStart) → a ≡ unread_assembly w.apid w.cap → WasFound w.start new a b start → HasFound w new b start
 first_found w new a b start unread found = record {
@@ -142,8 +143,8 @@ shows_nothing g p fresh_picture =
       listed = missing ∙ sym (ap (λ xs. filter (is_marked xs) (range_with_len 0 most_block_rows)) missing ∙ filter_none_from (is_marked []) most_block_rows 0 (λ i far. refl));
     }
 
-pub first_comes : (w : Run) (new : Outside) (b : Assembling) (p : Shown) (start : SegmentStart) (g : Geometry) → HasFound w new b start → IsFresh g p → ComesTo w new b p start
-first_comes w new b p start g found fresh_picture =
+pub first_comes : (w : Run) (new : Outside) (b : Assembling) (p : Shown) (start : SegmentStart) (g : Geometry) → HasFound w new b start → IsFresh g p → g.width * g.rows ≤ w.pixels → ComesTo w new b p start
+first_comes w new b p start g found fresh_picture small =
     let none : passed_in p ≡ 0 = rw (fresh_picture.row, fresh_picture.column) (omega arith) in
     record {
       come = record {
@@ -151,7 +152,7 @@ first_comes w new b p start g found fresh_picture =
         gave = [];
         passed = found.went;
         sofar = λ index. None;
-        since = found.since;
+        since = since_weaker found.since (λ i j le asks. asks.0);
         read = found.read;
         knows = λ rest told. record {
           at = λ next more are index lt v x. none_received (kept w.apid fresh (found.went ++ next)) index v (between_none w.apid found.went b.text start 0 index next found.begun (omega arith) lt) x;
@@ -160,6 +161,7 @@ first_comes w new b p start g found fresh_picture =
         shows = shows_nothing g p fresh_picture;
         few = omega (arith, none);
         at_end = found.at_end;
+        small = subst (λ (g : Geometry). g.width * g.rows ≤ w.pixels) (sym fresh_picture.geometry) small;
       };
       begun = record {
         before = found.begun.before;

@@ -1,35 +1,31 @@
 -- A run takes a segment.
-use Rattle.std.proofs.Common.{◌≡◌, ◌≤◌, ◌<◌, ◌+◌, ◌-◌, ◌*◌, ◌/◌, ◌==◌, ℕ, ℤ, List, [], ◌∷◌, ◌++◌, length, take, refl, sym, ap, subst, ◌∙◌, inl, inr, arith, append_assoc}
-use Rattle.std.specs.Prelude.{Bool, true, false, min, if◌then◌else◌, Option, None, Some, is_some, Result, Ok, Err, IsOk, IsErr, MatchOption}
-use Rattle.std.proofs.lemmas.Bool.{cases_lt, false≢true}
+use Rattle.std.proofs.Common.{◌≡◌, ◌≤◌, ◌<◌, ◌+◌, ◌-◌, ◌*◌, ◌/◌, ◌==◌, ℕ, ℤ, List, [], ◌∷◌, ◌++◌, refl, sym, ap, subst, ◌∙◌, inl, inr, arith, append_assoc}
+use Rattle.std.specs.Prelude.{true, false, if◌then◌else◌, Option, None, Some, is_some, MatchOption}
+use Rattle.std.proofs.lemmas.Bool.{cases_lt}
 use Rattle.std.proofs.lemmas.Bool.Decides.{nat_tests}
 use Rattle.std.proofs.lemmas.Nat.{div_below}
 use Rattle.port_122.specs.Outside.{Outside, Since, NoRead}
 use Rattle.base_122.specs.Sizes.{first_block, segment_blocks}
 use Rattle.base_122.specs.declared.geometry.Geometry.{Geometry}
-use Rattle.wave_defs.specs.Held.{blocks_in}
 use Rattle.text_defs.specs.Outcomes.{Holds}
 use Rattle.packet_defs.specs.Streams.{whole_packets}
 use Rattle.stream_defs.specs.declared.fate.FateState.{FateState}
-use Rattle.stream_defs.specs.declared.fate.LastPart.{LastPart}
 use Rattle.stream_defs.specs.Fates.{fresh, after_all, kept}
 use Rattle.stream_defs.specs.Received.{IsReceived}
 use Rattle.stream_defs.specs.Settled.{blocks_through}
 use Rattle.stream_defs.proofs.ChosenLaws.{after_all-append}
 use Rattle.packet_assembly.specs.declared.note.SegmentStart.{SegmentStart}
-use Rattle.packet_assembly.specs.Assembling.{Assembling, Passes, StaysOpen, Starts, last_index, is_closed, state_with}
+use Rattle.packet_assembly.specs.Assembling.{Assembling, StaysOpen, Starts, last_index, is_closed, state_with}
 use Rattle.packet_assembly.specs.Segments.{GoesOn}
 use Rattle.packet_assembly.specs.Tails.{text_tail}
 use Rattle.bit_pipe.specs.Sources.{Plainly}
-use Rattle.strip_decoder.specs.declared.decode.DecodeFault.{DecodeFault}
 use Rattle.strip_decoder.specs.Pictures.{Shown, IsStanding, passed_in, total_in}
-use Rattle.strip_decoder.specs.Steps.{HasPassed, BreaksOff, Unmarked, MarksRows, AreHeld, AreLost}
-use Rattle.strip_decoder.specs.Segments.{FitsImage, IsAt, ReadsText, PassesSegment, cells_of}
-use Rattle.strip_decoder.specs.Runs.{Run, HasRead, holds_after, Numbers, IsPrompt, Knows, Shows, HasComeTo, IsBegun, ComesTo, ComesPast, with_segment, future}
+use Rattle.strip_decoder.specs.Steps.{HasPassed, MarksRows, AreLost}
+use Rattle.strip_decoder.specs.Segments.{FitsImage, IsAt}
+use Rattle.strip_decoder.specs.Runs.{Run, holds_after, IsPrompt, Shows, HasComeTo, IsBegun, ComesTo, with_segment, future}
 use Rattle.strip_decoder.proofs.Between.{index_stays, comes_next}
 use Rattle.strip_decoder.proofs.Receiving.{there, there_is, is_received, not_received, open_received}
-use Rattle.strip_decoder.proofs.SegmentTakes.{with_cells, text_goes}
-use Rattle.strip_decoder.proofs.Showing.{shows_same, shows_cells, shows_lost, shows_held}
+use Rattle.strip_decoder.proofs.Showing.{shows_same, shows_lost}
 use Rattle.strip_decoder.proofs.Asking.{future_past, wrote_on}
 use Rattle.strip_decoder.proofs.RunFinds.{left_before, last_of, read_come, right_at}
 
@@ -37,8 +33,8 @@ use Rattle.strip_decoder.proofs.RunFinds.{left_before, last_of, read_come, right
 
 -- the picture shows more of the same segments
 unfoldable pub wrote_come : (w : Run) (now new : Outside) (a : Assembling) (p q : Shown) (bound : ℕ) (g : List ℕ) → (come : HasComeTo w now a p bound) → Since now new [] g [] NoRead → Shows q come.sofar (come.gave ++ g) →
-    passed_in q ≤ first_block q.geometry.segment bound → HasComeTo w new a q bound
-wrote_come w now new a p q bound g come out shows few = record {
+    passed_in q ≤ first_block q.geometry.segment bound → q.geometry ≡ p.geometry → HasComeTo w new a q bound
+wrote_come w now new a p q bound g come out shows few same = record {
   took = come.took;
   gave = come.gave ++ g;
   passed = come.passed;
@@ -50,6 +46,7 @@ wrote_come w now new a p q bound g come out shows few = record {
   shows = shows;
   few = few;
   at_end = λ rest told. come.at_end rest (left_before now.rest new.rest [] rest out.rest told);
+  small = subst (λ (g : Geometry). g.width * g.rows ≤ w.pixels) (sym same) come.small;
 }
 
 -- ---- the blocks before the segment are lost
@@ -60,7 +57,7 @@ lost_come w now new a p q start n to at n_is passed =
     let next = at.next in
     wrote_come w now new a p q start.ancillary.index passed.goes.gave to.come passed.goes.out
     (shows_lost p q n to.come.sofar to.come.gave to.come.shows (λ block low high. to.lost block low (omega (arith, high, n_is, next.reached))) passed)
-    (subst (λ (g : Geometry). passed_in q ≤ first_block g.segment start.ancillary.index) (sym passed.geometry) (omega (arith, passed.count, n_is, next.reached, next.fits.first)))
+    (subst (λ (g : Geometry). passed_in q ≤ first_block g.segment start.ancillary.index) (sym passed.geometry) (omega (arith, passed.count, n_is, next.reached, next.fits.first))) passed.geometry
 
 -- ---- its text is gone through
 
@@ -157,6 +154,7 @@ module _ (w : Run) (now new : Outside) (a b : Assembling) (p : Shown) (start : S
         let more : (index + 1) * p.geometry.segment ≡ index * p.geometry.segment + p.geometry.segment = grind arith in
         omega (arith, reached, fits.first, more);
     at_end = went_come.at_end;
+    small = went_come.small;
   }
 
   -- the next segment may have been begun

@@ -1,13 +1,12 @@
 -- A segment of a picture that is taken.
 use Rattle.std.proofs.Common.{◌≡◌, ◌≤◌, ◌<◌, ◌+◌, ◌-◌, ◌*◌, ◌/◌, ◌^◌, ◌*ℤ◌, ℕ, ℤ, pos, List, [], length, take, drop, get_or, refl, sym, ap, subst, ◌∙◌, arith}
-use Rattle.std.specs.Prelude.{Bool, true, false, min, Option, None, Some, Result, Ok, Err, IsOk, IsErr, unsigned_abs, All}
+use Rattle.std.specs.Prelude.{Bool, true, false, Result, Ok, Err, IsOk, IsErr, unsigned_abs}
 use Rattle.std.proofs.lemmas.Bool.{false≢true}
 use Rattle.std.proofs.lemmas.List.{get_or-take, get_or-drop, length-take-le}
 use Rattle.std.proofs.lemmas.List.FromFn.{get_or-map-range_with_len}
 use Rattle.port_122.specs.Outside.{Outside, Rose, NoFewerFaults}
 use Rattle.port_122.proofs.Stretches.{rose_since}
 use Rattle.base_122.specs.Sizes.{first_block, total_blocks}
-use Rattle.base_122.specs.Weights.{IsShift}
 use Rattle.base_122.specs.declared.geometry.Geometry.{Geometry}
 use Rattle.wave_defs.specs.Line.{floor_div}
 use Rattle.wave_defs.specs.Blocks.{place_of, weight_at}
@@ -18,15 +17,12 @@ use Rattle.segment_defs.specs.Head.{IsHead}
 use Rattle.text_defs.specs.Outcomes.{Holds}
 use Rattle.text_defs.proofs.GivenParts.{IsPart, holds_parts}
 use Rattle.block_families.specs.Places.{AreWeighted}
-use Rattle.strip_decoder.proofs.Dividing.{divided}
-use Rattle.text_defs.proofs.GivenParts.{shift_low}
 use Rattle.packet_assembly.specs.declared.note.SegmentStart.{SegmentStart}
 use Rattle.packet_assembly.specs.Assembling.{Assembling}
 use Rattle.packet_assembly.specs.Segments.{GoesOn}
-use Rattle.strip_decoder.specs.declared.decode.DecodeFault.{DecodeFault}
-use Rattle.strip_decoder.specs.Pictures.{Shown, IsSized, IsStanding, AreParts, HasRoom, passed_in, total_in}
-use Rattle.strip_decoder.specs.Steps.{HasPassed, BreaksOff, Unmarked, MarksRows, AreHeld, AreLost}
-use Rattle.strip_decoder.specs.Segments.{FitsImage, IsAt, Accepts, ReadsText, PassesSegment, HasTaken, cells_of}
+use Rattle.strip_decoder.specs.Pictures.{Shown, IsSized, IsStanding, AreParts, passed_in, total_in}
+use Rattle.strip_decoder.specs.Steps.{HasPassed, MarksRows, AreLost}
+use Rattle.strip_decoder.specs.Segments.{FitsImage, IsAt, ReadsText, PassesSegment, HasTaken, cells_of}
 use Rattle.strip_decoder.proofs.BandBlocks.{part_is}
 use Rattle.strip_decoder.proofs.Between.{past_at}
 use Rattle.strip_decoder.proofs.Counts.{passed_few}

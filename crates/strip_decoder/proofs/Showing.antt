@@ -1,10 +1,9 @@
 -- What a picture shows of the segments so far.
-use Rattle.std.proofs.Common.{◌≡◌, ◌≤◌, ◌<◌, ◌+◌, ◌-◌, ◌*◌, ◌/◌, ◌%◌, ◌==◌, ℕ, ℤ, zero, suc, pos, Bool, true, false, List, [], ◌∷◌, ◌++◌, length, take, get_or, refl, sym, ap, subst, ◌∙◌, inl, inr, arith, append_assoc}
-use Rattle.std.specs.Prelude.{◌||◌, ◌&&◌, not, if◌then◌else◌, Option, None, Some, is_some, unwrap_or}
+use Rattle.std.proofs.Common.{◌≡◌, ◌≤◌, ◌<◌, ◌+◌, ◌-◌, ◌*◌, ◌/◌, ◌%◌, ◌==◌, ℕ, ℤ, zero, suc, pos, Bool, true, false, List, [], ◌∷◌, ◌++◌, length, take, get_or, refl, sym, ap, subst, ◌∙◌, inl, inr, arith}
+use Rattle.std.specs.Prelude.{◌||◌, ◌&&◌, not, if◌then◌else◌, None, Some, is_some, unwrap_or}
 use Rattle.std.specs.List.{range_with_len, list_any}
 use Rattle.std.proofs.lemmas.List.{length-take-le}
-use Rattle.std.proofs.lemmas.Bool.Decides.{nat_tests}
-use Rattle.std.proofs.lemmas.Nat.{div-mul-add, mod-mul-add, div_below}
+use Rattle.std.proofs.lemmas.Nat.{div-mul-add, mod-mul-add}
 use Rattle.port_122.specs.Outside.{Outside}
 use Rattle.base_122.specs.Sizes.{block_count, first_block}
 use Rattle.base_122.specs.declared.geometry.Geometry.{Geometry}
@@ -12,9 +11,9 @@ use Rattle.wave_defs.specs.Held.{block_at, blocks_in}
 use Rattle.stream_defs.specs.Picture.{number_at}
 use Rattle.stream_defs.specs.Marks.{Marks}
 use Rattle.strip_decoder.specs.Fronts.{front}
-use Rattle.strip_decoder.specs.Pictures.{Shown, StandsFor, passed_in}
+use Rattle.strip_decoder.specs.Pictures.{Shown, passed_in}
 use Rattle.strip_decoder.specs.Steps.{GoesOn, HasPassed, Unmarked, MarksRows, AreHeld, AreLost, is_marked, is_touched, IsListed}
-use Rattle.strip_decoder.specs.Runs.{Numbers, AreOf, with_segment, is_lost, Shows}
+use Rattle.strip_decoder.specs.Runs.{Numbers, AreOf, is_lost, Shows}
 use Rattle.strip_decoder.proofs.BlockPasses.{touched_more}
 use Rattle.strip_decoder.proofs.SegmentTakes.{front_block, block_in}
 

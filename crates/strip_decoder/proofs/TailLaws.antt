@@ -1,6 +1,6 @@
 -- Where the packets of a text close it.
-use Rattle.std.proofs.Common.{◌≡◌, ◌≤◌, ◌<◌, ◌+◌, ℕ, List, [], ◌∷◌, ◌++◌, refl, sym, ap, subst, ◌∙◌, inl, inr, arith}
-use Rattle.std.specs.Prelude.{Bool, true, false, ◌==◌, if◌then◌else◌, Option, None, Some}
+use Rattle.std.proofs.Common.{◌≡◌, ◌≤◌, ◌<◌, ◌+◌, ℕ, List, [], ◌∷◌, ◌++◌, refl, sym, ap, ◌∙◌, inl, inr, arith}
+use Rattle.std.specs.Prelude.{Bool, true, false, ◌==◌, if◌then◌else◌, Option, Some}
 use Rattle.std.proofs.lemmas.Bool.{false≢true}
 use Rattle.std.proofs.lemmas.Bool.Decides.{nat_tests}
 use Rattle.bit_pipe.specs.Sources.{End, Plainly, InPieces, Tail}
@@ -8,8 +8,8 @@ use Rattle.packet_defs.specs.Reading.{ancillary_in, flags_in, text_in}
 use Rattle.stream_defs.specs.declared.fate.FateState.{FateState}
 use Rattle.stream_defs.specs.declared.fate.LastPart.{LastPart}
 use Rattle.stream_defs.specs.Fates.{fate, after, after_all, is_kept, closes, part_in}
-use Rattle.stream_defs.specs.Received.{index_in, number_of_part}
-use Rattle.stream_defs.proofs.KeptOrder.{Lost, Begins, Follows, does, HasReached, reached_on}
+use Rattle.stream_defs.specs.Received.{number_of_part}
+use Rattle.stream_defs.proofs.KeptOrder.{Begins, Follows, does, HasReached, reached_on}
 use Rattle.packet_assembly.specs.Assembling.{last_index, is_closed}
 use Rattle.packet_assembly.specs.Tails.{in_front, nothing, kept_tail, tail_over, tail_from}
 
@@ -90,9 +90,6 @@ closed_stays apid n s (x ∷ xs) l is e closed last = elim (does apid s x) [
 
 zero_test : (n m : ℕ) → n ≡ m + 1 → (n == 0) ≡ false
 zero_test n m e = grind (arith, nat_tests)
-
-first_zero : (n : ℕ) → n ≡ 0 → (n == 0) ≡ true
-first_zero n e = grind (arith, nat_tests)
 
 -- ---- closing
 

@@ -7,12 +7,12 @@ use Rattle.port_122.specs.Outside.{Outside, Loses}
 use Rattle.port_122.proofs.Stretches.{rose_since}
 use Rattle.wave_defs.specs.Held.{blocks_in}
 use Rattle.bit_pipe.specs.declared.fault.Part.{Part}
-use Rattle.bit_pipe.specs.Sources.{End, Plainly, TooLong, InPieces, Tail, Comes, IsOver}
+use Rattle.bit_pipe.specs.Sources.{End, Plainly, TooLong, InPieces, Comes, IsOver}
 use Rattle.segment_defs.specs.declared.head.SegmentHead.{SegmentHead}
 use Rattle.segment_defs.specs.Head.{IsHead}
 use Rattle.text_defs.specs.Outcomes.{Holds, Refused, SegmentRefusal, short_segment}
 use Rattle.text_defs.proofs.OutcomeLaws.{outcomes_exclude}
-use Rattle.segment_code.specs.Decoded.{DecodesSegment, EndsSegment, RefusedBy}
+use Rattle.segment_code.specs.Decoded.{DecodesSegment, RefusedBy}
 use Rattle.segment_code.specs.declared.decode.SegmentFault.{SegmentFault}
 use Rattle.segment_code.specs.declared.decode.SegmentFault.TheVariants as faults
 use Rattle.packet_assembly.specs.declared.text.SegmentText.{SegmentText}
@@ -23,7 +23,7 @@ use Rattle.packet_assembly.specs.Tails.{text_tail}
 use Rattle.packet_assembly.specs.TextSource.{segment_source}
 use Rattle.strip_decoder.specs.declared.decode.DecodeFault.{DecodeFault}
 use Rattle.strip_decoder.specs.declared.decode.DecodeFault.TheVariants.{ReadFault, WriteFault, NoSegment, TooManyPixels, LongInput, Memory}
-use Rattle.strip_decoder.specs.Segments.{EndsText, ReadsText, Accepts, Refuses, cells_of}
+use Rattle.strip_decoder.specs.Segments.{EndsText, ReadsText, Refuses, cells_of}
 
 -- what is left after octets were taken
 pub record IsLeft (now : Option (List ℕ)) (took before : List ℕ) : Type 0 where

@@ -1,5 +1,5 @@
 -- How a decoder ends, by what it took and gave. This project's own.
-use Rattle.std.specs.Prelude.{◌≡◌, ◌≤◌, ◌<◌, ◌-◌, ◌*◌, ℕ, List, [], length, false, Option, None, Some, Result, Ok, Err}
+use Rattle.std.specs.Prelude.{◌≡◌, ◌≤◌, ◌<◌, ◌-◌, ◌*◌, ℕ, List, [], length, take, false, None, Some, Result, Ok, Err}
 use Rattle.port_122.specs.Outside.{Outside, Since, Rose, NoFewerFaults}
 use Rattle.base_122.specs.declared.geometry.Geometry.{Geometry}
 use Rattle.packet_defs.specs.Streams.{left_over, has_bad_version, framing}
@@ -15,7 +15,7 @@ use Rattle.strip_decoder.specs.declared.decode.DecodeFault.{DecodeFault}
 use Rattle.strip_decoder.specs.declared.decode.DecodeFault.TheVariants.{ReadFault, WriteFault, NoSegment, TooManyPixels, LongInput, Memory}
 use Rattle.strip_decoder.specs.Pictures.{Shown, IsStanding, passed_in, total_in}
 use Rattle.strip_decoder.specs.Steps.{PassesBlocks, MarksRows, AreLost}
-use Rattle.strip_decoder.specs.Runs.{Numbers, holds_after, AsksPrompt, IsFrontFor, IsReadOut}
+use Rattle.strip_decoder.specs.Runs.{Numbers, holds_after, AsksPrompt, HasFew, IsFrontFor, IsReadOut}
 
 -- ---- the steps
 
@@ -56,7 +56,7 @@ pub record IsPicture (wish : DecodeWish) (start new : Outside) (took gave : List
   pub geometry : geometry_in wish.apid took ≡ Some done.geometry
   pub few : done.geometry.width * done.geometry.rows ≤ wish.pixels
   pub framing_is : done.framing ≡ framing took
-  pub out : IsReadOut new took
+  pub out : IsReadOut wish.octets new took
   pub rows : done.damage.rows ≡ done.geometry.rows
   pub told : (all : List ℕ) → start.rest ≡ Some all → (received : Numbers) × ReceivedIn holds_after wish.apid took received
       × (gave ≡ picture_octets done.geometry received) × (done.damage.missing ≡ missing_rows done.geometry received)
@@ -68,18 +68,22 @@ GivesFront wish start took gave = (all : List ℕ) → start.rest ≡ Some all �
 -- Why it was answered so. The answers exclude each other by what was taken, the end and the counts, but for faults of the port.
 abbrev pub Answers : DecodeWish → (old new : Outside) (took gave : List ℕ) → Result DecodeDone DecodeFault → Type 0
 Answers wish old new took gave (Ok done) = IsPicture wish old new took gave done
-Answers wish old new took gave (Err NoSegment) = (geometry_in wish.apid took ≡ None) × IsReadOut new took × (gave ≡ [])
+Answers wish old new took gave (Err NoSegment) = (geometry_in wish.apid took ≡ None) × IsReadOut wish.octets new took × (gave ≡ [])
 Answers wish old new took gave (Err (TooManyPixels pixels)) =
     ((g : Geometry) × (geometry_in wish.apid took ≡ Some g) × (pixels ≡ g.width * g.rows)) × (wish.pixels < pixels) × (gave ≡ [])
-Answers wish old new took gave (Err LongInput) = (length took ≡ wish.octets) × (has_bad_version (left_over took) ≡ false) × GivesFront wish old took gave
+Answers wish old new took gave (Err LongInput) = (length took ≡ wish.octets) × (has_bad_version (left_over took) ≡ false) × HasFew wish.pixels wish.apid took × GivesFront wish old took gave
 Answers wish old new took gave (Err ReadFault) = Rose old.read_faults new.read_faults × GivesFront wish old took gave
-Answers wish old new took gave (Err WriteFault) = Rose old.write_faults new.write_faults × GivesFront wish old took gave
+Answers wish old new took gave (Err WriteFault) = Rose old.write_faults new.write_faults × HasFew wish.pixels wish.apid took × GivesFront wish old took gave
 Answers wish old new took gave (Err Memory) = gave ≡ []
+
+-- A read call with i octets taken and j given. Where the octets tell of too many pixels, nothing more is read.
+abbrev pub Asks : DecodeWish → Outside → (took gave : List ℕ) → ℕ → ℕ → Type 0
+Asks wish start took gave i j = AsksPrompt wish.apid start took gave i j × HasFew wish.pixels wish.apid (take i took)
 
 -- One run over a port: what it took and gave, when, and why it ended so. At each read call what is given is a front of the picture
 -- for the octets that were taken by then, with at least the rows that may go out.
 pub record Decodes (wish : DecodeWish) (old new : Outside) (result : Result DecodeDone DecodeFault) : Type 0 where
   pub took : List ℕ
   pub gave : List ℕ
-  pub since : Since old new took gave [] (AsksPrompt wish.apid old took gave)
+  pub since : Since old new took gave [] (Asks wish old took gave)
   pub answer : Answers wish old new took gave result

@@ -1,6 +1,6 @@
 -- How far a decoder has come since it began: what it took and gave, what it knows of the segments, and what the picture shows.
 -- This project's own.
-use Rattle.std.specs.Prelude.{◌≡◌, ◌⊎◌, ◌≤◌, ◌<◌, ◌+◌, ◌*◌, ◌/◌, ◌==◌, ◌&&◌, ◌||◌, ℕ, ℤ, Bool, true, false, not, if◌then◌else◌, List, [], ◌∷◌, ◌++◌, length, take, drop, filter, Option, None, Some, Result, Ok, Err, MatchOption, is_some}
+use Rattle.std.specs.Prelude.{◌≡◌, ◌⊎◌, ◌≤◌, ◌<◌, ◌+◌, ◌*◌, ◌/◌, ◌==◌, ◌&&◌, ◌||◌, ℕ, ℤ, Bool, true, false, not, if◌then◌else◌, List, [], ◌∷◌, ◌++◌, length, take, drop, Option, None, Some, Result, Ok, Err, MatchOption, is_some}
 use Rattle.std.specs.List.{AllByRecursion, list_any, range_with_len}
 use Rattle.port_122.specs.Outside.{Outside, Since, AtEnd}
 use Rattle.base_122.specs.Sizes.{block_count, first_block, segment_blocks}
@@ -10,7 +10,6 @@ use Rattle.text_defs.specs.Outcomes.{Holds}
 use Rattle.packet_defs.specs.Packets.{joined}
 use Rattle.packet_defs.specs.Streams.{IsPacket, whole_packets, left_over, has_bad_version, framing}
 use Rattle.stream_defs.specs.declared.fate.LastPart.{LastPart}
-use Rattle.stream_defs.specs.declared.fate.FateState.{FateState}
 use Rattle.stream_defs.specs.Fates.{fresh, after_all, kept, state_after, geometry_in}
 use Rattle.stream_defs.specs.Received.{Acceptance, IsReceived, ReceivedIn}
 use Rattle.stream_defs.specs.Picture.{number_at, picture_octets}
@@ -48,6 +47,10 @@ pub record IsPrompt (apid : ℕ) (taken given : List ℕ) : Type 0 where
 abbrev pub AsksPrompt : (apid : ℕ) → Outside → (took gave : List ℕ) → ℕ → ℕ → Type 0
 AsksPrompt apid start took gave i j = (j ≤ length gave) × ((all : List ℕ) → start.rest ≡ Some all → IsPrompt apid (take i took) (take j gave))
 
+-- an image that these octets tell of has no more pixels than that
+abbrev pub HasFew : (pixels apid : ℕ) → List ℕ → Type 0
+HasFew pixels apid taken = (g : Geometry) → geometry_in apid taken ≡ Some g → g.width * g.rows ≤ pixels
+
 -- a front of the picture for the octets that were taken; nothing without a geometry
 pub record IsFrontFor (apid : ℕ) (taken given : List ℕ) : Type 0 where
   pub none : geometry_in apid taken ≡ None → given ≡ []
@@ -56,10 +59,11 @@ pub record IsFrontFor (apid : ℕ) (taken given : List ℕ) : Type 0 where
 
 -- ---- a run
 
--- for which packets, how many octets at most, and where it began
+-- for which packets, how many octets and pixels at most, and where it began
 pub record Run : Type 0 where
   pub apid : ℕ
   pub cap : ℕ
+  pub pixels : ℕ
   pub start : Outside
 
 -- an assembly that has passed these packets of the octets that were taken
@@ -101,6 +105,10 @@ pub record Shows (p : Shown) (sofar : Numbers) (gave : List ℕ) : Type 0 where
   pub marked : (row : ℕ) → row < most_block_rows → is_marked p.damage.missing row ≡ is_lost p.geometry sofar (passed_in p) row
   pub listed : IsListed p.damage
 
+-- where the end was seen, nothing is left, and more octets may be taken
+abbrev pub SawEnd : Outside → Assembling → Type 0
+SawEnd now a = (rest : List ℕ) → now.rest ≡ Some rest → a.intake.ended ≡ true → (rest ≡ []) × (a.intake.taken < a.intake.cap)
+
 -- So far it has come, with the segments before this bound.
 pub record HasComeTo (w : Run) (now : Outside) (a : Assembling) (p : Shown) (bound : ℕ) : Type 0 where
   pub took : List ℕ
@@ -113,7 +121,8 @@ pub record HasComeTo (w : Run) (now : Outside) (a : Assembling) (p : Shown) (bou
   pub above : (index : ℕ) → bound ≤ index → sofar index ≡ None
   pub shows : Shows p sofar gave
   pub few : passed_in p ≤ first_block p.geometry.segment bound
-  pub at_end : (rest : List ℕ) → now.rest ≡ Some rest → a.intake.ended ≡ true → rest ≡ []
+  pub at_end : SawEnd now a
+  pub small : p.geometry.width * p.geometry.rows ≤ w.pixels
 
 -- the last of the packets begins this segment, which isn't before the bound, and none before it is of the bound or later
 pub record IsBegun (apid : ℕ) (passed : List (List ℕ)) (text : List ℕ) (start : SegmentStart) (bound : ℕ) : Type 0 where
@@ -145,6 +154,7 @@ pub record HasBroken (w : Run) (now : Outside) : Type 0 where
   pub gave : List ℕ
   pub since : Since w.start now took gave [] (AsksPrompt w.apid w.start took gave)
   pub front : (all : List ℕ) → w.start.rest ≡ Some all → IsFrontFor w.apid took gave
+  pub small : HasFew w.pixels w.apid took
 
 -- it goes on past a segment, or a fault ends it
 abbrev pub RunsSegment : Run → Outside → Assembling → Shown → Result (Unit {0}) DecodeFault → Type 0
@@ -166,9 +176,9 @@ pub record HasLong (w : Run) (now : Outside) : Type 0 where
   pub full : length broken.took ≡ w.cap
   pub good : has_bad_version (left_over broken.took) ≡ false
 
--- the end was read, or what can't be read on
-abbrev pub IsReadOut : Outside → List ℕ → Type 0
-IsReadOut now took = (has_bad_version (left_over took) ≡ true) ⊎ AtEnd now
+-- The end was read, which takes that more octets may be taken, or what can't be read on.
+abbrev pub IsReadOut : (cap : ℕ) → Outside → List ℕ → Type 0
+IsReadOut cap now took = (has_bad_version (left_over took) ≡ true) ⊎ (AtEnd now × ((rest : List ℕ) → now.rest ≡ Some rest → length took < cap))
 
 abbrev pub BreaksRun : Run → Outside → DecodeFault → Type 0
 BreaksRun w now LongInput = HasLong w now
@@ -187,7 +197,7 @@ pub record IsWhole (w : Run) (now : Outside) (g : Geometry) (damage : Marks) (fo
   pub since : Since w.start now took gave [] (AsksPrompt w.apid w.start took gave)
   pub geometry : geometry_in w.apid took ≡ Some g
   pub framing_is : found ≡ framing took
-  pub out : IsReadOut now took
+  pub out : IsReadOut w.cap now took
   pub rows : damage.rows ≡ g.rows
   pub told : (all : List ℕ) → w.start.rest ≡ Some all → (received : Numbers) × ReceivedIn holds_after w.apid took received × (gave ≡ picture_octets g received) × (damage.missing ≡ missing_rows g received)
 

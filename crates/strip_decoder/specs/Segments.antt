@@ -5,7 +5,7 @@ use Rattle.base_122.specs.Sizes.{first_block}
 use Rattle.base_122.specs.declared.geometry.Geometry.{Geometry}
 use Rattle.wave_defs.specs.Held.{blocks_in}
 use Rattle.bit_pipe.specs.declared.fault.InFault.TheVariants as in_faults
-use Rattle.bit_pipe.specs.Sources.{End, Plainly}
+use Rattle.bit_pipe.specs.Sources.{Plainly}
 use Rattle.segment_defs.specs.declared.head.SegmentHead.{SegmentHead}
 use Rattle.segment_defs.specs.Head.{IsHead}
 use Rattle.text_defs.specs.Outcomes.{Holds}
@@ -15,7 +15,7 @@ use Rattle.packet_assembly.specs.Segments as assembling
 use Rattle.packet_assembly.specs.Tails.{text_tail}
 use Rattle.stream_defs.specs.Agreement.{blocks_of}
 use Rattle.strip_decoder.specs.declared.decode.DecodeFault.{DecodeFault}
-use Rattle.strip_decoder.specs.declared.decode.DecodeFault.TheVariants.{ReadFault, WriteFault, NoSegment, TooManyPixels, LongInput, Memory}
+use Rattle.strip_decoder.specs.declared.decode.DecodeFault.TheVariants.{ReadFault, WriteFault, LongInput}
 use Rattle.strip_decoder.specs.Pictures.{Shown, IsStanding, passed_in}
 use Rattle.strip_decoder.specs.Steps.{PassesBlocks, Unmarked, MarksRows, AreHeld, AreLost}
 

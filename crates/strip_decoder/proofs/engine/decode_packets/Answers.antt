@@ -41,8 +41,8 @@ pub returns-in-Ok-take_picture : goal.returns-in-Ok-take_picture
 returns-in-Ok-take_picture g c =
     let w = run_of c.args.wish.now (g.X.Port.outside c.args.port.now) in
     let found = found_one w (g.X.Port.outside c.find_next.new.port) c.in-Ok.assembly c.find_next.new.assembly c.in-Ok-Some.start c.in-Ok.ensures (rw c.in-Ok-Some.field-0-is at c.in-Ok-Some.ensures) in
-    let comes = first_comes w (g.X.Port.outside c.find_next.new.port) c.find_next.new.assembly (shown c.in-Ok-new.picture) c.in-Ok-Some.start c.in-Some.geometry found c.in-Ok-new.ensures in
     let few = rw (c.from.ensures, c.from-2.ensures) at c.if-pixels-wish.false in
+    let comes = first_comes w (g.X.Port.outside c.find_next.new.port) c.find_next.new.assembly (shown c.in-Ok-new.picture) c.in-Ok-Some.start c.in-Some.geometry found c.in-Ok-new.ensures few in
     picture_done c.args.wish.now (g.X.Port.outside c.args.port.now) (g.X.Port.outside c.take_picture.new.port) (shown c.take_picture.new.picture) c.in-Some.geometry c.take_picture.new.assembly.framing c.framing.result
     (c.in-Ok-take_picture.ensures.runs w comes) (c.in-Ok-take_picture.ensures.gives ∙ c.in-Ok-new.ensures.geometry) c.framing.ensures.found few
 
@@ -51,7 +51,8 @@ returns g c =
     let w = run_of c.args.wish.now (g.X.Port.outside c.args.port.now) in
     let finds = rw c.in-Ok-Some.field-0-is at c.in-Ok-Some.ensures in
     let found = found_one w (g.X.Port.outside c.find_next.new.port) c.in-Ok.assembly c.find_next.new.assembly c.in-Ok-Some.start c.in-Ok.ensures finds in
-    let comes = first_comes w (g.X.Port.outside c.find_next.new.port) c.find_next.new.assembly (shown c.in-Ok-new.picture) c.in-Ok-Some.start c.in-Some.geometry found c.in-Ok-new.ensures in
+    let few = rw (c.from.ensures, c.from-2.ensures) at c.if-pixels-wish.false in
+    let comes = first_comes w (g.X.Port.outside c.find_next.new.port) c.find_next.new.assembly (shown c.in-Ok-new.picture) c.in-Ok-Some.start c.in-Some.geometry found c.in-Ok-new.ensures few in
     let faults = finds_faults c.in-Ok.assembly c.find_next.new.assembly _ c.in-Ok-Some.ensures in
     picture_fails c.args.wish.now (g.X.Port.outside c.args.port.now) (g.X.Port.outside c.find_next.new.port) (g.X.Port.outside c.take_picture.new.port) (shown c.in-Ok-new.picture) (shown c.take_picture.new.picture) faults.reads faults.writes
     c.in-Err-take_picture.fault c.in-Err-take_picture.ensures.gives (c.in-Err-take_picture.ensures.runs w comes)
