@@ -1,31 +1,45 @@
 //! Times the DC part of a segment, by each way to choose the options, and one bit plane of the same blocks. The
-//! argument is how many thousands of blocks there are; without one there are 16 blocks. The times go to standard
+//! argument is how many thousands of blocks there are; without one there are 64 blocks. The times go to standard
 //! error.
 //!
 //! Last come all planes of blocks whose magnitudes fall from band to band as a picture's do, some blocks busier than
 //! others, in segments of 64 blocks.
+//!
+//! Then each of these segments becomes a whole text, with weights of 1, which is read again: what is read is what was
+//! written.
 //!
 //! The other blocks hold made numbers. The DC part is that of depth 11 with no AC part, so that a number has 10 bits, the
 //! most that there are, and one DC plane follows. The bit plane is plane 8 up to the last stage: about half of the
 //! AC numbers are refined there, and half of the others become significant.
 #![tactic(auto)]
 
+mod segments;
+
 ghost use Rattle.std.specs.Prelude.{◌≡◌, ◌≤◌, ◌<◌, ◌*◌, ◌^◌, ◌≤ℤ◌, pos, length, true, IfOk, OnOk};
 ghost use Rattle.number_defs.specs.Cells.{AreInRange};
 ghost use Rattle.number_defs.specs.DcPart.{dc_q, dc_bits};
 ghost use Rattle.bit_pipe.specs.Standing.{IsReady};
 ghost use Rattle.number_defs.specs.Ranges.{IsInRange};
+ghost use Rattle.std.specs.Int.{div_ceil};
 
 use base_122::{Select, Weights};
-use bit_pipe::{BitOut, OctetOut, PutFault, SliceOut};
-use dc_depths::{DcPlan, put_dc};
+use bit_pipe::{BitIn, BitOut, OctetOut, Part, PutFault, SliceIn, SliceOut, TextFault};
+use dc_depths::{DcPlan, put_dc, take_dc};
 use plane_coder::{CodeTables, PlanePlan, put_plane, put_plane_with};
+use segments::{SEGMENT, put_texts, take_texts};
 use std::time::{Duration, Instant};
 use std::{env, io};
 use word_codes::profile_book;
 
 // Numbers of a block.
 const BLOCK: usize = 64;
+
+// A DC part of numbers of 10 bits, and one DC plane.
+const DC_PLAN: DcPlan = DcPlan {
+    depth_dc: 11,
+    depth_ac: 0,
+    shift: 0,
+};
 
 // The DC of a block: 0 to 1,023. Its range is narrower in some gaggles than in others, so that their options differ.
 fn made_dc(block: usize) -> i32
@@ -68,15 +82,30 @@ fn fill(blocks: &mut [i32])
 fn put_dcs(into: &mut [u8], blocks: &[i32], select: Select) -> Result<u64, PutFault>
     requires { AreInRange true (dc_bits 11 0 0) (dc_q 11 0 0) 64 blocks.now }
 {
-    let plan = DcPlan {
-        depth_dc: 11,
-        depth_ac: 0,
-        shift: 0,
-    };
     let mut out = SliceOut::new(into);
     let mut bits = BitOut::new(&mut out, 0, 0);
-    put_dc(&mut bits, blocks, &plan, select)?;
+    put_dc(&mut bits, blocks, &DC_PLAN, select)?;
     Ok(bits.end(1, false)?)
+}
+
+// Takes the DC part of the blocks.
+fn take_dcs(octets: &[u8], blocks: &mut [i32]) -> Result<Part, TextFault>
+    requires { div_ceil (length blocks.old) 64 < 2 ^ 20 }
+{
+    let mut input = SliceIn::new(octets);
+    let mut bits = BitIn::new(&mut input, 0, 0);
+    take_dc(&mut bits, blocks, &DC_PLAN)
+}
+
+// Whether the blocks have the same DCs.
+fn have_same_dcs(blocks: &[i32], read: &[i32]) -> bool
+    requires { length blocks.now ≡ length read.now }
+{
+    let mut all = true;
+    for block in 0..blocks.len() / BLOCK {
+        all &= blocks[BLOCK * block] == read[BLOCK * block];
+    }
+    all
 }
 
 // Puts a plane of the blocks.
@@ -215,47 +244,95 @@ fn note(rt: &HostRuntime, what: &str, numbers: usize, time: Duration) -> io::Res
 }
 
 fn blocks_asked(rt: &HostRuntime) -> io::Result<usize>
-    ensures { IfOk result (λ count. count < 2 ^ 26) }
+    ensures { IfOk result (λ count. count < 2 ^ 20) }
 {
     let Some(word) = env::args(rt)?.nth(1) else {
-        return Ok(16);
+        return Ok(64);
     };
     match word.as_str().parse::<u16>() {
-        Ok(thousands) => Ok(usize::from(thousands) * 1000),
-        Err(_) => Ok(16),
+        Ok(thousands) => Ok(usize::from(thousands.min(1048)) * 1000),
+        Err(_) => Ok(64),
     }
+}
+
+// Times the DC part written and read.
+fn time_dcs(rt: &HostRuntime, count: usize) -> io::Result<bool>
+    requires { count < 2 ^ 20 }
+{
+    let mut blocks = vec![in rt.alloc(); 0i32; BLOCK * count]?;
+    let mut read = vec![in rt.alloc(); 7i32; BLOCK * count]?;
+    let mut octets = vec![in rt.alloc(); 0u8; 32 * count]?;
+    fill(&mut blocks);
+
+    let start = Instant::now(rt)?;
+    let heuristic = put_dcs(&mut octets, &blocks, Select::Heuristic);
+    note(rt, "put_dc, heuristic", count, start.elapsed(rt)?)?;
+
+    let start = Instant::now(rt)?;
+    let optimal = put_dcs(&mut octets, &blocks, Select::Optimal);
+    note(rt, "put_dc, optimal", count, start.elapsed(rt)?)?;
+
+    let start = Instant::now(rt)?;
+    let taken = take_dcs(&octets, &mut read);
+    note(rt, "take_dc", count, start.elapsed(rt)?)?;
+
+    Ok(heuristic.is_ok() && optimal.is_ok() && taken.is_ok() && have_same_dcs(&blocks, &read))
+}
+
+// Times one dense plane.
+fn time_plane(rt: &HostRuntime, count: usize) -> io::Result<bool>
+    requires { count < 2 ^ 20 }
+{
+    let mut blocks = vec![in rt.alloc(); 0i32; BLOCK * count]?;
+    // The depth of each block.
+    let mut marks = vec![in rt.alloc(); 10i32; count]?;
+    let mut octets = vec![in rt.alloc(); 0u8; 32 * count]?;
+    fill(&mut blocks);
+    let start = Instant::now(rt)?;
+    let plane = put_dense_plane(&mut octets, &blocks, &mut marks);
+    note(rt, "put_plane", blocks.len(), start.elapsed(rt)?)?;
+    Ok(plane.is_ok())
+}
+
+// Times segments like a picture's: all planes of them, and their whole texts, written and read.
+fn time_segments(rt: &HostRuntime, segments: usize) -> io::Result<bool>
+    requires { segments < 2 ^ 14 }
+{
+    let count = SEGMENT * segments;
+    let mut blocks = vec![in rt.alloc(); 0i32; BLOCK * count]?;
+    let mut read = vec![in rt.alloc(); 7i32; BLOCK * count]?;
+    let mut marks = vec![in rt.alloc(); 0i32; count]?;
+    let mut octets = vec![in rt.alloc(); 0u8; BLOCK * count]?;
+    let mut lengths = vec![in rt.alloc(); 0u64; segments]?;
+    fill_like_a_picture(&mut blocks, &mut marks);
+
+    let start = Instant::now(rt)?;
+    let planes = put_segments(&mut octets, &blocks, &mut marks);
+    note(rt, "all planes", blocks.len(), start.elapsed(rt)?)?;
+
+    let start = Instant::now(rt)?;
+    let given = put_texts(&mut octets, &mut lengths, &blocks, &mut marks);
+    note(rt, "encode_segment", blocks.len(), start.elapsed(rt)?)?;
+
+    let start = Instant::now(rt)?;
+    let taken = take_texts(&octets, &lengths, &mut read, &mut marks);
+    note(rt, "decode_segment", blocks.len(), start.elapsed(rt)?)?;
+    eprintln!(rt; "texts of {given} octets")?;
+
+    Ok(planes.is_ok() && taken && read == blocks)
 }
 
 fn main(rt: HostRuntime) -> io::Result<()> {
     let count = blocks_asked(&rt)?;
-    let mut blocks = vec![in rt.alloc(); 0i32; BLOCK * count]?;
-    fill(&mut blocks);
-    // The depth of each block.
-    let mut marks = vec![in rt.alloc(); 10i32; count]?;
-    let mut octets = vec![in rt.alloc(); 0u8; 32 * count]?;
-
-    let start = Instant::now(&rt)?;
-    let heuristic = put_dcs(&mut octets, &blocks, Select::Heuristic);
-    note(&rt, "put_dc, heuristic", count, start.elapsed(&rt)?)?;
-
-    let start = Instant::now(&rt)?;
-    let optimal = put_dcs(&mut octets, &blocks, Select::Optimal);
-    note(&rt, "put_dc, optimal", count, start.elapsed(&rt)?)?;
-
-    let start = Instant::now(&rt)?;
-    let plane = put_dense_plane(&mut octets, &blocks, &mut marks);
-    note(&rt, "put_plane", blocks.len(), start.elapsed(&rt)?)?;
-
-    fill_like_a_picture(&mut blocks, &mut marks);
-    let start = Instant::now(&rt)?;
-    let planes = put_segments(&mut octets, &blocks, &mut marks);
-    note(
-        &rt,
-        "all planes",
-        blocks.len() / 4096 * 4096,
-        start.elapsed(&rt)?,
-    )?;
-
-    let all = heuristic.is_ok() && optimal.is_ok() && plane.is_ok() && planes.is_ok();
-    println!(rt; "{}", if all { "done" } else { "failed" })
+    let dcs = time_dcs(&rt, count)?;
+    let plane = time_plane(&rt, count)?;
+    let segments = time_segments(&rt, count / SEGMENT)?;
+    println!(rt;
+        "{}",
+        if dcs && plane && segments {
+            "done"
+        } else {
+            "failed"
+        }
+    )
 }

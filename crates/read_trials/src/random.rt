@@ -1,0 +1,38 @@
+// Numbers that look random, and are the same for the same seed.
+ghost use Rattle.std.specs.Prelude.{◌<◌};
+
+// Marsaglia's xorshift of 64 bits; its state is never 0.
+#[derive(Drop)]
+pub(crate) struct Random {
+    state: u64,
+}
+
+impl Random {
+    pub fn new(seed: u64) -> Random {
+        Random {
+            state: seed.wrapping_mul(2).wrapping_add(1),
+        }
+    }
+
+    pub fn next(&mut self) -> u64 {
+        self.state ^= self.state << 13;
+        self.state ^= self.state >> 7;
+        self.state ^= self.state << 17;
+        self.state
+    }
+
+    // A number below another.
+    pub fn below(&mut self, most: u32) -> u32
+        requires { 0 < most }
+        ensures { result < most }
+    {
+        ((self.next() >> 32) % u64::from(most)) as u32
+    }
+
+    // True once in so many times.
+    pub fn once_in(&mut self, most: u32) -> bool
+        requires { 0 < most }
+    {
+        self.below(most) == 0
+    }
+}
