@@ -1,4 +1,5 @@
-//! Tests of packets: written as texts, read from a stream, what becomes of them, and the texts that they carry.
+//! Tests of packets: written as texts, read from a stream, what becomes of them, the texts that they carry, and the pictures
+//! of these.
 #![tactic(auto)]
 
 #[cfg(test)]
@@ -7,6 +8,8 @@ mod endless;
 mod examples;
 #[cfg(test)]
 mod fates;
+#[cfg(test)]
+mod pictures;
 #[cfg(test)]
 mod read;
 #[cfg(test)]

@@ -1,0 +1,356 @@
+// Made images, encoded, and the pictures of their packets.
+ghost use Rattle.std.specs.Prelude.{◌≤◌, length};
+ghost use Rattle.base_122.specs.Ranges.{IsInRange};
+
+use crate::examples::port_of;
+use base_122::{Select, Setting, Stop, Weights};
+use damage_rows::{Damage, RowRange};
+use packet_assembly::Framing;
+use port_122::MemoryPort;
+use raster_rows::{MadeImage, made_pixel};
+use std::alloc::Global;
+use std::process::Abort;
+use std::test::Fail;
+use strip_coder::{Work, encode_rows};
+use strip_decoder::{DecodeDone, DecodeFault, DecodeWish, decode_packets};
+
+// What most pictures are wished with.
+const WISH: DecodeWish = DecodeWish {
+    apid: 100,
+    pixels: 1 << 20,
+    octets: 1 << 20,
+};
+
+// The usual setting for an image of 8 bits, but for segments of 16 blocks.
+fn usual(width: u32, rows: u32, packet: u32) -> Setting {
+    Setting {
+        width,
+        rows,
+        depth: 8,
+        signed: false,
+        segment: 16,
+        limit: 0,
+        fill: false,
+        word: 1,
+        stop: Stop {
+            dc: false,
+            plane: 0,
+            stage: 3,
+        },
+        weights: Weights::usual(),
+        select: Select::Optimal,
+        apid: 100,
+        image: 0,
+        packet,
+    }
+}
+
+// An image of 3 by 16 blocks in three segments: blocks 0 to 15, 16 to 31 and 32 to 47. Each segment is one packet.
+fn tall() -> Setting {
+    usual(17, 128, 65_536)
+}
+
+// Puts the octets of a row of the made image to a raster.
+fn put_row(raster: &mut Vec<u8>, setting: &Setting, row: u32) -> Result<(), Fail>
+    requires { IsInRange setting.now }
+{
+    let made = MadeImage {
+        width: setting.width,
+        rows: setting.rows,
+        depth: setting.depth,
+        signed: setting.signed,
+        seed: 7,
+    };
+    for column in 0..setting.width {
+        let octets = made_pixel(&made, row, column).to_be_bytes();
+        let unused = if setting.depth <= 8 { 3 } else { 2 };
+        raster.extend_from_slice(&octets[unused..])?;
+    }
+    Ok(())
+}
+
+// A raster and its packets.
+#[derive(Drop)]
+struct MadeStream {
+    raster: Vec<u8>,
+    packets: Vec<u8>,
+}
+
+// The raster of the made image of a setting.
+fn make_raster(rt: &impl AllocGlobal, setting: &Setting) -> Result<Vec<u8>, Fail>
+    requires { IsInRange setting.now }
+{
+    let mut raster = Vec::new(rt.alloc());
+    for row in 0..setting.rows {
+        put_row(&mut raster, setting, row)?;
+    }
+    Ok(raster)
+}
+
+// Encodes the raster that this port has, and answers whether that was done.
+fn encode_port(alloc: Global, setting: &Setting, port: &mut MemoryPort) -> bool
+    requires { IsInRange setting.now }
+{
+    let Ok(mut work) = Work::new(alloc, setting) else {
+        return false;
+    };
+    encode_rows(port, setting, &mut work).is_ok()
+}
+
+// The packets of a raster.
+fn make_packets(
+    rt: &(impl Abort + AllocGlobal),
+    setting: &Setting,
+    raster: &[u8],
+) -> Result<Vec<u8>, Fail>
+    requires { IsInRange setting.now }
+{
+    let mut port = port_of(rt.alloc(), &[raster], 65_536)?;
+    assert!(rt; encode_port(rt.alloc(), setting, &mut port));
+    Ok(port.given().to_vec(rt.alloc())?)
+}
+
+// The made image of a setting, and its packets.
+fn encode_made(rt: &(impl Abort + AllocGlobal), setting: &Setting) -> Result<MadeStream, Fail> {
+    assert_eq!(rt; setting.check(), Ok(()));
+    let raster = make_raster(rt, setting)?;
+    let packets = make_packets(rt, setting, &raster)?;
+    Ok(MadeStream { raster, packets })
+}
+
+// Where the first packet of a stream ends.
+fn packet_end(rt: &impl Abort, octets: &[u8]) -> usize
+    ensures { result ≤ length octets.now }
+{
+    assert!(rt; octets.len() >= 6);
+    let end = 7 + 256 * usize::from(octets[4]) + usize::from(octets[5]);
+    assert!(rt; end <= octets.len());
+    end
+}
+
+// Where the packet of a segment's part begins and ends in a stream that has it, which has fewer packets than octets.
+fn place_of(rt: &impl Abort, octets: &[u8], index: u8, part: u8) -> (usize, usize) {
+    let mut at = 0;
+    for _ in 0..octets.len() {
+        assert!(rt; at < octets.len());
+        let end = at + packet_end(rt, &octets[at..]);
+        assert!(rt; end - at >= 30);
+        if octets[at + 21] == index && octets[at + 29] == part {
+            return (at, end);
+        }
+        at = end;
+    }
+    (at, at)
+}
+
+// What a decoder answered, and the port that it left.
+#[derive(Drop)]
+struct Outcome {
+    answer: Result<DecodeDone, DecodeFault>,
+    port: MemoryPort,
+}
+
+// Decodes this input with pieces of this size, and lets the calls of these numbers fail.
+fn decoded(
+    rt: &(impl Abort + AllocGlobal),
+    wish: &DecodeWish,
+    input: &[u8],
+    fail: &[u64],
+    piece: usize,
+) -> Result<Outcome, Fail> {
+    assert!(rt; piece > 0);
+    let input = input.to_vec(rt.alloc())?;
+    let mut port = MemoryPort::new(rt.alloc(), input, fail.to_vec(rt.alloc())?, piece)?;
+    let answer = decode_packets(rt.alloc(), &mut port, wish);
+    Ok(Outcome { answer, port })
+}
+
+// The input has no picture, for this reason.
+fn expect_fault(
+    rt: &(impl Abort + AllocGlobal),
+    wish: &DecodeWish,
+    input: &[u8],
+    fault: DecodeFault,
+) -> Result<(), Fail> {
+    let outcome = decoded(rt, wish, input, &[], 100)?;
+    assert_eq!(rt; outcome.answer.err(), Some(fault));
+    assert!(rt; outcome.port.given().is_empty());
+    Ok(())
+}
+
+// The rows of an image that aren't damaged are those of its raster.
+fn expect_rows(
+    rt: &impl Abort,
+    width: u32,
+    raster: &[u8],
+    given: &[u8],
+    damaged: Option<RowRange>,
+) {
+    assert_eq!(rt; given.len(), raster.len());
+    let Some(range) = damaged else {
+        assert_eq!(rt; given, raster);
+        return;
+    };
+    let before = range.first as usize * width as usize;
+    let after = (range.last as usize + 1) * width as usize;
+    assert_eq!(rt; given.get(..before), raster.get(..before));
+    assert_eq!(rt; given.get(after..), raster.get(after..));
+}
+
+// Just these rows are damaged.
+fn expect_damage(rt: &impl Abort, damage: &Damage, damaged: Option<RowRange>) {
+    assert_eq!(rt; damage.next_range(0), damaged);
+    if let Some(range) = damaged {
+        assert_eq!(rt; damage.next_range(range.first.saturating_add(1)), None);
+    }
+}
+
+// The answer is an image of this setting's geometry, in which just these rows are damaged.
+fn expect_done(
+    rt: &impl Abort,
+    setting: &Setting,
+    answer: &Result<DecodeDone, DecodeFault>,
+    damaged: Option<RowRange>,
+    framing: Option<Framing>,
+) {
+    match answer {
+        Ok(done) => {
+            assert_eq!(rt; done.geometry, setting.geometry());
+            assert_eq!(rt; done.framing, framing);
+            expect_damage(rt, &done.damage, damaged);
+        }
+        Err(_) => assert!(rt; false),
+    }
+}
+
+// The input has a picture of this setting's geometry, in which just these rows are damaged; the others are those of the raster.
+fn expect_picture(
+    rt: &(impl Abort + AllocGlobal),
+    setting: &Setting,
+    raster: &[u8],
+    input: &[u8],
+    damaged: Option<RowRange>,
+    framing: Option<Framing>,
+) -> Result<(), Fail> {
+    let outcome = decoded(rt, &WISH, input, &[], 100)?;
+    expect_rows(rt, setting.width, raster, outcome.port.given(), damaged);
+    expect_done(rt, setting, &outcome.answer, damaged, framing);
+    Ok(())
+}
+
+#[test]
+fn an_image_comes_back(rt: HostRuntime) -> Result<(), Fail> {
+    for (width, rows, depth, signed) in [
+        (33, 40, 8, false),
+        (40, 33, 12, true),
+        (17, 129, 16, false),
+        (24, 49, 5, true),
+    ] {
+        let mut setting = usual(width, rows, 1024);
+        setting.depth = depth;
+        setting.signed = signed;
+        let made = encode_made(&rt, &setting)?;
+        expect_picture(&rt, &setting, &made.raster, &made.packets, None, None)?;
+    }
+    Ok(())
+}
+
+#[test]
+fn a_lost_packet_damages_the_rows_it_reaches(rt: HostRuntime) -> Result<(), Fail> {
+    // Block rows 0 to 5, 5 to 10 and 10 to 15.
+    let cases = [
+        (65_536, 0, 0, 0, 69),
+        (65_536, 1, 0, 19, 109),
+        (65_536, 2, 0, 59, 127),
+        (64, 1, 0, 19, 109),
+        (64, 1, 2, 19, 109),
+    ];
+    for (packet, index, part, first, last) in cases {
+        let setting = usual(17, 128, packet);
+        let made = encode_made(&rt, &setting)?;
+        let (start, end) = place_of(&rt, &made.packets, index, part);
+        assert!(rt; start < end && end <= made.packets.len());
+        let mut input = made.packets[..start].to_vec(rt.alloc())?;
+        input.extend_from_slice(&made.packets[end..])?;
+        let damaged = Some(RowRange { first, last });
+        expect_picture(&rt, &setting, &made.raster, &input, damaged, None)?;
+    }
+    Ok(())
+}
+
+#[test]
+fn what_cant_be_read_on_is_lost(rt: HostRuntime) -> Result<(), Fail> {
+    let made = encode_made(&rt, &tall())?;
+    for (index, first) in [(1, 19), (2, 59)] {
+        let (start, _) = place_of(&rt, &made.packets, index, 0);
+        let mut input = made.packets.to_vec(rt.alloc())?;
+        assert!(rt; start < input.len());
+        input[start] = 0x28;
+        let damaged = Some(RowRange { first, last: 127 });
+        let framing = Some(Framing::BadVersion {
+            octet: start as u64,
+        });
+        expect_picture(&rt, &tall(), &made.raster, &input, damaged, framing)?;
+    }
+    assert!(rt; !made.packets.is_empty());
+    let cut = &made.packets[..made.packets.len() - 1];
+    let damaged = Some(RowRange {
+        first: 59,
+        last: 127,
+    });
+    let framing = Some(Framing::CutPacket { missing: 1 });
+    expect_picture(&rt, &tall(), &made.raster, cut, damaged, framing)
+}
+
+#[test]
+fn no_picture_without_a_segment_or_of_too_many_pixels(rt: HostRuntime) -> Result<(), Fail> {
+    let made = encode_made(&rt, &tall())?;
+    expect_fault(&rt, &WISH, &[], DecodeFault::NoSegment)?;
+    let mut wish = WISH;
+    wish.apid = 101;
+    expect_fault(&rt, &wish, &made.packets, DecodeFault::NoSegment)?;
+    wish.apid = 100;
+    wish.pixels = 2_175;
+    let many = DecodeFault::TooManyPixels { pixels: 2_176 };
+    expect_fault(&rt, &wish, &made.packets, many)?;
+    wish.pixels = 2_176;
+    assert!(rt; decoded(&rt, &wish, &made.packets, &[], 100)?.answer.is_ok());
+    Ok(())
+}
+
+#[test]
+fn cap_leaves_the_rows_before(rt: HostRuntime) -> Result<(), Fail> {
+    let made = encode_made(&rt, &tall())?;
+    assert!(rt; !made.packets.is_empty());
+    let mut wish = WISH;
+    wish.octets = made.packets.len() as u64 - 1;
+    let outcome = decoded(&rt, &wish, &made.packets, &[], 100)?;
+    assert_eq!(rt; outcome.answer.err(), Some(DecodeFault::LongInput));
+    assert_eq!(rt; outcome.port.taken(), wish.octets);
+    // The last segment lacks an octet, and its blocks reach row 59.
+    let given = outcome.port.given();
+    assert_eq!(rt; given.get(..59 * 17), made.raster.get(..59 * 17));
+    Ok(())
+}
+
+#[test]
+fn a_fault_leaves_a_front_of_the_image(rt: HostRuntime) -> Result<(), Fail> {
+    let made = encode_made(&rt, &tall())?;
+    let mut reads = false;
+    let mut writes = false;
+    // A row in each write: no fewer than 128 calls.
+    for call in 0..128 {
+        let outcome = decoded(&rt, &WISH, &made.packets, &[call], 17)?;
+        let fault = outcome.answer.err();
+        let read = fault == Some(DecodeFault::ReadFault);
+        let write = fault == Some(DecodeFault::WriteFault);
+        assert!(rt; read || write);
+        reads |= read;
+        writes |= write;
+        let given = outcome.port.given();
+        assert!(rt; made.raster.starts_with(given));
+        assert!(rt; call > 0 || given.is_empty());
+    }
+    assert!(rt; reads && writes);
+    Ok(())
+}
