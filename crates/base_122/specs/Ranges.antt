@@ -1,6 +1,6 @@
 -- The range of each field. The limits come from the fields' widths in CCSDS 122.0-B-2 and CCSDS 133.0-B-2 and from
 -- this project's own profile.
-use Rattle.std.specs.Prelude.{◌≡◌, ◌≢◌, ◌≤◌, ◌⊎◌, ◌%◌, ℕ, List, [], ◌∷◌, All, Bool, true, not, nat_le, ◌==◌, ◌&&◌, ◌||◌, Option, Some, None, Result, Ok, Err, find}
+use Rattle.std.specs.Prelude.{◌≡◌, ◌≢◌, ◌≤◌, ◌⊎◌, ◌%◌, ◌^◌, ℕ, List, [], ◌∷◌, All, Bool, true, not, nat_le, ◌==◌, ◌&&◌, ◌||◌, Option, Some, None, Result, Ok, Err, find}
 use Rattle.std.specs.List.{list_all}
 use Rattle.base_122.specs.Weights.{IsShift, is_shift}
 use Rattle.base_122.specs.declared.field.Field.{Field}
@@ -9,6 +9,7 @@ use Rattle.base_122.specs.declared.field.OutOfRange.{OutOfRange}
 use Rattle.base_122.specs.declared.range.FieldRange.{FieldRange}
 use Rattle.base_122.specs.declared.setting.Setting.{Setting}
 use Rattle.base_122.specs.declared.geometry.Geometry.{Geometry}
+use Rattle.base_122.specs.declared.wish.DecodeWish.{DecodeWish}
 
 -- ---- the least and the greatest value of a field
 
@@ -62,6 +63,14 @@ image_range = record { least = 0; most = 65535 }
 abbrev pub packet_range : FieldRange
 packet_range = record { least = 64; most = 65536 }
 
+-- the most pixels of a picture that is decoded
+abbrev pub pixels_range : FieldRange
+pixels_range = record { least = 0; most = 2 ^ 40 }
+
+-- the number of octets at which reading ends
+abbrev pub octets_range : FieldRange
+octets_range = record { least = 1; most = 2 ^ 40 }
+
 -- Each field is in its range, and fill has a limit.
 pub record IsInRange (s : Setting) : Type 0 where
   pub width : IsWithin width_range s.width
@@ -87,6 +96,12 @@ pub record IsGeometryInRange (g : Geometry) : Type 0 where
   pub image : IsWithin image_range g.image
   pub word : IsWithin word_range g.word
   pub weights : All IsShift g.weights.shifts
+
+-- Each field of a wish is in its range.
+pub record IsWishInRange (wish : DecodeWish) : Type 0 where
+  pub apid : IsWithin apid_range wish.apid
+  pub pixels : IsWithin pixels_range wish.pixels
+  pub octets : IsWithin octets_range wish.octets
 
 -- A limit is 0, or in its range and a multiple of the word. Of a word out of range it needn't be a multiple, so that
 -- the word itself is named.

@@ -1,4 +1,4 @@
-//! Settings of the coder, the geometry of an image and the weights of its bands.
+//! Settings of the coder, what is asked of a decoder, the geometry of an image and the weights of its bands.
 #![tactic(auto)]
 
 mod field;
@@ -6,12 +6,14 @@ mod geometry;
 mod range;
 mod setting;
 mod weights;
+mod wish;
 
 pub use field::{Field, OutOfRange};
 pub use geometry::Geometry;
 pub use range::FieldRange;
 pub use setting::{Select, Setting, Stop, is_limit_in_range, need};
 pub use weights::{Band, Weights};
+pub use wish::DecodeWish;
 
 #[cfg(test)]
 mod tests {

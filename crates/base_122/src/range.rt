@@ -52,6 +52,16 @@ impl FieldRange {
         least: 64,
         most: 65_536,
     };
+    /// The most pixels of a picture that is decoded.
+    pub const PIXELS: FieldRange = FieldRange {
+        least: 0,
+        most: 1 << 40,
+    };
+    /// The number of octets at which reading ends.
+    pub const OCTETS: FieldRange = FieldRange {
+        least: 1,
+        most: 1 << 40,
+    };
 
     /// Whether the number is one of these.
     pub fn contains(self, number: u64) -> bool
