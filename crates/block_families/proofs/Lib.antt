@@ -1,5 +1,6 @@
-mod Passing
-mod Dividing
-mod BandPlaces
+pub mod Passing
+pub mod Dividing
 pub mod Placing
-mod Scattering
+mod PutBack
+mod Filling
+mod Squares

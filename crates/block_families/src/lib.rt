@@ -2,12 +2,14 @@
 #![tactic(auto)]
 
 mod bands;
-mod moves;
+mod gathering;
 mod place;
+mod scattering;
 
-pub use bands::{BandSink, BandSource};
-pub use moves::{gather, scatter};
+pub use bands::{BandRows, BandSink, BandSource};
+pub use gathering::gather;
 pub use place::{Place, place_of};
+pub use scattering::scatter;
 
 #[cfg(test)]
 mod tests;

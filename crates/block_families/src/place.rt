@@ -1,9 +1,10 @@
 // Where the numbers of a block stand.
 
-ghost use Rattle.std.specs.Prelude.{◌≡◌, ◌<◌, ◌≤◌, ◌^◌, ◌+◌, ◌*◌, ◌/◌, ◌%◌};
+ghost use Rattle.std.specs.Prelude.{◌≡◌, ◌<◌, ◌≤◌, ◌^◌, ℕ, ◌+◌, ◌*◌, ◌/◌, ◌%◌};
 ghost use Rattle.base_122.specs.Weights.{band_place};
-ghost use Rattle.wave_defs.specs.Blocks.{family_band};
+ghost use Rattle.wave_defs.specs.Blocks.{family_band, place_of as numbered_place};
 ghost use Rattle.block_families.specs.Places.{named, place_in};
+ghost use Rattle.block_families.specs.Scattering.{in_square};
 
 use base_122::Band;
 
@@ -16,29 +17,24 @@ pub struct Place {
     pub column: u32,
 }
 
-// The bands in the order of `Band`.
-const BANDS: [Band; 10] = [
-    Band::Hh1,
-    Band::Hl1,
-    Band::Lh1,
-    Band::Hh2,
-    Band::Hl2,
-    Band::Lh2,
-    Band::Hh3,
-    Band::Hl3,
-    Band::Lh3,
-    Band::Ll3,
-];
-
 // The band of family 0, 1 or 2, which are HL, LH and HH, at a level.
-#[tactic(auto, using(crate::proofs::BandPlaces::band_there))]
-fn band_of(level: u8, family: u8) -> Band
+pub fn band_of(level: u8, family: u8) -> Band
     requires first { 1 ≤ level }
     requires last { level ≤ 3 }
     requires family { family < 3 }
     ensures { band_place result ≡ family_band level family }
 {
-    BANDS[(3 * (level - 1) + (family + 1) % 3) as usize]
+    match (level, family) {
+        (1, 0) => Band::Hl1,
+        (1, 1) => Band::Lh1,
+        (1, _) => Band::Hh1,
+        (2, 0) => Band::Hl2,
+        (2, 1) => Band::Lh2,
+        (2, _) => Band::Hh2,
+        (_, 0) => Band::Hl3,
+        (_, 1) => Band::Lh3,
+        _ => Band::Hh3,
+    }
 }
 
 fn child_of(family: u8, child: u8, column: u32) -> Place
@@ -69,6 +65,39 @@ fn grandchild_of(family: u8, child: u8, grandchild: u8, column: u32) -> Place
         band: band_of(1, family),
         row: u32::from(2 * (child / 2) + grandchild / 2),
         column: 4 * column + u32::from(2 * (child % 2) + grandchild % 2),
+    }
+}
+
+// The band of the number at position 0, 1, 2 or 3.
+pub fn top_band(position: u8) -> Band
+    requires { position < 4 }
+    ensures { band_place result ≡ (numbered_place position).band }
+{
+    if position == 0 {
+        return Band::Ll3;
+    }
+    band_of(3, position - 1)
+}
+
+// The first place of the square whose four numbers stand from position 4 * square + 4 on: the children of
+// each family, and then the grandchildren below each child.
+pub fn square_of(square: u8, column: u32) -> Place
+    requires square { square < 15 }
+    requires column { column < 2 ^ 17 }
+    ensures { (k : ℕ) → k < 4 → in_square (named result) k ≡ place_in column (4 + 4 * square + k) }
+{
+    if square < 3 {
+        return Place {
+            band: band_of(2, square),
+            row: 0,
+            column: 2 * column,
+        };
+    }
+    let child = square - 3;
+    Place {
+        band: band_of(1, child / 4),
+        row: u32::from(2 * (child % 4 / 2)),
+        column: 4 * column + u32::from(2 * (child % 2)),
     }
 }
 

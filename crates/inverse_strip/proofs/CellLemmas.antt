@@ -67,7 +67,7 @@ band_before b c y z h hc hy = grind (arith, nat_tests)
 row_after : (b y z : ℕ) → y < z → first_of_row b y + block_side b ≤ first_of_row b z
 row_after b y z h = grind (arith, nat_tests)
 
-place_same : (p q : Place) → p.band ≡ q.band → p.row ≡ q.row → p.column ≡ q.column → p ≡ q
+pub place_same : (p q : Place) → p.band ≡ q.band → p.row ≡ q.row → p.column ≡ q.column → p ≡ q
 place_same p q eb er ec =
     ap (λ (v : ℕ). record p { band = v }) eb
     ∙ ap (λ (v : ℕ). record p { band = q.band; row = v }) er

@@ -6,3 +6,4 @@ pub mod CellLemmas
 pub mod StripLemmas
 pub mod SampleLemmas
 pub mod NextLemmas
+pub mod SquareLemmas

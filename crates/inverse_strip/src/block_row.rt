@@ -46,10 +46,11 @@ fn numbers_before(band: usize) -> usize
 }
 
 impl BlockRow {
-    ghost use Rattle.std.specs.Prelude.{◌≡◌, ℕ, ◌+◌, ◌*◌, ◌-◌, ◌^◌, ◌<◌, ◌≤◌, ℤ, pos, length, vec_len, IfOk, slice_set};
+    ghost use Rattle.std.specs.Prelude.{◌≡◌, ℕ, ◌+◌, ◌*◌, ◌-◌, ◌^◌, ◌<◌, ◌≤◌, ℤ, pos, length, vec_len, IfOk, slice_index_or, slice_set};
     ghost use Rattle.wave_defs.specs.Blocks.{Place, block_side};
     ghost use Rattle.wave_defs.specs.Within.{AllWithin, IsWithin};
     ghost use Rattle.wave_defs.specs.Held.{signal};
+    ghost use Rattle.block_families.specs.Scattering.{SetsSquare};
     ghost use Rattle.inverse_strip.specs.Cells.{first_of_row, number_in};
 
     /// All numbers are 0.
@@ -87,6 +88,24 @@ impl BlockRow {
         &self.cells[start..start + width]
     }
 
+    // Makes a value the number at a place of a row of a band, which begins at `start`.
+    fn set_in_row(&mut self, band: usize, row: usize, start: usize, column: usize, value: i64)
+        requires band { band < 10 }
+        requires row { row < block_side band }
+        requires start { start ≡ first_of_row band row * self.old.columns }
+        requires fits { start + block_side band * self.old.columns ≤ 64 * self.old.columns }
+        requires column { column < block_side band * self.old.columns }
+        requires small { IsWithin (2 ^ 27) value }
+        ensures columns { self.new.columns ≡ self.old.columns }
+        ensures value { number_in self.new.columns self.new.cells.items
+            (record { band = band; row = row; column = column }) ≡ value }
+        ensures others { (p : Place) → (p ≡ record { band = band; row = row; column = column } → ⊥)
+            → number_in self.new.columns self.new.cells.items p
+            ≡ number_in self.old.columns self.old.cells.items p }
+    {
+        self.cells[start + column] = value;
+    }
+
     /// Makes a value the number at a place.
     pub fn set(&mut self, band: usize, row: usize, column: usize, value: i64)
         requires band { band < 10 }
@@ -101,7 +120,26 @@ impl BlockRow {
             ≡ number_in self.old.columns self.old.cells.items p }
     {
         let start = self.start_of(band, row);
-        self.cells[start + column] = value;
+        self.set_in_row(band, row, start, column, value);
+    }
+
+    /// Makes four values the numbers of a square of two rows and two columns, the upper two first.
+    pub fn set_square(&mut self, band: usize, row: usize, column: usize, values: [i64; 4])
+        requires band { band < 10 }
+        requires rows { row + 2 ≤ block_side band }
+        requires inside { column + 2 ≤ block_side band * self.old.columns }
+        requires small { (k : ℕ) → k < 4 → IsWithin (2 ^ 27) (slice_index_or values k (pos 0)) }
+        ensures columns { self.new.columns ≡ self.old.columns }
+        ensures values { SetsSquare (number_in self.old.columns self.old.cells.items)
+            (number_in self.new.columns self.new.cells.items)
+            (record { band = band; row = row; column = column }) values }
+    {
+        let upper = self.start_of(band, row);
+        let lower = self.start_of(band, row + 1);
+        self.set_in_row(band, row, upper, column, values[0]);
+        self.set_in_row(band, row, upper, column + 1, values[1]);
+        self.set_in_row(band, row + 1, lower, column, values[2]);
+        self.set_in_row(band, row + 1, lower, column + 1, values[3]);
     }
 
     /// Makes all numbers 0.

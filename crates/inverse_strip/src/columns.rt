@@ -75,7 +75,7 @@ pub struct Columns {
 }
 
 impl Columns {
-    ghost use Rattle.std.specs.Prelude.{◌≡◌, ℕ, ◌+◌, ◌*◌, ◌-◌, ◌/◌, ◌^◌, ◌<◌, ◌≤◌, ℤ, length, vec_len, IfOk};
+    ghost use Rattle.std.specs.Prelude.{◌≡◌, ℕ, ◌+◌, ◌*◌, ◌-◌, ◌/◌, ◌%◌, ◌^◌, ◌<◌, ◌≤◌, ℤ, length, vec_len, IfOk};
     ghost use Rattle.wave_defs.specs.Level.{columns_merged};
     ghost use Rattle.wave_defs.specs.Within.{AllWithin};
     ghost use Rattle.wave_defs.specs.Held.{Agrees, signal};
@@ -124,8 +124,25 @@ impl Columns {
         self.taken += 1;
     }
 
-    /// Row i of the columns that end after the pairs that were taken. It is one of the newest.
-    pub fn row(&self, i: usize, into: &mut [i64])
+    /// Row i, which is even, of the columns that end after the pairs that were taken. It is one of the newest.
+    pub fn even(&self, i: usize) -> &[i64]
+        requires even { i % 2 ≡ 0 }
+        requires inside { i < 2 * self.now.taken }
+        requires kept { self.now.taken ≤ i / 2 + 3 }
+        requires long { 3 ≤ self.now.taken }
+        requires few { self.now.taken < 2 ^ 32 }
+        ensures wide { length result.now ≡ self.now.width }
+        ensures value { (c d : ℕ → ℕ → ℤ) → Follow c d self.now
+            → Agrees self.now.width (signal result.now) (columns_merged c d self.now.taken i) }
+        ensures small { (m : ℕ) → 9 ≤ m → IsSmall m self.now
+            → AllWithin (3 * m) self.now.width (signal result.now) }
+    {
+        self.evens.at(i / 2 + 4 - self.taken)
+    }
+
+    /// Row i, which is odd, of the columns that end after the pairs that were taken. It is one of the newest.
+    pub fn odd(&self, i: usize, into: &mut [i64])
+        requires odd { i % 2 ≡ 1 }
         requires wide { length into.old ≡ self.now.width }
         requires inside { i < 2 * self.now.taken }
         requires kept { self.now.taken ≤ i / 2 + 3 }
@@ -136,11 +153,6 @@ impl Columns {
         ensures small { (m : ℕ) → 9 ≤ m → IsSmall m self.now
             → AllWithin (3 * m) self.now.width (signal into.new) }
     {
-        let k = i / 2;
-        if i % 2 == 0 {
-            into.copy_from_slice(self.evens.at(k + 4 - self.taken));
-            return;
-        }
-        odd_row(&self.evens, &self.highs, self.taken, k, into);
+        odd_row(&self.evens, &self.highs, self.taken, i / 2, into);
     }
 }

@@ -113,9 +113,14 @@ impl Level {
         ensures small_row { (m : ℕ) → 9 ≤ m → IsSmallLevel m self.old
             → AllWithin (9 * m) (2 * self.old.left.width) (signal into.new) }
     {
-        self.left.row(self.given, &mut self.left_row);
-        self.right.row(self.given, &mut self.right_row);
-        inverse_row(&self.left_row, &self.right_row, into);
+        let i = self.given;
         self.given += 1;
+        if i % 2 == 0 {
+            inverse_row(self.left.even(i), self.right.even(i), into);
+            return;
+        }
+        self.left.odd(i, &mut self.left_row);
+        self.right.odd(i, &mut self.right_row);
+        inverse_row(&self.left_row, &self.right_row, into);
     }
 }

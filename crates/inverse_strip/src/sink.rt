@@ -22,4 +22,8 @@ impl BandSink for StripInverse {
     fn set(&mut self, place: Place, value: i64) {
         self.put(place, value);
     }
+
+    fn set_square(&mut self, place: Place, values: [i64; 4]) {
+        self.put_square(place, values);
+    }
 }

@@ -1,12 +1,14 @@
 //! The three levels, one after another.
 
 ghost use Rattle.std.specs.Prelude.{◌≡◌, ℕ, ◌+◌, ◌*◌, ◌-◌, ◌^◌, ◌<◌, ◌≤◌, ℤ, length, vec_len};
+ghost use Rattle.base_122.specs.Weights.{band_place};
 ghost use Rattle.inverse_strip.specs.Kept.{Counts};
 ghost use Rattle.inverse_strip.specs.Level.{IsSmallLevel};
 
 use crate::block_row::BlockRow;
 use crate::level::Level;
 use crate::stage::Stage;
+use base_122::Band;
 use block_families::Place;
 use std::alloc::{AllocError, Global};
 
@@ -38,6 +40,13 @@ pub struct StripInverse {
     ghost second_small: { IsSmallLevel (9 * 2 ^ 27) second.level },
 }
 
+// The number of a band.
+fn number_of(band: Band) -> usize
+    ensures { result ≡ band_place band }
+{
+    band as usize
+}
+
 impl StripInverse {
     ghost use Rattle.std.specs.Prelude.{◌≡◌, ℕ, ◌+◌, ◌*◌, ◌-◌, ◌^◌, ◌<◌, ◌≤◌, ℤ, pos, ◌/◌, length, vec_len, IfOk};
     ghost use Rattle.std.specs.Bool.{OnTrue, OnFalse};
@@ -45,10 +54,12 @@ impl StripInverse {
     ghost use Rattle.wave_defs.specs.Held.{Agrees, signal};
     ghost use Rattle.inverse_strip.specs.Kept.{Counts, IsCompletion, HasRow, HasNext, IsIdle, IsDrained};
     ghost use Rattle.inverse_strip.specs.Strip.{FollowStrip, IsNext, Keeps, columns_of, height_of, taken_of, next_of, numbers_of, row_of};
-    ghost use Rattle.wave_defs.specs.Blocks.{Place as NumberedPlace};
+    ghost use Rattle.wave_defs.specs.Blocks.{Place as NumberedPlace, block_side};
+    ghost use Rattle.block_families.specs.Scattering.{SetsSquare};
     ghost use Rattle.inverse_strip.specs.Cells.{number_in};
     ghost use Rattle.inverse_strip.specs.Samples.{strip_samples};
-    ghost use Rattle.std.specs.Prelude.{IfSome, unsigned_abs};
+    ghost use Rattle.std.specs.Prelude.{IfSome, slice_index_or, unsigned_abs};
+    ghost use Rattle.base_122.specs.Weights.{band_place};
     ghost use Rattle.block_families.specs.Places.{named, IsWithin as IsPlaceIn};
     ghost use Rattle.std.specs.Borrow.{sem};
     ghost use Rattle.inverse_strip.specs.Lending.{MovesAfter};
@@ -205,6 +216,23 @@ impl StripInverse {
             place.row as usize,
             place.column as usize,
             value,
+        );
+    }
+
+    /// Makes four values the numbers of a square of two rows and two columns from this place on, the upper two first, in the
+    /// block row that is set next, and changes nothing else.
+    pub fn put_square(&mut self, place: Place, values: [i64; 4])
+        requires rows { place.row + 2 ≤ block_side (band_place place.band) }
+        requires inside { place.column + 2 ≤ block_side (band_place place.band) * columns_of self.old }
+        requires small { (k : ℕ) → k < 4 → unsigned_abs (slice_index_or values k (pos 0)) ≤ 2 ^ 27 }
+        ensures values { SetsSquare (numbers_of self.old) (numbers_of self.new) (named place) values }
+        ensures keeps { Keeps self.old self.new }
+    {
+        self.next.set_square(
+            number_of(place.band),
+            place.row as usize,
+            place.column as usize,
+            values,
         );
     }
 

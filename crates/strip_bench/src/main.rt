@@ -1,15 +1,19 @@
-//! Times the rolling transform both ways at three widths, and the lifting of rows that it is made of. The argument is how
+//! Times the rolling transform both ways at three widths, with the blocks out of it and back into it, and the lifting of rows
+//! that it is made of. The argument is how
 //! many rows there are; without one there are 24. The times go to standard error.
 #![tactic(auto)]
 
-ghost use Rattle.std.specs.Prelude.{◌≡◌, ◌≤◌, ◌<◌, ◌*◌, ◌+◌, ◌%◌, ◌/◌, ◌^◌, ℕ, false, pos, replicate, length, IfOk};
+ghost use Rattle.std.specs.Prelude.{◌≡◌, ◌≤◌, ◌<◌, ◌*◌, ◌+◌, ◌%◌, ◌/◌, ◌^◌, ℕ, true, false, pos, replicate, length, All, IfOk};
+ghost use Rattle.std.specs.Bool.{OnTrue};
 ghost use Rattle.wave_defs.specs.Within.{AllWithin};
 ghost use Rattle.wave_defs.specs.Held.{signal};
-ghost use Rattle.wave_strip.specs.Strip.{rows_of, columns_of, has_ended};
+ghost use Rattle.base_122.specs.Weights.{IsShift};
+ghost use Rattle.wave_strip.specs.Strip.{rows_of, columns_of, has_ended, is_standing};
 ghost use Rattle.inverse_strip.specs.Kept.{IsIdle};
 ghost use Rattle.inverse_strip.specs.Strip.{Keeps, columns_of as blocks_of, height_of, next_of, taken_of};
 
-use block_families::place_of;
+use base_122::Weights;
+use block_families::{gather, scatter};
 use inverse_strip::StripInverse;
 use std::time::{Duration, Instant};
 use std::{env, io, mem};
@@ -23,6 +27,9 @@ fn push_rows(strip: &mut StripWave, row: &[i32], rows: u32) -> u32
     requires bounded { AllWithin (2 ^ 16) (8 * columns_of strip.old) (signal row.now) }
     requires few { rows_of strip.old + rows < 262144 }
     requires running { has_ended strip.old ≡ false }
+    ensures rows { rows_of strip.new ≡ rows_of strip.old + rows }
+    ensures columns { columns_of strip.new ≡ columns_of strip.old }
+    ensures running { has_ended strip.new ≡ false }
 {
     let mut came = 0u32;
     for _ in 0..rows {
@@ -31,6 +38,47 @@ fn push_rows(strip: &mut StripWave, row: &[i32], rows: u32) -> u32
         }
     }
     came
+}
+
+// Pushes rows until a block row stands, and tells whether one does.
+fn push_more(strip: &mut StripWave, row: &[i32]) -> bool
+    requires wide { length row.now ≡ 8 * columns_of strip.old }
+    requires bounded { AllWithin (2 ^ 16) (8 * columns_of strip.old) (signal row.now) }
+    requires few { rows_of strip.old + 8 < 262144 }
+    requires running { has_ended strip.old ≡ false }
+    ensures columns { columns_of strip.new ≡ columns_of strip.old }
+    ensures stands { OnTrue result (is_standing strip.new ≡ true) }
+{
+    for _ in 0..8u32 {
+        if strip.push_row(row).is_some() {
+            return true;
+        }
+    }
+    false
+}
+
+// Gathers the blocks of the block row that stands.
+fn gather_row(strip: &StripWave, columns: u32, weights: &Weights, blocks: &mut [i32])
+    requires columns { columns_of strip.now ≡ columns }
+    requires stands { is_standing strip.now ≡ true }
+    requires shifts { All IsShift weights.now.shifts }
+    requires room { length blocks.old ≡ 64 * columns }
+{
+    for column in 0..columns {
+        let at = 64 * column as usize;
+        gather(strip, column, weights, &mut blocks[at..at + 64]);
+    }
+}
+
+fn gather_rows(strip: &StripWave, columns: u32, weights: &Weights, blocks: &mut [i32], times: u32)
+    requires columns { columns_of strip.now ≡ columns }
+    requires stands { is_standing strip.now ≡ true }
+    requires shifts { All IsShift weights.now.shifts }
+    requires room { length blocks.old ≡ 64 * columns }
+{
+    for _ in 0..times {
+        gather_row(strip, columns, weights, blocks);
+    }
 }
 
 // Splits a row so many times.
@@ -73,24 +121,16 @@ fn copy_rows(into: &mut [i32], row: &[i32], times: u32)
     }
 }
 
-// Puts the same number at each place of a block.
-fn put_block(inverse: &mut StripInverse, column: u32)
-    requires within { column < blocks_of inverse.old }
-    requires stands { taken_of inverse.old < height_of inverse.old }
-    ensures { Keeps inverse.old inverse.new }
-{
-    for position in 0..64 {
-        inverse.put(place_of(position, column), 5);
-    }
-}
-
-fn put_blocks(inverse: &mut StripInverse, columns: u32)
+// Puts a block of zeros into each column.
+fn put_blocks(inverse: &mut StripInverse, columns: u32, weights: &Weights, block: &[i32])
     requires columns { blocks_of inverse.old ≡ columns }
     requires stands { taken_of inverse.old < height_of inverse.old }
+    requires shifts { All IsShift weights.now.shifts }
+    requires zero { block.now ≡ replicate 64 (pos 0) }
     ensures { Keeps inverse.old inverse.new }
 {
     for column in 0..columns {
-        put_block(inverse, column);
+        scatter(inverse, column, weights, block);
     }
 }
 
@@ -105,7 +145,15 @@ fn make_rows(inverse: &mut StripInverse)
 }
 
 // Pushes all block rows, and makes all rows of the image.
-fn inverse_rows(inverse: &mut StripInverse, columns: u32, block_rows: u32)
+fn inverse_rows(
+    inverse: &mut StripInverse,
+    columns: u32,
+    block_rows: u32,
+    weights: &Weights,
+    block: &[i32],
+)
+    requires shifts { All IsShift weights.now.shifts }
+    requires zero { block.now ≡ replicate 64 (pos 0) }
     requires columns { blocks_of inverse.old ≡ columns }
     requires height { height_of inverse.old ≡ block_rows }
     requires taken { taken_of inverse.old ≡ 0 }
@@ -113,7 +161,7 @@ fn inverse_rows(inverse: &mut StripInverse, columns: u32, block_rows: u32)
     requires some { 3 ≤ block_rows }
 {
     for _ in 0..block_rows {
-        put_blocks(inverse, columns);
+        put_blocks(inverse, columns, weights, block);
         inverse.push_block_row();
         make_rows(inverse);
     }
@@ -186,13 +234,30 @@ fn time_strip(
 ) -> io::Result<()>
     requires wide { length row.now ≡ 8 * columns_of strip.old }
     requires bounded { AllWithin (2 ^ 16) (8 * columns_of strip.old) (signal row.now) }
-    requires few { rows_of strip.old + rows < 262144 }
+    requires few { rows_of strip.old + rows + 8 < 262144 }
     requires running { has_ended strip.old ≡ false }
+    requires columns { columns_of strip.old ≡ width / 8 }
 {
     let start = Instant::now(rt)?;
     let last = push_rows(strip, row, rows);
     note(rt, "push_row", rows, width, start.elapsed(rt)?)?;
-    eprintln!(rt; "last block row {last}")
+    eprintln!(rt; "last block row {last}")?;
+    if !push_more(strip, row) {
+        return Ok(());
+    }
+    time_gather(rt, strip, rows, width)
+}
+
+fn time_gather(rt: &HostRuntime, strip: &StripWave, rows: u32, width: u32) -> io::Result<()>
+    requires columns { columns_of strip.now ≡ width / 8 }
+    requires stands { is_standing strip.now ≡ true }
+{
+    let columns = width / 8;
+    let mut blocks = vec![in rt.alloc(); 0i32; 64 * columns as usize]?;
+    let weights = Weights::usual();
+    let start = Instant::now(rt)?;
+    gather_rows(strip, columns, &weights, &mut blocks, rows / 8);
+    note(rt, "gather", rows, width, start.elapsed(rt)?)
 }
 
 fn time_forward(rt: &HostRuntime, width: u32, rows: u32) -> io::Result<()>
@@ -221,11 +286,12 @@ fn time_inverse(
     requires some { 3 ≤ block_rows }
     requires few { block_rows ≤ 2 ^ 13 }
 {
+    let (weights, block) = (Weights::usual(), [0i32; 64]);
     let start = Instant::now(rt)?;
-    inverse_rows(inverse, width / 8, block_rows);
+    inverse_rows(inverse, width / 8, block_rows, &weights, &block);
     note(
         rt,
-        "put and make_row",
+        "scatter and make_row",
         8 * block_rows,
         width,
         start.elapsed(rt)?,

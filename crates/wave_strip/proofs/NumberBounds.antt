@@ -1,5 +1,5 @@
 -- How large the numbers of a block row are, whatever the image is.
-use Rattle.std.proofs.Common.{◌≡◌, ℕ, zero, suc, ◌+◌, ◌-◌, ◌*◌, ◌/◌, ◌<◌, ◌≤◌, ℤ, pos, List, [], length, get_or, sym, subst, arith, inl, inr}
+use Rattle.std.proofs.Common.{◌≡◌, ℕ, zero, suc, ◌+◌, ◌-◌, ◌*◌, ◌<◌, ◌≤◌, ℤ, pos, List, [], length, get_or, sym, subst, arith, inl, inr}
 use Rattle.std.proofs.lemmas.Bool.{cases_lt}
 use Rattle.std.proofs.lemmas.Int.{ints}
 use Rattle.std.proofs.lemmas.List.{get_or_past}
@@ -10,7 +10,7 @@ use Rattle.block_families.specs.Places.{IsWithin as IsInRow}
 use Rattle.wave_strip.specs.declared.columns.Columns.{Columns}
 use Rattle.wave_strip.specs.declared.strip.StripWave.{StripWave}
 use Rattle.wave_strip.specs.Columns.{IsSmall, kept_sample, low_sample, high_sample}
-use Rattle.wave_strip.specs.Strip.{bands_in, number_in}
+use Rattle.wave_strip.specs.Strip.{number_in}
 
 none_within : (bound : ℕ) → IsWithin bound (pos 0)
 none_within bound = record { above = omega (arith, ints); below = omega (arith, ints) }

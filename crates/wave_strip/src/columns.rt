@@ -58,7 +58,7 @@ fn pairs_of(taken: usize) -> usize
 }
 
 impl Columns {
-    ghost use Rattle.std.specs.Prelude.{◌≡◌, ℕ, ◌+◌, ◌*◌, ◌-◌, ◌^◌, ◌<◌, ◌≤◌, ℤ, length, vec_len, IfOk};
+    ghost use Rattle.std.specs.Prelude.{◌≡◌, ℕ, ◌+◌, ◌*◌, ◌-◌, ◌^◌, ◌<◌, ◌≤◌, ℤ, pos, length, vec_len, slice_index_or, IfOk};
     ghost use Rattle.wave_defs.specs.Within.{AllWithin};
     ghost use Rattle.wave_defs.specs.Held.{Agrees, signal};
     ghost use Rattle.wave_defs.specs.Rolling.{open_low, mirrored};
@@ -149,26 +149,26 @@ impl Columns {
         self.lows.at(self.kept - 1)
     }
 
-    /// A sample of low row j, which is among those kept.
-    pub fn low(&self, j: usize, column: usize) -> i32
+    /// Low row j, which is among those kept.
+    pub fn low(&self, j: usize) -> &[i32]
         requires made { j < pairs_in self.now.taken }
         requires kept { pairs_in self.now.taken ≤ j + self.now.kept }
-        requires inside { column < self.now.width }
         requires few { self.now.taken < 2 ^ 32 }
-        ensures { result ≡ low_sample self.now j column }
+        ensures wide { length result.now ≡ self.now.width }
+        ensures samples { (column : ℕ) → slice_index_or result.now column (pos 0) ≡ low_sample self.now j column }
     {
-        self.lows.at(self.kept - (pairs_of(self.taken) - j))[column]
+        self.lows.at(self.kept - (pairs_of(self.taken) - j))
     }
 
-    /// A sample of high row j, which is among those kept.
-    pub fn high(&self, j: usize, column: usize) -> i32
+    /// High row j, which is among those kept.
+    pub fn high(&self, j: usize) -> &[i32]
         requires made { j < pairs_in self.now.taken }
         requires kept { pairs_in self.now.taken ≤ j + self.now.kept }
-        requires inside { column < self.now.width }
         requires few { self.now.taken < 2 ^ 32 }
-        ensures { result ≡ high_sample self.now j column }
+        ensures wide { length result.now ≡ self.now.width }
+        ensures samples { (column : ℕ) → slice_index_or result.now column (pos 0) ≡ high_sample self.now j column }
     {
-        self.highs.at(self.kept - (pairs_of(self.taken) - j))[column]
+        self.highs.at(self.kept - (pairs_of(self.taken) - j))
     }
 
     /// Puts the columns at the start of an image.

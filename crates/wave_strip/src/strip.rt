@@ -8,7 +8,7 @@ use crate::chain::hand_down;
 use crate::level::Level;
 use crate::tail::end_levels;
 use base_122::Band;
-use block_families::{BandSource, Place};
+use block_families::{BandRows, BandSource, Place};
 use std::alloc::{AllocError, Global};
 
 /// The transform of an image of which some rows were taken. Its block rows come as soon as their last
@@ -165,20 +165,25 @@ impl BandSource for StripWave {
     ghost number = { λ s p. number_in s p };
 
     fn value(&self, place: Place) -> i32 {
-        let block = self.block();
-        let (row, column) = (place.row as usize, place.column as usize);
+        self.row(place.band, place.row)[place.column as usize]
+    }
+}
+
+impl BandRows for StripWave {
+    fn row(&self, band: Band, row: u32) -> &[i32] {
+        let (block, row) = (self.block(), row as usize);
         let (first, second, third) = (&self.first, &self.second, &self.third);
-        match place.band {
-            Band::Hh1 => first.columns.high(4 * block + row, first.half + column),
-            Band::Hl1 => first.columns.low(4 * block + row, first.half + column),
-            Band::Lh1 => first.columns.high(4 * block + row, column),
-            Band::Hh2 => second.columns.high(2 * block + row, second.half + column),
-            Band::Hl2 => second.columns.low(2 * block + row, second.half + column),
-            Band::Lh2 => second.columns.high(2 * block + row, column),
-            Band::Hh3 => third.columns.high(block, third.half + column),
-            Band::Hl3 => third.columns.low(block, third.half + column),
-            Band::Lh3 => third.columns.high(block, column),
-            Band::Ll3 => third.columns.low(block, column),
+        match band {
+            Band::Hh1 => &first.columns.high(4 * block + row)[first.half..],
+            Band::Hl1 => &first.columns.low(4 * block + row)[first.half..],
+            Band::Lh1 => &first.columns.high(4 * block + row)[..first.half],
+            Band::Hh2 => &second.columns.high(2 * block + row)[second.half..],
+            Band::Hl2 => &second.columns.low(2 * block + row)[second.half..],
+            Band::Lh2 => &second.columns.high(2 * block + row)[..second.half],
+            Band::Hh3 => &third.columns.high(block)[third.half..],
+            Band::Hl3 => &third.columns.low(block)[third.half..],
+            Band::Lh3 => &third.columns.high(block)[..third.half],
+            Band::Ll3 => &third.columns.low(block)[..third.half],
         }
     }
 }
