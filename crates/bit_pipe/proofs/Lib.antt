@@ -12,3 +12,5 @@ mod ZeroSteps
 mod Ending
 mod PieceSteps
 pub mod WordOctets
+mod FrontBits
+mod FrontTaking

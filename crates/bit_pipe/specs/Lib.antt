@@ -11,3 +11,4 @@ pub mod FillLaws
 pub mod Slices
 pub mod Streams
 pub mod Answers
+pub mod Fronts

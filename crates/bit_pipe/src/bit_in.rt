@@ -1,8 +1,9 @@
 // Bits that come from octets.
-ghost use Rattle.std.specs.Prelude.{◌≡◌, ◌<◌, ◌≤◌, ◌+◌, ◌*◌, ◌^◌};
+ghost use Rattle.std.specs.Prelude.{◌≡◌, ◌<◌, ◌≤◌, ◌+◌, ◌*◌, ◌/◌, ◌%◌, ◌^◌, ℕ};
 
 use crate::bound::octets_within;
-use crate::fault::InFault;
+use crate::fault::{InFault, TextFault};
+use crate::front::Front;
 use crate::piece::{Piece, width_of};
 use crate::source::OctetIn;
 
@@ -16,10 +17,13 @@ pub struct BitIn<'a, I> {
     used: u64,
     room: u64,
     ghost within: { left < 8 },
+    ghost whole: { room % 8 ≡ left },
 }
 
 impl<'a, I: OctetIn> BitIn<'a, I> {
-    ghost use Rattle.item_defs.specs.Items.{fixed, zeros_to};
+    ghost use Rattle.item_defs.specs.Items.{Item, fixed, zeros_to};
+    ghost use Rattle.bit_pipe.specs.Answers.{IsBelow, TakesOne};
+    ghost use Rattle.bit_pipe.specs.Fronts.{Tells, IsTable, front_at, hand_of};
     ghost use Rattle.bit_pipe.specs.Bounds.{bound_of};
     ghost use Rattle.bit_pipe.specs.Coming.{coming, IsIn, BeginsIn, GivesBit, GivesItem};
     ghost use Rattle.bit_pipe.specs.Pieces.{GivesPiece};
@@ -134,5 +138,67 @@ impl<'a, I: OctetIn> BitIn<'a, I> {
             }
         }
         Ok(Some(limit))
+    }
+
+    // The bits that are left of the octet, and zeros behind them.
+    #[inline(always)]
+    fn hand(&self) -> u8
+        ensures { result ≡ hand_of self.now.left self.now.octet }
+    {
+        ((u16::from(self.octet) << (8 - self.left)) & 0xff) as u8
+    }
+
+    /// Takes an item by a table, which tells for each octet the item that stands first in it: the item's number. None comes
+    /// where the input or the bound ends before the item is whole.
+    ///
+    /// # Errors
+    ///
+    /// The faults of the input.
+    #[inline]
+    pub fn take_front(&mut self, fronts: &[Front; 256]) -> Result<Option<u8>, TextFault>
+        requires bound { IsIn (coming self.old) }
+        requires table { IsTable fronts.now }
+        ensures { (most : ℕ) (item : ℕ → Item) → Tells most item fronts.now →
+            TakesOne I.source (IsBelow most) item result (coming self.old) (coming self.new) }
+    {
+        let front = fronts[self.hand() as usize];
+        if front.len > self.left {
+            return self.take_across(fronts);
+        }
+        self.left -= front.len;
+        self.room -= u64::from(front.len);
+        self.used += u64::from(front.len);
+        Ok(Some(front.number))
+    }
+
+    // The same, where an item's last bits are still to come. Without them the bits that are left are no item's, so the next
+    // octet is needed.
+    #[inline]
+    fn take_across(&mut self, fronts: &[Front; 256]) -> Result<Option<u8>, TextFault>
+        requires bound { IsIn (coming self.old) }
+        requires table { IsTable fronts.now }
+        requires across { self.old.left < (front_at fronts.now (hand_of self.old.left self.old.octet)).len }
+        ensures { (most : ℕ) (item : ℕ → Item) → Tells most item fronts.now →
+            TakesOne I.source (IsBelow most) item result (coming self.old) (coming self.new) }
+    {
+        let held = self.octet;
+        let count = self.left;
+        self.left = 0;
+        self.room -= u64::from(count);
+        self.used += u64::from(count);
+        if self.room == 0 {
+            return Ok(None);
+        }
+        let Some(octet) = self.input.take()? else {
+            return Ok(None);
+        };
+        let word = 256 * u16::from(held) + u16::from(octet);
+        let front = fronts[((word >> count) % 256) as usize];
+        let more = front.len - count;
+        self.octet = octet;
+        self.left = 8 - more;
+        self.room -= u64::from(more);
+        self.used += u64::from(more);
+        Ok(Some(front.number))
     }
 }

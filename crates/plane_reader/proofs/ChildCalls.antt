@@ -1,5 +1,5 @@
 -- The calls of the stage of the children.
-use Rattle.std.proofs.Common.{◌≡◌, ℕ, ◌+◌, ◌<◌, ◌^◌, Bool, not, ◌&&◌, ◌||◌, ℤ, List, ◌∷◌, ◌++◌, ap, arith}
+use Rattle.std.proofs.Common.{ℕ, Bool, not, ◌&&◌, ◌||◌, ℤ, List, ◌∷◌, ◌++◌}
 use Rattle.std.specs.Prelude.{Ok, Err, Some, None, Result, Option}
 use Rattle.std.specs.List.{list_any}
 use Rattle.item_defs.specs.Bits.{bit}
@@ -79,6 +79,3 @@ module _ {I : Type 0} {k : SourceOf I} {book : Book} {f : Frame} {stage : ℕ} {
 
       pub all_read : {i : Gaggle} {q : Found} {d : Coming I} → GroupsCall k book 4 3 types families wanted (Ok (Some tt)) h i m q c d → FoundPiece k book f stage earlier done (λ v. children_steps v f.weights f.plane) (AreFamilies f) (Ok (Some families)) g i m q a d
       all_read groups = children_read next (plane_is next) s sets all flag_piece new (word_at word) families wanted types now_shown wanted_shown types_shown (groups_at groups)
-
-pub three_shown : (mask : ℕ) → mask < 2 ^ 3 → Shows mask (λ i. bit mask i) 0 3
-three_shown mask small = record { at = λ j lt. let e : j ≡ 0 + j = omega arith in ap (bit mask) e; small = small }

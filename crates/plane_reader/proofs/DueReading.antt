@@ -1,6 +1,6 @@
 -- The word of some due places, read.
-use Rattle.std.proofs.Common.{◌≡◌, ℕ, ◌-◌, ◌<◌, ◌≤◌, ◌^◌, Bool, true, false, [], ◌∷◌, refl, ap, sym, ◌∙◌, subst, arith}
-use Rattle.std.specs.Prelude.{Ok, Err, Some, None, Option, nat_le, count_ones, ◌&&◌, map, filter}
+use Rattle.std.proofs.Common.{◌≡◌, ℕ, ◌-◌, ◌<◌, ◌≤◌, ◌^◌, Bool, true, false, List, [], get_or, ◌∷◌, refl, ap, sym, ◌∙◌, subst, arith}
+use Rattle.std.specs.Prelude.{◌==◌, Ok, Err, Some, None, Option, nat_le, count_ones, ◌&&◌, map, filter}
 use Rattle.std.specs.List.{list_all}
 use Rattle.std.proofs.Math.Pow.{pow_mono}
 use Rattle.std.proofs.lemmas.Bool.Decides.{nat_tests}
@@ -111,6 +111,17 @@ module _ {I : Type 0} {k : SourceOf I} where
   flag_ok None i t = flag_missing t
 
 -- ---- how many places are due
+
+abbrev counts : List ℕ
+counts = 0 ∷ 1 ∷ 1 ∷ 2 ∷ 1 ∷ 2 ∷ 2 ∷ 3 ∷ 1 ∷ 2 ∷ 2 ∷ 3 ∷ 2 ∷ 3 ∷ 3 ∷ 4 ∷ []
+
+counts_all : list_all (λ n. get_or counts n 0 == count_ones n) (span 0 16) ≡ true
+unfolding span lib.Count.ones
+counts_all = refl
+
+-- the code's table has them
+pub counts_are : (n : ℕ) → n < 16 → get_or counts n 0 ≡ count_ones n
+counts_are n lt = grind (arith, nat_tests, list_all-span-zero (λ n. get_or counts n 0 == count_ones n) 16 n counts_all lt)
 
 few_ones_all : list_all (λ n. nat_le (count_ones n) 4) (span 0 16) ≡ true
 unfolding span lib.Count.ones

@@ -17,6 +17,8 @@ pub mod WordTests
 pub mod FoundMasks
 pub mod IndexPieces
 pub mod SignPieces
+mod SignsPassed
+mod GroupsPassed
 pub mod TypePieces
 pub mod GroupPieces
 pub mod FoundPieces

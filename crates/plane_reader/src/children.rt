@@ -56,7 +56,7 @@ pub(crate) fn take_children<I: OctetIn>(
     requires known { AreOptions gaggle.old.options }
     ensures children { (f : Frame) (stage : ℕ) (earlier : ℕ → List Step) (done : List Step) (after : List ℤ → List Step) →
         StageNext f stage earlier done terms.now.plan.now above (λ v. children_steps v f.weights f.plane) after →
-        FoundPiece I.source terms.now.book.now f stage earlier done (λ v. children_steps v f.weights f.plane) (AreFamilies f) result gaggle.old gaggle.new found.old found.new (coming input.old) (coming input.new) }
+        FoundPiece I.source terms.now.tables.now.book f stage earlier done (λ v. children_steps v f.weights f.plane) (AreFamilies f) result gaggle.old gaggle.new found.old found.new (coming input.old) (coming input.new) }
     ensures small { ArePlaces 3 result }
     ensures options { AreOptions gaggle.new.options }
     ensures is_in { OnSome result (IsIn (coming input.new)) }
@@ -68,7 +68,7 @@ pub(crate) fn take_children<I: OctetIn>(
     };
     let due = masked(beside(before.families, plan.live.families), all);
     let is_wanted = is_new(all, before.descendants);
-    let Some(new) = take_some(input, terms.book, gaggle, due, is_wanted)? else {
+    let Some(new) = take_some(input, terms.tables, gaggle, due, is_wanted)? else {
         return Ok(None);
     };
     let families = either(before.families, new);
@@ -79,7 +79,7 @@ pub(crate) fn take_children<I: OctetIn>(
         wanted: beside(plan.live.grandchildren, new),
     };
     let types = beside(above, plan.coded);
-    let Some(()) = take_groups(input, terms.book, gaggle, found, types, groups)? else {
+    let Some(()) = take_groups(input, terms.tables, gaggle, found, types, groups)? else {
         return Ok(None);
     };
     Ok(Some(families))

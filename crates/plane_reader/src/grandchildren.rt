@@ -32,14 +32,14 @@ fn take_quads<I: OctetIn>(
     requires family { family < 3 }
     ensures quads { (f : Frame) (stage : ℕ) (earlier : ℕ → List Step) (done : List Step) (after : List ℤ → List Step) →
         QuadsNext f stage earlier done terms.now.plan.now above family is_new after →
-        FoundPiece I.source terms.now.book.now f stage earlier done (λ v. quads_steps v f.weights f.plane family) Anything
+        FoundPiece I.source terms.now.tables.now.book f stage earlier done (λ v. quads_steps v f.weights f.plane family) Anything
         result gaggle.old gaggle.new found.old found.new (coming input.old) (coming input.new) }
     ensures options { AreOptions gaggle.new.options }
     ensures is_in { OnSome result (IsIn (coming input.new)) }
 {
     let before = quads_of(above, family);
     let due = beside(before, terms.plan.live_quads[family as usize]);
-    let Some(new) = take_some(input, terms.book, gaggle, due, is_new)? else {
+    let Some(new) = take_some(input, terms.tables, gaggle, due, is_new)? else {
         return Ok(None);
     };
     let groups = Groups {
@@ -49,7 +49,7 @@ fn take_quads<I: OctetIn>(
         wanted: new,
     };
     let types = beside(above, terms.plan.coded);
-    take_groups(input, terms.book, gaggle, found, types, groups)
+    take_groups(input, terms.tables, gaggle, found, types, groups)
 }
 
 // Takes what the sets of sixteen grandchildren send that are significant now, some of them new.
@@ -66,7 +66,7 @@ fn take_sixteens<I: OctetIn>(
     requires known { AreOptions gaggle.old.options }
     ensures sixteens { (f : Frame) (stage : ℕ) (earlier : ℕ → List Step) (done : List Step) (after : List ℤ → List Step) →
         AllQuadsNext f stage earlier done terms.now.plan.now above sixteens new after →
-        FoundPiece I.source terms.now.book.now f stage earlier done (λ v. all_quads_steps v f.weights f.plane) Anything
+        FoundPiece I.source terms.now.tables.now.book f stage earlier done (λ v. all_quads_steps v f.weights f.plane) Anything
         result gaggle.old gaggle.new found.old found.new (coming input.old) (coming input.new) }
     ensures options { AreOptions gaggle.new.options }
     ensures is_in { OnSome result (IsIn (coming input.new)) }
@@ -107,7 +107,7 @@ pub(crate) fn take_grandchildren<I: OctetIn>(
     requires known { AreOptions gaggle.old.options }
     ensures grandchildren { (f : Frame) (stage : ℕ) (earlier : ℕ → List Step) (done : List Step) (after : List ℤ → List Step) →
         GrandchildrenNext f stage earlier done terms.now.plan.now above now families after →
-        FoundPiece I.source terms.now.book.now f stage earlier done (λ v. grandchildren_steps v f.weights f.plane) Anything
+        FoundPiece I.source terms.now.tables.now.book f stage earlier done (λ v. grandchildren_steps v f.weights f.plane) Anything
         result gaggle.old gaggle.new found.old found.new (coming input.old) (coming input.new) }
     ensures options { AreOptions gaggle.new.options }
     ensures is_in { OnSome result (IsIn (coming input.new)) }
@@ -118,7 +118,7 @@ pub(crate) fn take_grandchildren<I: OctetIn>(
         families,
     );
     let hope = both(beside(before.families, families), without_child(now));
-    let Some(new) = take_wanted(input, terms.book, gaggle, due, both(due, hope))? else {
+    let Some(new) = take_wanted(input, terms.tables, gaggle, due, both(due, hope))? else {
         return Ok(None);
     };
     let sixteens = either(before.grandchildren, new);

@@ -15,6 +15,7 @@ mod plane;
 mod refine;
 mod stages;
 mod types;
+mod walk;
 mod word;
 
-pub use plane::take_plane;
+pub use plane::{take_plane, take_plane_with};

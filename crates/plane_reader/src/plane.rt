@@ -11,6 +11,7 @@ use crate::stages::{Terms, take_block};
 use bit_pipe::{BitIn, OctetIn, Part, TextFault};
 use block_masks::{CodedPlane, Gaggle, PlanePlan, depth_of, load, mark_of, store};
 use plane_defs::Book;
+use word_codes::WordTables;
 
 // Numbers of a block.
 const BLOCK: usize = 64;
@@ -41,11 +42,11 @@ fn take_gaggle<I: OctetIn>(
     marks: &mut [i32],
     g: usize,
 ) -> Result<Part, TextFault>
-    requires goes { GoesOn I.source terms.now.book.now terms.now.plan.now number g 0 (held (with_one (kept marks.old) g gaggle.old) marks.old blocks.old (coming input.old)) }
+    requires goes { GoesOn I.source terms.now.tables.now.book terms.now.plan.now number g 0 (held (with_one (kept marks.old) g gaggle.old) marks.old blocks.old (coming input.old)) }
     requires number { number < 5 }
     requires whole { length blocks.old ≡ 64 * length marks.old }
     requires within { 16 * g < length marks.old }
-    ensures advances { Advances I.source terms.now.book.now terms.now.plan.now number g number (g + 1) result
+    ensures advances { Advances I.source terms.now.tables.now.book terms.now.plan.now number g number (g + 1) result
         (held (with_one (kept marks.old) g gaggle.old) marks.old blocks.old (coming input.old)) (held (with_one (kept marks.new) g gaggle.new) marks.new blocks.new (coming input.new)) }
     ensures marks { KeepsGaggles marks.old marks.new }
     ensures size { length blocks.new ≡ length blocks.old }
@@ -68,10 +69,10 @@ fn take_stage<I: OctetIn>(
     blocks: &mut [i32],
     marks: &mut [i32],
 ) -> Result<Part, TextFault>
-    requires goes { GoesOn I.source terms.now.book.now terms.now.plan.now number 0 0 (held (kept marks.old) marks.old blocks.old (coming input.old)) }
+    requires goes { GoesOn I.source terms.now.tables.now.book terms.now.plan.now number 0 0 (held (kept marks.old) marks.old blocks.old (coming input.old)) }
     requires number { number < 5 }
     requires whole { length blocks.old ≡ 64 * length marks.old }
-    ensures advances { Advances I.source terms.now.book.now terms.now.plan.now number 0 (number + 1) 0 result
+    ensures advances { Advances I.source terms.now.tables.now.book terms.now.plan.now number 0 (number + 1) 0 result
         (held (kept marks.old) marks.old blocks.old (coming input.old)) (held (kept marks.new) marks.new blocks.new (coming input.new)) }
     ensures depths { depths_of marks.new ≡ depths_of marks.old }
     ensures size { length blocks.new ≡ length blocks.old }
@@ -92,7 +93,7 @@ fn take_stage<I: OctetIn>(
 ///
 /// `blocks` has the 64 weighted numbers of each block, one block after another, and `marks` one number for each block, whose
 /// lowest five bits are the block's depth, at most 27. Before the call a block has no bit of the plane or below it, but for a
-/// DC of which the DC part had the plane. The plane is at most 26, the last stage at most 4, and the book sound.
+/// DC of which the DC part had the plane. The plane is at most 26, and the last stage at most 4.
 ///
 /// The other bits of the marks are free, and the call writes there; the depths stay, whatever it answers.
 ///
@@ -100,6 +101,41 @@ fn take_stage<I: OctetIn>(
 ///
 /// `BadOption` at the first identifier that names no option, `FalseFlag` at the first word that leaves a set without a
 /// significant member, and the faults of the input. The blocks have what was read whole before then too.
+pub fn take_plane_with<I: OctetIn>(
+    input: &mut BitIn<I>,
+    blocks: &mut [i32],
+    marks: &mut [i32],
+    plan: &PlanePlan,
+    tables: &WordTables,
+) -> Result<Part, TextFault>
+    requires open { IsIn (coming input.old) }
+    requires whole { length blocks.old ≡ 64 * length marks.old }
+    requires plane { plan.now.plane ≤ 26 }
+    requires last { plan.now.last ≤ 4 }
+    requires awaits { AwaitPlane plan.now.weights.shifts plan.now.plane plan.now.q (depths_of marks.old) blocks.old }
+    ensures takes { TakesPlane I.source tables.now.book plan.now.plane plan.now.q plan.now.weights.shifts (plan.now.last + 1) (depths_of marks.old)
+        result (coming input.old) (coming input.new) blocks.old blocks.new }
+    ensures depths { depths_of marks.new ≡ depths_of marks.old }
+{
+    let coded = CodedPlane::new(plan);
+    let terms = Terms {
+        plan: &coded,
+        tables,
+    };
+    clear(marks);
+    for number in 0..plan.last + 1 {
+        let Part::Whole = take_stage(input, &terms, number, blocks, marks)? else {
+            return Ok(Part::Ended);
+        };
+    }
+    Ok(Part::Whole)
+}
+
+/// The same by a sound book. Several planes are read sooner by `take_plane_with`, with tables that are made once.
+///
+/// # Errors
+///
+/// As there.
 pub fn take_plane<I: OctetIn>(
     input: &mut BitIn<I>,
     blocks: &mut [i32],
@@ -117,13 +153,5 @@ pub fn take_plane<I: OctetIn>(
         result (coming input.old) (coming input.new) blocks.old blocks.new }
     ensures depths { depths_of marks.new ≡ depths_of marks.old }
 {
-    let coded = CodedPlane::new(plan);
-    let terms = Terms { plan: &coded, book };
-    clear(marks);
-    for number in 0..plan.last + 1 {
-        let Part::Whole = take_stage(input, &terms, number, blocks, marks)? else {
-            return Ok(Part::Ended);
-        };
-    }
-    Ok(Part::Whole)
+    take_plane_with(input, blocks, marks, plan, &WordTables::new(book))
 }

@@ -1,7 +1,6 @@
 // The refinement bits of a block, and the DC's bit.
 
-ghost use Rattle.std.specs.Prelude.{◌≡◌, ◌<◌, ◌&&◌, ℕ, ℤ, true, false, [], List, nat_lt};
-ghost use Rattle.item_defs.specs.Bits.{bit as bit_in};
+ghost use Rattle.std.specs.Prelude.{◌≡◌, ◌&&◌, ℕ, ℤ, [], List, nat_lt};
 ghost use Rattle.bit_pipe.specs.Coming.{coming, IsIn};
 ghost use Rattle.plane_defs.specs.Sets.{coded};
 ghost use Rattle.plane_defs.specs.Steps.{Step, dc_steps, refinement_steps};
@@ -13,29 +12,10 @@ ghost use Rattle.plane_reader.specs.Pieces.{Piece, FoundPiece, Anything, OnSome}
 ghost use Rattle.plane_reader.specs.Refining.{RefinementNext, DcBitNext, IsDcBit};
 
 use crate::found::Found;
+use crate::walk::{first_in, without};
 use crate::word::take_flag;
 use bit_pipe::{BitIn, OctetIn, TextFault};
 use block_masks::{CodedPlane, has, one};
-
-// The first position of a mask that has some.
-fn first_in(mask: u64) -> u8
-    requires some { 0 < mask }
-    ensures within { result < 64 }
-    ensures here { bit_in mask result ≡ true }
-    ensures none_before { (k : ℕ) → k < result → bit_in mask k ≡ false }
-{
-    mask.trailing_zeros() as u8
-}
-
-// The positions of a mask but this.
-fn without(mask: u64, position: u8) -> u64
-    requires position { position < 64 }
-    ensures gone { bit_in result position ≡ false }
-    ensures others { (k : ℕ) → k < 64 → (k ≡ position → ⊥) → bit_in result k ≡ bit_in mask k }
-    ensures fewer { bit_in mask position ≡ true → result < mask }
-{
-    mask & !(1 << position)
-}
 
 // Takes the plane's bit of each AC number of this mask.
 pub(crate) fn take_refinement<I: OctetIn>(

@@ -1,9 +1,8 @@
 // The stages of a block.
 
-ghost use Rattle.std.specs.Prelude.{◌≡◌, ◌≤◌, ◌<◌, ◌⊎◌, ℕ, ℤ, List, [], IsTrue, length, Some, None};
+ghost use Rattle.std.specs.Prelude.{◌≡◌, ◌≤◌, ◌<◌, ◌⊎◌, ℕ, ℤ, List, [], length, Some, None};
 ghost use Rattle.bit_pipe.specs.declared.fault.Part.TheVariants.{Whole, Ended};
 ghost use Rattle.bit_pipe.specs.Coming.{coming, IsIn};
-ghost use Rattle.plane_defs.specs.Codes.{is_book_sound};
 ghost use Rattle.plane_defs.specs.Marks.{depth_of as depth_in};
 ghost use Rattle.plane_defs.specs.Steps.{Step, parents_steps, children_steps};
 ghost use Rattle.plane_defs.specs.declared.codes.Book.{Book as BookValue};
@@ -26,14 +25,13 @@ use bit_pipe::{BitIn, OctetIn, Part, TextFault};
 use block_masks::{
     CodedPlane, Gaggle, all_reaching, beside, both, depth_of, families_of, with_families,
 };
-use plane_defs::Book;
+use word_codes::WordTables;
 
 // A plane and the codes of its words.
 #[derive(Clone, Copy)]
 pub(crate) struct Terms<'a> {
     pub plan: &'a CodedPlane,
-    pub book: &'a Book,
-    ghost sound: { IsTrue (is_book_sound book.now) },
+    pub tables: &'a WordTables,
 }
 
 // Takes the types of the parents, and their signs.
@@ -48,7 +46,7 @@ fn take_parents<I: OctetIn>(
     requires known { AreOptions gaggle.old.options }
     ensures parents { (f : Frame) (stage : ℕ) (earlier : ℕ → List Step) (done : List Step) (after : List ℤ → List Step) →
         StageNext f stage earlier done terms.now.plan.now above (λ v. parents_steps v f.weights f.plane) after →
-        FoundPiece I.source terms.now.book.now f stage earlier done (λ v. parents_steps v f.weights f.plane) Anything result gaggle.old gaggle.new found.old found.new (coming input.old) (coming input.new) }
+        FoundPiece I.source terms.now.tables.now.book f stage earlier done (λ v. parents_steps v f.weights f.plane) Anything result gaggle.old gaggle.new found.old found.new (coming input.old) (coming input.new) }
     ensures options { AreOptions gaggle.new.options }
     ensures is_in { OnSome result (IsIn (coming input.new)) }
 {
@@ -58,7 +56,7 @@ fn take_parents<I: OctetIn>(
         is_wanted: false,
     };
     let due = beside(above, terms.plan.coded);
-    take_types(input, terms.book, gaggle, found, due, group)
+    take_types(input, terms.tables, gaggle, found, due, group)
 }
 
 // Takes what a block sends of its children, and keeps in its mark which families are significant.
@@ -74,7 +72,7 @@ fn take_families<I: OctetIn>(
     requires known { AreOptions gaggle.old.options }
     ensures children { (f : Frame) (earlier : ℕ → List Step) (done : List Step) (after : List ℤ → List Step) →
         StageNext f 2 earlier done terms.now.plan.now above (λ v. children_steps v f.weights f.plane) after →
-        FoundPiece I.source terms.now.book.now f 2 earlier done (λ v. children_steps v f.weights f.plane) (MarkSays f 2 mark.new) result gaggle.old gaggle.new found.old found.new (coming input.old) (coming input.new) }
+        FoundPiece I.source terms.now.tables.now.book f 2 earlier done (λ v. children_steps v f.weights f.plane) (MarkSays f 2 mark.new) result gaggle.old gaggle.new found.old found.new (coming input.old) (coming input.new) }
     ensures depth { depth_in mark.new ≡ depth_in mark.old }
     ensures options_kept { options_in mark.new ≡ options_in mark.old }
     ensures sent { sent_in mark.new ≡ sent_in mark.old }
@@ -104,7 +102,7 @@ fn take_words<I: OctetIn>(
     requires number { number < 5 }
     requires whole { length block.now ≡ 64 }
     ensures words { (f : Frame) (earlier : ℕ → List Step) → IsFrame f terms.now.plan.now (depth_in mark.old) → f.plane < f.depth → StandsBefore f number earlier mark.old block.now →
-        FoundPiece I.source terms.now.book.now f number earlier [] (steps_of f number) (MarkSays f number mark.new) result gaggle.old gaggle.new found.old found.new (coming input.old) (coming input.new) }
+        FoundPiece I.source terms.now.tables.now.book f number earlier [] (steps_of f number) (MarkSays f number mark.new) result gaggle.old gaggle.new found.old found.new (coming input.old) (coming input.new) }
     ensures depth { depth_in mark.new ≡ depth_in mark.old }
     ensures options_kept { options_in mark.new ≡ options_in mark.old }
     ensures sent { sent_in mark.new ≡ sent_in mark.old }
@@ -168,7 +166,7 @@ fn take_deep<I: OctetIn>(
     requires number { number < 5 }
     requires whole { length block.old ≡ 64 }
     ensures taken { (f : Frame) (earlier : ℕ → List Step) → IsFrame f terms.now.plan.now (depth_in mark.old) → f.plane < f.depth → StandsBefore f number earlier mark.old block.old →
-        StageTaken I.source terms.now.book.now f number earlier result gaggle.old gaggle.new mark.new block.new (coming input.old) (coming input.new) }
+        StageTaken I.source terms.now.tables.now.book f number earlier result gaggle.old gaggle.new mark.new block.new (coming input.old) (coming input.new) }
     ensures depth { depth_in mark.new ≡ depth_in mark.old }
     ensures options { options_in mark.new ≡ options_in mark.old }
     ensures sent { sent_in mark.new ≡ sent_in mark.old }
@@ -194,7 +192,7 @@ pub(crate) fn take_block<I: OctetIn>(
     requires known { AreOptions gaggle.old.options }
     requires whole { length block.old ≡ 64 }
     ensures taken { (f : Frame) (earlier : ℕ → List Step) → IsFrame f terms.now.plan.now (depth_in mark.old) → StandsBefore f number earlier mark.old block.old →
-        StageTaken I.source terms.now.book.now f number earlier result gaggle.old gaggle.new mark.new block.new (coming input.old) (coming input.new) }
+        StageTaken I.source terms.now.tables.now.book f number earlier result gaggle.old gaggle.new mark.new block.new (coming input.old) (coming input.new) }
     ensures depth { depth_in mark.new ≡ depth_in mark.old }
     ensures options { options_in mark.new ≡ options_in mark.old }
     ensures sent { sent_in mark.new ≡ sent_in mark.old }

@@ -1,8 +1,7 @@
 // The flags of sets, and the types of numbers with their signs.
 
-ghost use Rattle.std.specs.Prelude.{◌≡◌, ◌≤◌, ◌<◌, ◌+◌, ◌^◌, ◌&&◌, ℕ, ℤ, Bool, List, IsTrue};
+ghost use Rattle.std.specs.Prelude.{◌≡◌, ◌≤◌, ◌<◌, ◌+◌, ◌^◌, ◌&&◌, ℕ, ℤ, Bool, List};
 ghost use Rattle.bit_pipe.specs.Coming.{coming, IsIn};
-ghost use Rattle.plane_defs.specs.Codes.{is_book_sound};
 ghost use Rattle.plane_defs.specs.Steps.{Told, Step, typed_steps, some_one_where};
 ghost use Rattle.plane_defs.specs.declared.codes.Book.{Book as BookValue};
 ghost use Rattle.block_masks.specs.declared.gaggle.Gaggle.{Gaggle as GaggleValue};
@@ -13,31 +12,32 @@ ghost use Rattle.plane_reader.specs.Frames.{Frame, wanted_ones, sign_steps, Word
 ghost use Rattle.plane_reader.specs.Pieces.{TakesPlaces, FoundPiece, Anything, ArePlaces, OnSome};
 
 use crate::found::Found;
+use crate::walk::{first_in, without};
 use crate::word::{take_due, take_flag};
 use bit_pipe::{BitIn, OctetIn, TextFault};
-use block_masks::{Gaggle, beside, has, is_any, one, part};
-use plane_defs::Book;
+use block_masks::{Gaggle, beside, is_any, one, part};
+use word_codes::WordTables;
 
 // Takes the word of some due places, of which one at least must be 1 where that is wanted.
+#[inline(always)]
 pub(crate) fn take_some<I: OctetIn>(
     input: &mut BitIn<I>,
-    book: &Book,
+    tables: &WordTables,
     gaggle: &mut Gaggle,
     due: u64,
     is_wanted: bool,
 ) -> Result<Option<u64>, TextFault>
     requires open { IsIn (coming input.old) }
-    requires sound { IsTrue (is_book_sound book.now) }
     requires due { due < 16 }
     requires known { AreOptions gaggle.old.options }
     ensures places { (f : Frame) (stage : ℕ) (earlier : ℕ → List Step) (done : List Step) (tells : Told) (start count : ℕ) (g : ℕ → Bool) (so : List ℤ → ℕ → Bool) (after : List ℤ → List Step) →
         WordNext f stage earlier done (some_one_where is_wanted) tells start count due g so after →
-        TakesPlaces I.source book.now f stage earlier done (some_one_where is_wanted) tells start count g so result gaggle.old gaggle.new (coming input.old) (coming input.new) }
+        TakesPlaces I.source tables.now.book f stage earlier done (some_one_where is_wanted) tells start count g so result gaggle.old gaggle.new (coming input.old) (coming input.new) }
     ensures small { (count : ℕ) → count ≤ 4 → due < 2 ^ count → ArePlaces count result }
     ensures options { AreOptions gaggle.new.options }
     ensures is_in { OnSome result (IsIn (coming input.new)) }
 {
-    let Some(places) = take_due(input, book, gaggle, due)? else {
+    let Some(places) = take_due(input, tables, gaggle, due)? else {
         return Ok(None);
     };
     if is_wanted && places == 0 {
@@ -49,23 +49,22 @@ pub(crate) fn take_some<I: OctetIn>(
 // Takes the word of some due places, of which these must be 1.
 pub(crate) fn take_wanted<I: OctetIn>(
     input: &mut BitIn<I>,
-    book: &Book,
+    tables: &WordTables,
     gaggle: &mut Gaggle,
     due: u64,
     wanted: u64,
 ) -> Result<Option<u64>, TextFault>
     requires open { IsIn (coming input.old) }
-    requires sound { IsTrue (is_book_sound book.now) }
     requires due { due < 16 }
     requires known { AreOptions gaggle.old.options }
     ensures places { (f : Frame) (stage : ℕ) (earlier : ℕ → List Step) (done : List Step) (tells : Told) (start count : ℕ) (g hope : ℕ → Bool) (so : List ℤ → ℕ → Bool) (after : List ℤ → List Step) →
         Shows wanted (λ p. g p && hope p) start count → WordNext f stage earlier done (wanted_ones g hope start count) tells start count due g so after →
-        TakesPlaces I.source book.now f stage earlier done (wanted_ones g hope start count) tells start count g so result gaggle.old gaggle.new (coming input.old) (coming input.new) }
+        TakesPlaces I.source tables.now.book f stage earlier done (wanted_ones g hope start count) tells start count g so result gaggle.old gaggle.new (coming input.old) (coming input.new) }
     ensures small { (count : ℕ) → count ≤ 4 → due < 2 ^ count → ArePlaces count result }
     ensures options { AreOptions gaggle.new.options }
     ensures is_in { OnSome result (IsIn (coming input.new)) }
 {
-    let Some(places) = take_due(input, book, gaggle, due)? else {
+    let Some(places) = take_due(input, tables, gaggle, due)? else {
         return Ok(None);
     };
     if is_any(beside(places, wanted)) {
@@ -75,6 +74,7 @@ pub(crate) fn take_wanted<I: OctetIn>(
 }
 
 // Takes the signs of these of some positions.
+#[inline(always)]
 fn take_signs<I: OctetIn>(
     input: &mut BitIn<I>,
     found: &mut Found,
@@ -85,18 +85,20 @@ fn take_signs<I: OctetIn>(
     requires open { IsIn (coming input.old) }
     requires start { start < 64 }
     requires within { start + count ≤ 64 }
+    requires few { new < 2 ^ count }
     ensures signs { (book : BookValue) (gaggle : GaggleValue) (f : Frame) (stage : ℕ) (earlier : ℕ → List Step) (done : List Step) (new_at : ℕ → Bool) (after : List ℤ → List Step) →
         AreOptions gaggle.options → SignsNext f stage earlier done new_at start count new after →
         FoundPiece I.source book f stage earlier done (sign_steps new_at start count) Anything result gaggle gaggle found.old found.new (coming input.old) (coming input.new) }
     ensures is_in { OnSome result (IsIn (coming input.new)) }
 {
-    for k in 0..count {
-        if has(new, k) {
-            let Some(minus) = take_flag(input)? else {
-                return Ok(None);
-            };
-            found.add_minus(one(minus), start + k);
-        }
+    let mut left = new;
+    while left != 0 {
+        let k = first_in(left);
+        let Some(minus) = take_flag(input)? else {
+            return Ok(None);
+        };
+        found.add_minus(one(minus), start + k);
+        left = without(left, k);
     }
     Ok(Some(()))
 }
@@ -112,26 +114,25 @@ pub(crate) struct Group {
 // Takes the types of a group, of which these are due, and the signs of those that are 1.
 pub(crate) fn take_types<I: OctetIn>(
     input: &mut BitIn<I>,
-    book: &Book,
+    tables: &WordTables,
     gaggle: &mut Gaggle,
     found: &mut Found,
     due: u64,
     group: Group,
 ) -> Result<Option<()>, TextFault>
     requires open { IsIn (coming input.old) }
-    requires sound { IsTrue (is_book_sound book.now) }
     requires known { AreOptions gaggle.old.options }
     requires start { group.start ≤ 60 }
     requires few { group.count ≤ 4 }
     ensures types { (f : Frame) (stage : ℕ) (earlier : ℕ → List Step) (done : List Step) (after : List ℤ → List Step) →
         TypesNext f stage earlier done group.is_wanted group.start group.count due after →
-        FoundPiece I.source book.now f stage earlier done (λ v. typed_steps v f.weights f.plane (some_one_where group.is_wanted) (span group.start group.count)) Anything
+        FoundPiece I.source tables.now.book f stage earlier done (λ v. typed_steps v f.weights f.plane (some_one_where group.is_wanted) (span group.start group.count)) Anything
         result gaggle.old gaggle.new found.old found.new (coming input.old) (coming input.new) }
     ensures options { AreOptions gaggle.new.options }
     ensures is_in { OnSome result (IsIn (coming input.new)) }
 {
     let here = part(due, group.start, group.count);
-    let Some(new) = take_some(input, book, gaggle, here, group.is_wanted)? else {
+    let Some(new) = take_some(input, tables, gaggle, here, group.is_wanted)? else {
         return Ok(None);
     };
     found.add_bits(new, group.start);

@@ -1,18 +1,28 @@
 // A word of a block's stage.
 
-ghost use Rattle.std.specs.Prelude.{◌≡◌, ◌≤◌, ◌<◌, ◌-◌, IsTrue};
+ghost use Rattle.std.specs.Prelude.{◌≡◌, ◌≤◌, ◌<◌, ◌-◌, count_ones};
 ghost use Rattle.item_defs.specs.Items.{raw};
 ghost use Rattle.bit_pipe.specs.Coming.{coming, IsIn};
 ghost use Rattle.bit_pipe.specs.Answers.{IsBelow, TakesOne};
-ghost use Rattle.plane_defs.specs.Codes.{is_book_sound};
 ghost use Rattle.block_masks.specs.Gaggles.{AreOptions};
 ghost use Rattle.plane_reader.specs.Pieces.{TakesWord};
 ghost use Rattle.plane_reader.specs.Words.{OpensLength, TakesFlag, TakesDue};
 
 use bit_pipe::{BitIn, OctetIn, TextFault};
 use block_masks::{Gaggle, spread};
-use plane_defs::Book;
-use word_codes::{take_option, take_word};
+use word_codes::{WordTables, take_option, take_word_by};
+
+// How many of four places each mask has.
+const COUNTS: [u8; 16] = [0, 1, 1, 2, 1, 2, 2, 3, 1, 2, 2, 3, 2, 3, 3, 4];
+
+// How many of four places are due.
+#[inline(always)]
+fn count_of(due: u64) -> u8
+    requires { due < 16 }
+    ensures { result ≡ count_ones due }
+{
+    COUNTS[due as usize]
+}
 
 // A word of one bit.
 fn take_raw<I: OctetIn>(input: &mut BitIn<I>) -> Result<Option<u8>, TextFault>
@@ -26,6 +36,7 @@ fn take_raw<I: OctetIn>(input: &mut BitIn<I>) -> Result<Option<u8>, TextFault>
 }
 
 // The identifier of a length's option, where none was read yet.
+#[inline(always)]
 fn open<I: OctetIn>(
     input: &mut BitIn<I>,
     gaggle: &mut Gaggle,
@@ -51,17 +62,17 @@ fn open<I: OctetIn>(
 
 // Takes a word of up to four bits: an empty one is nothing, one of one bit is raw, and before the first longer one of its
 // length stands the identifier of its option.
+#[inline(always)]
 pub(crate) fn take_any<I: OctetIn>(
     input: &mut BitIn<I>,
-    book: &Book,
+    tables: &WordTables,
     gaggle: &mut Gaggle,
     count: u8,
 ) -> Result<Option<u8>, TextFault>
     requires open { IsIn (coming input.old) }
-    requires sound { IsTrue (is_book_sound book.now) }
     requires few { count ≤ 4 }
     requires known { AreOptions gaggle.old.options }
-    ensures { TakesWord I.source book.now count result gaggle.old gaggle.new (coming input.old) (coming input.new) }
+    ensures { TakesWord I.source tables.now.book count result gaggle.old gaggle.new (coming input.old) (coming input.new) }
 {
     if count == 0 {
         return Ok(Some(0));
@@ -72,7 +83,7 @@ pub(crate) fn take_any<I: OctetIn>(
     let Some(option) = open(input, gaggle, count)? else {
         return Ok(None);
     };
-    take_word(input, book, option, count)
+    take_word_by(input, tables, option, count)
 }
 
 // Takes a raw bit.
@@ -84,19 +95,19 @@ pub(crate) fn take_flag<I: OctetIn>(input: &mut BitIn<I>) -> Result<Option<bool>
 }
 
 // Takes the word of up to four due places: the places whose bit is 1.
+#[inline(always)]
 pub(crate) fn take_due<I: OctetIn>(
     input: &mut BitIn<I>,
-    book: &Book,
+    tables: &WordTables,
     gaggle: &mut Gaggle,
     due: u64,
 ) -> Result<Option<u64>, TextFault>
     requires open { IsIn (coming input.old) }
-    requires sound { IsTrue (is_book_sound book.now) }
     requires due { due < 16 }
     requires known { AreOptions gaggle.old.options }
-    ensures { TakesDue I.source book.now due result gaggle.old gaggle.new (coming input.old) (coming input.new) }
+    ensures { TakesDue I.source tables.now.book due result gaggle.old gaggle.new (coming input.old) (coming input.new) }
 {
-    let Some(word) = take_any(input, book, gaggle, due.count_ones() as u8)? else {
+    let Some(word) = take_any(input, tables, gaggle, count_of(due))? else {
         return Ok(None);
     };
     Ok(Some(spread(due, word)))

@@ -5,3 +5,4 @@ mod CodedItems
 mod Identifiers
 mod CodeSearch
 mod Words
+mod WordFronts

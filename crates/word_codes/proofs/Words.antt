@@ -2,7 +2,7 @@
 use Rattle.std.proofs.Common.{◌≡◌, ℕ, ◌+◌, ◌^◌, ◌<◌, true, false, Ok, Err, refl, sym, subst, arith}
 use Rattle.std.specs.Prelude.{Some, None, ◌==◌}
 use Rattle.std.proofs.lemmas.Nat.{pow_pos}
-use Rattle.item_defs.specs.Items.{Shape, fixed, coded, spelling, item_bits}
+use Rattle.item_defs.specs.Items.{Shape, fixed, spelling, item_bits}
 use Rattle.item_defs.specs.Readings.{whole, ended}
 use Rattle.bit_pipe.specs.declared.fault.InFault.{InFault}
 use Rattle.bit_pipe.specs.Sources.{SourceOf}
@@ -12,21 +12,18 @@ use Rattle.bit_pipe.specs.Faults.{of_input}
 use Rattle.bit_pipe.specs.Answers.{IsBelow, TakesOne}
 use Rattle.bit_pipe.proofs.OneItem.{one_whole, one_ended, one_failed}
 use Rattle.plane_defs.specs.declared.codes.Book.{Book}
-use Rattle.plane_defs.specs.Codes.{symbol, uncoded, codes_of, word_item}
+use Rattle.plane_defs.specs.Codes.{uncoded, word_item}
 
 is_plain : (n option : ℕ) → option + 1 ≡ n → (option == uncoded n) ≡ true
 is_plain n option e = grind arith
 
-is_coded : (n option : ℕ) → option + 1 < n → (option == uncoded n) ≡ false
+pub is_coded : (n option : ℕ) → option + 1 < n → (option == uncoded n) ≡ false
 is_coded n option lt = grind arith
 
 module _ (book : Book) (n option : ℕ) where
   -- the shape of a word's code
   pub plain_shape : option + 1 ≡ n → (word_item book n option 0).form.shape ≡ fixed n
   plain_shape e = rw (is_plain n option e) refl
-
-  pub coded_shape : option + 1 < n → (word_item book n option 0).form.shape ≡ coded (codes_of book n option)
-  coded_shape lt = rw (is_coded n option lt) refl
 
   pub word_ended : {I : Type 0} {k : SourceOf I} {s : Shape} {a b : Coming I} → (word_item book n option 0).form.shape ≡ s → EndsItem k s (Ok None) a b → TakesOne k (IsBelow (2 ^ n)) (word_item book n option) (Ok None) a b
   word_ended e p = record {
@@ -53,18 +50,6 @@ module _ (book : Book) (n option : ℕ) where
       record {
         value = w;
         known = p.0;
-        ending = stopped whole;
-        read = one_whole (word_item book n option w) (subst (Takes k a b) (sym same) p.1);
-        answer = refl;
-      }
-
-  pub word_coded : {I : Type 0} {k : SourceOf I} {a b : Coming I} (s w : ℕ) → option + 1 < n → w < 2 ^ n → symbol n w ≡ s → EndsItem k (coded (codes_of book n option)) (Ok (Some s)) a b →
-      TakesOne k (IsBelow (2 ^ n)) (word_item book n option) (Ok (Some w)) a b
-  word_coded {I} {k} {a} {b} s w lt small e p =
-      let same : item_bits (word_item book n option w) ≡ spelling (coded (codes_of book n option)) s = rw (is_coded n option lt, e) refl in
-      record {
-        value = w;
-        known = small;
         ending = stopped whole;
         read = one_whole (word_item book n option w) (subst (Takes k a b) (sym same) p.1);
         answer = refl;

@@ -5,6 +5,7 @@ mod book;
 mod choice;
 mod put;
 mod symbols;
+mod tables;
 mod take;
 
 pub use book::profile_book;
@@ -12,4 +13,5 @@ pub use choice::best_option;
 pub use plane_defs::{Book, Code};
 pub use put::{code_of_word, put_option, put_word};
 pub use symbols::symbol_of;
-pub use take::{take_option, take_word};
+pub use tables::WordTables;
+pub use take::{take_option, take_word, take_word_by};

@@ -3,7 +3,8 @@ use Rattle.std.proofs.lemmas.Result.{err_from_is_err_and}
 use Rattle.item_defs.specs.Bits.{bit}
 use Rattle.plane_reader.proofs.TypePieces.{mask_shows}
 use Rattle.plane_reader.proofs.ChildStage.{plane_is, descendants_next, flag_missing, flag_fault}
-use Rattle.plane_reader.proofs.ChildCalls.{three_shown, no_families, families_fail, no_types, types_fail, all_read}
+use Rattle.plane_reader.proofs.GroupsPassed.{nibble_shown}
+use Rattle.plane_reader.proofs.ChildCalls.{no_families, families_fail, no_types, types_fail, all_read}
 use Rattle.plane_reader.proofs.children.take_children.Goals as goal
 
 pub returns-in_err-all-clause-children : goal.returns-in_err-all-clause-children
@@ -11,14 +12,14 @@ returns-in_err-all-clause-children g c = λ f stage earlier done after next.
     let p = err_from_is_err_and c.from_residual.result c.from_residual.ensures.1 in
     let sets = c.of-before.ensures (λ p. bit c.args.above p) (mask_shows c.args.above c.ranges.above.fits) in
     let s = c.of-before.result in
-    rw (p.1, p.2) (flag_fault next (plane_is next) s sets (c.in_err-all.ensures.flag c.args.terms.now.book.now c.args.gaggle.now c.args.found.now f stage earlier done _ c.requires.known (descendants_next next (plane_is next) s sets)))
+    rw (p.1, p.2) (flag_fault next (plane_is next) s sets (c.in_err-all.ensures.flag c.args.terms.now.tables.now.book c.args.gaggle.now c.args.found.now f stage earlier done _ c.requires.known (descendants_next next (plane_is next) s sets)))
 
 pub returns-in_default-clause-children : goal.returns-in_default-clause-children
 returns-in_default-clause-children g c = λ f stage earlier done after next.
     let sets = c.of-before.ensures (λ p. bit c.args.above p) (mask_shows c.args.above c.ranges.above.fits) in
     let s = c.of-before.result in
     let t = rw c.in_default.is at c.in_ok-all.ensures in
-    flag_missing next (plane_is next) s sets (t.flag c.args.terms.now.book.now c.args.gaggle.now c.args.found.now f stage earlier done _ c.requires.known (descendants_next next (plane_is next) s sets))
+    flag_missing next (plane_is next) s sets (t.flag c.args.terms.now.tables.now.book c.args.gaggle.now c.args.found.now f stage earlier done _ c.requires.known (descendants_next next (plane_is next) s sets))
 
 pub returns-in_err-new-clause-children : goal.returns-in_err-new-clause-children
 returns-in_err-new-clause-children g c = λ f stage earlier done after next.
@@ -79,4 +80,12 @@ returns-clause-small g c =
     let few = c.beside.ensures.within 3 c.args.terms.now.plan.now.live_shown.families.small in
     let le = c.masked-due.ensures.within in
     let new = (rw c.in-Some-2.is at c.in_ok-new.ensures).small 3 (omega arith) (omega (arith, few, le)) in
-    (c.either-families.ensures (λ p. bit c.of-before.result.families p) (λ p. bit c.in-Some-2.new p) 0 3 (three_shown c.of-before.result.families sets.families.small) (three_shown c.in-Some-2.new new)).small
+    (c.either-families.ensures (λ p. bit c.of-before.result.families p) (λ p. bit c.in-Some-2.new p) 0 3 (nibble_shown c.of-before.result.families 3 sets.families.small) (nibble_shown c.in-Some-2.new 3 new)).small
+
+pub take_groups-requires-clause-few : goal.take_groups-requires-clause-few
+take_groups-requires-clause-few g c =
+    let sets = c.of-before.ensures (λ p. bit c.args.above p) (mask_shows c.args.above c.ranges.above.fits) in
+    let few = c.beside.ensures.within 3 c.args.terms.now.plan.now.live_shown.families.small in
+    let le = c.masked-due.ensures.within in
+    let new = (rw c.in-Some-2.is at c.in_ok-new.ensures).small 3 (omega arith) (omega (arith, few, le)) in
+    (c.either-families.ensures (λ p. bit c.of-before.result.families p) (λ p. bit c.in-Some-2.new p) 0 3 (nibble_shown c.of-before.result.families 3 sets.families.small) (nibble_shown c.in-Some-2.new 3 new)).small

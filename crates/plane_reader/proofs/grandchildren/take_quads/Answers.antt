@@ -2,6 +2,8 @@ use Rattle.std.proofs.Common.{rules}
 use Rattle.std.proofs.lemmas.Result.{err_from_is_err_and}
 use Rattle.item_defs.specs.Bits.{bit}
 use Rattle.plane_defs.specs.Sets.{coded}
+use Rattle.std.proofs.Common.{arith}
+use Rattle.plane_reader.proofs.GroupsPassed.{nibble_shown}
 use Rattle.plane_reader.proofs.TypePieces.{mask_shows}
 use Rattle.plane_reader.proofs.QuadPieces.{above_shown, live_shown, quads_word, quads_missing, quads_fault, quads_given}
 use Rattle.plane_reader.proofs.grandchildren.take_quads.Goals as goal
@@ -34,3 +36,10 @@ returns-clause-quads g c = λ f stage earlier done after next.
     let t = rw c.in-Some.is at c.in_ok-new.ensures in
     let types = c.beside-types.ensures.told (λ p. bit c.args.above p) (coded plan.weights.shifts plan.plane) 0 64 (mask_shows c.args.above (search rules)) plan.shown in
     quads_given known next c.in-Some.new c.either.result c.beside-types.result (t.places f stage earlier done _ 0 4 _ _ _ (quads_word known next due)) (λ s shown. c.either.ensures _ s 0 4 before shown) types c.take_groups.ensures.groups
+
+pub take_groups-requires-clause-few : goal.take_groups-requires-clause-few
+take_groups-requires-clause-few g c =
+    let quads = c.quads_of-before.ensures (λ p. bit c.args.above p) (mask_shows c.args.above (search rules)) in
+    let few = c.beside-due.ensures.within 4 ((c.args.terms.now.plan.now.quads_shown c.args.family c.requires.family).shown.small) in
+    let new = (rw c.in-Some.is at c.in_ok-new.ensures).small 4 (omega arith) few in
+    (c.either.ensures (λ p. bit c.quads_of-before.result p) (λ p. bit c.in-Some.new p) 0 4 (nibble_shown c.quads_of-before.result 4 quads.shown.small) (nibble_shown c.in-Some.new 4 new)).small

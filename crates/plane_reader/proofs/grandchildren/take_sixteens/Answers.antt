@@ -13,7 +13,7 @@ loop-i-init g c = record {
   is_in = c.requires.open;
   options = c.requires.known;
   so_far = λ f stage earlier done after next.
-      so_far_none c.args.terms.now.book.now f stage earlier done (sixteen_item f c.args.sixteens) 0 c.requires.known c.requires.open (takes_start g.I.OctetIn.source _ c.requires.open) next.next.possible;
+      so_far_none c.args.terms.now.tables.now.book f stage earlier done (sixteen_item f c.args.sixteens) 0 c.requires.known c.requires.open (takes_start g.I.OctetIn.source _ c.requires.open) next.next.possible;
 }
 
 pub returns-clause-sixteens : goal.returns-clause-sixteens

@@ -13,5 +13,5 @@ invariant-loop-i g l = record {
   is_in : IsIn (coming l.input);
   options : AreOptions l.gaggle.options;
   so_far : (f : Frame) (stage : ℕ) (earlier : ℕ → List Step) (done : List Step) (after : List ℤ → List Step) → AllQuadsNext f stage earlier done l.terms.plan.now l.above l.sixteens l.new after →
-      SoFar g.I.OctetIn.source l.terms.book.now f stage earlier done (sixteen_item f l.sixteens) 0 l.i l.initial.gaggle l.gaggle l.initial.found l.found (coming l.initial.input) (coming l.input);
+      SoFar g.I.OctetIn.source l.terms.tables.now.book f stage earlier done (sixteen_item f l.sixteens) 0 l.i l.initial.gaggle l.gaggle l.initial.found l.found (coming l.initial.input) (coming l.input);
 }

@@ -1,63 +1,69 @@
-use Rattle.std.proofs.Common.{◌≡◌, ◌+◌, sym, ◌∙◌, arith, ap}
+use Rattle.std.proofs.Common.{rules, ◌≡◌, ◌+◌, ◌*◌, ◌^◌, ◌<◌, ◌∙◌, arith, ap, refl}
 use Rattle.std.proofs.lemmas.Result.{err_from_is_err_and}
 use Rattle.bit_pipe.proofs.Taking.{takes_start}
-use Rattle.plane_reader.proofs.IndexPieces.{so_far_none}
-use Rattle.plane_reader.proofs.GroupPieces.{group_item, group_skipped, group_call, group_read, group_missing, group_fault, groups_whole}
-use Rattle.plane_reader.proofs.groups.take_groups.Goals.{then-has+in_ok-take_types+in-Some, else-has}
+use Rattle.plane_reader.proofs.SignsPassed.{bit_inside}
+use Rattle.plane_reader.proofs.GroupsPassed.{groups_start, groups_all, groups_more, groups_missing, groups_fault}
 use Rattle.plane_reader.proofs.groups.take_groups.Goals as goal
 
-pub loop-j-init : goal.loop-j-init
-loop-j-init g c = record {
+pub loop-left-init : goal.loop-left-init
+loop-left-init g c = record {
   is_in = c.requires.open;
   options = c.requires.known;
-  so_far = λ f stage earlier done now wanted after next.
-      so_far_none c.args.book.now f stage earlier done (group_item f c.args.groups.first now wanted) 0 c.requires.known c.requires.open (takes_start g.I.OctetIn.source _ c.requires.open) next.possible;
+  small = c.requires.few;
+  passed = λ f stage earlier done now wanted after next. groups_start next c.requires.known c.requires.open (takes_start g.I.OctetIn.source _ c.requires.open);
 }
 
 pub returns-clause-groups : goal.returns-clause-groups
 returns-clause-groups g c = λ f stage earlier done now wanted after next.
-    groups_whole c.args.groups.first c.args.groups.count now wanted c.loop-j.j (omega (arith, c.loop-j-test.false, c.loop-j.auto.j-end)) (c.loop-j.invariant.so_far f stage earlier done now wanted after next)
+    groups_all next (c.loop-left.invariant.passed f stage earlier done now wanted after next) c.loop-left-test.false
 
 pub returns-in_err-take_types-clause-groups : goal.returns-in_err-take_types-clause-groups
 returns-in_err-take_types-clause-groups g c = λ f stage earlier done now wanted after next.
     let p = err_from_is_err_and c.from_residual.result c.from_residual.ensures.1 in
-    let so_far = c.loop-j.invariant.so_far f stage earlier done now wanted after next in
-    let z : 0 + c.loop-j.j ≡ c.loop-j.j = omega arith in
-    let due = ap now (sym z) ∙ sym (c.has.ensures now 0 c.args.groups.count next.now_shown c.loop-j-test.true) ∙ c.if-has.true in
-    let flag = c.has-then-has.ensures wanted 0 c.args.groups.count next.wanted_shown c.loop-j-test.true ∙ ap wanted z in
-    rw (p.1, p.2) (group_fault next c.loop-j.j c.loop-j-test.true so_far due (group_call next c.loop-j.j c.loop-j-test.true so_far c.has-then-has.result flag due c.in_err-take_types.ensures.types))
+    let passed = c.loop-left.invariant.passed f stage earlier done now wanted after next in
+    let j = c.first_in-j.result in
+    let first = c.first_in-j.ensures in
+    let inside : j < c.args.groups.count = bit_inside c.loop-left.left c.args.groups.count j c.loop-left.invariant.small first.here in
+    let z : 0 + j ≡ j = omega arith in
+    let flag = c.has.ensures wanted 0 c.args.groups.count next.wanted_shown inside ∙ ap wanted z in
+    rw (p.1, p.2) (groups_fault next passed j first.within first.here first.none_before c.has.result flag c.in_err-take_types.ensures.types refl)
 
 pub returns-in_default-clause-groups : goal.returns-in_default-clause-groups
 returns-in_default-clause-groups g c = λ f stage earlier done now wanted after next.
-    let so_far = c.loop-j.invariant.so_far f stage earlier done now wanted after next in
-    let z : 0 + c.loop-j.j ≡ c.loop-j.j = omega arith in
-    let due = ap now (sym z) ∙ sym (c.has.ensures now 0 c.args.groups.count next.now_shown c.loop-j-test.true) ∙ c.if-has.true in
-    let flag = c.has-then-has.ensures wanted 0 c.args.groups.count next.wanted_shown c.loop-j-test.true ∙ ap wanted z in
+    let passed = c.loop-left.invariant.passed f stage earlier done now wanted after next in
+    let j = c.first_in-j.result in
+    let first = c.first_in-j.ensures in
+    let inside : j < c.args.groups.count = bit_inside c.loop-left.left c.args.groups.count j c.loop-left.invariant.small first.here in
+    let z : 0 + j ≡ j = omega arith in
+    let flag = c.has.ensures wanted 0 c.args.groups.count next.wanted_shown inside ∙ ap wanted z in
     let t = rw c.in_default.is at c.in_ok-take_types.ensures in
-    group_missing next c.loop-j.j c.loop-j-test.true so_far due (group_call next c.loop-j.j c.loop-j-test.true so_far c.has-then-has.result flag due t.types)
+    groups_missing next passed j first.within first.here first.none_before c.has.result flag t.types refl
 
-pub loop-j-preserved : goal.loop-j-preserved
-loop-j-preserved g c = elim c.if-has.branch [
-  | then-has+in_ok-take_types+in-Some w ↦
-      let t = rw w.in-Some.is at w.in_ok-take_types.ensures in
-      rw (w.input-is, w.gaggle-is, w.found-is) (record {
-        is_in = t.is_in;
-        options = t.options;
-        so_far = λ f stage earlier done now wanted after next.
-            let so_far = c.loop-j.invariant.so_far f stage earlier done now wanted after next in
-            let z : 0 + c.loop-j.j ≡ c.loop-j.j = omega arith in
-            let due = ap now (sym z) ∙ sym (c.has.ensures now 0 c.args.groups.count next.now_shown c.loop-j-test.true) ∙ w.if-has.true in
-            let flag = w.has-then-has.ensures wanted 0 c.args.groups.count next.wanted_shown c.loop-j-test.true ∙ ap wanted z in
-            group_read next c.loop-j.j c.loop-j-test.true so_far due (group_call next c.loop-j.j c.loop-j-test.true so_far w.has-then-has.result flag due t.types);
-      })
-  | else-has w ↦
-      rw (w.input-is, w.gaggle-is, w.found-is) (record {
-        is_in = c.loop-j.invariant.is_in;
-        options = c.loop-j.invariant.options;
-        so_far = λ f stage earlier done now wanted after next.
-            let so_far = c.loop-j.invariant.so_far f stage earlier done now wanted after next in
-            let z : 0 + c.loop-j.j ≡ c.loop-j.j = omega arith in
-            let none = ap now (sym z) ∙ sym (c.has.ensures now 0 c.args.groups.count next.now_shown c.loop-j-test.true) ∙ w.if-has.false in
-            group_skipped next c.loop-j.j c.loop-j-test.true so_far none;
-      })
-]
+pub loop-left-preserved : goal.loop-left-preserved
+loop-left-preserved g c =
+    let t = rw c.in-Some.is at c.in_ok-take_types.ensures in
+    let j = c.first_in-j.result in
+    let first = c.first_in-j.ensures in
+    let rest = c.without-left in
+    let inside : j < c.args.groups.count = bit_inside c.loop-left.left c.args.groups.count j c.loop-left.invariant.small first.here in
+    record {
+      is_in = t.is_in;
+      options = t.options;
+      small = omega (arith, c.loop-left.invariant.small, rest.ensures.fewer first.here);
+      passed = λ f stage earlier done now wanted after next.
+          let passed = c.loop-left.invariant.passed f stage earlier done now wanted after next in
+          let z : 0 + j ≡ j = omega arith in
+          let flag = c.has.ensures wanted 0 c.args.groups.count next.wanted_shown inside ∙ ap wanted z in
+          groups_more next passed j first.within first.here first.none_before c.has.result flag t.types refl rest.result rest.ensures.gone rest.ensures.others;
+    }
+
+pub overflow_add-group : goal.overflow_add-group
+overflow_add-group g c =
+    let inside = bit_inside c.loop-left.left c.args.groups.count c.first_in-j.result c.loop-left.invariant.small c.first_in-j.ensures.here in
+    let room : c.args.groups.first + 4 * c.first_in-j.result < 2 ^ 8 = omega (arith, inside, c.requires.within) in
+    search rules
+
+pub take_types-requires-clause-start : goal.take_types-requires-clause-start
+take_types-requires-clause-start g c =
+    let inside = bit_inside c.loop-left.left c.args.groups.count c.first_in-j.result c.loop-left.invariant.small c.first_in-j.ensures.here in
+    omega (arith, inside, c.requires.within)

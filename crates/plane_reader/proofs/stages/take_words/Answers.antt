@@ -35,5 +35,5 @@ returns-in_default-clause-words g c = λ f earlier frame deep stands.
     let next = stage_next frame own c.all_reaching-above.result c.all_reaching-above.ensures (omega arith) (λ v. refinement_steps v f.weights f.plane) (deep_refinement f deep) in
     let shown = c.both.ensures.told _ _ 0 64 (mask_shows c.all_reaching-above.result c.all_reaching-above.ensures.small) (plane_is next).shown in
     rw four (words_as c.args.mark.now (λ e. cc) (deep_refinement f deep)
-    (c.take_refinement.ensures.refinement c.args.terms.now.book.now c.args.gaggle.now f 4 earlier [] (λ v. []) c.requires.known
+    (c.take_refinement.ensures.refinement c.args.terms.now.tables.now.book c.args.gaggle.now f 4 earlier [] (λ v. []) c.requires.known
     (refine_next frame own c.both.result c.all_reaching-above.result (omega arith) next.marked shown (deep_refinement f deep))))

@@ -35,3 +35,8 @@ returns-clause-types g c = λ f stage earlier done after next.
     let t = rw c.in-Some.is at c.in_ok-new.ensures in
     let w = t.places f stage earlier done (types_at (filter (type_due f.block f.weights f.plane) (span c.args.group.start c.args.group.count))) c.args.group.start c.args.group.count (type_due f.block f.weights f.plane) (λ v. significant v f.plane) _ (types_word next c.part-here.result shown) in
     types_given next c.in-Some.new w c.add_bits.ensures.minus c.add_bits.ensures.bits t.options c.take_signs.ensures.signs
+
+pub take_signs-requires-clause-few : goal.take_signs-requires-clause-few
+take_signs-requires-clause-few g c =
+    let t = rw c.in-Some.is at c.in_ok-new.ensures in
+    t.small c.args.group.count c.requires.few c.part-here.ensures.within

@@ -3,24 +3,27 @@ use Rattle.plane_reader.proofs.DueReading.{due_fault, due_missing, due_given, va
 use Rattle.plane_reader.proofs.word.take_due.Goals as goal
 
 pub take_any-requires-clause-few : goal.take_any-requires-clause-few
-take_any-requires-clause-few g c = few_ones c.args.due c.requires.due
+take_any-requires-clause-few g c = rw c.count_of.ensures (few_ones c.args.due c.requires.due)
 
 pub returns-in_err-word : goal.returns-in_err-word
 returns-in_err-word g c =
     let p = err_from_is_err_and c.from_residual.result c.from_residual.ensures.1 in
-    rw (p.1, p.2) (due_fault c.args.book.now c.args.due c.requires.due (few_ones c.args.due c.requires.due) c.in_err-word.ensures)
+    rw (p.1, p.2) (due_fault c.args.tables.now.book c.args.due c.requires.due (few_ones c.args.due c.requires.due) (rw c.count_of.ensures at c.in_err-word.ensures))
 
 pub returns-in_default : goal.returns-in_default
 returns-in_default g c =
     let w = rw c.in_default.is at c.in_ok-word.ensures in
-    due_missing c.args.book.now c.args.due c.requires.due (few_ones c.args.due c.requires.due) w
+    let v = rw c.count_of.ensures at w in
+    due_missing c.args.tables.now.book c.args.due c.requires.due (few_ones c.args.due c.requires.due) v
 
 pub spread-requires-clause-word : goal.spread-requires-clause-word
 spread-requires-clause-word g c =
     let w = rw c.in-Some.is at c.in_ok-word.ensures in
-    value_small c.args.book.now c.args.due c.requires.due (few_ones c.args.due c.requires.due) c.in-Some.word w
+    let v = rw c.count_of.ensures at w in
+    value_small c.args.tables.now.book c.args.due c.requires.due (few_ones c.args.due c.requires.due) c.in-Some.word v
 
 pub returns : goal.returns
 returns g c =
     let w = rw c.in-Some.is at c.in_ok-word.ensures in
-    due_given c.args.book.now c.args.due c.requires.due (few_ones c.args.due c.requires.due) c.in-Some.word c.spread.result c.spread.ensures.within w c.spread.ensures.told c.spread.ensures.back
+    let v = rw c.count_of.ensures at w in
+    due_given c.args.tables.now.book c.args.due c.requires.due (few_ones c.args.due c.requires.due) c.in-Some.word c.spread.result c.spread.ensures.within v c.spread.ensures.told c.spread.ensures.back

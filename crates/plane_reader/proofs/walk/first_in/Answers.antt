@@ -1,7 +1,7 @@
 use Rattle.std.proofs.Common.{◌==◌, ap}
 use Rattle.std.specs.Int.{w64}
 use Rattle.std.proofs.lemmas.Nat.Bits.{bit_at-trailing_zeros}
-use Rattle.plane_reader.proofs.refine.first_in.Goals as goal
+use Rattle.plane_reader.proofs.walk.first_in.Goals as goal
 
 pub returns-clause-here : goal.returns-clause-here
 returns-clause-here c = ap (λ x. x == 1) (bit_at-trailing_zeros w64 c.args.mask c.requires.some c.ranges.mask.fits).1

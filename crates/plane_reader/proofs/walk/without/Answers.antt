@@ -2,7 +2,7 @@ use Rattle.std.proofs.Common.{◌==◌, ap}
 use Rattle.std.specs.Int.{w64}
 use Rattle.std.proofs.lemmas.Nat.Bits.{bit_at_clear_same, bit_at_clear_other}
 use Rattle.plane_reader.proofs.RefineMasks.{fewer_left}
-use Rattle.plane_reader.proofs.refine.without.Goals as goal
+use Rattle.plane_reader.proofs.walk.without.Goals as goal
 
 pub returns-clause-gone : goal.returns-clause-gone
 returns-clause-gone c = ap (λ x. x == 1) (bit_at_clear_same w64 c.args.mask c.args.position c.requires.position)

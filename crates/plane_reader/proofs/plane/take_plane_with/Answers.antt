@@ -3,11 +3,11 @@ use Rattle.std.proofs.lemmas.Result.{err_from_is_err_and}
 use Rattle.bit_pipe.specs.Coming.{coming}
 use Rattle.plane_reader.specs.Progress.{start_of}
 use Rattle.plane_reader.proofs.PlaneEnds.{plane_begins, is_coded, plane_ends}
-use Rattle.plane_reader.proofs.plane.take_plane.Goals as goal
+use Rattle.plane_reader.proofs.plane.take_plane_with.Goals as goal
 
 pub loop-number-init : goal.loop-number-init
 loop-number-init g c = record {
-  so_far = plane_begins g.I.OctetIn.source c.args.book.now c.args.plan.now c.args.marks.now c.clear.new.marks c.args.blocks.now (coming c.args.input.now) c.requires.awaits c.clear.ensures c.requires.«open»;
+  so_far = plane_begins g.I.OctetIn.source c.args.tables.now.book c.args.plan.now c.args.marks.now c.clear.new.marks c.args.blocks.now (coming c.args.input.now) c.requires.awaits c.clear.ensures c.requires.«open»;
   depths = c.clear.ensures.depths;
   size = refl;
 }

@@ -1,0 +1,119 @@
+-- Items taken by a table.
+use Rattle.std.proofs.Common.{◌≡◌, ℕ, ◌+◌, ◌-◌, ◌/◌, ◌^◌, ◌<◌, ◌≤◌, List, Bool, ◌++◌, refl, sym, ap, subst, ◌∙◌, arith, inl, inr, append-nil}
+use Rattle.std.specs.Prelude.{Ok, Err, Some, None}
+use Rattle.std.proofs.lemmas.Bool.{cases_lt}
+use Rattle.item_defs.specs.Bits.{bits_of}
+use Rattle.item_defs.specs.Items.{Item, item_bits, spelling}
+use Rattle.item_defs.specs.Readings.{Lacks, whole, ended}
+use Rattle.item_defs.proofs.NumberBits.{length-bits_of, bits_none, bits_of-split}
+use Rattle.bit_pipe.specs.declared.fault.InFault.{InFault}
+use Rattle.bit_pipe.specs.declared.front.Front.{Front}
+use Rattle.bit_pipe.specs.Sources.{SourceOf, GivesOctet}
+use Rattle.bit_pipe.specs.Coming.{Coming, Takes, EndsBit}
+use Rattle.bit_pipe.specs.Reading.{stopped, failed}
+use Rattle.bit_pipe.specs.Faults.{of_input}
+use Rattle.bit_pipe.specs.Answers.{IsBelow, TakesOne}
+use Rattle.bit_pipe.specs.Fronts.{Tells, front_at, first_bits, hand_of}
+use Rattle.bit_pipe.proofs.FrontBits.{first_then, hand_small, hand_bits, first_left, across, across_small, across_bits}
+use Rattle.bit_pipe.proofs.OneItem.{one_whole, one_ended, one_failed}
+use Rattle.bit_pipe.proofs.Taking.{at, takes_then, takes_pending, takes_octet, within_at_end, within_at_fault}
+
+module _ {most : ℕ} {item : ℕ → Item} {fronts : List Front} (t : Tells most item fronts) (octet left : ℕ) (lt : left < 8) (more : left < (front_at fronts (hand_of left octet)).len) where
+  -- the bits at hand are no item's
+  lacks_hand : Lacks t.shape (bits_of left octet)
+  lacks_hand = subst (Lacks t.shape) (hand_bits left octet (omega arith)) (t.lacks (hand_of left octet) left (hand_small left octet) more)
+
+  -- the item that stands across has more bits than are at hand
+  pub across_more : (next : ℕ) → next < 256 → left < (front_at fronts (across left octet next)).len
+  across_more next small =
+      let v = across left octet next in
+      elim (cases_lt left (front_at fronts v).len) [
+        | inl h ↦ h
+        | inr ge ↦
+            let n = (front_at fronts v).number in
+            let len = (front_at fronts v).len in
+            let none : left - left ≡ 0 = omega arith in
+            let begun : first_bits left v ≡ bits_of left octet = across_bits left octet next small left (omega arith) (omega arith) ∙ ap (λ r. bits_of left octet ++ r) (ap (λ n. first_bits n next) none ∙ bits_none _) ∙ append-nil (bits_of left octet) in
+            let rest = bits_of (left - len) (v / 2 ^ (8 - left)) in
+            let first : bits_of left octet ≡ item_bits (item n) ++ rest = sym begun ∙ first_then len left v ge (omega arith) ∙ ap (λ r. r ++ rest) (sym (t.first v (across_small left octet next))) in
+            let shaped : item_bits (item n) ≡ spelling t.shape (item n).said = ap (λ z. spelling z (item n).said) (t.same n) in
+            absurd (lacks_hand (item n).said rest (t.said v (across_small left octet next)) (first ∙ ap (λ r. r ++ rest) shaped))
+      ]
+
+module _ {I : Type 0} {k : SourceOf I} {most : ℕ} {item : ℕ → Item} {fronts : List Front} (t : Tells most item fronts) where
+  -- the item's bits were taken
+  told_whole : {a b : Coming I} (octet : ℕ) → octet < 256 → Takes k a b (first_bits (front_at fronts octet).len octet) → TakesOne k (IsBelow most) item (Ok (Some (front_at fronts octet).number)) a b
+  told_whole {a} {b} octet small p = record {
+    value = (front_at fronts octet).number;
+    known = t.known octet small;
+    ending = stopped whole;
+    read = one_whole (item (front_at fronts octet).number) (subst (Takes k a b) (sym (t.first octet small)) p);
+    answer = refl;
+  }
+
+  module _ {a b c : Coming I} {bits : List Bool} (lacks : Lacks t.shape bits) (p : Takes k a b bits) where
+    -- too few bits come
+    told_ended : EndsBit k (Ok None) b c → TakesOne k (IsBelow most) item (Ok None) a c
+    told_ended q = record {
+      value = (front_at fronts 0).number;
+      known = t.known 0 (omega arith);
+      ending = stopped (ended 0);
+      read = one_ended (item (front_at fronts 0).number) (rw (t.same (front_at fronts 0).number) (within_at_end t.shape lacks p q));
+      answer = refl;
+    }
+
+    told_failed : (e : InFault) → EndsBit k (Err e) b c → TakesOne k (IsBelow most) item (Err (of_input e)) a c
+    told_failed e q = record {
+      value = (front_at fronts 0).number;
+      known = t.known 0 (omega arith);
+      ending = failed 0 e;
+      read = one_failed (item (front_at fronts 0).number) e (rw (t.same (front_at fronts 0).number) (within_at_fault t.shape e lacks p q));
+      answer = refl;
+    }
+
+  module _ (s : I) (octet left used room name : ℕ) (lt : left < 8) (fits : left ≤ room) where
+    -- all its bits are at hand
+    pub told_at_hand : (v len a b : ℕ) → v ≡ hand_of left octet → a ≡ len → b ≡ len → len ≡ (front_at fronts v).len → len ≤ left →
+        TakesOne k (IsBelow most) item (Ok (Some (front_at fronts v).number)) (at s octet left used room name) (at s octet (left - len) (used + b) (room - a) name)
+    told_at_hand v len a b is ea eb h le =
+        let e : len ≡ (front_at fronts (hand_of left octet)).len = h ∙ ap (λ n. (front_at fronts n).len) is in
+        let first = first_bits (front_at fronts (hand_of left octet)).len (hand_of left octet) in
+        let split : bits_of left octet ≡ first ++ bits_of (left - len) octet = first_left len left octet le (omega arith) ∙ ap (λ n. first_bits n (hand_of left octet) ++ bits_of (left - len) octet) e in
+        let long = length-bits_of (front_at fronts (hand_of left octet)).len (hand_of left octet / 2 ^ (8 - (front_at fronts (hand_of left octet)).len)) ∙ sym e in
+        rw (ea, eb, is) (told_whole (hand_of left octet) (hand_small left octet) (takes_pending k s octet left used room name len first split long lt (omega arith)))
+
+    module _ (more : left < (front_at fronts (hand_of left octet)).len) where
+      -- the bits at hand are taken
+      pub hand_taken : (a b : ℕ) → a ≡ left → b ≡ left → Takes k (at s octet left used room name) (at s octet 0 (used + b) (room - a) name) (bits_of left octet)
+      hand_taken a b ea eb =
+          let none : left - left ≡ 0 = omega arith in
+          let all : bits_of left octet ≡ bits_of left octet ++ bits_of (left - left) octet = sym (append-nil (bits_of left octet)) ∙ ap (λ r. bits_of left octet ++ r) (sym (ap (λ n. bits_of n octet) none ∙ bits_none octet)) in
+          rw (ea, eb) (rw none at (takes_pending k s octet left used room name left (bits_of left octet) all (length-bits_of left octet) lt fits))
+
+      pub hand_ended : (a b : ℕ) → a ≡ left → b ≡ left → {c : Coming I} → EndsBit k (Ok None) (at s octet 0 (used + b) (room - a) name) c → TakesOne k (IsBelow most) item (Ok None) (at s octet left used room name) c
+      hand_ended a b ea eb q = told_ended (lacks_hand t octet left lt more) (hand_taken a b ea eb) q
+
+      pub hand_failed : (a b : ℕ) → a ≡ left → b ≡ left → {c : Coming I} (e : InFault) → EndsBit k (Err e) (at s octet 0 (used + b) (room - a) name) c → TakesOne k (IsBelow most) item (Err (of_input e)) (at s octet left used room name) c
+      hand_failed a b ea eb e q = told_failed (lacks_hand t octet left lt more) (hand_taken a b ea eb) e q
+
+      -- its last bits are the next octet's first
+      module _ (u : I) (next : ℕ) (h : GivesOctet k (Ok (Some next)) s u) where
+        crossed : (8 ≤ room - left) → TakesOne k (IsBelow most) item (Ok (Some (front_at fronts (across left octet next)).number)) (at s octet left used room name)
+            (at u next (8 - ((front_at fronts (across left octet next)).len - left)) ((used + left) + ((front_at fronts (across left octet next)).len - left)) ((room - left) - ((front_at fronts (across left octet next)).len - left)) name)
+        crossed enough =
+            let v = across left octet next in
+            let len = (front_at fronts v).len in
+            let long : left < len = across_more t octet left lt more next h.ends.1 in
+            let more = len - left in
+            let few : len ≤ 8 = t.few v (across_small left octet next) in
+            let first = first_bits more next in
+            let rest : more + (8 - more) ≡ 8 = omega arith in
+            let split : bits_of 8 next ≡ first ++ bits_of (8 - more) next = ap (λ n. bits_of n next) (sym rest) ∙ bits_of-split more (8 - more) next in
+            let last : Takes k (at s octet 0 (used + left) (room - left) name) (at u next (8 - more) ((used + left) + more) ((room - left) - more) name) first =
+            takes_octet k s u octet next 0 (used + left) (room - left) name more first split (length-bits_of more _) refl (omega arith) (omega arith) h in
+            let joined : bits_of left octet ++ first ≡ first_bits len v = sym (across_bits left octet next h.ends.1 len (omega arith) few) in
+            told_whole v (across_small left octet next) (subst (Takes k _ _) joined (takes_then (hand_taken left left refl refl) last))
+
+        pub across_taken : (v a b c d : ℕ) → v ≡ across left octet next → a ≡ left → b ≡ left → c ≡ (front_at fronts v).len - left → d ≡ (front_at fronts v).len - left → 8 ≤ room - left →
+            TakesOne k (IsBelow most) item (Ok (Some (front_at fronts v).number)) (at s octet left used room name) (at u next (8 - ((front_at fronts v).len - left)) ((used + b) + d) ((room - a) - c) name)
+        across_taken v a b c d ev ea eb ec ed enough = rw (ea, eb, ec, ed, ev) (crossed enough)

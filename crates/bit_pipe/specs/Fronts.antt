@@ -1,0 +1,38 @@
+-- Tables of what stands first in eight bits. (This project's own.)
+use Rattle.std.specs.Prelude.{◌≡◌, ◌≤◌, ◌<◌, ℕ, ◌-◌, ◌*◌, ◌/◌, ◌%◌, ◌^◌, List, Bool}
+use lib.ListN.{get_or}
+use Rattle.item_defs.specs.Bits.{bits_of}
+use Rattle.item_defs.specs.Items.{Shape, Item, IsSaid, item_bits}
+use Rattle.item_defs.specs.Readings.{Lacks}
+use Rattle.bit_pipe.specs.declared.front.Front.{Front}
+
+abbrev pub no_front : Front
+no_front = record { number = 0; len = 0 }
+
+abbrev pub front_at : List Front → ℕ → Front
+front_at fronts octet = get_or fronts octet no_front
+
+-- the first of the eight bits of an octet
+abbrev pub first_bits : (count octet : ℕ) → List Bool
+first_bits count octet = bits_of count (octet / 2 ^ (8 - count))
+
+-- The table tells, for each octet, the item of one shape whose bits stand first in it. The bits before that item's last are no
+-- item's.
+pub record Tells (most : ℕ) (item : ℕ → Item) (fronts : List Front) : Type 0 where
+  pub shape : Shape
+  pub same : (n : ℕ) → (item n).form.shape ≡ shape
+  pub known : (octet : ℕ) → octet < 256 → (front_at fronts octet).number < most
+  pub said : (octet : ℕ) → octet < 256 → IsSaid shape (item (front_at fronts octet).number).said
+  pub few : (octet : ℕ) → octet < 256 → (front_at fronts octet).len ≤ 8
+  pub first : (octet : ℕ) → octet < 256 → item_bits (item (front_at fronts octet).number) ≡ first_bits (front_at fronts octet).len octet
+  pub lacks : (octet count : ℕ) → octet < 256 → count < (front_at fronts octet).len → Lacks shape (first_bits count octet)
+
+-- it tells the items of some numbers
+pub record IsTable (fronts : List Front) : Type 0 where
+  pub most : ℕ
+  pub item : ℕ → Item
+  pub tells : Tells most item fronts
+
+-- so many bits of an octet that are left, and zeros behind them
+abbrev pub hand_of : (left octet : ℕ) → ℕ
+hand_of left octet = octet * 2 ^ (8 - left) % 256

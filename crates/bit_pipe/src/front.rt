@@ -1,0 +1,8 @@
+// What an octet begins with.
+
+/// The number of an item whose bits stand first in an octet, and how many bits it has there.
+#[derive(Clone, Copy, Debug, PartialEq, Eq)]
+pub struct Front {
+    pub number: u8,
+    pub len: u8,
+}

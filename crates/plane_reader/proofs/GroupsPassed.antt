@@ -1,0 +1,103 @@
+-- The groups of a mask, of which those are left that weren't read yet.
+use Rattle.std.proofs.Common.{◌≡◌, inl, inr, ℕ, zero, suc, ◌+◌, ◌-◌, ◌*◌, ◌^◌, ◌<◌, ◌≤◌, Bool, true, false, ℤ, List, [], ap, sym, ◌∙◌, subst, refl, arith}
+use Rattle.std.specs.Prelude.{Ok, Err, Some, None, Result, Option}
+use Rattle.std.proofs.lemmas.Bool.{cases_lt}
+use Rattle.item_defs.specs.Bits.{bit}
+use Rattle.plane_defs.specs.declared.codes.Book.{Book}
+use Rattle.plane_defs.specs.Spans.{span}
+use Rattle.plane_defs.specs.Steps.{Step, some_one_where, typed_steps}
+use Rattle.block_masks.specs.declared.gaggle.Gaggle.{Gaggle}
+use Rattle.block_masks.specs.Gaggles.{AreOptions}
+use Rattle.block_masks.specs.Masks.{Shows}
+use Rattle.bit_pipe.specs.declared.fault.TextFault.{TextFault}
+use Rattle.bit_pipe.specs.Sources.{SourceOf}
+use Rattle.bit_pipe.specs.Coming.{Coming, IsIn, Takes}
+use Rattle.plane_reader.specs.declared.found.Found.{Found}
+use Rattle.plane_reader.specs.Frames.{Frame, group_steps, TypesNext, GroupsNext}
+use Rattle.plane_reader.specs.Pieces.{FoundPiece, Anything}
+use Rattle.plane_reader.proofs.IndexPieces.{SoFar, so_far_none}
+use Rattle.plane_reader.proofs.GroupPieces.{group_item, group_skipped, group_call, group_read, group_missing, group_fault, groups_whole}
+use Rattle.plane_reader.proofs.SignsPassed.{bit_inside, no_bit, never}
+
+-- a mask tells its own bits
+pub nibble_shown : (mask count : ℕ) → mask < 2 ^ count → Shows mask (λ p. bit mask p) 0 count
+nibble_shown mask count small = record { at = λ j lt. let e : j ≡ 0 + j = omega arith in ap (bit mask) e; small = small }
+
+-- all below n were read, and these are left of a mask
+pub record GroupsPassed {I : Type 0} (k : SourceOf I) (book : Book) (f : Frame) (stage : ℕ) (earlier : ℕ → List Step) (done : List Step) (first count : ℕ) (now wanted : ℕ → Bool) (mask left : ℕ) (g h : Gaggle) (m o : Found) (a b : Coming I) : Type 0 where
+  pub n : ℕ
+  pub within : n ≤ count
+  pub kept : (p : ℕ) → n ≤ p → p < 64 → bit left p ≡ bit mask p
+  pub gone : (p : ℕ) → p < n → bit left p ≡ false
+  pub so_far : SoFar k book f stage earlier done (group_item f first now wanted) 0 n g h m o a b
+
+module _ {f : Frame} {stage : ℕ} {earlier : ℕ → List Step} {done : List Step} {first count : ℕ} {now wanted : ℕ → Bool} {due now_mask wanted_mask : ℕ} {after : List ℤ → List Step} (next : GroupsNext f stage earlier done first count now wanted due now_mask wanted_mask after) {I : Type 0} {k : SourceOf I} {book : Book} {g : Gaggle} {m : Found} {a : Coming I} where
+  -- none was read yet
+  pub groups_start : AreOptions g.options → IsIn a → Takes k a a [] → GroupsPassed k book f stage earlier done first count now wanted now_mask now_mask g g m m a a
+  groups_start known i t = record {
+    n = 0;
+    within = omega arith;
+    kept = λ p low high. refl;
+    gone = λ p low. absurd (omega (arith, low));
+    so_far = so_far_none book f stage earlier done (group_item f first now wanted) 0 known i t next.possible;
+  }
+
+  module _ {left : ℕ} {h : Gaggle} {o : Found} {b : Coming I} (p : GroupsPassed k book f stage earlier done first count now wanted now_mask left g h m o a b) where
+    -- up to a place before which none is left
+    skip_to : (more n : ℕ) → p.n + more ≡ n → n ≤ count → ((q : ℕ) → q < n → bit left q ≡ false) → SoFar k book f stage earlier done (group_item f first now wanted) 0 n g h m o a b
+    skip_to zero n e high none = let same : p.n ≡ n = omega arith in subst (λ z. SoFar k book f stage earlier done (group_item f first now wanted) 0 z g h m o a b) same p.so_far
+    skip_to (suc more) n e high none =
+        let last : (n - 1) + 1 ≡ n = omega arith in
+        let lt : n - 1 < count = omega arith in
+        let inside : n - 1 < 64 = omega (arith, lt, next.within) in
+        let place : 0 + (n - 1) ≡ n - 1 = omega arith in
+        let off : now (n - 1) ≡ false = ap now (sym place) ∙ sym (next.now_shown.at (n - 1) lt) ∙ sym (p.kept (n - 1) (omega arith) inside) ∙ none (n - 1) (omega arith) in
+        let before = skip_to more (n - 1) (omega arith) (omega arith) (λ q low. none q (omega (arith, low))) in
+        subst (λ z. SoFar k book f stage earlier done (group_item f first now wanted) 0 z g h m o a b) last (group_skipped next (n - 1) lt before off)
+
+    -- none is left
+    pub groups_all : left ≡ 0 → FoundPiece k book f stage earlier done (group_steps f first count now wanted) Anything (Ok (Some tt)) g h m o a b
+    groups_all e =
+        let whole : p.n + (count - p.n) ≡ count = omega (arith, p.within) in
+        groups_whole first count now wanted count refl (skip_to (count - p.n) count whole (omega arith) (λ q low. ap (λ x. bit x q) e ∙ no_bit 0 0 q (omega arith) (omega arith)))
+
+    module _ (j : ℕ) (high : j < 64) (here : bit left j ≡ true) (none : (q : ℕ) → q < j → bit left q ≡ false) where
+      above : p.n ≤ j
+      above = elim (cases_lt j p.n) [
+        | inl lt ↦ absurd (never (sym here ∙ p.gone j lt))
+        | inr le ↦ le
+      ]
+
+      in_mask : bit now_mask j ≡ true
+      in_mask = sym (p.kept j above high) ∙ here
+
+      pub group_below : j < count
+      group_below = bit_inside now_mask count j next.now_shown.small in_mask
+
+      is_due : now j ≡ true
+      is_due = let place : 0 + j ≡ j = omega arith in ap now (sym place) ∙ sym (next.now_shown.at j group_below) ∙ in_mask
+
+      before : SoFar k book f stage earlier done (group_item f first now wanted) 0 j g h m o a b
+      before = let whole : p.n + (j - p.n) ≡ j = omega (arith, above) in skip_to (j - p.n) j whole (omega (arith, group_below)) none
+
+      -- a call for its types
+      module _ (flag : Bool) (is : flag ≡ wanted j) {i : Gaggle} {q : Found} {c : Coming I} {r : Result (Option (Unit {0})) TextFault}
+          (types : (f : Frame) (stage : ℕ) (earlier : ℕ → List Step) (done : List Step) (after : List ℤ → List Step) → TypesNext f stage earlier done flag (first + 4 * j) 4 due after →
+          FoundPiece k book f stage earlier done (λ v. typed_steps v f.weights f.plane (some_one_where flag) (span (first + 4 * j) 4)) Anything r h i o q b c) where
+        pub groups_more : r ≡ Ok (Some tt) → (rest : ℕ) → bit rest j ≡ false → ((q' : ℕ) → q' < 64 → (q' ≡ j → ⊥) → bit rest q' ≡ bit left q') → GroupsPassed k book f stage earlier done first count now wanted now_mask rest g i m q a c
+        groups_more e rest gone others = record {
+          n = j + 1;
+          within = omega (arith, group_below);
+          kept = λ q' low top. others q' top (λ e. absurd (omega (arith, low, e))) ∙ p.kept q' (omega (arith, low, above)) top;
+          gone = λ q' le. elim (cases_lt q' j) [
+            | inl less ↦ others q' (omega (arith, less, high)) (λ e. absurd (omega (arith, less, e))) ∙ none q' less
+            | inr ge ↦ let e : j ≡ q' = omega (arith, le, ge) in subst (λ z. bit rest z ≡ false) e gone
+          ];
+          so_far = group_read next j group_below before is_due (rw e at (group_call next j group_below before flag is is_due types));
+        }
+
+        pub groups_missing : r ≡ Ok None → FoundPiece k book f stage earlier done (group_steps f first count now wanted) Anything (Ok None) g i m q a c
+        groups_missing e = group_missing next j group_below before is_due (rw e at (group_call next j group_below before flag is is_due types))
+
+        pub groups_fault : {e : TextFault} → r ≡ Err e → FoundPiece k book f stage earlier done (group_steps f first count now wanted) Anything (Err e) g i m q a c
+        groups_fault e = group_fault next j group_below before is_due (rw e at (group_call next j group_below before flag is is_due types))

@@ -1,0 +1,21 @@
+-- Which word's code stands first in an octet. (This project's own.)
+use Rattle.std.specs.Prelude.{◌≡◌, ◌<◌, ℕ, ◌^◌, List}
+use Rattle.bit_pipe.specs.declared.front.Front.{Front}
+use Rattle.bit_pipe.specs.Fronts.{front_at, first_bits}
+use Rattle.plane_defs.specs.declared.codes.Code.{Code}
+use Rattle.plane_defs.specs.declared.codes.Book.{Book}
+use Rattle.plane_defs.specs.Codes.{symbol, code_at, code_bits}
+
+-- a code stands first in an octet
+abbrev pub Begins : Code → ℕ → Type 0
+Begins code octet = code_bits code ≡ first_bits code.len octet
+
+-- a front has a symbol's word, and the length of its code
+pub record FrontOf (book : Book) (n option s : ℕ) (front : Front) : Type 0 where
+  pub word : symbol n front.number ≡ s
+  pub known : front.number < 2 ^ n
+  pub len : front.len ≡ (code_at book n option s).len
+
+-- each octet has the front of the symbol whose code stands first in it
+pub record AreFronts (book : Book) (n option : ℕ) (fronts : List Front) : Type 0 where
+  pub at : (octet s : ℕ) → octet < 256 → s < 2 ^ n → Begins (code_at book n option s) octet → FrontOf book n option s (front_at fronts octet)

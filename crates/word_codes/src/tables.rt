@@ -1,0 +1,83 @@
+// Which word stands first in an octet.
+
+ghost use Rattle.std.specs.Prelude.{◌≡◌, ◌≤◌, ◌<◌, ◌+◌, ◌-◌, ◌/◌, ◌^◌, ℕ, IsTrue, [], slice_index_or};
+ghost use Rattle.bit_pipe.specs.Fronts.{front_at};
+ghost use Rattle.plane_defs.specs.Codes.{is_book_sound, table_place};
+ghost use Rattle.word_codes.specs.WordFronts.{AreFronts};
+
+use crate::choice::table_at;
+use crate::put::trimmed;
+use crate::symbols::word_of;
+use bit_pipe::Front;
+use plane_defs::{Book, Code};
+
+const NOTHING: Front = Front { number: 0, len: 0 };
+
+/// For each coded option, which word's code stands first in an octet, as a sound book has the codes (docs/formats.md, "Words
+/// and codes"). Made once, it serves all words that are read.
+#[derive(Drop)]
+pub struct WordTables {
+    /// The book that the tables are of.
+    pub book: Book,
+    pub(crate) rows: [[Front; 256]; 6],
+    ghost sound: { IsTrue (is_book_sound book) },
+    ghost told: { (n option : ℕ) → 2 ≤ n → n ≤ 4 → option + 1 < n → AreFronts book n option (slice_index_or rows (table_place n option) []) },
+}
+
+// The octets that begin with a code have it in front.
+fn put_front(fronts: &mut [Front; 256], code: Code, number: u8)
+    requires few { code.len ≤ 8 }
+    requires fits { code.bits < 2 ^ code.len }
+    ensures begun { (octet : ℕ) → octet < 256 → octet / 2 ^ (8 - code.len) ≡ code.bits → front_at fronts.new octet ≡ record { number = number; len = code.len } }
+    ensures others { (octet : ℕ) → (octet / 2 ^ (8 - code.len) ≡ code.bits → ⊥) → front_at fronts.new octet ≡ front_at fronts.old octet }
+{
+    let wide = 1usize << (8 - code.len);
+    let first = usize::from(code.bits) * wide;
+    let front = Front {
+        number,
+        len: code.len,
+    };
+    for octet in first..first + wide {
+        fronts[octet] = front;
+    }
+}
+
+// The table of a coded option.
+fn fronts_of(book: &Book, length: u8, option: u8) -> [Front; 256]
+    requires sound { IsTrue (is_book_sound book.now) }
+    requires short { 2 ≤ length }
+    requires long { length ≤ 4 }
+    requires coded { option + 1 < length }
+    ensures { AreFronts book.now length option result }
+{
+    let codes = &book.codes[table_at(length, option)];
+    let mut fronts = [NOTHING; 256];
+    for symbol in 0..1u8 << length {
+        put_front(
+            &mut fronts,
+            trimmed(codes[symbol as usize]),
+            word_of(symbol, length),
+        );
+    }
+    fronts
+}
+
+impl WordTables {
+    /// What a sound book gives.
+    pub fn new(book: &Book) -> WordTables
+        requires { IsTrue (is_book_sound book.now) }
+        ensures { result.book ≡ book.now }
+    {
+        WordTables {
+            book: *book,
+            rows: [
+                fronts_of(book, 2, 0),
+                fronts_of(book, 3, 0),
+                fronts_of(book, 3, 1),
+                fronts_of(book, 4, 0),
+                fronts_of(book, 4, 1),
+                fronts_of(book, 4, 2),
+            ],
+        }
+    }
+}
