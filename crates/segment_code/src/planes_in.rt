@@ -1,7 +1,6 @@
 // The bit planes of a segment, read.
-ghost use Rattle.std.specs.Prelude.{◌≡◌, ◌<◌, ◌≤◌, ◌+◌, ◌-◌, ◌*◌, IsTrue, false, length};
+ghost use Rattle.std.specs.Prelude.{◌≡◌, ◌<◌, ◌≤◌, ◌+◌, ◌-◌, ◌*◌, false, length};
 ghost use Rattle.bit_pipe.specs.Coming.{coming, IsIn};
-ghost use Rattle.plane_defs.specs.Codes.{is_book_sound};
 ghost use Rattle.plane_defs.specs.Marks.{depths_of};
 ghost use Rattle.plane_defs.specs.Profile.{profile};
 ghost use Rattle.plane_reader.specs.Taken.{AwaitPlane, TakesPlane};
@@ -11,10 +10,9 @@ ghost use Rattle.segment_code.specs.TakenPlanes.{HaveDcs, TakesWholePlanes, Take
 
 use crate::planes::plane_plan;
 use bit_pipe::{BitIn, OctetIn, Part, TextFault};
-use plane_defs::Book;
-use plane_reader::take_plane;
+use plane_reader::take_plane_with;
 use segment_head::SegmentHead;
-use word_codes::profile_book;
+use word_codes::{WordTables, profile_book};
 
 // The last stage of a plane.
 const LAST: u8 = 4;
@@ -25,7 +23,7 @@ fn take_stages<I: OctetIn>(
     head: &SegmentHead,
     blocks: &mut [i32],
     marks: &mut [i32],
-    book: &Book,
+    tables: &WordTables,
     plane: u8,
     last: u8,
 ) -> Result<Part, TextFault>
@@ -33,14 +31,14 @@ fn take_stages<I: OctetIn>(
     requires whole { length blocks.old ≡ 64 * length marks.old }
     requires plane { plane ≤ 26 }
     requires last { last ≤ 4 }
-    requires book { book.now ≡ profile }
+    requires book { tables.now.book ≡ profile }
     requires awaits { AwaitPlane head.now.image.weights.shifts plane (q_of head.now) (depths_of marks.old) blocks.old }
     ensures takes { TakesPlane I.source profile plane (q_of head.now) head.now.image.weights.shifts (last + 1) (depths_of marks.old)
         result (coming input.old) (coming input.new) blocks.old blocks.new }
     ensures depths { depths_of marks.new ≡ depths_of marks.old }
 {
     let plan = plane_plan(head, plane, last);
-    take_plane(input, blocks, marks, &plan, book)
+    take_plane_with(input, blocks, marks, &plan, tables)
 }
 
 // Takes the planes above the stop's, from the top down.
@@ -49,12 +47,12 @@ fn take_whole_planes<I: OctetIn>(
     head: &SegmentHead,
     blocks: &mut [i32],
     marks: &mut [i32],
-    book: &Book,
+    tables: &WordTables,
 ) -> Result<Part, TextFault>
     requires fits { IsHead head.now }
     requires open { IsIn (coming input.old) }
     requires count { length blocks.old ≡ 64 * length marks.old }
-    requires book { book.now ≡ profile }
+    requires book { tables.now.book ≡ profile }
     requires sent { head.now.stop.plane < head.now.depth_ac }
     requires goes_on { head.now.stop.dc ≡ false }
     requires dcs { HaveDcs head.now (depths_of marks.old) blocks.old }
@@ -63,7 +61,7 @@ fn take_whole_planes<I: OctetIn>(
 {
     for n in 0..head.depth_ac - 1 - head.stop.plane {
         let plane = head.depth_ac - 1 - n;
-        let Part::Whole = take_stages(input, head, blocks, marks, book, plane, LAST)? else {
+        let Part::Whole = take_stages(input, head, blocks, marks, tables, plane, LAST)? else {
             return Ok(Part::Ended);
         };
     }
@@ -88,8 +86,8 @@ pub(crate) fn take_planes<I: OctetIn>(
     if head.stop.plane >= head.depth_ac {
         return Ok(Part::Whole);
     }
-    let book = profile_book();
-    let Part::Whole = take_whole_planes(input, head, blocks, marks, &book)? else {
+    let tables = WordTables::new(&profile_book());
+    let Part::Whole = take_whole_planes(input, head, blocks, marks, &tables)? else {
         return Ok(Part::Ended);
     };
     take_stages(
@@ -97,7 +95,7 @@ pub(crate) fn take_planes<I: OctetIn>(
         head,
         blocks,
         marks,
-        &book,
+        &tables,
         head.stop.plane,
         head.stop.stage + 1,
     )
