@@ -3,7 +3,7 @@ ghost use Rattle.std.specs.Prelude.{◌≤◌, length};
 ghost use Rattle.base_122.specs.Ranges.{IsInRange};
 
 use crate::examples::port_of;
-use base_122::{Select, Setting, Stop, Weights};
+use base_122::{DecodeWish, Select, Setting, Stop, Weights};
 use damage_rows::{Damage, RowRange};
 use packet_assembly::Framing;
 use port_122::MemoryPort;
@@ -12,7 +12,7 @@ use std::alloc::Global;
 use std::process::Abort;
 use std::test::Fail;
 use strip_coder::{Work, encode_rows};
-use strip_decoder::{DecodeDone, DecodeFault, DecodeWish, decode_packets};
+use strip_decoder::{DecodeDone, DecodeFault, decode_packets};
 
 // What most pictures are wished with.
 const WISH: DecodeWish = DecodeWish {

@@ -26,9 +26,9 @@ use Rattle.stream_defs.proofs.ChosenLaws.{after_all-append}
 use Rattle.packet_assembly.specs.Comings.{coming}
 use Rattle.packet_assembly.specs.Assembling.{Assembling, Passes, state_with}
 use Rattle.packet_assembly.specs.Passing.{whole_after}
-use Rattle.strip_decoder.specs.Fronts.{front}
+use Rattle.strip_decoder.specs.Fronts.{rows_of, wanted_of}
 use Rattle.strip_decoder.specs.Pictures.{Shown, IsSized, IsStanding, passed_in}
-use Rattle.strip_decoder.specs.Runs.{Run, HasRead, holds_after, Numbers, IsPrompt, AsksPrompt, HasFew, IsFrontFor, Knows, AreOf, Shows, future}
+use Rattle.strip_decoder.specs.Runs.{Run, HasRead, holds_after, Numbers, PromptBy, AsksBy, HasFew, FrontBy, Knows, AreOf, Shows, future}
 use Rattle.strip_decoder.proofs.RowGives.{front-begins}
 use Rattle.strip_decoder.proofs.Between.{geometry_stays}
 use Rattle.strip_decoder.proofs.Receiving.{one_received}
@@ -120,35 +120,35 @@ knows_on apid passed went later bound sofar knows = record {
       subst (λ xs. MatchOption (sofar index) ((numbers : List (List ℤ)) → IsReceived holds_after (kept apid fresh xs) index numbers → ⊥) (IsReceived holds_after (kept apid fresh xs) index)) (sym (append_assoc passed went next)) here;
 }
 
-asks_more : (apid : ℕ) (start : Outside) (took t gave g : List ℕ) (i j : ℕ) → i ≤ length took → AsksPrompt apid start took gave i j → AsksPrompt apid start (took ++ t) (gave ++ g) i j
-asks_more apid start took t gave g i j le asks = (
+asks_more : (gives : Bool) (apid : ℕ) (start : Outside) (took t gave g : List ℕ) (i j : ℕ) → i ≤ length took → AsksBy gives apid start took gave i j → AsksBy gives apid start (took ++ t) (gave ++ g) i j
+asks_more gives apid start took t gave g i j le asks = (
   omega (arith, asks.0, length-append gave g),
-  λ all told. subst (λ zs. IsPrompt apid zs (take j (gave ++ g))) (sym (take-append-le i took t le)) (subst (IsPrompt apid (take i took)) (sym (take-append-le j gave g asks.0)) (asks.1 all told)),
+  λ all told. subst (λ zs. PromptBy gives apid zs (take j (gave ++ g))) (sym (take-append-le i took t le)) (subst (PromptBy gives apid (take i took)) (sym (take-append-le j gave g asks.0)) (asks.1 all told)),
 )
 
 -- by what was given
-pub wrote_on : {start old new : Outside} (apid : ℕ) (took gave g : List ℕ) → Since start old took gave [] (AsksPrompt apid start took gave) → Since old new [] g [] NoRead → Since start new took (gave ++ g) [] (AsksPrompt apid start took (gave ++ g))
-wrote_on {start = start} apid took gave g since out =
-    since_out (since_weaker since (λ i j le asks. subst (λ zs. AsksPrompt apid start zs (gave ++ g) i j) (append-nil took) (asks_more apid start took [] gave g i j le asks))) out
+pub wrote_on : {start old new : Outside} (gives : Bool) (apid : ℕ) (took gave g : List ℕ) → Since start old took gave [] (AsksBy gives apid start took gave) → Since old new [] g [] NoRead → Since start new took (gave ++ g) [] (AsksBy gives apid start took (gave ++ g))
+wrote_on {start = start} gives apid took gave g since out =
+    since_out (since_weaker since (λ i j le asks. subst (λ zs. AsksBy gives apid start zs (gave ++ g) i j) (append-nil took) (asks_more gives apid start took [] gave g i j le asks))) out
 
 -- by what was taken, where at each read call what is given is right
-pub took_on : {P : FateState → Type 0} {start old new : Outside} {a b : Assembling} {went : List (List ℕ)} (apid : ℕ) (took gave : List ℕ) → Since start old took gave [] (AsksPrompt apid start took gave) → (q : Passes P old new a b went) →
-    ((octets more all : List ℕ) → q.took ≡ octets ++ more → P (state_with a octets) → start.rest ≡ Some all → IsPrompt apid (took ++ octets) gave) →
-    Since start new (took ++ q.took) gave [] (AsksPrompt apid start (took ++ q.took) gave)
-took_on {P = P} {start = start} {new = new} {a = a} apid took gave since q right =
+pub took_on : {P : FateState → Type 0} {start old new : Outside} {a b : Assembling} {went : List (List ℕ)} (gives : Bool) (apid : ℕ) (took gave : List ℕ) → Since start old took gave [] (AsksBy gives apid start took gave) → (q : Passes P old new a b went) →
+    ((octets more all : List ℕ) → q.took ≡ octets ++ more → P (state_with a octets) → start.rest ≡ Some all → PromptBy gives apid (took ++ octets) gave) →
+    Since start new (took ++ q.took) gave [] (AsksBy gives apid start (took ++ q.took) gave)
+took_on {P = P} {start = start} {new = new} {a = a} gives apid took gave since q right =
     let all = took ++ q.took in
-    let first : Since start _ took gave [] (AsksPrompt apid start all gave) =
-    since_weaker since (λ i j le asks. subst (λ zs. AsksPrompt apid start all zs i j) (append-nil gave) (asks_more apid start took q.took gave [] i j le asks)) in
-    let both : Since start new (took ++ q.took) (gave ++ []) [] (AsksPrompt apid start all gave) =
+    let first : Since start _ took gave [] (AsksBy gives apid start all gave) =
+    since_weaker since (λ i j le asks. subst (λ zs. AsksBy gives apid start all zs i j) (append-nil gave) (asks_more gives apid start took q.took gave [] i j le asks)) in
+    let both : Since start new (took ++ q.took) (gave ++ []) [] (AsksBy gives apid start all gave) =
     since_then first q.since (λ i j le asks. (
       omega (arith, asks.1),
       λ every told.
           let none : length gave + j ≡ length gave = omega (arith, asks.1) in
           let whole : take (length gave + j) gave ≡ gave = ap (λ n. take n gave) none ∙ take_whole gave in
-          subst (λ zs. IsPrompt apid zs (take (length gave + j) gave)) (sym (take-append-add took q.took i)) (subst (IsPrompt apid (took ++ take i q.took)) (sym whole)
+          subst (λ zs. PromptBy gives apid zs (take (length gave + j) gave)) (sym (take-append-add took q.took i)) (subst (PromptBy gives apid (took ++ take i q.took)) (sym whole)
           (right (take i q.took) (drop i q.took) every (sym (take-append-drop i q.took)) asks.0 told)),
     )) in
-    subst (λ zs. Since start new all zs [] (AsksPrompt apid start all gave)) (append-nil gave) both
+    subst (λ zs. Since start new all zs [] (AsksBy gives apid start all gave)) (append-nil gave) both
   where
     take_whole : (xs : List ℕ) → take (length xs) xs ≡ xs
     take_whole [] = refl
@@ -203,9 +203,14 @@ of_received g sofar received n bound some few same = record {
   at = λ block i lt small. number_by g received sofar block i (same (block / g.segment) (div_below block g.segment bound some (omega (arith, lt, few))));
 }
 
-front_few : (g : Geometry) (numbers : ℕ → ℕ → ℤ) (n : ℕ) → front g numbers n ≡ front g numbers (min n g.rows)
-unfolding front
-front_few g numbers n = let e : min n g.rows ≡ min (min n g.rows) g.rows = omega arith in ap (λ k. raster_octets g.depth k g.width (picture_with g numbers)) e
+front_few : (wanted : ℕ) (g : Geometry) (numbers : ℕ → ℕ → ℤ) (n : ℕ) → wanted ≤ g.rows → rows_of wanted g numbers n ≡ rows_of wanted g numbers (min n g.rows)
+unfolding rows_of
+front_few wanted g numbers n few = let e : min n wanted ≡ min (min n g.rows) wanted = omega (arith, few) in ap (λ k. raster_octets g.depth k g.width (picture_with g numbers)) e
+
+-- no more rows are wanted than there are
+pub wanted_few : (gives : Bool) (g : Geometry) → wanted_of gives g ≤ g.rows
+wanted_few true g = omega arith
+wanted_few false g = omega arith
 
 -- the rows that a state lets out
 ready_is : (s : FateState) (received : Numbers) (g : Geometry) (l : LastPart) → s.geometry ≡ Some g → s.last ≡ Some l → ready s received ≡ rows_through g (block_rows_before g (blocks_through g received l.index))
@@ -217,7 +222,7 @@ ready_is s received g l geometry last =
 -- ---- what is given is right
 
 module _ (w : Run) (a : Assembling) (p : Shown) (took gave octets : List ℕ) (passed : List (List ℕ)) (bound : ℕ) (sofar : Numbers) (read : HasRead w a took passed) (geometry : a.state.geometry ≡ Some p.geometry) (shows : Shows p sofar gave)
-    (sized : IsSized p) (few : passed_in p ≤ first_block p.geometry.segment bound) (later beyond : List (List ℕ)) (parts : later ≡ whole_packets (a.intake.pending ++ octets) ++ beyond) (knows : Knows w.apid passed later bound sofar) where
+    (sized : IsSized p) (wanted : p.wanted ≡ wanted_of w.gives p.geometry) (few : passed_in p ≤ first_block p.geometry.segment bound) (later beyond : List (List ℕ)) (parts : later ≡ whole_packets (a.intake.pending ++ octets) ++ beyond) (knows : Knows w.apid passed later bound sofar) where
   abbrev next : List (List ℕ)
   next = whole_packets (a.intake.pending ++ octets)
 
@@ -245,20 +250,21 @@ module _ (w : Run) (a : Assembling) (p : Shown) (took gave octets : List ℕ) (p
       (subst (λ packets. MatchOption (received index) ((v : List (List ℤ)) → IsReceived holds_after packets index v → ⊥) (IsReceived holds_after packets index)) kept_are (are.at index))
       (knows.at next beyond parts index lt)
 
-  pub given_then : (received : Numbers) → ReceivedIn holds_after w.apid (took ++ octets) received → gave ≡ front p.geometry (number_at p.geometry received) p.at.next
+  pub given_then : (received : Numbers) → ReceivedIn holds_after w.apid (took ++ octets) received → gave ≡ rows_of p.wanted p.geometry (number_at p.geometry received) p.at.next
   given_then received are =
       shows.given (number_at p.geometry received) (of_received p.geometry sofar received (passed_in p) bound (omega (arith, sized.range.segment.0)) few (known_same received are))
 
   -- a front of the picture
-  pub is_front : IsFrontFor w.apid (took ++ octets) gave
+  pub is_front : FrontBy w.gives w.apid (took ++ octets) gave
   is_front = record {
     none = some_then;
     some = λ g received told are.
-        subst (λ g. (n : ℕ) × (gave ≡ take n (front g (number_at g received) g.rows))) (geometry_then g told)
+        subst (λ g. (n : ℕ) × (gave ≡ take n (rows_of (wanted_of w.gives g) g (number_at g received) (wanted_of w.gives g)))) (geometry_then g told)
+        (subst (λ k. (n : ℕ) × (gave ≡ take n (rows_of k p.geometry (number_at p.geometry received) k))) wanted
         (let numbers = number_at p.geometry received in
-        let begins = front-begins p.geometry numbers p.at.next in
-        let here = front p.geometry numbers p.at.next in
-        (length here, given_then received are ∙ sym (ap (take (length here)) begins.1 ∙ take-append-le (length here) here begins.0 (omega arith) ∙ take_all here)));
+        let begins = front-begins p.wanted p.geometry numbers p.at.next in
+        let here = rows_of p.wanted p.geometry numbers p.at.next in
+        (length here, given_then received are ∙ sym (ap (take (length here)) begins.1 ∙ take-append-le (length here) here begins.0 (omega arith) ∙ take_all here))));
   }
     where
       take_all : (xs : List ℕ) → take (length xs) xs ≡ xs
@@ -267,11 +273,12 @@ module _ (w : Run) (a : Assembling) (p : Shown) (took gave octets : List ℕ) (p
 
   -- and at least the rows that may go out
   pub is_prompt : IsStanding p → ((index : ℕ) → bound ≤ index → sofar index ≡ None) → ((index : ℕ) (v : List (List ℤ)) → bound ≤ index → IsReceived holds_after (kept w.apid fresh (passed ++ next)) index v → ⊥) →
-      (l : LastPart) → (state_with a octets).last ≡ Some l → blocks_through p.geometry sofar l.index ≤ passed_in p → IsPrompt w.apid (took ++ octets) gave
+      (l : LastPart) → (state_with a octets).last ≡ Some l → blocks_through p.geometry sofar l.index ≤ passed_in p → PromptBy w.gives w.apid (took ++ octets) gave
   is_prompt standing above beyond_none l last_is reached = record {
     none = some_then;
     some = λ g received told are.
-        subst (λ g. (n : ℕ) × (n ≤ g.rows) × (ready (state_after w.apid (took ++ octets)) received ≤ n) × (gave ≡ front g (number_at g received) n)) (geometry_then g told)
+        subst (λ g. (n : ℕ) × (n ≤ g.rows) × (ready (state_after w.apid (took ++ octets)) received ≤ n) × (gave ≡ rows_of (wanted_of w.gives g) g (number_at g received) n)) (geometry_then g told)
+        (subst (λ k. (n : ℕ) × (n ≤ p.geometry.rows) × (ready (state_after w.apid (took ++ octets)) received ≤ n) × (gave ≡ rows_of k p.geometry (number_at p.geometry received) n)) wanted
         (let all = all_same received are in
         let state = state_then w a took octets passed read in
         let stands : (state_with a octets).geometry ≡ Some p.geometry = geometry_stays a.apid a.state next p.geometry geometry in
@@ -279,7 +286,7 @@ module _ (w : Run) (a : Assembling) (p : Shown) (took gave octets : List ℕ) (p
         ap (λ s. ready s received) state ∙ ready_is (state_with a octets) received p.geometry l stands last_is
         ∙ ap (λ o. rows_through p.geometry (block_rows_before p.geometry (first_block p.geometry.segment l.index + (if is_some o then segment_blocks (blocks_of p.geometry) p.geometry.segment l.index else 0)))) (all l.index) in
         let out = rows_out p (blocks_through p.geometry sofar l.index) standing reached in
-        (min p.at.next p.geometry.rows, omega arith, omega (arith, rows, out), given_then received are ∙ front_few p.geometry (number_at p.geometry received) p.at.next));
+        (min p.at.next p.geometry.rows, omega arith, omega (arith, rows, out), given_then received are ∙ front_few p.wanted p.geometry (number_at p.geometry received) p.at.next (omega (arith, wanted, wanted_few w.gives p.geometry)))));
   }
     where
       all_same : (received : Numbers) → ReceivedIn holds_after w.apid (took ++ octets) received → (index : ℕ) → received index ≡ sofar index

@@ -1,5 +1,5 @@
 -- The numbers of a block in the bands of blocks that stand one after another.
-use Rattle.std.proofs.Common.{◌≡◌, ◌<◌, ◌≤◌, ◌+◌, ◌*◌, ◌/◌, ◌%◌, ◌^◌, ◌==◌, ◌*ℤ◌, ℕ, ℤ, pos, true, List, [], ◌∷◌, get_or, map, refl, sym, ap, ◌∙◌, arith}
+use Rattle.std.proofs.Common.{◌≡◌, ◌<◌, ◌+◌, ◌*◌, ◌/◌, ◌%◌, ◌^◌, ◌==◌, ◌*ℤ◌, ℕ, ℤ, pos, true, List, get_or, refl, sym, ap, ◌∙◌, arith}
 use Rattle.std.specs.Prelude.{All}
 use Rattle.std.specs.List.{range_with_len, list_all}
 use Rattle.std.proofs.lemmas.Nat.{div-mul-add, mod-mul-add}
@@ -10,7 +10,7 @@ use Rattle.wave_defs.specs.Pyramid.{band_of}
 use Rattle.wave_defs.specs.Blocks.{Place, IsPlace, place_of, block_side, coefficient, weight_at}
 use Rattle.wave_defs.proofs.BlockLaws.{passes, place_of-is_place}
 use Rattle.stream_defs.specs.Picture.{position_of, band_with, pyramid_with}
-use Rattle.strip_decoder.proofs.Dividing.{divided}
+use Rattle.block_families.proofs.Dividing.{divided}
 use Rattle.text_defs.proofs.GivenParts.{shift_low}
 
 -- each position is that of its place

@@ -143,8 +143,8 @@ some_geometry : {x y : Geometry} → Some x ≡ Some y → x ≡ y
 some_geometry e = cc
 
 -- the first segment was answered
-pub found_first : {old new : Outside} (apid cap : ℕ) (a b : Assembling) (p : Shown) (start : SegmentStart) (g : Geometry) → a ≡ unread_assembly apid cap → FindsSegment old new a b (Ok (Some start)) → b.state.geometry ≡ Some g →
-    IsFresh g p → IsAt b p start
+pub found_first : {wanted : ℕ} {old new : Outside} (apid cap : ℕ) (a b : Assembling) (p : Shown) (start : SegmentStart) (g : Geometry) → a ≡ unread_assembly apid cap → FindsSegment old new a b (Ok (Some start)) → b.state.geometry ≡ Some g →
+    IsFresh g wanted p → IsAt b p start
 found_first {old = old} {new = new} apid cap a b p start g unread finds geometry fresh_picture =
     let here : FindsSegment old new (unread_assembly apid cap) b (Ok (Some start)) = subst (λ a. FindsSegment old new a b (Ok (Some start))) unread finds in
     elim here.ends [

@@ -1,5 +1,5 @@
 -- Blocks of a picture that are passed, one after another.
-use Rattle.std.proofs.Common.{◌≡◌, ◌<◌, ◌≤◌, ◌+◌, ◌-◌, ◌*◌, ◌/◌, ◌==◌, ◌*ℤ◌, ℕ, ℤ, zero, suc, pos, Bool, true, false, [], ◌∷◌, ◌++◌, get_or, refl, sym, ap, subst, ◌∙◌, arith, inl, inr}
+use Rattle.std.proofs.Common.{◌≡◌, ◌<◌, ◌≤◌, ◌+◌, ◌*◌, ◌/◌, ◌==◌, ◌*ℤ◌, ℕ, ℤ, zero, suc, pos, Bool, true, false, [], get_or, refl, sym, ap, subst, ◌∙◌, arith, inl, inr}
 use Rattle.std.specs.Prelude.{◌||◌, filter, Result, Ok, Err, IsErr}
 use Rattle.std.specs.List.{range_with_len, list_any}
 use Rattle.std.proofs.lemmas.Bool.{cases_lt, false≢true}
@@ -20,7 +20,7 @@ use Rattle.inverse_strip.specs.Strip.{columns_of, height_of, taken_of, next_of, 
 use Rattle.inverse_strip.proofs.NextLemmas.{IsNext-blocks}
 use Rattle.stream_defs.specs.Marks.{Marks, marked, and_missing, most_block_rows}
 use Rattle.damage_rows.proofs.TableLaws.{any_there, any_none, filter_same}
-use Rattle.strip_decoder.specs.Fronts.{bands_of, front}
+use Rattle.strip_decoder.specs.Fronts.{bands_of, rows_of}
 use Rattle.strip_decoder.specs.Pictures.{Shown, IsSized, IsStanding, StandsFor, HasRoom, passed_in}
 use Rattle.strip_decoder.specs.Steps.{GoesOn, BreaksOff, StoodFor, HasNone, HasNextSet, AreHeld, AreLost, HasPassed, PassesBlocks, GivesRows, Unmarked, MarksRows, is_marked, is_touched, IsListed}
 use Rattle.strip_decoder.proofs.BandBlocks.{coefficient_with, part_is, zero_is}
@@ -74,6 +74,7 @@ column_passed p a standing room lt =
         idle = standing.idle;
       };
       geometry = refl;
+      wanted = refl;
       cells = refl;
       room = refl;
       marks = refl;
@@ -83,7 +84,7 @@ column_passed p a standing room lt =
         gave = [];
         out = since_start a NoRead;
         follows = λ numbers set. record { strip = set.strip; set = set.set; unset = set.unset };
-        given = λ numbers set. append-nil (front p.geometry numbers p.at.next);
+        given = λ numbers set. append-nil (rows_of p.wanted p.geometry numbers p.at.next);
       };
     }
 
@@ -122,7 +123,7 @@ module _ (p : Shown) (t : StripInverse) (standing : IsStanding p) (room : HasRoo
     gave = [];
     out = since_start a NoRead;
     follows = row_stands;
-    given = λ numbers set. append-nil (front p.geometry numbers p.at.next);
+    given = λ numbers set. append-nil (rows_of p.wanted p.geometry numbers p.at.next);
   }
 
   -- and the rows were given that come with it
@@ -136,16 +137,17 @@ module _ (p : Shown) (t : StripInverse) (standing : IsStanding p) (room : HasRoo
       record {
         standing = rows.standing;
         geometry = geometry;
+        wanted = same.wanted;
         cells = same.cells;
         room = same.room;
         marks = same.marks;
         count = omega (arith, passed, more, full);
         marked = same.damage;
-        goes = goes_then refl (λ numbers before stands. stands) (row_goes a) rows.goes;
+        goes = goes_then refl refl (λ numbers before stands. stands) (row_goes a) rows.goes;
       }
 
   pub row_broke : (a b : Outside) → BreaksOff (StoodFor (past_row p t)) a b (past_row p t) → BreaksOff (HasNextSet p) a b p
-  row_broke a b broken = breaks_then refl (λ numbers before stands. stands) (row_goes a) broken
+  row_broke a b broken = breaks_then refl refl (λ numbers before stands. stands) (row_goes a) broken
 
   pub rows_passed : {T E : Type 0} (r : Result T E) (a b : Outside) (z : Shown) → GivesRows r a b (past_row p t) z → PassesBlocks r Unmarked (HasNextSet p) 1 a b p z
   rows_passed (Ok x) a b z rows = row_passed a b z rows
@@ -223,6 +225,7 @@ pub block_lost : (p z : Shown) (a b : Outside) → IsStanding p → HasPassed Un
 block_lost p z a b standing passed = record {
   standing = passed.standing;
   geometry = passed.geometry;
+  wanted = passed.wanted;
   cells = passed.cells;
   room = passed.room;
   marks = passed.marks;
@@ -309,6 +312,7 @@ module _ (p : Shown) (t : StripInverse) (place : ℕ) (standing : IsStanding p) 
   block_put a b z passed = record {
     standing = passed.standing;
     geometry = passed.geometry;
+    wanted = passed.wanted;
     cells = passed.cells;
     room = passed.room;
     marks = passed.marks;
@@ -342,12 +346,13 @@ pub lost_none : (n : ℕ) (p : Shown) (a : Outside) → IsStanding p → HasPass
 lost_none n p a standing = record {
   standing = standing;
   geometry = refl;
+  wanted = refl;
   cells = refl;
   room = refl;
   marks = refl;
   count = omega arith;
   marked = record { rows = refl; at = λ row low. sym (or_none (is_marked p.damage.missing row)); listed = λ before. before };
-  goes = record { gave = []; out = since_start a NoRead; follows = λ numbers lost. lost.stands; given = λ numbers lost. append-nil (front p.geometry numbers p.at.next) };
+  goes = record { gave = []; out = since_start a NoRead; follows = λ numbers lost. lost.stands; given = λ numbers lost. append-nil (rows_of p.wanted p.geometry numbers p.at.next) };
 }
   where
     or_none : (b : Bool) → (b || false) ≡ b
@@ -358,12 +363,13 @@ pub held_none : (n : ℕ) (p : Shown) (a : Outside) → IsStanding p → HasPass
 held_none n p a standing = record {
   standing = standing;
   geometry = refl;
+  wanted = refl;
   cells = refl;
   room = refl;
   marks = refl;
   count = omega arith;
   marked = refl;
-  goes = record { gave = []; out = since_start a NoRead; follows = λ numbers held. held.stands; given = λ numbers held. append-nil (front p.geometry numbers p.at.next) };
+  goes = record { gave = []; out = since_start a NoRead; follows = λ numbers held. held.stands; given = λ numbers held. append-nil (rows_of p.wanted p.geometry numbers p.at.next) };
 }
 
 -- one block more of those that are lost
@@ -401,6 +407,7 @@ pub lost_then : {a b c : Outside} (n k : ℕ) (p x z : Shown) → k < n → HasP
 lost_then n k p x z lt before one = record {
   standing = one.standing;
   geometry = one.geometry ∙ before.geometry;
+  wanted = one.wanted ∙ before.wanted;
   cells = one.cells ∙ before.cells;
   room = one.room ∙ before.room;
   marks = one.marks ∙ before.marks;
@@ -418,7 +425,7 @@ lost_then n k p x z lt before one = record {
         ∙ ap (λ b. is_marked p.damage.missing row || b) (sym (touched_more c (passed_in p) k row));
     listed = λ first. one.marked.listed (before.marked.listed first);
   };
-  goes = goes_then before.geometry (lost_next n k p x lt before) before.goes one.goes;
+  goes = goes_then before.geometry before.wanted (lost_next n k p x lt before) before.goes one.goes;
 }
   where
     or_none : (b : Bool) → (b || false) ≡ b
@@ -430,7 +437,7 @@ lost_then n k p x z lt before one = record {
     or_assoc false b c = refl
 
 pub lost_then_broke : {a b c : Outside} (n k : ℕ) (p x : Shown) → k < n → HasPassed (MarksRows p k) (AreLost n p) k a b p x → BreaksOff (AreLost 1 x) b c x → BreaksOff (AreLost n p) a c p
-lost_then_broke n k p x lt before broken = breaks_then before.geometry (lost_next n k p x lt before) before.goes broken
+lost_then_broke n k p x lt before broken = breaks_then before.geometry before.wanted (lost_next n k p x lt before) before.goes broken
 
 -- one more of those that are held
 held_next : {a b : Outside} (n k : ℕ) (p x : Shown) → k < n → HasPassed Unmarked (AreHeld 0 n p) k a b p x → (numbers : ℕ → ℕ → ℤ) → AreHeld 0 n p numbers → StandsFor numbers x → AreHeld k 1 x numbers
@@ -446,13 +453,14 @@ pub held_then : {a b c : Outside} (n k : ℕ) (p x z : Shown) → k < n → HasP
 held_then n k p x z lt before one = record {
   standing = one.standing;
   geometry = one.geometry ∙ before.geometry;
+  wanted = one.wanted ∙ before.wanted;
   cells = one.cells ∙ before.cells;
   room = one.room ∙ before.room;
   marks = one.marks ∙ before.marks;
   count = omega (arith, one.count, before.count);
   marked = one.marked ∙ before.marked;
-  goes = goes_then before.geometry (held_next n k p x lt before) before.goes one.goes;
+  goes = goes_then before.geometry before.wanted (held_next n k p x lt before) before.goes one.goes;
 }
 
 pub held_then_broke : {a b c : Outside} (n k : ℕ) (p x : Shown) → k < n → HasPassed Unmarked (AreHeld 0 n p) k a b p x → BreaksOff (AreHeld k 1 x) b c x → BreaksOff (AreHeld 0 n p) a c p
-held_then_broke n k p x lt before broken = breaks_then before.geometry (held_next n k p x lt before) before.goes broken
+held_then_broke n k p x lt before broken = breaks_then before.geometry before.wanted (held_next n k p x lt before) before.goes broken

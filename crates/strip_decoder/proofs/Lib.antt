@@ -19,4 +19,12 @@ pub mod RunStarts
 pub mod RunFinishes
 pub mod Decoding
 pub mod Existing
-pub mod Dividing
+pub mod LinesGiven
+pub mod Findings
+pub mod Containing
+pub mod SublistPictures
+pub mod SpelledImages
+pub mod CodedImages
+pub mod WholeImages
+pub mod WholeTexts
+pub mod RoundTrips

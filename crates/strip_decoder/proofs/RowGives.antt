@@ -1,5 +1,5 @@
 -- A row of a picture that is made and given.
-use Rattle.std.proofs.Common.{◌≡◌, ◌<◌, ◌≤◌, ◌+◌, ◌-◌, ◌*◌, ◌^◌, ℕ, ℤ, Bool, true, false, List, [], ◌∷◌, ◌++◌, length, take, map, refl, sym, ap, subst, ◌∙◌, arith, ⊎_elim, append_assoc}
+use Rattle.std.proofs.Common.{◌≡◌, ◌<◌, ◌≤◌, ◌+◌, ◌-◌, ◌*◌, ◌^◌, ℕ, zero, suc, ℤ, Bool, List, [], ◌∷◌, ◌++◌, length, take, map, refl, sym, ap, subst, ◌∙◌, arith, ⊎_elim, append_assoc}
 use Rattle.std.specs.Prelude.{min, Result, Ok, Err, IsErr}
 use Rattle.std.proofs.lemmas.Bool.{false≢true}
 use Rattle.std.specs.List.{range_with_len}
@@ -22,48 +22,63 @@ use Rattle.stream_defs.specs.Picture.{picture_with}
 use Rattle.inverse_strip.specs.declared.strip.StripInverse.{StripInverse}
 use Rattle.inverse_strip.specs.Strip.{columns_of, height_of, taken_of, next_of, numbers_of, row_of, FollowStrip}
 use Rattle.inverse_strip.specs.Kept.{IsCompletion, HasNext, IsIdle}
-use Rattle.strip_decoder.specs.Fronts.{bands_of, front}
+use Rattle.strip_decoder.specs.Fronts.{bands_of, rows_of}
 use Rattle.strip_decoder.specs.Pictures.{Shown, IsSized, StandsTo, StandsFor}
 use Rattle.strip_decoder.specs.Steps.{GoesOn, BreaksOff, StoodFor, SameBut, HasGiven, HasNone, HasGivenSome, GivesRow, GivesRows}
 
 -- ---- the first rows as octets
 
-module _ (g : Geometry) (numbers : ℕ → ℕ → ℤ) (n : ℕ) where
+module _ (wanted : ℕ) (g : Geometry) (numbers : ℕ → ℕ → ℤ) (n : ℕ) where
   abbrev row_octets : List ℕ
   row_octets = pixel_octets g.depth (row_pixels g.width (picture_with g numbers n))
 
   -- one row more
-  pub front-more : n < g.rows → front g numbers (n + 1) ≡ front g numbers n ++ row_octets
-  unfolding front
+  pub front-more : n < wanted → rows_of wanted g numbers (n + 1) ≡ rows_of wanted g numbers n ++ row_octets
+  unfolding rows_of
   front-more lt =
-      let now : min n g.rows ≡ n = omega arith in
-      let next : min (n + 1) g.rows ≡ n + 1 = omega arith in
+      let now : min n wanted ≡ n = omega arith in
+      let next : min (n + 1) wanted ≡ n + 1 = omega arith in
       ap (λ k. raster_octets g.depth k g.width (picture_with g numbers)) next
       ∙ raster_octets-more g.depth n g.width (picture_with g numbers)
       ∙ ap (λ k. raster_octets g.depth k g.width (picture_with g numbers) ++ row_octets) (sym now)
 
-  -- rows that pad the picture aren't given
-  pub front-same : g.rows ≤ n → front g numbers (n + 1) ≡ front g numbers n
-  unfolding front
+  -- rows that pad the picture, or aren't wanted, aren't given
+  pub front-same : wanted ≤ n → rows_of wanted g numbers (n + 1) ≡ rows_of wanted g numbers n
+  unfolding rows_of
   front-same le =
-      let e : min (n + 1) g.rows ≡ min n g.rows = omega arith in
+      let e : min (n + 1) wanted ≡ min n wanted = omega arith in
       ap (λ k. raster_octets g.depth k g.width (picture_with g numbers)) e
 
 -- the first rows begin the picture
-pub front-begins : (g : Geometry) (numbers : ℕ → ℕ → ℤ) (n : ℕ) → (more : List ℕ) × (front g numbers g.rows ≡ front g numbers n ++ more)
-unfolding front
-front-begins g numbers n =
-    let k = min n g.rows in
+pub front-begins : (wanted : ℕ) (g : Geometry) (numbers : ℕ → ℕ → ℤ) (n : ℕ) → (more : List ℕ) × (rows_of wanted g numbers wanted ≡ rows_of wanted g numbers n ++ more)
+unfolding rows_of
+front-begins wanted g numbers n =
+    let k = min n wanted in
     let image = picture_with g numbers in
-    let all : min g.rows g.rows ≡ k + (g.rows - k) = omega arith in
-    (rows_from g.depth g.width image (0 + k) (g.rows - k), ap (λ m. raster_octets g.depth m g.width image) all ∙ rows_from-append g.depth g.width image 0 k (g.rows - k))
+    let all : min wanted wanted ≡ k + (wanted - k) = omega arith in
+    (rows_from g.depth g.width image (0 + k) (wanted - k), ap (λ m. raster_octets g.depth m g.width image) all ∙ rows_from-append g.depth g.width image 0 k (wanted - k))
 
 -- a part of what comes after the first rows
-pub front-part : (g : Geometry) (numbers : ℕ → ℕ → ℤ) (n m : ℕ) (octets more : List ℕ) → front g numbers g.rows ≡ front g numbers n ++ (octets ++ more) → m ≤ length octets →
-    (some : ℕ) × (front g numbers n ++ take m octets ≡ take some (front g numbers g.rows))
-front-part g numbers n m octets more whole le =
-    let before = front g numbers n in
+pub front-part : (wanted : ℕ) (g : Geometry) (numbers : ℕ → ℕ → ℤ) (n m : ℕ) (octets more : List ℕ) → rows_of wanted g numbers wanted ≡ rows_of wanted g numbers n ++ (octets ++ more) → m ≤ length octets →
+    (some : ℕ) × (rows_of wanted g numbers n ++ take m octets ≡ take some (rows_of wanted g numbers wanted))
+front-part wanted g numbers n m octets more whole le =
+    let before = rows_of wanted g numbers n in
     (length before + m, sym (ap (take (length before + m)) whole ∙ take-append-add before (octets ++ more) m ∙ ap (λ zs. before ++ zs) (take-append-le m octets more le)))
+
+-- where none is wanted there are none
+pub rows_none : (g : Geometry) (numbers : ℕ → ℕ → ℤ) (n : ℕ) → rows_of 0 g numbers n ≡ []
+unfolding rows_of
+rows_none g numbers n = let none : min n 0 ≡ 0 = omega arith in ap (λ k. raster_octets g.depth k g.width (picture_with g numbers)) none
+
+pub given_none : (wanted : ℕ) (g : Geometry) (numbers : ℕ → ℕ → ℤ) (n : ℕ) (gave : List ℕ) → wanted ≡ 0 → gave ≡ rows_of wanted g numbers n → gave ≡ []
+given_none wanted g numbers n gave none is = is ∙ ap (λ k. rows_of k g numbers n) none ∙ rows_none g numbers n
+
+pub part_none : (wanted : ℕ) (g : Geometry) (numbers : ℕ → ℕ → ℤ) (n m : ℕ) (gave : List ℕ) → wanted ≡ 0 → gave ≡ take m (rows_of wanted g numbers n) → gave ≡ []
+part_none wanted g numbers n m gave none is = is ∙ ap (λ k. take m (rows_of k g numbers n)) none ∙ ap (take m) (rows_none g numbers n) ∙ take_none m
+  where
+    take_none : (m : ℕ) → take m (let xs : List ℕ = [] in xs) ≡ []
+    take_none zero = refl
+    take_none (suc m) = refl
 
 -- ---- a row's octets
 
@@ -144,7 +159,7 @@ stands_on p t next columns numbers strip same stands = record {
 }
 
 pub same_but : (p : Shown) (t : StripInverse) (next : ℕ) → SameBut p (stepped p t next)
-same_but p t next = record { geometry = refl; cells = refl; room = refl; marks = refl; damage = refl; row = refl; column = refl }
+same_but p t next = record { geometry = refl; wanted = refl; cells = refl; room = refl; marks = refl; damage = refl; row = refl; column = refl }
 
 -- the number of the next row, which is below that of rows
 pub next_low : (p : Shown) (t : StripInverse) → IsSized p → RowMade p.strip t → p.at.next < 8 * p.at.row
@@ -182,7 +197,7 @@ module _ (p : Shown) (t : StripInverse) (sized : IsSized p) (made : RowMade p.st
       made_octets p.geometry numbers p.at.next (columns_of p.strip) (row_of t) sized.columns (long ∙ ap (λ n. 8 * n) made.width) at
 
   -- a row of the picture was given
-  pub row_given : length (row_of t) ≡ 8 * columns_of t → (a b : Outside) → p.at.next < p.geometry.rows →
+  pub row_given : length (row_of t) ≡ 8 * columns_of t → (a b : Outside) → p.at.next < p.wanted →
       Since a b [] (pixel_octets p.geometry.depth (map (clamped p.geometry.depth p.geometry.signed) (take p.geometry.width (row_of t)))) [] NoRead → HasGiven a b p (stepped p t (p.at.next + 1))
   row_given long a b lt out = record {
     sized = sized_next;
@@ -193,12 +208,12 @@ module _ (p : Shown) (t : StripInverse) (sized : IsSized p) (made : RowMade p.st
       gave = _;
       out = out;
       follows = follows_next;
-      given = λ numbers stands. ap (λ zs. front p.geometry numbers p.at.next ++ zs) (octets_next long numbers stands) ∙ sym (front-more p.geometry numbers p.at.next lt);
+      given = λ numbers stands. ap (λ zs. rows_of p.wanted p.geometry numbers p.at.next ++ zs) (octets_next long numbers stands) ∙ sym (front-more p.wanted p.geometry numbers p.at.next lt);
     };
   }
 
   -- a row that pads the picture wasn't
-  pub row_made : (a : Outside) → p.geometry.rows ≤ p.at.next → HasGiven a a p (stepped p t (p.at.next + 1))
+  pub row_made : (a : Outside) → p.wanted ≤ p.at.next → HasGiven a a p (stepped p t (p.at.next + 1))
   row_made a le = record {
     sized = sized_next;
     same = same_but p t (p.at.next + 1);
@@ -208,12 +223,12 @@ module _ (p : Shown) (t : StripInverse) (sized : IsSized p) (made : RowMade p.st
       gave = [];
       out = since_start a NoRead;
       follows = follows_next;
-      given = λ numbers stands. append-nil (front p.geometry numbers p.at.next) ∙ sym (front-same p.geometry numbers p.at.next le);
+      given = λ numbers stands. append-nil (rows_of p.wanted p.geometry numbers p.at.next) ∙ sym (front-same p.wanted p.geometry numbers p.at.next le);
     };
   }
 
   -- a part of a row of the picture was given
-  pub row_broken : length (row_of t) ≡ 8 * columns_of t → (a b : Outside) (m : ℕ) → p.at.next < p.geometry.rows → Rose a.write_faults b.write_faults →
+  pub row_broken : length (row_of t) ≡ 8 * columns_of t → (a b : Outside) (m : ℕ) → p.at.next < p.wanted → Rose a.write_faults b.write_faults →
       let octets = pixel_octets p.geometry.depth (map (clamped p.geometry.depth p.geometry.signed) (take p.geometry.width (row_of t))) in
       m ≤ length octets → Since a b [] (take m octets) [] NoRead → BreaksOff (StoodFor p) a b p
   row_broken long a b m lt rose le out = record {
@@ -223,11 +238,11 @@ module _ (p : Shown) (t : StripInverse) (sized : IsSized p) (made : RowMade p.st
     given = λ numbers stands.
         let g = p.geometry in
         let octets = pixel_octets g.depth (map (clamped g.depth g.signed) (take g.width (row_of t))) in
-        let later = front-begins g numbers (p.at.next + 1) in
-        let whole : front g numbers g.rows ≡ front g numbers p.at.next ++ (octets ++ later.0) =
-        later.1 ∙ ap (λ zs. zs ++ later.0) (front-more g numbers p.at.next lt) ∙ append_assoc (front g numbers p.at.next) (row_octets g numbers p.at.next) later.0
-        ∙ ap (λ zs. front g numbers p.at.next ++ (zs ++ later.0)) (sym (octets_next long numbers stands)) in
-        front-part g numbers p.at.next m octets later.0 whole le;
+        let later = front-begins p.wanted g numbers (p.at.next + 1) in
+        let whole : rows_of p.wanted g numbers p.wanted ≡ rows_of p.wanted g numbers p.at.next ++ (octets ++ later.0) =
+        later.1 ∙ ap (λ zs. zs ++ later.0) (front-more p.wanted g numbers p.at.next lt) ∙ append_assoc (rows_of p.wanted g numbers p.at.next) (row_octets p.wanted g numbers p.at.next) later.0
+        ∙ ap (λ zs. rows_of p.wanted g numbers p.at.next ++ (zs ++ later.0)) (sym (octets_next long numbers stands)) in
+        front-part p.wanted g numbers p.at.next m octets later.0 whole le;
   }
 
 pub row_failed : {E : Type 0} {a b : Outside} {p : Shown} (q : Shown) (r : Result Bool E) → IsErr r → BreaksOff (StoodFor p) a b p → GivesRow r a b p q
@@ -247,42 +262,46 @@ row_none p t a sized none = record {
     gave = [];
     out = since_start a NoRead;
     follows = λ numbers stands. stands_on p t p.at.next p.at.column numbers (none.follows _ _ (completes p sized) stands.strip) none.numbers stands;
-    given = λ numbers stands. append-nil (front p.geometry numbers p.at.next);
+    given = λ numbers stands. append-nil (rows_of p.wanted p.geometry numbers p.at.next);
   };
 }
 
 -- ---- one stretch after another
 
 -- rows go on, and then more of them
-pub goes_then : {B C : (ℕ → ℕ → ℤ) → Type 0} {a b c : Outside} {x y z : Shown} → y.geometry ≡ x.geometry → ((numbers : ℕ → ℕ → ℤ) → B numbers → StandsFor numbers y → C numbers) →
+pub goes_then : {B C : (ℕ → ℕ → ℤ) → Type 0} {a b c : Outside} {x y z : Shown} → y.geometry ≡ x.geometry → y.wanted ≡ x.wanted → ((numbers : ℕ → ℕ → ℤ) → B numbers → StandsFor numbers y → C numbers) →
     GoesOn B a b x y → GoesOn C b c y z → GoesOn B a c x z
-goes_then {B = B} {C = C} {a = a} {b = b} {c = c} {x = x} {y = y} {z = z} same f u v = record {
+goes_then {B = B} {C = C} {a = a} {b = b} {c = c} {x = x} {y = y} {z = z} same wanted f u v = record {
   gave = u.gave ++ v.gave;
   out = since_out u.out v.out;
   follows = λ numbers before. v.follows numbers (f numbers before (u.follows numbers before));
   given = λ numbers before.
       let later = v.given numbers (f numbers before (u.follows numbers before)) in
-      let there : front x.geometry numbers y.at.next ++ v.gave ≡ front x.geometry numbers z.at.next = subst (λ g. front g numbers y.at.next ++ v.gave ≡ front g numbers z.at.next) same later in
-      sym (append_assoc (front x.geometry numbers x.at.next) u.gave v.gave) ∙ ap (λ zs. zs ++ v.gave) (u.given numbers before) ∙ there;
+      let there : rows_of x.wanted x.geometry numbers y.at.next ++ v.gave ≡ rows_of x.wanted x.geometry numbers z.at.next =
+      subst (λ k. rows_of k x.geometry numbers y.at.next ++ v.gave ≡ rows_of k x.geometry numbers z.at.next) wanted
+      (subst (λ g. rows_of y.wanted g numbers y.at.next ++ v.gave ≡ rows_of y.wanted g numbers z.at.next) same later) in
+      sym (append_assoc (rows_of x.wanted x.geometry numbers x.at.next) u.gave v.gave) ∙ ap (λ zs. zs ++ v.gave) (u.given numbers before) ∙ there;
 }
 
 -- rows go on, and then a write fails
-pub breaks_then : {B C : (ℕ → ℕ → ℤ) → Type 0} {a b c : Outside} {x y : Shown} → y.geometry ≡ x.geometry → ((numbers : ℕ → ℕ → ℤ) → B numbers → StandsFor numbers y → C numbers) →
+pub breaks_then : {B C : (ℕ → ℕ → ℤ) → Type 0} {a b c : Outside} {x y : Shown} → y.geometry ≡ x.geometry → y.wanted ≡ x.wanted → ((numbers : ℕ → ℕ → ℤ) → B numbers → StandsFor numbers y → C numbers) →
     GoesOn B a b x y → BreaksOff C b c y → BreaksOff B a c x
-breaks_then {B = B} {C = C} {a = a} {b = b} {c = c} {x = x} {y = y} same f u v = record {
+breaks_then {B = B} {C = C} {a = a} {b = b} {c = c} {x = x} {y = y} same wanted f u v = record {
   gave = u.gave ++ v.gave;
   out = since_out u.out v.out;
   rose = rose_since u.out.faults.writes v.rose;
   given = λ numbers before.
       let later = v.given numbers (f numbers before (u.follows numbers before)) in
-      let there : front x.geometry numbers y.at.next ++ v.gave ≡ take later.0 (front x.geometry numbers x.geometry.rows) =
-      subst (λ (g : Geometry). front g numbers y.at.next ++ v.gave ≡ take later.0 (front g numbers g.rows)) same later.1 in
-      (later.0, sym (append_assoc (front x.geometry numbers x.at.next) u.gave v.gave) ∙ ap (λ zs. zs ++ v.gave) (u.given numbers before) ∙ there);
+      let there : rows_of x.wanted x.geometry numbers y.at.next ++ v.gave ≡ take later.0 (rows_of x.wanted x.geometry numbers x.wanted) =
+      subst (λ k. rows_of k x.geometry numbers y.at.next ++ v.gave ≡ take later.0 (rows_of k x.geometry numbers k)) wanted
+      (subst (λ (g : Geometry). rows_of y.wanted g numbers y.at.next ++ v.gave ≡ take later.0 (rows_of y.wanted g numbers y.wanted)) same later.1) in
+      (later.0, sym (append_assoc (rows_of x.wanted x.geometry numbers x.at.next) u.gave v.gave) ∙ ap (λ zs. zs ++ v.gave) (u.given numbers before) ∙ there);
 }
 
 pub same_then : {x y z : Shown} → SameBut x y → SameBut y z → SameBut x z
 same_then a b = record {
   geometry = b.geometry ∙ a.geometry;
+  wanted = b.wanted ∙ a.wanted;
   cells = b.cells ∙ a.cells;
   room = b.room ∙ a.room;
   marks = b.marks ∙ a.marks;
@@ -301,15 +320,15 @@ row_less given =
 pub given_nothing : (a : Outside) (p : Shown) → IsSized p → HasGivenSome a a p p
 given_nothing a p sized = record {
   sized = sized;
-  same = record { geometry = refl; cells = refl; room = refl; marks = refl; damage = refl; row = refl; column = refl };
-  goes = record { gave = []; out = since_start a NoRead; follows = λ numbers stands. stands; given = λ numbers stands. append-nil (front p.geometry numbers p.at.next) };
+  same = record { geometry = refl; wanted = refl; cells = refl; room = refl; marks = refl; damage = refl; row = refl; column = refl };
+  goes = record { gave = []; out = since_start a NoRead; follows = λ numbers stands. stands; given = λ numbers stands. append-nil (rows_of p.wanted p.geometry numbers p.at.next) };
 }
 
 pub given_then : {a b c : Outside} {x y z : Shown} → HasGivenSome a b x y → HasGiven b c y z → HasGivenSome a c x z
-given_then u v = record { sized = v.sized; same = same_then u.same v.same; goes = goes_then u.same.geometry (λ numbers before stands. stands) u.goes v.goes }
+given_then u v = record { sized = v.sized; same = same_then u.same v.same; goes = goes_then u.same.geometry u.same.wanted (λ numbers before stands. stands) u.goes v.goes }
 
 pub given_all : {a b c : Outside} {x y z : Shown} → HasGivenSome a b x y → HasNone b c y z → HasNone a c x z
-given_all u v = record { standing = v.standing; same = same_then u.same v.same; goes = goes_then u.same.geometry (λ numbers before stands. stands) u.goes v.goes }
+given_all u v = record { standing = v.standing; same = same_then u.same v.same; goes = goes_then u.same.geometry u.same.wanted (λ numbers before stands. stands) u.goes v.goes }
 
 pub given_broken : {a b c : Outside} {x y : Shown} → HasGivenSome a b x y → BreaksOff (StoodFor y) b c y → BreaksOff (StoodFor x) a c x
-given_broken u v = breaks_then u.same.geometry (λ numbers before stands. stands) u.goes v
+given_broken u v = breaks_then u.same.geometry u.same.wanted (λ numbers before stands. stands) u.goes v

@@ -1,5 +1,5 @@
 -- A run that has come to the end of its packets.
-use Rattle.std.proofs.Common.{◌≡◌, ◌≤◌, ◌<◌, ◌+◌, ◌-◌, ◌*◌, ◌/◌, ◌%◌, ◌^◌, ◌==◌, ℕ, ℤ, zero, suc, Bool, true, false, List, [], ◌∷◌, ◌++◌, refl, sym, ap, subst, ◌∙◌, inl, inr, arith}
+use Rattle.std.proofs.Common.{◌≡◌, ◌≤◌, ◌<◌, ◌+◌, ◌*◌, ◌/◌, ◌%◌, ◌==◌, ℕ, ℤ, zero, suc, Bool, true, false, List, [], refl, sym, ap, subst, ◌∙◌, inl, inr, arith}
 use Rattle.std.specs.Prelude.{◌||◌, ◌&&◌, not, min, Some, is_some, MatchOption}
 use Rattle.std.specs.List.{range_with_len, list_any}
 use Rattle.std.proofs.lemmas.Bool.{cases_lt, false≢true}
@@ -16,16 +16,17 @@ use Rattle.packet_defs.specs.Streams.{whole_packets}
 use Rattle.stream_defs.specs.declared.fate.FateState.{FateState}
 use Rattle.stream_defs.specs.Fates.{fresh, after_all, kept}
 use Rattle.stream_defs.specs.Received.{IsReceived, ReceivedIn, packets_at}
-use Rattle.stream_defs.specs.Picture.{number_at, picture_with, picture_octets}
+use Rattle.stream_defs.specs.Picture.{number_at, picture_with}
 use Rattle.stream_defs.specs.Damage.{is_missing, missing_rows}
 use Rattle.stream_defs.specs.Marks.{most_block_rows}
 use Rattle.stream_defs.proofs.KeptOrder.{before_none}
 use Rattle.damage_rows.proofs.TableLaws.{any_none, filter_front, most_is}
 use Rattle.packet_assembly.specs.Assembling.{Assembling, last_index}
-use Rattle.strip_decoder.specs.Fronts.{front}
+use Rattle.strip_decoder.specs.Fronts.{rows_of, wanted_of}
 use Rattle.strip_decoder.specs.Pictures.{Shown, IsStanding, passed_in, total_in}
 use Rattle.strip_decoder.specs.Steps.{is_marked}
-use Rattle.strip_decoder.specs.Runs.{Run, holds_after, Numbers, is_lost, Shows, HasComeTo, future}
+use Rattle.strip_decoder.specs.Runs.{Run, holds_after, Numbers, is_lost, Shows, HasComeTo, future, octets_of}
+use Rattle.strip_decoder.proofs.RowGives.{given_none}
 use Rattle.strip_decoder.proofs.Receiving.{none_received}
 use Rattle.strip_decoder.proofs.RunFinds.{last_of}
 
@@ -46,7 +47,7 @@ any_hit f a (suc n) i low high e = elim (cases_lt a i) [
     true_or true b e = refl
     true_or false b e = absurd (false≢true e)
 
-any_miss : (f : ℕ → Bool) (a n : ℕ) → ((i : ℕ) → a ≤ i → i < a + n → f i ≡ false) → list_any f (range_with_len a n) ≡ false
+pub any_miss : (f : ℕ → Bool) (a n : ℕ) → ((i : ℕ) → a ≤ i → i < a + n → f i ≡ false) → list_any f (range_with_len a n) ≡ false
 any_miss f a zero none = refl
 any_miss f a (suc n) none = both (f a) (list_any f (range_with_len (a + 1) n)) (none a (omega arith) (omega arith)) (any_miss f (a + 1) n (λ i low high. none i (omega (arith, low)) (omega (arith, high))))
   where
@@ -54,7 +55,7 @@ any_miss f a (suc n) none = both (f a) (list_any f (range_with_len (a + 1) n)) (
     both true b e h = absurd (false≢true (sym e))
     both false b e h = h
 
-any_at : (f : ℕ → Bool) (n i : ℕ) → list_any f (range_with_len 0 n) ≡ false → i < n → f i ≡ false
+pub any_at : (f : ℕ → Bool) (n i : ℕ) → list_any f (range_with_len 0 n) ≡ false → i < n → f i ≡ false
 any_at f n i none lt = by (f i) refl
   where
     by : (b : Bool) → f i ≡ b → f i ≡ false
@@ -151,17 +152,19 @@ all_missing p sofar gave standing shows all =
 
 -- ---- the whole picture
 
--- all of its rows are given
-pub all_given : (p : Shown) (sofar : Numbers) (gave : List ℕ) → IsStanding p → Shows p sofar gave → passed_in p ≡ total_in p → gave ≡ picture_octets p.geometry sofar
-unfolding front
-all_given p sofar gave standing shows all =
+-- all of its rows are given that are wanted
+pub all_given : (gives : Bool) (p : Shown) (sofar : Numbers) (gave : List ℕ) → IsStanding p → Shows p sofar gave → passed_in p ≡ total_in p → p.wanted ≡ wanted_of gives p.geometry → gave ≡ octets_of gives p.geometry sofar
+unfolding rows_of
+all_given false p sofar gave standing shows all wanted =
+    given_none p.wanted p.geometry (number_at p.geometry sofar) p.at.next gave wanted (shows.given (number_at p.geometry sofar) record { at = λ block i lt small. refl })
+all_given true p sofar gave standing shows all wanted =
     let g = p.geometry in
     let sized = standing.sized in
     let idle = standing.idle in
     let turned : total_in p ≡ block_count g.rows * block_count g.width = grind arith in
     let row : p.at.row ≡ block_count g.rows = row_end (block_count g.width) (block_count g.rows) p.at.row p.at.column sized.column sized.rows (all ∙ turned) in
     let next = idle.all_given (sized.taken ∙ row ∙ sym sized.height) in
-    let rows : min p.at.next g.rows ≡ g.rows = omega (arith, next, sized.next, sized.taken, row) in
+    let rows : min p.at.next p.wanted ≡ g.rows = omega (arith, next, sized.next, sized.taken, row, wanted) in
     shows.given (number_at g sofar) record { at = λ block i lt small. refl } ∙ ap (λ n. raster_octets g.depth n g.width (picture_with g (number_at g sofar))) rows
   where
     row_end : (c r row column : ℕ) → column < c → row ≤ r → row * c + column ≡ r * c → row ≡ r

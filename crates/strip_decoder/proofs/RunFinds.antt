@@ -1,5 +1,5 @@
 -- A run goes on to the next segment.
-use Rattle.std.proofs.Common.{◌≡◌, ◌≤◌, ◌<◌, ◌+◌, ◌-◌, ◌*◌, ◌/◌, ◌%◌, ℕ, zero, suc, ℤ, List, [], ◌∷◌, ◌++◌, length, take, refl, sym, ap, subst, ◌∙◌, inl, inr, arith, append_assoc, length-append}
+use Rattle.std.proofs.Common.{◌≡◌, ◌≤◌, ◌<◌, ◌+◌, ◌-◌, ◌*◌, ◌/◌, ℕ, zero, suc, ℤ, List, [], ◌∷◌, ◌++◌, length, take, refl, sym, ap, subst, ◌∙◌, inl, inr, arith, append_assoc, length-append}
 use Rattle.std.specs.Prelude.{Bool, true, false, nat_lt, if◌then◌else◌, Option, None, Some, is_some, Ok}
 use Rattle.std.proofs.lemmas.Bool.{cases_lt}
 use Rattle.std.proofs.lemmas.Bool.Decides.{nat_tests}
@@ -22,7 +22,7 @@ use Rattle.packet_assembly.specs.Assembling.{Assembling, Passes, StaysAt, Starts
 use Rattle.packet_assembly.specs.Segments.{WasFound, FindsSegment}
 use Rattle.strip_decoder.specs.Pictures.{Shown, IsStanding, passed_in, total_in}
 use Rattle.strip_decoder.specs.Segments.{FitsNext, IsBetween}
-use Rattle.strip_decoder.specs.Runs.{Run, holds_after, IsPrompt, Knows, HasComeTo, IsBegun, ComesTo, ComesPast, SawEnd, future}
+use Rattle.strip_decoder.specs.Runs.{Run, holds_after, PromptBy, Knows, HasComeTo, IsBegun, ComesTo, ComesPast, SawEnd, future}
 use Rattle.strip_decoder.proofs.TextReads.{left_after}
 use Rattle.strip_decoder.proofs.Between.{index_stays, comes_next, found_at}
 use Rattle.strip_decoder.proofs.Receiving.{none_received, knows_to}
@@ -87,13 +87,13 @@ end_on old new a b went q before rest told ended = by a.intake.ended refl
 
 -- The segment is as it was, so are the packets that were passed.
 unfoldable pub read_come : {P : FateState → Type 0} (w : Run) (now new : Outside) (a b : Assembling) (p : Shown) (bound : ℕ) (went : List (List ℕ)) → (come : HasComeTo w now a p bound) → (q : Passes P now new a b went) →
-    ((octets more all : List ℕ) → q.took ≡ octets ++ more → P (state_with a octets) → w.start.rest ≡ Some all → IsPrompt w.apid (come.took ++ octets) come.gave) → HasComeTo w new b p bound
+    ((octets more all : List ℕ) → q.took ≡ octets ++ more → P (state_with a octets) → w.start.rest ≡ Some all → PromptBy w.gives w.apid (come.took ++ octets) come.gave) → HasComeTo w new b p bound
 read_come w now new a b p bound went come q right = record {
   took = come.took ++ q.took;
   gave = come.gave;
   passed = come.passed ++ went;
   sofar = come.sofar;
-  since = took_on w.apid come.took come.gave come.since q right;
+  since = took_on w.gives w.apid come.took come.gave come.since q right;
   read = read_on w a b come.took come.passed went come.read q;
   knows = λ rest told.
       knows_on w.apid come.passed went (future b rest) bound come.sofar
@@ -102,13 +102,14 @@ read_come w now new a b p bound went come q right = record {
   shows = come.shows;
   few = come.few;
   at_end = end_on now new a b went q come.at_end;
+  wanted = come.wanted;
   small = come.small;
 }
 
 -- at a read call the packets so far are some of those to come, and no later segment was begun
 pub right_at : {P : FateState → Type 0} (w : Run) (now new : Outside) (a b : Assembling) (p : Shown) (bound index : ℕ) (went : List (List ℕ)) → (come : HasComeTo w now a p bound) → (q : Passes P now new a b went) → IsStanding p → a.state.geometry ≡ Some p.geometry →
     (octets more all : List ℕ) → q.took ≡ octets ++ more → w.start.rest ≡ Some all → last_index (state_with a octets).last ≡ Some index → blocks_through p.geometry come.sofar index ≤ passed_in p →
-    ((i : ℕ) (v : List (List ℤ)) → bound ≤ i → i ≤ index → IsReceived holds_after (kept w.apid fresh (come.passed ++ whole_packets (a.intake.pending ++ octets))) i v → ⊥) → IsPrompt w.apid (come.took ++ octets) come.gave
+    ((i : ℕ) (v : List (List ℤ)) → bound ≤ i → i ≤ index → IsReceived holds_after (kept w.apid fresh (come.passed ++ whole_packets (a.intake.pending ++ octets))) i v → ⊥) → PromptBy w.gives w.apid (come.took ++ octets) come.gave
 right_at w now new a b p bound index went come q standing geometry octets more all parts told last reached open_ones =
     let first = left_after w.start.rest now.rest come.took all come.since.rest told in
     let second = left_after now.rest new.rest q.took first.rest q.since.rest first.told in
@@ -117,7 +118,7 @@ right_at w now new a b p bound index went come q standing geometry octets more a
     let l = last_there (state_with a octets).last index last in
     let state : after_all w.apid fresh (come.passed ++ whole_packets (a.intake.pending ++ octets)) ≡ state_with a octets =
     sym (ap (after_all w.apid fresh) (packets_then w a come.took octets come.passed come.read)) ∙ state_then w a come.took octets come.passed come.read in
-    is_prompt w a p come.took come.gave octets come.passed bound come.sofar come.read geometry come.shows standing.sized come.few (future a first.rest) part.0 later (come.knows first.rest first.told) standing come.above
+    is_prompt w a p come.took come.gave octets come.passed bound come.sofar come.read geometry come.shows standing.sized come.wanted come.few (future a first.rest) part.0 later (come.knows first.rest first.told) standing come.above
     (λ i v le x. elim (cases_lt index i) [
       | inl past ↦ none_received (kept w.apid fresh (come.passed ++ whole_packets (a.intake.pending ++ octets))) i v
           (before_none i w.apid fresh (come.passed ++ whole_packets (a.intake.pending ++ octets)) (λ k is. let e = last_of (state_with a octets).last index k last (sym (ap (λ (s : FateState). s.last) state) ∙ is) in omega (arith, e, past))) x
@@ -155,6 +156,7 @@ to_segment w now a p start index standing come begun reached next =
         shows = come.shows;
         few = omega (arith, next.reached, next.fits.first);
         at_end = come.at_end;
+        wanted = come.wanted;
         small = come.small;
       };
       begun = record {
@@ -186,6 +188,7 @@ held_come w now a p bound come = record {
   shows = come.shows;
   few = come.few;
   at_end = come.at_end;
+  wanted = come.wanted;
   small = come.small;
 }
 

@@ -1,6 +1,6 @@
 -- A run ends.
 use Rattle.std.proofs.Common.{◌≡◌, ◌≤◌, ◌<◌, ◌+◌, ◌-◌, ◌*◌, ◌/◌, ℕ, List, [], ◌∷◌, ◌++◌, length, take, refl, sym, ap, subst, ◌∙◌, inl, inr, arith, length-append}
-use Rattle.std.specs.Prelude.{Bool, true, false, ◌==◌, ◌||◌, if◌then◌else◌, Option, None, Some, Result, Ok, Err}
+use Rattle.std.specs.Prelude.{Bool, true, false, ◌==◌, Option, None, Some, Result, Ok, Err}
 use Rattle.std.proofs.lemmas.Bool.{false≢true}
 use Rattle.port_122.specs.Outside.{Outside, Since, IsUsedUp}
 use Rattle.port_122.proofs.Stretches.{at_end_later}
@@ -20,7 +20,7 @@ use Rattle.space_packets.specs.Intake.{verdict, end_read, place_of}
 use Rattle.stream_defs.specs.declared.fate.FateState.{FateState}
 use Rattle.stream_defs.specs.Fates.{fresh, after_all, kept_in, geometry_in}
 use Rattle.stream_defs.specs.Picture.{number_at}
-use Rattle.strip_decoder.specs.Fronts.{front}
+use Rattle.strip_decoder.specs.Fronts.{rows_of, wanted_of}
 use Rattle.packet_assembly.specs.Assembling.{Assembling}
 use Rattle.packet_assembly.specs.Segments.{FoundNone, StandsEnded, StandsLong}
 use Rattle.packet_assembly.proofs.Verdicts.{is_over, over_read, long_read}
@@ -30,6 +30,7 @@ use Rattle.strip_decoder.specs.Pictures.{Shown, IsStanding, passed_in, total_in}
 use Rattle.strip_decoder.specs.Steps.{HasPassed, BreaksOff, MarksRows, AreLost}
 use Rattle.strip_decoder.specs.Segments.{IsBetween, FindsNext, TakesSegment}
 use Rattle.strip_decoder.specs.Runs.{Run, HasRead, AreOf, HasComeTo, ComesPast, ComesToEnd, HasBroken, HasLong, BreaksRun, SawEnd, IsReadOut, IsWhole}
+use Rattle.strip_decoder.proofs.RowGives.{given_none, part_none}
 use Rattle.strip_decoder.proofs.TextReads.{left_after}
 use Rattle.strip_decoder.proofs.Between.{geometry_stays}
 use Rattle.strip_decoder.proofs.Counts.{passed_few}
@@ -101,7 +102,7 @@ ended_out w now b took passed read ended at_end =
     used_up None none = tt
     used_up (Some rest) none = none rest refl
 
-out_later : {Q : ℕ → ℕ → Type 0} (cap : ℕ) (now new : Outside) (took g : List ℕ) → Since now new [] g [] Q → IsReadOut cap now took → IsReadOut cap new took
+pub out_later : {Q : ℕ → ℕ → Type 0} (cap : ℕ) (now new : Outside) (took g : List ℕ) → Since now new [] g [] Q → IsReadOut cap now took → IsReadOut cap new took
 out_later cap now new took g since (inl bad) = inl bad
 out_later cap now new took g since (inr over) = inr (at_end_later since over.0, λ rest told. over.1 rest (left_before now.rest new.rest [] rest since.rest told))
 
@@ -175,24 +176,29 @@ module _ (w : Run) (now new : Outside) (a : Assembling) (p q : Shown) (standing 
       let all : passed_in q ≡ total_in q = omega (arith, passed.count, few) ∙ ap (λ (g : Geometry). total_blocks g.width g.rows) (sym passed.geometry) in
       let shows = shows_lost p q left come.sofar come.gave come.shows none_left passed in
       let whole = ended_packets w a come.took come.passed come.read end.ended in
+      let wanted : q.wanted ≡ wanted_of w.gives q.geometry = passed.wanted ∙ come.wanted ∙ ap (wanted_of w.gives) (sym passed.geometry) in
       record {
         took = come.took;
         gave = come.gave ++ passed.goes.gave;
-        since = wrote_on w.apid come.took come.gave passed.goes.gave come.since passed.goes.out;
+        since = wrote_on w.gives w.apid come.took come.gave passed.goes.gave come.since passed.goes.out;
         geometry = ap (λ xs. (after_all w.apid fresh xs).geometry) whole ∙ ap (λ (s : FateState). s.geometry) (sym come.read.state) ∙ end.geometry ∙ ap Some (sym passed.geometry);
         framing_is = ended_framing w a come.took come.passed come.read end.ended;
         out = out_later w.cap now new come.took passed.goes.gave passed.goes.out (ended_out w now a come.took come.passed come.read end.ended come.at_end);
+        range = passed.standing.sized.range;
         rows = passed.standing.sized.damage;
+        silent = λ none.
+            given_none q.wanted q.geometry (number_at q.geometry come.sofar) q.at.next (come.gave ++ passed.goes.gave) (wanted ∙ ap (λ b. wanted_of b q.geometry) none)
+            (shows.given (number_at q.geometry come.sofar) record { at = λ block i lt small. refl });
         told = λ every told.
             let rest = left_after w.start.rest now.rest come.took every come.since.rest told in
-            (come.sofar, all_received w now a p end.index come end.last rest.rest rest.told whole, all_given q come.sofar (come.gave ++ passed.goes.gave) passed.standing shows all, all_missing q come.sofar (come.gave ++ passed.goes.gave) passed.standing shows all);
+            (come.sofar, all_received w now a p end.index come end.last rest.rest rest.told whole, all_given w.gives q come.sofar (come.gave ++ passed.goes.gave) passed.standing shows all wanted, all_missing q come.sofar (come.gave ++ passed.goes.gave) passed.standing shows all);
       }
 
   pub rest_broken : BreaksOff (AreLost left p) now new p → HasBroken w new
   rest_broken broken = record {
     took = end.come.took;
     gave = end.come.gave ++ broken.gave;
-    since = wrote_on w.apid end.come.took end.come.gave broken.gave end.come.since broken.out;
+    since = wrote_on w.gives w.apid end.come.took end.come.gave broken.gave end.come.since broken.out;
     small = geometry_small w.pixels w.apid end.come.took p.geometry geometry_told end.come.small;
     front = λ every told. record {
       none = λ none. absurd (let both : None ≡ Some p.geometry = sym none ∙ geometry_told in cc);
@@ -201,12 +207,18 @@ module _ (w : Run) (now new : Outside) (a : Assembling) (p q : Shown) (standing 
           let known = all_received w now a p end.index end.come end.last rest.rest rest.told whole in
           let same : p.geometry ≡ g = (let both : Some p.geometry ≡ Some g = sym geometry_told ∙ there in cc) in
           let each : (index : ℕ) → received index ≡ end.come.sofar index = λ index. both_tell (kept_in w.apid end.come.took) index (received index) (end.come.sofar index) (are.at index) (known.at index) in
-          subst (λ g. (m : ℕ) × (end.come.gave ++ broken.gave ≡ take m (front g (number_at g received) g.rows))) same
+          subst (λ g. (m : ℕ) × (end.come.gave ++ broken.gave ≡ take m (rows_of (wanted_of w.gives g) g (number_at g received) (wanted_of w.gives g)))) same
+          (subst (λ k. (m : ℕ) × (end.come.gave ++ broken.gave ≡ take m (rows_of k p.geometry (number_at p.geometry received) k))) end.come.wanted
           (let numbers = number_at p.geometry received in
           let of : (n : ℕ) → AreOf p.geometry end.come.sofar n numbers = λ n. record { at = λ block i lt small. number_by p.geometry received end.come.sofar block i (each (block / p.geometry.segment)) } in
           let given = broken.given numbers (are_lost p left end.come.sofar end.come.gave numbers end.come.shows none_left (of (passed_in p + left))) in
-          (given.0, ap (λ zs. zs ++ broken.gave) (end.come.shows.given numbers (of (passed_in p))) ∙ given.1));
+          (given.0, ap (λ zs. zs ++ broken.gave) (end.come.shows.given numbers (of (passed_in p))) ∙ given.1)));
     };
+    silent = λ none.
+        let numbers = number_at p.geometry end.come.sofar in
+        let given = broken.given numbers (are_lost p left end.come.sofar end.come.gave numbers end.come.shows none_left record { at = λ block i lt small. refl }) in
+        part_none p.wanted p.geometry numbers p.wanted given.0 (end.come.gave ++ broken.gave) (end.come.wanted ∙ ap (λ b. wanted_of b p.geometry) none)
+        (ap (λ zs. zs ++ broken.gave) (end.come.shows.given numbers record { at = λ block i lt small. refl }) ∙ given.1);
   }
     where
       whole : whole_packets end.come.took ≡ end.come.passed

@@ -1,5 +1,5 @@
 -- A run past the blocks of a segment, or to a fault.
-use Rattle.std.proofs.Common.{◌≡◌, ◌≤◌, ◌<◌, ◌+◌, ◌-◌, ◌*◌, ◌/◌, ℕ, ℤ, List, [], ◌∷◌, ◌++◌, length, take, refl, sym, ap, subst, ◌∙◌, inl, inr, arith}
+use Rattle.std.proofs.Common.{◌≡◌, ◌≤◌, ◌<◌, ◌+◌, ◌-◌, ◌*◌, ◌/◌, ℕ, ℤ, List, [], ◌++◌, length, take, refl, sym, ap, subst, ◌∙◌, arith}
 use Rattle.std.specs.Prelude.{Bool, true, false, if◌then◌else◌, Option, None, Some, Result, Ok, Err, IsOk, IsErr}
 use Rattle.std.proofs.lemmas.Bool.{false≢true}
 use Rattle.std.proofs.lemmas.List.{append-nil}
@@ -17,11 +17,12 @@ use Rattle.stream_defs.specs.Picture.{number_at}
 use Rattle.packet_assembly.specs.declared.note.SegmentStart.{SegmentStart}
 use Rattle.packet_assembly.specs.Assembling.{Assembling, last_index}
 use Rattle.packet_assembly.specs.Segments.{GoesOn}
-use Rattle.strip_decoder.specs.Fronts.{front}
+use Rattle.strip_decoder.specs.Fronts.{rows_of, wanted_of}
 use Rattle.strip_decoder.specs.Pictures.{Shown, IsStanding, passed_in, total_in}
 use Rattle.strip_decoder.specs.Steps.{HasPassed, BreaksOff, Unmarked, MarksRows, AreHeld, AreLost}
 use Rattle.strip_decoder.specs.Segments.{FitsImage, IsAt, ReadsText, Accepts, Refuses, HasFailed, PassesSegment, cells_of}
-use Rattle.strip_decoder.specs.Runs.{Run, IsFrontFor, AreOf, HasComeTo, IsBegun, ComesTo, ComesPast, HasBroken, with_segment, future}
+use Rattle.strip_decoder.specs.Runs.{Run, FrontBy, AreOf, HasComeTo, IsBegun, ComesTo, ComesPast, HasBroken, with_segment, future}
+use Rattle.strip_decoder.proofs.RowGives.{given_none, part_none}
 use Rattle.strip_decoder.proofs.TextReads.{left_after}
 use Rattle.strip_decoder.proofs.SegmentTakes.{with_cells}
 use Rattle.strip_decoder.proofs.Showing.{shows_cells, shows_lost, shows_held, are_lost, are_held}
@@ -40,15 +41,28 @@ at_hand a rest =
     if_more a rest = if a.intake.ended then [] else take (a.intake.cap - a.intake.taken) rest
 
 -- what is given is a front of the picture
-pub come_front : (w : Run) (now : Outside) (a : Assembling) (p : Shown) (bound : ℕ) → (come : HasComeTo w now a p bound) → IsStanding p → a.state.geometry ≡ Some p.geometry → (all : List ℕ) → w.start.rest ≡ Some all → IsFrontFor w.apid come.took come.gave
+pub come_front : (w : Run) (now : Outside) (a : Assembling) (p : Shown) (bound : ℕ) → (come : HasComeTo w now a p bound) → IsStanding p → a.state.geometry ≡ Some p.geometry → (all : List ℕ) → w.start.rest ≡ Some all → FrontBy w.gives w.apid come.took come.gave
 come_front w now a p bound come standing geometry all told =
     let left = left_after w.start.rest now.rest come.took all come.since.rest told in
     let hand = at_hand a left.rest in
-    subst (λ zs. IsFrontFor w.apid zs come.gave) (append-nil come.took)
-    (is_front w a p come.took come.gave [] come.passed bound come.sofar come.read geometry come.shows standing.sized come.few (future a left.rest) hand.0 hand.1 (come.knows left.rest left.told))
+    subst (λ zs. FrontBy w.gives w.apid zs come.gave) (append-nil come.took)
+    (is_front w a p come.took come.gave [] come.passed bound come.sofar come.read geometry come.shows standing.sized come.wanted come.few (future a left.rest) hand.0 hand.1 (come.knows left.rest left.told))
+
+-- where no rows are wanted nothing is given
+pub come_silent : (w : Run) (now : Outside) (a : Assembling) (p : Shown) (bound : ℕ) → (come : HasComeTo w now a p bound) → w.gives ≡ false → come.gave ≡ []
+come_silent w now a p bound come none =
+    given_none p.wanted p.geometry (number_at p.geometry come.sofar) p.at.next come.gave (come.wanted ∙ ap (λ b. wanted_of b p.geometry) none)
+    (come.shows.given (number_at p.geometry come.sofar) record { at = λ block i lt small. refl })
 
 unfoldable pub come_broken : (w : Run) (now : Outside) (a : Assembling) (p : Shown) (bound : ℕ) → HasComeTo w now a p bound → IsStanding p → a.state.geometry ≡ Some p.geometry → HasBroken w now
-come_broken w now a p bound come standing geometry = record { took = come.took; gave = come.gave; since = come.since; front = come_front w now a p bound come standing geometry; small = small_read w a p come.took come.passed come.read geometry come.small }
+come_broken w now a p bound come standing geometry = record {
+  took = come.took;
+  gave = come.gave;
+  since = come.since;
+  front = come_front w now a p bound come standing geometry;
+  silent = come_silent w now a p bound come;
+  small = small_read w a p come.took come.passed come.read geometry come.small;
+}
 
 -- a write failed among the next n blocks, which are known
 pub write_broken : {Before : (ℕ → ℕ → ℤ) → Type 0} (w : Run) (now new : Outside) (a : Assembling) (p : Shown) (bound n : ℕ) → (come : HasComeTo w now a p bound) → IsStanding p → a.state.geometry ≡ Some p.geometry → passed_in p + n ≤ first_block p.geometry.segment bound →
@@ -56,24 +70,30 @@ pub write_broken : {Before : (ℕ → ℕ → ℤ) → Type 0} (w : Run) (now ne
 write_broken w now new a p bound n come standing geometry few right broken = record {
   took = come.took;
   gave = come.gave ++ broken.gave;
-  since = wrote_on w.apid come.took come.gave broken.gave come.since broken.out;
+  since = wrote_on w.gives w.apid come.took come.gave broken.gave come.since broken.out;
   front = λ all told.
       let left = left_after w.start.rest now.rest come.took all come.since.rest told in
       let hand = at_hand a left.rest in
       let knows = come.knows left.rest left.told in
       let S = p.geometry.segment in
-      subst (λ zs. IsFrontFor w.apid zs (come.gave ++ broken.gave)) (append-nil come.took) record {
-        none = λ none. absurd (not_none w a p come.took come.gave [] come.passed bound come.sofar come.read geometry come.shows standing.sized come.few (future a left.rest) hand.0 hand.1 knows none);
+      subst (λ zs. FrontBy w.gives w.apid zs (come.gave ++ broken.gave)) (append-nil come.took) record {
+        none = λ none. absurd (not_none w a p come.took come.gave [] come.passed bound come.sofar come.read geometry come.shows standing.sized come.wanted come.few (future a left.rest) hand.0 hand.1 knows none);
         some = λ g received there are.
-            subst (λ g. (m : ℕ) × (come.gave ++ broken.gave ≡ take m (front g (number_at g received) g.rows)))
-            (geometry_then w a p come.took come.gave [] come.passed bound come.sofar come.read geometry come.shows standing.sized come.few (future a left.rest) hand.0 hand.1 knows g there)
+            subst (λ g. (m : ℕ) × (come.gave ++ broken.gave ≡ take m (rows_of (wanted_of w.gives g) g (number_at g received) (wanted_of w.gives g))))
+            (geometry_then w a p come.took come.gave [] come.passed bound come.sofar come.read geometry come.shows standing.sized come.wanted come.few (future a left.rest) hand.0 hand.1 knows g there)
+            (subst (λ k. (m : ℕ) × (come.gave ++ broken.gave ≡ take m (rows_of k p.geometry (number_at p.geometry received) k))) come.wanted
             (let numbers = number_at p.geometry received in
-            let same = known_same w a p come.took come.gave [] come.passed bound come.sofar come.read geometry come.shows standing.sized come.few (future a left.rest) hand.0 hand.1 knows received are in
+            let same = known_same w a p come.took come.gave [] come.passed bound come.sofar come.read geometry come.shows standing.sized come.wanted come.few (future a left.rest) hand.0 hand.1 knows received are in
             let of = of_received p.geometry come.sofar received (passed_in p + n) bound (omega (arith, standing.sized.range.segment.0)) few same in
             let fewer = of_received p.geometry come.sofar received (passed_in p) bound (omega (arith, standing.sized.range.segment.0)) come.few same in
             let given = broken.given numbers (right numbers of) in
-            (given.0, ap (λ zs. zs ++ broken.gave) (come.shows.given numbers fewer) ∙ given.1));
+            (given.0, ap (λ zs. zs ++ broken.gave) (come.shows.given numbers fewer) ∙ given.1)));
       };
+  silent = λ none.
+      let numbers = number_at p.geometry come.sofar in
+      let given = broken.given numbers (right numbers record { at = λ block i lt small. refl }) in
+      part_none p.wanted p.geometry numbers p.wanted given.0 (come.gave ++ broken.gave) (come.wanted ∙ ap (λ b. wanted_of b p.geometry) none)
+      (ap (λ zs. zs ++ broken.gave) (come.shows.given numbers record { at = λ block i lt small. refl }) ∙ given.1);
   small = small_read w a p come.took come.passed come.read geometry come.small;
 }
 
@@ -101,6 +121,7 @@ module _ (w : Run) (now new last_out : Outside) (a b : Assembling) (p q : Shown)
     shows = shows_cells p c.sofar c.gave cells c.shows;
     few = c.few;
     at_end = c.at_end;
+    wanted = c.wanted;
     small = c.small;
   }
 
@@ -138,7 +159,7 @@ module _ (w : Run) (now new last_out : Outside) (a b : Assembling) (p q : Shown)
       let some : with_segment index (Some v) come.sofar index ≡ Some (blocks_in (take (64 * count) held)) =
       segment_there w now new a b p start come begun standing geometry unheld last reached fits goes (Some v) ∙ ap (λ xs. Some (blocks_in (take (64 * count) xs))) (sym is) in
       let shows = shows_held (with_cells p held) q index count (with_segment index (Some v) come.sofar) come.gave (reached ∙ fits.first) (omega (arith, fits.blocks)) (subst (λ xs. 64 * count ≤ length xs) (sym is) long) some with_read.shows passed in
-      comes_past goes (wrote_come w new last_out b (with_cells p held) q (index + 1) passed.goes.gave with_read passed.goes.out shows (past_few passed.geometry end) passed.geometry) refl passed.geometry end
+      comes_past goes (wrote_come w new last_out b (with_cells p held) q (index + 1) passed.goes.gave with_read passed.goes.out shows (past_few passed.geometry end) passed.geometry passed.wanted) refl passed.geometry end
 
   -- they were lost
   past_lost : (cells held : List ℤ) → (reads : Refuses now new a b start.head) → HasPassed (MarksRows (with_cells p held) count) (AreLost count (with_cells p held)) count new last_out (with_cells p held) q → ComesPast w last_out b q
@@ -150,7 +171,7 @@ module _ (w : Run) (now new last_out : Outside) (a b : Assembling) (p q : Shown)
       let with_read = cells_come None held goes known in
       let end : passed_in q ≡ start.ancillary.first + count = omega (arith, passed.count, reached) in
       let shows = shows_lost (with_cells p held) q count (with_segment index None come.sofar) come.gave with_read.shows (λ block low high. none_there goes block (omega (arith, low, reached)) (omega (arith, high, reached))) passed in
-      comes_past goes (wrote_come w new last_out b (with_cells p held) q (index + 1) passed.goes.gave with_read passed.goes.out shows (past_few passed.geometry end) passed.geometry) refl passed.geometry end
+      comes_past goes (wrote_come w new last_out b (with_cells p held) q (index + 1) passed.goes.gave with_read passed.goes.out shows (past_few passed.geometry end) passed.geometry passed.wanted) refl passed.geometry end
     where
       none_there : (goes : GoesOn now new a b) (block : ℕ) → start.ancillary.first ≤ block → block < start.ancillary.first + count → with_segment index None come.sofar (block / p.geometry.segment) ≡ None
       none_there goes block low high =

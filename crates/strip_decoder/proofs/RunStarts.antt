@@ -1,6 +1,6 @@
 -- A run begins.
-use Rattle.std.proofs.Common.{◌≡◌, ◌≤◌, ◌<◌, ◌+◌, ◌*◌, ℕ, zero, suc, List, [], ◌∷◌, ◌++◌, take, refl, sym, ap, subst, ◌∙◌, inl, inr, arith}
-use Rattle.std.specs.Prelude.{true, false, min, filter, None, Some, Ok}
+use Rattle.std.proofs.Common.{◌≡◌, ◌≤◌, ◌*◌, ℕ, zero, suc, List, [], ◌∷◌, ◌++◌, take, refl, sym, ap, subst, ◌∙◌, inl, inr, arith}
+use Rattle.std.specs.Prelude.{Bool, true, false, min, filter, None, Some, Ok}
 use Rattle.std.specs.List.{range_with_len}
 use Rattle.std.proofs.lemmas.Bool.{false≢true}
 use Rattle.port_122.specs.Outside.{Outside, Since}
@@ -17,10 +17,10 @@ use Rattle.damage_rows.proofs.TableLaws.{filter_none_from}
 use Rattle.packet_assembly.specs.declared.note.SegmentStart.{SegmentStart}
 use Rattle.packet_assembly.specs.Assembling.{Assembling, Passes, StaysAt, Starts, BeginsNone, last_index, state_with, unread_assembly}
 use Rattle.packet_assembly.specs.Segments.{WasFound, FindsSegment}
-use Rattle.strip_decoder.specs.Fronts.{front}
+use Rattle.strip_decoder.specs.Fronts.{rows_of, wanted_of}
 use Rattle.strip_decoder.specs.Pictures.{Shown, IsFresh, passed_in}
 use Rattle.strip_decoder.specs.Steps.{is_marked}
-use Rattle.strip_decoder.specs.Runs.{Run, HasRead, AsksPrompt, HasFew, IsFrontFor, is_lost, Shows, SawEnd, IsBegun, ComesTo}
+use Rattle.strip_decoder.specs.Runs.{Run, HasRead, AsksBy, HasFew, FrontBy, is_lost, Shows, SawEnd, IsBegun, ComesTo}
 use Rattle.strip_decoder.proofs.Between.{index_stays}
 use Rattle.strip_decoder.proofs.Receiving.{none_received, between_none}
 use Rattle.strip_decoder.proofs.RunFinds.{end_on}
@@ -67,7 +67,7 @@ none_few pixels apid octets none g there = absurd (let both : None ≡ Some g = 
 
 -- at each read call nothing is given, and there is no geometry
 pub first_asks : (w : Run) (new : Outside) (a b : Assembling) (went : List (List ℕ)) → a ≡ unread_assembly w.apid w.cap → (q : Passes (StaysAt a) w.start new a b went) →
-    Since w.start new q.took [] [] (λ i j. AsksPrompt w.apid w.start q.took [] i j × HasFew w.pixels w.apid (take i q.took))
+    Since w.start new q.took [] [] (λ i j. AsksBy w.gives w.apid w.start q.took [] i j × HasFew w.pixels w.apid (take i q.took))
 first_asks w new a b went unread q =
     since_weaker q.since (λ i j le asks.
     let none = none_yet w a (take i q.took) unread asks.0 in (
@@ -86,8 +86,8 @@ first_asks w new a b went unread q =
     nothing (suc j) = refl
 
 -- a front is nothing
-pub first_front : (apid : ℕ) (took : List ℕ) → IsFrontFor apid took []
-first_front apid took = record { none = λ e. refl; some = λ g received there are. (0, refl) }
+pub first_front : (gives : Bool) (apid : ℕ) (took : List ℕ) → FrontBy gives apid took []
+first_front gives apid took = record { none = λ e. refl; some = λ g received there are. (0, refl) }
 
 -- where the end was seen, nothing is left
 pub first_end : {P : FateState → Type 0} (w : Run) (new : Outside) (a b : Assembling) (went : List (List ℕ)) → a ≡ unread_assembly w.apid w.cap → Passes P w.start new a b went → SawEnd new b
@@ -99,7 +99,7 @@ first_end w new a b went unread q =
 pub record HasFound (w : Run) (new : Outside) (b : Assembling) (start : SegmentStart) : Type 0 where
   pub took : List ℕ
   pub went : List (List ℕ)
-  pub since : Since w.start new took [] [] (λ i j. AsksPrompt w.apid w.start took [] i j × HasFew w.pixels w.apid (take i took))
+  pub since : Since w.start new took [] [] (λ i j. AsksBy w.gives w.apid w.start took [] i j × HasFew w.pixels w.apid (take i took))
   pub read : HasRead w b took went
   pub begun : IsBegun w.apid went b.text start 0
   pub at_end : SawEnd new b
@@ -131,19 +131,19 @@ found_one w new a b start unread finds = elim finds.ends [
 ]
 
 -- a picture of which nothing was taken shows nothing
-shows_nothing : (g : Geometry) (p : Shown) → IsFresh g p → Shows p (λ index. None) []
-unfolding front
-shows_nothing g p fresh_picture =
+shows_nothing : (g : Geometry) (wanted : ℕ) (p : Shown) → IsFresh g wanted p → Shows p (λ index. None) []
+unfolding rows_of
+shows_nothing g wanted p fresh_picture =
     let none : passed_in p ≡ 0 = rw (fresh_picture.row, fresh_picture.column) (omega arith) in
     let missing : p.damage.missing ≡ [] = ap (λ (m : Marks). m.missing) fresh_picture.damage in
     record {
       stands = λ numbers of. fresh_picture.stands numbers;
-      given = λ numbers of. let zero_rows : min p.at.next p.geometry.rows ≡ 0 = omega (arith, fresh_picture.next) in sym (ap (λ n. raster_octets p.geometry.depth n p.geometry.width (picture_with p.geometry numbers)) zero_rows);
+      given = λ numbers of. let zero_rows : min p.at.next p.wanted ≡ 0 = omega (arith, fresh_picture.next) in sym (ap (λ n. raster_octets p.geometry.depth n p.geometry.width (picture_with p.geometry numbers)) zero_rows);
       marked = λ row low. ap (λ xs. is_marked xs row) missing ∙ sym (ap (λ n. is_lost p.geometry (λ index. None) n row) none);
       listed = missing ∙ sym (ap (λ xs. filter (is_marked xs) (range_with_len 0 most_block_rows)) missing ∙ filter_none_from (is_marked []) most_block_rows 0 (λ i far. refl));
     }
 
-pub first_comes : (w : Run) (new : Outside) (b : Assembling) (p : Shown) (start : SegmentStart) (g : Geometry) → HasFound w new b start → IsFresh g p → g.width * g.rows ≤ w.pixels → ComesTo w new b p start
+pub first_comes : (w : Run) (new : Outside) (b : Assembling) (p : Shown) (start : SegmentStart) (g : Geometry) → HasFound w new b start → IsFresh g (wanted_of w.gives g) p → g.width * g.rows ≤ w.pixels → ComesTo w new b p start
 first_comes w new b p start g found fresh_picture small =
     let none : passed_in p ≡ 0 = rw (fresh_picture.row, fresh_picture.column) (omega arith) in
     record {
@@ -158,9 +158,10 @@ first_comes w new b p start g found fresh_picture small =
           at = λ next more are index lt v x. none_received (kept w.apid fresh (found.went ++ next)) index v (between_none w.apid found.went b.text start 0 index next found.begun (omega arith) lt) x;
         };
         above = λ index le. refl;
-        shows = shows_nothing g p fresh_picture;
+        shows = shows_nothing g (wanted_of w.gives g) p fresh_picture;
         few = omega (arith, none);
         at_end = found.at_end;
+        wanted = fresh_picture.wanted ∙ ap (wanted_of w.gives) (sym fresh_picture.geometry);
         small = subst (λ (g : Geometry). g.width * g.rows ≤ w.pixels) (sym fresh_picture.geometry) small;
       };
       begun = record {

@@ -1,5 +1,5 @@
 -- A run takes a segment.
-use Rattle.std.proofs.Common.{◌≡◌, ◌≤◌, ◌<◌, ◌+◌, ◌-◌, ◌*◌, ◌/◌, ◌==◌, ℕ, ℤ, List, [], ◌∷◌, ◌++◌, refl, sym, ap, subst, ◌∙◌, inl, inr, arith, append_assoc}
+use Rattle.std.proofs.Common.{◌≡◌, ◌≤◌, ◌+◌, ◌-◌, ◌*◌, ◌/◌, ◌==◌, ℕ, ℤ, List, [], ◌∷◌, ◌++◌, refl, sym, ap, subst, ◌∙◌, inl, inr, arith, append_assoc}
 use Rattle.std.specs.Prelude.{true, false, if◌then◌else◌, Option, None, Some, is_some, MatchOption}
 use Rattle.std.proofs.lemmas.Bool.{cases_lt}
 use Rattle.std.proofs.lemmas.Bool.Decides.{nat_tests}
@@ -19,10 +19,11 @@ use Rattle.packet_assembly.specs.Assembling.{Assembling, StaysOpen, Starts, last
 use Rattle.packet_assembly.specs.Segments.{GoesOn}
 use Rattle.packet_assembly.specs.Tails.{text_tail}
 use Rattle.bit_pipe.specs.Sources.{Plainly}
+use Rattle.strip_decoder.specs.Fronts.{wanted_of}
 use Rattle.strip_decoder.specs.Pictures.{Shown, IsStanding, passed_in, total_in}
 use Rattle.strip_decoder.specs.Steps.{HasPassed, MarksRows, AreLost}
 use Rattle.strip_decoder.specs.Segments.{FitsImage, IsAt}
-use Rattle.strip_decoder.specs.Runs.{Run, holds_after, IsPrompt, Shows, HasComeTo, IsBegun, ComesTo, with_segment, future}
+use Rattle.strip_decoder.specs.Runs.{Run, holds_after, PromptBy, Shows, HasComeTo, IsBegun, ComesTo, with_segment, future}
 use Rattle.strip_decoder.proofs.Between.{index_stays, comes_next}
 use Rattle.strip_decoder.proofs.Receiving.{there, there_is, is_received, not_received, open_received}
 use Rattle.strip_decoder.proofs.Showing.{shows_same, shows_lost}
@@ -33,19 +34,20 @@ use Rattle.strip_decoder.proofs.RunFinds.{left_before, last_of, read_come, right
 
 -- the picture shows more of the same segments
 unfoldable pub wrote_come : (w : Run) (now new : Outside) (a : Assembling) (p q : Shown) (bound : ℕ) (g : List ℕ) → (come : HasComeTo w now a p bound) → Since now new [] g [] NoRead → Shows q come.sofar (come.gave ++ g) →
-    passed_in q ≤ first_block q.geometry.segment bound → q.geometry ≡ p.geometry → HasComeTo w new a q bound
-wrote_come w now new a p q bound g come out shows few same = record {
+    passed_in q ≤ first_block q.geometry.segment bound → q.geometry ≡ p.geometry → q.wanted ≡ p.wanted → HasComeTo w new a q bound
+wrote_come w now new a p q bound g come out shows few same wanted = record {
   took = come.took;
   gave = come.gave ++ g;
   passed = come.passed;
   sofar = come.sofar;
-  since = wrote_on w.apid come.took come.gave g come.since out;
+  since = wrote_on w.gives w.apid come.took come.gave g come.since out;
   read = come.read;
   knows = λ rest told. come.knows rest (left_before now.rest new.rest [] rest out.rest told);
   above = come.above;
   shows = shows;
   few = few;
   at_end = λ rest told. come.at_end rest (left_before now.rest new.rest [] rest out.rest told);
+  wanted = wanted ∙ come.wanted ∙ ap (wanted_of w.gives) (sym same);
   small = subst (λ (g : Geometry). g.width * g.rows ≤ w.pixels) (sym same) come.small;
 }
 
@@ -57,7 +59,7 @@ lost_come w now new a p q start n to at n_is passed =
     let next = at.next in
     wrote_come w now new a p q start.ancillary.index passed.goes.gave to.come passed.goes.out
     (shows_lost p q n to.come.sofar to.come.gave to.come.shows (λ block low high. to.lost block low (omega (arith, high, n_is, next.reached))) passed)
-    (subst (λ (g : Geometry). passed_in q ≤ first_block g.segment start.ancillary.index) (sym passed.geometry) (omega (arith, passed.count, n_is, next.reached, next.fits.first))) passed.geometry
+    (subst (λ (g : Geometry). passed_in q ≤ first_block g.segment start.ancillary.index) (sym passed.geometry) (omega (arith, passed.count, n_is, next.reached, next.fits.first))) passed.geometry passed.wanted
 
 -- ---- its text is gone through
 
@@ -67,7 +69,7 @@ module _ (w : Run) (now new : Outside) (a b : Assembling) (p : Shown) (start : S
   index = start.ancillary.index
 
   -- at each read call the segment is open, so it isn't received
-  pub right : (octets more all : List ℕ) → goes.passes.took ≡ octets ++ more → StaysOpen a (state_with a octets) → w.start.rest ≡ Some all → IsPrompt w.apid (come.took ++ octets) come.gave
+  pub right : (octets more all : List ℕ) → goes.passes.took ≡ octets ++ more → StaysOpen a (state_with a octets) → w.start.rest ≡ Some all → PromptBy w.gives w.apid (come.took ++ octets) come.gave
   right octets more all parts stays told =
       let q = goes.passes in
       let none = come.above index (omega arith) in
@@ -154,6 +156,7 @@ module _ (w : Run) (now new : Outside) (a b : Assembling) (p : Shown) (start : S
         let more : (index + 1) * p.geometry.segment ≡ index * p.geometry.segment + p.geometry.segment = grind arith in
         omega (arith, reached, fits.first, more);
     at_end = went_come.at_end;
+    wanted = went_come.wanted;
     small = went_come.small;
   }
 

@@ -1,6 +1,6 @@
 -- What a picture shows of the segments so far.
-use Rattle.std.proofs.Common.{◌≡◌, ◌≤◌, ◌<◌, ◌+◌, ◌-◌, ◌*◌, ◌/◌, ◌%◌, ◌==◌, ℕ, ℤ, zero, suc, pos, Bool, true, false, List, [], ◌∷◌, ◌++◌, length, take, get_or, refl, sym, ap, subst, ◌∙◌, inl, inr, arith}
-use Rattle.std.specs.Prelude.{◌||◌, ◌&&◌, not, if◌then◌else◌, None, Some, is_some, unwrap_or}
+use Rattle.std.proofs.Common.{◌≡◌, ◌≤◌, ◌<◌, ◌+◌, ◌-◌, ◌*◌, ◌/◌, ◌%◌, ◌==◌, ℕ, ℤ, zero, suc, pos, Bool, true, false, List, [], ◌++◌, length, take, get_or, refl, sym, ap, subst, ◌∙◌, arith}
+use Rattle.std.specs.Prelude.{◌||◌, ◌&&◌, not, None, Some, is_some, unwrap_or}
 use Rattle.std.specs.List.{range_with_len, list_any}
 use Rattle.std.proofs.lemmas.List.{length-take-le}
 use Rattle.std.proofs.lemmas.Nat.{div-mul-add, mod-mul-add}
@@ -10,7 +10,7 @@ use Rattle.base_122.specs.declared.geometry.Geometry.{Geometry}
 use Rattle.wave_defs.specs.Held.{block_at, blocks_in}
 use Rattle.stream_defs.specs.Picture.{number_at}
 use Rattle.stream_defs.specs.Marks.{Marks}
-use Rattle.strip_decoder.specs.Fronts.{front}
+use Rattle.strip_decoder.specs.Fronts.{rows_of}
 use Rattle.strip_decoder.specs.Pictures.{Shown, passed_in}
 use Rattle.strip_decoder.specs.Steps.{GoesOn, HasPassed, Unmarked, MarksRows, AreHeld, AreLost, is_marked, is_touched, IsListed}
 use Rattle.strip_decoder.specs.Runs.{Numbers, AreOf, is_lost, Shows}
@@ -25,7 +25,7 @@ unfolding number_at
 number_lost g sofar block i none = ap (λ o. get_or (get_or (unwrap_or o []) (block % g.segment) []) i (pos 0)) none
 
 -- the number of a block in the segment that has it
-number_in : (g : Geometry) (sofar : Numbers) (index k i : ℕ) (w : List (List ℤ)) → k < g.segment → sofar index ≡ Some w → number_at g sofar (index * g.segment + k) i ≡ get_or (get_or w k []) i (pos 0)
+pub number_in : (g : Geometry) (sofar : Numbers) (index k i : ℕ) (w : List (List ℤ)) → k < g.segment → sofar index ≡ Some w → number_at g sofar (index * g.segment + k) i ≡ get_or (get_or w k []) i (pos 0)
 unfolding number_at
 number_in g sofar index k i w lt some =
     ap (λ n. get_or (get_or (unwrap_or (sofar n) []) ((index * g.segment + k) % g.segment) []) i (pos 0)) (div-mul-add index g.segment k lt)
@@ -121,9 +121,10 @@ shows_cells p sofar gave cells shows = record {
 }
 
 -- what was given goes on
-given_on : {Before : (ℕ → ℕ → ℤ) → Type 0} {w x : Outside} (p q : Shown) (gave : List ℕ) (numbers : ℕ → ℕ → ℤ) → q.geometry ≡ p.geometry → (goes : GoesOn Before w x p q) → Before numbers → gave ≡ front p.geometry numbers p.at.next →
-    gave ++ goes.gave ≡ front q.geometry numbers q.at.next
-given_on p q gave numbers same goes before is = ap (λ zs. zs ++ goes.gave) is ∙ goes.given numbers before ∙ ap (λ g. front g numbers q.at.next) (sym same)
+given_on : {Before : (ℕ → ℕ → ℤ) → Type 0} {w x : Outside} (p q : Shown) (gave : List ℕ) (numbers : ℕ → ℕ → ℤ) → q.geometry ≡ p.geometry → q.wanted ≡ p.wanted → (goes : GoesOn Before w x p q) → Before numbers → gave ≡ rows_of p.wanted p.geometry numbers p.at.next →
+    gave ++ goes.gave ≡ rows_of q.wanted q.geometry numbers q.at.next
+given_on p q gave numbers same wanted goes before is =
+    ap (λ zs. zs ++ goes.gave) is ∙ goes.given numbers before ∙ ap (λ g. rows_of p.wanted g numbers q.at.next) (sym same) ∙ ap (λ k. rows_of k q.geometry numbers q.at.next) (sym wanted)
 
 -- blocks of p for those of q
 of_before : (p q : Shown) (n : ℕ) (sofar : Numbers) (numbers : ℕ → ℕ → ℤ) → q.geometry ≡ p.geometry → passed_in q ≡ passed_in p + n → AreOf q.geometry sofar (passed_in q) numbers → AreOf p.geometry sofar (passed_in p + n) numbers
@@ -144,7 +145,7 @@ shows_lost p q n sofar gave shows none passed =
     let lost = λ (numbers : ℕ → ℕ → ℤ) (of : AreOf q.geometry sofar (passed_in q) numbers). are_lost p n sofar gave numbers shows none (of_before p q n sofar numbers same passed.count of) in
     record {
       stands = λ numbers of. passed.goes.follows numbers (lost numbers of);
-      given = λ numbers of. given_on p q gave numbers same passed.goes (lost numbers of)
+      given = λ numbers of. given_on p q gave numbers same passed.wanted passed.goes (lost numbers of)
           (shows.given numbers (of_fewer p.geometry (passed_in p) (passed_in p + n) sofar numbers (omega arith) (of_before p q n sofar numbers same passed.count of)));
       marked = λ row low.
           passed.marked.at row low ∙ ap (λ b. b || is_touched (block_count p.geometry.width) (passed_in p) n row) (shows.marked row low)
@@ -176,7 +177,7 @@ shows_held p q index n sofar gave first few long some shows passed =
     let held = λ (numbers : ℕ → ℕ → ℤ) (of : AreOf q.geometry sofar (passed_in q) numbers). are_held p index n sofar gave numbers first few long some shows (of_before p q n sofar numbers same passed.count of) in
     record {
       stands = λ numbers of. passed.goes.follows numbers (held numbers of);
-      given = λ numbers of. given_on p q gave numbers same passed.goes (held numbers of)
+      given = λ numbers of. given_on p q gave numbers same passed.wanted passed.goes (held numbers of)
           (shows.given numbers (of_fewer p.geometry (passed_in p) (passed_in p + n) sofar numbers (omega arith) (of_before p q n sofar numbers same passed.count of)));
       marked = λ row low.
           ap (λ (m : Marks). is_marked m.missing row) passed.marked ∙ shows.marked row low

@@ -1,5 +1,5 @@
 -- The first rows of a picture, as octets. This project's own.
-use Rattle.std.specs.Prelude.{ℕ, ℤ, List, min}
+use Rattle.std.specs.Prelude.{ℕ, ℤ, Bool, true, false, List, min}
 use Rattle.base_122.specs.Sizes.{block_count}
 use Rattle.base_122.specs.declared.geometry.Geometry.{Geometry}
 use Rattle.wave_defs.specs.Pyramid.{Pyramid}
@@ -10,6 +10,11 @@ use Rattle.stream_defs.specs.Picture.{pyramid_with, picture_with}
 abbrev pub bands_of : Geometry → (ℕ → ℕ → ℤ) → Pyramid
 bands_of g numbers = pyramid_with numbers (block_count g.width) g.weights.shifts
 
--- the octets of the first n rows of the picture that such blocks give, as far as it has so many
-unfoldable pub front : Geometry → (ℕ → ℕ → ℤ) → ℕ → List ℕ
-front g numbers n = raster_octets g.depth (min n g.rows) g.width (picture_with g numbers)
+-- the octets of the first n rows of the picture that such blocks give, as far as so many rows are wanted
+unfoldable pub rows_of : (wanted : ℕ) → Geometry → (ℕ → ℕ → ℤ) → ℕ → List ℕ
+rows_of wanted g numbers n = raster_octets g.depth (min n wanted) g.width (picture_with g numbers)
+
+-- the rows that are wanted: all, or none where the damage alone is asked for
+abbrev pub wanted_of : (pixels : Bool) → Geometry → ℕ
+wanted_of true g = g.rows
+wanted_of false g = 0

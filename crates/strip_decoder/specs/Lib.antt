@@ -4,4 +4,8 @@ pub mod Steps
 pub mod Segments
 pub mod Runs
 pub mod Answers
+pub mod Lines
+pub mod Finding
 pub mod Laws
+pub mod Containment
+pub mod RoundTrip

@@ -1,5 +1,5 @@
 -- What a decoder's picture holds, and for which blocks. This project's own.
-use Rattle.std.specs.Prelude.{◌≡◌, ◌≤◌, ◌<◌, ◌+◌, ◌*◌, ℕ, ℤ, pos, List, vec_len, []}
+use Rattle.std.specs.Prelude.{◌≡◌, ◌≤◌, ◌<◌, ◌+◌, ◌*◌, ℕ, ℤ, pos, List, vec_len}
 use Rattle.base_122.specs.Sizes.{block_count, total_blocks, segment_blocks}
 use Rattle.base_122.specs.Ranges.{IsGeometryInRange}
 use Rattle.base_122.specs.declared.geometry.Geometry.{Geometry}
@@ -15,9 +15,10 @@ use Rattle.strip_decoder.specs.declared.picture.Picture.{Picture}
 use Rattle.strip_decoder.specs.declared.picture.PictureAt.{PictureAt}
 use Rattle.strip_decoder.specs.Fronts.{bands_of}
 
--- Its parts: the numbers of a segment's blocks, how many there are, and how many marks.
+-- Its parts: how many of its rows are wanted, the numbers of a segment's blocks, how many there are, and how many marks.
 pub record Shown : Type 0 where
   pub geometry : Geometry
+  pub wanted : ℕ
   pub cells : List ℤ
   pub room : ℕ
   pub marks : ℕ
@@ -26,7 +27,7 @@ pub record Shown : Type 0 where
   pub strip : StripInverse
 
 abbrev pub shown : Picture → Shown
-shown p = record { geometry = p.geometry; cells = p.blocks.items; room = vec_len p.blocks; marks = vec_len p.marks; damage = p.damage; at = p.at; strip = p.strip }
+shown p = record { geometry = p.geometry; wanted = p.wanted; cells = p.blocks.items; room = vec_len p.blocks; marks = vec_len p.marks; damage = p.damage; at = p.at; strip = p.strip }
 
 -- the samples of all its lists
 abbrev pub samples_of : Shown → ℕ
@@ -81,9 +82,10 @@ StandsFor numbers p = StandsTo p.at.column numbers p
 pub record AreParts (n : ℕ) (p : Shown) : Type 0 where
   pub at : (k : ℕ) → k < n → AreWeighted (block_at p.cells k) p.geometry.weights.shifts
 
--- nothing was taken yet of a picture of this geometry
-pub record IsFresh (g : Geometry) (p : Shown) : Type 0 where
+-- nothing was taken yet of a picture of this geometry, of which so many rows are wanted
+pub record IsFresh (g : Geometry) (most : ℕ) (p : Shown) : Type 0 where
   pub geometry : p.geometry ≡ g
+  pub wanted : p.wanted ≡ most
   pub standing : IsStanding p
   pub row : p.at.row ≡ 0
   pub column : p.at.column ≡ 0

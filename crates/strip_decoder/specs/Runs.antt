@@ -1,9 +1,10 @@
 -- How far a decoder has come since it began: what it took and gave, what it knows of the segments, and what the picture shows.
 -- This project's own.
-use Rattle.std.specs.Prelude.{◌≡◌, ◌⊎◌, ◌≤◌, ◌<◌, ◌+◌, ◌*◌, ◌/◌, ◌==◌, ◌&&◌, ◌||◌, ℕ, ℤ, Bool, true, false, not, if◌then◌else◌, List, [], ◌∷◌, ◌++◌, length, take, drop, Option, None, Some, Result, Ok, Err, MatchOption, is_some}
+use Rattle.std.specs.Prelude.{◌≡◌, ◌⊎◌, ◌≤◌, ◌<◌, ◌+◌, ◌*◌, ◌/◌, ◌==◌, ◌&&◌, ℕ, ℤ, Bool, true, false, not, if◌then◌else◌, List, [], ◌∷◌, ◌++◌, length, take, drop, Option, None, Some, Result, Ok, Err, MatchOption, is_some}
 use Rattle.std.specs.List.{AllByRecursion, list_any, range_with_len}
 use Rattle.port_122.specs.Outside.{Outside, Since, AtEnd}
 use Rattle.base_122.specs.Sizes.{block_count, first_block, segment_blocks}
+use Rattle.base_122.specs.Ranges.{IsGeometryInRange}
 use Rattle.base_122.specs.declared.geometry.Geometry.{Geometry}
 use Rattle.segment_defs.specs.Head.{head_length}
 use Rattle.text_defs.specs.Outcomes.{Holds}
@@ -23,7 +24,7 @@ use Rattle.packet_assembly.specs.Comings.{coming}
 use Rattle.packet_assembly.specs.Assembling.{Assembling, Starts, last_index, text_after}
 use Rattle.strip_decoder.specs.declared.decode.DecodeFault.{DecodeFault}
 use Rattle.strip_decoder.specs.declared.decode.DecodeFault.TheVariants.{LongInput}
-use Rattle.strip_decoder.specs.Fronts.{front}
+use Rattle.strip_decoder.specs.Fronts.{rows_of, wanted_of}
 use Rattle.strip_decoder.specs.Pictures.{Shown, StandsFor, passed_in, total_in}
 use Rattle.strip_decoder.specs.Steps.{is_marked, IsListed}
 
@@ -37,30 +38,31 @@ abbrev pub Numbers : Type 0
 Numbers = ℕ → Option (List (List ℤ))
 
 -- What is given once these octets are taken: nothing without a geometry, else the first rows of the picture of the segments that
--- are received, at least those that may go out.
-pub record IsPrompt (apid : ℕ) (taken given : List ℕ) : Type 0 where
+-- are received, at least those that may go out, as far as rows are wanted.
+pub record PromptBy (gives : Bool) (apid : ℕ) (taken given : List ℕ) : Type 0 where
   pub none : geometry_in apid taken ≡ None → given ≡ []
   pub some : (g : Geometry) (received : Numbers) → geometry_in apid taken ≡ Some g → ReceivedIn holds_after apid taken received →
-      (n : ℕ) × (n ≤ g.rows) × (ready (state_after apid taken) received ≤ n) × (given ≡ front g (number_at g received) n)
+      (n : ℕ) × (n ≤ g.rows) × (ready (state_after apid taken) received ≤ n) × (given ≡ rows_of (wanted_of gives g) g (number_at g received) n)
 
 -- a read call with i octets taken and j given, where the port tells what is left
-abbrev pub AsksPrompt : (apid : ℕ) → Outside → (took gave : List ℕ) → ℕ → ℕ → Type 0
-AsksPrompt apid start took gave i j = (j ≤ length gave) × ((all : List ℕ) → start.rest ≡ Some all → IsPrompt apid (take i took) (take j gave))
+abbrev pub AsksBy : (gives : Bool) (apid : ℕ) → Outside → (took gave : List ℕ) → ℕ → ℕ → Type 0
+AsksBy gives apid start took gave i j = (j ≤ length gave) × ((all : List ℕ) → start.rest ≡ Some all → PromptBy gives apid (take i took) (take j gave))
 
 -- an image that these octets tell of has no more pixels than that
 abbrev pub HasFew : (pixels apid : ℕ) → List ℕ → Type 0
 HasFew pixels apid taken = (g : Geometry) → geometry_in apid taken ≡ Some g → g.width * g.rows ≤ pixels
 
--- a front of the picture for the octets that were taken; nothing without a geometry
-pub record IsFrontFor (apid : ℕ) (taken given : List ℕ) : Type 0 where
+-- a front of the picture for the octets that were taken, as far as rows are wanted; nothing without a geometry
+pub record FrontBy (gives : Bool) (apid : ℕ) (taken given : List ℕ) : Type 0 where
   pub none : geometry_in apid taken ≡ None → given ≡ []
   pub some : (g : Geometry) (received : Numbers) → geometry_in apid taken ≡ Some g → ReceivedIn holds_after apid taken received →
-      (n : ℕ) × (given ≡ take n (front g (number_at g received) g.rows))
+      (n : ℕ) × (given ≡ take n (rows_of (wanted_of gives g) g (number_at g received) (wanted_of gives g)))
 
 -- ---- a run
 
--- for which packets, how many octets and pixels at most, and where it began
+-- whether it gives rows, for which packets, how many octets and pixels at most, and where it began
 pub record Run : Type 0 where
+  pub gives : Bool
   pub apid : ℕ
   pub cap : ℕ
   pub pixels : ℕ
@@ -101,7 +103,7 @@ is_lost g sofar n row = list_any (λ block. not (is_some (sofar (block / g.segme
 -- the picture holds the blocks of these segments, and what is given are the rows of it that come with them
 pub record Shows (p : Shown) (sofar : Numbers) (gave : List ℕ) : Type 0 where
   pub stands : (numbers : ℕ → ℕ → ℤ) → AreOf p.geometry sofar (passed_in p) numbers → StandsFor numbers p
-  pub given : (numbers : ℕ → ℕ → ℤ) → AreOf p.geometry sofar (passed_in p) numbers → gave ≡ front p.geometry numbers p.at.next
+  pub given : (numbers : ℕ → ℕ → ℤ) → AreOf p.geometry sofar (passed_in p) numbers → gave ≡ rows_of p.wanted p.geometry numbers p.at.next
   pub marked : (row : ℕ) → row < most_block_rows → is_marked p.damage.missing row ≡ is_lost p.geometry sofar (passed_in p) row
   pub listed : IsListed p.damage
 
@@ -115,13 +117,14 @@ pub record HasComeTo (w : Run) (now : Outside) (a : Assembling) (p : Shown) (bou
   pub gave : List ℕ
   pub passed : List (List ℕ)
   pub sofar : Numbers
-  pub since : Since w.start now took gave [] (AsksPrompt w.apid w.start took gave)
+  pub since : Since w.start now took gave [] (AsksBy w.gives w.apid w.start took gave)
   pub read : HasRead w a took passed
   pub knows : (rest : List ℕ) → now.rest ≡ Some rest → Knows w.apid passed (future a rest) bound sofar
   pub above : (index : ℕ) → bound ≤ index → sofar index ≡ None
   pub shows : Shows p sofar gave
   pub few : passed_in p ≤ first_block p.geometry.segment bound
   pub at_end : SawEnd now a
+  pub wanted : p.wanted ≡ wanted_of w.gives p.geometry
   pub small : p.geometry.width * p.geometry.rows ≤ w.pixels
 
 -- the last of the packets begins this segment, which isn't before the bound, and none before it is of the bound or later
@@ -152,8 +155,9 @@ pub record ComesPast (w : Run) (now : Outside) (a : Assembling) (p : Shown) : Ty
 pub record HasBroken (w : Run) (now : Outside) : Type 0 where
   pub took : List ℕ
   pub gave : List ℕ
-  pub since : Since w.start now took gave [] (AsksPrompt w.apid w.start took gave)
-  pub front : (all : List ℕ) → w.start.rest ≡ Some all → IsFrontFor w.apid took gave
+  pub since : Since w.start now took gave [] (AsksBy w.gives w.apid w.start took gave)
+  pub front : (all : List ℕ) → w.start.rest ≡ Some all → FrontBy w.gives w.apid took gave
+  pub silent : w.gives ≡ false → gave ≡ []
   pub small : HasFew w.pixels w.apid took
 
 -- it goes on past a segment, or a fault ends it
@@ -189,17 +193,24 @@ abbrev pub RunsAll : Run → Outside → Assembling → Shown → Result (Unit {
 RunsAll w now a p (Ok done) = ComesToEnd w now a p
 RunsAll w now a p (Err fault) = BreaksRun w now fault
 
--- All of the picture is given: it is that of the segments which are received in the octets that were taken, and the missing block
--- rows are those with a block in none of them.
+-- what is given of a whole picture
+abbrev pub octets_of : (gives : Bool) → Geometry → Numbers → List ℕ
+octets_of true g received = picture_octets g received
+octets_of false g received = []
+
+-- All that is wanted of the picture is given: it is that of the segments which are received in the octets that were taken, and the
+-- missing block rows are those with a block in none of them.
 pub record IsWhole (w : Run) (now : Outside) (g : Geometry) (damage : Marks) (found : Option Framing) : Type 0 where
   pub took : List ℕ
   pub gave : List ℕ
-  pub since : Since w.start now took gave [] (AsksPrompt w.apid w.start took gave)
+  pub since : Since w.start now took gave [] (AsksBy w.gives w.apid w.start took gave)
   pub geometry : geometry_in w.apid took ≡ Some g
   pub framing_is : found ≡ framing took
   pub out : IsReadOut w.cap now took
+  pub range : IsGeometryInRange g
   pub rows : damage.rows ≡ g.rows
-  pub told : (all : List ℕ) → w.start.rest ≡ Some all → (received : Numbers) × ReceivedIn holds_after w.apid took received × (gave ≡ picture_octets g received) × (damage.missing ≡ missing_rows g received)
+  pub silent : w.gives ≡ false → gave ≡ []
+  pub told : (all : List ℕ) → w.start.rest ≡ Some all → (received : Numbers) × ReceivedIn holds_after w.apid took received × (gave ≡ octets_of w.gives g received) × (damage.missing ≡ missing_rows g received)
 
 abbrev pub RunsPicture : Run → Outside → Assembling → Shown → Result (Unit {0}) DecodeFault → Type 0
 RunsPicture w now a p (Ok done) = IsWhole w now p.geometry p.damage a.framing

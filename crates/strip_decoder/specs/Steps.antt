@@ -1,9 +1,9 @@
 -- What the steps of a picture leave. This project's own.
-use Rattle.std.specs.Prelude.{◌≡◌, ◌≤◌, ◌<◌, ◌+◌, ◌*◌, ◌^◌, ◌==◌, ◌/◌, ℕ, ℤ, pos, List, ◌++◌, [], Bool, true, false, ◌||◌, Result, Ok, Err, MatchResult, slice_index_or, take, filter}
+use Rattle.std.specs.Prelude.{◌≡◌, ◌<◌, ◌+◌, ◌==◌, ◌/◌, ℕ, ℤ, pos, List, ◌++◌, [], Bool, true, false, ◌||◌, Result, Ok, Err, MatchResult, slice_index_or, take, filter}
 use Rattle.std.specs.List.{list_any, range_with_len}
 use Rattle.port_122.specs.Outside.{Outside, Since, NoRead, Rose}
 use Rattle.base_122.specs.Sizes.{block_count}
-use Rattle.strip_decoder.specs.Fronts.{front}
+use Rattle.strip_decoder.specs.Fronts.{rows_of}
 use Rattle.wave_defs.specs.Held.{block_at}
 use Rattle.inverse_strip.specs.Kept.{HasNext}
 use Rattle.stream_defs.specs.Marks.{Marks, most_block_rows}
@@ -12,12 +12,12 @@ use Rattle.strip_decoder.specs.Pictures.{Shown, IsSized, IsStanding, StandsTo, S
 -- ---- rows
 
 -- Some rows were given: for all blocks such that this was so before, the picture stands for them, and what was given goes on from
--- the first rows of their picture to more of them.
+-- the first rows of their picture to more of them, as far as they are wanted.
 pub record GoesOn (Before : (ℕ → ℕ → ℤ) → Type 0) (p q : Outside) (old new : Shown) : Type 0 where
   pub gave : List ℕ
   pub out : Since p q [] gave [] NoRead
   pub follows : (numbers : ℕ → ℕ → ℤ) → Before numbers → StandsFor numbers new
-  pub given : (numbers : ℕ → ℕ → ℤ) → Before numbers → front old.geometry numbers old.at.next ++ gave ≡ front old.geometry numbers new.at.next
+  pub given : (numbers : ℕ → ℕ → ℤ) → Before numbers → rows_of old.wanted old.geometry numbers old.at.next ++ gave ≡ rows_of old.wanted old.geometry numbers new.at.next
 
 -- a write failed meanwhile, and a part of the picture is given
 pub record BreaksOff (Before : (ℕ → ℕ → ℤ) → Type 0) (p q : Outside) (old : Shown) : Type 0 where
@@ -25,7 +25,7 @@ pub record BreaksOff (Before : (ℕ → ℕ → ℤ) → Type 0) (p q : Outside)
   pub out : Since p q [] gave [] NoRead
   pub rose : Rose p.write_faults q.write_faults
   pub given : (numbers : ℕ → ℕ → ℤ) → Before numbers →
-      (some : ℕ) × (front old.geometry numbers old.at.next ++ gave ≡ take some (front old.geometry numbers old.geometry.rows))
+      (some : ℕ) × (rows_of old.wanted old.geometry numbers old.at.next ++ gave ≡ take some (rows_of old.wanted old.geometry numbers old.wanted))
 
 abbrev pub StoodFor : Shown → (ℕ → ℕ → ℤ) → Type 0
 StoodFor p numbers = StandsFor numbers p
@@ -33,6 +33,7 @@ StoodFor p numbers = StandsFor numbers p
 -- all but the strip and the next row is as before
 pub record SameBut (old new : Shown) : Type 0 where
   pub geometry : new.geometry ≡ old.geometry
+  pub wanted : new.wanted ≡ old.wanted
   pub cells : new.cells ≡ old.cells
   pub room : new.room ≡ old.room
   pub marks : new.marks ≡ old.marks
@@ -88,6 +89,7 @@ pub record AreLost (n : ℕ) (p : Shown) (numbers : ℕ → ℕ → ℤ) : Type 
 pub record HasPassed (Marked : Marks → Marks → Type 0) (Before : (ℕ → ℕ → ℤ) → Type 0) (n : ℕ) (p q : Outside) (old new : Shown) : Type 0 where
   pub standing : IsStanding new
   pub geometry : new.geometry ≡ old.geometry
+  pub wanted : new.wanted ≡ old.wanted
   pub cells : new.cells ≡ old.cells
   pub room : new.room ≡ old.room
   pub marks : new.marks ≡ old.marks

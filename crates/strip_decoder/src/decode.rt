@@ -1,17 +1,9 @@
-// What a decoder is asked for, and its answers.
+// How a decoder ends.
 
 use base_122::Geometry;
 use damage_rows::Damage;
 use packet_defs::Framing;
 use thiserror::Error;
-
-/// Which packets are read, the most pixels of a picture, and the number of octets at which reading ends.
-#[derive(Clone, Copy, Debug, PartialEq, Eq)]
-pub struct DecodeWish {
-    pub apid: u16,
-    pub pixels: u64,
-    pub octets: u64,
-}
 
 /// What was read: the picture's geometry, its missing block rows, and why the stream can't be read on, where that was found.
 #[derive(Drop)]

@@ -3,12 +3,14 @@ ghost use Rattle.std.specs.Prelude.{◌≡◌};
 ghost use Rattle.strip_decoder.specs.Pictures.{shown, IsStanding};
 ghost use Rattle.strip_decoder.specs.Segments.{IsAt};
 ghost use Rattle.strip_decoder.specs.Runs.{Run, ComesTo, RunsAll, RunsPicture};
-ghost use Rattle.strip_decoder.specs.Answers.{TakesAll, LosesRest, GivesPicture, Decodes};
+ghost use Rattle.strip_decoder.specs.Fronts.{wanted_of};
+ghost use Rattle.strip_decoder.specs.Answers.{TakesAll, LosesRest, GivesPicture, Decodes, DecodesBy};
 
 use crate::blocks::lose_blocks;
-use crate::decode::{DecodeDone, DecodeFault, DecodeWish};
+use crate::decode::{DecodeDone, DecodeFault};
 use crate::picture::Picture;
 use crate::segments::{find_next, take_segment};
+use base_122::{DecodeWish, Geometry};
 use packet_assembly::{Assembly, SegmentStart};
 use port_122::{Failed, Port};
 use std::alloc::Global;
@@ -25,6 +27,25 @@ pub fn decode_packets<X: Port>(
 ) -> Result<DecodeDone, DecodeFault>
     ensures { Decodes wish.now (X.outside port.old) (X.outside port.new) result }
 {
+    decode(alloc, port, wish, true)
+}
+
+// The rows of a picture that are wanted.
+fn wanted_rows(geometry: &Geometry, gives: bool) -> u32
+    ensures { result ≡ wanted_of gives geometry.now }
+{
+    if gives { geometry.rows } else { 0 }
+}
+
+/// Takes the packets of an APID, and gives the picture where its rows are wanted.
+pub fn decode<X: Port>(
+    alloc: Global,
+    port: &mut X,
+    wish: &DecodeWish,
+    gives: bool,
+) -> Result<DecodeDone, DecodeFault>
+    ensures { DecodesBy gives wish.now (X.outside port.old) (X.outside port.new) result }
+{
     let Ok(mut assembly) = Assembly::new(alloc, wish.apid, wish.octets) else {
         return Err(DecodeFault::Memory);
     };
@@ -40,7 +61,8 @@ pub fn decode_packets<X: Port>(
     if pixels > wish.pixels {
         return Err(DecodeFault::TooManyPixels { pixels });
     }
-    let Ok(mut picture) = Picture::new(alloc, &geometry) else {
+    let wanted = wanted_rows(&geometry, gives);
+    let Ok(mut picture) = Picture::new(alloc, &geometry, wanted) else {
         return Err(DecodeFault::Memory);
     };
     match take_picture(port, &mut assembly, &mut picture, start) {

@@ -4,12 +4,14 @@
 mod blocks;
 mod decode;
 mod engine;
+mod find;
 mod laws;
 mod picture;
 mod rows;
 mod segments;
 
-pub use decode::{DecodeDone, DecodeFault, DecodeWish};
+pub use decode::{DecodeDone, DecodeFault};
 pub use engine::decode_packets;
-pub use laws::received_is_told;
+pub use find::find_damage;
+pub use laws::{decoding_contains, losses_are_contained, received_is_told, round_trip};
 pub use picture::{Picture, PictureAt};

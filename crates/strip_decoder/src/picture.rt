@@ -16,11 +16,13 @@ pub struct PictureAt {
     pub next: u32,
 }
 
-/// The inverse transform, the blocks of one segment with their marks, the missing block rows, and how far the picture has come.
+/// The inverse transform, the blocks of one segment with their marks, the missing block rows, how many of its rows are wanted, and
+/// how far the picture has come.
 /// It holds at most 80 rows of the padded picture and 65 samples for each block of a segment.
 #[derive(Drop)]
 pub struct Picture {
     pub geometry: Geometry,
+    pub wanted: u32,
     pub blocks: Vec<i32>,
     pub marks: Vec<i32>,
     pub damage: Damage,
@@ -34,11 +36,11 @@ impl Picture {
     ghost use Rattle.base_122.specs.Ranges.{IsGeometryInRange};
     ghost use Rattle.strip_decoder.specs.Pictures.{shown, samples_of, passed_in, IsSized, IsFresh};
 
-    /// Takes all memory that a picture of this geometry needs (docs/architecture.md, "The decoder"). The one error is want of
-    /// memory.
-    pub fn new(alloc: Global, geometry: &Geometry) -> Result<Picture, AllocError>
+    /// Takes all memory that a picture of this geometry needs, of which the first rows are wanted (docs/architecture.md, "The
+    /// decoder"). The one error is want of memory.
+    pub fn new(alloc: Global, geometry: &Geometry, wanted: u32) -> Result<Picture, AllocError>
         requires { IsGeometryInRange geometry.now }
-        ensures { IfOk result (λ p. IsFresh geometry.now (shown p)) }
+        ensures { IfOk result (λ p. IsFresh geometry.now wanted (shown p)) }
     {
         let count = geometry.blocks_of(0) as usize;
         let blocks = vec![in alloc; 0; 64 * count]?;
@@ -46,6 +48,7 @@ impl Picture {
         let strip = StripInverse::new(alloc, geometry.padded_width(), geometry.padded_rows())?;
         Ok(Picture {
             geometry: *geometry,
+            wanted,
             blocks,
             marks,
             damage: Damage::new(geometry.rows),

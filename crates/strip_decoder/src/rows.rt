@@ -6,7 +6,7 @@ use crate::picture::Picture;
 use port_122::{Failed, Port};
 use raster_rows::write_row;
 
-// Makes the next row and gives it, where it isn't one that pads the picture; answers false where none can be made before the next
+// Makes the next row and gives it, where it is wanted and isn't one that pads the picture; answers false where none can be made before the next
 // block row.
 fn give_row<X: Port>(port: &mut X, picture: &mut Picture) -> Result<bool, Failed>
     requires sized { IsSized (shown picture.old) }
@@ -18,7 +18,7 @@ fn give_row<X: Port>(port: &mut X, picture: &mut Picture) -> Result<bool, Failed
     let row = picture.at.next;
     picture.at.next = row + 1;
     let geometry = picture.geometry;
-    if row < geometry.rows {
+    if row < picture.wanted {
         write_row(
             port,
             geometry.depth,

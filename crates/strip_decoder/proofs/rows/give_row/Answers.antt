@@ -16,7 +16,7 @@ returns-in_err-write_row g c =
     (row_broken (shown c.args.picture.now) c.make_row.new.self c.requires.sized
     (record { height = e.height; width = e.width; taken = e.taken; next = e.given; could = e.made; numbers = e.numbers; follows = e.follows; value = e.value })
     (rw c.row.ensures.row at c.row.ensures.wide)
-    (g.X.Port.outside c.args.port.now) (g.X.Port.outside c.write_row.new.port) failed.1.0 c.if-row-geometry.true failed.0 failed.1.1 failed.1.2)
+    (g.X.Port.outside c.args.port.now) (g.X.Port.outside c.write_row.new.port) failed.1.0 c.if-row-picture.true failed.0 failed.1.1 failed.1.2)
 
 pub returns-in_ok-write_row : goal.returns-in_ok-write_row
 returns-in_ok-write_row g c =
@@ -24,11 +24,11 @@ returns-in_ok-write_row g c =
     row_given (shown c.args.picture.now) c.make_row.new.self c.requires.sized
     (record { height = e.height; width = e.width; taken = e.taken; next = e.given; could = e.made; numbers = e.numbers; follows = e.follows; value = e.value })
     (rw c.row.ensures.row at c.row.ensures.wide)
-    (g.X.Port.outside c.args.port.now) (g.X.Port.outside c.write_row.new.port) c.if-row-geometry.true (rw c.row.ensures.row at c.in_ok-write_row.ensures)
+    (g.X.Port.outside c.args.port.now) (g.X.Port.outside c.write_row.new.port) c.if-row-picture.true (rw c.row.ensures.row at c.in_ok-write_row.ensures)
 
-pub returns-else-row-geometry : goal.returns-else-row-geometry
-returns-else-row-geometry g c =
+pub returns-else-row-picture : goal.returns-else-row-picture
+returns-else-row-picture g c =
     let e = c.if-not-make_row.ensures in
     row_made (shown c.args.picture.now) c.make_row.new.self c.requires.sized
     (record { height = e.height; width = e.width; taken = e.taken; next = e.given; could = e.made; numbers = e.numbers; follows = e.follows; value = e.value })
-    (g.X.Port.outside c.args.port.now) c.if-row-geometry.false
+    (g.X.Port.outside c.args.port.now) c.if-row-picture.false

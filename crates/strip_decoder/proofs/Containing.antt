@@ -1,0 +1,86 @@
+-- No pixel outside the damaged rows hangs on what was lost.
+use Rattle.std.proofs.Common.{◌≡◌, ◌≤◌, ◌<◌, ◌+◌, ◌*◌, ◌/◌, ◌^◌, ℕ, ℤ, get_or, refl, sym, ap, ◌∙◌, arith}
+use Rattle.std.specs.Prelude.{Bool, true, false, ◌&&◌, not, nat_lt, is_some}
+use Rattle.std.specs.List.{list_any}
+use Rattle.std.proofs.lemmas.Bool.{false≢true}
+use Rattle.std.proofs.lemmas.Bool.Decides.{nat_tests}
+use Rattle.std.proofs.Math.Nat.{mul-le-mul_right}
+use Rattle.base_122.specs.Sizes.{block_count}
+use Rattle.base_122.specs.Ranges.{IsGeometryInRange}
+use Rattle.base_122.specs.declared.geometry.Geometry.{Geometry}
+use Rattle.base_122.proofs.SizeBounds.{three-le-block_count}
+use Rattle.raster_rows.specs.Pixels.{clamped}
+use Rattle.wave_defs.specs.Line.{floor_div}
+use Rattle.wave_defs.specs.Blocks.{place_of}
+use Rattle.wave_defs.specs.Reach.{reaches, Reaches, SameBlock, SameReceived}
+use Rattle.wave_defs.proofs.ReachLaws.{rows-reach}
+use Rattle.stream_defs.specs.Agreement.{blocks_of}
+use Rattle.stream_defs.specs.Damage.{is_missing, missing_rows, is_damaged, damage, is_covered}
+use Rattle.stream_defs.specs.Picture.{number_at, picture, picture_with}
+use Rattle.stream_defs.proofs.DamageLaws.{whole_damage}
+use Rattle.damage_rows.proofs.TableLaws.{any_there}
+use Rattle.strip_decoder.specs.Fronts.{bands_of}
+use Rattle.strip_decoder.specs.Runs.{Numbers}
+use Rattle.strip_decoder.specs.Containment.{AreWith, SameOutside}
+use Rattle.strip_decoder.proofs.BandBlocks.{coefficient_with}
+use Rattle.strip_decoder.proofs.RunEnds.{any_at}
+
+module _ (g : Geometry) (received : Numbers) (numbers : ℕ → ℕ → ℤ) (range : IsGeometryInRange g) (are : AreWith g received numbers) where
+  abbrev r : ℕ
+  r = block_count g.rows
+
+  abbrev c : ℕ
+  c = block_count g.width
+
+  abbrev missing : ℕ → Bool
+  missing t = is_missing g received t
+
+  -- a block of a block row that isn't missing is in a received segment
+  kept_there : (t k : ℕ) → missing t ≡ false → k < c → is_some (received ((t * c + k) / g.segment)) ≡ true
+  kept_there t k kept lt = by (is_some (received ((t * c + k) / g.segment))) (any_at (λ column. not (is_some (received ((t * c + column) / g.segment)))) c k kept lt)
+    where
+      by : (b : Bool) → not b ≡ false → b ≡ true
+      by true e = refl
+      by false e = absurd (false≢true (sym e))
+
+  -- it stands before the last one
+  block_low : (t k : ℕ) → t < r → k < c → t * c + k < blocks_of g
+  block_low t k low lt =
+      let next : (t + 1) * c ≤ r * c = mul-le-mul_right c (omega (arith, low)) in
+      let more : (t + 1) * c ≡ t * c + c = grind arith in
+      let turned : c * r ≡ r * c = grind arith in
+      omega (arith, next, more, turned, lt)
+
+  -- and is the same
+  block_same : (t k : ℕ) → t < r → k < c → missing t ≡ false → SameBlock (bands_of g numbers) (bands_of g (number_at g received)) t k
+  block_same t k low lt kept = record {
+    at = λ i small.
+        coefficient_with numbers c g.weights.shifts t k i small
+        ∙ ap (λ z. floor_div z (2 ^ get_or g.weights.shifts (place_of i).band 0)) (are.at (t * c + k) i (block_low t k low lt) small (kept_there t k kept lt))
+        ∙ sym (coefficient_with (number_at g received) c g.weights.shifts t k i small);
+  }
+
+  -- a row that no range has is reached by no missing block row
+  unreached : (i t : ℕ) → i < g.rows → is_covered (damage g received) i ≡ false → t < r → missing t ≡ true → Reaches t i → ⊥
+  unfolding missing_rows
+  unreached i t inside uncovered low lost reached =
+      let rows : nat_lt i g.rows ≡ true = grind (arith, nat_tests) in
+      let undamaged : is_damaged g.rows (missing_rows g received) i ≡ false = sym ((whole_damage g.rows (missing_rows g received)).0.each i) ∙ uncovered in
+      let some = any_there (λ t. reaches t i) missing r 0 t (omega arith) (omega (arith, low)) lost reached in
+      absurd (false≢true (sym undamaged ∙ both (nat_lt i g.rows) (list_any (λ t. reaches t i) (missing_rows g received)) rows some))
+    where
+      both : (a b : Bool) → a ≡ true → b ≡ true → (a && b) ≡ true
+      both true b e h = h
+      both false b e h = e
+
+  pub contained : SameOutside g.rows g.width (damage g received) (picture_with g numbers) (picture g received)
+  unfolding picture_with
+  contained = record {
+    at = λ i j inside across uncovered.
+        let tall = three-le-block_count g.rows range.rows.0 in
+        let wide = three-le-block_count g.width range.width.0 in
+        let same : SameReceived (λ t s. missing t) r c (bands_of g numbers) (bands_of g (number_at g received)) = record { block = λ t s low lt kept. block_same t s low lt kept } in
+        ap (clamped g.depth g.signed)
+        (rows-reach (bands_of g numbers) (bands_of g (number_at g received)) missing r c i j (omega (arith, tall)) (omega (arith, wide)) (omega (arith, inside)) (omega (arith, across)) same
+        (λ t low lost reached. unreached i t inside uncovered low lost reached));
+  }

@@ -1,0 +1,159 @@
+-- Pictures of some packets of an image, and of all of them.
+use Rattle.std.proofs.Common.{◌≡◌, ◌≤◌, ◌<◌, ◌+◌, ◌/◌, ℕ, zero, suc, ℤ, List, [], ◌∷◌, map, refl, sym, ap, subst, ◌∙◌, arith}
+use Rattle.std.specs.Prelude.{true, Option, None, Some, is_some, MatchOption}
+use Rattle.std.specs.List.{AllByRecursion}
+use Rattle.std.proofs.lemmas.Bool.{false≢true}
+use Rattle.std.proofs.lemmas.Nat.{div_below}
+use Rattle.port_122.specs.Outside.{Outside}
+use Rattle.port_122.proofs.Stretches.{each_of_both}
+use Rattle.base_122.specs.Setting.{geometry_of}
+use Rattle.base_122.specs.Sizes.{total_blocks}
+use Rattle.base_122.specs.declared.geometry.Geometry.{Geometry}
+use Rattle.base_122.specs.declared.setting.Setting.{Setting}
+use Rattle.base_122.specs.declared.wish.DecodeWish.{DecodeWish}
+use Rattle.base_122.proofs.GeometryRanges.{in_range-geometry}
+use Rattle.base_122.proofs.SizeBounds.{total-le-segments}
+use Rattle.packet_defs.specs.Packets.{joined, text_packets}
+use Rattle.packet_defs.specs.Streams.{IsPacket, whole_packets}
+use Rattle.packet_defs.proofs.Splits.{splits_whole, joined_splits}
+use Rattle.segment_code.specs.Laws.{TextsAreShort}
+use Rattle.stream_defs.specs.Chosen.{IsRising, IsChoice, chosen, all_parts}
+use Rattle.stream_defs.specs.Damage.{damage, ranges, missing_rows}
+use Rattle.stream_defs.specs.Fates.{fresh, after_all, kept, geometry_in}
+use Rattle.stream_defs.specs.Output.{image_blocks, output, packets_of, segments_of}
+use Rattle.stream_defs.specs.Picture.{number_at, picture, picture_with, picture_octets}
+use Rattle.stream_defs.specs.Places.{parts_of, packet_at, AreCoded}
+use Rattle.stream_defs.specs.Received.{IsReceived, ReceivedIn}
+use Rattle.stream_defs.proofs.ChosenLaws.{chosen_more}
+use Rattle.stream_defs.proofs.OutPackets.{part_reads}
+use Rattle.stream_defs.proofs.SublistLaws.{all_rise, received_only, received_each}
+use Rattle.stream_defs.proofs.WholeStreams.{sublist_kept}
+use Rattle.strip_decoder.specs.declared.decode.DecodeDone.{DecodeDone}
+use Rattle.strip_decoder.specs.Answers.{IsPicture}
+use Rattle.strip_decoder.specs.Runs.{Numbers, holds_after}
+use Rattle.strip_decoder.specs.Containment.{SameOutside, AreWith, some_output, BeginsOne, IsImageFor, AreSome, told_damage, GivesContained, GivesAlike}
+use Rattle.strip_decoder.proofs.Asking.{both_tell}
+use Rattle.strip_decoder.proofs.CodedImages.{images_coded}
+use Rattle.strip_decoder.proofs.Containing.{contained}
+use Rattle.strip_decoder.proofs.Showing.{number_by}
+
+-- ---- packets of an image as octets
+
+module _ (s : Setting) (all : List (List ℤ)) (coded : AreCoded s all) (parts : ℕ → List ℕ) (choice : IsChoice s all parts) where
+  -- packets of one segment
+  are_packets : (index : ℕ) → index < segments_of s → (least below : ℕ) (ks : List ℕ) → below ≤ parts_of s all index → IsRising least below ks → AllByRecursion IsPacket (map (packet_at s all index) ks)
+  are_packets index lt least below [] le rising = tt
+  are_packets index lt least below (k ∷ ks) le rising =
+      let few = rising.1 in
+      ((part_reads s all coded index k lt (omega (arith, few, le))).whole, are_packets index lt (k + 1) below ks le rising.2)
+
+  -- of the first segments
+  pub all_packets : (n : ℕ) → n ≤ segments_of s → AllByRecursion IsPacket (chosen s all parts n)
+  unfolding chosen
+  all_packets zero le = tt
+  all_packets (suc n) le =
+      let e : n + 1 ≡ suc n = omega arith in
+      subst (λ m. AllByRecursion IsPacket (chosen s all parts m)) e (subst (AllByRecursion IsPacket) (sym (chosen_more s all coded parts choice parts n))
+      (each_of_both IsPacket (chosen s all parts n) (map (packet_at s all n) (parts n)) (all_packets n (omega (arith, le)))
+      (are_packets n (omega (arith, le)) 0 (parts_of s all n) (parts n) (omega arith) (choice.each n (omega (arith, le))))))
+
+  pub chosen_whole : whole_packets (joined (chosen s all parts (segments_of s))) ≡ chosen s all parts (segments_of s)
+  chosen_whole = splits_whole (joined_splits (chosen s all parts (segments_of s)) (all_packets (segments_of s) (omega arith)))
+
+-- all packets are all parts
+pub whole_choice : (s : Setting) (all : List (List ℤ)) (n : ℕ) → packets_of s all n ≡ chosen s all (all_parts s all) n
+unfolding chosen packets_of text_packets
+whole_choice s all n = refl
+
+-- ---- the segments that are received of some packets
+
+module _ (short : TextsAreShort) (s : Setting) (x : ℕ → ℕ → ℤ) (image : IsImageFor s x) where
+  abbrev blocks : List (List ℤ)
+  blocks = image_blocks s x
+
+  pub coded_for : AreCoded s blocks
+  coded_for = images_coded short s x image.range image.weights image.pixels
+
+  -- all parts are some of them
+  pub choice_all : IsChoice s blocks (all_parts s blocks)
+  choice_all = record { each = λ index lt. all_rise s blocks coded_for index }
+
+  pub output_whole : whole_packets (output s x) ≡ chosen s blocks (all_parts s blocks) (segments_of s)
+  output_whole = ap (λ packets. whole_packets (joined packets)) (whole_choice s blocks (segments_of s)) ∙ chosen_whole s blocks coded_for (all_parts s blocks) choice_all
+
+module _ (short : TextsAreShort) (s : Setting) (x : ℕ → ℕ → ℤ) (parts : ℕ → List ℕ) (are : AreSome s x parts) where
+  abbrev all : List (List ℤ)
+  all = image_blocks s x
+
+  coded : AreCoded s all
+  coded = coded_for short s x are.image
+
+  pub geometry_there : BeginsOne s parts → geometry_in s.apid (some_output s x parts) ≡ Some (geometry_of s)
+  geometry_there one =
+      ap (λ packets. (after_all s.apid fresh packets).geometry) (chosen_whole s all coded parts are.choice)
+      ∙ (sublist_kept s all parts coded are.choice).geometry one.index one.more one.within one.begins
+
+  module _ (received whole : Numbers) (some_are : ReceivedIn holds_after s.apid (some_output s x parts) received) (all_are : ReceivedIn holds_after s.apid (output s x) whole) where
+    -- a segment that is received of some is received of all, with the same numbers
+    same_by : (index : ℕ) (o : Option (List (List ℤ))) → index < segments_of s → received index ≡ o → is_some o ≡ true → whole index ≡ received index
+    same_by index None lt is some = absurd (false≢true some)
+    same_by index (Some w) lt is some =
+        let here : MatchOption (Some w) ((v : List (List ℤ)) → IsReceived holds_after (kept s.apid fresh (whole_packets (some_output s x parts))) index v → ⊥) (IsReceived holds_after (kept s.apid fresh (whole_packets (some_output s x parts))) index) =
+        subst (λ o. MatchOption o ((v : List (List ℤ)) → IsReceived holds_after (kept s.apid fresh (whole_packets (some_output s x parts))) index v → ⊥) (IsReceived holds_after (kept s.apid fresh (whole_packets (some_output s x parts))) index)) is (some_are.at index) in
+        let mine : IsReceived holds_after (kept s.apid fresh (chosen s all parts (segments_of s))) index w =
+        subst (λ packets. IsReceived holds_after (kept s.apid fresh packets) index w) (chosen_whole s all coded parts are.choice) here in
+        let held = (received_only s all coded parts are.choice holds_after index w lt mine).1 in
+        let there : IsReceived holds_after (kept s.apid fresh (whole_packets (output s x))) index w =
+        subst (λ packets. IsReceived holds_after (kept s.apid fresh packets) index w) (sym (output_whole short s x are.image)) (received_each s all coded (all_parts s all) (choice_all short s x are.image) holds_after index w lt refl held) in
+        both_tell (kept s.apid fresh (whole_packets (output s x))) index (whole index) (Some w) (all_are.at index) there ∙ sym is
+
+    pub sublist_same : SameOutside s.rows s.width (damage (geometry_of s) received) (picture (geometry_of s) received) (picture (geometry_of s) whole)
+    sublist_same =
+        let g = geometry_of s in
+        let some = are.image.range.segment.0 in
+        let with_all : AreWith g received (number_at g whole) = record {
+          at = λ block i lt small there.
+              let below : block / s.segment < segments_of s = div_below block s.segment (segments_of s) (omega (arith, some)) (omega (arith, lt, total-le-segments (total_blocks s.width s.rows) s.segment (omega (arith, some)))) in
+              number_by g whole received block i (same_by (block / s.segment) (received (block / s.segment)) below refl there);
+        } in
+        let same = contained g received (number_at g whole) (in_range-geometry s are.image.range) with_all in
+        record { at = λ i j inside across uncovered. sym (same.at i j inside across uncovered) }
+
+-- ---- what a decoder gives
+
+-- the damage that it tells is that of the segments that are received
+damage_told : (done : DecodeDone) (received : Numbers) → done.damage.rows ≡ done.geometry.rows → done.damage.missing ≡ missing_rows done.geometry received → told_damage done ≡ damage done.geometry received
+damage_told done received rows missing = ap (λ n. ranges n done.damage.missing) rows ∙ ap (ranges done.geometry.rows) missing
+
+pub decoded_contained : (wish : DecodeWish) (start new : Outside) (took gave every : List ℕ) (done : DecodeDone) → IsPicture wish start new took gave done → start.rest ≡ Some every → GivesContained wish took gave done
+decoded_contained wish start new took gave every done is told =
+    let t = is.told every told in
+    let g = done.geometry in
+    record {
+      received = t.0;
+      received_is = t.1;
+      gave_is = t.2;
+      whatever = λ numbers are.
+          subst (λ rs. SameOutside g.rows g.width rs (picture_with g numbers) (picture g t.0)) (sym (damage_told done t.0 is.rows t.3)) (contained g t.0 numbers is.range are);
+    }
+
+pub some_geometry : {x y : Geometry} → Some x ≡ Some y → x ≡ y
+some_geometry e = cc
+
+pub decoded_alike : TextsAreShort → (wish : DecodeWish) (start new : Outside) (took gave every : List ℕ) (done : DecodeDone) (s : Setting) (x : ℕ → ℕ → ℤ) (parts : ℕ → List ℕ) →
+    IsPicture wish start new took gave done → start.rest ≡ Some every → wish.apid ≡ s.apid → took ≡ some_output s x parts → AreSome s x parts → BeginsOne s parts → GivesAlike s x parts gave done
+decoded_alike short wish start new took gave every done s x parts is told apid took_is are begins =
+    let t = is.told every told in
+    let received = t.0 in
+    let there : geometry_in s.apid (some_output s x parts) ≡ Some done.geometry = subst (λ octets. geometry_in s.apid octets ≡ Some done.geometry) took_is (subst (λ n. geometry_in n took ≡ Some done.geometry) apid is.geometry) in
+    let same : done.geometry ≡ geometry_of s = some_geometry (sym there ∙ geometry_there short s x parts are begins) in
+    let mine : ReceivedIn holds_after s.apid (some_output s x parts) received = subst (λ octets. ReceivedIn holds_after s.apid octets received) took_is (subst (λ n. ReceivedIn holds_after n took received) apid t.1) in
+    let damaged : told_damage done ≡ damage (geometry_of s) received = damage_told done received is.rows t.3 ∙ ap (λ g. damage g received) same in
+    record {
+      geometry = same;
+      received = received;
+      received_is = mine;
+      gave_is = t.2 ∙ ap (λ g. picture_octets g received) same;
+      same = λ whole all_are.
+          subst (λ rs. SameOutside s.rows s.width rs (picture (geometry_of s) received) (picture (geometry_of s) whole)) (sym damaged) (sublist_same short s x parts are received whole mine all_are);
+    }

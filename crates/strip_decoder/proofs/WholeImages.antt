@@ -1,0 +1,152 @@
+-- All packets of an image: each of its segments is received.
+use Rattle.std.proofs.Common.{◌≡◌, ◌≤◌, ◌<◌, ◌+◌, ◌-◌, ◌*◌, ◌/◌, ℕ, zero, suc, ℤ, List, [], ◌∷◌, refl, sym, ap, subst, ◌∙◌, arith}
+use Rattle.std.specs.Prelude.{Bool, true, false, cond, not, Option, None, Some, is_some, MatchOption, filter, length}
+use Rattle.std.specs.List.{range_with_len}
+use Rattle.std.proofs.lemmas.Nat.{div_below, le-div}
+use Rattle.std.proofs.Math.Nat.{mul-le-mul_right}
+use Rattle.base_122.specs.Setting.{geometry_of}
+use Rattle.base_122.specs.Sizes.{block_count, total_blocks}
+use Rattle.base_122.specs.declared.geometry.Geometry.{Geometry}
+use Rattle.base_122.specs.declared.setting.Setting.{Setting}
+use Rattle.base_122.proofs.SizeBounds.{total-le-segments, nine-le-total_blocks}
+use Rattle.packet_defs.specs.Packets.{joined, part_size}
+use Rattle.packet_defs.specs.Streams.{whole_packets, left_over, place_after, framing, framing_at}
+use Rattle.packet_defs.proofs.Splits.{joined_splits, splits_left}
+use Rattle.segment_code.specs.Laws.{CodedHolds, TextsAreShort}
+use Rattle.stream_defs.specs.Chosen.{IsChoice, chosen, all_parts}
+use Rattle.stream_defs.specs.Damage.{is_missing, missing_rows}
+use Rattle.stream_defs.specs.Fates.{fresh, kept, geometry_in}
+use Rattle.stream_defs.specs.Output.{head_of, image_blocks, output, segment_of, segment_text, segments_of}
+use Rattle.stream_defs.specs.Places.{parts_of, AreCoded}
+use Rattle.stream_defs.specs.Received.{IsReceived, ReceivedIn}
+use Rattle.stream_defs.proofs.SublistLaws.{received_only, received_each}
+use Rattle.strip_decoder.specs.Runs.{Numbers, holds_after}
+use Rattle.strip_decoder.specs.Containment.{BeginsOne, AreSome, IsImageFor}
+use Rattle.strip_decoder.specs.RoundTrip.{ComesWhole}
+use Rattle.strip_decoder.proofs.RunEnds.{any_miss}
+use Rattle.strip_decoder.proofs.SpelledImages.{head_fits, spells}
+use Rattle.strip_decoder.proofs.SublistPictures.{all_packets, choice_all, coded_for, geometry_there, output_whole, whole_choice}
+
+-- ---- none of a range
+
+filter_miss : (p : ℕ → Bool) (a n : ℕ) → ((i : ℕ) → a ≤ i → i < a + n → p i ≡ false) → filter p (range_with_len a n) ≡ []
+filter_miss p a zero none = refl
+filter_miss p a (suc n) none =
+    ap (λ b. cond b (a ∷ filter p (range_with_len (a + 1) n)) (filter p (range_with_len (a + 1) n))) (none a (omega arith) (omega arith))
+    ∙ filter_miss p (a + 1) n (λ i low high. none i (omega (arith, low)) (omega (arith, high)))
+
+-- where each block is received, no block row is missing
+none_missing : (g : Geometry) (received : Numbers) → ((block : ℕ) → block < block_count g.rows * block_count g.width → is_some (received (block / g.segment)) ≡ true) → missing_rows g received ≡ []
+unfolding missing_rows
+none_missing g received all =
+    let c = block_count g.width in
+    filter_miss (is_missing g received) 0 (block_count g.rows) (λ row low inside.
+    any_miss (λ column. not (is_some (received ((row * c + column) / g.segment)))) 0 c (λ column from within. ap not (all (row * c + column) (before row column (omega (arith, inside)) (omega (arith, within))))))
+  where
+    before : (row column : ℕ) → row < block_count g.rows → column < block_count g.width → row * block_count g.width + column < block_count g.rows * block_count g.width
+    before row column inside within =
+        let c = block_count g.width in
+        let next : (row + 1) * c ≤ block_count g.rows * c = mul-le-mul_right c (omega (arith, inside)) in
+        let more : (row + 1) * c ≡ row * c + c = grind arith in
+        omega (arith, next, more, within)
+
+-- ---- an image's packets
+
+module _ (short : TextsAreShort) (s : Setting) (x : ℕ → ℕ → ℤ) (is : IsImageFor s x) where
+  abbrev all : List (List ℤ)
+  all = image_blocks s x
+
+  coded : AreCoded s all
+  coded = coded_for short s x is
+
+  choice : IsChoice s all (all_parts s all)
+  choice = choice_all short s x is
+
+  abbrev packets : List (List ℕ)
+  packets = chosen s all (all_parts s all) (segments_of s)
+
+  all_are : output s x ≡ joined packets
+  all_are = ap joined (whole_choice s all (segments_of s))
+
+  packets_are : whole_packets (output s x) ≡ packets
+  packets_are = output_whole short s x is
+
+  -- nothing is left over
+  none_left : left_over (output s x) ≡ []
+  none_left = ap left_over all_are ∙ splits_left (joined_splits packets (all_packets s all coded (all_parts s all) choice (segments_of s) (omega arith)))
+
+  pub framed : framing (output s x) ≡ None
+  unfolding framing_at
+  framed = ap (λ left. framing_at (place_after (output s x)) left) none_left
+
+  -- ---- its geometry
+
+  some_segments : 0 < segments_of s
+  some_segments = by (segments_of s) (total-le-segments (total_blocks s.width s.rows) s.segment (omega (arith, is.range.segment.0)))
+    where
+      by : (n : ℕ) → total_blocks s.width s.rows ≤ n * s.segment → 0 < n
+      by zero le = absurd (omega (arith, le, nine-le-total_blocks s.width s.rows is.range.width.0 is.range.rows.0))
+      by (suc n) le = omega arith
+
+  some_parts : 1 ≤ parts_of s all 0
+  some_parts =
+      let size = part_size s.packet in
+      let packet = is.range.packet in
+      let some = coded.some 0 some_segments in
+      le-div 1 (length (segment_text s all 0) + size - 1) size (omega (arith, packet)) (omega (arith, some))
+
+  begins : BeginsOne s (all_parts s all)
+  begins = by (parts_of s all 0) refl some_parts
+    where
+      by : (n : ℕ) → parts_of s all 0 ≡ n → 1 ≤ n → BeginsOne s (all_parts s all)
+      by zero e some = absurd (omega (arith, some))
+      by (suc n) e some = record { index = 0; within = some_segments; more = range_with_len (0 + 1) n; begins = ap (range_with_len 0) e }
+
+  are : AreSome s x (all_parts s all)
+  are = record { image = is; choice = choice }
+
+  pub geometry_told : geometry_in s.apid (output s x) ≡ Some (geometry_of s)
+  geometry_told = ap (geometry_in s.apid) all_are ∙ geometry_there short s x (all_parts s all) are begins
+
+  -- ---- what is received
+
+  module _ (received : Numbers) (received_is : ReceivedIn holds_after s.apid (output s x) received) where
+    -- a segment that is received is the one that its packets carry
+    pub held_by : (index : ℕ) (w : List (List ℤ)) → index < segments_of s → received index ≡ Some w →
+        holds_after (head_of s index (segment_of s all index)) (segment_text s all index) w
+    held_by index w lt e =
+        let here : IsReceived holds_after (kept s.apid fresh (whole_packets (output s x))) index w =
+        subst (λ o. MatchOption o ((v : List (List ℤ)) → IsReceived holds_after (kept s.apid fresh (whole_packets (output s x))) index v → ⊥)
+        (IsReceived holds_after (kept s.apid fresh (whole_packets (output s x))) index)) e (received_is.at index) in
+        (received_only s all coded (all_parts s all) choice holds_after index w lt
+        (subst (λ ps. IsReceived holds_after (kept s.apid fresh ps) index w) packets_are here)).1
+
+    -- and each is received
+    pub each_received : CodedHolds → (index : ℕ) → index < segments_of s → is_some (received index) ≡ true
+    each_received holds index lt = by (received index) refl
+      where
+        by : (o : Option (List (List ℤ))) → received index ≡ o → is_some o ≡ true
+        by (Some w) e = refl
+        by None e =
+            let none : (v : List (List ℤ)) → IsReceived holds_after (kept s.apid fresh (whole_packets (output s x))) index v → ⊥ =
+            subst (λ o. MatchOption o ((v : List (List ℤ)) → IsReceived holds_after (kept s.apid fresh (whole_packets (output s x))) index v → ⊥)
+            (IsReceived holds_after (kept s.apid fresh (whole_packets (output s x))) index)) e (received_is.at index) in
+            let blocks = segment_of s all index in
+            let held = holds (head_of s index blocks) blocks (head_fits s x is.range is.pixels index lt) is.weights (spells s x is.range is.pixels index lt) refl in
+            absurd (none held.0 (subst (λ ps. IsReceived holds_after (kept s.apid fresh ps) index held.0) (sym packets_are)
+            (received_each s all coded (all_parts s all) choice holds_after index held.0 lt refl held.1)))
+
+    -- the segment of a block
+    pub segment_within : (block : ℕ) → block < total_blocks s.width s.rows → block / s.segment < segments_of s
+    segment_within block lt =
+        let some = is.range.segment.0 in
+        div_below block s.segment (segments_of s) (omega (arith, some)) (omega (arith, lt, total-le-segments (total_blocks s.width s.rows) s.segment (omega (arith, some))))
+
+    pub comes_whole : CodedHolds → ComesWhole s x received
+    comes_whole holds = record {
+      geometry = geometry_told;
+      missing = none_missing (geometry_of s) received (λ block lt.
+          let turned : block_count s.rows * block_count s.width ≡ total_blocks s.width s.rows = grind arith in
+          each_received holds (block / s.segment) (segment_within block (omega (arith, lt, turned))));
+      framing_is = framed;
+    }

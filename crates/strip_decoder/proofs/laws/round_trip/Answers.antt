@@ -1,0 +1,15 @@
+use Rattle.strip_decoder.proofs.RoundTrips.{comes_same, decoded_back}
+use Rattle.strip_decoder.proofs.WholeImages.{comes_whole}
+use Rattle.strip_decoder.proofs.laws.round_trip.Goals as goal
+
+pub returns : goal.returns
+returns c =
+    let short = c.texts_are_short.ensures in
+    let holds = c.coded_holds.ensures in
+    let one = c.readings_give_one.ensures in
+    let given = c.items_give_all.ensures in
+    record {
+      whole = λ s x received is received_is. comes_whole short s x is received received_is holds;
+      same = λ s x received is sends received_is. comes_same short holds one given s x is received received_is sends;
+      decoded = λ wish start new took gave every done s x found told apid took_is is. decoded_back short holds one given wish start new took gave every done s x found told apid took_is is;
+    }

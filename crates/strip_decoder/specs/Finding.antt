@@ -1,0 +1,51 @@
+-- How a search for damage ends, by what it took and gave. This project's own.
+use Rattle.std.specs.Prelude.{◌≡◌, ◌⊎◌, ◌<◌, ◌*◌, ℕ, List, [], length, take, false, None, Some, Result, Ok, Err}
+use Rattle.port_122.specs.Outside.{Outside, Since, Rose}
+use Rattle.base_122.specs.declared.wish.DecodeWish.{DecodeWish}
+use Rattle.base_122.specs.declared.geometry.Geometry.{Geometry}
+use Rattle.packet_defs.specs.Streams.{left_over, has_bad_version}
+use Rattle.stream_defs.specs.Fates.{geometry_in}
+use Rattle.strip_decoder.specs.declared.decode.DecodeDone.{DecodeDone}
+use Rattle.strip_decoder.specs.declared.decode.DecodeFault.{DecodeFault}
+use Rattle.strip_decoder.specs.declared.decode.DecodeFault.TheVariants.{ReadFault, WriteFault, NoSegment, TooManyPixels, LongInput, Memory}
+use Rattle.strip_decoder.specs.Runs.{HasFew, IsReadOut}
+use Rattle.strip_decoder.specs.Answers.{PictureBy}
+use Rattle.strip_decoder.specs.Lines.{damage_lines}
+
+-- Of the octets that were taken all is as a decoder answers it, and what is given are the lines of the damage.
+pub record IsDamage (wish : DecodeWish) (start new : Outside) (took gave : List ℕ) (done : DecodeDone) : Type 0 where
+  pub found : PictureBy false wish start new took [] done
+  pub lines : gave ≡ damage_lines done.damage
+
+-- a part of the lines of the damage, for the octets that were taken to their end
+pub record IsPart (wish : DecodeWish) (start new : Outside) (took gave : List ℕ) : Type 0 where
+  pub done : DecodeDone
+  pub found : PictureBy false wish start new took [] done
+  pub some : ℕ
+  pub lines : gave ≡ take some (damage_lines done.damage)
+
+-- nothing, or a part of the lines
+abbrev pub GivesSome : DecodeWish → (start new : Outside) (took gave : List ℕ) → Type 0
+GivesSome wish start new took gave = (gave ≡ []) ⊎ IsPart wish start new took gave
+
+-- Why it was answered so. The answers exclude each other by what was taken, the end and the counts, but for faults of the port.
+abbrev pub FindAnswers : DecodeWish → (old new : Outside) (took gave : List ℕ) → Result DecodeDone DecodeFault → Type 0
+FindAnswers wish old new took gave (Ok done) = IsDamage wish old new took gave done
+FindAnswers wish old new took gave (Err NoSegment) = (geometry_in wish.apid took ≡ None) × IsReadOut wish.octets new took × (gave ≡ [])
+FindAnswers wish old new took gave (Err (TooManyPixels pixels)) =
+    ((g : Geometry) × (geometry_in wish.apid took ≡ Some g) × (pixels ≡ g.width * g.rows)) × (wish.pixels < pixels) × (gave ≡ [])
+FindAnswers wish old new took gave (Err LongInput) = (length took ≡ wish.octets) × (has_bad_version (left_over took) ≡ false) × HasFew wish.pixels wish.apid took × (gave ≡ [])
+FindAnswers wish old new took gave (Err ReadFault) = Rose old.read_faults new.read_faults × (gave ≡ [])
+FindAnswers wish old new took gave (Err WriteFault) = Rose old.write_faults new.write_faults × HasFew wish.pixels wish.apid took × GivesSome wish old new took gave
+FindAnswers wish old new took gave (Err Memory) = gave ≡ []
+
+-- A read call with i octets taken, and none given. Where the octets tell of too many pixels, nothing more is read.
+abbrev pub AsksSilent : DecodeWish → (took : List ℕ) → ℕ → ℕ → Type 0
+AsksSilent wish took i j = (j ≡ 0) × HasFew wish.pixels wish.apid (take i took)
+
+-- One run over a port: what it took and gave, when, and why it ended so. At each read call nothing is given.
+pub record Finds (wish : DecodeWish) (old new : Outside) (result : Result DecodeDone DecodeFault) : Type 0 where
+  pub took : List ℕ
+  pub gave : List ℕ
+  pub since : Since old new took gave [] (AsksSilent wish took)
+  pub answer : FindAnswers wish old new took gave result

@@ -1,0 +1,69 @@
+// The rows that losses damage, without the picture.
+ghost use Rattle.std.specs.Prelude.{◌≡◌, ◌≤◌};
+ghost use Rattle.port_122.specs.Outside.{WritesAll};
+ghost use Rattle.strip_decoder.specs.Lines.{range_line, damage_lines};
+ghost use Rattle.strip_decoder.specs.Finding.{Finds};
+
+use crate::decode::{DecodeDone, DecodeFault};
+use crate::engine::decode;
+use arrayvec::ArrayString;
+use base_122::DecodeWish;
+use damage_rows::Damage;
+use itoa::Buffer;
+use port_122::{Failed, Port, write_all};
+use std::alloc::Global;
+use stream_defs::RowRange;
+
+/// Takes the packets of an APID as `decode_packets` does, and answers as it does, but gives no row: after all is read it gives a line
+/// `first-last` for each range of damaged rows (docs/formats.md, "Picture and damage"). A front of the lines is given after
+/// `WriteFault`, and nothing after the other faults.
+pub fn find_damage<X: Port>(
+    alloc: Global,
+    port: &mut X,
+    wish: &DecodeWish,
+) -> Result<DecodeDone, DecodeFault>
+    ensures { Finds wish.now (X.outside port.old) (X.outside port.new) result }
+{
+    let done = match decode(alloc, port, wish, false) {
+        Ok(done) => done,
+        Err(fault) => return Err(fault),
+    };
+    match give_lines(port, &done.damage) {
+        Ok(()) => Ok(done),
+        Err(_) => Err(DecodeFault::WriteFault),
+    }
+}
+
+// Gives the line of each range.
+fn give_lines<X: Port>(port: &mut X, damage: &Damage) -> Result<(), Failed>
+    requires { damage.now.rows ≤ 262144 }
+    ensures { WritesAll result (X.outside port.old) (X.outside port.new) (damage_lines damage.now) }
+{
+    let mut from = 0;
+    while let Some(range) = damage.next_range(from) {
+        give_line(port, range)?;
+        from = range.last + 1;
+    }
+    Ok(())
+}
+
+// Gives the line of a range.
+fn give_line<X: Port>(port: &mut X, range: RowRange) -> Result<(), Failed>
+    ensures { WritesAll result (X.outside port.old) (X.outside port.new) (range_line range) }
+{
+    write_all(port, line_of(range).as_bytes())
+}
+
+// A range and the end of its line.
+type Line = ArrayString<32>;
+
+fn line_of(range: RowRange) -> Line
+    ensures { result.bytes ≡ range_line range }
+{
+    let mut line = ArrayString::new();
+    line.push_str(Buffer::new().format(range.first));
+    line.push_str("-");
+    line.push_str(Buffer::new().format(range.last));
+    line.push_str("\n");
+    line
+}
