@@ -1,0 +1,94 @@
+-- The lines of packets, and one packet more.
+use Rattle.std.proofs.Common.{◌≡◌, ◌<◌, ◌+◌, ℕ, zero, suc, List, [], ◌∷◌, ◌++◌, length, refl, sym, ap, ◌∙◌, arith, append_assoc, length-append}
+use Rattle.std.specs.Prelude.{slice_index_or}
+use Rattle.std.specs.List.{range_with_len, flat_map}
+use Rattle.std.proofs.lemmas.Grind.{flat_map-append}
+use Rattle.std.proofs.lemmas.List.{append-nil}
+use Rattle.stream_defs.specs.declared.fate.Fate.TheVariants.{Kept}
+use Rattle.stream_defs.specs.declared.fate.FateState.{FateState}
+use Rattle.stream_defs.specs.Fates.{fresh, fate, fates, after, after_all}
+use Rattle.stream_defs.proofs.Outputs.{range_with_len-more}
+use Rattle.packet_assembly.specs.Notes.{note_of}
+use Rattle.packet_list.specs.Lines.{line_of, note_at, lines_of}
+
+-- ---- lists by place
+
+before_last : {A : Type 0} (xs : List A) (y d : A) (i : ℕ) → i < length xs → slice_index_or (xs ++ y ∷ []) i d ≡ slice_index_or xs i d
+before_last [] y d i lt = absurd (omega (arith, lt))
+before_last (x ∷ xs) y d zero lt = refl
+before_last (x ∷ xs) y d (suc i) lt = before_last xs y d i (omega (arith, lt))
+
+at_last : {A : Type 0} (xs : List A) (y d : A) → slice_index_or (xs ++ y ∷ []) (length xs) d ≡ y
+at_last [] y d = refl
+at_last (x ∷ xs) y d = at_last xs y d
+
+same_parts : (f g : ℕ → List ℕ) (a n : ℕ) → ((i : ℕ) → i < a + n → f i ≡ g i) → flat_map f (range_with_len a n) ≡ flat_map g (range_with_len a n)
+same_parts f g a zero same = refl
+same_parts f g a (suc n) same =
+    ap (λ xs. xs ++ flat_map f (range_with_len (a + 1) n)) (same a (omega arith))
+    ∙ ap (λ xs. g a ++ xs) (same_parts f g (a + 1) n (λ i lt. same i (omega (arith, lt))))
+
+-- ---- fates
+
+fates-more : (apid : ℕ) (s : FateState) (packets : List (List ℕ)) (packet : List ℕ) →
+    fates apid s (packets ++ packet ∷ []) ≡ fates apid s packets ++ fate apid (after_all apid s packets) packet ∷ []
+unfolding fates
+fates-more apid s [] packet = refl
+fates-more apid s (x ∷ packets) packet = ap (λ zs. fate apid s x ∷ zs) (fates-more apid (after apid s x) packets packet)
+
+length-fates : (apid : ℕ) (s : FateState) (packets : List (List ℕ)) → length (fates apid s packets) ≡ length packets
+unfolding fates
+length-fates apid s [] = refl
+length-fates apid s (x ∷ packets) = ap suc (length-fates apid (after apid s x) packets)
+
+-- ---- lines
+
+-- no packet has no line
+pub lines-none : (apid : ℕ) → lines_of apid [] ≡ []
+unfolding lines_of
+lines-none apid = refl
+
+module _ (apid : ℕ) (packets : List (List ℕ)) (packet : List ℕ) where
+  -- earlier packets are told of as before
+  note_before : (i : ℕ) → i < length packets → note_at apid (packets ++ packet ∷ []) i ≡ note_at apid packets i
+  note_before i lt =
+      let last = fate apid (after_all apid fresh packets) packet in
+      let long : i < length (fates apid fresh packets) = omega (arith, lt, length-fates apid fresh packets) in
+      ap (λ fs. note_of i (slice_index_or fs i Kept) (slice_index_or (packets ++ packet ∷ []) i [])) (fates-more apid fresh packets packet)
+      ∙ ap (λ f. note_of i f (slice_index_or (packets ++ packet ∷ []) i [])) (before_last (fates apid fresh packets) last Kept i long)
+      ∙ ap (note_of i (slice_index_or (fates apid fresh packets) i Kept)) (before_last packets packet [] i lt)
+
+  -- and the last one by its fate after them
+  note_last : note_at apid (packets ++ packet ∷ []) (length packets) ≡ note_of (length packets) (fate apid (after_all apid fresh packets) packet) packet
+  note_last =
+      let n = length packets in
+      let last = fate apid (after_all apid fresh packets) packet in
+      ap (λ fs. note_of n (slice_index_or fs n Kept) (slice_index_or (packets ++ packet ∷ []) n [])) (fates-more apid fresh packets packet)
+      ∙ ap (λ k. note_of n (slice_index_or (fates apid fresh packets ++ last ∷ []) k Kept) (slice_index_or (packets ++ packet ∷ []) n [])) (sym (length-fates apid fresh packets))
+      ∙ ap (λ f. note_of n f (slice_index_or (packets ++ packet ∷ []) n [])) (at_last (fates apid fresh packets) last Kept)
+      ∙ ap (note_of n last) (at_last packets packet [])
+
+  -- so its line comes after theirs
+  pub lines-more : lines_of apid (packets ++ packet ∷ []) ≡ lines_of apid packets ++ line_of (note_of (length packets) (fate apid (after_all apid fresh packets) packet) packet)
+  unfolding lines_of
+  lines-more =
+      let n = length packets in
+      let here : 0 + n ≡ n = omega arith in
+      let f : ℕ → List ℕ = λ number. line_of (note_at apid (packets ++ packet ∷ []) number) in
+      let g : ℕ → List ℕ = λ number. line_of (note_at apid packets number) in
+      ap (λ k. flat_map f (range_with_len 0 k)) (length-append packets (packet ∷ []))
+      ∙ ap (flat_map f) (range_with_len-more 0 n)
+      ∙ flat_map-append f (range_with_len 0 n) ((0 + n) ∷ [])
+      ∙ ap (λ zs. zs ++ flat_map f ((0 + n) ∷ [])) (same_parts f g 0 n (λ i lt. ap line_of (note_before i (omega (arith, lt)))))
+      ∙ ap (λ k. flat_map g (range_with_len 0 n) ++ flat_map f (k ∷ [])) here
+      ∙ ap (λ zs. flat_map g (range_with_len 0 n) ++ zs) (append-nil (f n) ∙ ap line_of note_last)
+
+-- the lines of packets stand before those of later ones
+pub lines-front : (apid : ℕ) (packets later : List (List ℕ)) → (rest : List ℕ) × (lines_of apid (packets ++ later) ≡ lines_of apid packets ++ rest)
+lines-front apid packets [] = ([], ap (lines_of apid) (append-nil packets) ∙ sym (append-nil (lines_of apid packets)))
+lines-front apid packets (x ∷ later) =
+    let line = line_of (note_of (length packets) (fate apid (after_all apid fresh packets) x) x) in
+    let next = lines-front apid (packets ++ x ∷ []) later in (
+      line ++ next.0,
+      ap (lines_of apid) (sym (append_assoc packets (x ∷ []) later)) ∙ next.1 ∙ ap (λ zs. zs ++ next.0) (lines-more apid packets x) ∙ append_assoc (lines_of apid packets) line next.0,
+    )

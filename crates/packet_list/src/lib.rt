@@ -1,0 +1,11 @@
+//! The list of packets: one line for each packet of a stream, with its fate.
+#![tactic(auto)]
+
+mod engine;
+mod lines;
+mod list;
+#[cfg(test)]
+mod tests;
+
+pub use engine::list_packets;
+pub use list::{ListDone, ListFault};

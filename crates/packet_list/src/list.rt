@@ -1,0 +1,27 @@
+// How a list of packets ends.
+use packet_defs::Framing;
+use thiserror::Error;
+
+/// What was listed: how many packets, and why the stream can't be read on, where that was found.
+#[derive(Clone, Copy, Debug, PartialEq, Eq)]
+pub struct ListDone {
+    pub packets: u64,
+    pub framing: Option<Framing>,
+}
+
+/// Why not all packets were listed.
+#[derive(Clone, Copy, Debug, PartialEq, Eq, Error)]
+pub enum ListFault {
+    /// A read failed.
+    #[error("read fault")]
+    ReadFault,
+    /// A write failed.
+    #[error("write fault")]
+    WriteFault,
+    /// The input has more octets than are read.
+    #[error("input too long")]
+    LongInput,
+    /// There is no memory for a packet.
+    #[error("out of memory")]
+    Memory,
+}
