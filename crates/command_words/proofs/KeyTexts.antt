@@ -9,7 +9,7 @@ use Rattle.std.proofs.lemmas.Slice.Eq.{bytes_eq-Decides}
 use Rattle.std.proofs.lemmas.Str.Pattern.{split_after, IsSplitOnceResult}
 use Rattle.command_words.proofs.Separators.{split_one}
 use Rattle.command_words.specs.declared.keys.Key.{Key}
-use Rattle.command_words.specs.declared.keys.Key.TheVariants.{Width, Rows, Depth, Signed, Segment, Limit, Fill, Word, Stop, Weights, Select, Apid, Image, Packet, Seed}
+use Rattle.command_words.specs.declared.keys.Key.TheVariants.{Width, Rows, Depth, Signed, Segment, Limit, Fill, Word, Stop, Weights, Select, Apid, Image, Packet, Pixels, Octets, Seed}
 use Rattle.command_words.specs.Keys.{key_text, key_named, all_keys}
 use Rattle.command_words.specs.Entries.{IsKeyed}
 
@@ -39,6 +39,8 @@ plain_key Select = refl
 plain_key Apid = refl
 plain_key Image = refl
 plain_key Packet = refl
+plain_key Pixels = refl
+plain_key Octets = refl
 plain_key Seed = refl
 
 -- each key has the name by which it is found
@@ -57,6 +59,8 @@ named_text Select = refl
 named_text Apid = refl
 named_text Image = refl
 named_text Packet = refl
+named_text Pixels = refl
+named_text Octets = refl
 named_text Seed = refl
 
 passes_here : (p : Key → Bool) (key other : Key) (rest : Option Key) (b : Bool) → p other ≡ b → cond b (Some other) rest ≡ Some key →

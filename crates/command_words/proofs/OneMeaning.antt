@@ -1,5 +1,5 @@
 -- Words say one thing at most.
-use Rattle.std.proofs.Common.{◌≡◌, ◌<◌, ◌+◌, ◌^◌, ℕ, List, [], ◌∷◌, ◌++◌, map, decimal, get_or, refl, sym, ◌∙◌, ap, subst, inl, inr, arith, append_assoc, true, false}
+use Rattle.std.proofs.Common.{◌≡◌, ◌<◌, ◌≤◌, ◌+◌, ◌^◌, ℕ, List, [], ◌∷◌, ◌++◌, map, decimal, get_or, refl, sym, ◌∙◌, ap, subst, inl, inr, arith, append_assoc, true, false}
 use Rattle.std.specs.Prelude.{codes, Result, Ok, Err}
 use Rattle.std.proofs.lemmas.Fmt.{decimal_injective, decimal_nonempty}
 use Rattle.std.proofs.lemmas.List.{get_or_append_left}
@@ -8,13 +8,13 @@ use Rattle.base_122.specs.declared.setting.Select.TheVariants.{Heuristic, Optima
 use Rattle.command_words.specs.declared.keys.CommandName.{CommandName}
 use Rattle.command_words.specs.declared.keys.Key.{Key}
 use Rattle.command_words.specs.declared.keys.Form.{Form}
-use Rattle.command_words.specs.declared.keys.Form.TheVariants.{Number, Flag, Stop, Weights, Select}
+use Rattle.command_words.specs.declared.keys.Form.TheVariants.{Number, Cap, Flag, Stop, Weights, Select}
 use Rattle.command_words.specs.declared.values.Value.{Value}
-use Rattle.command_words.specs.declared.values.Value.TheVariants.{Number as NumberValue, Flag as FlagValue, StopDc, StopAt, Weights as WeightsValue, Select as SelectValue}
+use Rattle.command_words.specs.declared.values.Value.TheVariants.{Number as NumberValue, Cap as CapValue, Flag as FlagValue, StopDc, StopAt, Weights as WeightsValue, Select as SelectValue}
 use Rattle.command_words.specs.declared.entries.Entry.{Entry}
 use Rattle.command_words.specs.declared.command.Command.{Command}
 use Rattle.command_words.specs.declared.command.WordFault.{WordFault}
-use Rattle.command_words.specs.declared.command.WordFault.TheVariants.{MissingCommand, UnbuiltCommand, BadWord, MissingKey, OutOfRange}
+use Rattle.command_words.specs.declared.command.WordFault.TheVariants.{MissingCommand, BadWord, MissingKey, OutOfRange}
 use Rattle.command_words.specs.Keys.{form_of}
 use Rattle.command_words.specs.Values.{value_text, HasForm}
 use Rattle.command_words.specs.Entries.{Finds, nothing, with_entry, IsKeyed, IsEntry, WordSays, EntriesSay}
@@ -34,6 +34,9 @@ not_dc plane stage small e =
 
 one_number : (m n : ℕ) → m < 2 ^ 32 → n < 2 ^ 32 → decimal m ≡ decimal n → m ≡ n
 one_number m n p q e = decimal_injective m n (omega arith) (omega arith) e
+
+one_cap : (m n : ℕ) → m ≤ 2 ^ 40 → n ≤ 2 ^ 40 → decimal m ≡ decimal n → m ≡ n
+one_cap m n p q e = decimal_injective m n (omega arith) (omega arith) e
 
 one_stop : (p s q t : ℕ) → p < 2 ^ 32 → s < 2 ^ 32 → q < 2 ^ 32 → t < 2 ^ 32 →
     decimal p ++ codes "." ++ decimal s ≡ decimal q ++ codes "." ++ decimal t → StopAt p s ≡ StopAt q t
@@ -57,6 +60,7 @@ one_shifts (x ∷ xs) (y ∷ ys) e =
 
 value_one : (form : Form) (v w : Value) → HasForm form v → HasForm form w → value_text v ≡ value_text w → v ≡ w
 value_one Number (NumberValue m) (NumberValue n) p q e = ap NumberValue (one_number m n p q e)
+value_one Cap (CapValue m) (CapValue n) p q e = ap CapValue (one_cap m n p q e)
 value_one Flag (FlagValue true) (FlagValue true) p q e = refl
 value_one Flag (FlagValue true) (FlagValue false) p q e = absurd (omega (arith, ap (λ xs. get_or xs 0 0) e))
 value_one Flag (FlagValue false) (FlagValue true) p q e = absurd (omega (arith, ap (λ xs. get_or xs 0 0) e))
@@ -90,7 +94,6 @@ entry_one name finds word a b p q =
 fault_not_entry : (name : CommandName) (finds : Finds) (place : ℕ) (word : List ℕ) (fault : WordFault) (a : Entry) →
     WordSays name finds place word (Err fault) → IsEntry name finds word a → ⊥
 fault_not_entry name finds place word (BadWord m) a p q = p.1 a q
-fault_not_entry name finds place word UnbuiltCommand a p q = p
 fault_not_entry name finds place word MissingCommand a p q = p
 fault_not_entry name finds place word (MissingKey f) a p q = p
 fault_not_entry name finds place word (OutOfRange f) a p q = p
@@ -98,11 +101,9 @@ fault_not_entry name finds place word (OutOfRange f) a p q = p
 fault_one : (name : CommandName) (finds : Finds) (place : ℕ) (word : List ℕ) (f g : WordFault) →
     WordSays name finds place word (Err f) → WordSays name finds place word (Err g) → f ≡ g
 fault_one name finds place word (BadWord m) (BadWord n) p q = ap BadWord (p.0 ∙ sym q.0)
-fault_one name finds place word (BadWord m) UnbuiltCommand p q = absurd q
 fault_one name finds place word (BadWord m) MissingCommand p q = absurd q
 fault_one name finds place word (BadWord m) (MissingKey g) p q = absurd q
 fault_one name finds place word (BadWord m) (OutOfRange g) p q = absurd q
-fault_one name finds place word UnbuiltCommand g p q = absurd p
 fault_one name finds place word MissingCommand g p q = absurd p
 fault_one name finds place word (MissingKey f) g p q = absurd p
 fault_one name finds place word (OutOfRange f) g p q = absurd p

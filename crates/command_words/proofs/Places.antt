@@ -6,18 +6,18 @@ use Rattle.std.specs.Option.{option_or}
 use Rattle.std.proofs.lemmas.List.{length-map}
 use Rattle.base_122.specs.declared.field.Field.{Field}
 use Rattle.command_words.specs.declared.keys.CommandName.{CommandName}
+use Rattle.command_words.specs.declared.keys.CommandName.TheVariants.{Encode, Decode, Damage, List as ListName, Make, Trial}
 use Rattle.command_words.specs.declared.command.Command.{Command}
 use Rattle.command_words.specs.declared.command.WordFault.{WordFault}
-use Rattle.command_words.specs.declared.command.WordFault.TheVariants.{MissingCommand, UnbuiltCommand, BadWord, MissingKey, OutOfRange}
+use Rattle.command_words.specs.declared.command.WordFault.TheVariants.{MissingCommand, BadWord, MissingKey, OutOfRange}
 use Rattle.command_words.specs.Keys.{command_named}
 use Rattle.command_words.specs.Entries.{Finds, nothing, with_entry, WordSays, EntriesSay}
-use Rattle.command_words.specs.Commands.{setting_of, command_of, after, out_of_range, missing_key, first_refused, made}
-use Rattle.command_words.specs.Words.{texts, is_later, name_or_fault, name_said, made_of, RestSays, Says, IsPlaced}
+use Rattle.command_words.specs.Commands.{command_of, after, out_of_range, missing_key, first_refused, made}
+use Rattle.command_words.specs.Words.{texts, name_or_fault, name_said, made_of, RestSays, Says, IsPlaced}
 
 word_placed : (name : CommandName) (finds : Finds) (place count : ℕ) (word : List ℕ) (fault : WordFault) → place < count →
     WordSays name finds place word (Err fault) → IsPlaced count fault
 word_placed name finds place count word (BadWord m) here says = omega (arith, says.0)
-word_placed name finds place count word UnbuiltCommand here says = absurd says
 word_placed name finds place count word MissingCommand here says = tt
 word_placed name finds place count word (MissingKey f) here says = tt
 word_placed name finds place count word (OutOfRange f) here says = tt
@@ -49,30 +49,35 @@ unfolding TestPlaced
 picked_placed count true fault placed = tt
 picked_placed count false fault placed = placed
 
+nothing_placed : (count : ℕ) → TestPlaced count None
+unfolding TestPlaced
+nothing_placed count = tt
+
 range_placed : (count : ℕ) (first : Option Field) → TestPlaced count (out_of_range first)
 unfolding TestPlaced
 range_placed count None = tt
 range_placed count (Some field) = tt
 
+missing_placed : (name : CommandName) (finds : Finds) (count : ℕ) → TestPlaced count (missing_key name finds)
+missing_placed Encode finds count = either_placed count _ _ (picked_placed count _ _ tt) (picked_placed count _ _ tt)
+missing_placed Decode finds count = nothing_placed count
+missing_placed Damage finds count = nothing_placed count
+missing_placed ListName finds count = nothing_placed count
+missing_placed Trial finds count = either_placed count _ _ (picked_placed count _ _ tt) (picked_placed count _ _ tt)
+missing_placed Make finds count = either_placed count _ _ (picked_placed count _ _ tt) (picked_placed count _ _ tt)
+
 made_placed : (name : CommandName) (finds : Finds) (count : ℕ) → IfErr (made name finds) (IsPlaced count)
 made_placed name finds count =
-    after_placed count (missing_key finds) _ (either_placed count _ _ (picked_placed count _ _ tt) (picked_placed count _ _ tt))
-    (after_placed count (out_of_range (first_refused name (setting_of finds))) (Ok (command_of name finds)) (range_placed count (first_refused name (setting_of finds))) tt)
+    after_placed count (missing_key name finds) _ (missing_placed name finds count)
+    (after_placed count (out_of_range (first_refused name finds)) (Ok (command_of name finds)) (range_placed count (first_refused name finds)) tt)
 
 made_of_placed : (name : CommandName) (count : ℕ) (said : Result Finds WordFault) → IfErr said (IsPlaced count) → IfErr (made_of name said) (IsPlaced count)
 made_of_placed name count (Ok finds) placed = made_placed name finds count
 made_of_placed name count (Err fault) placed = placed
 
-abbrev not_a_name : Bool → Result CommandName WordFault
-not_a_name later = if later then Err UnbuiltCommand else Err (BadWord 0)
-
-name_picked : (count : ℕ) (later : Bool) → 0 < count → IfErr (not_a_name later) (IsPlaced count)
-name_picked count true some = some
-name_picked count false some = some
-
-name_placed : (count : ℕ) (named : Option CommandName) (word : List ℕ) → 0 < count → IfErr (name_or_fault named word) (IsPlaced count)
-name_placed count (Some name) word some = tt
-name_placed count None word some = name_picked count (is_later word) some
+name_placed : (count : ℕ) (named : Option CommandName) → 0 < count → IfErr (name_or_fault named) (IsPlaced count)
+name_placed count (Some name) some = tt
+name_placed count None some = some
 
 rest_placed : (named : Result CommandName WordFault) (rest : List (List ℕ)) (result : Result Command WordFault) → IfErr named (IsPlaced (length rest + 1)) →
     RestSays named rest result → IfErr result (IsPlaced (length rest + 1))
@@ -86,7 +91,7 @@ says_placed [] result says = subst (λ r. IfErr r (IsPlaced 0)) (sym says) tt
 says_placed (first ∷ rest) result says =
     let more : length rest + 1 ≡ length (first ∷ rest) = omega arith in
     subst (λ count. IfErr result (IsPlaced count)) more
-    (rest_placed (name_said first) rest result (name_placed (length rest + 1) (command_named first) first (omega arith)) says)
+    (rest_placed (name_said first) rest result (name_placed (length rest + 1) (command_named first) (omega arith)) says)
 
 pub words_placed : (words : List (String Global)) (result : Result Command WordFault) → Says (texts words) result → IfErr result (IsPlaced (length words))
 words_placed words result says = subst (λ count. IfErr result (IsPlaced count)) (length-map words string_bytes) (says_placed (texts words) result says)

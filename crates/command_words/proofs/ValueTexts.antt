@@ -8,7 +8,7 @@ use Rattle.std.proofs.lemmas.List.Elements.{All-map, All-weaker, All-get_or, All
 use Rattle.base_122.specs.Weights.{IsShift}
 use Rattle.command_words.specs.declared.keys.Form.TheVariants.{Stop, Weights}
 use Rattle.command_words.specs.declared.values.Value.{Value}
-use Rattle.command_words.specs.declared.values.Value.TheVariants.{Number as NumberValue, Flag as FlagValue, StopDc, StopAt, Weights as WeightsValue, Select as SelectValue}
+use Rattle.command_words.specs.declared.values.Value.TheVariants.{Number as NumberValue, Cap as CapValue, Flag as FlagValue, StopDc, StopAt, Weights as WeightsValue, Select as SelectValue}
 use Rattle.command_words.specs.Values.{IsWeightDigit, IsValueText}
 
 -- each octet of a number's text is a digit
@@ -37,6 +37,7 @@ pub not_stop : (text : List ℕ) → text ≢ codes "dc" → ((p s : ℕ) → p 
 not_stop text dc dot StopDc is = dc is.1
 not_stop text dc dot (StopAt p s) is = dot p s is.0.0 is.0.1 (is.1 ∙ append_assoc (decimal p) (codes ".") (decimal s))
 not_stop text dc dot (NumberValue n) is = is.0
+not_stop text dc dot (CapValue n) is = is.0
 not_stop text dc dot (FlagValue b) is = is.0
 not_stop text dc dot (WeightsValue w) is = is.0
 not_stop text dc dot (SelectValue s) is = is.0
@@ -45,6 +46,7 @@ not_stop text dc dot (SelectValue s) is = is.0
 pub length-weights : (text : List ℕ) (value : Value) → IsValueText Weights text value → length text ≡ 10
 length-weights text (WeightsValue w) is = ap length is.1 ∙ length-map w.shifts (λ shift. 48 + shift) ∙ is.0.0
 length-weights text (NumberValue n) is = absurd is.0
+length-weights text (CapValue n) is = absurd is.0
 length-weights text (FlagValue b) is = absurd is.0
 length-weights text StopDc is = absurd is.0
 length-weights text (StopAt p s) is = absurd is.0
@@ -57,6 +59,7 @@ pub All-weights : (text : List ℕ) (value : Value) → IsValueText Weights text
 All-weights text (WeightsValue w) is =
     subst (All IsWeightDigit) (sym is.1) (All-map IsWeightDigit (λ shift. 48 + shift) w.shifts (All-weaker IsShift (λ shift. IsWeightDigit (48 + shift)) digit_of_shift w.shifts is.0.1))
 All-weights text (NumberValue n) is = absurd is.0
+All-weights text (CapValue n) is = absurd is.0
 All-weights text (FlagValue b) is = absurd is.0
 All-weights text StopDc is = absurd is.0
 All-weights text (StopAt p s) is = absurd is.0

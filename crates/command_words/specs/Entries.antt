@@ -5,7 +5,7 @@ use Rattle.command_words.specs.declared.keys.Key.{Key}
 use Rattle.command_words.specs.declared.values.Value.{Value}
 use Rattle.command_words.specs.declared.entries.Entry.{Entry}
 use Rattle.command_words.specs.declared.command.WordFault.{WordFault}
-use Rattle.command_words.specs.declared.command.WordFault.TheVariants.{MissingCommand, UnbuiltCommand, BadWord, MissingKey, OutOfRange}
+use Rattle.command_words.specs.declared.command.WordFault.TheVariants.{MissingCommand, BadWord, MissingKey, OutOfRange}
 use Rattle.command_words.specs.Keys.{key_text, key_place, keys_of, form_of, contains_key}
 use Rattle.command_words.specs.Values.{value_text, HasForm}
 
@@ -37,7 +37,6 @@ abbrev pub WordSays : CommandName → Finds → ℕ → List ℕ → Result Entr
 WordSays name finds place word (Ok entry) = IsEntry name finds word entry
 WordSays name finds place word (Err (BadWord faulty)) = (faulty ≡ place) × ((entry : Entry) → IsEntry name finds word entry → ⊥)
 WordSays name finds place word (Err MissingCommand) = ⊥
-WordSays name finds place word (Err UnbuiltCommand) = ⊥
 WordSays name finds place word (Err (MissingKey field)) = ⊥
 WordSays name finds place word (Err (OutOfRange field)) = ⊥
 

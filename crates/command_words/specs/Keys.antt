@@ -3,19 +3,23 @@ use Rattle.std.specs.Prelude.{ℕ, ◌==◌, Bool, List, [], ◌∷◌, codes, f
 use Rattle.std.specs.List.{list_any}
 use Rattle.std.specs.Str.{bytes_eq}
 use Rattle.command_words.specs.declared.keys.CommandName.{CommandName}
-use Rattle.command_words.specs.declared.keys.CommandName.TheVariants.{Encode, Make}
+use Rattle.command_words.specs.declared.keys.CommandName.TheVariants.{Encode, Decode, Damage, List as ListName, Make, Trial}
 use Rattle.command_words.specs.declared.keys.Key.{Key}
-use Rattle.command_words.specs.declared.keys.Key.TheVariants.{Width, Rows, Depth, Signed, Segment, Limit, Fill, Word, Stop, Weights, Select, Apid, Image, Packet, Seed}
+use Rattle.command_words.specs.declared.keys.Key.TheVariants.{Width, Rows, Depth, Signed, Segment, Limit, Fill, Word, Stop, Weights, Select, Apid, Image, Packet, Pixels, Octets, Seed}
 use Rattle.command_words.specs.declared.keys.Form.{Form}
-use Rattle.command_words.specs.declared.keys.Form.TheVariants.{Number, Flag, Stop as StopForm, Weights as WeightsForm, Select as SelectForm}
+use Rattle.command_words.specs.declared.keys.Form.TheVariants.{Number, Cap, Flag, Stop as StopForm, Weights as WeightsForm, Select as SelectForm}
 
 -- a command's word
 abbrev pub command_text : CommandName → List ℕ
 command_text Encode = codes "encode"
+command_text Decode = codes "decode"
+command_text Damage = codes "damage"
+command_text ListName = codes "list"
 command_text Make = codes "make"
+command_text Trial = codes "trial"
 
 abbrev pub all_commands : List CommandName
-all_commands = Encode ∷ Make ∷ []
+all_commands = Encode ∷ Decode ∷ Damage ∷ ListName ∷ Make ∷ Trial ∷ []
 
 -- the command with this word
 abbrev pub command_named : List ℕ → Option CommandName
@@ -37,6 +41,8 @@ key_text Select = codes "select"
 key_text Apid = codes "apid"
 key_text Image = codes "image"
 key_text Packet = codes "packet"
+key_text Pixels = codes "pixels"
+key_text Octets = codes "octets"
 key_text Seed = codes "seed"
 
 -- its place among all keys
@@ -55,10 +61,12 @@ key_place Select = 10
 key_place Apid = 11
 key_place Image = 12
 key_place Packet = 13
-key_place Seed = 14
+key_place Pixels = 14
+key_place Octets = 15
+key_place Seed = 16
 
 abbrev pub all_keys : List Key
-all_keys = Width ∷ Rows ∷ Depth ∷ Signed ∷ Segment ∷ Limit ∷ Fill ∷ Word ∷ Stop ∷ Weights ∷ Select ∷ Apid ∷ Image ∷ Packet ∷ Seed ∷ []
+all_keys = Width ∷ Rows ∷ Depth ∷ Signed ∷ Segment ∷ Limit ∷ Fill ∷ Word ∷ Stop ∷ Weights ∷ Select ∷ Apid ∷ Image ∷ Packet ∷ Pixels ∷ Octets ∷ Seed ∷ []
 
 -- the key with this name
 abbrev pub key_named : List ℕ → Option Key
@@ -71,7 +79,11 @@ contains_key keys key = list_any (λ own. key_place own == key_place key) keys
 -- the keys that a command has
 abbrev pub keys_of : CommandName → List Key
 keys_of Encode = Width ∷ Rows ∷ Depth ∷ Signed ∷ Segment ∷ Limit ∷ Fill ∷ Word ∷ Stop ∷ Weights ∷ Select ∷ Apid ∷ Image ∷ Packet ∷ []
+keys_of Decode = Apid ∷ Pixels ∷ Octets ∷ []
+keys_of Damage = Apid ∷ Pixels ∷ Octets ∷ []
+keys_of ListName = Apid ∷ Octets ∷ []
 keys_of Make = Width ∷ Rows ∷ Depth ∷ Signed ∷ Seed ∷ []
+keys_of Trial = Width ∷ Rows ∷ Depth ∷ Signed ∷ Segment ∷ Limit ∷ Fill ∷ Word ∷ Stop ∷ Weights ∷ Select ∷ Apid ∷ Image ∷ Packet ∷ Seed ∷ []
 
 -- how a key's value is written
 abbrev pub form_of : Key → Form
@@ -89,4 +101,6 @@ form_of Select = SelectForm
 form_of Apid = Number
 form_of Image = Number
 form_of Packet = Number
+form_of Pixels = Cap
+form_of Octets = Cap
 form_of Seed = Number

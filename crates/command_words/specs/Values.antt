@@ -3,13 +3,14 @@ use Rattle.std.specs.Prelude.{◌≡◌, ◌<◌, ◌≤◌, ◌+◌, ◌^◌, �
 use Rattle.base_122.specs.Weights.{IsShift}
 use Rattle.base_122.specs.declared.setting.Select.TheVariants.{Heuristic, Optimal}
 use Rattle.command_words.specs.declared.keys.Form.{Form}
-use Rattle.command_words.specs.declared.keys.Form.TheVariants.{Number, Flag, Stop, Weights, Select}
+use Rattle.command_words.specs.declared.keys.Form.TheVariants.{Number, Cap, Flag, Stop, Weights, Select}
 use Rattle.command_words.specs.declared.values.Value.{Value}
-use Rattle.command_words.specs.declared.values.Value.TheVariants.{Number as NumberValue, Flag as FlagValue, StopDc, StopAt, Weights as WeightsValue, Select as SelectValue}
+use Rattle.command_words.specs.declared.values.Value.TheVariants.{Number as NumberValue, Cap as CapValue, Flag as FlagValue, StopDc, StopAt, Weights as WeightsValue, Select as SelectValue}
 
 -- a value as it is written
 abbrev pub value_text : Value → List ℕ
 value_text (NumberValue n) = decimal n
+value_text (CapValue n) = decimal n
 value_text (FlagValue false) = codes "0"
 value_text (FlagValue true) = codes "1"
 value_text StopDc = codes "dc"
@@ -25,6 +26,7 @@ IsWeightDigit c = (48 ≤ c) × (c ≤ 51)
 -- a value of this form
 abbrev pub HasForm : Form → Value → Type 0
 HasForm Number (NumberValue n) = n < 2 ^ 32
+HasForm Cap (CapValue n) = n ≤ 2 ^ 40
 HasForm Flag (FlagValue b) = Unit {0}
 HasForm Stop StopDc = Unit {0}
 HasForm Stop (StopAt plane stage) = (plane < 2 ^ 32) × (stage < 2 ^ 32)

@@ -6,7 +6,7 @@ use Rattle.std.specs.declared.alloc.Global.{Global}
 use Rattle.command_words.specs.declared.keys.CommandName.{CommandName}
 use Rattle.command_words.specs.declared.command.Command.{Command}
 use Rattle.command_words.specs.declared.command.WordFault.{WordFault}
-use Rattle.command_words.specs.declared.command.WordFault.TheVariants.{MissingCommand, UnbuiltCommand, BadWord, MissingKey, OutOfRange}
+use Rattle.command_words.specs.declared.command.WordFault.TheVariants.{MissingCommand, BadWord, MissingKey, OutOfRange}
 use Rattle.command_words.specs.Keys.{command_named}
 use Rattle.command_words.specs.Entries.{Finds, nothing, EntriesSay}
 use Rattle.command_words.specs.Commands.{made}
@@ -15,20 +15,13 @@ use Rattle.command_words.specs.Commands.{made}
 abbrev pub texts : List (String Global) → List (List ℕ)
 texts words = map string_bytes words
 
--- commands that aren't built
-abbrev pub later_commands : List (List ℕ)
-later_commands = codes "decode" ∷ codes "damage" ∷ codes "list" ∷ codes "trial" ∷ []
-
-abbrev pub is_later : List ℕ → Bool
-is_later word = list_any (λ later. bytes_eq word later) later_commands
-
 -- what the first word says
-abbrev pub name_or_fault : Option CommandName → List ℕ → Result CommandName WordFault
-name_or_fault (Some name) word = Ok name
-name_or_fault None word = if is_later word then Err UnbuiltCommand else Err (BadWord 0)
+abbrev pub name_or_fault : Option CommandName → Result CommandName WordFault
+name_or_fault (Some name) = Ok name
+name_or_fault None = Err (BadWord 0)
 
 abbrev pub name_said : List ℕ → Result CommandName WordFault
-name_said word = name_or_fault (command_named word) word
+name_said word = name_or_fault (command_named word)
 
 -- what is made of the words after the command
 abbrev pub made_of : CommandName → Result Finds WordFault → Result Command WordFault
@@ -49,7 +42,6 @@ Says (first ∷ rest) result = RestSays (name_said first) rest result
 -- a word that a fault names is one of so many
 abbrev pub IsPlaced : ℕ → WordFault → Type 0
 IsPlaced count (BadWord place) = place < count
-IsPlaced count UnbuiltCommand = 0 < count
 IsPlaced count MissingCommand = Unit {0}
 IsPlaced count (MissingKey field) = Unit {0}
 IsPlaced count (OutOfRange field) = Unit {0}

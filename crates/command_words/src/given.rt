@@ -1,28 +1,36 @@
 // What was found at the keys.
 use crate::entries::Entry;
-use crate::keys::Key;
+use crate::keys::{CommandName, Key};
 use crate::values::Value;
-use base_122::{Field, FieldRange, Select, Setting, Stop, Weights, is_limit_in_range};
+use base_122::{DecodeWish, Field, FieldRange, Select, Setting, Stop, Weights, is_limit_in_range};
 use raster_rows::MadeImage;
+
+// The most pixels and octets where nothing is said.
+const PIXELS: u64 = 1 << 32;
+
+const OCTETS: u64 = 1 << 40;
+
+// The most pixels of a trial.
+const TRIAL: u64 = 1 << 24;
 
 /// The value that was found at each key.
 #[derive(Clone, Copy)]
 pub struct Given {
-    found: [Option<Value>; 15],
+    found: [Option<Value>; 17],
 }
 
 impl Given {
     ghost use Rattle.std.specs.Prelude.{◌≡◌, is_some};
-    ghost use Rattle.base_122.specs.Ranges.{field_test, is_within, IsInRange};
+    ghost use Rattle.base_122.specs.Ranges.{field_test, is_within, IsInRange, IsWishInRange};
     ghost use Rattle.command_words.specs.Entries.{nothing, with_entry};
-    ghost use Rattle.command_words.specs.Commands.{number_or, flag_or, stop_or, weights_or, select_or, setting_of, made_image_of, IsMadeInRange};
+    ghost use Rattle.command_words.specs.Commands.{number_or, cap_or, flag_or, stop_or, weights_or, select_or, setting_of, wish_of, made_image_of, passes, field_passes, is_small, IsMadeInRange};
     ghost use Rattle.command_words.specs.Given.{finds_of};
 
     /// No key yet.
     pub fn new() -> Given
         ensures { finds_of result ≡ nothing }
     {
-        Given { found: [None; 15] }
+        Given { found: [None; 17] }
     }
 
     fn value(&self, key: Key) -> Option<Value>
@@ -58,6 +66,27 @@ impl Given {
         ensures { result ≡ is_within range (number_or (finds_of self.now key) default) }
     {
         range.contains(u64::from(self.number(key, default)))
+    }
+
+    fn cap(&self, key: Key, default: u64) -> u64
+        ensures { result ≡ cap_or (finds_of self.now key) default }
+    {
+        match self.value(key) {
+            Some(Value::Cap(cap)) => cap,
+            _ => default,
+        }
+    }
+
+    fn pixels(&self) -> u64
+        ensures { result ≡ (wish_of (finds_of self.now)).pixels }
+    {
+        self.cap(Key::Pixels, PIXELS)
+    }
+
+    fn octets(&self) -> u64
+        ensures { result ≡ (wish_of (finds_of self.now)).octets }
+    {
+        self.cap(Key::Octets, OCTETS)
     }
 
     fn flag(&self, key: Key) -> bool
@@ -114,9 +143,26 @@ impl Given {
         }
     }
 
-    /// Whether the field's value, or its default, is in its range.
-    pub fn is_in_range(&self, field: Field) -> bool
-        ensures { result ≡ field_test (setting_of (finds_of self.now)) field }
+    // Whether an image is small enough for a trial.
+    fn is_small(&self) -> bool
+        ensures { result ≡ is_small (setting_of (finds_of self.now)) }
+    {
+        u64::from(self.number(Key::Width, 0)) * u64::from(self.number(Key::Rows, 0)) <= TRIAL
+    }
+
+    /// Whether the field's value, or its default, is in its range for the command: a trial has no more than 2^24 pixels.
+    pub fn is_in_range(&self, name: CommandName, field: Field) -> bool
+        ensures { result ≡ passes name (finds_of self.now) field }
+    {
+        let in_range = self.is_field_in_range(field);
+        match (name, field) {
+            (CommandName::Trial, Field::Rows) => in_range && self.is_small(),
+            _ => in_range,
+        }
+    }
+
+    fn is_field_in_range(&self, field: Field) -> bool
+        ensures { result ≡ field_passes (finds_of self.now) field }
     {
         match field {
             Field::Width => self.is_within(Key::Width, 0, FieldRange::WIDTH),
@@ -134,8 +180,8 @@ impl Given {
             Field::Apid => self.is_within(Key::Apid, 100, FieldRange::APID),
             Field::Image => self.is_within(Key::Image, 0, FieldRange::IMAGE),
             Field::Packet => self.is_within(Key::Packet, 1024, FieldRange::PACKET),
-            // A setting has neither cap.
-            Field::Pixels | Field::Octets => true,
+            Field::Pixels => FieldRange::PIXELS.contains(self.pixels()),
+            Field::Octets => FieldRange::OCTETS.contains(self.octets()),
         }
     }
 
@@ -165,6 +211,25 @@ impl Given {
             image: self.number(Key::Image, 0) as u16,
             packet: self.number(Key::Packet, 1024),
         }
+    }
+
+    /// The wish, whose numbers are all in range.
+    pub fn wish(&self) -> DecodeWish
+        requires { IsWishInRange (wish_of (finds_of self.now)) }
+        ensures { result ≡ wish_of (finds_of self.now) }
+    {
+        DecodeWish {
+            apid: self.number(Key::Apid, 100) as u16,
+            pixels: self.pixels(),
+            octets: self.octets(),
+        }
+    }
+
+    /// The seed of a made image.
+    pub fn seed(&self) -> u32
+        ensures { result ≡ number_or (finds_of self.now Key.Seed) 0 }
+    {
+        self.number(Key::Seed, 0)
     }
 
     /// The made image, whose numbers are all in range.

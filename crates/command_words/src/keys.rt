@@ -8,7 +8,11 @@ use base_122::Field;
 #[derive(Clone, Copy)]
 pub enum CommandName {
     Encode,
+    Decode,
+    Damage,
+    List,
     Make,
+    Trial,
 }
 
 /// The keys of all commands.
@@ -28,6 +32,8 @@ pub enum Key {
     Apid,
     Image,
     Packet,
+    Pixels,
+    Octets,
     Seed,
 }
 
@@ -35,15 +41,23 @@ pub enum Key {
 #[derive(Clone, Copy)]
 pub enum Form {
     Number,
+    Cap,
     Flag,
     Stop,
     Weights,
     Select,
 }
 
-const NAMES: [CommandName; 2] = [CommandName::Encode, CommandName::Make];
+const NAMES: [CommandName; 6] = [
+    CommandName::Encode,
+    CommandName::Decode,
+    CommandName::Damage,
+    CommandName::List,
+    CommandName::Make,
+    CommandName::Trial,
+];
 
-const KEYS: [Key; 15] = [
+const KEYS: [Key; 17] = [
     Key::Width,
     Key::Rows,
     Key::Depth,
@@ -58,6 +72,8 @@ const KEYS: [Key; 15] = [
     Key::Apid,
     Key::Image,
     Key::Packet,
+    Key::Pixels,
+    Key::Octets,
     Key::Seed,
 ];
 
@@ -69,7 +85,11 @@ impl CommandName {
     {
         match self {
             CommandName::Encode => "encode",
+            CommandName::Decode => "decode",
+            CommandName::Damage => "damage",
+            CommandName::List => "list",
             CommandName::Make => "make",
+            CommandName::Trial => "trial",
         }
     }
 
@@ -101,20 +121,49 @@ impl CommandName {
                 Key::Image,
                 Key::Packet,
             ],
+            CommandName::Decode | CommandName::Damage => &[Key::Apid, Key::Pixels, Key::Octets],
+            CommandName::List => &[Key::Apid, Key::Octets],
             CommandName::Make => &[Key::Width, Key::Rows, Key::Depth, Key::Signed, Key::Seed],
+            CommandName::Trial => &[
+                Key::Width,
+                Key::Rows,
+                Key::Depth,
+                Key::Signed,
+                Key::Segment,
+                Key::Limit,
+                Key::Fill,
+                Key::Word,
+                Key::Stop,
+                Key::Weights,
+                Key::Select,
+                Key::Apid,
+                Key::Image,
+                Key::Packet,
+                Key::Seed,
+            ],
         }
     }
 }
 
 impl CommandName {
-    ghost use Rattle.command_words.specs.Commands.{fields_of};
+    ghost use Rattle.command_words.specs.Commands.{fields_of, needs_size};
+
+    /// Whether the size of an image must be said.
+    pub fn needs_size(self) -> bool
+        ensures { result ≡ needs_size self }
+    {
+        match self {
+            CommandName::Encode | CommandName::Make | CommandName::Trial => true,
+            CommandName::Decode | CommandName::Damage | CommandName::List => false,
+        }
+    }
 
     /// The fields that are tested for the command, in their order.
     pub fn fields(self) -> &'static [Field]
         ensures { result.now ≡ fields_of self }
     {
         match self {
-            CommandName::Encode => &[
+            CommandName::Encode | CommandName::Trial => &[
                 Field::Width,
                 Field::Rows,
                 Field::Depth,
@@ -128,6 +177,9 @@ impl CommandName {
                 Field::Image,
                 Field::Packet,
             ],
+            CommandName::Decode | CommandName::Damage | CommandName::List => {
+                &[Field::Apid, Field::Pixels, Field::Octets]
+            }
             CommandName::Make => &[Field::Width, Field::Rows, Field::Depth],
         }
     }
@@ -154,6 +206,8 @@ impl Key {
             Key::Apid => "apid",
             Key::Image => "image",
             Key::Packet => "packet",
+            Key::Pixels => "pixels",
+            Key::Octets => "octets",
             Key::Seed => "seed",
         }
     }
@@ -194,6 +248,7 @@ impl Key {
             | Key::Image
             | Key::Packet
             | Key::Seed => Form::Number,
+            Key::Pixels | Key::Octets => Form::Cap,
             Key::Signed | Key::Fill => Form::Flag,
             Key::Stop => Form::Stop,
             Key::Weights => Form::Weights,

@@ -1,6 +1,6 @@
 // What words say, and which fault of theirs comes first.
 use crate::{Command, WordFault, read_words};
-use base_122::{Field, Select, Setting, Stop, Weights};
+use base_122::{DecodeWish, Field, Select, Setting, Stop, Weights};
 use raster_rows::MadeImage;
 use std::test::Fail;
 
@@ -87,6 +87,34 @@ fn a_made_image_has_a_seed(rt: HostRuntime) -> Result<(), Fail> {
 }
 
 #[test]
+fn a_decoder_has_caps(rt: HostRuntime) -> Result<(), Fail> {
+    let usual = DecodeWish {
+        apid: 100,
+        pixels: 4_294_967_296,
+        octets: 1_099_511_627_776,
+    };
+    assert_eq!(rt; said(&rt, "decode")?, Ok(Command::Decode(usual)));
+    let wish = DecodeWish {
+        apid: 7,
+        pixels: 1_099_511_627_776,
+        octets: 1,
+    };
+    let text = "decode octets=1 pixels=1099511627776 apid=7";
+    assert_eq!(rt; said(&rt, text)?, Ok(Command::Decode(wish)));
+    let text = "damage octets=1 pixels=1099511627776 apid=7";
+    assert_eq!(rt; said(&rt, text)?, Ok(Command::Damage(wish)));
+    let listed = DecodeWish {
+        pixels: 4_294_967_296,
+        ..wish
+    };
+    assert_eq!(rt;
+        said(&rt, "list octets=1 apid=7")?,
+        Ok(Command::List(listed))
+    );
+    Ok(())
+}
+
+#[test]
 fn bad_words_have_a_place(rt: HostRuntime) -> Result<(), Fail> {
     assert_eq!(rt; read_words(&[]), Err(WordFault::MissingCommand));
     for (text, place) in [
@@ -104,6 +132,10 @@ fn bad_words_have_a_place(rt: HostRuntime) -> Result<(), Fail> {
         ("encode select=best", 1),
         ("encode seed=7", 1),
         ("make stop=dc", 1),
+        ("decode width=17", 1),
+        ("decode octets=5 pixels=1099511627777", 2),
+        ("encode pixels=5", 1),
+        ("list pixels=5", 1),
     ] {
         assert_eq!(rt;
             said(&rt, text)?,
@@ -115,10 +147,14 @@ fn bad_words_have_a_place(rt: HostRuntime) -> Result<(), Fail> {
 }
 
 #[test]
-fn later_commands_are_not_built(rt: HostRuntime) -> Result<(), Fail> {
-    for text in ["decode", "damage apid=1", "list x", "trial width=x"] {
-        assert_eq!(rt; said(&rt, text)?, Err(WordFault::UnbuiltCommand), "{text}");
-    }
+fn a_trial_has_a_setting_and_a_seed(rt: HostRuntime) -> Result<(), Fail> {
+    let text = "encode width=4096 rows=4096 depth=12 packet=65536";
+    let setting = match said(&rt, text)? {
+        Ok(Command::Encode(setting)) => setting,
+        other => panic!(rt; "{other:?}"),
+    };
+    let text = "trial width=4096 rows=4096 depth=12 packet=65536 seed=7";
+    assert_eq!(rt; said(&rt, text)?, Ok(Command::Trial(setting, 7)));
     Ok(())
 }
 
@@ -157,6 +193,19 @@ fn keys_are_missing_before_fields_are_out_of_range(rt: HostRuntime) -> Result<()
         (
             "encode width=17 rows=17 stop=0.4",
             WordFault::OutOfRange(Field::Stop),
+        ),
+        ("decode octets=0", WordFault::OutOfRange(Field::Octets)),
+        (
+            "trial width=4096 rows=4097 segment=15",
+            WordFault::OutOfRange(Field::Rows),
+        ),
+        (
+            "trial width=4097 rows=4095 segment=15",
+            WordFault::OutOfRange(Field::Segment),
+        ),
+        (
+            "decode apid=2047 octets=0",
+            WordFault::OutOfRange(Field::Apid),
         ),
         (
             "make width=17 rows=262145",

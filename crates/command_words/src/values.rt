@@ -1,5 +1,5 @@
 // The values of keys.
-ghost use Rattle.std.specs.Prelude.{◌≡◌, ◌≢◌, ◌<◌, ◌^◌, ◌↔◌, ℕ, All, IsTrue, MatchOption, decimal};
+ghost use Rattle.std.specs.Prelude.{◌≡◌, ◌≢◌, ◌<◌, ◌≤◌, ◌^◌, ◌↔◌, ℕ, All, IsTrue, MatchOption, decimal};
 ghost use Rattle.command_words.specs.declared.values.Value.{Value};
 ghost use Rattle.command_words.specs.Values.{IsValueText, IsWeightDigit};
 
@@ -11,11 +11,22 @@ use itoa::Buffer;
 #[derive(Clone, Copy)]
 pub enum Value {
     Number(u32),
+    Cap(u64),
     Flag(bool),
     StopDc,
     StopAt { plane: u32, stage: u32 },
     Weights(Weights),
     Select(Select),
+}
+
+// The greatest cap.
+const MOST: u64 = 1 << 40;
+
+// Whether the text is that of the number.
+fn is_written_so(number: u64, text: &str) -> bool
+    ensures { IsTrue result ↔ (text.now ≡ decimal number) }
+{
+    Buffer::new().format(number) == text
 }
 
 // A number is 0 or digits without a leading zero.
@@ -25,8 +36,21 @@ fn read_number(text: &str) -> Option<u32>
     let Ok(number) = text.parse::<u32>() else {
         return None;
     };
-    let mut buffer = Buffer::new();
-    if buffer.format(number) == text {
+    if is_written_so(u64::from(number), text) {
+        Some(number)
+    } else {
+        None
+    }
+}
+
+// A cap is written as a number, and is at most 2^40.
+fn read_cap(text: &str) -> Option<u64>
+    ensures { MatchOption result ((n : ℕ) → n ≤ 2 ^ 40 → text.now ≢ decimal n) (λ n. (n ≤ 2 ^ 40) × (text.now ≡ decimal n)) }
+{
+    let Ok(number) = text.parse::<u64>() else {
+        return None;
+    };
+    if number <= MOST && is_written_so(number, text) {
         Some(number)
     } else {
         None
@@ -100,6 +124,7 @@ pub fn read_value(form: Form, text: &str) -> Option<Value>
 {
     match form {
         Form::Number => read_number(text).map(Value::Number),
+        Form::Cap => read_cap(text).map(Value::Cap),
         Form::Flag => read_flag(text),
         Form::Stop => read_stop(text),
         Form::Weights => read_weights(text),

@@ -1,6 +1,5 @@
-use Rattle.std.proofs.Common.{refl, sym, ◌∙◌, ap, subst, lit<}
+use Rattle.std.proofs.Common.{sym, ◌∙◌, ap, subst, lit<}
 use Rattle.std.specs.Prelude.{Some}
-use Rattle.std.proofs.lemmas.Bool.{false≢true}
 use Rattle.std.proofs.lemmas.Str.Pattern.{split_parts}
 use Rattle.command_words.specs.Keys.{contains_key}
 use Rattle.command_words.specs.Values.{HasForm}
