@@ -14,13 +14,13 @@ use Rattle.strip_coder.specs.declared.encode.EncodeFault.TheVariants.{ReadFault,
 use Rattle.strip_coder.specs.Rasters.{given_for}
 use Rattle.strip_coder.specs.Answers.{Answers, AllInRange, TookRaster}
 use Rattle.command_words.specs.declared.command.Command.{Command}
-use Rattle.command_words.specs.declared.command.Command.TheVariants.{Encode, Make}
+use Rattle.command_words.specs.declared.command.Command.TheVariants.{Encode, Decode, Damage, List as ListCommand, Make, Trial}
 use Rattle.top_122.specs.Run.{encode_status, EncodesRaster, Encodes, Performs, IsSteady, HasInput, HasWrongInput, IsDone}
-
--- what was taken of an input, and the rest of it
-took_front : (input took : List ℕ) (old new : Option (List ℕ)) → old ≡ Some input → Loses old new took → (rest : List ℕ) × (input ≡ took ++ rest)
-took_front input took old None is p = absurd (let q = rw is at p in q)
-took_front input took old (Some rest) is p = (rest, rw is at p)
+use Rattle.strip_decoder.specs.Answers.{Answers as DecodeAnswers, Asks}
+use Rattle.strip_decoder.specs.Finding.{FindAnswers}
+use Rattle.top_122.specs.Decoding.{AsksFound}
+use Rattle.top_122.proofs.Decoded.{decode_says, find_says}
+use Rattle.top_122.proofs.PacketInputs.{took_front, right_packets, wrong_packets, listed_packets}
 
 -- a pixel out of range in a part of an input is one in all of it
 not_in_range : (depth : ℕ) (signed : Bool) (took rest : List ℕ) (place : ℕ) (value : ℤ) → IsFirstBad depth signed took place value →
@@ -72,14 +72,26 @@ encoder_refuses s old new status run input steady = elim run [
 
 pub performs_wrong : (command : Command) (old new : Outside) (status : ℕ) → Performs command old new status → HasWrongInput command old → IsSteady old new → (status ≡ 3) ⊎ (status ≡ 6)
 performs_wrong (Encode setting) old new status run input steady = encoder_refuses setting old new status run input steady
+performs_wrong (Decode wish) old new status run input steady = wrong_packets wish (DecodeAnswers wish) (Asks wish) (decode_says wish) old new status run input steady
+performs_wrong (Damage wish) old new status run input steady = wrong_packets wish (FindAnswers wish) (AsksFound wish) (find_says wish) old new status run input steady
+performs_wrong (ListCommand wish) old new status run input steady = absurd input
 performs_wrong (Make made) old new status run input steady = absurd input
+performs_wrong (Trial setting seed) old new status run input steady = absurd input
 
 pub performs_complete : (command : Command) (old new : Outside) (status : ℕ) → Performs command old new status → HasInput command old → IsSteady old new → IsDone command status
 performs_complete (Encode setting) old new status run input steady = elim run [
   | inl none ↦ inr none.status_is
   | inr ran ↦ right_input setting old new status ran input steady
 ]
+performs_complete (Decode wish) old new status run input steady = right_packets wish (DecodeAnswers wish) (Asks wish) (decode_says wish) old new status run input steady
+performs_complete (Damage wish) old new status run input steady = right_packets wish (FindAnswers wish) (AsksFound wish) (find_says wish) old new status run input steady
+performs_complete (ListCommand wish) old new status run input steady = listed_packets wish old new status run input steady
 performs_complete (Make made) old new status run input steady = elim run.ending [
   | inl whole ↦ whole.status_is
+  | inr cut ↦ absurd (steady.writes cut.rose)
+]
+performs_complete (Trial setting seed) old new status (inl none) input steady = inr none.status_is
+performs_complete (Trial setting seed) old new status (inr ran) input steady = elim ran.gives.ending [
+  | inl whole ↦ inl whole.status_is
   | inr cut ↦ absurd (steady.writes cut.rose)
 ]

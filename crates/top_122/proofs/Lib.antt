@@ -1,4 +1,12 @@
 pub mod MadeParts
 pub mod NoteLines
+pub mod Decoded
+pub mod Listed
+mod TrialsCounted
+mod TrialsDecoded
+mod TrialsDone
+pub mod GavePictures
+pub mod PacketInputs
+pub mod DamageParts
 pub mod Statuses
 pub mod Inputs

@@ -6,8 +6,12 @@ use Rattle.base_122.specs.declared.field.Field.{Field}
 use Rattle.base_122.specs.declared.field.Field.TheVariants.{Width, Rows, Depth, Segment, Limit, Fill, Word, Stop, Weights, Apid, Image, Packet, Pixels, Octets}
 use Rattle.strip_coder.specs.declared.encode.EncodeFault.{EncodeFault}
 use Rattle.strip_coder.specs.declared.encode.EncodeFault.TheVariants.{ReadFault, WriteFault, Short, Long, BadPixel}
+use Rattle.strip_decoder.specs.declared.decode.DecodeFault.{DecodeFault}
+use Rattle.strip_decoder.specs.declared.decode.DecodeFault.TheVariants.{ReadFault as read_failed, WriteFault as write_failed, NoSegment, TooManyPixels, LongInput, Memory}
+use Rattle.packet_list.specs.declared.list.ListFault.{ListFault}
+use Rattle.packet_list.specs.declared.list.ListFault.TheVariants.{ReadFault as list_read_failed, WriteFault as list_write_failed, LongInput as list_long, Memory as list_memory}
 use Rattle.command_words.specs.declared.command.WordFault.{WordFault}
-use Rattle.command_words.specs.declared.command.WordFault.TheVariants.{MissingCommand, UnbuiltCommand, BadWord, MissingKey, OutOfRange}
+use Rattle.command_words.specs.declared.command.WordFault.TheVariants.{MissingCommand, BadWord, MissingKey, OutOfRange}
 
 -- the line was noted, or a prefix of it where a note failed
 abbrev pub IsNoted : Outside → Outside → List ℕ → List ℕ → Type 0
@@ -43,7 +47,6 @@ field_text Octets = codes "octets"
 -- the note on words that are refused
 abbrev pub word_line : List (List ℕ) → WordFault → List ℕ
 word_line words MissingCommand = codes "strip122: missing command\n"
-word_line words UnbuiltCommand = codes "strip122: not built: " ++ word_at words 0 ++ codes "\n"
 word_line words (BadWord place) = codes "strip122: bad word: " ++ word_at words place ++ codes "\n"
 word_line words (MissingKey field) = codes "strip122: missing: " ++ field_text field ++ codes "\n"
 word_line words (OutOfRange field) = codes "strip122: out of range: " ++ field_text field ++ codes "\n"
@@ -67,3 +70,33 @@ fault_line WriteFault = codes "strip122: write fault\n"
 -- the note on want of memory
 abbrev pub memory_line : List ℕ
 memory_line = codes "strip122: no memory\n"
+
+-- the status and the note for each fault of the decoder
+abbrev pub decoder_fault_status : DecodeFault → ℕ
+decoder_fault_status NoSegment = 3
+decoder_fault_status (TooManyPixels pixels) = 3
+decoder_fault_status LongInput = 3
+decoder_fault_status read_failed = 4
+decoder_fault_status write_failed = 5
+decoder_fault_status Memory = 6
+
+abbrev pub decoder_fault_line : DecodeFault → List ℕ
+decoder_fault_line NoSegment = codes "strip122: no segment\n"
+decoder_fault_line (TooManyPixels pixels) = codes "strip122: too many pixels, " ++ decimal pixels ++ codes "\n"
+decoder_fault_line LongInput = codes "strip122: input too long\n"
+decoder_fault_line read_failed = codes "strip122: read fault\n"
+decoder_fault_line write_failed = codes "strip122: write fault\n"
+decoder_fault_line Memory = memory_line
+
+-- the status and the note for each fault of a list
+abbrev pub list_fault_status : ListFault → ℕ
+list_fault_status list_long = 3
+list_fault_status list_read_failed = 4
+list_fault_status list_write_failed = 5
+list_fault_status list_memory = 6
+
+abbrev pub list_fault_line : ListFault → List ℕ
+list_fault_line list_long = codes "strip122: input too long\n"
+list_fault_line list_read_failed = codes "strip122: read fault\n"
+list_fault_line list_write_failed = codes "strip122: write fault\n"
+list_fault_line list_memory = memory_line

@@ -8,10 +8,18 @@ use Rattle.strip_coder.specs.declared.encode.EncodeDone.{EncodeDone}
 use Rattle.strip_coder.specs.declared.encode.EncodeFault.{EncodeFault}
 use Rattle.strip_coder.specs.Rasters.{image_of, given_for}
 use Rattle.strip_coder.specs.Answers.{Answers, TookRaster}
+use Rattle.base_122.specs.declared.wish.DecodeWish.{DecodeWish}
+use Rattle.strip_decoder.specs.Answers.{Answers as DecodeAnswers, Asks}
+use Rattle.strip_decoder.specs.Finding.{FindAnswers}
 use Rattle.command_words.specs.declared.command.Command.{Command}
-use Rattle.command_words.specs.declared.command.Command.TheVariants.{Encode, Make}
+use Rattle.command_words.specs.declared.command.Command.TheVariants.{Encode, Decode, Damage, List as ListCommand, Make, Trial}
 use Rattle.command_words.specs.declared.command.WordFault.{WordFault}
+use Rattle.raster_rows.specs.Made.{made_value}
+use Rattle.top_122.specs.declared.trial.TrialDone.{TrialDone}
 use Rattle.top_122.specs.MadeRasters.{made_raster}
+use Rattle.top_122.specs.Trials.{made_with, trial_line, IsTried}
+use Rattle.top_122.specs.Ran.{Ran, LacksMemory}
+use Rattle.top_122.specs.Decoding.{Decodes, FindsDamage, ListsPackets, AsksFound, DecodedWhole, DecodedPart, DecoderRefuses, DecoderLacksMemory, ListedWhole, ListedPart, ListRefuses, HasPackets, HasPicture, HasNoPicture}
 use Rattle.top_122.specs.Notes.{IsNoted, word_line, fault_status, fault_line, memory_line}
 
 -- ---- all that a run leaves
@@ -32,52 +40,60 @@ abbrev pub encode_line : Result EncodeDone EncodeFault → List ℕ
 encode_line (Ok done) = []
 encode_line (Err fault) = fault_line fault
 
--- There is no memory for the encoder: nothing is read or given.
-pub record LacksMemory (old new : Outside) (status : ℕ) : Type 0 where
-  pub wrote : List ℕ
-  pub since : Since old new [] [] wrote NoRead
-  pub status_is : status ≡ 6
-  pub noted : IsNoted old new wrote memory_line
+-- what `encode` does at a read call: just the packets of the settled segments are given
+abbrev pub AsksSettled : Setting → Outside → List ℕ → List ℕ → ℕ → ℕ → Type 0
+AsksSettled setting old took gave = GivenBy (given_for setting) took
 
--- One run of the encoder: what was taken, given and noted, when, and its answer, which has its cause.
-pub record EncodesRaster (setting : Setting) (old new : Outside) (status : ℕ) : Type 0 where
-  pub answer : Result EncodeDone EncodeFault
-  pub took : List ℕ
-  pub gave : List ℕ
-  pub wrote : List ℕ
-  pub since : Since old new took gave wrote (GivenBy (given_for setting) took)
-  pub cause : Answers setting old new took gave answer
-  pub status_is : status ≡ encode_status answer
-  pub noted : IsNoted old new wrote (encode_line answer)
+-- one run of the encoder
+abbrev pub EncodesRaster : Setting → (old new : Outside) (status : ℕ) → Type 0
+EncodesRaster setting = Ran (Answers setting) (AsksSettled setting) encode_status encode_line
 
 -- one run of `encode`
 abbrev pub Encodes : Setting → Outside → Outside → ℕ → Type 0
 Encodes setting old new status = LacksMemory old new status ⊎ EncodesRaster setting old new status
 
--- the whole raster is given and nothing noted
-pub record MadeWhole (made : MadeImage) (gave wrote : List ℕ) (status : ℕ) : Type 0 where
+-- all of these octets are given and nothing noted
+pub record AllGiven (octets gave wrote : List ℕ) (status : ℕ) : Type 0 where
   pub status_is : status ≡ 0
-  pub whole : gave ≡ made_raster made
+  pub whole : gave ≡ octets
   pub silent : wrote ≡ []
 
--- a write failed: a prefix of the raster is given
-pub record MadeCut (made : MadeImage) (old new : Outside) (gave wrote : List ℕ) (status : ℕ) : Type 0 where
+-- a write failed: a prefix of the octets is given
+pub record PartGiven (octets : List ℕ) (old new : Outside) (gave wrote : List ℕ) (status : ℕ) : Type 0 where
   pub status_is : status ≡ 5
   pub rose : Rose old.write_faults new.write_faults
-  pub prefix : (k : ℕ) × (k ≤ length (made_raster made)) × (gave ≡ take k (made_raster made))
+  pub prefix : (k : ℕ) × (k ≤ length octets) × (gave ≡ take k octets)
   pub noted : IsNoted old new wrote (codes "strip122: write fault\n")
 
--- One run of `make`, which reads nothing.
-pub record Makes (made : MadeImage) (old new : Outside) (status : ℕ) : Type 0 where
+-- One run that gives octets and reads nothing.
+pub record Gives (octets : List ℕ) (old new : Outside) (status : ℕ) : Type 0 where
   pub gave : List ℕ
   pub wrote : List ℕ
   pub since : Since old new [] gave wrote NoRead
-  pub ending : MadeWhole made gave wrote status ⊎ MadeCut made old new gave wrote status
+  pub ending : AllGiven octets gave wrote status ⊎ PartGiven octets old new gave wrote status
+
+-- one run of `make`
+abbrev pub Makes : MadeImage → Outside → Outside → ℕ → Type 0
+Makes made = Gives (made_raster made)
+
+-- One run of `trial` for which there was memory.
+pub record TriedImage (setting : Setting) (seed : ℕ) (old new : Outside) (status : ℕ) : Type 0 where
+  pub done : TrialDone
+  pub tried : IsTried setting (made_value (made_with setting seed)) done
+  pub gives : Gives (trial_line setting done) old new status
+
+-- one run of `trial`
+abbrev pub Tries : Setting → ℕ → Outside → Outside → ℕ → Type 0
+Tries setting seed old new status = LacksMemory old new status ⊎ TriedImage setting seed old new status
 
 -- what a command leaves
 abbrev pub Performs : Command → Outside → Outside → ℕ → Type 0
 Performs (Encode setting) old new status = Encodes setting old new status
+Performs (Decode wish) old new status = Decodes wish old new status
+Performs (Damage wish) old new status = FindsDamage wish old new status
+Performs (ListCommand wish) old new status = ListsPackets wish old new status
 Performs (Make made) old new status = Makes made old new status
+Performs (Trial setting seed) old new status = Tries setting seed old new status
 
 -- what a run leaves, for what the words say
 abbrev pub Runs : List (List ℕ) → Result Command WordFault → Outside → Outside → ℕ → Type 0
@@ -93,10 +109,20 @@ pub record EncodedWhole (setting : Setting) (old new : Outside) : Type 0 where
   pub raster : TookRaster setting took
   pub ended : AtEnd new
 
+-- the line of a trial is given, and nothing else
+pub record TriedWhole (setting : Setting) (seed : ℕ) (old new : Outside) : Type 0 where
+  pub done : TrialDone
+  pub tried : IsTried setting (made_value (made_with setting seed)) done
+  pub since : Since old new [] (trial_line setting done) [] NoRead
+
 -- the whole output is given and nothing noted
 abbrev pub GivesWhole : Command → Outside → Outside → Type 0
 GivesWhole (Encode setting) old new = EncodedWhole setting old new
+GivesWhole (Decode wish) old new = DecodedWhole (DecodeAnswers wish) (Asks wish) old new
+GivesWhole (Damage wish) old new = DecodedWhole (FindAnswers wish) (AsksFound wish) old new
+GivesWhole (ListCommand wish) old new = ListedWhole wish old new
 GivesWhole (Make made) old new = Since old new [] (made_raster made) [] NoRead
+GivesWhole (Trial setting seed) old new = TriedWhole setting seed old new
 
 -- The encoder refused its input: the cause and the note name the same fault.
 pub record EncoderRefuses (setting : Setting) (old new : Outside) : Type 0 where
@@ -109,37 +135,67 @@ pub record EncoderRefuses (setting : Setting) (old new : Outside) : Type 0 where
   pub cause : Answers setting old new took gave (Err fault)
   pub noted : IsNoted old new wrote (fault_line fault)
 
--- a command refused its input; `make` takes none
+-- a command refused its input; `make` and `trial` take none
 abbrev pub RefusesInput : Command → Outside → Outside → Type 0
 RefusesInput (Encode setting) old new = EncoderRefuses setting old new
+RefusesInput (Decode wish) old new = DecoderRefuses (DecodeAnswers wish) (Asks wish) old new
+RefusesInput (Damage wish) old new = DecoderRefuses (FindAnswers wish) (AsksFound wish) old new
+RefusesInput (ListCommand wish) old new = ListRefuses wish old new
 RefusesInput (Make made) old new = ⊥
+RefusesInput (Trial setting seed) old new = ⊥
 
--- what a command leaves that had no memory: `encode` has read and given nothing, and `make` takes none
+-- What a command leaves that had no memory: `encode`, `list` and `trial` have read and given nothing, `decode` and `damage` have given
+-- nothing, and `make` takes none.
 abbrev pub GivesNothing : Command → Outside → Outside → Type 0
 GivesNothing (Encode setting) old new = (wrote : List ℕ) × Since old new [] [] wrote NoRead
+GivesNothing (Decode wish) old new = DecoderLacksMemory (Asks wish) old new
+GivesNothing (Damage wish) old new = DecoderLacksMemory (AsksFound wish) old new
+GivesNothing (ListCommand wish) old new = (wrote : List ℕ) × Since old new [] [] wrote NoRead
 GivesNothing (Make made) old new = ⊥
+GivesNothing (Trial setting seed) old new = (wrote : List ℕ) × Since old new [] [] wrote NoRead
 
--- what a command leaves that could give a part alone: so far no command does
+-- what a command leaves whose input was not whole
 abbrev pub GivesPart : Command → Outside → Outside → Type 0
 GivesPart (Encode setting) old new = ⊥
+GivesPart (Decode wish) old new = DecodedPart (DecodeAnswers wish) (Asks wish) old new
+GivesPart (Damage wish) old new = DecodedPart (FindAnswers wish) (AsksFound wish) old new
+GivesPart (ListCommand wish) old new = ListedPart wish old new
 GivesPart (Make made) old new = ⊥
+GivesPart (Trial setting seed) old new = ⊥
 
 -- no read and no write has failed since
 pub record IsSteady (old new : Outside) : Type 0 where
   pub reads : Rose old.read_faults new.read_faults → ⊥
   pub writes : Rose old.write_faults new.write_faults → ⊥
 
--- the input that is left is just what the command takes: a raster of all its rows with all values in range
+-- The input that is left is what the command takes: a raster of all its rows with all values in range, packets of a picture, or any
+-- octets that aren't too many.
 abbrev pub HasInput : Command → Outside → Type 0
 HasInput (Encode setting) old = (input : List ℕ) × (old.rest ≡ Some input) × TookRaster setting input
+HasInput (Decode wish) old = HasPicture wish old
+HasInput (Damage wish) old = HasPicture wish old
+HasInput (ListCommand wish) old = HasPackets wish old
 HasInput (Make made) old = Unit {0}
+HasInput (Trial setting seed) old = Unit {0}
 
 -- the input that is left is something else
 abbrev pub HasWrongInput : Command → Outside → Type 0
 HasWrongInput (Encode setting) old = (input : List ℕ) × (old.rest ≡ Some input) × (TookRaster setting input → ⊥)
+HasWrongInput (Decode wish) old = HasNoPicture wish old
+HasWrongInput (Damage wish) old = HasNoPicture wish old
+HasWrongInput (ListCommand wish) old = ⊥
 HasWrongInput (Make made) old = ⊥
+HasWrongInput (Trial setting seed) old = ⊥
 
--- the command is done, or `encode` had no memory
+-- packets were read to their end or as far as can be, or there was no memory
+abbrev pub IsRead : ℕ → Type 0
+IsRead status = (status ≡ 0) ⊎ ((status ≡ 1) ⊎ (status ≡ 6))
+
+-- the command is done, or it had no memory
 abbrev pub IsDone : Command → ℕ → Type 0
 IsDone (Encode setting) status = (status ≡ 0) ⊎ (status ≡ 6)
+IsDone (Decode wish) status = IsRead status
+IsDone (Damage wish) status = IsRead status
+IsDone (ListCommand wish) status = IsRead status
 IsDone (Make made) status = status ≡ 0
+IsDone (Trial setting seed) status = (status ≡ 0) ⊎ (status ≡ 6)

@@ -2,14 +2,16 @@
 ghost use Rattle.std.specs.Prelude.{◌≡◌, ◌<◌, ◌++◌, length, codes, decimal};
 ghost use Rattle.std.specs.Fmt.{signed_decimal};
 ghost use Rattle.command_words.specs.Words.{texts, IsPlaced};
-ghost use Rattle.top_122.specs.Notes.{Notes, word_at, field_text, word_line, fault_line};
+ghost use Rattle.top_122.specs.Notes.{Notes, word_at, field_text, word_line, fault_line, decoder_fault_line, list_fault_line};
 
 use arrayvec::ArrayString;
 use base_122::Field;
 use command_words::WordFault;
 use itoa::Buffer;
+use packet_list::ListFault;
 use port_122::{Port, note_all};
 use strip_coder::EncodeFault;
+use strip_decoder::DecodeFault;
 
 // Notes three parts of a line.
 fn note_parts<X: Port>(port: &mut X, first: &str, middle: &str, last: &str)
@@ -67,9 +69,6 @@ pub fn note_refusal<X: Port>(port: &mut X, words: &[String], fault: WordFault)
 {
     match fault {
         WordFault::MissingCommand => note_line(port, "strip122: missing command\n"),
-        WordFault::UnbuiltCommand => {
-            note_parts(port, "strip122: not built: ", word(words, 0), "\n");
-        }
         WordFault::BadWord { place } => {
             note_parts(port, "strip122: bad word: ", word(words, place), "\n");
         }
@@ -83,7 +82,7 @@ pub fn note_refusal<X: Port>(port: &mut X, words: &[String], fault: WordFault)
 }
 
 // A line of an engine's note.
-type Line = ArrayString<160>;
+pub type Line = ArrayString<160>;
 
 fn short_line(octets: u64) -> Line
     ensures { result.bytes ≡ codes "strip122: input short, " ++ decimal octets ++ codes " octets taken\n" }
@@ -121,5 +120,41 @@ pub fn note_fault<X: Port>(port: &mut X, fault: EncodeFault)
         }
         EncodeFault::ReadFault => note_line(port, "strip122: read fault\n"),
         EncodeFault::WriteFault => note_line(port, "strip122: write fault\n"),
+    }
+}
+
+fn pixels_line(pixels: u64) -> Line
+    ensures { result.bytes ≡ codes "strip122: too many pixels, " ++ decimal pixels ++ codes "\n" }
+{
+    let mut line = ArrayString::new();
+    line.push_str("strip122: too many pixels, ");
+    line.push_str(Buffer::new().format(pixels));
+    line.push_str("\n");
+    line
+}
+
+/// Notes a fault of the decoder.
+pub fn note_decoder_fault<X: Port>(port: &mut X, fault: DecodeFault)
+    ensures { Notes (X.outside port.old) (X.outside port.new) (decoder_fault_line fault) }
+{
+    match fault {
+        DecodeFault::NoSegment => note_line(port, "strip122: no segment\n"),
+        DecodeFault::TooManyPixels { pixels } => note_line(port, pixels_line(pixels).as_str()),
+        DecodeFault::LongInput => note_line(port, "strip122: input too long\n"),
+        DecodeFault::ReadFault => note_line(port, "strip122: read fault\n"),
+        DecodeFault::WriteFault => note_line(port, "strip122: write fault\n"),
+        DecodeFault::Memory => note_line(port, "strip122: no memory\n"),
+    }
+}
+
+/// Notes a fault of a list of packets.
+pub fn note_list_fault<X: Port>(port: &mut X, fault: ListFault)
+    ensures { Notes (X.outside port.old) (X.outside port.new) (list_fault_line fault) }
+{
+    match fault {
+        ListFault::LongInput => note_line(port, "strip122: input too long\n"),
+        ListFault::ReadFault => note_line(port, "strip122: read fault\n"),
+        ListFault::WriteFault => note_line(port, "strip122: write fault\n"),
+        ListFault::Memory => note_line(port, "strip122: no memory\n"),
     }
 }

@@ -1,5 +1,5 @@
 // The top call.
-ghost use Rattle.std.specs.Prelude.{◌≡◌, ◌⊎◌, ◌↔◌, length, Result, Ok, Err};
+ghost use Rattle.std.specs.Prelude.{◌≡◌, ◌≤◌, ◌*◌, ◌⊎◌, ◌↔◌, length, Result, Ok, Err};
 ghost use Rattle.port_122.specs.Outside.{Rose};
 ghost use Rattle.base_122.specs.Ranges.{IsInRange as IsSettingInRange};
 ghost use Rattle.base_122.specs.declared.setting.Setting.{Setting};
@@ -8,17 +8,22 @@ ghost use Rattle.command_words.specs.declared.command.WordFault.{WordFault};
 ghost use Rattle.command_words.specs.declared.command.Command.{Command};
 ghost use Rattle.command_words.specs.Words.{texts, Says, IsPlaced};
 ghost use Rattle.command_words.specs.Commands.{IsInRange};
+ghost use Rattle.base_122.specs.declared.wish.DecodeWish.{DecodeWish};
 ghost use Rattle.top_122.specs.Notes.{fault_status};
-ghost use Rattle.top_122.specs.Run.{Refuses, Encodes, Makes, Performs, Runs, GivesWhole, GivesPart, RefusesInput, GivesNothing, IsSteady, HasInput, HasWrongInput, IsDone};
+ghost use Rattle.top_122.specs.Pictures.{GavePicture};
+ghost use Rattle.top_122.specs.Run.{Refuses, Encodes, Makes, Tries, Performs, Runs, GivesWhole, GivesPart, RefusesInput, GivesNothing, IsSteady, HasInput, HasWrongInput, IsDone};
 
 use crate::make::write_made;
 use crate::notes::{note_fault, note_line, note_refusal};
+use crate::packets::{damage, decode, list};
+use crate::trial::{give_trial, run_trial};
 use base_122::Setting;
 use command_words::{Command, WordFault, read_words};
 use port_122::Port;
 use raster_rows::MadeImage;
 use std::alloc::Global;
 use strip_coder::{EncodeFault, Work, encode_rows};
+use strip_decoder::{decoding_contains, round_trip};
 
 // Refuses the words.
 fn refuse<X: Port>(words: &[String], fault: WordFault, port: &mut X) -> u8
@@ -71,6 +76,25 @@ fn make<X: Port>(made: &MadeImage, port: &mut X) -> u8
     }
 }
 
+// The command `trial`. It is done in memory, so nothing is read.
+fn trial<X: Port>(alloc: Global, setting: &Setting, seed: u32, port: &mut X) -> u8
+    requires range { IsSettingInRange setting.now }
+    requires few { setting.now.width * setting.now.rows ≤ 16777216 }
+    ensures { Tries setting.now seed (X.outside port.old) (X.outside port.new) result }
+{
+    let Ok(done) = run_trial(alloc, setting, seed) else {
+        note_line(port, "strip122: no memory\n");
+        return 6;
+    };
+    match give_trial(port, setting, &done) {
+        Ok(()) => 0,
+        Err(_) => {
+            note_line(port, "strip122: write fault\n");
+            5
+        }
+    }
+}
+
 // One command.
 fn perform<X: Port>(alloc: Global, command: &Command, port: &mut X) -> u8
     requires { IsInRange command.now }
@@ -78,14 +102,18 @@ fn perform<X: Port>(alloc: Global, command: &Command, port: &mut X) -> u8
 {
     match command {
         Command::Encode(setting) => encode(alloc, setting, port),
+        Command::Decode(wish) => decode(alloc, wish, port),
+        Command::Damage(wish) => damage(alloc, wish, port),
+        Command::List(wish) => list(alloc, wish, port),
         Command::Make(made) => make(made, port),
+        Command::Trial(setting, seed) => trial(alloc, setting, *seed, port),
     }
 }
 
 /// Does all that the program does for these words, without the program's own name, and answers its status
-/// (docs/architecture.md, "Where the meaning of a run is proved"): 0 done, 2 the words are refused, 3 the input is
-/// refused, 4 read fault, 5 write fault, 6 no memory. Each status but 0 has its line among the notes, and is decided
-/// before it is noted.
+/// (docs/architecture.md, "Where the meaning of a run is proved"): 0 done, 1 the picture lacks rows or its packets
+/// can't be read on, 2 the words are refused, 3 the input is refused, 4 read fault, 5 write fault, 6 no memory. Each
+/// status but 0 has its line among the notes, and is decided before it is noted.
 pub fn run<X: Port>(alloc: Global, words: &[String], port: &mut X) -> u8
     // What the words say decides what is done, and each answer has its cause there.
     ensures runs { (said : Result Command WordFault) × Says (texts words.now) said
@@ -109,7 +137,13 @@ pub fn run<X: Port>(alloc: Global, words: &[String], port: &mut X) -> u8
         IsSteady (X.outside port.old) (X.outside port.new) → IsDone command result }
     ensures wrong_input { (command : Command) → Says (texts words.now) (Ok command) → HasWrongInput command (X.outside port.old) →
         IsSteady (X.outside port.old) (X.outside port.new) → (result ≡ 3) ⊎ (result ≡ 6) }
+
+    // No pixel of a picture outside the damaged rows hangs on what was lost, and all packets of an image give it back.
+    ensures picture { (wish : DecodeWish) → Says (texts words.now) (Ok (Command.Decode wish)) → (result ≡ 0) ⊎ (result ≡ 1) →
+        GavePicture wish (X.outside port.old) (X.outside port.new) result }
 {
+    decoding_contains();
+    round_trip();
     match read_words(words) {
         Ok(command) => perform(alloc, &command, port),
         Err(fault) => refuse(words, fault, port),

@@ -5,7 +5,7 @@ use Rattle.top_122.proofs.NoteLines.{notes_as}
 use Rattle.top_122.proofs.notes.note_refusal.Goals as goal
 
 pub returns-in-BadWord : goal.returns-in-BadWord
-returns-in-BadWord g c = notes_as (word_line (texts c.args.words.now) c.args.fault) c.note_parts-in-BadWord.ensures (rw (c.in-BadWord.is, c.word-in-BadWord.ensures) refl)
+returns-in-BadWord g c = notes_as (word_line (texts c.args.words.now) c.args.fault) c.note_parts.ensures (rw (c.in-BadWord.is, c.word.ensures) refl)
 
 pub returns-in-MissingKey : goal.returns-in-MissingKey
 returns-in-MissingKey g c =
@@ -14,7 +14,3 @@ returns-in-MissingKey g c =
 pub returns-in-OutOfRange : goal.returns-in-OutOfRange
 returns-in-OutOfRange g c =
     notes_as (word_line (texts c.args.words.now) c.args.fault) c.note_parts-in-OutOfRange.ensures (rw (c.in-OutOfRange.is, c.field_name-in-OutOfRange.ensures) refl)
-
-pub returns-in-UnbuiltCommand : goal.returns-in-UnbuiltCommand
-returns-in-UnbuiltCommand g c =
-    notes_as (word_line (texts c.args.words.now) c.args.fault) c.note_parts.ensures (rw (c.in-UnbuiltCommand.is, c.word.ensures) refl)

@@ -4,6 +4,8 @@ use Rattle.command_words.specs.Words.{texts, Says}
 use Rattle.top_122.specs.Run.{Performs}
 use Rattle.top_122.proofs.Statuses.{performs_not_two, performs_done, performs_part, performs_refused, performs_read_fault, performs_write_fault, performs_no_memory}
 use Rattle.top_122.proofs.Inputs.{performs_complete, performs_wrong}
+use Rattle.command_words.specs.declared.command.Command.TheVariants.{Decode}
+use Rattle.top_122.proofs.GavePictures.{gave_picture}
 use Rattle.top_122.proofs.top.run.Goals as goal
 
 pub returns-in-Ok-clause-done : goal.returns-in-Ok-clause-done
@@ -53,3 +55,13 @@ returns-in-Err-clause-complete g c command says input steady =
 pub returns-in-Err-clause-wrong_input : goal.returns-in-Err-clause-wrong_input
 returns-in-Err-clause-wrong_input g c command says input steady =
     absurd (let e = c.read_words.ensures.only (Ok command) says in let f = c.in-Err.is in cc)
+
+pub returns-in-Ok-clause-picture : goal.returns-in-Ok-clause-picture
+returns-in-Ok-clause-picture g c wish says given =
+    let same : Decode wish ≡ c.in-Ok.command = let e = c.read_words.ensures.only (Ok (Decode wish)) says in let f = c.in-Ok.is in cc in
+    gave_picture c.decoding_contains.ensures c.round_trip.ensures wish _ _ c.perform.result
+    (subst (λ k. Performs k (g.X.Port.outside c.args.port.now) (g.X.Port.outside c.perform.new.port) c.perform.result) (sym same) c.perform.ensures) given
+
+pub returns-in-Err-clause-picture : goal.returns-in-Err-clause-picture
+returns-in-Err-clause-picture g c wish says given =
+    absurd (let e = c.read_words.ensures.only (Ok (Decode wish)) says in let f = c.in-Err.is in cc)

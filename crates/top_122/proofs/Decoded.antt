@@ -1,0 +1,364 @@
+-- What a run of `decode`, `damage` and `list` leaves after its note, and what follows for each status.
+use Rattle.std.proofs.Math.Seq.{take-nil}
+use Rattle.std.proofs.Common.{◌≡◌, ◌≤◌, ◌<◌, ◌+◌, ◌*◌, ◌/◌, ℕ, List, [], ◌∷◌, ◌++◌, length, refl, sym, ◌∙◌, ap, subst, arith, take, inl, inr, true, false}
+use Rattle.std.specs.Prelude.{◌⊎◌, ◌==◌, ◌||◌, Bool, Option, None, Some, Result, Ok, Err, filter, All}
+use Rattle.std.specs.List.{range_with_len}
+use Rattle.std.proofs.lemmas.Bool.{false≢true, eq-eqb}
+use Rattle.std.proofs.lemmas.List.Elements.{All-filter, All-get_or, All-from_get_or}
+use Rattle.std.proofs.lemmas.List.FromFn.{length-range_with_len, get_or-range_with_len}
+use Rattle.port_122.specs.Outside.{Outside, Since, NoRead, Rose, Loses, AtEnd}
+use Rattle.port_122.proofs.Stretches.{since_start, since_note, at_end_later}
+use Rattle.base_122.specs.Sizes.{block_count}
+use Rattle.base_122.specs.declared.geometry.Geometry.{Geometry}
+use Rattle.base_122.specs.declared.wish.DecodeWish.{DecodeWish}
+use Rattle.packet_defs.specs.declared.packet.Framing.{Framing}
+use Rattle.stream_defs.specs.declared.range.RowRange.{RowRange}
+use Rattle.stream_defs.specs.Damage.{is_covered, is_damaged, missing_rows, is_missing as is_missing_of}
+use Rattle.stream_defs.specs.Fates.{geometry_in}
+use Rattle.stream_defs.specs.Marks.{Marks}
+use Rattle.stream_defs.proofs.DamageLaws.{whole_damage}
+use Rattle.damage_rows.specs.Table.{is_missing}
+use Rattle.damage_rows.proofs.RangeLaws.{damaged_by}
+use Rattle.strip_decoder.specs.declared.decode.DecodeDone.{DecodeDone}
+use Rattle.strip_decoder.specs.declared.decode.DecodeFault.{DecodeFault}
+use Rattle.strip_decoder.specs.declared.decode.DecodeFault.TheVariants.{ReadFault, WriteFault, NoSegment, TooManyPixels, LongInput, Memory}
+use Rattle.strip_decoder.specs.Runs.{IsReadOut}
+use Rattle.strip_decoder.specs.Answers.{PictureBy, Answers, Asks, Decodes as DecodesOver}
+use Rattle.strip_decoder.specs.Finding.{IsPart, GivesSome, FindAnswers, AsksSilent, Finds}
+use Rattle.top_122.specs.Notes.{IsNoted, Notes, decoder_fault_status, decoder_fault_line}
+use Rattle.top_122.specs.DamageNotes.{damaged, damage_line, done_status, done_line}
+use Rattle.top_122.specs.Ran.{Ran}
+use Rattle.top_122.specs.Decoding.{Causes, Asking, AsksFound, decode_status, decode_line, RunsDecoder, Decodes, FindsDamage, TellsDone, DecodedWhole, DecodedPart, DecoderRefuses, DecoderLacksMemory}
+use Rattle.top_122.proofs.NoteLines.{noted_since}
+
+-- ---- after the note
+
+told_before : (b c : Option (List ℕ)) (rest : List ℕ) → Loses b c [] → c ≡ Some rest → b ≡ Some rest
+told_before None None rest l is = absurd cc
+told_before None (Some now) rest l is = absurd l
+told_before (Some before) None rest l is = absurd cc
+told_before (Some before) (Some now) rest l is = ap Some l ∙ is
+
+-- what was read to its end stays so
+pub out_later : (cap : ℕ) (b c : Outside) (took wrote : List ℕ) → Since b c [] [] wrote NoRead → IsReadOut cap b took → IsReadOut cap c took
+out_later cap b c took wrote n (inl bad) = inl bad
+out_later cap b c took wrote n (inr ended) = inr (at_end_later n ended.0, λ rest told. ended.1 rest (told_before b.rest c.rest rest n.rest told))
+
+picture_later : (gives : Bool) (wish : DecodeWish) (a b c : Outside) (took gave wrote : List ℕ) (done : DecodeDone) → Since b c [] [] wrote NoRead →
+    PictureBy gives wish a b took gave done → PictureBy gives wish a c took gave done
+picture_later gives wish a b c took gave wrote done n p = record {
+  geometry = p.geometry;
+  range = p.range;
+  few = p.few;
+  framing_is = p.framing_is;
+  out = out_later wish.octets b c took wrote n p.out;
+  rows = p.rows;
+  told = p.told;
+}
+
+-- a cause stands after a note too
+decode_later : (wish : DecodeWish) (a b c : Outside) (took gave wrote : List ℕ) (r : Result DecodeDone DecodeFault) → Since b c [] [] wrote NoRead →
+    Answers wish a b took gave r → Answers wish a c took gave r
+decode_later wish a b c took gave wrote (Ok done) n k = picture_later true wish a b c took gave wrote done n k
+decode_later wish a b c took gave wrote (Err NoSegment) n k = (k.0, out_later wish.octets b c took wrote n k.1, k.2)
+decode_later wish a b c took gave wrote (Err (TooManyPixels pixels)) n k = k
+decode_later wish a b c took gave wrote (Err LongInput) n k = k
+decode_later wish a b c took gave wrote (Err ReadFault) n k = (omega (arith, k.0, n.faults.reads), k.1)
+decode_later wish a b c took gave wrote (Err WriteFault) n k = (omega (arith, k.0, n.faults.writes), k.1, k.2)
+decode_later wish a b c took gave wrote (Err Memory) n k = k
+
+part_later : (wish : DecodeWish) (a b c : Outside) (took gave wrote : List ℕ) → Since b c [] [] wrote NoRead → GivesSome wish a b took gave → GivesSome wish a c took gave
+part_later wish a b c took gave wrote n (inl none) = inl none
+part_later wish a b c took gave wrote n (inr part) = inr record {
+  done = part.done;
+  found = picture_later false wish a b c took [] wrote part.done n part.found;
+  some = part.some;
+  lines = part.lines;
+}
+
+find_later : (wish : DecodeWish) (a b c : Outside) (took gave wrote : List ℕ) (r : Result DecodeDone DecodeFault) → Since b c [] [] wrote NoRead →
+    FindAnswers wish a b took gave r → FindAnswers wish a c took gave r
+find_later wish a b c took gave wrote (Ok done) n k = record { found = picture_later false wish a b c took [] wrote done n k.found; lines = k.lines }
+find_later wish a b c took gave wrote (Err NoSegment) n k = (k.0, out_later wish.octets b c took wrote n k.1, k.2)
+find_later wish a b c took gave wrote (Err (TooManyPixels pixels)) n k = k
+find_later wish a b c took gave wrote (Err LongInput) n k = k
+find_later wish a b c took gave wrote (Err ReadFault) n k = (omega (arith, k.0, n.faults.reads), k.1)
+find_later wish a b c took gave wrote (Err WriteFault) n k = (omega (arith, k.0, n.faults.writes), k.1, part_later wish a b c took gave wrote n k.2)
+find_later wish a b c took gave wrote (Err Memory) n k = k
+
+pub decoded : (wish : DecodeWish) (a b c : Outside) (done : DecodeDone) (status : ℕ) → DecodesOver wish a b (Ok done) →
+    TellsDone (damaged done.damage) done.framing b c status → Decodes wish a c status
+decoded wish a b c done status run n = record {
+  answer = Ok done;
+  took = run.took;
+  gave = run.gave;
+  wrote = n.wrote;
+  since = since_note run.since n.since;
+  cause = decode_later wish a b c run.took run.gave n.wrote (Ok done) n.since run.answer;
+  status_is = n.status_is;
+  noted = noted_since a b c n.wrote _ run.since.faults.notes n.noted;
+}
+
+pub decode_failed : (wish : DecodeWish) (a b c : Outside) (fault : DecodeFault) (status : ℕ) → DecodesOver wish a b (Err fault) → Notes b c (decoder_fault_line fault) →
+    status ≡ decoder_fault_status fault → Decodes wish a c status
+decode_failed wish a b c fault status run n is = record {
+  answer = Err fault;
+  took = run.took;
+  gave = run.gave;
+  wrote = n.0;
+  since = since_note run.since n.1;
+  cause = decode_later wish a b c run.took run.gave n.0 (Err fault) n.1 run.answer;
+  status_is = is;
+  noted = noted_since a b c n.0 (decoder_fault_line fault) run.since.faults.notes n.2;
+}
+
+pub found : (wish : DecodeWish) (a b c : Outside) (done : DecodeDone) (status : ℕ) → Finds wish a b (Ok done) →
+    TellsDone (damaged done.damage) done.framing b c status → FindsDamage wish a c status
+found wish a b c done status run n = record {
+  answer = Ok done;
+  took = run.took;
+  gave = run.gave;
+  wrote = n.wrote;
+  since = since_note run.since n.since;
+  cause = find_later wish a b c run.took run.gave n.wrote (Ok done) n.since run.answer;
+  status_is = n.status_is;
+  noted = noted_since a b c n.wrote _ run.since.faults.notes n.noted;
+}
+
+pub find_failed : (wish : DecodeWish) (a b c : Outside) (fault : DecodeFault) (status : ℕ) → Finds wish a b (Err fault) → Notes b c (decoder_fault_line fault) →
+    status ≡ decoder_fault_status fault → FindsDamage wish a c status
+find_failed wish a b c fault status run n is = record {
+  answer = Err fault;
+  took = run.took;
+  gave = run.gave;
+  wrote = n.0;
+  since = since_note run.since n.1;
+  cause = find_later wish a b c run.took run.gave n.0 (Err fault) n.1 run.answer;
+  status_is = is;
+  noted = noted_since a b c n.0 (decoder_fault_line fault) run.since.faults.notes n.2;
+}
+
+-- ---- what the note says
+
+pub tells_nothing : (ranges : List RowRange) (framing : Option Framing) (a : Outside) → ranges ≡ [] → framing ≡ None → TellsDone ranges framing a a 0
+tells_nothing ranges framing a unharmed good = record {
+  wrote = [];
+  since = since_start a NoRead;
+  status_is = rw (unharmed, good) refl;
+  noted = inl (rw (unharmed, good) refl);
+}
+
+lacking_status : (ranges : List RowRange) (framing : Option Framing) → (ranges ≡ [] → framing ≡ None → ⊥) → 1 ≡ done_status ranges framing
+lacking_status [] None lacks = absurd (lacks refl refl)
+lacking_status [] (Some f) lacks = refl
+lacking_status (r ∷ rs) framing lacks = refl
+
+pub lacking_line : (ranges : List RowRange) (framing : Option Framing) → (ranges ≡ [] → framing ≡ None → ⊥) → done_line ranges framing ≡ damage_line ranges framing
+lacking_line [] None lacks = absurd (lacks refl refl)
+lacking_line [] (Some f) lacks = refl
+lacking_line (r ∷ rs) framing lacks = refl
+
+pub tells_damage : (ranges : List RowRange) (framing : Option Framing) (a b : Outside) → (ranges ≡ [] → framing ≡ None → ⊥) → Notes a b (damage_line ranges framing) → TellsDone ranges framing a b 1
+tells_damage ranges framing a b lacks n = record {
+  wrote = n.0;
+  since = n.1;
+  status_is = lacking_status ranges framing lacks;
+  noted = subst (IsNoted a b n.0) (sym (lacking_line ranges framing lacks)) n.2;
+}
+
+-- ---- nothing is damaged only where nothing is missing
+
+rows_below : (n : ℕ) → All (λ k. k < n) (range_with_len 0 n)
+rows_below n = All-from_get_or (λ k. k < n) (range_with_len 0 n) 0 (λ i below. let size = length-range_with_len 0 n in let at = get_or-range_with_len 0 n i 0 (omega (arith, below, size)) in omega (arith, at, below, size))
+
+none_listed : (rows : ℕ) (p : ℕ → Bool) (missing : List ℕ) → missing ≡ filter p (range_with_len 0 (block_count rows)) → ((row : ℕ) → is_damaged rows missing row ≡ false) → missing ≡ []
+none_listed rows p [] is none = refl
+none_listed rows p (r ∷ rs) is none =
+    let all : All (λ k. k < block_count rows) (r ∷ rs) = subst (All (λ k. k < block_count rows)) (sym is) (All-filter p (λ k. k < block_count rows) _ (rows_below (block_count rows))) in
+    let low : r < block_count rows = All-get_or (λ k. k < block_count rows) (r ∷ rs) 0 0 (omega arith) all in
+    let within : 8 * r < rows = omega (arith, low) in
+    let same : (r == r) ≡ true = eq-eqb r r refl in
+    let listed : is_missing (r ∷ rs) r ≡ true = rw same refl in
+    absurd (false≢true (sym (none (8 * r)) ∙ damaged_by rows (r ∷ rs) (8 * r) r within listed (omega arith) (omega arith)))
+
+-- a row that is in no range isn't damaged
+undamaged : (m : Marks) → damaged m ≡ [] → (row : ℕ) → is_damaged m.rows m.missing row ≡ false
+undamaged m none row = sym ((whole_damage m.rows m.missing).0.each row) ∙ ap (λ rs. is_covered rs row) none
+
+missing_listed : (gives : Bool) (wish : DecodeWish) (a b : Outside) (took gave : List ℕ) (done : DecodeDone) → PictureBy gives wish a b took gave done → damaged done.damage ≡ [] →
+    (all : List ℕ) → a.rest ≡ Some all → done.damage.missing ≡ []
+unfolding missing_rows
+missing_listed gives wish a b took gave done p none all told =
+    let t = p.told all told in
+    none_listed done.damage.rows (is_missing_of done.geometry t.0) done.damage.missing
+    (t.3 ∙ ap (λ n. filter (is_missing_of done.geometry t.0) (range_with_len 0 (block_count n))) (sym p.rows))
+    (undamaged done.damage none)
+
+-- ---- what each cause says
+
+-- an image that was read, of few pixels, where nothing is missing if no row is damaged
+pub record SawImage (wish : DecodeWish) (old : Outside) (took : List ℕ) (done : DecodeDone) : Type 0 where
+  pub geometry : geometry_in wish.apid took ≡ Some done.geometry
+  pub few : done.geometry.width * done.geometry.rows ≤ wish.pixels
+  pub none_missing : damaged done.damage ≡ [] → (all : List ℕ) → old.rest ≡ Some all → done.damage.missing ≡ []
+
+-- what an answer says of the octets and the faults, whatever was given
+abbrev pub Says : DecodeWish → Outside → Outside → List ℕ → List ℕ → Result DecodeDone DecodeFault → Type 0
+Says wish old new took gave (Ok done) = SawImage wish old took done
+Says wish old new took gave (Err NoSegment) = (geometry_in wish.apid took ≡ None) × IsReadOut wish.octets new took
+Says wish old new took gave (Err (TooManyPixels pixels)) = ((g : Geometry) × (geometry_in wish.apid took ≡ Some g) × (pixels ≡ g.width * g.rows)) × (wish.pixels < pixels)
+Says wish old new took gave (Err LongInput) = length took ≡ wish.octets
+Says wish old new took gave (Err ReadFault) = Rose old.read_faults new.read_faults
+Says wish old new took gave (Err WriteFault) = Rose old.write_faults new.write_faults
+Says wish old new took gave (Err Memory) = gave ≡ []
+
+saw : (gives : Bool) (wish : DecodeWish) (a b : Outside) (took gave : List ℕ) (done : DecodeDone) → PictureBy gives wish a b took gave done → SawImage wish a took done
+saw gives wish a b took gave done p = record { geometry = p.geometry; few = p.few; none_missing = missing_listed gives wish a b took gave done p }
+
+-- all causes of an engine say so
+abbrev pub AllSay : DecodeWish → Causes → Type 0
+AllSay wish causes = (old new : Outside) (took gave : List ℕ) (r : Result DecodeDone DecodeFault) → causes old new took gave r → Says wish old new took gave r
+
+pub decode_says : (wish : DecodeWish) → AllSay wish (Answers wish)
+decode_says wish a b took gave (Ok done) k = saw true wish a b took gave done k
+decode_says wish a b took gave (Err NoSegment) k = (k.0, k.1)
+decode_says wish a b took gave (Err (TooManyPixels pixels)) k = (k.0, k.1)
+decode_says wish a b took gave (Err LongInput) k = k.0
+decode_says wish a b took gave (Err ReadFault) k = k.0
+decode_says wish a b took gave (Err WriteFault) k = k.0
+decode_says wish a b took gave (Err Memory) k = k
+
+pub find_says : (wish : DecodeWish) → AllSay wish (FindAnswers wish)
+find_says wish a b took gave (Ok done) k = saw false wish a b took [] done k.found
+find_says wish a b took gave (Err NoSegment) k = (k.0, k.1)
+find_says wish a b took gave (Err (TooManyPixels pixels)) k = (k.0, k.1)
+find_says wish a b took gave (Err LongInput) k = k.0
+find_says wish a b took gave (Err ReadFault) k = k.0
+find_says wish a b took gave (Err WriteFault) k = k.0
+find_says wish a b took gave (Err Memory) k = k
+
+-- ---- each status
+
+pub undamaged_status : (ranges : List RowRange) (framing : Option Framing) → done_status ranges framing ≡ 0 → (ranges ≡ []) × (framing ≡ None)
+undamaged_status [] None e = (refl, refl)
+undamaged_status [] (Some f) e = absurd (omega (arith, e))
+undamaged_status (r ∷ rs) framing e = absurd (omega (arith, e))
+
+pub damaged_status : (ranges : List RowRange) (framing : Option Framing) → done_status ranges framing ≡ 1 → ranges ≡ [] → framing ≡ None → ⊥
+damaged_status [] None e none good = absurd (omega (arith, e))
+damaged_status [] (Some f) e none good = absurd cc
+damaged_status (r ∷ rs) framing e none good = absurd cc
+
+pub status_small : (ranges : List RowRange) (framing : Option Framing) → (done_status ranges framing ≡ 0) ⊎ (done_status ranges framing ≡ 1)
+status_small [] None = inl refl
+status_small [] (Some f) = inr refl
+status_small (r ∷ rs) framing = inr refl
+
+pub not_higher : (ranges : List RowRange) (framing : Option Framing) (n : ℕ) → 2 ≤ n → done_status ranges framing ≡ n → ⊥
+not_higher ranges framing n high e = elim (status_small ranges framing) [
+  | inl none ↦ omega (arith, none, e, high)
+  | inr some ↦ omega (arith, some, e, high)
+]
+
+pub fault_statuses : (fault : DecodeFault) → 3 ≤ decoder_fault_status fault
+fault_statuses NoSegment = omega arith
+fault_statuses (TooManyPixels pixels) = omega arith
+fault_statuses LongInput = omega arith
+fault_statuses ReadFault = omega arith
+fault_statuses WriteFault = omega arith
+fault_statuses Memory = omega arith
+
+not_two : (r : Result DecodeDone DecodeFault) → decode_status r ≡ 2 → ⊥
+not_two (Ok done) e = not_higher (damaged done.damage) done.framing 2 (omega arith) e
+not_two (Err fault) e = omega (arith, e, fault_statuses fault)
+
+pub nothing_noted : (old new : Outside) (wrote line : List ℕ) → line ≡ [] → IsNoted old new wrote line → wrote ≡ []
+nothing_noted old new wrote line none (inl same) = same ∙ none
+nothing_noted old new wrote line none (inr failed) = failed.1.2 ∙ ap (take failed.1.0) none ∙ take-nil failed.1.0
+
+pub whole_line : (ranges : List RowRange) (framing : Option Framing) → ranges ≡ [] → framing ≡ None → done_line ranges framing ≡ []
+whole_line ranges framing none good = rw (none, good) refl
+
+pub decode_not_two : {causes : Causes} {asks : Asking} (old new : Outside) (status : ℕ) → RunsDecoder causes asks old new status → status ≡ 2 → ⊥
+decode_not_two old new status run two = not_two run.answer (sym run.status_is ∙ two)
+
+module _ (wish : DecodeWish) (causes : Causes) (asks : Asking) (say : AllSay wish causes) (old new : Outside) (status : ℕ) (run : RunsDecoder causes asks old new status) where
+  pub decode_done : status ≡ 0 → DecodedWhole causes asks old new
+  decode_done zero = by run.answer run.cause run.noted (sym run.status_is ∙ zero)
+    where
+      by : (r : Result DecodeDone DecodeFault) → causes old new run.took run.gave r → IsNoted old new run.wrote (decode_line r) → decode_status r ≡ 0 → DecodedWhole causes asks old new
+      by (Ok done) k noted e =
+          let fine = undamaged_status (damaged done.damage) done.framing e in
+          let silent = nothing_noted old new run.wrote _ (whole_line (damaged done.damage) done.framing fine.0 fine.1) noted in
+          record {
+            done = done;
+            took = run.took;
+            gave = run.gave;
+            since = subst (λ w. Since old new run.took run.gave w (asks old run.took run.gave)) silent run.since;
+            cause = k;
+            framing = fine.1;
+            none_damaged = fine.0;
+            none_missing = (say old new run.took run.gave (Ok done) k).none_missing fine.0;
+          }
+      by (Err fault) k noted e = absurd (omega (arith, e, fault_statuses fault))
+
+  pub decode_part : status ≡ 1 → DecodedPart causes asks old new
+  decode_part one = by run.answer run.cause run.noted (sym run.status_is ∙ one)
+    where
+      by : (r : Result DecodeDone DecodeFault) → causes old new run.took run.gave r → IsNoted old new run.wrote (decode_line r) → decode_status r ≡ 1 → DecodedPart causes asks old new
+      by (Ok done) k noted e =
+          let lacks = damaged_status (damaged done.damage) done.framing e in
+          record {
+            done = done;
+            took = run.took;
+            gave = run.gave;
+            wrote = run.wrote;
+            since = run.since;
+            cause = k;
+            lacks = lacks;
+            noted = subst (IsNoted old new run.wrote) (lacking_line (damaged done.damage) done.framing lacks) noted;
+          }
+      by (Err fault) k noted e = absurd (omega (arith, e, fault_statuses fault))
+
+  pub decode_refused : status ≡ 3 → DecoderRefuses causes asks old new
+  decode_refused three = by run.answer run.cause run.noted (sym run.status_is ∙ three)
+    where
+      by : (r : Result DecodeDone DecodeFault) → causes old new run.took run.gave r → IsNoted old new run.wrote (decode_line r) → decode_status r ≡ 3 → DecoderRefuses causes asks old new
+      by (Ok done) k noted e = absurd (not_higher (damaged done.damage) done.framing 3 (omega arith) e)
+      by (Err fault) k noted e = record { fault = fault; took = run.took; gave = run.gave; wrote = run.wrote; since = run.since; input = e; cause = k; noted = noted }
+
+  pub decode_read_fault : status ≡ 4 → Rose old.read_faults new.read_faults
+  decode_read_fault four = by run.answer (say old new run.took run.gave run.answer run.cause) (sym run.status_is ∙ four)
+    where
+      by : (r : Result DecodeDone DecodeFault) → Says wish old new run.took run.gave r → decode_status r ≡ 4 → Rose old.read_faults new.read_faults
+      by (Ok done) k e = absurd (not_higher (damaged done.damage) done.framing 4 (omega arith) e)
+      by (Err ReadFault) k e = k
+      by (Err NoSegment) k e = absurd (omega (arith, e))
+      by (Err (TooManyPixels pixels)) k e = absurd (omega (arith, e))
+      by (Err LongInput) k e = absurd (omega (arith, e))
+      by (Err WriteFault) k e = absurd (omega (arith, e))
+      by (Err Memory) k e = absurd (omega (arith, e))
+
+  pub decode_write_fault : status ≡ 5 → Rose old.write_faults new.write_faults
+  decode_write_fault five = by run.answer (say old new run.took run.gave run.answer run.cause) (sym run.status_is ∙ five)
+    where
+      by : (r : Result DecodeDone DecodeFault) → Says wish old new run.took run.gave r → decode_status r ≡ 5 → Rose old.write_faults new.write_faults
+      by (Ok done) k e = absurd (not_higher (damaged done.damage) done.framing 5 (omega arith) e)
+      by (Err WriteFault) k e = k
+      by (Err NoSegment) k e = absurd (omega (arith, e))
+      by (Err (TooManyPixels pixels)) k e = absurd (omega (arith, e))
+      by (Err LongInput) k e = absurd (omega (arith, e))
+      by (Err ReadFault) k e = absurd (omega (arith, e))
+      by (Err Memory) k e = absurd (omega (arith, e))
+
+  pub decode_no_memory : status ≡ 6 → DecoderLacksMemory asks old new
+  decode_no_memory six = by run.answer (say old new run.took run.gave run.answer run.cause) (sym run.status_is ∙ six)
+    where
+      by : (r : Result DecodeDone DecodeFault) → Says wish old new run.took run.gave r → decode_status r ≡ 6 → DecoderLacksMemory asks old new
+      by (Ok done) k e = absurd (not_higher (damaged done.damage) done.framing 6 (omega arith) e)
+      by (Err Memory) k e = record { took = run.took; wrote = run.wrote; since = subst (λ g. Since old new run.took g run.wrote (asks old run.took g)) k run.since }
+      by (Err NoSegment) k e = absurd (omega (arith, e))
+      by (Err (TooManyPixels pixels)) k e = absurd (omega (arith, e))
+      by (Err LongInput) k e = absurd (omega (arith, e))
+      by (Err ReadFault) k e = absurd (omega (arith, e))
+      by (Err WriteFault) k e = absurd (omega (arith, e))

@@ -1,0 +1,23 @@
+-- One run of a command's engine. This project's own.
+use Rattle.std.specs.Prelude.{◌≡◌, ℕ, List, []}
+use Rattle.port_122.specs.Outside.{Outside, Since, NoRead}
+use Rattle.top_122.specs.Notes.{IsNoted, memory_line}
+
+-- What was taken, given and noted, when, and the engine's answer, which has its cause, its status and its note.
+pub record Ran {R : Type 0} (causes : Outside → Outside → List ℕ → List ℕ → R → Type 0) (asks : Outside → List ℕ → List ℕ → ℕ → ℕ → Type 0)
+    (status_of : R → ℕ) (line_of : R → List ℕ) (old new : Outside) (status : ℕ) : Type 0 where
+  pub answer : R
+  pub took : List ℕ
+  pub gave : List ℕ
+  pub wrote : List ℕ
+  pub since : Since old new took gave wrote (asks old took gave)
+  pub cause : causes old new took gave answer
+  pub status_is : status ≡ status_of answer
+  pub noted : IsNoted old new wrote (line_of answer)
+
+-- There is no memory for the engine: nothing is read or given.
+pub record LacksMemory (old new : Outside) (status : ℕ) : Type 0 where
+  pub wrote : List ℕ
+  pub since : Since old new [] [] wrote NoRead
+  pub status_is : status ≡ 6
+  pub noted : IsNoted old new wrote memory_line

@@ -1,0 +1,98 @@
+// The commands that read packets.
+ghost use Rattle.std.specs.Prelude.{◌≡◌, ◌≤◌, []};
+ghost use Rattle.top_122.specs.Notes.{decoder_fault_status, list_fault_status};
+ghost use Rattle.top_122.specs.DamageNotes.{damaged};
+ghost use Rattle.top_122.specs.Decoding.{Decodes, FindsDamage, ListsPackets, TellsDone};
+
+use crate::damage_notes::{note_damage, note_framing};
+use crate::notes::{note_decoder_fault, note_list_fault};
+use base_122::DecodeWish;
+use packet_defs::Framing;
+use packet_list::{ListFault, list_packets};
+use port_122::Port;
+use std::alloc::Global;
+use strip_decoder::{DecodeDone, DecodeFault, decode_packets, find_damage};
+
+fn decoder_fault_status(fault: DecodeFault) -> u8
+    ensures { result ≡ decoder_fault_status fault }
+{
+    match fault {
+        DecodeFault::NoSegment | DecodeFault::TooManyPixels { .. } | DecodeFault::LongInput => 3,
+        DecodeFault::ReadFault => 4,
+        DecodeFault::WriteFault => 5,
+        DecodeFault::Memory => 6,
+    }
+}
+
+fn list_fault_status(fault: ListFault) -> u8
+    ensures { result ≡ list_fault_status fault }
+{
+    match fault {
+        ListFault::LongInput => 3,
+        ListFault::ReadFault => 4,
+        ListFault::WriteFault => 5,
+        ListFault::Memory => 6,
+    }
+}
+
+// Answers 0 where no row is damaged and the packets could be read to their end; else it notes what is wrong.
+fn tell_done<X: Port>(port: &mut X, done: &DecodeDone) -> u8
+    requires { done.now.damage.rows ≤ 262144 }
+    ensures { TellsDone (damaged done.now.damage) done.now.framing (X.outside port.old) (X.outside port.new) result }
+{
+    if done.damage.next_range(0).is_none() && done.framing.is_none() {
+        return 0;
+    }
+    note_damage(port, &done.damage, done.framing);
+    1
+}
+
+// Answers 0 where the packets could be read to their end; else it notes why not.
+fn tell_framing<X: Port>(port: &mut X, framing: Option<Framing>) -> u8
+    ensures { TellsDone [] framing (X.outside port.old) (X.outside port.new) result }
+{
+    if framing.is_none() {
+        return 0;
+    }
+    note_framing(port, framing);
+    1
+}
+
+/// The command `decode`: packets in, the picture out. Where there is no memory nothing is given.
+pub fn decode<X: Port>(alloc: Global, wish: &DecodeWish, port: &mut X) -> u8
+    ensures { Decodes wish.now (X.outside port.old) (X.outside port.new) result }
+{
+    match decode_packets(alloc, port, wish) {
+        Ok(done) => tell_done(port, &done),
+        Err(fault) => {
+            note_decoder_fault(port, fault);
+            decoder_fault_status(fault)
+        }
+    }
+}
+
+/// The command `damage`: packets in, a line for each range of damaged rows out. Where there is no memory nothing is given.
+pub fn damage<X: Port>(alloc: Global, wish: &DecodeWish, port: &mut X) -> u8
+    ensures { FindsDamage wish.now (X.outside port.old) (X.outside port.new) result }
+{
+    match find_damage(alloc, port, wish) {
+        Ok(done) => tell_done(port, &done),
+        Err(fault) => {
+            note_decoder_fault(port, fault);
+            decoder_fault_status(fault)
+        }
+    }
+}
+
+/// The command `list`: packets in, a line for each out. Where there is no memory nothing is read.
+pub fn list<X: Port>(alloc: Global, wish: &DecodeWish, port: &mut X) -> u8
+    ensures { ListsPackets wish.now (X.outside port.old) (X.outside port.new) result }
+{
+    match list_packets(alloc, port, wish) {
+        Ok(done) => tell_framing(port, done.framing),
+        Err(fault) => {
+            note_list_fault(port, fault);
+            list_fault_status(fault)
+        }
+    }
+}
