@@ -27,25 +27,37 @@ const NO_MEMORY: u8 = 6;
 
 const USAGE: &str = "\
 usage: strip122 encode width=N rows=N [KEY=VALUE ..]
-       strip122 make width=N rows=N [KEY=VALUE ..]
+       strip122 decode|damage|list [KEY=VALUE ..]
+       strip122 make|trial width=N rows=N [KEY=VALUE ..]
        strip122 --help | --version
 
 encode  reads a raster from standard input and writes space packets to standard output
-make    writes a made raster to standard output, and reads nothing
+decode  reads packets and writes the raster, each row as soon as the packets determine it
+damage  reads packets and writes a line FIRST-LAST for each range of rows that what is
+        lost may have reached
+list    reads packets and writes a line for each: its number, and what became of it
+make    writes a made raster, and reads nothing
+trial   makes, encodes and decodes an image of at most 16777216 pixels in memory, reads
+        nothing, and writes a line of what was counted
 
 A raster has its rows from the top. A pixel has one octet where depth is at most 8, else
 two, the greater first.
 
 keys, each at most once, with the default in parentheses; those without one are required
-of both    width=17..1048575 rows=17..262144 depth=1..16 (8) signed=0|1 (0)
-of encode  segment=16..1048575 (64) limit=0|32..134217724 (0) fill=0|1 (0) word=1..4 (1)
-           stop=dc|PLANE.STAGE (0.3) weights=ten of 0..3 (0111222333)
-           select=heuristic|optimal (optimal) apid=0..2046 (100) image=0..65535 (0)
-           packet=64..65536 (1024)
-of make    seed=0..4294967295 (0)
+encode, make, trial
+                width=17..1048575 rows=17..262144 depth=1..16 (8) signed=0|1 (0)
+encode, trial   segment=16..1048575 (64) limit=0|32..134217724 (0) fill=0|1 (0)
+                word=1..4 (1) stop=dc|PLANE.STAGE (0.3) weights=ten of 0..3 (0111222333)
+                select=heuristic|optimal (optimal) image=0..65535 (0)
+                packet=64..65536 (1024)
+make, trial     seed=0..4294967295 (0)
+all but make    apid=0..2046 (100)
+decode, damage  pixels=0..1099511627776 (4294967296), the most that a picture may have
+decode, damage, list
+                octets=1..1099511627776 (1099511627776), after which reading ends
 
-status  0 done, 2 the words are refused, 3 the input is refused, 4 read fault,
-        5 write fault, 6 no memory
+status  0 done, 1 rows are missing or the packets can't be read on, 2 the words are
+        refused, 3 the input is refused, 4 read fault, 5 write fault, 6 no memory
 ";
 
 const VERSION: &str = "strip122 0.1.0\n";
