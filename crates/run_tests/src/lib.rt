@@ -2,4 +2,10 @@
 #![tactic(auto)]
 
 #[cfg(test)]
+mod faults;
+#[cfg(test)]
+mod packets;
+#[cfg(test)]
 mod runs;
+#[cfg(test)]
+mod trials;

@@ -5,7 +5,7 @@ use std::test::Fail;
 use top_122::run;
 
 // One piece for each call.
-const WHOLE: usize = 65_536;
+pub(crate) const WHOLE: usize = 65_536;
 
 // The words of a text, with a space between each two.
 fn words(rt: &impl AllocGlobal, text: &str) -> Result<Vec<String>, Fail> {
@@ -18,13 +18,13 @@ fn words(rt: &impl AllocGlobal, text: &str) -> Result<Vec<String>, Fail> {
 
 // What a run left.
 #[derive(Drop)]
-struct Outcome {
-    status: u8,
-    port: MemoryPort,
+pub(crate) struct Outcome {
+    pub status: u8,
+    pub port: MemoryPort,
 }
 
 // Runs these words over an input, with pieces of this size, and lets the calls of these numbers fail.
-fn run_words(
+pub(crate) fn run_words(
     rt: &(impl Abort + AllocGlobal),
     text: &str,
     input: &[u8],
@@ -40,7 +40,7 @@ fn run_words(
 }
 
 // Runs these words over an input, and compares the status, what was given and what was noted.
-fn expect(
+pub(crate) fn expect(
     rt: &(impl Abort + AllocGlobal),
     text: &str,
     input: &[u8],
@@ -62,7 +62,7 @@ fn expect(
 }
 
 // The packet of an image of 17 rows that is one segment with this text, in segments of 64 blocks.
-fn packet(rt: &(impl Abort + AllocGlobal), text: &[u8]) -> Result<Vec<u8>, Fail> {
+pub(crate) fn packet(rt: &(impl Abort + AllocGlobal), text: &[u8]) -> Result<Vec<u8>, Fail> {
     assert!(rt; text.len() < 200);
     let length = 23 + text.len() as u8;
     let mut packet = [0x08, 0x64, 0xC0, 0x00, 0x00, length].to_vec(rt.alloc())?;
@@ -73,7 +73,7 @@ fn packet(rt: &(impl Abort + AllocGlobal), text: &[u8]) -> Result<Vec<u8>, Fail>
 }
 
 // The text of 17 rows and columns of 0.
-const ZEROS: [u8; 22] = [
+pub(crate) const ZEROS: [u8; 22] = [
     0xC0, 0x02, 0x07, 0xE0, 0x00, 0x00, 0x00, 0x10, 0x60, 0x00, 0x00, 0x9C, 0x88, 0x00, 0x01, 0x10,
     0x00, 0x00, 0x00, 0x00, 0x00, 0x00,
 ];
@@ -81,7 +81,7 @@ const ZEROS: [u8; 22] = [
 const SQUARE: &str = "encode width=17 rows=17 stop=dc";
 
 // The text of 17 rows and columns of 200, with all bit planes.
-const TWO_HUNDRED: [u8; 23] = [
+pub(crate) const TWO_HUNDRED: [u8; 23] = [
     0xC0, 0x18, 0x07, 0xE0, 0x00, 0x00, 0x00, 0x00, 0x60, 0x00, 0x00, 0x9C, 0x88, 0x00, 0x01, 0x10,
     0x00, 0x00, 0x00, 0x00, 0x06, 0x47, 0xF8,
 ];
@@ -132,7 +132,7 @@ fn the_greatest_pixels_and_weights(rt: HostRuntime) -> Result<(), Fail> {
     let words = "encode width=32 rows=32 depth=16 weights=3333333333";
     let ran = run_words(&rt, words, &fields, &[], WHOLE)?;
     assert_eq!(rt; ran.status, 0);
-    Ok(())
+    expect(&rt, "decode", ran.port.given(), 0, &fields, "")
 }
 
 #[test]
@@ -142,6 +142,12 @@ fn two_thousand_segments(rt: HostRuntime) -> Result<(), Fail> {
     let ran = run_words(&rt, words, &zeros, &[], WHOLE)?;
     assert_eq!(rt; ran.status, 0);
     assert_eq!(rt; ran.port.given().len(), 1999 * 51 + 52);
+    let given = ran.port.given();
+    let mut some = given[..100 * 51].to_vec(rt.alloc())?;
+    some.extend_from_slice(&given[400 * 51..])?;
+    let left = run_words(&rt, "damage", &some, &[], WHOLE)?;
+    assert_eq!(rt; left.status, 1);
+    assert_eq!(rt; left.port.given(), b"779-3221\n".as_slice());
     Ok(())
 }
 
@@ -159,6 +165,9 @@ fn a_million_made_pixels(rt: HostRuntime) -> Result<(), Fail> {
     let words = "encode width=1024 rows=1024 depth=12";
     let ran = run_words(&rt, words, made.port.given(), &[], WHOLE)?;
     assert_eq!(rt; ran.status, 0);
+    let back = run_words(&rt, "decode", ran.port.given(), &[], WHOLE)?;
+    assert_eq!(rt; back.status, 0);
+    assert!(rt; back.port.given() == made.port.given());
     Ok(())
 }
 
@@ -169,7 +178,9 @@ fn a_limit_fills_and_cuts(rt: HostRuntime) -> Result<(), Fail> {
     filled[6] = 0x08;
     filled[8] = 0x70;
     let words = "encode width=17 rows=17 limit=64 fill=1";
-    expect(&rt, words, &[200; 289], 0, &packet(&rt, &filled)?, "")?;
+    let whole = packet(&rt, &filled)?;
+    expect(&rt, words, &[200; 289], 0, &whole, "")?;
+    expect(&rt, "decode", &whole, 0, &[200; 289], "")?;
     let ran = run_words(
         &rt,
         "encode width=80 rows=80 segment=100 limit=32",
@@ -186,6 +197,8 @@ fn a_limit_fills_and_cuts(rt: HostRuntime) -> Result<(), Fail> {
     let given = ran.port.given();
     assert_eq!(rt; given.len(), 62);
     assert_eq!(rt; &given[30..], text.as_slice());
+    let back = run_words(&rt, "decode", given, &[], WHOLE)?;
+    assert_eq!(rt; back.status, 0);
     Ok(())
 }
 
