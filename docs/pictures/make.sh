@@ -1,0 +1,80 @@
+#!/bin/sh
+# Makes the PNG files here by the program, and tells the octets of each encoding. Needs netpbm (Debian's package).
+# The program is that of this repository, or the one that STRIP122 names.
+cd "$(dirname "$0")" || exit
+if ! command -v pnmtopng >/dev/null; then
+    echo "$0: needs netpbm (Debian: apt-get install netpbm)" >&2
+    exit 1
+fi
+program=${STRIP122:-../../strip122}
+kept=$(mktemp -d) || exit
+trap 'rm -rf "$kept"' EXIT
+trap 'exit 1' HUP INT TERM
+side=256
+
+# A sun, hills and fields, as a plain PGM.
+drawing='
+function hill(x, at, width, height,    d) { d = (x - at) / width; return height / (1 + d * d) }
+function shade(y, x,    sun, far, near) {
+    sun = (y - 62) * (y - 62) + (x - 176) * (x - 176)
+    far = 150 - hill(x, 60, 30, 70) - hill(x, 200, 45, 45)
+    near = 186 - hill(x, 130, 60, 34)
+    if (y > near) return 70 + int((x - 128) * 12 / (y - near + 24) + 400) % 2 * 70 + int((y - near) / 2)
+    if (y > far) return 120 - int((y - far) / 2) + (x * 7 + y * 13) % 11
+    if (sun < 900) return 250
+    if (sun < 1300) return 190
+    return 215 - int(y / 2)
+}
+BEGIN {
+    print "P2\n" side, side, 255
+    for (y = 0; y < side; y++) for (x = 0; x < side; x++) print shade(y, x)
+}'
+
+# PGM of a raster on standard input.
+pgm() {
+    printf 'P5\n%d %d\n255\n' $side $side
+    cat
+}
+
+encode() {
+    "$program" encode width=$side rows=$side "$@" <"$kept/raster"
+}
+
+# NAME KEY=VALUE ..: a picture that was encoded so, and decoded.
+picture() {
+    name=$1
+    shift
+    encode "$@" >"$kept/packets" && "$program" decode <"$kept/packets" | pgm | pnmtopng -compression 9 >"$name.png"
+    echo "$name.png: $* $(wc -c <"$kept/packets") octets of packets"
+}
+
+# The packets without the one whose number is given, by the text octets that `list` tells: 30 more stand before a text.
+without() {
+    set -- $("$program" list <"$kept/packets" | awk -v lost="$1" '$1 < lost { before += $5 + 30 } $1 == lost { print before + 0, $5 + 30 }')
+    head -c "$1" "$kept/packets"
+    tail -c +$(($1 + $2 + 1)) "$kept/packets"
+}
+
+# A column that is bright in the damaged rows, from the lines of `damage`.
+column() {
+    awk -F - -v side=$side '
+    { for (y = $1; y <= $2; y++) bright[y] = 1 }
+    END {
+        print "P2\n8", side, 255
+        for (y = 0; y < side; y++) for (x = 0; x < 8; x++) print (x > 1 && (y in bright) ? 255 : 0)
+    }'
+}
+
+awk -v side=$side "$drawing" | pnmtopnm >"$kept/drawn.pgm" || exit
+tail -c $((side * side)) "$kept/drawn.pgm" >"$kept/raster"
+picture picture
+encode packet=65536 >"$kept/packets"
+without 3 >"$kept/received"
+"$program" decode <"$kept/received" 2>"$kept/note" | pgm >"$kept/lost.pgm"
+"$program" damage <"$kept/received" 2>/dev/null | column >"$kept/column.pgm"
+pnmcat -lr "$kept/lost.pgm" "$kept/column.pgm" | pnmtopng -compression 9 >lost.png
+echo "lost.png: packet=65536, without packet 3; $(cat "$kept/note")"
+picture stop_dc stop=dc
+picture stop_6.3 stop=6.3
+picture stop_3.3 stop=3.3
+picture limit limit=200
