@@ -50,7 +50,9 @@ fn encoding_and_decoding(rt: HostRuntime) -> Result<(), Fail> {
 fn lists_of_a_cut_stream(rt: HostRuntime) -> Result<(), Fail> {
     let words = "encode width=64 rows=48 segment=16";
     let ran = run_words(&rt, words, &[0; 3072], &[], WHOLE)?;
-    let cut = &ran.port.given()[..153];
+    let given = ran.port.given();
+    assert_eq!(rt; given.len(), 154);
+    let cut = &given[..153];
     for piece in [1, 7, WHOLE] {
         fail_each(&rt, "list", cut, piece)?;
         fail_each(&rt, "damage", cut, piece)?;

@@ -43,6 +43,7 @@ fn a_packet_becomes_an_image(rt: HostRuntime) -> Result<(), Fail> {
 fn rows_that_losses_may_reach_are_told(rt: HostRuntime) -> Result<(), Fail> {
     let whole = eight(&rt)?;
     for (lost, rows) in [(0, "0-37"), (3, "27-85"), (7, "91-127")] {
+        assert!(rt; lost <= 7);
         let end = if lost == 7 { 409 } else { 51 * (lost + 1) };
         let left = without(&rt, &whole, 51 * lost, end)?;
         let mut note = String::from_str(rt.alloc(), "strip122: damaged rows ")?;
@@ -117,6 +118,7 @@ fn packets_have_fates(rt: HostRuntime) -> Result<(), Fail> {
     two.extend_from_slice(&one)?;
     expect(&rt, "decode", &two, 0, &[0; 289], "")?;
     expect(&rt, "list", &two, 0, b"0 kept 0 0 22\n1 late\n", "")?;
+    assert_eq!(rt; two.len(), 104);
     two[52 + 9] = 1;
     expect(&rt, "list", &two, 0, b"0 kept 0 0 22\n1 foreign\n", "")?;
     two[52] = 0x0F;
@@ -131,6 +133,7 @@ fn nothing_begins_a_segment(rt: HostRuntime) -> Result<(), Fail> {
     expect(&rt, "damage", &[], 3, &[], "strip122: no segment\n")?;
     expect(&rt, "list", &[], 0, &[], "")?;
     let mut second = black(&rt)?;
+    assert_eq!(rt; second.len(), 52);
     // The second part of its segment.
     second[2] = 0x80;
     second[29] = 1;
@@ -146,12 +149,15 @@ fn a_stream_that_breaks_off(rt: HostRuntime) -> Result<(), Fail> {
     expect(&rt, "decode", &octets, 1, &[0; 289], note)?;
     expect(&rt, "list", &octets, 1, b"0 kept 0 0 22\n", note)?;
     let note = "strip122: damaged rows 91-127; packet cut, 1 octets missing\n";
-    expect(&rt, "decode", &eight(&rt)?[..408], 1, &[0; 8192], note)?;
+    let whole = eight(&rt)?;
+    assert_eq!(rt; whole.len(), 409);
+    expect(&rt, "decode", &whole[..408], 1, &[0; 8192], note)?;
     let words = "encode width=64 rows=48 segment=16";
     let ran = run_words(&rt, words, &[0; 3072], &[], WHOLE)?;
-    let cut = &ran.port.given()[..153];
+    let given = ran.port.given();
+    assert_eq!(rt; given.len(), 154);
     let note = "strip122: damaged rows 11-47; packet cut, 1 octets missing\n";
-    expect(&rt, "decode", cut, 1, &[0; 3072], note)
+    expect(&rt, "decode", &given[..153], 1, &[0; 3072], note)
 }
 
 #[test]
@@ -194,7 +200,9 @@ fn rows_go_out_as_soon_as_they_are_ready(rt: HostRuntime) -> Result<(), Fail> {
 #[test]
 fn no_room_for_the_whole_image_is_taken(rt: HostRuntime) -> Result<(), Fail> {
     // The first of eight packets, of an image of 262,144 rows of 1,048,575 pixels.
-    let mut first = eight(&rt)?[..51].to_vec(rt.alloc())?;
+    let whole = eight(&rt)?;
+    assert_eq!(rt; whole.len(), 409);
+    let mut first = whole[..51].to_vec(rt.alloc())?;
     first[10..14].copy_from_slice(&[0x00, 0x04, 0x00, 0x00]);
     first[41..45].copy_from_slice(&[0x88, 0xFF, 0xFF, 0xF0]);
     // Two reads, and the first write.

@@ -141,8 +141,8 @@ fn two_thousand_segments(rt: HostRuntime) -> Result<(), Fail> {
     let words = "encode width=128 rows=16000 segment=16";
     let ran = run_words(&rt, words, &zeros, &[], WHOLE)?;
     assert_eq!(rt; ran.status, 0);
-    assert_eq!(rt; ran.port.given().len(), 1999 * 51 + 52);
     let given = ran.port.given();
+    assert_eq!(rt; given.len(), 1999 * 51 + 52);
     let mut some = given[..100 * 51].to_vec(rt.alloc())?;
     some.extend_from_slice(&given[400 * 51..])?;
     let left = run_words(&rt, "damage", &some, &[], WHOLE)?;
