@@ -1,5 +1,5 @@
 // Each call of a run fails in turn.
-use crate::runs::{WHOLE, ZEROS, packet, run_words};
+use crate::runs::{WHOLE, ZEROS, packet, part, run_words};
 use std::process::Abort;
 use std::test::Fail;
 
@@ -52,7 +52,7 @@ fn lists_of_a_cut_stream(rt: HostRuntime) -> Result<(), Fail> {
     let ran = run_words(&rt, words, &[0; 3072], &[], WHOLE)?;
     let given = ran.port.given();
     assert_eq!(rt; given.len(), 154);
-    let cut = &given[..153];
+    let cut = part(given, 0, 153);
     for piece in [1, 7, WHOLE] {
         fail_each(&rt, "list", cut, piece)?;
         fail_each(&rt, "damage", cut, piece)?;

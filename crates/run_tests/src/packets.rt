@@ -1,5 +1,5 @@
 // Whole runs over packets: pictures, damaged rows and lists, worked out by hand.
-use crate::runs::{TWO_HUNDRED, WHOLE, ZEROS, expect, packet, run_words};
+use crate::runs::{TWO_HUNDRED, WHOLE, ZEROS, expect, packet, part, run_words};
 use std::process::Abort;
 use std::test::Fail;
 
@@ -150,14 +150,13 @@ fn a_stream_that_breaks_off(rt: HostRuntime) -> Result<(), Fail> {
     expect(&rt, "list", &octets, 1, b"0 kept 0 0 22\n", note)?;
     let note = "strip122: damaged rows 91-127; packet cut, 1 octets missing\n";
     let whole = eight(&rt)?;
-    assert_eq!(rt; whole.len(), 409);
-    expect(&rt, "decode", &whole[..408], 1, &[0; 8192], note)?;
+    expect(&rt, "decode", part(&whole, 0, 408), 1, &[0; 8192], note)?;
     let words = "encode width=64 rows=48 segment=16";
     let ran = run_words(&rt, words, &[0; 3072], &[], WHOLE)?;
     let given = ran.port.given();
     assert_eq!(rt; given.len(), 154);
     let note = "strip122: damaged rows 11-47; packet cut, 1 octets missing\n";
-    expect(&rt, "decode", &given[..153], 1, &[0; 3072], note)
+    expect(&rt, "decode", part(given, 0, 153), 1, &[0; 3072], note)
 }
 
 #[test]
@@ -201,10 +200,11 @@ fn rows_go_out_as_soon_as_they_are_ready(rt: HostRuntime) -> Result<(), Fail> {
 fn no_room_for_the_whole_image_is_taken(rt: HostRuntime) -> Result<(), Fail> {
     // The first of eight packets, of an image of 262,144 rows of 1,048,575 pixels.
     let whole = eight(&rt)?;
-    assert_eq!(rt; whole.len(), 409);
-    let mut first = whole[..51].to_vec(rt.alloc())?;
-    first[10..14].copy_from_slice(&[0x00, 0x04, 0x00, 0x00]);
-    first[41..45].copy_from_slice(&[0x88, 0xFF, 0xFF, 0xF0]);
+    let mut first = part(&whole, 0, 10).to_vec(rt.alloc())?;
+    first.extend_from_slice(&[0x00, 0x04, 0x00, 0x00])?;
+    first.extend_from_slice(part(&whole, 14, 41))?;
+    first.extend_from_slice(&[0x88, 0xFF, 0xFF, 0xF0])?;
+    first.extend_from_slice(part(&whole, 45, 51))?;
     // Two reads, and the first write.
     let words = "decode pixels=1099511627776";
     let ran = run_words(&rt, words, &first, &[2], WHOLE)?;

@@ -61,6 +61,11 @@ pub(crate) fn expect(
     Ok(())
 }
 
+// The octets of these places.
+pub(crate) fn part(octets: &[u8], first: usize, end: usize) -> &[u8] {
+    octets.get(first..end).unwrap_or(octets)
+}
+
 // The packet of an image of 17 rows that is one segment with this text, in segments of 64 blocks.
 pub(crate) fn packet(rt: &(impl Abort + AllocGlobal), text: &[u8]) -> Result<Vec<u8>, Fail> {
     assert!(rt; text.len() < 200);
@@ -143,8 +148,8 @@ fn two_thousand_segments(rt: HostRuntime) -> Result<(), Fail> {
     assert_eq!(rt; ran.status, 0);
     let given = ran.port.given();
     assert_eq!(rt; given.len(), 1999 * 51 + 52);
-    let mut some = given[..100 * 51].to_vec(rt.alloc())?;
-    some.extend_from_slice(&given[400 * 51..])?;
+    let mut some = part(given, 0, 5100).to_vec(rt.alloc())?;
+    some.extend_from_slice(part(given, 20_400, 102_001))?;
     let left = run_words(&rt, "damage", &some, &[], WHOLE)?;
     assert_eq!(rt; left.status, 1);
     assert_eq!(rt; left.port.given(), b"779-3221\n".as_slice());
