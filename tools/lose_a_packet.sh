@@ -1,10 +1,8 @@
 #!/bin/sh
 # Draws a picture, encodes it, loses one of its packets, decodes the rest, and shows what was lost.
 # The proved program is used where it is built, and else `rt try`, which compiles it without proving it.
-top=$(cd "$(dirname "$0")/.." && pwd) || exit
-kept=$(mktemp -d) || exit
-trap 'rm -rf "$kept"' EXIT
-trap 'exit 1' HUP INT TERM
+. "$(dirname "$0")/common.sh"
+make_folder
 width=96
 rows=192
 

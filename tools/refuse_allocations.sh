@@ -14,10 +14,9 @@ esac
 first=$1
 last=$2
 shift 2
-crates=$(cd "$(dirname "$0")/../crates" && pwd) || exit
-kept=$(mktemp -d) || exit
-trap 'rm -rf "$kept"' EXIT
-trap 'exit 1' HUP INT TERM
+. "$(dirname "$0")/common.sh"
+make_folder
+crates=$top/crates
 
 # For each failed test the reason: want of memory in the test itself, a status (that of the run, and the one that is
 # wanted without want of memory), or else what the test says.

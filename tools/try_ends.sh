@@ -1,10 +1,9 @@
 #!/bin/sh
 # Encodes and decodes at the ends of sizes and settings, and compares what comes back. The program is that of this
 # repository, or the one that STRIP122 names; /usr/bin/time (Debian's package time) tells the memory where it is there.
-program=${STRIP122:-$(dirname "$0")/../strip122}
-kept=$(mktemp -d) || exit
-trap 'rm -rf "$kept"' EXIT
-trap 'exit 1' HUP INT TERM
+. "$(dirname "$0")/common.sh"
+find_program
+make_folder
 wrong=0
 apid=100
 

@@ -20,7 +20,8 @@ use Rattle.strip_decoder.specs.Answers.{Answers as DecodeAnswers, Asks}
 use Rattle.strip_decoder.specs.Finding.{FindAnswers}
 use Rattle.top_122.specs.Decoding.{AsksFound}
 use Rattle.top_122.proofs.Decoded.{decode_says, find_says}
-use Rattle.top_122.proofs.PacketInputs.{took_front, right_packets, wrong_packets, listed_packets}
+use Rattle.top_122.proofs.ReadOut.{took_front}
+use Rattle.top_122.proofs.PacketInputs.{right_packets, wrong_packets, listed_packets}
 
 -- a pixel out of range in a part of an input is one in all of it
 not_in_range : (depth : ℕ) (signed : Bool) (took rest : List ℕ) (place : ℕ) (value : ℤ) → IsFirstBad depth signed took place value →

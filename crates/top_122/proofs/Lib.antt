@@ -6,6 +6,7 @@ mod TrialsCounted
 mod TrialsDecoded
 mod TrialsDone
 pub mod GavePictures
+pub mod ReadOut
 pub mod PacketInputs
 pub mod DamageParts
 pub mod Statuses

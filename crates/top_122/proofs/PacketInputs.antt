@@ -1,14 +1,11 @@
 -- What the packets that are there make of a run without a fault.
 use Rattle.std.proofs.Common.{◌≡◌, ◌≢◌, ◌≤◌, ◌<◌, ◌+◌, ◌*◌, ℕ, zero, suc, List, [], ◌∷◌, ◌++◌, length, refl, sym, ◌∙◌, ap, subst, arith, append_assoc, length-append, inl, inr, true, false}
 use Rattle.std.specs.Prelude.{◌⊎◌, Option, Some, None, Result, Ok, Err, slice_index, nat_le, not, ◌&&◌, Bool}
-use Rattle.std.proofs.lemmas.Bool.{false≢true}
-use Rattle.port_122.specs.Outside.{Outside, Since, Loses}
+use Rattle.port_122.specs.Outside.{Outside, Since}
 use Rattle.port_122.proofs.Told.{end_told}
 use Rattle.base_122.specs.declared.geometry.Geometry.{Geometry}
 use Rattle.base_122.specs.declared.wish.DecodeWish.{DecodeWish}
-use Rattle.packet_defs.specs.Streams.{Splits, begins_packet, has_bad_version, left_over, whole_packets}
-use Rattle.packet_defs.proofs.Fronts.{version-append}
-use Rattle.packet_defs.proofs.Splits.{splits_whole, whole_splits}
+use Rattle.packet_defs.specs.Streams.{whole_packets}
 use Rattle.stream_defs.specs.Fates.{fresh, after_all, geometry_in}
 use Rattle.stream_defs.specs.declared.fate.FateState.{FateState}
 use Rattle.stream_defs.proofs.ChosenLaws.{after_all-append}
@@ -24,12 +21,8 @@ use Rattle.strip_decoder.proofs.Between.{geometry_stays}
 use Rattle.top_122.specs.DamageNotes.{damaged, done_status}
 use Rattle.top_122.specs.Decoding.{Causes, Asking, RunsDecoder, decode_status, ListCauses, list_status, ListsPackets, TellsNone, TellsMany, HasPackets, HasPicture, HasNoPicture}
 use Rattle.top_122.specs.Run.{IsSteady, IsRead}
+use Rattle.top_122.proofs.ReadOut.{took_front, bad_stays}
 use Rattle.top_122.proofs.Decoded.{Says, AllSay, status_small}
-
--- what was taken of an input, and the rest of it
-pub took_front : (input took : List ℕ) (old new : Option (List ℕ)) → old ≡ Some input → Loses old new took → (rest : List ℕ) × (input ≡ took ++ rest)
-took_front input took old None is p = absurd (let q = rw is at p in q)
-took_front input took old (Some rest) is p = (rest, rw is at p)
 
 -- a geometry that some octets tell stays with more of them
 geometry_on : (apid : ℕ) (took more : List ℕ) (g : Geometry) → geometry_in apid took ≡ Some g → geometry_in apid (took ++ more) ≡ Some g
@@ -37,25 +30,6 @@ geometry_on apid took more g told =
     let parts = front_packets took more in
     ap (λ packets. (after_all apid fresh packets).geometry) parts.1 ∙ ap (λ (s : FateState). s.geometry) (after_all-append apid fresh (whole_packets took) parts.0)
     ∙ geometry_stays apid (after_all apid fresh (whole_packets took)) parts.0 g told
-
-some_octets : (xs : List ℕ) → has_bad_version xs ≡ true → 0 < length xs
-some_octets [] bad = absurd (false≢true bad)
-some_octets (x ∷ xs) bad = omega arith
-
-none_begins : (xs : List ℕ) → has_bad_version xs ≡ true → begins_packet xs ≡ false
-unfolding begins_packet
-none_begins xs bad = rw bad refl
-
--- after a bad version nothing tells more
-bad_stays : (took more : List ℕ) → has_bad_version (left_over took) ≡ true → whole_packets (took ++ more) ≡ whole_packets took
-bad_stays took more bad =
-    let parts = whole_splits took in
-    let later : has_bad_version (left_over took ++ more) ≡ true = version-append (left_over took) more (some_octets (left_over took) bad) ∙ bad in
-    splits_whole record {
-      octets_are = ap (λ xs. xs ++ more) parts.octets_are ∙ append_assoc _ (left_over took) more;
-      packets_are = parts.packets_are;
-      none_left = none_begins (left_over took ++ more) later;
-    }
 
 module _ (wish : DecodeWish) (causes : Causes) (asks : Asking) (say : AllSay wish causes) (old new : Outside) (status : ℕ) (run : RunsDecoder causes asks old new status) where
   front : (packets : HasPackets wish old) → (rest : List ℕ) × (packets.input ≡ run.took ++ rest)

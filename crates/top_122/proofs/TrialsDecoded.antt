@@ -2,18 +2,16 @@
 use Rattle.std.proofs.Common.{◌≡◌, ◌≤◌, ◌<◌, ◌+◌, ◌-◌, ◌*◌, ◌∙◌, inl, inr, ℕ, zero, suc, ℤ, true, false, List, [], ◌∷◌, ◌++◌, length, refl, sym, ap, arith, append_assoc, length-append}
 use Rattle.std.specs.Prelude.{Option, None, Some}
 use Rattle.std.specs.List.{range_with_len}
-use Rattle.std.proofs.lemmas.Bool.{false≢true}
 use Rattle.std.proofs.Math.Nat.{le-div_iff_mul-le}
-use Rattle.port_122.specs.Outside.{Outside, Since, Loses}
+use Rattle.port_122.specs.Outside.{Outside, Since}
 use Rattle.port_122.proofs.Told.{end_told}
 use Rattle.base_122.specs.Setting.{geometry_of}
 use Rattle.base_122.specs.Sizes.{total_blocks}
 use Rattle.base_122.specs.declared.setting.Setting.{Setting}
 use Rattle.base_122.proofs.SizeBounds.{nine-le-total_blocks, total-le-segments}
 use Rattle.packet_defs.specs.Packets.{joined, text_packets, part_size}
-use Rattle.packet_defs.specs.Streams.{begins_packet, has_bad_version, left_over, whole_packets}
-use Rattle.packet_defs.proofs.Fronts.{version-append}
-use Rattle.packet_defs.proofs.Splits.{splits_left, whole_splits}
+use Rattle.packet_defs.specs.Streams.{has_bad_version, left_over, whole_packets}
+use Rattle.packet_defs.proofs.Splits.{whole_splits}
 use Rattle.stream_defs.specs.Chosen.{IsChoice, chosen, all_parts}
 use Rattle.stream_defs.specs.Fates.{fresh, after_all, geometry_in}
 use Rattle.stream_defs.specs.Output.{image_blocks, image_packets, output, packets_of, segment_text, segments_of}
@@ -22,41 +20,19 @@ use Rattle.stream_defs.proofs.SublistLaws.{all_rise}
 use Rattle.stream_defs.proofs.WholeStreams.{sublist_kept}
 use Rattle.strip_decoder.specs.Runs.{IsReadOut}
 use Rattle.strip_decoder.proofs.SublistPictures.{chosen_whole}
+use Rattle.top_122.proofs.ReadOut.{took_front, some_octets, left_stays}
 
 -- ---- what can't be read on
-
-some_octets : (xs : List ℕ) → has_bad_version xs ≡ true → 0 < length xs
-some_octets [] bad = absurd (false≢true bad)
-some_octets (x ∷ xs) bad = omega arith
-
-none_begins : (xs : List ℕ) → has_bad_version xs ≡ true → begins_packet xs ≡ false
-unfolding begins_packet
-none_begins xs bad = rw bad refl
-
--- it is left over with all that follows
-left_stays : (took more : List ℕ) → has_bad_version (left_over took) ≡ true → left_over (took ++ more) ≡ left_over took ++ more
-left_stays took more bad =
-    let parts = whole_splits took in
-    let later : has_bad_version (left_over took ++ more) ≡ true = version-append (left_over took) more (some_octets (left_over took) bad) ∙ bad in
-    splits_left {octets = took ++ more} {packets = whole_packets took} record {
-      octets_are = ap (λ xs. xs ++ more) parts.octets_are ∙ append_assoc (joined (whole_packets took)) (left_over took) more;
-      packets_are = parts.packets_are;
-      none_left = none_begins (left_over took ++ more) later;
-    }
 
 -- so where nothing is left over of an input, each front of it can be read on
 front_good : (took more : List ℕ) → left_over (took ++ more) ≡ [] → has_bad_version (left_over took) ≡ true → ⊥
 front_good took more none bad = omega (arith, ap length (sym (left_stays took more bad) ∙ none), length-append (left_over took) more, some_octets (left_over took) bad)
 
-front_of : (took input : List ℕ) (old new : Option (List ℕ)) → old ≡ Some input → Loses old new took → (rest : List ℕ) × (input ≡ took ++ rest)
-front_of took input old None is lost = absurd (let q = rw is at lost in q)
-front_of took input old (Some rest) is lost = (rest, rw is at lost)
-
 -- and what was read out was all of it
 pub took_all : {g w : List ℕ} {Q : ℕ → ℕ → Type 0} (cap : ℕ) (took input : List ℕ) (old new : Outside) → Since old new took g w Q → old.rest ≡ Some input → left_over input ≡ [] →
     IsReadOut cap new took → took ≡ input
 took_all cap took input old new since told none (inl bad) =
-    let front = front_of took input old.rest new.rest told since.rest in
+    let front = took_front input took old.rest new.rest told since.rest in
     absurd (front_good took front.0 (ap left_over (sym front.1) ∙ none) bad)
 took_all cap took input old new since told none (inr ended) = end_told input since told ended.0
 
