@@ -14,6 +14,8 @@ use Rattle.bit_pipe.specs.Reading.{stopped, failed}
 use Rattle.bit_pipe.specs.Faults.{of_input}
 use Rattle.bit_pipe.specs.Answers.{IsBelow, TakesOne}
 use Rattle.bit_pipe.specs.Fronts.{Tells, front_at, first_bits, hand_of}
+use Rattle.bit_pipe.specs.Windows.{first_of}
+use Rattle.bit_pipe.proofs.WindowBits.{first_octet}
 use Rattle.bit_pipe.proofs.FrontBits.{first_then, hand_small, hand_bits, first_left, across, across_small, across_bits}
 use Rattle.bit_pipe.proofs.OneItem.{one_whole, one_ended, one_failed}
 use Rattle.bit_pipe.proofs.Taking.{at, takes_then, takes_pending, takes_octet, within_at_end, within_at_fault}
@@ -50,6 +52,13 @@ module _ {I : Type 0} {k : SourceOf I} {most : ℕ} {item : ℕ → Item} {front
     read = one_whole (item (front_at fronts octet).number) (subst (Takes k a b) (sym (t.first octet small)) p);
     answer = refl;
   }
+
+  -- they stand first in a window
+  pub told_first : {a b : Coming I} (window : ℕ) → window < 2 ^ 64 → Takes k a b (first_of (front_at fronts (window / 2 ^ 56)).len window) → TakesOne k (IsBelow most) item (Ok (Some (front_at fronts (window / 2 ^ 56)).number)) a b
+  told_first {a} {b} window fits p =
+      let v = window / 2 ^ 56 in
+      let small : v < 256 = omega arith in
+      told_whole v small (subst (Takes k a b) (first_octet (front_at fronts v).len window (t.few v small)) p)
 
   module _ {a b c : Coming I} {bits : List Bool} (lacks : Lacks t.shape bits) (p : Takes k a b bits) where
     -- too few bits come

@@ -14,3 +14,4 @@ mod PieceSteps
 pub mod WordOctets
 mod FrontBits
 mod FrontTaking
+pub mod WindowBits

@@ -12,3 +12,4 @@ pub mod Slices
 pub mod Streams
 pub mod Answers
 pub mod Fronts
+pub mod Windows

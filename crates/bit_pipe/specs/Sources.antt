@@ -1,5 +1,5 @@
 -- What is known of a place where octets come from.
-use Rattle.std.specs.Prelude.{◌≡◌, ◌≤◌, ◌<◌, ℕ, List, [], ◌∷◌, ◌++◌, Option, None, Some, Result, Ok, Err}
+use Rattle.std.specs.Prelude.{◌≡◌, ◌≤◌, ◌<◌, ℕ, List, [], ◌∷◌, ◌++◌, take, Option, None, Some, Result, Ok, Err}
 use Rattle.bit_pipe.specs.Sinks.{Rose}
 use Rattle.bit_pipe.specs.declared.fault.InFault.{InFault}
 use Rattle.bit_pipe.specs.declared.fault.InFault.TheVariants.{ReadFault, LongInput, Broken}
@@ -15,10 +15,11 @@ pub record Tail : Type 0 where
   pub octets : List ℕ
   pub ends : End
 
--- The meaning of a source with these states: what is still to come, where it tells that; how often a call has
--- failed; and Went, that the second state is the first after some calls.
+-- The meaning of a source with these states: what is still to come, where it tells that; the octets that come next and stand in
+-- memory; how often a call has failed; and Went, that the second state is the first after some calls.
 pub record SourceOf (I : Type 0) : Type 1 where
   pub tail : I → Option Tail
+  pub buffer : I → List ℕ
   pub faults : I → ℕ
   pub Went : I → I → Type 0
   pub went_none : (s : I) → Went s s
@@ -50,5 +51,11 @@ EndsOctet k (Err e) old new = Comes (k.tail old) (k.tail new) [] × Fails k e ol
 -- what a call for one octet leaves
 pub record GivesOctet {I : Type 0} (k : SourceOf I) (result : Result (Option ℕ) InFault) (old new : I) : Type 0 where
   pub ends : EndsOctet k result old new
+  pub faults : k.faults old ≤ k.faults new
+  pub went : k.Went old new
+
+-- what a call leaves that consumes so many of the octets in memory
+pub record Consumes {I : Type 0} (k : SourceOf I) (count : ℕ) (old new : I) : Type 0 where
+  pub came : Comes (k.tail old) (k.tail new) (take count (k.buffer old))
   pub faults : k.faults old ≤ k.faults new
   pub went : k.Went old new

@@ -11,6 +11,7 @@ octets_left s = drop s.next s.octets.now
 abbrev pub slice_source : SourceOf SliceIn
 slice_source = record {
   tail = λ s. Some (record { octets = octets_left s; ends = Plainly });
+  buffer = octets_left;
   faults = λ s. 0;
   Went = λ s t. Unit {0};
   went_none = λ s. tt;

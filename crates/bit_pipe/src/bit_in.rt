@@ -1,11 +1,12 @@
 // Bits that come from octets.
-ghost use Rattle.std.specs.Prelude.{◌≡◌, ◌<◌, ◌≤◌, ◌+◌, ◌*◌, ◌/◌, ◌%◌, ◌^◌, ℕ};
+ghost use Rattle.std.specs.Prelude.{◌≡◌, ◌<◌, ◌≤◌, ◌+◌, ◌*◌, ◌/◌, ◌%◌, ◌^◌, ℕ, IfSome};
 
 use crate::bound::octets_within;
 use crate::fault::{InFault, TextFault};
 use crate::front::Front;
 use crate::piece::{Piece, width_of};
 use crate::source::OctetIn;
+use crate::word::word_of;
 
 /// Bits on their way from a source, up to a bound (docs/formats.md, "Reading a segment"). An octet is taken from
 /// the source with its first bit, and none is taken ahead.
@@ -25,8 +26,9 @@ impl<'a, I: OctetIn> BitIn<'a, I> {
     ghost use Rattle.bit_pipe.specs.Answers.{IsBelow, TakesOne};
     ghost use Rattle.bit_pipe.specs.Fronts.{Tells, IsTable, front_at, hand_of};
     ghost use Rattle.bit_pipe.specs.Bounds.{bound_of};
-    ghost use Rattle.bit_pipe.specs.Coming.{coming, IsIn, BeginsIn, GivesBit, GivesItem};
+    ghost use Rattle.bit_pipe.specs.Coming.{coming, IsIn, BeginsIn, Takes, GivesBit, GivesItem};
     ghost use Rattle.bit_pipe.specs.Pieces.{GivesPiece};
+    ghost use Rattle.bit_pipe.specs.Windows.{IsWindow, first_of};
 
     /// Bits from here on. The bound is `limit` octets, or 2^32 octets where that is 0. `before` octets of it were
     /// taken already.
@@ -78,6 +80,36 @@ impl<'a, I: OctetIn> BitIn<'a, I> {
         Ok(Some((octet >> 7) & 1 == 1))
     }
 
+    /// The next bits, the first highest, where 56 of them at least stand at hand.
+    #[inline(always)]
+    pub fn window(&self) -> Option<u64>
+        requires { IsIn (coming self.now) }
+        ensures { IfSome result (IsWindow I.source (coming self.now)) }
+    {
+        if self.room < 56 {
+            return None;
+        }
+        let next = self.input.buffer().first_chunk::<8>()?;
+        Some(word_of(self.octet, next) << (8 - self.left))
+    }
+
+    /// Takes the first of the bits that stand at hand.
+    #[inline(always)]
+    pub fn take_window(&mut self, window: u64, count: u8)
+        requires window { IsWindow I.source (coming self.old) window }
+        requires count { count ≤ 56 }
+        requires bound { IsIn (coming self.old) }
+        ensures { Takes I.source (coming self.old) (coming self.new) (first_of count window) }
+    {
+        let past = 7 - self.left + count;
+        let left = 7 - past % 8;
+        self.input.consume(usize::from(past / 8));
+        self.octet = ((window >> 1 >> (63 - count - left)) & 0xff) as u8;
+        self.left = left;
+        self.room -= u64::from(count);
+        self.used += u64::from(count);
+    }
+
     // Takes some bits, at least one and at most so many, that stand in one octet.
     fn take_piece(&mut self, most: u8) -> Result<Option<Piece>, InFault>
         requires some { 0 < most }
@@ -107,7 +139,22 @@ impl<'a, I: OctetIn> BitIn<'a, I> {
     }
 
     /// Takes a number of so many bits, highest first.
+    #[inline]
     pub fn take_bits(&mut self, count: u8) -> Result<Option<u32>, InFault>
+        requires count { count ≤ 32 }
+        requires bound { IsIn (coming self.old) }
+        ensures { GivesItem I.source (fixed count) result (coming self.old) (coming self.new) }
+    {
+        let Some(window) = self.window() else {
+            return self.take_pieces(count);
+        };
+        self.take_window(window, count);
+        Ok(Some((window >> 1 >> (63 - count)) as u32))
+    }
+
+    // The same, octet by octet.
+    #[cold]
+    fn take_pieces(&mut self, count: u8) -> Result<Option<u32>, InFault>
         requires count { count ≤ 32 }
         requires bound { IsIn (coming self.old) }
         ensures { GivesItem I.source (fixed count) result (coming self.old) (coming self.new) }
@@ -156,6 +203,22 @@ impl<'a, I: OctetIn> BitIn<'a, I> {
     /// The faults of the input.
     #[inline]
     pub fn take_front(&mut self, fronts: &[Front; 256]) -> Result<Option<u8>, TextFault>
+        requires bound { IsIn (coming self.old) }
+        requires table { IsTable fronts.now }
+        ensures { (most : ℕ) (item : ℕ → Item) → Tells most item fronts.now →
+            TakesOne I.source (IsBelow most) item result (coming self.old) (coming self.new) }
+    {
+        let Some(window) = self.window() else {
+            return self.take_front_octetwise(fronts);
+        };
+        let front = fronts[(window >> 56) as usize];
+        self.take_window(window, front.len);
+        Ok(Some(front.number))
+    }
+
+    // The same, octet by octet.
+    #[cold]
+    fn take_front_octetwise(&mut self, fronts: &[Front; 256]) -> Result<Option<u8>, TextFault>
         requires bound { IsIn (coming self.old) }
         requires table { IsTable fronts.now }
         ensures { (most : ℕ) (item : ℕ → Item) → Tells most item fronts.now →

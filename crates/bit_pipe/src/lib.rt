@@ -12,6 +12,7 @@ mod sink;
 mod slice_in;
 mod slice_out;
 mod source;
+mod word;
 
 pub use bit_in::BitIn;
 pub use bit_out::BitOut;

@@ -36,4 +36,14 @@ impl<'a> OctetIn for SliceIn<'a> {
         self.next += 1;
         Ok(Some(octet))
     }
+
+    #[inline(always)]
+    fn buffer(&self) -> &[u8] {
+        &self.octets[self.next..]
+    }
+
+    #[inline(always)]
+    fn consume(&mut self, count: usize) {
+        self.next += count;
+    }
 }

@@ -1,5 +1,6 @@
 // Where octets come from.
-ghost use Rattle.bit_pipe.specs.Sources.{SourceOf, GivesOctet};
+ghost use Rattle.std.specs.Prelude.{◌≡◌, ◌≤◌, length};
+ghost use Rattle.bit_pipe.specs.Sources.{SourceOf, GivesOctet, Consumes};
 
 use crate::fault::InFault;
 
@@ -11,4 +12,13 @@ pub trait OctetIn {
     /// Takes the next octet, or none at the end.
     fn take(&mut self) -> Result<Option<u8>, InFault>
         ensures { GivesOctet source result self.old self.new };
+
+    /// The octets that come next, as many as stand in memory. None may stand there while more are to come.
+    fn buffer(&self) -> &[u8]
+        ensures { result.now ≡ source.buffer self.now };
+
+    /// Takes so many of the octets in memory at once.
+    fn consume(&mut self, count: usize)
+        requires { count ≤ length (source.buffer self.old) }
+        ensures { Consumes source count self.old self.new };
 }

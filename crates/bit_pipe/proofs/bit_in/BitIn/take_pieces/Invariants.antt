@@ -1,7 +1,7 @@
 use Rattle.std.proofs.Common.{◌-◌, ◌<◌, ◌≤◌, ◌^◌}
 use Rattle.item_defs.specs.Bits.{bits_of}
 use Rattle.bit_pipe.specs.Coming.{coming, IsIn, Takes}
-use Rattle.bit_pipe.proofs.bit_in.BitIn.take_bits.Given as goal
+use Rattle.bit_pipe.proofs.bit_in.BitIn.take_pieces.Given as goal
 
 abbrev pub invariant-loop-taken : goal.invariant-loop-taken
 invariant-loop-taken g l = record {
