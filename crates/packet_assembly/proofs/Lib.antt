@@ -15,3 +15,4 @@ pub mod TailParts
 pub mod TailReceived
 pub mod Ranges
 pub mod Framings
+pub mod Ready

@@ -1,5 +1,5 @@
 -- What is still to come of an open segment's text, and how it ends. This project's own.
-use Rattle.std.specs.Prelude.{ℕ, ◌-◌, ◌==◌, ◌||◌, Bool, nat_lt, if◌then◌else◌, List, [], ◌∷◌, ◌++◌, length, take, Option, is_some}
+use Rattle.std.specs.Prelude.{ℕ, ◌==◌, ◌||◌, if◌then◌else◌, List, [], ◌∷◌, ◌++◌, Option, is_some}
 use Rattle.std.specs.Option.{option_map}
 use Rattle.bit_pipe.specs.Sources.{End, Plainly, TooLong, InPieces, Tail}
 use Rattle.port_122.specs.Outside.{Outside}

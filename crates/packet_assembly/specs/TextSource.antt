@@ -1,8 +1,10 @@
 -- An open segment's text as a place where octets come from. This project's own.
 use Rattle.std.proofs.Common.{◌≡◌, refl, ◌∙◌}
+use Rattle.std.specs.Prelude.{ℕ, if◌then◌else◌, List, [], is_some}
 use Rattle.bit_pipe.specs.Sources.{SourceOf}
 use Rattle.port_122.specs.Outside.{Outside}
 use Rattle.packet_assembly.specs.declared.text.SegmentText.{SegmentText}
+use Rattle.packet_assembly.specs.Assembling.{Assembling}
 use Rattle.packet_assembly.specs.Segments.{GoesOn}
 use Rattle.packet_assembly.specs.Passing.{goes_nowhere, goes_both}
 use Rattle.packet_assembly.specs.Tails.{told_tail}
@@ -19,10 +21,15 @@ went_nowhere outside s = record { assembly = refl; port = refl; goes = goes_nowh
 pub went_both : {X : Type 0} (outside : X → Outside) (s t u : SegmentText X) → Went outside s t → Went outside t u → Went outside s u
 went_both outside s t u p q = record { assembly = q.assembly ∙ p.assembly; port = q.port ∙ p.port; goes = goes_both p.goes q.goes }
 
+-- the octets of the text that were read and not given yet; none where another segment was begun
+abbrev pub text_ready : Assembling → List ℕ
+text_ready a = if is_some a.held then [] else a.text
+
 -- It tells its octets where the port tells what is left to be read, and counts the port's faults of reading.
 abbrev pub segment_source : {X : Type 0} → (X → Outside) → SourceOf (SegmentText X)
 segment_source outside = record {
   tail = λ s. told_tail (outside s.port.now) s.assembly.now;
+  buffer = λ s. text_ready s.assembly.now;
   faults = λ s. (outside s.port.now).read_faults;
   Went = Went outside;
   went_none = went_nowhere outside;

@@ -51,6 +51,7 @@ impl Assembly {
     ghost use Rattle.packet_assembly.specs.Notes.{PassesNext, ReadsNote};
     ghost use Rattle.packet_assembly.specs.Assembling.{is_closed};
     ghost use Rattle.packet_assembly.specs.Segments.{FindsSegment};
+    ghost use Rattle.packet_assembly.specs.TextSource.{text_ready};
     ghost use Rattle.packet_assembly.specs.Texts.{TakesOctet, Hears};
     ghost use Rattle.base_122.specs.Ranges.{IsGeometryInRange};
 
@@ -137,6 +138,28 @@ impl Assembly {
         let octet = self.reader.text()[self.next];
         self.next += 1;
         Ok(Some(octet))
+    }
+
+    /// The octets of the segment's text that were read and not given yet.
+    #[inline(always)]
+    pub fn ready(&self) -> &[u8]
+        ensures { result.now ≡ text_ready self.now }
+    {
+        if self.held.is_some() {
+            return &[];
+        }
+        &self.reader.text()[self.next..]
+    }
+
+    /// Passes so many of them.
+    #[inline(always)]
+    pub fn pass_ready(&mut self, count: usize)
+        requires { count ≤ length (text_ready self.old) }
+        ensures { self.new ≡ record self.old { text = drop count self.old.text } }
+    {
+        let octets = self.reader.text().len();
+        let left = octets - self.next - count;
+        self.next = octets - left;
     }
 
     // Passes packets until one begins a segment.

@@ -21,4 +21,14 @@ impl<'a, X: Port> OctetIn for SegmentText<'a, X> {
     fn take(&mut self) -> Result<Option<u8>, InFault> {
         self.assembly.take_octet(self.port)
     }
+
+    #[inline(always)]
+    fn buffer(&self) -> &[u8] {
+        self.assembly.ready()
+    }
+
+    #[inline(always)]
+    fn consume(&mut self, count: usize) {
+        self.assembly.pass_ready(count);
+    }
 }

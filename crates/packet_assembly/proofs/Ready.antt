@@ -1,0 +1,72 @@
+-- Octets of a text that were read and not given yet, passed at once.
+use Rattle.std.proofs.Common.{◌≡◌, ℕ, ◌+◌, ◌≤◌, List, [], length, take, drop, refl, sym, ap, subst, ◌∙◌, arith, append_assoc, length-drop, ◌++◌}
+use Rattle.std.specs.Prelude.{Option, None, Some}
+use Rattle.std.proofs.lemmas.List.{take-append-drop}
+use Rattle.std.specs.Option.{option_map}
+use Rattle.bit_pipe.specs.Sources.{Comes}
+use Rattle.port_122.specs.Outside.{Outside}
+use Rattle.packet_assembly.specs.declared.note.SegmentStart.{SegmentStart}
+use Rattle.packet_assembly.specs.Assembling.{Assembling, Passes, StaysOpen}
+use Rattle.packet_assembly.specs.Segments.{GoesOn}
+use Rattle.packet_assembly.specs.Tails.{text_tail, tail_after}
+use Rattle.packet_assembly.specs.TextSource.{text_ready}
+use Rattle.packet_assembly.specs.Passing.{passes_none}
+
+-- they are all octets of the text, or none
+pub ready_fits : (a : Assembling) (count : ℕ) → count ≤ length (text_ready a) → count ≤ length a.text
+ready_fits a count le = by a.held refl
+  where
+    by : (o : Option SegmentStart) → a.held ≡ o → count ≤ length a.text
+    by None e = rw e at le
+    by (Some start) e = let none : count ≤ 0 = rw e at le in omega arith
+
+-- past the place of a text's next octet
+pub ready_within : (a : Assembling) (next count : ℕ) (text : List ℕ) → a.text ≡ drop next text → next ≤ length text → count ≤ length (text_ready a) → next + count ≤ length text
+ready_within a next count text e place le = let fits : count ≤ length (drop next text) = subst (λ xs. count ≤ length xs) e (ready_fits a count le) in omega (arith, fits, length-drop next text)
+
+-- the assembly without them
+abbrev pub past : Assembling → ℕ → Assembling
+past a count = record a { text = drop count a.text }
+
+-- ---- what a source leaves that passes them
+
+module _ (a : Assembling) (count : ℕ) (le : count ≤ length (text_ready a)) where
+  none_where_held : (start : SegmentStart) → a.held ≡ Some start → count ≡ 0
+  none_where_held start e = let none : count ≤ 0 = rw e at le in omega arith
+
+  pub tails_past : (o : Option (List ℕ)) → Comes (option_map (text_tail a) o) (option_map (text_tail (past a count)) o) (take count (text_ready a))
+  tails_past None = tt
+  tails_past (Some rest) = by a.held refl
+    where
+      by : (h : Option SegmentStart) → a.held ≡ h → Comes (Some (text_tail a rest)) (Some (text_tail (past a count) rest)) (take count (text_ready a))
+      by None e =
+          let after = tail_after a rest in
+          let parted : a.text ++ after.octets ≡ take count a.text ++ (drop count a.text ++ after.octets) =
+          ap (λ xs. xs ++ after.octets) (sym (take-append-drop count a.text)) ∙ append_assoc (take count a.text) (drop count a.text) after.octets in
+          rw e (parted, refl)
+      by (Some start) e = rw (e, none_where_held start e) (refl, refl)
+
+  pub goes_past : (now : Outside) → GoesOn now now a (past a count)
+  goes_past now =
+      let p : Passes (StaysOpen a) now now a a [] = passes_none now a in
+      record {
+        passed = [];
+        passes = record {
+          took = p.took;
+          since = p.since;
+          octets_are = p.octets_are;
+          packets_are = p.packets_are;
+          apid = p.apid;
+          cap = p.cap;
+          taken = p.taken;
+          state = p.state;
+          count = p.count;
+          capped = p.capped;
+          comes = p.comes;
+          sees = p.sees;
+        };
+        still = λ e. (e, refl);
+        begins_none = λ e. tt;
+        began = λ e start h. absurd (let no : None ≡ Some start = sym e ∙ h in cc);
+        held_on = λ start h. (refl, h, ap (λ n. drop n a.text) (none_where_held start h));
+      }
