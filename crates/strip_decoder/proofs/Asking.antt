@@ -57,6 +57,10 @@ state_then w a took octets passed read =
     ap (after_all w.apid fresh) (packets_then w a took octets passed read) ∙ after_all-append w.apid fresh passed more
     ∙ ap (λ s. after_all w.apid s more) (sym read.state) ∙ ap (λ n. after_all n a.state more) (sym read.apid)
 
+-- no more octets were taken than the cap lets
+pub read_within : (w : Run) (a : Assembling) (took : List ℕ) (passed : List (List ℕ)) → HasRead w a took passed → length took ≤ w.cap
+read_within w a took passed read = omega (arith, read.taken, read.cap, read.capped)
+
 -- the geometry that its octets tell
 pub geometry_read : (w : Run) (a : Assembling) (took : List ℕ) (passed : List (List ℕ)) (g : Geometry) → HasRead w a took passed → a.state.geometry ≡ Some g → geometry_in w.apid took ≡ Some g
 geometry_read w a took passed g read told =

@@ -1,5 +1,5 @@
 -- How a whole decoder ends.
-use Rattle.std.proofs.Common.{◌≡◌, ◌≤◌, ◌<◌, ◌*◌, ℕ, List, [], ◌∷◌, refl, sym, ap, subst, ◌∙◌}
+use Rattle.std.proofs.Common.{◌≡◌, ◌≤◌, ◌<◌, ◌*◌, ℕ, List, [], ◌∷◌, length, refl, sym, ap, subst, ◌∙◌}
 use Rattle.std.specs.Prelude.{Bool, Option, None, Some, Ok, Err}
 use Rattle.port_122.specs.Outside.{Outside, Since}
 use Rattle.port_122.proofs.Stretches.{rose_since, since_weaker}
@@ -19,7 +19,7 @@ use Rattle.strip_decoder.specs.Segments.{FindsNext}
 use Rattle.strip_decoder.specs.Runs.{Run, AsksBy, HasFew, HasBroken, BreaksRun, IsWhole}
 use Rattle.strip_decoder.specs.Answers.{AsksFor, DecodesBy, GivesPicture}
 use Rattle.strip_decoder.proofs.Fits.{begun_by}
-use Rattle.strip_decoder.proofs.Asking.{geometry_read, geometry_small, few_before}
+use Rattle.strip_decoder.proofs.Asking.{read_within, geometry_read, geometry_small, few_before}
 use Rattle.strip_decoder.proofs.RunStarts.{HasFound, first_front, none_few, first_read, first_asks, first_end, none_kept}
 use Rattle.strip_decoder.proofs.RunFinishes.{ended_packets, long_packets, ended_out, long_full, long_good}
 
@@ -37,8 +37,16 @@ first_last gives wish old new a b found unread =
 
 pub first_fails : (gives : Bool) (wish : DecodeWish) (old new : Outside) (a b : Assembling) → a ≡ unread_assembly wish.apid wish.octets → (fault : DecodeFault) → FindsNext old new a b (Err fault) → DecodesBy gives wish old new (Err fault)
 first_fails gives wish old new a b unread ReadFault finds =
+    let w = run_of gives wish old in
     let found = finds.ends.0 in
-    record { took = found.passes.took; gave = []; since = first_asks (run_of gives wish old) new a b found.passed unread found.passes; silent = λ none. refl; answer = (finds.ends.1, λ all told. first_front gives wish.apid found.passes.took) }
+    record {
+      took = found.passes.took;
+      gave = [];
+      since = first_asks w new a b found.passed unread found.passes;
+      within = read_within w b found.passes.took found.passed (first_read w new a b found.passed unread found.passes);
+      silent = λ none. refl;
+      answer = (finds.ends.1, λ all told. first_front gives wish.apid found.passes.took);
+    }
 first_fails gives wish old new a b unread LongInput finds =
     let w = run_of gives wish old in
     let found = finds.ends.0 in
@@ -48,6 +56,7 @@ first_fails gives wish old new a b unread LongInput finds =
       took = found.passes.took;
       gave = [];
       since = first_asks w new a b found.passed unread found.passes;
+      within = read_within w b found.passes.took found.passed read;
       silent = λ none. refl;
       answer = (long_full w b found.passes.took found.passed read finds.ends.1, long_good w b found.passes.took found.passed read finds.ends.1, none_few wish.pixels wish.apid found.passes.took none, λ all told. first_front gives wish.apid found.passes.took);
     }
@@ -67,6 +76,7 @@ first_none gives wish old new a b unread finds =
       took = found.passes.took;
       gave = [];
       since = first_asks w new a b found.passed unread found.passes;
+      within = read_within w b found.passes.took found.passed read;
       silent = λ none. refl;
       answer = (ap (λ xs. (after_all wish.apid fresh xs).geometry) whole ∙ none_kept wish.apid found.passed last, ended_out w new b found.passes.took found.passed read finds.ends.1 (first_end w new a b found.passed unread found.passes), refl);
     }
@@ -74,6 +84,9 @@ first_none gives wish old new a b unread finds =
 -- ---- the first segment
 
 module _ (gives : Bool) (wish : DecodeWish) (old new : Outside) (b : Assembling) (start : SegmentStart) (found : HasFound (run_of gives wish old) new b start) where
+  found_within : length found.took ≤ wish.octets
+  found_within = read_within (run_of gives wish old) b found.took found.went found.read
+
   -- there is a geometry then
   pub never_none : b.state.geometry ≡ None → ⊥
   never_none none =
@@ -84,10 +97,17 @@ module _ (gives : Bool) (wish : DecodeWish) (old new : Outside) (b : Assembling)
       absurd (let both = sym none ∙ told in cc)
 
   pub too_many : (g : Geometry) (pixels : ℕ) → b.state.geometry ≡ Some g → pixels ≡ g.width * g.rows → wish.pixels < pixels → DecodesBy gives wish old new (Err (TooManyPixels pixels))
-  too_many g pixels told is lt = record { took = found.took; gave = []; since = found.since; silent = λ none. refl; answer = ((g, geometry_read (run_of gives wish old) b found.took found.went g found.read told, is), lt, refl) }
+  too_many g pixels told is lt = record {
+    took = found.took;
+    gave = [];
+    since = found.since;
+    within = found_within;
+    silent = λ none. refl;
+    answer = ((g, geometry_read (run_of gives wish old) b found.took found.went g found.read told, is), lt, refl);
+  }
 
   pub no_memory : DecodesBy gives wish old new (Err Memory)
-  no_memory = record { took = found.took; gave = []; since = found.since; silent = λ none. refl; answer = refl }
+  no_memory = record { took = found.took; gave = []; since = found.since; within = found_within; silent = λ none. refl; answer = refl }
 
 -- ---- the picture
 
@@ -106,14 +126,15 @@ picture_done gives wish old new q g found told whole same is few =
       took = here.took;
       gave = here.gave;
       since = few_asks gives wish old new here.took here.gave (geometry_small wish.pixels wish.apid here.took g here.geometry few) here.since;
+      within = here.within;
       silent = here.silent;
       answer = record { geometry = here.geometry; range = here.range; few = few; framing_is = is ∙ here.framing_is; out = here.out; rows = here.rows; told = here.told };
     }
 
 pub picture_fails : (gives : Bool) (wish : DecodeWish) (old mid new : Outside) (p q : Shown) → old.read_faults ≤ mid.read_faults → old.write_faults ≤ mid.write_faults → (fault : DecodeFault) → GivesPicture mid new p q (Err fault) → BreaksRun (run_of gives wish old) new fault → DecodesBy gives wish old new (Err fault)
-picture_fails gives wish old mid new p q reads writes ReadFault ends broken = record { took = broken.took; gave = broken.gave; since = broken_asks gives wish old new broken; silent = broken.silent; answer = (rose_since reads ends, broken.front) }
-picture_fails gives wish old mid new p q reads writes WriteFault ends broken = record { took = broken.took; gave = broken.gave; since = broken_asks gives wish old new broken; silent = broken.silent; answer = (rose_since writes ends, broken.small, broken.front) }
-picture_fails gives wish old mid new p q reads writes LongInput ends long = record { took = long.broken.took; gave = long.broken.gave; since = broken_asks gives wish old new long.broken; silent = long.broken.silent; answer = (long.full, long.good, long.broken.small, long.broken.front) }
+picture_fails gives wish old mid new p q reads writes ReadFault ends broken = record { took = broken.took; gave = broken.gave; since = broken_asks gives wish old new broken; within = broken.within; silent = broken.silent; answer = (rose_since reads ends, broken.front) }
+picture_fails gives wish old mid new p q reads writes WriteFault ends broken = record { took = broken.took; gave = broken.gave; since = broken_asks gives wish old new broken; within = broken.within; silent = broken.silent; answer = (rose_since writes ends, broken.small, broken.front) }
+picture_fails gives wish old mid new p q reads writes LongInput ends long = record { took = long.broken.took; gave = long.broken.gave; since = broken_asks gives wish old new long.broken; within = long.broken.within; silent = long.broken.silent; answer = (long.full, long.good, long.broken.small, long.broken.front) }
 picture_fails gives wish old mid new p q reads writes NoSegment ends broken = absurd ends
 picture_fails gives wish old mid new p q reads writes (TooManyPixels pixels) ends broken = absurd ends
 picture_fails gives wish old mid new p q reads writes Memory ends broken = absurd ends

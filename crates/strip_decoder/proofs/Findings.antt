@@ -23,7 +23,7 @@ silent_since wish old new r d =
 
 -- a fault ended it
 pub find_fails : (wish : DecodeWish) (old new : Outside) (fault : DecodeFault) → DecodesBy false wish old new (Err fault) → Finds wish old new (Err fault)
-find_fails wish old new fault d = record { took = d.took; gave = []; since = silent_since wish old new (Err fault) d; answer = by fault d.answer }
+find_fails wish old new fault d = record { took = d.took; gave = []; since = silent_since wish old new (Err fault) d; within = d.within; answer = by fault d.answer }
   where
     by : (fault : DecodeFault) → AnswersBy false wish old new d.took d.gave (Err fault) → FindAnswers wish old new d.took [] (Err fault)
     by ReadFault a = (a.0, refl)
@@ -52,6 +52,7 @@ find_done wish old mid new done (Ok x) is d out = record {
   took = d.took;
   gave = damage_lines done.damage;
   since = since_out (silent_since wish old mid (Ok done) d) out;
+  within = d.within;
   answer = record { found = found_later wish old mid new d.took d.gave done d.answer out; lines = refl };
 }
 
@@ -65,6 +66,7 @@ find_cut wish old mid new done (Err e) is d out =
       took = d.took;
       gave = take n (damage_lines done.damage);
       since = since_out (silent_since wish old mid (Ok done) d) since;
+      within = d.within;
       answer = (
         rose_since d.since.faults.writes out.0,
         geometry_small wish.pixels wish.apid d.took done.geometry d.answer.geometry d.answer.few,

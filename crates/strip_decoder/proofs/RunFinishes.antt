@@ -35,7 +35,7 @@ use Rattle.strip_decoder.proofs.TextReads.{left_after}
 use Rattle.strip_decoder.proofs.Between.{geometry_stays}
 use Rattle.strip_decoder.proofs.Counts.{passed_few}
 use Rattle.strip_decoder.proofs.Showing.{shows_lost, are_lost, number_by}
-use Rattle.strip_decoder.proofs.Asking.{geometry_small, wrote_on, both_tell}
+use Rattle.strip_decoder.proofs.Asking.{read_within, geometry_small, wrote_on, both_tell}
 use Rattle.strip_decoder.proofs.RunFinds.{left_before, stays_come, le_div}
 use Rattle.strip_decoder.proofs.RunPasses.{come_broken}
 use Rattle.strip_decoder.proofs.RunEnds.{all_missing, all_given, all_received}
@@ -181,6 +181,7 @@ module _ (w : Run) (now new : Outside) (a : Assembling) (p q : Shown) (standing 
         took = come.took;
         gave = come.gave ++ passed.goes.gave;
         since = wrote_on w.gives w.apid come.took come.gave passed.goes.gave come.since passed.goes.out;
+        within = read_within w a come.took come.passed come.read;
         geometry = ap (λ xs. (after_all w.apid fresh xs).geometry) whole ∙ ap (λ (s : FateState). s.geometry) (sym come.read.state) ∙ end.geometry ∙ ap Some (sym passed.geometry);
         framing_is = ended_framing w a come.took come.passed come.read end.ended;
         out = out_later w.cap now new come.took passed.goes.gave passed.goes.out (ended_out w now a come.took come.passed come.read end.ended come.at_end);
@@ -199,6 +200,7 @@ module _ (w : Run) (now new : Outside) (a : Assembling) (p q : Shown) (standing 
     took = end.come.took;
     gave = end.come.gave ++ broken.gave;
     since = wrote_on w.gives w.apid end.come.took end.come.gave broken.gave end.come.since broken.out;
+    within = read_within w a end.come.took end.come.passed end.come.read;
     small = geometry_small w.pixels w.apid end.come.took p.geometry geometry_told end.come.small;
     front = λ every told. record {
       none = λ none. absurd (let both : None ≡ Some p.geometry = sym none ∙ geometry_told in cc);

@@ -26,7 +26,7 @@ use Rattle.strip_decoder.proofs.RowGives.{given_none, part_none}
 use Rattle.strip_decoder.proofs.TextReads.{left_after}
 use Rattle.strip_decoder.proofs.SegmentTakes.{with_cells}
 use Rattle.strip_decoder.proofs.Showing.{shows_cells, shows_lost, shows_held, are_lost, are_held}
-use Rattle.strip_decoder.proofs.Asking.{small_read, front_packets, wrote_on, geometry_then, not_none, known_same, of_received, is_front}
+use Rattle.strip_decoder.proofs.Asking.{read_within, small_read, front_packets, wrote_on, geometry_then, not_none, known_same, of_received, is_front}
 use Rattle.strip_decoder.proofs.RunTakes.{wrote_come, went_come, decided, decides_some, decides_none, begun_next, segment_there}
 
 -- ---- a fault
@@ -59,6 +59,7 @@ come_broken w now a p bound come standing geometry = record {
   took = come.took;
   gave = come.gave;
   since = come.since;
+  within = read_within w a come.took come.passed come.read;
   front = come_front w now a p bound come standing geometry;
   silent = come_silent w now a p bound come;
   small = small_read w a p come.took come.passed come.read geometry come.small;
@@ -71,6 +72,7 @@ write_broken w now new a p bound n come standing geometry few right broken = rec
   took = come.took;
   gave = come.gave ++ broken.gave;
   since = wrote_on w.gives w.apid come.took come.gave broken.gave come.since broken.out;
+  within = read_within w a come.took come.passed come.read;
   front = λ all told.
       let left = left_after w.start.rest now.rest come.took all come.since.rest told in
       let hand = at_hand a left.rest in

@@ -81,12 +81,14 @@ AnswersBy gives wish old new took gave (Err Memory) = gave ≡ []
 abbrev pub AsksFor : (gives : Bool) → DecodeWish → Outside → (took gave : List ℕ) → ℕ → ℕ → Type 0
 AsksFor gives wish start took gave i j = AsksBy gives wish.apid start took gave i j × HasFew wish.pixels wish.apid (take i took)
 
--- One run over a port: what it took and gave, when, and why it ended so. Where rows are wanted, what is given at each read call is a
--- front of the picture for the octets that were taken by then, with at least the rows that may go out.
+-- One run over a port: what it took and gave, when, and why it ended so. However it ends, it takes at most as many octets as are
+-- wished. Where rows are wanted, what is given at each read call is a front of the picture for the octets that were taken by then,
+-- with at least the rows that may go out.
 pub record DecodesBy (gives : Bool) (wish : DecodeWish) (old new : Outside) (result : Result DecodeDone DecodeFault) : Type 0 where
   pub took : List ℕ
   pub gave : List ℕ
   pub since : Since old new took gave [] (AsksFor gives wish old took gave)
+  pub within : length took ≤ wish.octets
   pub silent : gives ≡ false → gave ≡ []
   pub answer : AnswersBy gives wish old new took gave result
 

@@ -1,5 +1,5 @@
 -- How a search for damage ends, by what it took and gave. This project's own.
-use Rattle.std.specs.Prelude.{◌≡◌, ◌⊎◌, ◌<◌, ◌*◌, ℕ, List, [], length, take, false, None, Some, Result, Ok, Err}
+use Rattle.std.specs.Prelude.{◌≡◌, ◌⊎◌, ◌≤◌, ◌<◌, ◌*◌, ℕ, List, [], length, take, false, None, Some, Result, Ok, Err}
 use Rattle.port_122.specs.Outside.{Outside, Since, Rose}
 use Rattle.base_122.specs.declared.wish.DecodeWish.{DecodeWish}
 use Rattle.base_122.specs.declared.geometry.Geometry.{Geometry}
@@ -43,9 +43,11 @@ FindAnswers wish old new took gave (Err Memory) = gave ≡ []
 abbrev pub AsksSilent : DecodeWish → (took : List ℕ) → ℕ → ℕ → Type 0
 AsksSilent wish took i j = (j ≡ 0) × HasFew wish.pixels wish.apid (take i took)
 
--- One run over a port: what it took and gave, when, and why it ended so. At each read call nothing is given.
+-- One run over a port: what it took and gave, when, and why it ended so. However it ends, it takes at most as many octets as are
+-- wished. At each read call nothing is given.
 pub record Finds (wish : DecodeWish) (old new : Outside) (result : Result DecodeDone DecodeFault) : Type 0 where
   pub took : List ℕ
   pub gave : List ℕ
   pub since : Since old new took gave [] (AsksSilent wish took)
+  pub within : length took ≤ wish.octets
   pub answer : FindAnswers wish old new took gave result

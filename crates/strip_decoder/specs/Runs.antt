@@ -151,11 +151,12 @@ pub record ComesPast (w : Run) (now : Outside) (a : Assembling) (p : Shown) : Ty
   pub begun : (start : SegmentStart) → a.held ≡ Some start → IsBegun w.apid come.passed a.text start (index + 1)
   pub reached : first_block p.geometry.segment index + segment_blocks (total_in p) p.geometry.segment index ≤ passed_in p
 
--- A fault ended it: what it took and gave. What is given is a front of the picture.
+-- A fault ended it: what it took, which is no more than the cap lets, and gave. What is given is a front of the picture.
 pub record HasBroken (w : Run) (now : Outside) : Type 0 where
   pub took : List ℕ
   pub gave : List ℕ
   pub since : Since w.start now took gave [] (AsksBy w.gives w.apid w.start took gave)
+  pub within : length took ≤ w.cap
   pub front : (all : List ℕ) → w.start.rest ≡ Some all → FrontBy w.gives w.apid took gave
   pub silent : w.gives ≡ false → gave ≡ []
   pub small : HasFew w.pixels w.apid took
@@ -204,6 +205,7 @@ pub record IsWhole (w : Run) (now : Outside) (g : Geometry) (damage : Marks) (fo
   pub took : List ℕ
   pub gave : List ℕ
   pub since : Since w.start now took gave [] (AsksBy w.gives w.apid w.start took gave)
+  pub within : length took ≤ w.cap
   pub geometry : geometry_in w.apid took ≡ Some g
   pub framing_is : found ≡ framing took
   pub out : IsReadOut w.cap now took

@@ -17,9 +17,9 @@ use std::alloc::Global;
 
 /// Takes the packets of an APID and gives the picture of the segments that are received, each row as soon as the packets so far
 /// determine it (docs/formats.md, "Packets", "Fates" and "Picture and damage"; docs/architecture.md, "The decoder"). It reads to
-/// the end, or to what can't be read on, but no more once the geometry has too many pixels. After `NoSegment`, `TooManyPixels`
-/// and `Memory` nothing is given, and after the other faults a front of the picture. `ReadFault` and `WriteFault` come only where
-/// the port's count rose.
+/// the end, or to what can't be read on, at most the octets that are wished, and no more once the geometry has too many pixels.
+/// After `NoSegment`, `TooManyPixels` and `Memory` nothing is given, and after the other faults a front of the picture.
+/// `ReadFault` and `WriteFault` come only where the port's count rose.
 pub fn decode_packets<X: Port>(
     alloc: Global,
     port: &mut X,
