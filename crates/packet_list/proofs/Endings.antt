@@ -130,6 +130,10 @@ ended_out wish now b took passed read ended at_end = elim (over_read b.apid b.in
 
 -- ---- the answers
 
+-- no more octets were taken than are wished
+read_within : {wish : DecodeWish} {b : Assembling} {took : List ℕ} {passed : List (List ℕ)} → HasRead wish b took passed → length took ≤ wish.octets
+read_within read = omega (arith, read.taken, read.cap, read.capped)
+
 -- all packets were listed
 pub all_listed : {wish : DecodeWish} {start now new : Outside} {a b : Assembling} {packets : ℕ} (found : Option Framing) → HasListed wish start now a packets → ReadsNote now new a b (Ok None) → found ≡ b.framing →
     Lists wish start new (Ok (record { packets = packets; framing = found }))
@@ -141,6 +145,7 @@ all_listed {wish = wish} {new = new} {b = b} found before x is =
       took = come.took;
       gave = lines_of wish.apid come.passed;
       since = come.since;
+      within = read_within come.read;
       answer = record {
         lines = ap (lines_of wish.apid) (sym whole);
         packets = come.packets_are ∙ ap length (sym whole);
@@ -172,6 +177,7 @@ long_listed {wish = wish} {b = b} before x =
       took = come.took;
       gave = lines_of wish.apid come.passed;
       since = come.since;
+      within = read_within come.read;
       answer = (full, ap has_bad_version (left_so wish b come.took come.passed come.read long.none) ∙ long.good, ap (lines_of wish.apid) (sym (whole_so wish b come.took come.passed come.read long.none)));
     }
 
@@ -184,6 +190,7 @@ read_failed {wish = wish} {b = b} before x =
       took = come.took;
       gave = lines_of wish.apid come.passed;
       since = come.since;
+      within = read_within come.read;
       answer = (rose_since before.since.faults.reads fail.fails.fails, ap (lines_of wish.apid) (sym (whole_so wish b come.took come.passed come.read none)));
     }
 
@@ -208,6 +215,7 @@ write_failed {wish = wish} {start = start} {now = now} {new = new} {a = a} {b = 
       took = took;
       gave = earlier ++ take x.some line;
       since = gave_on before q n.one.asks (take x.some line) x.gives;
+      within = read_within read;
       answer = (rose_since before.since.faults.writes (rose_since x_writes x.rose), (some, sym front));
     }
   where

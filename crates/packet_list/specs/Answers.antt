@@ -1,5 +1,5 @@
 -- How a list of packets ends, by what it took and gave. This project's own.
-use Rattle.std.specs.Prelude.{◌≡◌, ◌⊎◌, ◌<◌, ℕ, List, [], length, take, true, false, Some, Result, Ok, Err}
+use Rattle.std.specs.Prelude.{◌≡◌, ◌⊎◌, ◌≤◌, ◌<◌, ℕ, List, [], length, take, true, false, Some, Result, Ok, Err}
 use Rattle.port_122.specs.Outside.{Outside, Since, AtEnd, Rose}
 use Rattle.base_122.specs.declared.wish.DecodeWish.{DecodeWish}
 use Rattle.packet_defs.specs.Streams.{whole_packets, left_over, has_bad_version, framing}
@@ -30,10 +30,11 @@ Answers wish old new took gave (Err ReadFault) = Rose old.read_faults new.read_f
 Answers wish old new took gave (Err WriteFault) = Rose old.write_faults new.write_faults × ((some : ℕ) × (gave ≡ take some (listing wish.apid took)))
 Answers wish old new took gave (Err Memory) = (old ≡ new) × (took ≡ []) × (gave ≡ [])
 
--- One run over a port: what it took and gave, when, and why it ended so. At each read call what is given are just the lines of the
--- packets that are whole in the octets taken by then.
+-- One run over a port: what it took and gave, when, and why it ended so. However it ends, it takes at most as many octets as are
+-- wished. At each read call what is given are just the lines of the packets that are whole in the octets taken by then.
 pub record Lists (wish : DecodeWish) (old new : Outside) (result : Result ListDone ListFault) : Type 0 where
   pub took : List ℕ
   pub gave : List ℕ
   pub since : Since old new took gave [] (AsksListed wish.apid took gave)
+  pub within : length took ≤ wish.octets
   pub answer : Answers wish old new took gave result

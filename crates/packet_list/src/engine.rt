@@ -11,11 +11,12 @@ use port_122::{Port, write_all};
 use std::alloc::Global;
 
 /// Reads the packets of a stream and gives one line for each, as soon as its fate is known (docs/formats.md, "Packets" and
-/// "Fates"). It reads to the end, or to what can't be read on. A line is the packet's number from 0, a space and its fate: `kept`
-/// with the segment's index, the part and the octets of the text, each after a space, or `idle`, `not-telemetry`, `other-apid`,
-/// `no-secondary`, `short-ancillary`, `other-mark`, `foreign`, `late`, `out-of-place` or `bad-head`. After `Memory` nothing was
-/// read or given, after `WriteFault` a front of the lines is given, and else those of all packets of the octets that were taken.
-/// `ReadFault` and `WriteFault` come only where the port's count rose. The most pixels that are wished don't matter.
+/// "Fates"). It reads to the end, or to what can't be read on, and at most the octets that are wished. A line is the packet's
+/// number from 0, a space and its fate: `kept` with the segment's index, the part and the octets of the text, each after a space,
+/// or `idle`, `not-telemetry`, `other-apid`, `no-secondary`, `short-ancillary`, `other-mark`, `foreign`, `late`, `out-of-place`
+/// or `bad-head`. After `Memory` nothing was read or given, after `WriteFault` a front of the lines is given, and else those of
+/// all packets of the octets that were taken. `ReadFault` and `WriteFault` come only where the port's count rose. The most pixels
+/// that are wished don't matter.
 pub fn list_packets<X: Port>(
     alloc: Global,
     port: &mut X,
