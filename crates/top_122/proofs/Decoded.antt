@@ -11,6 +11,7 @@ use Rattle.port_122.proofs.Stretches.{since_start, since_note, at_end_later}
 use Rattle.base_122.specs.Sizes.{block_count}
 use Rattle.base_122.specs.declared.geometry.Geometry.{Geometry}
 use Rattle.base_122.specs.declared.wish.DecodeWish.{DecodeWish}
+use Rattle.packet_defs.specs.Streams.{left_over, has_bad_version}
 use Rattle.packet_defs.specs.declared.packet.Framing.{Framing}
 use Rattle.stream_defs.specs.declared.range.RowRange.{RowRange}
 use Rattle.stream_defs.specs.Damage.{is_covered, is_damaged, missing_rows, is_missing as is_missing_of}
@@ -27,7 +28,7 @@ use Rattle.strip_decoder.specs.Answers.{PictureBy, Answers, Asks, Decodes as Dec
 use Rattle.strip_decoder.specs.Finding.{IsPart, GivesSome, FindAnswers, AsksSilent, Finds}
 use Rattle.top_122.specs.Notes.{IsNoted, Notes, decoder_fault_status, decoder_fault_line}
 use Rattle.top_122.specs.DamageNotes.{damaged, damage_line, done_status, done_line}
-use Rattle.top_122.specs.Ran.{Ran}
+use Rattle.top_122.specs.Ran.{Ran, CausedWithin}
 use Rattle.top_122.specs.Decoding.{Causes, Asking, AsksFound, decode_status, decode_line, RunsDecoder, Decodes, FindsDamage, TellsDone, DecodedWhole, DecodedPart, DecoderRefuses, DecoderLacksMemory}
 use Rattle.top_122.proofs.NoteLines.{noted_since}
 
@@ -94,7 +95,7 @@ decoded wish a b c done status run n = record {
   gave = run.gave;
   wrote = n.wrote;
   since = since_note run.since n.since;
-  cause = decode_later wish a b c run.took run.gave n.wrote (Ok done) n.since run.answer;
+  cause = record { within = run.within; cause = decode_later wish a b c run.took run.gave n.wrote (Ok done) n.since run.answer };
   status_is = n.status_is;
   noted = noted_since a b c n.wrote _ run.since.faults.notes n.noted;
 }
@@ -107,7 +108,7 @@ decode_failed wish a b c fault status run n is = record {
   gave = run.gave;
   wrote = n.0;
   since = since_note run.since n.1;
-  cause = decode_later wish a b c run.took run.gave n.0 (Err fault) n.1 run.answer;
+  cause = record { within = run.within; cause = decode_later wish a b c run.took run.gave n.0 (Err fault) n.1 run.answer };
   status_is = is;
   noted = noted_since a b c n.0 (decoder_fault_line fault) run.since.faults.notes n.2;
 }
@@ -120,7 +121,7 @@ found wish a b c done status run n = record {
   gave = run.gave;
   wrote = n.wrote;
   since = since_note run.since n.since;
-  cause = find_later wish a b c run.took run.gave n.wrote (Ok done) n.since run.answer;
+  cause = record { within = run.within; cause = find_later wish a b c run.took run.gave n.wrote (Ok done) n.since run.answer };
   status_is = n.status_is;
   noted = noted_since a b c n.wrote _ run.since.faults.notes n.noted;
 }
@@ -133,7 +134,7 @@ find_failed wish a b c fault status run n is = record {
   gave = run.gave;
   wrote = n.0;
   since = since_note run.since n.1;
-  cause = find_later wish a b c run.took run.gave n.0 (Err fault) n.1 run.answer;
+  cause = record { within = run.within; cause = find_later wish a b c run.took run.gave n.0 (Err fault) n.1 run.answer };
   status_is = is;
   noted = noted_since a b c n.0 (decoder_fault_line fault) run.since.faults.notes n.2;
 }
@@ -196,34 +197,35 @@ missing_listed gives wish a b took gave done p none all told =
 
 -- ---- what each cause says
 
--- an image that was read, of few pixels, where nothing is missing if no row is damaged
-pub record SawImage (wish : DecodeWish) (old : Outside) (took : List ℕ) (done : DecodeDone) : Type 0 where
+-- an image that was read, of few pixels, and to the end, where nothing is missing if no row is damaged
+pub record SawImage (wish : DecodeWish) (old new : Outside) (took : List ℕ) (done : DecodeDone) : Type 0 where
   pub geometry : geometry_in wish.apid took ≡ Some done.geometry
   pub few : done.geometry.width * done.geometry.rows ≤ wish.pixels
+  pub out : IsReadOut wish.octets new took
   pub none_missing : damaged done.damage ≡ [] → (all : List ℕ) → old.rest ≡ Some all → done.damage.missing ≡ []
 
 -- what an answer says of the octets and the faults, whatever was given
 abbrev pub Says : DecodeWish → Outside → Outside → List ℕ → List ℕ → Result DecodeDone DecodeFault → Type 0
-Says wish old new took gave (Ok done) = SawImage wish old took done
+Says wish old new took gave (Ok done) = SawImage wish old new took done
 Says wish old new took gave (Err NoSegment) = (geometry_in wish.apid took ≡ None) × IsReadOut wish.octets new took
 Says wish old new took gave (Err (TooManyPixels pixels)) = ((g : Geometry) × (geometry_in wish.apid took ≡ Some g) × (pixels ≡ g.width * g.rows)) × (wish.pixels < pixels)
-Says wish old new took gave (Err LongInput) = length took ≡ wish.octets
+Says wish old new took gave (Err LongInput) = (length took ≡ wish.octets) × (has_bad_version (left_over took) ≡ false)
 Says wish old new took gave (Err ReadFault) = Rose old.read_faults new.read_faults
 Says wish old new took gave (Err WriteFault) = Rose old.write_faults new.write_faults
 Says wish old new took gave (Err Memory) = gave ≡ []
 
-saw : (gives : Bool) (wish : DecodeWish) (a b : Outside) (took gave : List ℕ) (done : DecodeDone) → PictureBy gives wish a b took gave done → SawImage wish a took done
-saw gives wish a b took gave done p = record { geometry = p.geometry; few = p.few; none_missing = missing_listed gives wish a b took gave done p }
+saw : (gives : Bool) (wish : DecodeWish) (a b : Outside) (took gave : List ℕ) (done : DecodeDone) → PictureBy gives wish a b took gave done → SawImage wish a b took done
+saw gives wish a b took gave done p = record { geometry = p.geometry; few = p.few; out = p.out; none_missing = missing_listed gives wish a b took gave done p }
 
--- all causes of an engine say so
+-- all answers of an engine say so
 abbrev pub AllSay : DecodeWish → Causes → Type 0
-AllSay wish causes = (old new : Outside) (took gave : List ℕ) (r : Result DecodeDone DecodeFault) → causes old new took gave r → Says wish old new took gave r
+AllSay wish answers = (old new : Outside) (took gave : List ℕ) (r : Result DecodeDone DecodeFault) → answers old new took gave r → Says wish old new took gave r
 
 pub decode_says : (wish : DecodeWish) → AllSay wish (Answers wish)
 decode_says wish a b took gave (Ok done) k = saw true wish a b took gave done k
 decode_says wish a b took gave (Err NoSegment) k = (k.0, k.1)
 decode_says wish a b took gave (Err (TooManyPixels pixels)) k = (k.0, k.1)
-decode_says wish a b took gave (Err LongInput) k = k.0
+decode_says wish a b took gave (Err LongInput) k = (k.0, k.1)
 decode_says wish a b took gave (Err ReadFault) k = k.0
 decode_says wish a b took gave (Err WriteFault) k = k.0
 decode_says wish a b took gave (Err Memory) k = k
@@ -232,7 +234,7 @@ pub find_says : (wish : DecodeWish) → AllSay wish (FindAnswers wish)
 find_says wish a b took gave (Ok done) k = saw false wish a b took [] done k.found
 find_says wish a b took gave (Err NoSegment) k = (k.0, k.1)
 find_says wish a b took gave (Err (TooManyPixels pixels)) k = (k.0, k.1)
-find_says wish a b took gave (Err LongInput) k = k.0
+find_says wish a b took gave (Err LongInput) k = (k.0, k.1)
 find_says wish a b took gave (Err ReadFault) k = k.0
 find_says wish a b took gave (Err WriteFault) k = k.0
 find_says wish a b took gave (Err Memory) k = k
@@ -282,7 +284,10 @@ whole_line ranges framing none good = rw (none, good) refl
 pub decode_not_two : {causes : Causes} {asks : Asking} (old new : Outside) (status : ℕ) → RunsDecoder causes asks old new status → status ≡ 2 → ⊥
 decode_not_two old new status run two = not_two run.answer (sym run.status_is ∙ two)
 
-module _ (wish : DecodeWish) (causes : Causes) (asks : Asking) (say : AllSay wish causes) (old new : Outside) (status : ℕ) (run : RunsDecoder causes asks old new status) where
+module _ (wish : DecodeWish) (answers : Causes) (asks : Asking) (say : AllSay wish answers) (old new : Outside) (status : ℕ) (run : RunsDecoder (CausedWithin wish.octets answers) asks old new status) where
+  abbrev causes : Causes
+  causes = CausedWithin wish.octets answers
+
   pub decode_done : status ≡ 0 → DecodedWhole causes asks old new
   decode_done zero = by run.answer run.cause run.noted (sym run.status_is ∙ zero)
     where
@@ -298,7 +303,7 @@ module _ (wish : DecodeWish) (causes : Causes) (asks : Asking) (say : AllSay wis
             cause = k;
             framing = fine.1;
             none_damaged = fine.0;
-            none_missing = (say old new run.took run.gave (Ok done) k).none_missing fine.0;
+            none_missing = (say old new run.took run.gave (Ok done) k.cause).none_missing fine.0;
           }
       by (Err fault) k noted e = absurd (omega (arith, e, fault_statuses fault))
 
@@ -328,7 +333,7 @@ module _ (wish : DecodeWish) (causes : Causes) (asks : Asking) (say : AllSay wis
       by (Err fault) k noted e = record { fault = fault; took = run.took; gave = run.gave; wrote = run.wrote; since = run.since; input = e; cause = k; noted = noted }
 
   pub decode_read_fault : status ≡ 4 → Rose old.read_faults new.read_faults
-  decode_read_fault four = by run.answer (say old new run.took run.gave run.answer run.cause) (sym run.status_is ∙ four)
+  decode_read_fault four = by run.answer (say old new run.took run.gave run.answer run.cause.cause) (sym run.status_is ∙ four)
     where
       by : (r : Result DecodeDone DecodeFault) → Says wish old new run.took run.gave r → decode_status r ≡ 4 → Rose old.read_faults new.read_faults
       by (Ok done) k e = absurd (not_higher (damaged done.damage) done.framing 4 (omega arith) e)
@@ -340,7 +345,7 @@ module _ (wish : DecodeWish) (causes : Causes) (asks : Asking) (say : AllSay wis
       by (Err Memory) k e = absurd (omega (arith, e))
 
   pub decode_write_fault : status ≡ 5 → Rose old.write_faults new.write_faults
-  decode_write_fault five = by run.answer (say old new run.took run.gave run.answer run.cause) (sym run.status_is ∙ five)
+  decode_write_fault five = by run.answer (say old new run.took run.gave run.answer run.cause.cause) (sym run.status_is ∙ five)
     where
       by : (r : Result DecodeDone DecodeFault) → Says wish old new run.took run.gave r → decode_status r ≡ 5 → Rose old.write_faults new.write_faults
       by (Ok done) k e = absurd (not_higher (damaged done.damage) done.framing 5 (omega arith) e)
@@ -351,12 +356,12 @@ module _ (wish : DecodeWish) (causes : Causes) (asks : Asking) (say : AllSay wis
       by (Err ReadFault) k e = absurd (omega (arith, e))
       by (Err Memory) k e = absurd (omega (arith, e))
 
-  pub decode_no_memory : status ≡ 6 → DecoderLacksMemory asks old new
-  decode_no_memory six = by run.answer (say old new run.took run.gave run.answer run.cause) (sym run.status_is ∙ six)
+  pub decode_no_memory : status ≡ 6 → DecoderLacksMemory wish asks old new
+  decode_no_memory six = by run.answer (say old new run.took run.gave run.answer run.cause.cause) (sym run.status_is ∙ six)
     where
-      by : (r : Result DecodeDone DecodeFault) → Says wish old new run.took run.gave r → decode_status r ≡ 6 → DecoderLacksMemory asks old new
+      by : (r : Result DecodeDone DecodeFault) → Says wish old new run.took run.gave r → decode_status r ≡ 6 → DecoderLacksMemory wish asks old new
       by (Ok done) k e = absurd (not_higher (damaged done.damage) done.framing 6 (omega arith) e)
-      by (Err Memory) k e = record { took = run.took; wrote = run.wrote; since = subst (λ g. Since old new run.took g run.wrote (asks old run.took g)) k run.since }
+      by (Err Memory) k e = record { took = run.took; wrote = run.wrote; since = subst (λ g. Since old new run.took g run.wrote (asks old run.took g)) k run.since; within = run.cause.within }
       by (Err NoSegment) k e = absurd (omega (arith, e))
       by (Err (TooManyPixels pixels)) k e = absurd (omega (arith, e))
       by (Err LongInput) k e = absurd (omega (arith, e))

@@ -50,7 +50,7 @@ whole_status ranges framing none good = rw (none, good) refl
 -- ---- a run of the decoder
 
 pub gave_picture : DecodedContained → RoundTrip → (wish : DecodeWish) (old new : Outside) (status : ℕ) → Decodes wish old new status → (status ≡ 0) ⊎ (status ≡ 1) → GavePicture wish old new status
-gave_picture contains trip wish old new status run picture = by run.answer run.cause run.status_is
+gave_picture contains trip wish old new status run picture = by run.answer run.cause.cause run.status_is
   where
     low : (status ≡ 0) ⊎ (status ≡ 1) → status ≤ 1
     low (inl none) = omega (arith, none)

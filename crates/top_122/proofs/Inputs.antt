@@ -21,7 +21,7 @@ use Rattle.strip_decoder.specs.Finding.{FindAnswers}
 use Rattle.top_122.specs.Decoding.{AsksFound}
 use Rattle.top_122.proofs.Decoded.{decode_says, find_says}
 use Rattle.top_122.proofs.ReadOut.{took_front}
-use Rattle.top_122.proofs.PacketInputs.{right_packets, wrong_packets, listed_packets}
+use Rattle.top_122.proofs.PacketInputs.{right_packets, wrong_packets, long_packets, listed_packets, long_list}
 
 -- a pixel out of range in a part of an input is one in all of it
 not_in_range : (depth : ℕ) (signed : Bool) (took rest : List ℕ) (place : ℕ) (value : ℤ) → IsFirstBad depth signed took place value →
@@ -73,9 +73,11 @@ encoder_refuses s old new status run input steady = elim run [
 
 pub performs_wrong : (command : Command) (old new : Outside) (status : ℕ) → Performs command old new status → HasWrongInput command old → IsSteady old new → (status ≡ 3) ⊎ (status ≡ 6)
 performs_wrong (Encode setting) old new status run input steady = encoder_refuses setting old new status run input steady
-performs_wrong (Decode wish) old new status run input steady = wrong_packets wish (DecodeAnswers wish) (Asks wish) (decode_says wish) old new status run input steady
-performs_wrong (Damage wish) old new status run input steady = wrong_packets wish (FindAnswers wish) (AsksFound wish) (find_says wish) old new status run input steady
-performs_wrong (ListCommand wish) old new status run input steady = absurd input
+performs_wrong (Decode wish) old new status run (inl none) steady = wrong_packets wish (DecodeAnswers wish) (Asks wish) (decode_says wish) old new status run none steady
+performs_wrong (Decode wish) old new status run (inr many) steady = long_packets wish (DecodeAnswers wish) (Asks wish) (decode_says wish) old new status run many steady
+performs_wrong (Damage wish) old new status run (inl none) steady = wrong_packets wish (FindAnswers wish) (AsksFound wish) (find_says wish) old new status run none steady
+performs_wrong (Damage wish) old new status run (inr many) steady = long_packets wish (FindAnswers wish) (AsksFound wish) (find_says wish) old new status run many steady
+performs_wrong (ListCommand wish) old new status run input steady = long_list wish old new status run input steady
 performs_wrong (Make made) old new status run input steady = absurd input
 performs_wrong (Trial setting seed) old new status run input steady = absurd input
 

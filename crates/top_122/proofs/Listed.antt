@@ -10,7 +10,7 @@ use Rattle.packet_list.specs.declared.list.ListFault.TheVariants.{ReadFault, Wri
 use Rattle.packet_list.specs.Answers.{IsListing, Answers, Lists}
 use Rattle.top_122.specs.Notes.{IsNoted, Notes, list_fault_status, list_fault_line, memory_line}
 use Rattle.top_122.specs.DamageNotes.{done_status, done_line, damage_line}
-use Rattle.top_122.specs.Ran.{Ran, LacksMemory}
+use Rattle.top_122.specs.Ran.{Ran, CausedWithin, LacksMemory}
 use Rattle.top_122.specs.Decoding.{AsksLines, ListCauses, list_status, list_line, ListsPackets, TellsDone, ListedWhole, ListedPart, ListRefuses}
 use Rattle.top_122.proofs.NoteLines.{noted_since}
 use Rattle.top_122.proofs.Decoded.{out_later, undamaged_status, damaged_status, status_small, not_higher, nothing_noted, whole_line, lacking_line}
@@ -24,20 +24,23 @@ listed wish a b c done status run n = inr record {
   gave = run.gave;
   wrote = n.wrote;
   since = since_note run.since n.since;
-  cause = record { lines = run.answer.lines; packets = run.answer.packets; framing_is = run.answer.framing_is; out = out_later wish.octets b c run.took n.wrote n.since run.answer.out };
+  cause = record {
+    within = run.within;
+    cause = record { lines = run.answer.lines; packets = run.answer.packets; framing_is = run.answer.framing_is; out = out_later wish.octets b c run.took n.wrote n.since run.answer.out };
+  };
   status_is = n.status_is;
   noted = noted_since a b c n.wrote _ run.since.faults.notes n.noted;
 }
 
 ran_on : (wish : DecodeWish) (a b c : Outside) (fault : ListFault) (status : ℕ) → (run : Lists wish a b (Err fault)) → (n : Notes b c (list_fault_line fault)) →
-    ListCauses wish a c run.took run.gave (Err fault) → status ≡ list_fault_status fault → Ran (ListCauses wish) (AsksLines wish) list_status list_line a c status
+    ListCauses wish a c run.took run.gave (Err fault) → status ≡ list_fault_status fault → Ran (CausedWithin wish.octets (ListCauses wish)) (AsksLines wish) list_status list_line a c status
 ran_on wish a b c fault status run n cause is = record {
   answer = Err fault;
   took = run.took;
   gave = run.gave;
   wrote = n.0;
   since = since_note run.since n.1;
-  cause = cause;
+  cause = record { within = run.within; cause = cause };
   status_is = is;
   noted = noted_since a b c n.0 (list_fault_line fault) run.since.faults.notes n.2;
 }
@@ -74,7 +77,7 @@ list_not_two wish old new status (inr run) two = not_two run.answer (sym run.sta
 
 pub list_done : (wish : DecodeWish) (old new : Outside) (status : ℕ) → ListsPackets wish old new status → status ≡ 0 → ListedWhole wish old new
 list_done wish old new status (inl none) zero = absurd (omega (arith, none.status_is, zero))
-list_done wish old new status (inr run) zero = by run.answer run.cause run.noted (sym run.status_is ∙ zero)
+list_done wish old new status (inr run) zero = by run.answer run.cause.cause run.noted (sym run.status_is ∙ zero)
   where
     by : (r : Result ListDone ListFault) → ListCauses wish old new run.took run.gave r → IsNoted old new run.wrote (list_line r) → list_status r ≡ 0 → ListedWhole wish old new
     by (Ok done) k noted e =
@@ -85,6 +88,7 @@ list_done wish old new status (inr run) zero = by run.answer run.cause run.noted
           took = run.took;
           gave = run.gave;
           since = subst (λ w. Since old new run.took run.gave w (AsksLines wish old run.took run.gave)) silent run.since;
+          within = run.cause.within;
           listing = k;
           framing = good;
         }
@@ -92,7 +96,7 @@ list_done wish old new status (inr run) zero = by run.answer run.cause run.noted
 
 pub list_part : (wish : DecodeWish) (old new : Outside) (status : ℕ) → ListsPackets wish old new status → status ≡ 1 → ListedPart wish old new
 list_part wish old new status (inl none) one = absurd (omega (arith, none.status_is, one))
-list_part wish old new status (inr run) one = by run.answer run.cause run.noted (sym run.status_is ∙ one)
+list_part wish old new status (inr run) one = by run.answer run.cause.cause run.noted (sym run.status_is ∙ one)
   where
     by : (r : Result ListDone ListFault) → ListCauses wish old new run.took run.gave r → IsNoted old new run.wrote (list_line r) → list_status r ≡ 1 → ListedPart wish old new
     by (Ok done) k noted e =
@@ -103,6 +107,7 @@ list_part wish old new status (inr run) one = by run.answer run.cause run.noted 
           gave = run.gave;
           wrote = run.wrote;
           since = run.since;
+          within = run.cause.within;
           listing = k;
           lacks = lacks refl;
           noted = subst (IsNoted old new run.wrote) (lacking_line [] done.framing lacks) noted;
@@ -111,7 +116,7 @@ list_part wish old new status (inr run) one = by run.answer run.cause run.noted 
 
 pub list_refused : (wish : DecodeWish) (old new : Outside) (status : ℕ) → ListsPackets wish old new status → status ≡ 3 → ListRefuses wish old new
 list_refused wish old new status (inl none) three = absurd (omega (arith, none.status_is, three))
-list_refused wish old new status (inr run) three = by run.answer run.cause run.noted (sym run.status_is ∙ three)
+list_refused wish old new status (inr run) three = by run.answer run.cause.cause run.noted (sym run.status_is ∙ three)
   where
     by : (r : Result ListDone ListFault) → ListCauses wish old new run.took run.gave r → IsNoted old new run.wrote (list_line r) → list_status r ≡ 3 → ListRefuses wish old new
     by (Ok done) k noted e = absurd (not_higher [] done.framing 3 (omega arith) e)
@@ -122,7 +127,7 @@ list_refused wish old new status (inr run) three = by run.answer run.cause run.n
 
 pub list_read_fault : (wish : DecodeWish) (old new : Outside) (status : ℕ) → ListsPackets wish old new status → status ≡ 4 → Rose old.read_faults new.read_faults
 list_read_fault wish old new status (inl none) four = absurd (omega (arith, none.status_is, four))
-list_read_fault wish old new status (inr run) four = by run.answer run.cause (sym run.status_is ∙ four)
+list_read_fault wish old new status (inr run) four = by run.answer run.cause.cause (sym run.status_is ∙ four)
   where
     by : (r : Result ListDone ListFault) → ListCauses wish old new run.took run.gave r → list_status r ≡ 4 → Rose old.read_faults new.read_faults
     by (Ok done) k e = absurd (not_higher [] done.framing 4 (omega arith) e)
@@ -133,7 +138,7 @@ list_read_fault wish old new status (inr run) four = by run.answer run.cause (sy
 
 pub list_write_fault : (wish : DecodeWish) (old new : Outside) (status : ℕ) → ListsPackets wish old new status → status ≡ 5 → Rose old.write_faults new.write_faults
 list_write_fault wish old new status (inl none) five = absurd (omega (arith, none.status_is, five))
-list_write_fault wish old new status (inr run) five = by run.answer run.cause (sym run.status_is ∙ five)
+list_write_fault wish old new status (inr run) five = by run.answer run.cause.cause (sym run.status_is ∙ five)
   where
     by : (r : Result ListDone ListFault) → ListCauses wish old new run.took run.gave r → list_status r ≡ 5 → Rose old.write_faults new.write_faults
     by (Ok done) k e = absurd (not_higher [] done.framing 5 (omega arith) e)
@@ -144,7 +149,7 @@ list_write_fault wish old new status (inr run) five = by run.answer run.cause (s
 
 pub list_no_memory : (wish : DecodeWish) (old new : Outside) (status : ℕ) → ListsPackets wish old new status → status ≡ 6 → (wrote : List ℕ) × Since old new [] [] wrote NoRead
 list_no_memory wish old new status (inl none) six = (none.wrote, none.since)
-list_no_memory wish old new status (inr run) six = by run.answer run.cause (sym run.status_is ∙ six)
+list_no_memory wish old new status (inr run) six = by run.answer run.cause.cause (sym run.status_is ∙ six)
   where
     by : (r : Result ListDone ListFault) → ListCauses wish old new run.took run.gave r → list_status r ≡ 6 → (wrote : List ℕ) × Since old new [] [] wrote NoRead
     by (Ok done) k e = absurd (not_higher [] done.framing 6 (omega arith) e)

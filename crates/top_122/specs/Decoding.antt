@@ -1,8 +1,9 @@
 -- What a run of `decode`, `damage` and `list` leaves. This project's own.
-use Rattle.std.specs.Prelude.{◌≡◌, ◌⊎◌, ◌<◌, ◌≤◌, ◌*◌, ℕ, List, [], length, Option, None, Some, Result, Ok, Err}
+use Rattle.std.specs.Prelude.{◌≡◌, ◌⊎◌, ◌<◌, ◌≤◌, ◌*◌, ℕ, List, [], length, take, true, false, Option, None, Some, Result, Ok, Err}
 use Rattle.port_122.specs.Outside.{Outside, Since, NoRead}
 use Rattle.base_122.specs.declared.geometry.Geometry.{Geometry}
 use Rattle.base_122.specs.declared.wish.DecodeWish.{DecodeWish}
+use Rattle.packet_defs.specs.Streams.{left_over, has_bad_version}
 use Rattle.packet_defs.specs.declared.packet.Framing.{Framing}
 use Rattle.stream_defs.specs.declared.range.RowRange.{RowRange}
 use Rattle.stream_defs.specs.Fates.{geometry_in}
@@ -17,7 +18,7 @@ use Rattle.packet_list.specs.Answers.{IsListing, Answers as ListAnswers}
 use Rattle.packet_list.specs.Progress.{AsksListed}
 use Rattle.top_122.specs.Notes.{IsNoted, decoder_fault_status, decoder_fault_line, list_fault_status, list_fault_line}
 use Rattle.top_122.specs.DamageNotes.{damaged, damage_line, done_status, done_line}
-use Rattle.top_122.specs.Ran.{Ran, LacksMemory}
+use Rattle.top_122.specs.Ran.{Ran, CausedWithin, LacksMemory}
 
 -- ---- the status and the note for each answer
 
@@ -50,9 +51,17 @@ Asking = Outside → List ℕ → List ℕ → ℕ → ℕ → Type 0
 abbrev pub RunsDecoder : Causes → Asking → (old new : Outside) (status : ℕ) → Type 0
 RunsDecoder causes asks = Ran causes asks decode_status decode_line
 
+-- what causes an answer of `decode`, and how much is taken for it at most
+abbrev pub DecodeCauses : DecodeWish → Causes
+DecodeCauses wish = CausedWithin wish.octets (Answers wish)
+
 -- one run of `decode`
 abbrev pub Decodes : DecodeWish → (old new : Outside) (status : ℕ) → Type 0
-Decodes wish = RunsDecoder (Answers wish) (Asks wish)
+Decodes wish = RunsDecoder (DecodeCauses wish) (Asks wish)
+
+-- the same for `damage`
+abbrev pub FindCauses : DecodeWish → Causes
+FindCauses wish = CausedWithin wish.octets (FindAnswers wish)
 
 -- what `damage` does at a read call: nothing is given
 abbrev pub AsksFound : DecodeWish → Asking
@@ -60,7 +69,7 @@ AsksFound wish old took gave = AsksSilent wish took
 
 -- one run of `damage`
 abbrev pub FindsDamage : DecodeWish → (old new : Outside) (status : ℕ) → Type 0
-FindsDamage wish = RunsDecoder (FindAnswers wish) (AsksFound wish)
+FindsDamage wish = RunsDecoder (FindCauses wish) (AsksFound wish)
 
 -- what causes an answer of a list for which there was memory
 abbrev pub ListCauses : DecodeWish → Outside → Outside → List ℕ → List ℕ → Result ListDone ListFault → Type 0
@@ -76,7 +85,7 @@ AsksLines wish old took gave = AsksListed wish.apid took gave
 
 -- one run of `list`
 abbrev pub ListsPackets : DecodeWish → (old new : Outside) (status : ℕ) → Type 0
-ListsPackets wish old new status = LacksMemory old new status ⊎ Ran (ListCauses wish) (AsksLines wish) list_status list_line old new status
+ListsPackets wish old new status = LacksMemory old new status ⊎ Ran (CausedWithin wish.octets (ListCauses wish)) (AsksLines wish) list_status list_line old new status
 
 -- Of packets that were read, with this status, the note is given: nothing where nothing is wrong.
 pub record TellsDone (ranges : List RowRange) (framing : Option Framing) (old new : Outside) (status : ℕ) : Type 0 where
@@ -121,10 +130,11 @@ pub record DecoderRefuses (causes : Causes) (asks : Asking) (old new : Outside) 
   pub noted : IsNoted old new wrote (decoder_fault_line fault)
 
 -- there is no memory for the decoder: nothing is given
-pub record DecoderLacksMemory (asks : Asking) (old new : Outside) : Type 0 where
+pub record DecoderLacksMemory (wish : DecodeWish) (asks : Asking) (old new : Outside) : Type 0 where
   pub took : List ℕ
   pub wrote : List ℕ
   pub since : Since old new took [] wrote (asks old took [])
+  pub within : length took ≤ wish.octets
 
 -- The lines of all packets are given and nothing noted: the packets were read to their end.
 pub record ListedWhole (wish : DecodeWish) (old new : Outside) : Type 0 where
@@ -132,6 +142,7 @@ pub record ListedWhole (wish : DecodeWish) (old new : Outside) : Type 0 where
   pub took : List ℕ
   pub gave : List ℕ
   pub since : Since old new took gave [] (AsksLines wish old took gave)
+  pub within : length took ≤ wish.octets
   pub listing : IsListing wish new took gave done
   pub framing : done.framing ≡ None
 
@@ -142,6 +153,7 @@ pub record ListedPart (wish : DecodeWish) (old new : Outside) : Type 0 where
   pub gave : List ℕ
   pub wrote : List ℕ
   pub since : Since old new took gave wrote (AsksLines wish old took gave)
+  pub within : length took ≤ wish.octets
   pub listing : IsListing wish new took gave done
   pub lacks : done.framing ≡ None → ⊥
   pub noted : IsNoted old new wrote (damage_line [] done.framing)
@@ -157,13 +169,20 @@ pub record ListRefuses (wish : DecodeWish) (old new : Outside) : Type 0 where
 
 -- ---- the input that is left
 
--- it has fewer octets than may be taken
+-- Its end, or what can't be read on, comes within the octets that may be taken.
 pub record HasPackets (wish : DecodeWish) (old : Outside) : Type 0 where
   pub input : List ℕ
   pub told : old.rest ≡ Some input
-  pub short : length input < wish.octets
+  pub ends : (length input < wish.octets) ⊎ (has_bad_version (left_over (take wish.octets input)) ≡ true)
 
--- and it tells of an image of no more pixels than are wished
+-- It has as many octets as may be taken, or more, and these can be read on.
+pub record HasTooMany (wish : DecodeWish) (old : Outside) : Type 0 where
+  pub input : List ℕ
+  pub told : old.rest ≡ Some input
+  pub long : wish.octets ≤ length input
+  pub good : has_bad_version (left_over (take wish.octets input)) ≡ false
+
+-- It has packets, and tells of an image of no more pixels than are wished.
 pub record HasPicture (wish : DecodeWish) (old : Outside) : Type 0 where
   pub packets : HasPackets wish old
   pub geometry : Geometry
@@ -178,7 +197,7 @@ TellsNone wish input = geometry_in wish.apid input ≡ None
 abbrev pub TellsMany : DecodeWish → List ℕ → Type 0
 TellsMany wish input = (g : Geometry) × (geometry_in wish.apid input ≡ Some g) × (wish.pixels < g.width * g.rows)
 
--- or it tells of no image, or of one of too many pixels
+-- It has packets, and tells of no image, or of one of too many pixels.
 pub record HasNoPicture (wish : DecodeWish) (old : Outside) : Type 0 where
   pub packets : HasPackets wish old
   pub no_picture : TellsNone wish packets.input ⊎ TellsMany wish packets.input

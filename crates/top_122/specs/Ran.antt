@@ -1,5 +1,5 @@
 -- One run of a command's engine. This project's own.
-use Rattle.std.specs.Prelude.{◌≡◌, ℕ, List, []}
+use Rattle.std.specs.Prelude.{◌≡◌, ◌≤◌, ℕ, List, [], length}
 use Rattle.port_122.specs.Outside.{Outside, Since, NoRead}
 use Rattle.top_122.specs.Notes.{IsNoted, memory_line}
 
@@ -14,6 +14,11 @@ pub record Ran {R : Type 0} (causes : Outside → Outside → List ℕ → List 
   pub cause : causes old new took gave answer
   pub status_is : status ≡ status_of answer
   pub noted : IsNoted old new wrote (line_of answer)
+
+-- An answer and its cause, for which at most so many octets were taken.
+pub record CausedWithin {R : Type 0} (most : ℕ) (causes : Outside → Outside → List ℕ → List ℕ → R → Type 0) (old new : Outside) (took gave : List ℕ) (answer : R) : Type 0 where
+  pub within : length took ≤ most
+  pub cause : causes old new took gave answer
 
 -- There is no memory for the engine: nothing is read or given.
 pub record LacksMemory (old new : Outside) (status : ℕ) : Type 0 where

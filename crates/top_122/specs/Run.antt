@@ -9,8 +9,7 @@ use Rattle.strip_coder.specs.declared.encode.EncodeFault.{EncodeFault}
 use Rattle.strip_coder.specs.Rasters.{image_of, given_for}
 use Rattle.strip_coder.specs.Answers.{Answers, TookRaster}
 use Rattle.base_122.specs.declared.wish.DecodeWish.{DecodeWish}
-use Rattle.strip_decoder.specs.Answers.{Answers as DecodeAnswers, Asks}
-use Rattle.strip_decoder.specs.Finding.{FindAnswers}
+use Rattle.strip_decoder.specs.Answers.{Asks}
 use Rattle.command_words.specs.declared.command.Command.{Command}
 use Rattle.command_words.specs.declared.command.Command.TheVariants.{Encode, Decode, Damage, List as ListCommand, Make, Trial}
 use Rattle.command_words.specs.declared.command.WordFault.{WordFault}
@@ -19,7 +18,7 @@ use Rattle.top_122.specs.declared.trial.TrialDone.{TrialDone}
 use Rattle.top_122.specs.MadeRasters.{made_raster}
 use Rattle.top_122.specs.Trials.{made_with, trial_line, IsTried}
 use Rattle.top_122.specs.Ran.{Ran, LacksMemory}
-use Rattle.top_122.specs.Decoding.{Decodes, FindsDamage, ListsPackets, AsksFound, DecodedWhole, DecodedPart, DecoderRefuses, DecoderLacksMemory, ListedWhole, ListedPart, ListRefuses, HasPackets, HasPicture, HasNoPicture}
+use Rattle.top_122.specs.Decoding.{DecodeCauses, FindCauses, Decodes, FindsDamage, ListsPackets, AsksFound, DecodedWhole, DecodedPart, DecoderRefuses, DecoderLacksMemory, ListedWhole, ListedPart, ListRefuses, HasPackets, HasTooMany, HasPicture, HasNoPicture}
 use Rattle.top_122.specs.Notes.{IsNoted, word_line, fault_status, fault_line, memory_line}
 
 -- ---- all that a run leaves
@@ -118,8 +117,8 @@ pub record TriedWhole (setting : Setting) (seed : ℕ) (old new : Outside) : Typ
 -- the whole output is given and nothing noted
 abbrev pub GivesWhole : Command → Outside → Outside → Type 0
 GivesWhole (Encode setting) old new = EncodedWhole setting old new
-GivesWhole (Decode wish) old new = DecodedWhole (DecodeAnswers wish) (Asks wish) old new
-GivesWhole (Damage wish) old new = DecodedWhole (FindAnswers wish) (AsksFound wish) old new
+GivesWhole (Decode wish) old new = DecodedWhole (DecodeCauses wish) (Asks wish) old new
+GivesWhole (Damage wish) old new = DecodedWhole (FindCauses wish) (AsksFound wish) old new
 GivesWhole (ListCommand wish) old new = ListedWhole wish old new
 GivesWhole (Make made) old new = Since old new [] (made_raster made) [] NoRead
 GivesWhole (Trial setting seed) old new = TriedWhole setting seed old new
@@ -138,8 +137,8 @@ pub record EncoderRefuses (setting : Setting) (old new : Outside) : Type 0 where
 -- a command refused its input; `make` and `trial` take none
 abbrev pub RefusesInput : Command → Outside → Outside → Type 0
 RefusesInput (Encode setting) old new = EncoderRefuses setting old new
-RefusesInput (Decode wish) old new = DecoderRefuses (DecodeAnswers wish) (Asks wish) old new
-RefusesInput (Damage wish) old new = DecoderRefuses (FindAnswers wish) (AsksFound wish) old new
+RefusesInput (Decode wish) old new = DecoderRefuses (DecodeCauses wish) (Asks wish) old new
+RefusesInput (Damage wish) old new = DecoderRefuses (FindCauses wish) (AsksFound wish) old new
 RefusesInput (ListCommand wish) old new = ListRefuses wish old new
 RefusesInput (Make made) old new = ⊥
 RefusesInput (Trial setting seed) old new = ⊥
@@ -148,8 +147,8 @@ RefusesInput (Trial setting seed) old new = ⊥
 -- nothing, and `make` takes none.
 abbrev pub GivesNothing : Command → Outside → Outside → Type 0
 GivesNothing (Encode setting) old new = (wrote : List ℕ) × Since old new [] [] wrote NoRead
-GivesNothing (Decode wish) old new = DecoderLacksMemory (Asks wish) old new
-GivesNothing (Damage wish) old new = DecoderLacksMemory (AsksFound wish) old new
+GivesNothing (Decode wish) old new = DecoderLacksMemory wish (Asks wish) old new
+GivesNothing (Damage wish) old new = DecoderLacksMemory wish (AsksFound wish) old new
 GivesNothing (ListCommand wish) old new = (wrote : List ℕ) × Since old new [] [] wrote NoRead
 GivesNothing (Make made) old new = ⊥
 GivesNothing (Trial setting seed) old new = (wrote : List ℕ) × Since old new [] [] wrote NoRead
@@ -157,8 +156,8 @@ GivesNothing (Trial setting seed) old new = (wrote : List ℕ) × Since old new 
 -- what a command leaves whose input was not whole
 abbrev pub GivesPart : Command → Outside → Outside → Type 0
 GivesPart (Encode setting) old new = ⊥
-GivesPart (Decode wish) old new = DecodedPart (DecodeAnswers wish) (Asks wish) old new
-GivesPart (Damage wish) old new = DecodedPart (FindAnswers wish) (AsksFound wish) old new
+GivesPart (Decode wish) old new = DecodedPart (DecodeCauses wish) (Asks wish) old new
+GivesPart (Damage wish) old new = DecodedPart (FindCauses wish) (AsksFound wish) old new
 GivesPart (ListCommand wish) old new = ListedPart wish old new
 GivesPart (Make made) old new = ⊥
 GivesPart (Trial setting seed) old new = ⊥
@@ -169,7 +168,7 @@ pub record IsSteady (old new : Outside) : Type 0 where
   pub writes : Rose old.write_faults new.write_faults → ⊥
 
 -- The input that is left is what the command takes: a raster of all its rows with all values in range, packets of a picture, or any
--- octets that aren't too many.
+-- packets, where they aren't too many.
 abbrev pub HasInput : Command → Outside → Type 0
 HasInput (Encode setting) old = (input : List ℕ) × (old.rest ≡ Some input) × TookRaster setting input
 HasInput (Decode wish) old = HasPicture wish old
@@ -181,9 +180,9 @@ HasInput (Trial setting seed) old = Unit {0}
 -- the input that is left is something else
 abbrev pub HasWrongInput : Command → Outside → Type 0
 HasWrongInput (Encode setting) old = (input : List ℕ) × (old.rest ≡ Some input) × (TookRaster setting input → ⊥)
-HasWrongInput (Decode wish) old = HasNoPicture wish old
-HasWrongInput (Damage wish) old = HasNoPicture wish old
-HasWrongInput (ListCommand wish) old = ⊥
+HasWrongInput (Decode wish) old = HasNoPicture wish old ⊎ HasTooMany wish old
+HasWrongInput (Damage wish) old = HasNoPicture wish old ⊎ HasTooMany wish old
+HasWrongInput (ListCommand wish) old = HasTooMany wish old
 HasWrongInput (Make made) old = ⊥
 HasWrongInput (Trial setting seed) old = ⊥
 
