@@ -69,7 +69,7 @@ module _ {I : Type 0} {k : SourceOf I} (book : Book) (due : ℕ) (due_small : du
 
 -- ---- a raw bit
 
-one_bit : (b : Bool) → bits_of 1 (digit b) ≡ b ∷ []
+pub one_bit : (b : Bool) → bits_of 1 (digit b) ≡ b ∷ []
 unfolding bits_of
 one_bit true = refl
 one_bit false = refl

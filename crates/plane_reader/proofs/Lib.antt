@@ -11,6 +11,7 @@ pub mod WordReading
 pub mod PieceLaws
 pub mod StepReading
 pub mod StepPieces
+mod BitPieces
 pub mod DueReading
 pub mod WordPieces
 pub mod WordTests
@@ -18,12 +19,15 @@ pub mod FoundMasks
 pub mod IndexPieces
 pub mod SignPieces
 mod SignsPassed
+mod SignWindows
+mod RefineWindows
 mod GroupsPassed
 pub mod TypePieces
 pub mod GroupPieces
 pub mod FoundPieces
 pub mod SetFacts
 pub mod ChildPieces
+mod Dealing
 pub mod RefineMasks
 pub mod RefinePieces
 pub mod DcBitPieces

@@ -116,7 +116,7 @@ pub record Passed {I : Type 0} (k : SourceOf I) (book : Book) (f : Frame) (stage
   pub so_far : SoFar k book f stage earlier done (refine_item f) 1 n g g m o a b
 
 module _ {f : Frame} {stage : ℕ} {earlier : ℕ → List Step} {done : List Step} {mask : ℕ} {after : List ℤ → List Step} (next : RefinementNext f stage earlier done mask after) where
-  refine_leads : Leads f stage earlier done (λ v. pieces (refine_item f) 1 63 v) after
+  pub refine_leads : Leads f stage earlier done (λ v. pieces (refine_item f) 1 63 v) after
   refine_leads = leads_as done (λ v. pieces (refine_item f) 1 63 v) after (λ v s. ap (λ l. l ++ after v) (refinement_are f v s.candidate)) next.leads
 
   module _ {I : Type 0} {k : SourceOf I} {book : Book} {g : Gaggle} (known : AreOptions g.options) {m : Found} {a : Coming I} where

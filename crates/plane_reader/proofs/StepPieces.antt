@@ -28,20 +28,20 @@ use Rattle.plane_reader.proofs.StepReading.{stops_at_first}
 
 -- ---- what a raw bit leaves of a gaggle
 
-bit_agrees : (g : Gaggle) (sent : List Entry) (b : Bool) → Agrees g.sent sent → Agrees g.sent (sent ++ Bit b ∷ [])
+pub bit_agrees : (g : Gaggle) (sent : List Entry) (b : Bool) → Agrees g.sent sent → Agrees g.sent (sent ++ Bit b ∷ [])
 bit_agrees g sent b a = agrees_other g.sent sent (Bit b) (λ n low. refl) a
 
-bit_items : (book : Book) (options : List ℕ) (sent : List Entry) (check : Check) (tells : Told) (b : Bool) → step_reading book options sent (step check tells (Bit b)) ≡ raw (digit b) ∷ []
+pub bit_items : (book : Book) (options : List ℕ) (sent : List Entry) (check : Check) (tells : Told) (b : Bool) → step_reading book options sent (step check tells (Bit b)) ≡ raw (digit b) ∷ []
 unfolding entry_reading
 bit_items book options sent check tells b = refl
 
-head_of : {A : Type 0} (x y : A) (xs ys : List A) → x ∷ xs ≡ y ∷ ys → x ≡ y
+pub head_of : {A : Type 0} (x y : A) (xs ys : List A) → x ∷ xs ≡ y ∷ ys → x ≡ y
 head_of x y xs ys e = cc
 
-entry_same : (c d : Check) (t u : Told) (x y : Entry) → step c t x ≡ step d u y → x ≡ y
+pub entry_same : (c d : Check) (t u : Told) (x y : Entry) → step c t x ≡ step d u y → x ≡ y
 entry_same c d t u x y e = ap (λ s. s.entry) e
 
-bit_same : (a b : Bool) → Bit a ≡ Bit b → a ≡ b
+pub bit_same : (a b : Bool) → Bit a ≡ Bit b → a ≡ b
 bit_same a b e = cc
 
 module _ (f : Frame) (stage : ℕ) (below : stage < 5) (earlier : ℕ → List Step) (done : List Step) where
@@ -62,7 +62,7 @@ module _ (f : Frame) (stage : ℕ) (below : stage < 5) (earlier : ℕ → List S
   sends_none : (v : List ℤ) → Sends f stage earlier (done ++ []) v → Sends f stage earlier done v
   sends_none v s = subst (λ l. Sends f stage earlier l v) (append-nil done) s
 
-  none_possible : Possible f stage earlier done → Possible f stage earlier (done ++ [])
+  pub none_possible : Possible f stage earlier done → Possible f stage earlier (done ++ [])
   none_possible p = subst (Possible f stage earlier) (sym (append-nil done)) p
 
   module _ {after : List ℤ → List Step} (check : Check) (tells : Told) (entry : List ℤ → Entry) (leads : Leads f stage earlier done (λ v. step check tells (entry v) ∷ []) after) where

@@ -1,5 +1,5 @@
 -- The refinement bits of a block, and the DC's bit. (This project's own.)
-use Rattle.std.specs.Prelude.{◌≡◌, ◌<◌, ℕ, ◌&&◌, ℤ, pos, Bool, List, []}
+use Rattle.std.specs.Prelude.{◌≡◌, ◌<◌, ◌≤◌, ℕ, ◌-◌, ◌&&◌, ℤ, pos, Bool, true, false, List, [], length, map, filter}
 use lib.ListN.{get_or}
 use Rattle.item_defs.specs.Bits.{bit}
 use Rattle.plane_defs.specs.Sets.{refined}
@@ -8,6 +8,10 @@ use Rattle.plane_defs.specs.Steps.{Step, dc_steps, refinement_steps}
 use Rattle.plane_defs.specs.StepLaws.{IsAc}
 use Rattle.plane_texts.specs.Given.{has_bit_in}
 use Rattle.block_masks.specs.declared.plan.CodedPlane.{CodedPlane}
+use Rattle.block_masks.specs.Masks.{Shows}
+use Rattle.bit_pipe.specs.Windows.{first_of}
+use Rattle.plane_defs.specs.Spans.{span}
+use Rattle.plane_reader.specs.Places.{inside}
 use Rattle.plane_reader.specs.Frames.{Frame, Possible, Leads}
 
 -- the refinement bits come next, at the positions of a mask
@@ -28,3 +32,17 @@ pub record DcBitNext (f : Frame) (plan : CodedPlane) (earlier : ℕ → List Ste
 -- whether the DC's bit is 1, and not where none is due
 abbrev pub IsDcBit : Frame → Bool → List ℤ → Type 0
 IsDcBit f x v = x ≡ (has_bit_in (dc_steps v f.weights f.plane f.q) 0 && twos_bit (get_or v 0 (pos 0)) f.plane)
+
+-- the first bits of a window went to the first positions of a mask, in turn: to all of them before an end, which leaves the
+-- others, and these have bits that are 1
+pub record Deals (mask window count left bits : ℕ) : Type 0 where
+  pub some : 0 < count
+  pub few : count ≤ 56
+  pub fewer : left < mask
+  pub end : ℕ
+  pub within : end ≤ 64
+  pub gone : (p : ℕ) → p < end → bit left p ≡ false
+  pub kept : (p : ℕ) → end ≤ p → p < 64 → bit left p ≡ bit mask p
+  pub last : (0 < end) × (bit mask (end - 1) ≡ true)
+  pub many : length (filter (bit mask) (span 0 end)) ≡ count
+  pub told : (f : ℕ → Bool) → map f (filter (bit mask) (span 0 end)) ≡ first_of count window → Shows bits (λ p. (inside 0 end p && bit mask p) && f p) 0 64

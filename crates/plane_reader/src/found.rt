@@ -14,7 +14,8 @@ pub(crate) struct Found {
 }
 
 // A mask of some positions, from `start` on, as one of all 64.
-fn placed(mask: u64, start: u8) -> u64
+#[inline(always)]
+pub(crate) fn placed(mask: u64, start: u8) -> u64
     requires start { start < 64 }
     requires room { mask < 2 ^ (64 - start) }
     ensures { (f : ℕ → Bool) (count : ℕ) → start + count ≤ 64 → Shows mask f start count → Shows result (λ p. inside start count p && f p) 0 64 }

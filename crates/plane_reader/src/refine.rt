@@ -1,6 +1,6 @@
 // The refinement bits of a block, and the DC's bit.
 
-ghost use Rattle.std.specs.Prelude.{◌≡◌, ◌&&◌, ℕ, ℤ, [], List, nat_lt};
+ghost use Rattle.std.specs.Prelude.{◌≡◌, ◌<◌, ◌&&◌, ℕ, ℤ, [], List, nat_lt};
 ghost use Rattle.bit_pipe.specs.Coming.{coming, IsIn};
 ghost use Rattle.plane_defs.specs.Sets.{coded};
 ghost use Rattle.plane_defs.specs.Steps.{Step, dc_steps, refinement_steps};
@@ -9,15 +9,42 @@ ghost use Rattle.block_masks.specs.declared.gaggle.Gaggle.{Gaggle as GaggleValue
 ghost use Rattle.block_masks.specs.Gaggles.{AreOptions};
 ghost use Rattle.plane_reader.specs.Frames.{Frame};
 ghost use Rattle.plane_reader.specs.Pieces.{Piece, FoundPiece, Anything, OnSome};
-ghost use Rattle.plane_reader.specs.Refining.{RefinementNext, DcBitNext, IsDcBit};
+ghost use Rattle.plane_reader.specs.Refining.{Deals, RefinementNext, DcBitNext, IsDcBit};
 
-use crate::found::Found;
+use crate::found::{Found, placed};
 use crate::walk::{first_in, without};
 use crate::word::take_flag;
 use bit_pipe::{BitIn, OctetIn, TextFault};
-use block_masks::{CodedPlane, has, one};
+use block_masks::{CodedPlane, either, has, one};
 
-// Takes the plane's bit of each AC number of this mask.
+// What bits were dealt out to positions: those whose bit is 1, those that are left, and how many bits that took.
+#[derive(Clone, Copy)]
+struct Dealt {
+    bits: u64,
+    left: u64,
+    count: u8,
+}
+
+// Deals the bits of a window out to the positions of a mask, the first to the first, up to 56 of them.
+#[inline(always)]
+fn deal(mask: u64, window: u64) -> Dealt
+    requires some { 0 < mask }
+    ensures { Deals mask window result.count result.left result.bits }
+{
+    let mut bits = 0;
+    let mut left = mask;
+    let mut count = 0;
+    while left != 0 && count < 56 {
+        let position = first_in(left);
+        let bit = one(has(window, 63 - count));
+        bits = either(bits, placed(bit, position));
+        left = without(left, position);
+        count += 1;
+    }
+    Dealt { bits, left, count }
+}
+
+// Takes the plane's bit of each AC number of this mask: as many at once as stand at hand, else one after another.
 pub(crate) fn take_refinement<I: OctetIn>(
     input: &mut BitIn<I>,
     found: &mut Found,
@@ -31,12 +58,19 @@ pub(crate) fn take_refinement<I: OctetIn>(
 {
     let mut left = without(refined, 0);
     while left != 0 {
-        let position = first_in(left);
-        let Some(bit) = take_flag(input)? else {
-            return Ok(None);
-        };
-        found.add_bits(one(bit), position);
-        left = without(left, position);
+        if let Some(window) = input.window() {
+            let dealt = deal(left, window);
+            input.take_window(window, dealt.count);
+            found.bits = either(found.bits, dealt.bits);
+            left = dealt.left;
+        } else {
+            let position = first_in(left);
+            let Some(bit) = take_flag(input)? else {
+                return Ok(None);
+            };
+            found.add_bits(one(bit), position);
+            left = without(left, position);
+        }
     }
     Ok(Some(()))
 }

@@ -13,9 +13,9 @@ ghost use Rattle.plane_reader.specs.Pieces.{TakesPlaces, FoundPiece, Anything, A
 
 use crate::found::Found;
 use crate::walk::{first_in, without};
-use crate::word::{take_due, take_flag};
+use crate::word::{count_of, take_due, take_flag};
 use bit_pipe::{BitIn, OctetIn, TextFault};
-use block_masks::{Gaggle, beside, is_any, one, part};
+use block_masks::{Gaggle, beside, is_any, one, part, spread};
 use word_codes::WordTables;
 
 // Takes the word of some due places, of which one at least must be 1 where that is wanted.
@@ -73,9 +73,9 @@ pub(crate) fn take_wanted<I: OctetIn>(
     Ok(Some(places))
 }
 
-// Takes the signs of these of some positions.
-#[inline(always)]
-fn take_signs<I: OctetIn>(
+// Takes the signs of these of some positions, one after another.
+#[cold]
+fn take_signs_singly<I: OctetIn>(
     input: &mut BitIn<I>,
     found: &mut Found,
     new: u64,
@@ -100,6 +100,38 @@ fn take_signs<I: OctetIn>(
         found.add_minus(one(minus), start + k);
         left = without(left, k);
     }
+    Ok(Some(()))
+}
+
+// Takes the signs of these of up to four positions, all at once where they stand at hand.
+#[inline(always)]
+fn take_signs<I: OctetIn>(
+    input: &mut BitIn<I>,
+    found: &mut Found,
+    new: u64,
+    start: u8,
+    count: u8,
+) -> Result<Option<()>, TextFault>
+    requires open { IsIn (coming input.old) }
+    requires start { start ≤ 60 }
+    requires within { start + count ≤ 64 }
+    requires four { count ≤ 4 }
+    requires few { new < 2 ^ count }
+    ensures signs { (book : BookValue) (gaggle : GaggleValue) (f : Frame) (stage : ℕ) (earlier : ℕ → List Step) (done : List Step) (new_at : ℕ → Bool) (after : List ℤ → List Step) →
+        AreOptions gaggle.options → SignsNext f stage earlier done new_at start count new after →
+        FoundPiece I.source book f stage earlier done (sign_steps new_at start count) Anything result gaggle gaggle found.old found.new (coming input.old) (coming input.new) }
+    ensures is_in { OnSome result (IsIn (coming input.new)) }
+{
+    if new == 0 {
+        return Ok(Some(()));
+    }
+    let Some(window) = input.window() else {
+        return take_signs_singly(input, found, new, start, count);
+    };
+    let due = count_of(new);
+    input.take_window(window, due);
+    let word = (window >> 1 >> (63 - due)) as u8;
+    found.add_minus(spread(new, word), start);
     Ok(Some(()))
 }
 

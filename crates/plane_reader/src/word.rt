@@ -17,7 +17,7 @@ const COUNTS: [u8; 16] = [0, 1, 1, 2, 1, 2, 2, 3, 1, 2, 2, 3, 2, 3, 3, 4];
 
 // How many of four places are due.
 #[inline(always)]
-fn count_of(due: u64) -> u8
+pub(crate) fn count_of(due: u64) -> u8
     requires { due < 16 }
     ensures { result ≡ count_ones due }
 {

@@ -6,7 +6,7 @@ use Rattle.block_masks.specs.Gaggles.{AreOptions}
 use Rattle.bit_pipe.specs.Coming.{coming, IsIn}
 use Rattle.plane_reader.specs.Frames.{Frame, SignsNext}
 use Rattle.plane_reader.proofs.SignsPassed.{SignsPassed}
-use Rattle.plane_reader.proofs.types.take_signs.Given as goal
+use Rattle.plane_reader.proofs.types.take_signs_singly.Given as goal
 
 abbrev pub invariant-loop-left : goal.invariant-loop-left
 invariant-loop-left g l = record {

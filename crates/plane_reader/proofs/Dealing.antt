@@ -1,0 +1,177 @@
+-- Bits dealt out to the positions of a mask.
+use Rattle.std.proofs.Common.{◌≡◌, inl, inr, ℕ, zero, suc, ◌+◌, ◌-◌, ◌/◌, ◌%◌, ◌<◌, ◌≤◌, ◌^◌, Bool, true, false, ◌&&◌, ◌||◌, cond, List, [], ◌∷◌, ◌++◌, length, refl, ap, sym, ◌∙◌, subst, arith, length-append}
+use Rattle.std.specs.Prelude.{◌==◌, map, filter}
+use Rattle.std.proofs.lemmas.Bool.{cases_lt}
+use Rattle.std.proofs.lemmas.List.{map-append, append-nil}
+use Rattle.std.proofs.lemmas.Nat.{pow_pos, shr-shr}
+use Rattle.std.proofs.lemmas.Nat.Bits.{bit_at_above}
+use Rattle.item_defs.specs.Bits.{bit, bits_of}
+use Rattle.item_defs.proofs.NumberBits.{bits_of-split}
+use Rattle.plane_defs.specs.Spans.{span}
+use Rattle.plane_defs.proofs.SpanLists.{filter-span-suc, filter-span-none}
+use Rattle.block_masks.specs.Masks.{Shows}
+use Rattle.block_masks.proofs.LaneMasks.{shows_same}
+use Rattle.bit_pipe.specs.Windows.{first_of}
+use Rattle.plane_reader.specs.Places.{inside}
+use Rattle.plane_reader.proofs.SignsPassed.{never}
+use Rattle.plane_reader.proofs.FoundMasks.{inside_at, before_inside, past_inside}
+
+-- so far: all positions of a mask before an end have a bit
+pub record DealtSo (mask window count left bits : ℕ) : Type 0 where
+  pub few : count ≤ 56
+  pub most : left ≤ mask
+  pub start : count ≡ 0 → left ≡ mask
+  pub fewer : 0 < count → left < mask
+  pub end : ℕ
+  pub within : end ≤ 64
+  pub gone : (p : ℕ) → p < end → bit left p ≡ false
+  pub kept : (p : ℕ) → end ≤ p → p < 64 → bit left p ≡ bit mask p
+  pub last : 0 < count → (0 < end) × (bit mask (end - 1) ≡ true)
+  pub many : length (filter (bit mask) (span 0 end)) ≡ count
+  pub told : (f : ℕ → Bool) → map f (filter (bit mask) (span 0 end)) ≡ first_of count window → Shows bits (λ p. (inside 0 end p && bit mask p) && f p) 0 64
+
+zero_bit : (k : ℕ) → bit 0 k ≡ false
+zero_bit k = ap (λ x. x == 1) (bit_at_above 0 0 k (omega arith) (omega arith))
+
+pub dealt_none : (mask window : ℕ) → DealtSo mask window 0 mask 0
+dealt_none mask window = record {
+  few = omega arith;
+  most = omega arith;
+  start = λ e. refl;
+  fewer = λ lt. absurd (omega (arith, lt));
+  end = 0;
+  within = omega arith;
+  gone = λ p lt. absurd (omega (arith, lt));
+  kept = λ p low high. refl;
+  last = λ lt. absurd (omega (arith, lt));
+  many = ap length (filter-span-none (bit mask) 0);
+  told = λ f e. record { at = λ k lt. zero_bit k ∙ sym (ap (λ t. (t && bit mask (0 + k)) && f (0 + k)) (past_inside 0 0 (0 + k) (omega arith))); small = pow_pos 64 };
+}
+
+-- ---- lists with one more at the end
+
+last_both : {A : Type 0} (xs ys : List A) (x y : A) → xs ++ x ∷ [] ≡ ys ++ y ∷ [] → (xs ≡ ys) × (x ≡ y)
+last_both [] [] x y e = (refl, head e)
+  where
+    head : x ∷ [] ≡ y ∷ [] → x ≡ y
+    head e = cc
+last_both [] (z ∷ ys) x y e = absurd (let n = ap length e in omega (arith, n, length-append ys (y ∷ [])))
+last_both (z ∷ xs) [] x y e = absurd (let n = ap length e in omega (arith, n, length-append xs (x ∷ [])))
+last_both (z ∷ xs) (w ∷ ys) x y e =
+    let more = last_both xs ys x y (tail z w (xs ++ x ∷ []) (ys ++ y ∷ []) e) in
+    (ap (λ h. h ∷ xs) (head z w (xs ++ x ∷ []) (ys ++ y ∷ []) e) ∙ ap (λ l. w ∷ l) more.0, more.1)
+  where
+    head : {B : Type 0} (p q : B) (ps qs : List B) → p ∷ ps ≡ q ∷ qs → p ≡ q
+    head p q ps qs e = cc
+
+    tail : {B : Type 0} (p q : B) (ps qs : List B) → p ∷ ps ≡ q ∷ qs → ps ≡ qs
+    tail p q ps qs e = cc
+
+one_of : (n : ℕ) → bits_of 1 n ≡ (n % 2 == 1) ∷ []
+unfolding bits_of
+one_of n = let e : n / 2 ^ 0 ≡ n = omega arith in ap (λ m. (m % 2 == 1) ∷ []) e
+
+-- one bit more of a window
+first_more : (count window : ℕ) → count < 56 → first_of (count + 1) window ≡ first_of count window ++ bit window (63 - count) ∷ []
+first_more count window lt =
+    let high : 64 - (count + 1) ≡ 63 - count = omega arith in
+    let up : (63 - count) + 1 ≡ 64 - count = omega (arith, lt) in
+    ap (λ n. bits_of (count + 1) (window / 2 ^ n)) high
+    ∙ bits_of-split count 1 (window / 2 ^ (63 - count))
+    ∙ ap (λ n. bits_of count n ++ bits_of 1 (window / 2 ^ (63 - count))) (shr-shr window (63 - count) 1 ∙ ap (λ n. window / 2 ^ n) up)
+    ∙ ap (λ l. first_of count window ++ l) (one_of (window / 2 ^ (63 - count)))
+
+-- no position of a mask between
+filter_to : (f : ℕ → Bool) (low count : ℕ) → ((p : ℕ) → low ≤ p → p < low + count → f p ≡ false) → filter f (span 0 (low + count)) ≡ filter f (span 0 low)
+filter_to f low zero none = let e : low + 0 ≡ low = omega arith in ap (λ n. filter f (span 0 n)) e
+filter_to f low (suc n) none =
+    let e : (low + n) + 1 ≡ low + suc n = omega arith in
+    let there : low + n ≡ 0 + (low + n) = omega arith in
+    ap (λ m. filter f (span 0 m)) (sym e) ∙ filter-span-suc f 0 (low + n)
+    ∙ ap (λ t. filter f (span 0 (low + n)) ++ cond t ((0 + (low + n)) ∷ []) []) (sym (ap f there) ∙ none (low + n) (omega arith) (omega arith))
+    ∙ append-nil (filter f (span 0 (low + n))) ∙ filter_to f low n (λ p above below. none p above (omega (arith, below)))
+
+module _ {mask window count left bits : ℕ} (s : DealtSo mask window count left bits) (lt : count < 56) (position : ℕ) (high : position < 64) (here : bit left position ≡ true) (none : (p : ℕ) → p < position → bit left p ≡ false) where
+  above : s.end ≤ position
+  above = elim (cases_lt position s.end) [
+    | inl less ↦ absurd (never (sym here ∙ s.gone position less))
+    | inr le ↦ le
+  ]
+
+  in_mask : bit mask position ≡ true
+  in_mask = sym (s.kept position above high) ∙ here
+
+  between : (p : ℕ) → s.end ≤ p → p < position → bit mask p ≡ false
+  between p low less = sym (s.kept p low (omega (arith, less, high))) ∙ none p less
+
+  one_more : filter (bit mask) (span 0 (position + 1)) ≡ filter (bit mask) (span 0 s.end) ++ position ∷ []
+  one_more =
+      let e : s.end + (position - s.end) ≡ position = omega (arith, above) in
+      let there : position ≡ 0 + position = omega arith in
+      filter-span-suc (bit mask) 0 position
+      ∙ ap (λ t. filter (bit mask) (span 0 position) ++ cond t ((0 + position) ∷ []) []) (sym (ap (bit mask) there) ∙ in_mask)
+      ∙ ap (λ q. filter (bit mask) (span 0 position) ++ q ∷ []) (sym there)
+      ∙ ap (λ l. l ++ position ∷ []) (ap (λ n. filter (bit mask) (span 0 n)) (sym e) ∙ filter_to (bit mask) s.end (position - s.end) (λ p low less. between p low (omega (arith, less, e))))
+
+  shown : (f : ℕ → Bool) (x : Bool) (p : ℕ) → x ≡ f position → (((inside 0 s.end p && bit mask p) && f p) || (inside position 1 p && x)) ≡ ((inside 0 (position + 1) p && bit mask p) && f p)
+  shown f x p e = elim (cases_lt p position) [
+    | inl less ↦ elim (cases_lt p s.end) [
+      | inl before ↦
+          let one = in_some 0 s.end p (omega arith) (omega (arith, before)) in
+          let two = before_inside position 1 p less in
+          let three = in_some 0 (position + 1) p (omega arith) (omega (arith, less)) in
+          ap (λ t. ((t && bit mask p) && f p) || (inside position 1 p && x)) one ∙ ap (λ t. ((true && bit mask p) && f p) || (t && x)) two ∙ or_none ((true && bit mask p) && f p) ∙ ap (λ t. (t && bit mask p) && f p) (sym three)
+      | inr past ↦
+          let one = past_inside 0 s.end p (omega (arith, past)) in
+          let two = before_inside position 1 p less in
+          ap (λ t. ((t && bit mask p) && f p) || (inside position 1 p && x)) one ∙ ap (λ t. t && x) two ∙ sym (ap (λ t. (inside 0 (position + 1) p && t) && f p) (between p past less) ∙ nothing (inside 0 (position + 1) p) (f p))
+    ]
+    | inr more ↦ elim (cases_lt position p) [
+      | inl far ↦
+          let one = past_inside 0 s.end p (omega (arith, above, more)) in
+          let two = past_inside position 1 p (omega (arith, far)) in
+          let three = past_inside 0 (position + 1) p (omega (arith, far)) in
+          ap (λ t. ((t && bit mask p) && f p) || (inside position 1 p && x)) one ∙ ap (λ t. t && x) two ∙ sym (ap (λ t. (t && bit mask p) && f p) three)
+      | inr le ↦
+          let same : position ≡ p = omega (arith, more, le) in
+          let one = past_inside 0 s.end p (omega (arith, above, more)) in
+          let two = in_some position 1 p (omega (arith, more)) (omega (arith, le)) in
+          let three = in_some 0 (position + 1) p (omega arith) (omega (arith, le)) in
+          let four : bit mask p ≡ true = sym (ap (bit mask) same) ∙ in_mask in
+          ap (λ t. ((t && bit mask p) && f p) || (inside position 1 p && x)) one ∙ ap (λ t. t && x) two ∙ e ∙ ap f same ∙ sym (ap (λ t. (t && bit mask p) && f p) three ∙ ap (λ t. (true && t) && f p) four)
+    ]
+  ]
+    where
+      or_none : (t : Bool) → (t || (false && x)) ≡ t
+      or_none true = refl
+      or_none false = refl
+
+      nothing : (t u : Bool) → ((t && false) && u) ≡ false
+      nothing true u = refl
+      nothing false u = refl
+
+      in_some : (start n q : ℕ) → start ≤ q → q < start + n → inside start n q ≡ true
+      in_some start n q low less = let there : start + (q - start) ≡ q = omega (arith, low) in ap (inside start n) (sym there) ∙ inside_at start n (q - start) (omega (arith, low, less))
+
+  -- one more position has its bit
+  pub dealt_more : (x : Bool) (more rest : ℕ) → x ≡ bit window (63 - count) → ((f : ℕ → Bool) → Shows bits f 0 64 → Shows more (λ p. f p || (inside position 1 p && x)) 0 64) →
+      bit rest position ≡ false → ((p : ℕ) → p < 64 → (p ≡ position → ⊥) → bit rest p ≡ bit left p) → rest < left → DealtSo mask window (count + 1) rest more
+  dealt_more x more rest is told gone others less = record {
+    few = omega (arith, lt);
+    most = omega (arith, less, s.most);
+    start = λ e. absurd (omega (arith, e));
+    fewer = λ some. omega (arith, less, s.most);
+    end = position + 1;
+    within = omega (arith, high);
+    gone = λ p low. elim (cases_lt p position) [
+      | inl before ↦ others p (omega (arith, before, high)) (λ e. absurd (omega (arith, before, e))) ∙ none p before
+      | inr ge ↦ let e : position ≡ p = omega (arith, low, ge) in subst (λ z. bit rest z ≡ false) e gone
+    ];
+    kept = λ p low top. others p top (λ e. absurd (omega (arith, low, e))) ∙ s.kept p (omega (arith, low, above)) top;
+    last = λ some. let e : position ≡ position + 1 - 1 = omega arith in (omega arith, subst (λ z. bit mask z ≡ true) e in_mask);
+    many = ap length one_more ∙ length-append (filter (bit mask) (span 0 s.end)) (position ∷ []) ∙ ap (λ n. n + 1) s.many;
+    told = λ f e.
+        let both = last_both (map f (filter (bit mask) (span 0 s.end))) (first_of count window) (f position) (bit window (63 - count))
+        (sym (map-append f (filter (bit mask) (span 0 s.end)) (position ∷ [])) ∙ ap (map f) (sym one_more) ∙ e ∙ first_more count window lt) in
+        shows_same (λ p. shown f x p (is ∙ sym both.1)) (told (λ p. (inside 0 s.end p && bit mask p) && f p) (s.told f both.0));
+  }

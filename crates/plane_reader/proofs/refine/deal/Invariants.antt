@@ -1,0 +1,8 @@
+use Rattle.plane_reader.proofs.Dealing.{DealtSo}
+use Rattle.plane_reader.proofs.refine.deal.Given as goal
+
+abbrev pub invariant-loop-left : goal.invariant-loop-left
+invariant-loop-left l = DealtSo l.mask l.window l.count l.left l.bits
+
+abbrev pub decreases-loop-left : goal.decreases-loop-left
+decreases-loop-left l = l.left
