@@ -1,5 +1,5 @@
 -- A number that gets the bit of a plane, and a sign.
-use Rattle.std.proofs.Common.{◌≡◌, inl, inr, ℕ, zero, suc, ◌+◌, ◌-◌, ◌*◌, ◌%◌, ◌<◌, ◌≤◌, ◌^◌, Bool, true, false, not, bit_and, bit_or, refl, ap, sym, ◌∙◌, arith, ℤ, pos, negsuc, neg_ℤ, ◌+ℤ◌, ◌-ℤ◌, to_z, of_z, w32, ◌⊎◌}
+use Rattle.std.proofs.Common.{◌≡◌, inl, inr, ℕ, zero, suc, ◌+◌, ◌-◌, ◌*◌, ◌%◌, ◌<◌, ◌≤◌, ◌^◌, Bool, true, false, not, bit_and, bit_or, refl, ap, sym, ◌∙◌, arith, ℤ, pos, negsuc, neg_ℤ, ◌+ℤ◌, ◌-ℤ◌, to_z, of_z, w32}
 use Rattle.std.specs.Prelude.{◌==◌, ◌||◌, unsigned_abs, if◌then◌else◌}
 use Rattle.std.specs.Int.{bit_at}
 use Rattle.std.specs.Int.Bits.{or_add_and}
@@ -46,15 +46,6 @@ sign_is z fits = ap (λ x. lt_z x (pos 0)) (to_z-of_z w32 z fits) ∙ below z
     below : (x : ℤ) → lt_z x (pos 0) ≡ negative x
     below (pos n) = grind (arith, nat_tests)
     below (negsuc n) = refl
-
-pub some_sign : (a b minus : Bool) → a ≡ b → (a ≡ true) ⊎ ((a ≡ false) × (minus ≡ true)) → (b || minus) ≡ true
-some_sign a true minus e h = refl
-some_sign a false minus e (inl t) = absurd (grind (arith, e, t))
-some_sign a false minus e (inr t) = t.1
-
-pub no_sign : (a b minus : Bool) → a ≡ b → a ≡ false → minus ≡ false → (b || minus) ≡ false
-no_sign a true minus e f m = sym e ∙ f
-no_sign a false minus e f m = m
 
 taken_from_zero : (n : ℕ) → n < 2147483648 → to_z w32 (of_z w32 (pos 0 -ℤ to_z w32 n)) ≡ neg_ℤ (pos n)
 taken_from_zero n small = omega (arith, ints)

@@ -17,7 +17,8 @@ fn set_bit(number: i32, plane: u8, is_negative: bool) -> i32
 {
     let size = (number.unsigned_abs() | (1 << plane)) & MAGNITUDE;
     let number_size = size as i32;
-    if number < 0 || is_negative {
+    // `|` and two plain values leave no branch: signs come at random, and half the guesses would be wrong.
+    if (number < 0) | is_negative {
         -number_size
     } else {
         number_size
@@ -25,6 +26,7 @@ fn set_bit(number: i32, plane: u8, is_negative: bool) -> i32
 }
 
 // Gives the AC numbers that were found to have the plane's bit that bit, and their signs.
+#[inline]
 pub(crate) fn apply(found: Found, plane: u8, block: &mut [i32])
     requires whole { length block.old ≡ 64 }
     requires low { plane < 27 }
@@ -40,6 +42,7 @@ pub(crate) fn apply(found: Found, plane: u8, block: &mut [i32])
 }
 
 // Adds the plane's bit to the DC.
+#[inline]
 pub(crate) fn add_dc(bit: bool, plane: u8, block: &mut [i32])
     requires whole { length block.old ≡ 64 }
     requires low { plane < 27 }
