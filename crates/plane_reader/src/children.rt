@@ -38,6 +38,7 @@ fn take_descendants<I: OctetIn>(
 }
 
 // A set is significant in the plane and wasn't above it.
+#[inline]
 fn is_new(now: bool, was: bool) -> bool
     ensures { result ≡ (now && not was) }
 {

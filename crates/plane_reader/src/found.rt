@@ -25,6 +25,7 @@ pub(crate) fn placed(mask: u64, start: u8) -> u64
 
 impl Found {
     // The positions from `start` on of which these have the plane's bit.
+    #[inline]
     pub fn add_bits(&mut self, mask: u64, start: u8)
         requires start { start < 64 }
         requires room { mask < 2 ^ (64 - start) }
@@ -36,6 +37,7 @@ impl Found {
     }
 
     // The positions from `start` on of which these are told to be negative.
+    #[inline]
     pub fn add_minus(&mut self, mask: u64, start: u8)
         requires start { start < 64 }
         requires room { mask < 2 ^ (64 - start) }

@@ -83,6 +83,7 @@ fn take_sixteens<I: OctetIn>(
 }
 
 // The families of which no child is in a mask of all positions.
+#[inline]
 fn without_child(mask: u64) -> u64
     ensures { Shows result (no_child mask) 0 3 }
 {

@@ -76,6 +76,7 @@ pub(crate) fn take_refinement<I: OctetIn>(
 }
 
 // The DC part left the plane's bit out, and it can be other than 0.
+#[inline]
 fn is_dc_bit_due(plan: &CodedPlane) -> bool
     ensures { result ≡ (coded plan.now.weights.shifts plan.now.plane 0 && nat_lt plan.now.plane plan.now.q) }
 {

@@ -109,19 +109,30 @@ fn take_words<I: OctetIn>(
     ensures options { AreOptions gaggle.new.options }
     ensures is_in { OnSome result (IsIn (coming input.new)) }
 {
-    let above = all_reaching(block, terms.plan.plane + 1);
+    let plane = terms.plan.plane;
     match number {
-        1 => take_parents(input, terms, gaggle, found, above),
-        2 => take_families(input, terms, gaggle, found, above, mark),
+        1 => {
+            let above = all_reaching(block, plane + 1);
+            take_parents(input, terms, gaggle, found, above)
+        }
+        2 => {
+            let above = all_reaching(block, plane + 1);
+            take_families(input, terms, gaggle, found, above, mark)
+        }
         3 => {
-            let now = all_reaching(block, terms.plan.plane);
+            let above = all_reaching(block, plane + 1);
+            let now = all_reaching(block, plane);
             take_grandchildren(input, terms, gaggle, found, above, now, families_of(*mark))
         }
-        _ => take_refinement(input, found, both(above, terms.plan.coded)),
+        _ => {
+            let above = all_reaching(block, plane + 1);
+            take_refinement(input, found, both(above, terms.plan.coded))
+        }
     }
 }
 
 // Whether all was read.
+#[inline]
 fn part_of(read: Option<()>) -> Part
     ensures { (read ≡ Some tt → result ≡ Whole) × (read ≡ None → result ≡ Ended) }
 {

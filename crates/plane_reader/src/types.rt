@@ -144,6 +144,7 @@ pub(crate) struct Group {
 }
 
 // Takes the types of a group, of which these are due, and the signs of those that are 1.
+#[inline(always)]
 pub(crate) fn take_types<I: OctetIn>(
     input: &mut BitIn<I>,
     tables: &WordTables,

@@ -25,6 +25,7 @@ pub(crate) fn count_of(due: u64) -> u8
 }
 
 // A word of one bit.
+#[inline(always)]
 fn take_raw<I: OctetIn>(input: &mut BitIn<I>) -> Result<Option<u8>, TextFault>
     requires open { IsIn (coming input.old) }
     ensures { TakesOne I.source (IsBelow 2) raw result (coming input.old) (coming input.new) }
