@@ -82,7 +82,7 @@ first_more count window lt =
     ∙ ap (λ l. first_of count window ++ l) (one_of (window / 2 ^ (63 - count)))
 
 -- no position of a mask between
-filter_to : (f : ℕ → Bool) (low count : ℕ) → ((p : ℕ) → low ≤ p → p < low + count → f p ≡ false) → filter f (span 0 (low + count)) ≡ filter f (span 0 low)
+pub filter_to : (f : ℕ → Bool) (low count : ℕ) → ((p : ℕ) → low ≤ p → p < low + count → f p ≡ false) → filter f (span 0 (low + count)) ≡ filter f (span 0 low)
 filter_to f low zero none = let e : low + 0 ≡ low = omega arith in ap (λ n. filter f (span 0 n)) e
 filter_to f low (suc n) none =
     let e : (low + n) + 1 ≡ low + suc n = omega arith in

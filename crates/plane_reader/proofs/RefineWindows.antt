@@ -26,6 +26,7 @@ use Rattle.plane_reader.specs.Frames.{Frame, Sends, Leads}
 use Rattle.plane_reader.specs.Pieces.{FoundPiece, Finds, Anything}
 use Rattle.plane_reader.specs.Places.{inside}
 use Rattle.plane_reader.specs.Refining.{Deals, RefinementNext}
+use Rattle.plane_reader.proofs.Dealing.{filter_to}
 use Rattle.plane_reader.proofs.BitPieces.{told_steps, steps_at, sent_bits, bits_piece, told_there, told_nowhere}
 use Rattle.plane_reader.proofs.PieceLaws.{leads_on}
 use Rattle.plane_reader.proofs.IndexPieces.{pieces, pieces_both, found_as, found_joined, leads_as, SoFar}
@@ -35,13 +36,9 @@ use Rattle.plane_reader.proofs.RefinePieces.{refine_item, refine_leads, Passed}
 
 -- those of a span from 0 that are past others, of which there are none
 filter_past : (f g : ℕ → Bool) (low count : ℕ) → ((p : ℕ) → p < low → f p ≡ false) → ((p : ℕ) → low ≤ p → p < low + count → f p ≡ g p) → filter f (span 0 (low + count)) ≡ filter g (span low count)
-filter_past f g low zero none same = (let e : low + 0 ≡ low = omega arith in ap (λ n. filter f (span 0 n)) e) ∙ all_none low (omega arith) ∙ sym (filter-span-none g low)
-  where
-    all_none : (n : ℕ) → n ≤ low → filter f (span 0 n) ≡ []
-    all_none zero le = filter-span-none f 0
-    all_none (suc n) le =
-        let e : n + 1 ≡ suc n = omega arith in
-        ap (λ m. filter f (span 0 m)) (sym e) ∙ filter-span-suc f 0 n ∙ ap (λ l. l ++ cond (f (0 + n)) ((0 + n) ∷ []) []) (all_none n (omega (arith, le))) ∙ ap (λ t. cond t ((0 + n) ∷ []) []) (none (0 + n) (omega (arith, le)))
+filter_past f g low zero none same =
+    let e : low + 0 ≡ 0 + low = omega arith in
+    ap (λ n. filter f (span 0 n)) e ∙ filter_to f 0 low (λ p above below. none p (omega (arith, below))) ∙ filter-span-none f 0 ∙ sym (filter-span-none g low)
 filter_past f g low (suc n) none same =
     let e : (low + n) + 1 ≡ low + suc n = omega arith in
     let there : 0 + (low + n) ≡ low + n = omega arith in

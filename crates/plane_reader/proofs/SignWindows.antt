@@ -86,7 +86,3 @@ module _ {f : Frame} {stage : ℕ} {earlier : ℕ → List Step} {done : List St
       piece = bits_piece sign_at minus_at f stage next.below earlier (filter new (span start count)) (first_of due window) done long next.leads book known next.possible (in_later is_in taken) taken;
       found = finds;
     }
-
--- a mask of up to four positions
-pub small_mask : (mask count : ℕ) → count ≤ 4 → mask < 2 ^ count → mask < 16
-small_mask mask count four few = let most : 2 ^ count ≤ 2 ^ 4 = pow_mono four in omega (arith, few, most)

@@ -1,9 +1,10 @@
 use Rattle.std.proofs.Common.{◌≤◌, ◌&&◌, arith, refl}
+use Rattle.block_masks.proofs.Viewing.{nibble_small}
 use Rattle.bit_pipe.proofs.Taking.{takes_start}
 use Rattle.plane_reader.proofs.DueReading.{few_ones}
 use Rattle.plane_reader.proofs.FoundMasks.{room_four}
 use Rattle.plane_reader.proofs.SignsPassed.{signs_start, signs_all}
-use Rattle.plane_reader.proofs.SignWindows.{small_mask, word_small, signs_at_once}
+use Rattle.plane_reader.proofs.SignWindows.{word_small, signs_at_once}
 use Rattle.plane_reader.proofs.types.take_signs.Goals as goal
 
 pub returns-then-new-eq0-clause-signs : goal.returns-then-new-eq0-clause-signs
@@ -11,20 +12,20 @@ returns-then-new-eq0-clause-signs g c = λ book gaggle f stage earlier done new 
     signs_all next known (signs_start next known c.requires.open (takes_start g.I.OctetIn.source _ c.requires.open)) c.if-new-eq0.true
 
 pub count_of-due-requires : goal.count_of-due-requires
-count_of-due-requires g c = small_mask c.args.new c.args.count c.requires.four c.requires.few
+count_of-due-requires g c = nibble_small c.args.new c.args.count c.requires.four c.requires.few
 
 pub overflow_cast-word-2 : goal.overflow_cast-word-2
 overflow_cast-word-2 g c =
-    let small = small_mask c.args.new c.args.count c.requires.four c.requires.few in
+    let small = nibble_small c.args.new c.args.count c.requires.four c.requires.few in
     let due : c.count_of-due.result ≤ 4 = rw c.count_of-due.ensures (few_ones c.args.new small) in
     omega (arith, word_small c.in-Some.window _ c.count_of-due.result (omega arith) refl due)
 
 pub spread-requires-clause-due : goal.spread-requires-clause-due
-spread-requires-clause-due g c = small_mask c.args.new c.args.count c.requires.four c.requires.few
+spread-requires-clause-due g c = nibble_small c.args.new c.args.count c.requires.four c.requires.few
 
 pub spread-requires-clause-word : goal.spread-requires-clause-word
 spread-requires-clause-word g c =
-    let small = small_mask c.args.new c.args.count c.requires.four c.requires.few in
+    let small = nibble_small c.args.new c.args.count c.requires.four c.requires.few in
     let due : c.count_of-due.result ≤ 4 = rw c.count_of-due.ensures (few_ones c.args.new small) in
     word_small c.in-Some.window _ c.count_of-due.result (omega arith) refl due
 
@@ -33,7 +34,7 @@ add_minus-requires-clause-room g c = room_four c.spread.result c.args.start c.re
 
 pub returns-clause-signs : goal.returns-clause-signs
 returns-clause-signs g c = λ book gaggle f stage earlier done new after known next.
-    let small = small_mask c.args.new c.args.count c.requires.four c.requires.few in
+    let small = nibble_small c.args.new c.args.count c.requires.four c.requires.few in
     let due : c.count_of-due.result ≤ 4 = rw c.count_of-due.ensures (few_ones c.args.new small) in
     signs_at_once next c.requires.four c.in-Some.window _ c.count_of-due.result (omega arith) refl due c.count_of-due.ensures c.add_minus.ensures.bits
     (λ f' g' shows is. c.add_minus.ensures.minus f' (λ p. new p && g' p) c.args.count c.requires.within shows (c.spread.ensures.told g' new c.args.start c.args.count c.requires.four next.shown is))
