@@ -1,0 +1,3 @@
+mod RowsIn
+mod TextsRead
+mod ListsMade

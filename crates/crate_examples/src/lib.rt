@@ -1,0 +1,13 @@
+//! An example for each of three ways to call the crates: rows in, a segment's text read, packets listed (docs/crates.md). No part
+//! of the program.
+#![tactic(auto)]
+
+mod lists;
+mod rows;
+#[cfg(test)]
+mod tests;
+mod texts;
+
+pub use lists::list_octets;
+pub use rows::{encode_frame, hand_in};
+pub use texts::{NotRead, SegmentBlocks, read_text};

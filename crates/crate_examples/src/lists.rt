@@ -1,0 +1,31 @@
+// The packets of some octets, listed.
+ghost use Rattle.std.specs.Prelude.{◌≡◌, ◌≢◌, MatchResult};
+ghost use Rattle.packet_list.specs.Lines.{listing};
+ghost use Rattle.packet_list.specs.declared.list.ListFault.TheVariants.{LongInput};
+
+use base_122::DecodeWish;
+use packet_list::{ListFault, list_packets};
+use port_122::MemoryPort;
+use std::alloc::Global;
+
+/// The lines of all packets that stand in these octets, up to what can't be read on. Each error is want of memory, of the list's
+/// or the port's own.
+pub fn list_octets(alloc: Global, octets: Vec<u8>, apid: u16) -> Result<Vec<u8>, ListFault>
+    ensures { MatchResult result
+        (λ lines. lines.items ≡ listing apid octets.items)
+        (λ fault. fault ≢ LongInput) }
+{
+    let wish = DecodeWish {
+        apid,
+        pixels: 0,
+        octets: octets.len() as u64 + 1,
+    };
+    let Ok(mut port) = MemoryPort::new(alloc, octets, Vec::new(alloc), 4096) else {
+        return Err(ListFault::Memory);
+    };
+    list_packets(alloc, &mut port, &wish)?;
+    let Ok(lines) = port.given().to_vec(alloc) else {
+        return Err(ListFault::Memory);
+    };
+    Ok(lines)
+}

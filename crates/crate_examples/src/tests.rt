@@ -1,0 +1,123 @@
+// The three examples on one picture, worked by hand from the rules.
+ghost use Rattle.std.specs.Prelude.{◌≡◌, ◌*◌, length};
+ghost use Rattle.base_122.specs.Ranges.{IsInRange};
+ghost use Rattle.crate_examples.specs.Frames.{HasOctets};
+
+use crate::{NotRead, encode_frame, list_octets, read_text};
+use base_122::{Select, Setting, Stop, Weights};
+use bit_pipe::Part;
+use port_122::MemoryPort;
+use segment_code::SegmentFault;
+use segment_head::HeadFault;
+use std::alloc::Global;
+use std::process::Abort;
+use std::test::Fail;
+use strip_coder::{EncodeDone, Work};
+
+// A picture of 17 by 17 pixels of 200, as one segment of nine blocks with 1,600 for each DC and no other number: its packet has
+// 30 octets before the segment's text.
+const PACKET: [u8; 53] = [
+    0x08, 0x64, 0xc0, 0, 0, 0x2e, 0x12, 0x20, 0, 0, 0, 0, 0, 0x11, 0, 0, 0, 0x40, 0, 0, 0, 0, 0, 0,
+    0, 0, 0, 0, 0, 0, 0xc0, 0x18, 0x07, 0xe0, 0, 0, 0, 0, 0x60, 0, 0, 0x9c, 0x88, 0, 0x01, 0x10, 0,
+    0, 0, 0, 0x06, 0x47, 0xf8,
+];
+
+// How a camera of 8 bits has its pictures coded.
+fn camera(width: u32, rows: u32) -> Setting
+    ensures octets { HasOctets result }
+    ensures width { result.width ≡ width }
+    ensures rows { result.rows ≡ rows }
+{
+    Setting {
+        width,
+        rows,
+        depth: 8,
+        signed: false,
+        segment: 64,
+        limit: 0,
+        fill: false,
+        word: 1,
+        stop: Stop {
+            dc: false,
+            plane: 0,
+            stage: 3,
+        },
+        weights: Weights::usual(),
+        select: Select::Optimal,
+        apid: 100,
+        image: 0,
+        packet: 1024,
+    }
+}
+
+// Encodes a frame, and answers what was done.
+fn encode_to(
+    alloc: Global,
+    port: &mut MemoryPort,
+    setting: &Setting,
+    frame: &[u8],
+) -> Option<EncodeDone>
+    requires in_range { IsInRange setting.now }
+    requires octets { HasOctets setting.now }
+    requires frame { length frame.now ≡ setting.now.rows * setting.now.width }
+{
+    let Ok(mut work) = Work::new(alloc, setting) else {
+        return None;
+    };
+    encode_frame(port, setting, &mut work, frame).ok()
+}
+
+// The packet of a frame that has one.
+fn packet_of(
+    rt: &(impl Abort + AllocGlobal),
+    setting: &Setting,
+    frame: &[u8],
+) -> Result<Vec<u8>, Fail>
+    requires octets { HasOctets setting.now }
+    requires frame { length frame.now ≡ setting.now.rows * setting.now.width }
+{
+    assert_eq!(rt; setting.check(), Ok(()));
+    let mut port = MemoryPort::new(rt.alloc(), Vec::new(rt.alloc()), Vec::new(rt.alloc()), 4096)?;
+    let done = encode_to(rt.alloc(), &mut port, setting, frame).expect(rt, "packets");
+    assert_eq!(rt; done.segments, 1);
+    assert_eq!(rt; done.packets, 1);
+    assert_eq!(rt; done.octets, 53);
+    Ok(port.given().to_vec(rt.alloc())?)
+}
+
+#[test]
+fn a_frame_goes_out_as_packets(rt: HostRuntime) -> Result<(), Fail> {
+    let packet = packet_of(&rt, &camera(17, 17), &[200; 289])?;
+    assert_eq!(rt; packet.as_slice(), PACKET.as_slice());
+    Ok(())
+}
+
+#[test]
+fn a_text_holds_blocks(rt: HostRuntime) {
+    let text = &PACKET[30..];
+    let read = read_text(rt.alloc(), text).expect(&rt, "blocks");
+    assert_eq!(rt; read.part, Part::Whole);
+    let mut numbers = [0; 576];
+    for block in 0..9 {
+        numbers[64 * block] = 1600;
+    }
+    assert_eq!(rt; read.numbers.as_slice(), numbers.as_slice());
+    assert_eq!(rt;
+        read_text(rt.alloc(), &text[..22]).err(),
+        Some(NotRead::BadText(SegmentFault::ShortSegment))
+    );
+    assert_eq!(rt;
+        read_text(rt.alloc(), &text[..19]).err(),
+        Some(NotRead::BadHead(HeadFault::HeadShort { octets: 19 }))
+    );
+}
+
+#[test]
+fn packets_have_lines(rt: HostRuntime) -> Result<(), Fail> {
+    let mut octets = PACKET.to_vec(rt.alloc())?;
+    octets.extend_from_slice(&PACKET)?;
+    octets.extend_from_slice(&PACKET[..50])?;
+    let lines = list_octets(rt.alloc(), octets, 100).expect(&rt, "lines");
+    assert_eq!(rt; lines.as_slice(), b"0 kept 0 0 23\n1 late\n".as_slice());
+    Ok(())
+}

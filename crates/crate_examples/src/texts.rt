@@ -1,0 +1,53 @@
+// A segment's text, read from octets.
+ghost use Rattle.crate_examples.specs.Texts.{IsReadAs};
+
+use bit_pipe::{Part, SliceIn};
+use segment_code::{SegmentFault, decode_segment};
+use segment_head::{HeadFault, SegmentHead, read_head};
+use std::alloc::Global;
+
+/// What a segment's text holds: 64 numbers for each block, and whether all items stood in the text or the limit cut them.
+#[derive(Drop)]
+pub struct SegmentBlocks {
+    pub head: SegmentHead,
+    pub part: Part,
+    pub numbers: Vec<i32>,
+}
+
+/// Why a text gives no blocks.
+#[derive(Clone, Copy, Debug, PartialEq, Eq)]
+pub enum NotRead {
+    /// The head is refused.
+    BadHead(HeadFault),
+    /// What follows it is refused.
+    BadText(SegmentFault),
+    /// There is no memory for as many blocks as the head tells.
+    NoMemory,
+}
+
+/// Reads a segment's text, head and all. It takes 65 numbers of four octets for each block that the head tells. These may be
+/// 1,048,575 blocks, so who doesn't trust the octets looks at the head first.
+pub fn read_text(alloc: Global, text: &[u8]) -> Result<SegmentBlocks, NotRead>
+    ensures { IsReadAs text.now result }
+{
+    let head = match read_head(text) {
+        Ok(head) => head,
+        Err(fault) => return Err(NotRead::BadHead(fault)),
+    };
+    let rest = &text[usize::from(head.octets())..];
+    let count = head.blocks as usize;
+    let Ok(mut numbers) = vec![in alloc; 0; 64 * count] else {
+        return Err(NotRead::NoMemory);
+    };
+    let Ok(mut marks) = vec![in alloc; 0; count] else {
+        return Err(NotRead::NoMemory);
+    };
+    match decode_segment(&mut SliceIn::new(rest), &head, &mut numbers, &mut marks) {
+        Ok(part) => Ok(SegmentBlocks {
+            head,
+            part,
+            numbers,
+        }),
+        Err(fault) => Err(NotRead::BadText(fault)),
+    }
+}
