@@ -1,0 +1,3 @@
+mod FlatRow
+mod StripBlocks
+mod SettledBlocks

@@ -1,0 +1,12 @@
+use Rattle.std.proofs.Common.{◌≡◌}
+use Rattle.inverse_strip.specs.Kept.{IsIdle}
+use Rattle.inverse_strip.specs.Strip.{columns_of, height_of, next_of, taken_of}
+use Rattle.benches.proofs.transform.backward.make_image.Given as goal
+
+abbrev pub invariant-loop : goal.invariant-loop
+invariant-loop l = record {
+  columns : columns_of l.inverse ≡ columns_of l.initial.inverse;
+  height : height_of l.inverse ≡ height_of l.initial.inverse;
+  taken : taken_of l.inverse ≡ l.counter;
+  idle : IsIdle (taken_of l.inverse) (next_of l.inverse) (height_of l.inverse);
+}

@@ -1,0 +1,75 @@
+// The DC part of a segment, written by each way to choose the options, and read. Its depths are 11 and 0, so that a number
+// has 10 bits, the most that there are, and one DC plane follows.
+ghost use Rattle.std.specs.Prelude.{◌≡◌, ◌<◌, ◌^◌, true, length};
+ghost use Rattle.std.specs.Int.{div_ceil};
+ghost use Rattle.number_defs.specs.Cells.{AreInRange};
+ghost use Rattle.number_defs.specs.DcPart.{dc_q, dc_bits};
+
+use crate::pictures::BLOCK;
+use crate::planes::made::fill;
+use crate::watch::Watch;
+use base_122::Select;
+use bit_pipe::{BitIn, BitOut, Part, PutFault, SliceIn, SliceOut, TextFault};
+use dc_depths::{DcPlan, put_dc, take_dc};
+use std::io;
+
+const DC_PLAN: DcPlan = DcPlan {
+    depth_dc: 11,
+    depth_ac: 0,
+    shift: 0,
+};
+
+// Puts the DC part of the blocks.
+#[tactic(auto, using(bit_pipe::proofs::Putting::open_after))]
+fn put_dcs(into: &mut [u8], blocks: &[i32], select: Select) -> Result<u64, PutFault>
+    requires { AreInRange true (dc_bits 11 0 0) (dc_q 11 0 0) 64 blocks.now }
+{
+    let mut out = SliceOut::new(into);
+    let mut bits = BitOut::new(&mut out, 0, 0);
+    put_dc(&mut bits, blocks, &DC_PLAN, select)?;
+    Ok(bits.end(1, false)?)
+}
+
+// Takes the DC part of the blocks.
+fn take_dcs(octets: &[u8], blocks: &mut [i32]) -> Result<Part, TextFault>
+    requires { div_ceil (length blocks.old) 64 < 2 ^ 20 }
+{
+    let mut input = SliceIn::new(octets);
+    let mut bits = BitIn::new(&mut input, 0, 0);
+    take_dc(&mut bits, blocks, &DC_PLAN)
+}
+
+// Whether the blocks have the same DCs.
+fn have_same_dcs(blocks: &[i32], read: &[i32]) -> bool
+    requires { length blocks.now ≡ length read.now }
+{
+    let mut all = true;
+    for block in 0..blocks.len() / BLOCK {
+        all &= blocks[BLOCK * block] == read[BLOCK * block];
+    }
+    all
+}
+
+// Times the DC part of so many blocks.
+pub(crate) fn measure(rt: &HostRuntime, count: usize) -> io::Result<bool>
+    requires { count < 2 ^ 20 }
+{
+    let mut blocks = vec![in rt.alloc(); 0i32; BLOCK * count]?;
+    let mut read = vec![in rt.alloc(); 7i32; BLOCK * count]?;
+    let mut octets = vec![in rt.alloc(); 0u8; 32 * count]?;
+    fill(&mut blocks);
+
+    let watch = Watch::start(rt)?;
+    let heuristic = put_dcs(&mut octets, &blocks, Select::Heuristic);
+    watch.tell(rt, "put_dc, heuristic", count, "number")?;
+
+    let watch = Watch::start(rt)?;
+    let optimal = put_dcs(&mut octets, &blocks, Select::Optimal);
+    watch.tell(rt, "put_dc, optimal", count, "number")?;
+
+    let watch = Watch::start(rt)?;
+    let taken = take_dcs(&octets, &mut read);
+    watch.tell(rt, "take_dc", count, "number")?;
+
+    Ok(heuristic.is_ok() && optimal.is_ok() && taken.is_ok() && have_same_dcs(&blocks, &read))
+}

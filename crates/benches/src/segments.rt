@@ -1,0 +1,69 @@
+// Whole segments like a picture's: their texts, written one after another and read again.
+ghost use Rattle.std.specs.Prelude.{◌≡◌, ◌≤◌, ◌*◌, length};
+
+use crate::pictures::{BLOCK, NUMBERS, SEGMENT, TEXT, fill};
+use crate::texts::{Answer, HeadFields, put_text, take_text};
+use crate::watch::Watch;
+use crate::words::blocks_of;
+use std::io;
+
+// Puts the texts of all segments, and how many octets each has. Answers how many all have.
+fn put_texts(into: &mut [u8], lengths: &mut [u64], blocks: &[i32], marks: &mut [i32]) -> u64
+    requires count { length blocks.now ≡ 64 * length marks.old }
+    requires segments { 64 * length lengths.old ≤ length marks.old }
+    requires room { 4096 * length lengths.old ≤ length into.old }
+{
+    let mut all: u64 = 0;
+    for s in 0..lengths.len() {
+        lengths[s] = put_text(
+            &mut into[TEXT * s..TEXT * s + TEXT],
+            &HeadFields::PLAIN,
+            &blocks[NUMBERS * s..NUMBERS * s + NUMBERS],
+            &mut marks[SEGMENT * s..SEGMENT * s + SEGMENT],
+        );
+        all = all.saturating_add(lengths[s]);
+    }
+    all
+}
+
+// Takes the texts of all segments, and answers whether all of each was read.
+fn take_texts(octets: &[u8], lengths: &[u64], blocks: &mut [i32], marks: &mut [i32]) -> bool
+    requires count { length blocks.old ≡ 64 * length marks.old }
+    requires segments { 64 * length lengths.now ≤ length marks.old }
+    requires room { 4096 * length lengths.now ≤ length octets.now }
+{
+    let mut all = true;
+    for s in 0..lengths.len() {
+        let long = lengths[s].min(TEXT as u64) as usize;
+        let (answer, numbers) = take_text(
+            &octets[TEXT * s..TEXT * s + long],
+            &mut blocks[NUMBERS * s..NUMBERS * s + NUMBERS],
+            &mut marks[SEGMENT * s..SEGMENT * s + SEGMENT],
+        );
+        all &= answer == Answer::Whole && numbers == NUMBERS;
+    }
+    all
+}
+
+// Times segments of so many thousand blocks, or one of 64 blocks.
+pub(crate) fn measure(rt: &HostRuntime, thousands: Option<u16>) -> io::Result<bool> {
+    let segments = blocks_of(thousands) / SEGMENT;
+    let count = SEGMENT * segments;
+    let mut blocks = vec![in rt.alloc(); 0i32; BLOCK * count]?;
+    let mut read = vec![in rt.alloc(); 7i32; BLOCK * count]?;
+    let mut marks = vec![in rt.alloc(); 0i32; count]?;
+    let mut octets = vec![in rt.alloc(); 0u8; TEXT * segments]?;
+    let mut lengths = vec![in rt.alloc(); 0u64; segments]?;
+    fill(&mut blocks, &mut marks);
+
+    let watch = Watch::start(rt)?;
+    let given = put_texts(&mut octets, &mut lengths, &blocks, &mut marks);
+    watch.tell(rt, "encode_segment", blocks.len(), "pixel")?;
+    eprintln!(rt; "texts of {given} octets")?;
+
+    let watch = Watch::start(rt)?;
+    let taken = take_texts(&octets, &lengths, &mut read, &mut marks);
+    watch.tell(rt, "decode_segment", blocks.len(), "pixel")?;
+
+    Ok(taken && read == blocks)
+}

@@ -1,9 +1,0 @@
-use Rattle.std.proofs.Common.{◌≡◌, ◌<◌, ℕ, pos, true, get_or, length}
-use Rattle.number_defs.specs.Ranges.{IsInRange}
-use Rattle.coder_bench.proofs.fill.Given as goal
-
-abbrev pub invariant-loop-place : goal.invariant-loop-place
-invariant-loop-place l = record {
-  whole : length l.blocks ≡ length l.initial.blocks;
-  so_far : (p : ℕ) → p < l.place → IsInRange true 11 (get_or l.blocks p (pos 0));
-}
