@@ -3,7 +3,7 @@
 Where packets are lost, each row outside the damaged ones has to be that of the picture, `damage` has to tell just the
 rows that the definition of docs/formats.md gives for the lost segments, and the status has to be 1 where a segment is
 lost, or 3 where all are. Where octets are changed, the program has to end with status 0, 1 or 3, and `decode` and
-`damage` with the same one.
+`damage` with the same one: the first four changed streams of an image are asked for their damage and listed too.
 """
 
 import random
@@ -13,8 +13,8 @@ import sys
 from collections import Counter
 
 
-def run(program, words, octets=b""):
-    ended = subprocess.run([program, *words], input=octets, capture_output=True)
+def run(command, words, octets=b""):
+    ended = subprocess.run([*command, *words], input=octets, capture_output=True)
     return ended.returncode, ended.stdout, ended.stderr.decode()
 
 
@@ -42,20 +42,36 @@ def told_rows(lines):
     return {row for first, last in re.findall(r"(\d+)-(\d+)", lines) for row in range(int(first), int(last) + 1)}
 
 
+def changed(chance, octets):
+    """A stream with some octets changed, cut out or put in."""
+    octets = bytearray(octets)
+    for _ in range(chance.randint(1, 4)):
+        at, kind = chance.randrange(len(octets)), chance.randrange(4)
+        if kind == 0:
+            octets[at] ^= 1 << chance.randrange(8)
+        elif kind == 1:
+            octets[at] = chance.randrange(256)
+        elif kind == 2 and len(octets) > 100:
+            del octets[at : at + chance.randint(1, 50)]
+        else:
+            octets[at:at] = bytes(chance.randrange(256) for _ in range(chance.randint(1, 20)))
+    return bytes(octets)
+
+
 class Trial:
     def __init__(self, program, chance):
-        self.program, self.chance = program, chance
+        self.program, self.chance = [program], chance
         self.width, self.rows = chance.randint(17, 200), chance.randint(17, 300)
         self.depth, self.signed = chance.randint(1, 16), chance.randint(0, 1)
         self.segment = chance.choice([16, 20, 64, 200])
         self.sizes = [f"width={self.width}", f"rows={self.rows}", f"depth={self.depth}", f"signed={self.signed}"]
         words = [f"segment={self.segment}", f"packet={chance.choice([64, 100, 300, 1024])}"]
         words += chance.choice([[], [], ["word=4"], ["limit=300"], ["limit=400", "fill=1"], ["stop=2.1"]])
-        _, raster, _ = run(program, ["make", *self.sizes, f"seed={chance.randint(0, 999)}"])
-        status, octets, note = run(program, ["encode", *self.sizes, *words], raster)
+        _, raster, _ = run(self.program, ["make", *self.sizes, f"seed={chance.randint(0, 999)}"])
+        status, octets, note = run(self.program, ["encode", *self.sizes, *words], raster)
         assert status == 0, note
         self.packets = packets_of(octets)
-        _, self.whole, _ = run(program, ["decode"], octets)
+        _, self.whole, _ = run(self.program, ["decode"], octets)
 
     def loses(self):
         """Some packets are lost."""
@@ -79,37 +95,29 @@ class Trial:
             assert picture[row * length : (row + 1) * length] == self.whole[row * length : (row + 1) * length], row
         return "damaged" if lost else "whole"
 
-    def changes(self):
+    def changes(self, is_asked_more):
         """Some octets are changed, cut out or put in."""
-        octets = bytearray(b"".join(self.packets))
-        for _ in range(self.chance.randint(1, 4)):
-            at = self.chance.randrange(len(octets))
-            kind = self.chance.randrange(4)
-            if kind == 0:
-                octets[at] ^= 1 << self.chance.randrange(8)
-            elif kind == 1:
-                octets[at] = self.chance.randrange(256)
-            elif kind == 2 and len(octets) > 100:
-                del octets[at : at + self.chance.randint(1, 50)]
-            else:
-                octets[at:at] = bytes(self.chance.randrange(256) for _ in range(self.chance.randint(1, 20)))
-        caps = ["pixels=1000000"]
-        status, picture, note = run(self.program, ["decode", *caps], bytes(octets))
-        found, _, _ = run(self.program, ["damage", *caps], bytes(octets))
-        assert status == found and status in (0, 1, 3), (status, found, note)
+        octets = changed(self.chance, b"".join(self.packets))
+        status, picture, note = run(self.program, ["decode", "pixels=1000000"], octets)
+        assert status in (0, 1, 3), (status, note)
         assert status != 3 or not picture
-        listed, _, told = run(self.program, ["list"], bytes(octets))
-        assert listed in (0, 1), told
+        if is_asked_more:
+            found, _, told = run(self.program, ["damage", "pixels=1000000"], octets)
+            assert found == status and told == note, (status, found, note, told)
+            listed, _, told = run(self.program, ["list"], octets)
+            assert listed in (0, 1), told
         return f"changed, status {status}"
 
 
-def main(program, count, seed=1):
+def main(program, count, seed=1, changes=4):
     chance, counts = random.Random(seed), Counter()
-    for number in range(count):
+    for _ in range(count):
         trial = Trial(program, chance)
-        for _ in range(4):
-            counts[trial.loses()] += 1
-            counts[trial.changes()] += 1
+        for number in range(max(4, changes)):
+            if number < 4:
+                counts[trial.loses()] += 1
+            if number < changes:
+                counts[trial.changes(number < 4)] += 1
     for name, times in sorted(counts.items()):
         print(f"{name}: {times}")
 

@@ -1,5 +1,5 @@
 // Each call of a run fails in turn.
-use crate::runs::{WHOLE, ZEROS, packet, part, run_words};
+use crate::runs::{WHOLE, black, part, run_words};
 use std::process::Abort;
 use std::test::Fail;
 
@@ -7,7 +7,7 @@ use std::test::Fail;
 const CALLS: u64 = 2000;
 
 // Lets each call of a run fail in turn: a read gives status 4, a write 5, and a note changes none; what is given
-// begins what the undisturbed run gives.
+// begins what the undisturbed run gives. Each read call of that run fails once here, and with pieces of one octet each write.
 fn fail_each(
     rt: &(impl Abort + AllocGlobal),
     text: &str,
@@ -15,19 +15,29 @@ fn fail_each(
     piece: usize,
 ) -> Result<(), Fail> {
     let whole = run_words(rt, text, input, &[], piece)?;
+    let mut reads = 0usize;
+    let mut writes = 0usize;
     for number in 0..CALLS {
         let ran = run_words(rt, text, input, &[number], piece)?;
         assert!(rt;
             whole.port.given().starts_with(ran.port.given()),
             "{text}, call {number} of pieces of {piece}"
         );
-        assert!(rt;
-            ran.status == 4 || ran.status == 5 || ran.status == whole.status,
-            "{text}, call {number} of pieces of {piece}"
-        );
-        assert!(rt; !ran.port.starved());
+        match ran.status {
+            4 => reads = reads.saturating_add(1),
+            5 => writes = writes.saturating_add(1),
+            status => {
+                assert_eq!(rt;
+                    status,
+                    whole.status,
+                    "{text}, call {number} of pieces of {piece}"
+                );
+            }
+        }
         if ran.status == whole.status && ran.port.noted() == whole.port.noted() {
             assert_eq!(rt; ran.port.given(), whole.port.given());
+            assert_eq!(rt; reads, whole.port.asked().len(), "{text}");
+            assert!(rt; piece > 1 || writes == whole.port.given().len(), "{text}");
             return Ok(());
         }
     }
@@ -36,9 +46,7 @@ fn fail_each(
 
 #[test]
 fn encoding_and_decoding(rt: HostRuntime) -> Result<(), Fail> {
-    let mut text = ZEROS;
-    text[7] = 0x00;
-    let black = packet(&rt, &text)?;
+    let black = black(&rt)?;
     for piece in [1, 7, WHOLE] {
         fail_each(&rt, "encode width=17 rows=17", &[0; 289], piece)?;
         fail_each(&rt, "decode", &black, piece)?;

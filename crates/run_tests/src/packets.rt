@@ -1,14 +1,7 @@
 // Whole runs over packets: pictures, damaged rows and lists, worked out by hand.
-use crate::runs::{TWO_HUNDRED, WHOLE, ZEROS, expect, packet, part, run_words};
+use crate::runs::{TWO_HUNDRED, WHOLE, black, expect, packet, part, run_words};
 use std::process::Abort;
 use std::test::Fail;
-
-// The one packet of 17 rows and columns of 0, with all bit planes.
-fn black(rt: &(impl Abort + AllocGlobal)) -> Result<Vec<u8>, Fail> {
-    let mut text = ZEROS;
-    text[7] = 0x00;
-    packet(rt, &text)
-}
 
 // The eight packets of 128 rows of 64 pixels of 0: seven of 51 octets and one of 52.
 fn eight(rt: &(impl Abort + AllocGlobal)) -> Result<Vec<u8>, Fail> {
@@ -209,7 +202,7 @@ fn no_room_for_the_whole_image_is_taken(rt: HostRuntime) -> Result<(), Fail> {
     let words = "decode pixels=1099511627776";
     let ran = run_words(&rt, words, &first, &[2], WHOLE)?;
     assert_eq!(rt; ran.status, 5);
-    assert!(rt; ran.port.given().is_empty() && !ran.port.starved());
+    assert!(rt; ran.port.given().is_empty());
     Ok(())
 }
 
@@ -228,7 +221,6 @@ fn each_call_fails_in_turn(rt: HostRuntime) -> Result<(), Fail> {
         let ran = run_words(&rt, text, &black(&rt)?, &[number], WHOLE)?;
         assert_eq!(rt; ran.status, status, "{text}, call {number}");
         assert_eq!(rt; ran.port.given().len(), given, "{text}, call {number}");
-        assert!(rt; !ran.port.starved());
     }
     Ok(())
 }

@@ -1,5 +1,6 @@
 // Whole runs over ports of memory, whose octets were worked out by hand.
 use port_122::{MemoryPort, SteadyPort};
+use std::alloc::AllocError;
 use std::process::Abort;
 use std::test::Fail;
 use top_122::run;
@@ -23,7 +24,8 @@ pub(crate) struct Outcome {
     pub port: MemoryPort,
 }
 
-// Runs these words over an input, with pieces of this size, and lets the calls of these numbers fail.
+// Runs these words over an input, with pieces of this size, and lets the calls of these numbers fail. Where there is no memory,
+// which is so only while allocations are refused, nothing was given or the port itself had none: then the test ends.
 pub(crate) fn run_words(
     rt: &(impl Abort + AllocGlobal),
     text: &str,
@@ -36,6 +38,10 @@ pub(crate) fn run_words(
     let input = input.to_vec(rt.alloc())?;
     let mut port = MemoryPort::new(rt.alloc(), input, fail.to_vec(rt.alloc())?, piece)?;
     let status = run(rt.alloc(), words.as_slice(), &mut port);
+    if status == 6 || port.starved() {
+        assert!(rt; port.starved() || port.given().is_empty());
+        return Err(AllocError.into());
+    }
     Ok(Outcome { status, port })
 }
 
@@ -83,6 +89,13 @@ pub(crate) const ZEROS: [u8; 22] = [
     0x00, 0x00, 0x00, 0x00, 0x00, 0x00,
 ];
 
+// The one packet of 17 rows and columns of 0, with all bit planes.
+pub(crate) fn black(rt: &(impl Abort + AllocGlobal)) -> Result<Vec<u8>, Fail> {
+    let mut text = ZEROS;
+    text[7] = 0x00;
+    packet(rt, &text)
+}
+
 const SQUARE: &str = "encode width=17 rows=17 stop=dc";
 
 // The text of 17 rows and columns of 200, with all bit planes.
@@ -104,13 +117,13 @@ fn an_image_becomes_a_packet(rt: HostRuntime) -> Result<(), Fail> {
 
 #[test]
 fn an_image_without_a_stop(rt: HostRuntime) -> Result<(), Fail> {
-    let mut text = ZEROS;
-    text[7] = 0x00;
-    let zeros = packet(&rt, &text)?;
+    let zeros = black(&rt)?;
     expect(&rt, "encode width=17 rows=17", &[0; 289], 0, &zeros, "")?;
     let flat = packet(&rt, &TWO_HUNDRED)?;
     expect(&rt, "encode width=17 rows=17", &[200; 289], 0, &flat, "")?;
     // Plane 0 up to stage 2.
+    let mut text = ZEROS;
+    text[7] = 0x00;
     text[8] = 0x20;
     let stopped = packet(&rt, &text)?;
     expect(
@@ -381,18 +394,17 @@ fn a_made_image(rt: HostRuntime) -> Result<(), Fail> {
 
 #[test]
 fn a_failed_call_has_its_status(rt: HostRuntime) -> Result<(), Fail> {
-    // A read for each row, the write of the packet and the read at the end; a made row is one write.
-    for (text, number, status, given) in [
-        ("encode width=17 rows=17", 0, 4, 0),
-        ("encode width=17 rows=17", 17, 5, 0),
-        ("encode width=17 rows=17", 18, 4, 52),
-        ("make width=17 rows=17", 2, 5, 34),
-    ] {
-        let ran = run_words(&rt, text, &[0; 289], &[number], WHOLE)?;
-        assert_eq!(rt; ran.status, status, "{text}, call {number}");
-        assert_eq!(rt; ran.port.given().len(), given);
-        assert!(rt; !ran.port.starved());
+    // A read for each row, the write of the packet and the read at the end.
+    let packet = black(&rt)?;
+    for (number, status, given) in [(0, 4, 0), (17, 5, 0), (18, 4, 52), (19, 0, 52)] {
+        let ran = run_words(&rt, "encode width=17 rows=17", &[0; 289], &[number], WHOLE)?;
+        assert_eq!(rt; ran.status, status, "call {number}");
+        assert_eq!(rt; ran.port.given(), part(&packet, 0, given), "call {number}");
     }
+    // A made row is one write.
+    let ran = run_words(&rt, "make width=17 rows=17", &[], &[2], WHOLE)?;
+    assert_eq!(rt; ran.status, 5);
+    assert_eq!(rt; ran.port.given().len(), 34);
     Ok(())
 }
 
@@ -406,9 +418,9 @@ fn a_note_that_fails_changes_no_status(rt: HostRuntime) -> Result<(), Fail> {
 
 #[test]
 fn a_steady_port_gets_the_same(rt: HostRuntime) -> Result<(), Fail> {
-    let words = words(&rt, SQUARE)?;
+    let words = words(&rt, "encode width=17 rows=17")?;
     let mut port = SteadyPort::new(rt.alloc(), [0; 289].to_vec(rt.alloc())?, 100)?;
     assert_eq!(rt; run(rt.alloc(), words.as_slice(), &mut port), 0);
-    assert_eq!(rt; port.given(), packet(&rt, &ZEROS)?.as_slice());
+    assert_eq!(rt; port.given(), black(&rt)?.as_slice());
     Ok(())
 }

@@ -1,0 +1,84 @@
+"""Random images and streams, asked of two programs. tools/try_images.sh runs it.
+
+Each image is encoded by both, and its packets are decoded. Then some packets are lost, or octets changed, and what is
+left is decoded and listed, and its damage found. Status, output and note have to be the same each time, and the
+packets of an image that leave nothing out have to give its raster.
+"""
+
+import random
+import sys
+from collections import Counter
+
+from try_streams import changed, packets_of, run
+
+
+def pixels(chance, width, rows, depth, signed):
+    """The values of an image: noise, a slope with some noise, one value, or the extremes by turns or at random."""
+    least, most = (-(1 << depth - 1), (1 << depth - 1) - 1) if signed else (0, (1 << depth) - 1)
+    flat, slope, kind = chance.randint(least, most), chance.uniform(-2, 2), chance.randrange(5)
+    for row in range(rows):
+        for column in range(width):
+            if kind == 0:
+                yield chance.randint(least, most)
+            elif kind == 1:
+                yield min(most, max(least, int(flat + slope * (row + column) + chance.gauss(0, 2))))
+            elif kind == 2:
+                yield flat
+            elif kind == 3:
+                yield most if (row + column) % 2 else least
+            else:
+                yield chance.choice([least, most])
+
+
+def raster(chance, width, rows, depth, signed):
+    size = 1 if depth <= 8 else 2
+    return b"".join((it % (1 << 8 * size)).to_bytes(size, "big") for it in pixels(chance, width, rows, depth, signed))
+
+
+def settings(chance):
+    """Words of `encode`, and whether nothing is left out."""
+    words = [f"segment={chance.choice([16, 17, 20, 64])}", f"packet={chance.choice([64, 65, 100, 300, 1024])}"]
+    words += [f"word={chance.randint(1, 4)}", f"select={chance.choice(['optimal', 'heuristic'])}"]
+    if chance.random() < 0.3:
+        words.append("weights=" + "".join(chance.choice("0123") for _ in range(10)))
+    ends = chance.choice([[], [], ["limit=480"], ["limit=960", "fill=1"], ["stop=dc"], [f"stop={chance.randint(0, 9)}.{chance.randint(0, 3)}"]])
+    return words + ends, not ends
+
+
+class Pair:
+    def __init__(self, program, other):
+        self.program, self.other, self.counts = [program], other.split(), Counter()
+
+    def ask(self, words, octets):
+        """What both programs answer."""
+        ours, theirs = run(self.program, words, octets), run(self.other, words, octets)
+        assert ours == theirs, (words, len(octets), ours[0], theirs[0], ours[2], theirs[2])
+        self.counts[f"{words[0]}, status {ours[0]}"] += 1
+        return ours
+
+
+def try_image(pair, chance):
+    width, rows = chance.randint(17, 70), chance.randint(17, 70)
+    depth, signed = chance.randint(1, 16), chance.randint(0, 1)
+    given = raster(chance, width, rows, depth, signed)
+    words, is_whole = settings(chance)
+    _, octets, _ = pair.ask(["encode", f"width={width}", f"rows={rows}", f"depth={depth}", f"signed={signed}", *words], given)
+    _, picture, _ = pair.ask(["decode"], octets)
+    assert picture == given or not is_whole
+    lost = b"".join(it for it in packets_of(octets) if chance.random() < 0.8)
+    for left in (lost, changed(chance, octets)):
+        pair.ask(["decode", "pixels=1000000"], left)
+        pair.ask(["damage", "pixels=1000000"], left)
+        pair.ask(["list"], left)
+
+
+def main(program, other, count, seed=1):
+    pair, chance = Pair(program, other), random.Random(seed)
+    for number in range(count):
+        try_image(pair, chance)
+    for name, times in sorted(pair.counts.items()):
+        print(f"{name}: {times}")
+
+
+if __name__ == "__main__":
+    main(sys.argv[1], sys.argv[2], *map(int, sys.argv[3:]))
