@@ -83,9 +83,9 @@ try_program() {
     echo "$*: $((n - 1)) allocations: status 6 and nothing given $wants, as undisturbed ($as) $same, other $((n - 1 - wants - same))"
 }
 
-# A test that has no memory ends with this error, or on the status that says so.
+# A test that has no memory ends with an error that says so, or on the status that does.
 lacks_memory() {
-    grep -q '^error: Alloc' "$kept/now.note" || grep -q '^ *left: 6$' "$kept/now.note"
+    grep -q -e ' AllocError$' -e ' AllocFailed ' -e '^ *left: 6$' "$kept/now.note"
 }
 
 try_test() {
