@@ -49,3 +49,5 @@ pub mod MarkWords
 pub mod DeepStage
 pub mod DcStage
 pub mod BlockStage
+mod Shadows
+mod TypesAtHand

@@ -11,3 +11,4 @@ pub mod Refining
 pub mod Applied
 pub mod Grandchildren
 pub mod Blocks
+pub mod Hand

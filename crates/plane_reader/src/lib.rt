@@ -12,6 +12,7 @@ mod children;
 mod found;
 mod grandchildren;
 mod groups;
+mod hand;
 mod plane;
 mod refine;
 mod stages;

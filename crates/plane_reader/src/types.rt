@@ -7,11 +7,13 @@ ghost use Rattle.plane_defs.specs.declared.codes.Book.{Book as BookValue};
 ghost use Rattle.block_masks.specs.declared.gaggle.Gaggle.{Gaggle as GaggleValue};
 ghost use Rattle.block_masks.specs.Gaggles.{AreOptions};
 ghost use Rattle.block_masks.specs.Masks.{Shows};
+ghost use Rattle.item_defs.specs.Bits.{bit};
 ghost use Rattle.plane_defs.specs.Spans.{span};
 ghost use Rattle.plane_reader.specs.Frames.{Frame, wanted_ones, sign_steps, WordNext, SignsNext, TypesNext};
 ghost use Rattle.plane_reader.specs.Pieces.{TakesPlaces, FoundPiece, Anything, ArePlaces, OnSome};
 
 use crate::found::Found;
+use crate::hand::types_in;
 use crate::walk::{first_in, without};
 use crate::word::{count_of, take_due, take_flag};
 use bit_pipe::{BitIn, OctetIn, TextFault};
@@ -143,7 +145,36 @@ pub(crate) struct Group {
     pub is_wanted: bool,
 }
 
-// Takes the types of a group, of which these are due, and the signs of those that are 1.
+// Takes the types of some due places, and the signs of those that are 1, one word after another.
+fn take_types_in_turn<I: OctetIn>(
+    input: &mut BitIn<I>,
+    tables: &WordTables,
+    gaggle: &mut Gaggle,
+    found: &mut Found,
+    due: u64,
+    group: Group,
+) -> Result<Option<()>, TextFault>
+    requires open { IsIn (coming input.old) }
+    requires known { AreOptions gaggle.old.options }
+    requires start { group.start ≤ 60 }
+    requires few { group.count ≤ 4 }
+    requires due { due < 2 ^ group.count }
+    ensures types { (f : Frame) (stage : ℕ) (earlier : ℕ → List Step) (done : List Step) (mask : ℕ) (after : List ℤ → List Step) →
+        TypesNext f stage earlier done group.is_wanted group.start group.count mask after →
+        Shows due (λ p. bit mask p) group.start group.count →
+        FoundPiece I.source tables.now.book f stage earlier done (λ v. typed_steps v f.weights f.plane (some_one_where group.is_wanted) (span group.start group.count)) Anything
+        result gaggle.old gaggle.new found.old found.new (coming input.old) (coming input.new) }
+    ensures options { AreOptions gaggle.new.options }
+    ensures is_in { OnSome result (IsIn (coming input.new)) }
+{
+    let Some(new) = take_some(input, tables, gaggle, due, group.is_wanted)? else {
+        return Ok(None);
+    };
+    found.add_bits(new, group.start);
+    take_signs(input, found, new, group.start, group.count)
+}
+
+// Takes the types of a group, of which these are due, and the signs of those that are 1: all at once where they stand at hand.
 #[inline(always)]
 pub(crate) fn take_types<I: OctetIn>(
     input: &mut BitIn<I>,
@@ -165,9 +196,13 @@ pub(crate) fn take_types<I: OctetIn>(
     ensures is_in { OnSome result (IsIn (coming input.new)) }
 {
     let here = part(due, group.start, group.count);
-    let Some(new) = take_some(input, tables, gaggle, here, group.is_wanted)? else {
-        return Ok(None);
-    };
-    found.add_bits(new, group.start);
-    take_signs(input, found, new, group.start, group.count)
+    if let Some(window) = input.window() {
+        if let Some(types) = types_in(tables, gaggle, here, group.is_wanted, window) {
+            input.take_window(window, types.len);
+            found.add_bits(types.new, group.start);
+            found.add_minus(types.minus, group.start);
+            return Ok(Some(()));
+        }
+    }
+    take_types_in_turn(input, tables, gaggle, found, here, group)
 }

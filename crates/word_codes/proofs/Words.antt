@@ -1,8 +1,8 @@
 -- What a call for a word's code leaves.
-use Rattle.std.proofs.Common.{◌≡◌, ℕ, ◌+◌, ◌^◌, ◌<◌, true, false, Ok, Err, refl, sym, subst, arith}
+use Rattle.std.proofs.Common.{◌≡◌, ℕ, ◌+◌, ◌-◌, ◌/◌, ◌^◌, ◌<◌, ◌≤◌, List, true, false, Ok, Err, refl, sym, ◌∙◌, subst, arith}
 use Rattle.std.specs.Prelude.{Some, None, ◌==◌}
-use Rattle.std.proofs.lemmas.Nat.{pow_pos}
-use Rattle.item_defs.specs.Items.{Shape, fixed, spelling, item_bits}
+use Rattle.std.proofs.lemmas.Nat.{pow_pos, shr_below}
+use Rattle.item_defs.specs.Items.{Item, Shape, fixed, spelling, item_bits}
 use Rattle.item_defs.specs.Readings.{whole, ended}
 use Rattle.bit_pipe.specs.declared.fault.InFault.{InFault}
 use Rattle.bit_pipe.specs.Sources.{SourceOf}
@@ -10,6 +10,10 @@ use Rattle.bit_pipe.specs.Coming.{Coming, Takes, EndsItem}
 use Rattle.bit_pipe.specs.Reading.{stopped, failed}
 use Rattle.bit_pipe.specs.Faults.{of_input}
 use Rattle.bit_pipe.specs.Answers.{IsBelow, TakesOne}
+use Rattle.bit_pipe.specs.declared.front.Front.{Front}
+use Rattle.bit_pipe.specs.Fronts.{Tells, front_at}
+use Rattle.bit_pipe.specs.Windows.{first_of}
+use Rattle.bit_pipe.proofs.WindowBits.{first_octet}
 use Rattle.bit_pipe.proofs.OneItem.{one_whole, one_ended, one_failed}
 use Rattle.plane_defs.specs.declared.codes.Book.{Book}
 use Rattle.plane_defs.specs.Codes.{uncoded, word_item}
@@ -54,3 +58,22 @@ module _ (book : Book) (n option : ℕ) where
         read = one_whole (word_item book n option w) (subst (Takes k a b) (sym same) p.1);
         answer = refl;
       }
+
+-- ---- what stands first in a window
+
+pub word_below : (window n : ℕ) → window < 2 ^ 64 → n ≤ 4 → window / 2 ^ (64 - n) < 2 ^ n
+word_below window n fits few =
+    let whole : n + (64 - n) ≡ 64 = omega arith in
+    shr_below window n (64 - n) (rw whole fits)
+
+-- a plain word
+pub word_first : (book : Book) (n option : ℕ) → option + 1 ≡ n → (window : ℕ) → item_bits (word_item book n option (window / 2 ^ (64 - n))) ≡ first_of n window
+word_first book n option e window = rw (is_plain n option e) refl
+
+-- what a table tells
+pub front_first : {most : ℕ} {item : ℕ → Item} {fronts : List Front} → Tells most item fronts → (window : ℕ) → window < 2 ^ 64 →
+    item_bits (item (front_at fronts (window / 2 ^ 56)).number) ≡ first_of (front_at fronts (window / 2 ^ 56)).len window
+front_first {fronts = fronts} t window fits =
+    let octet = window / 2 ^ 56 in
+    let small : octet < 256 = omega arith in
+    t.first octet small ∙ sym (first_octet (front_at fronts octet).len window (t.few octet small))

@@ -3,11 +3,13 @@
 ghost use Rattle.std.specs.Prelude.{◌≡◌, ◌≤◌, ◌<◌, ◌^◌, IsTrue, MatchOption, false};
 ghost use Rattle.bit_pipe.specs.Coming.{coming, IsIn};
 ghost use Rattle.bit_pipe.specs.Answers.{IsBelow, TakesOne};
+ghost use Rattle.bit_pipe.specs.Windows.{first_of};
+ghost use Rattle.item_defs.specs.Items.{item_bits};
 ghost use Rattle.plane_defs.specs.Codes.{is_book_sound, word_item, identifier_width, identifier_number, names_option, option_item};
 
 use crate::choice::table_at;
 use crate::tables::WordTables;
-use bit_pipe::{BitIn, OctetIn, TextFault};
+use bit_pipe::{BitIn, Front, OctetIn, TextFault};
 use plane_defs::Book;
 
 // The bits of an identifier.
@@ -88,7 +90,29 @@ pub fn take_word_by<I: OctetIn>(
     input.take_front(&tables.rows[table_at(length, option)])
 }
 
-/// The same for one word, by a sound book.
+/// The word of 2 to 4 bits whose code stands first in a window of bits to come, the first highest, and how many bits the code has
+/// (docs/formats.md, "Words and codes"). One always does.
+///
+/// `option` is one of the length's options.
+#[inline(always)]
+pub fn word_in(tables: &WordTables, option: u8, length: u8, window: u64) -> Front
+    requires short { 2 ≤ length }
+    requires long { length ≤ 4 }
+    requires known { option < length }
+    ensures fits { result.number < 2 ^ length }
+    ensures few { result.len ≤ 8 }
+    ensures first { item_bits (word_item tables.now.book length option result.number) ≡ first_of result.len window }
+{
+    if option + 1 == length {
+        return Front {
+            number: (window >> (64 - length)) as u8,
+            len: length,
+        };
+    }
+    tables.rows[table_at(length, option)][(window >> 56) as usize]
+}
+
+/// `take_word_by` for one word, by a sound book.
 ///
 /// # Errors
 ///

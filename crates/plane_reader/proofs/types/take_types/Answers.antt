@@ -1,42 +1,27 @@
-use Rattle.std.proofs.Common.{arith, rules}
-use Rattle.std.specs.Prelude.{filter}
-use Rattle.plane_defs.specs.Spans.{span}
-use Rattle.plane_defs.specs.Sets.{significant, type_due}
-use Rattle.plane_defs.specs.Steps.{types_at}
-use Rattle.std.proofs.lemmas.Result.{err_from_is_err_and}
+use Rattle.std.proofs.Common.{rules}
 use Rattle.block_masks.proofs.Viewing.{from_zero, nibble_small}
 use Rattle.plane_reader.proofs.FoundMasks.{room_four}
-use Rattle.plane_reader.proofs.TypePieces.{due_part, mask_shows, types_word, types_missing, types_fault, types_given}
+use Rattle.plane_reader.proofs.TypePieces.{mask_shows}
+use Rattle.plane_reader.proofs.TypesAtHand.{types_at_hand}
 use Rattle.plane_reader.proofs.types.take_types.Goals as goal
 
-pub take_some-requires-clause-due : goal.take_some-requires-clause-due
-take_some-requires-clause-due g c = nibble_small c.part-here.result c.args.group.count c.requires.few c.part-here.ensures.within
-
-pub returns-in_err-new-clause-types : goal.returns-in_err-new-clause-types
-returns-in_err-new-clause-types g c = λ f stage earlier done after next.
-    let p = err_from_is_err_and c.from_residual.result c.from_residual.ensures.1 in
-    let shown = due_part next (from_zero c.args.group.start (c.part-here.ensures.told _ 0 64 (mask_shows c.args.due (search rules)) next.within)) in
-    rw (p.1, p.2) (types_fault next (c.in_err-new.ensures.places f stage earlier done _ c.args.group.start c.args.group.count _ _ _ (types_word next c.part-here.result shown)))
-
-pub returns-in_default-clause-types : goal.returns-in_default-clause-types
-returns-in_default-clause-types g c = λ f stage earlier done after next.
-    let shown = due_part next (from_zero c.args.group.start (c.part-here.ensures.told _ 0 64 (mask_shows c.args.due (search rules)) next.within)) in
-    let t = rw c.in_default.is at c.in_ok-new.ensures in
-    types_missing next (t.places f stage earlier done _ c.args.group.start c.args.group.count _ _ _ (types_word next c.part-here.result shown))
+pub types_in-requires-clause-due : goal.types_in-requires-clause-due
+types_in-requires-clause-due g c = nibble_small c.part-here.result c.args.group.count c.requires.few c.part-here.ensures.within
 
 pub add_bits-requires-clause-room : goal.add_bits-requires-clause-room
-add_bits-requires-clause-room g c =
-    let t = rw c.in-Some.is at c.in_ok-new.ensures in
-    room_four c.in-Some.new c.args.group.start c.requires.start (t.small 4 (omega arith) (nibble_small c.part-here.result c.args.group.count c.requires.few c.part-here.ensures.within))
+add_bits-requires-clause-room g c = room_four c.in-Some-types_in.types.new c.args.group.start c.requires.start c.in-Some-types_in.ensures.new.small
+
+pub add_minus-requires-clause-room : goal.add_minus-requires-clause-room
+add_minus-requires-clause-room g c = room_four c.in-Some-types_in.types.minus c.args.group.start c.requires.start c.in-Some-types_in.ensures.minus.small
+
+pub returns-in-Some-types_in-clause-types : goal.returns-in-Some-types_in-clause-types
+returns-in-Some-types_in-clause-types g c = λ f stage earlier done after next.
+    let small = nibble_small c.part-here.result c.args.group.count c.requires.few c.part-here.ensures.within in
+    let shown = from_zero c.args.group.start (c.part-here.ensures.told _ 0 64 (mask_shows c.args.due (search rules)) next.within) in
+    types_at_hand c.requires.known next c.part-here.result small shown c.in-Some.window c.in-Some-types_in.ensures c.requires.open c.take_window.ensures
+    c.add_bits.ensures.minus c.add_bits.ensures.bits c.add_minus.ensures.bits c.add_minus.ensures.minus
 
 pub returns-clause-types : goal.returns-clause-types
 returns-clause-types g c = λ f stage earlier done after next.
-    let shown = due_part next (from_zero c.args.group.start (c.part-here.ensures.told _ 0 64 (mask_shows c.args.due (search rules)) next.within)) in
-    let t = rw c.in-Some.is at c.in_ok-new.ensures in
-    let w = t.places f stage earlier done (types_at (filter (type_due f.block f.weights f.plane) (span c.args.group.start c.args.group.count))) c.args.group.start c.args.group.count (type_due f.block f.weights f.plane) (λ v. significant v f.plane) _ (types_word next c.part-here.result shown) in
-    types_given next c.in-Some.new w c.add_bits.ensures.minus c.add_bits.ensures.bits t.options c.take_signs.ensures.signs
-
-pub take_signs-requires-clause-few : goal.take_signs-requires-clause-few
-take_signs-requires-clause-few g c =
-    let t = rw c.in-Some.is at c.in_ok-new.ensures in
-    t.small c.args.group.count c.requires.few c.part-here.ensures.within
+    let shown = from_zero c.args.group.start (c.part-here.ensures.told _ 0 64 (mask_shows c.args.due (search rules)) next.within) in
+    c.take_types_in_turn.ensures.types f stage earlier done c.args.due after next shown

@@ -1,0 +1,86 @@
+-- The types of a group and their signs, read at once.
+use Rattle.std.proofs.Common.{◌≡◌, ℕ, ◌+◌, ◌-◌, ◌*◌, ◌/◌, ◌%◌, ◌^◌, ◌<◌, ◌≤◌, Bool, true, ◌&&◌, ◌||◌, ℤ, List, [], ◌++◌, refl, sym, ap, subst, ◌∙◌, arith, inl, inr, get_or}
+use Rattle.std.specs.Prelude.{Ok, Option, Some, count_ones}
+use Rattle.std.proofs.lemmas.Bool.{cases_lt}
+use Rattle.item_defs.specs.Bits.{bit}
+use Rattle.item_defs.specs.Items.{raw, item_bits}
+use Rattle.item_defs.specs.Readings.{whole}
+use Rattle.plane_defs.specs.declared.codes.Book.{Book}
+use Rattle.plane_defs.specs.Codes.{word_item}
+use Rattle.plane_defs.specs.Spans.{span}
+use Rattle.plane_defs.specs.Sets.{significant, type_due}
+use Rattle.plane_defs.specs.Steps.{Step, typed_steps, some_one_where}
+use Rattle.block_masks.specs.declared.gaggle.Gaggle.{Gaggle}
+use Rattle.block_masks.specs.Gaggles.{AreOptions}
+use Rattle.block_masks.specs.Masks.{Shows}
+use Rattle.bit_pipe.specs.declared.front.Front.{Front}
+use Rattle.bit_pipe.specs.Sources.{Tail, SourceOf}
+use Rattle.bit_pipe.specs.Coming.{Coming, IsIn, Takes}
+use Rattle.bit_pipe.specs.Reading.{stopped}
+use Rattle.bit_pipe.specs.Answers.{IsBelow, TakesOne}
+use Rattle.bit_pipe.specs.Windows.{first_of}
+use Rattle.bit_pipe.proofs.OneItem.{one_whole}
+use Rattle.bit_pipe.proofs.Taking.{in_later, takes_start}
+use Rattle.plane_reader.specs.declared.found.Found.{Found}
+use Rattle.plane_reader.specs.declared.hand.Types.{Types}
+use Rattle.plane_reader.specs.Frames.{Frame, TypesNext}
+use Rattle.plane_reader.specs.Hand.{IsWordIn, AreTypesIn}
+use Rattle.plane_reader.specs.Pieces.{FoundPiece, Anything, TakesWord}
+use Rattle.plane_reader.specs.Places.{inside}
+use Rattle.plane_reader.proofs.DueReading.{due_given, few_ones}
+use Rattle.plane_reader.proofs.Shadows.{told, shadow, takes_shadow, shadow_in, found_back, between, takes_first, takes_rest, window_parts}
+use Rattle.plane_reader.proofs.SignWindows.{signs_at_once}
+use Rattle.plane_reader.proofs.TypePieces.{due_part, types_word, types_given}
+use Rattle.plane_reader.proofs.WordReading.{word_raw, opens_known, opened_word, option_fits}
+use Rattle.plane_reader.proofs.WordTests.{some_given}
+
+module _ {I : Type 0} {k : SourceOf I} (book : Book) {g : Gaggle} (known : AreOptions g.options) {window : ℕ} {a b : Coming I} (is_in : IsIn a) where
+  -- the word of a window was taken
+  word_taken : (count : ℕ) (few : count ≤ 4) (word : Front) → IsWordIn book g count window word → Takes k a b (first_of word.len window) → TakesWord k book count (Ok (Some word.number)) g g a b
+  word_taken count few word w t = elim (cases_lt 1 count) [
+    | inl more ↦
+        opened_word book count more few g g (opens_known g count more few known is_in (w.sent more) (option_fits g.options count known more few) (takes_start k a is_in))
+        (one (word_item book count (get_or g.options (count - 2) 0)) (2 ^ count) w.fits (w.coded more))
+    | inr one_bit ↦
+        let e : count ≡ 1 = omega (arith, one_bit, w.some) in
+        let below : word.number < 2 = (let p : 2 ^ count ≡ 2 = ap (λ n. 2 ^ n) e in omega (arith, p, w.fits)) in
+        subst (λ n. TakesWord k book n (Ok (Some word.number)) g g a b) (sym e) (word_raw book g known is_in (one raw 2 below (w.one e)))
+  ]
+    where
+      one : (item : ℕ → _) (most : ℕ) → word.number < most → item_bits (item word.number) ≡ first_of word.len window → TakesOne k (IsBelow most) item (Ok (Some word.number)) a b
+      one item most below same = record { value = word.number; known = below; ending = stopped whole; read = one_whole (item word.number) (subst (Takes k a b) (sym same) t); answer = refl }
+
+module _ {I : Type 0} {k : SourceOf I} {book : Book} {g : Gaggle} (known : AreOptions g.options) {f : Frame} {stage : ℕ} {earlier : ℕ → List Step} {done : List Step} {wanted : Bool} {start count mask : ℕ} {after : List ℤ → List Step}
+    (next : TypesNext f stage earlier done wanted start count mask after) (due : ℕ) (small : due < 16) (shown : Shows due (λ p. bit mask p) start count)
+    (window : ℕ) {types : Types} (t : AreTypesIn book g due wanted window types) {a b : Coming I} (is_in : IsIn a) (taken : Takes k a b (first_of types.len window)) where
+  abbrev ones : ℕ
+  ones = count_ones types.new
+
+  abbrev rest : ℕ
+  rest = window * 2 ^ t.word.len % 2 ^ 64
+
+  few : ones ≤ 4
+  few = few_ones types.new t.new.small
+
+  in_parts : Takes told (shadow k a) (shadow k b) (first_of t.word.len window ++ first_of ones rest)
+  in_parts = takes_shadow (subst (Takes k a b) (ap (λ n. first_of n window) t.len ∙ window_parts window t.word.len ones (omega (arith, few, t.is_word.few))) taken)
+
+  abbrev mid : Coming (Option Tail)
+  mid = between (shadow k a) (shadow k b) (first_of t.word.len window) (first_of ones rest) (shadow_in k a is_in) in_parts
+
+  module _ {m n o : Found} (no_minus : n.minus ≡ m.minus)
+      (bits : (f' g' : ℕ → Bool) (c : ℕ) → start + c ≤ 64 → Shows m.bits f' 0 64 → Shows types.new g' start c → Shows n.bits (λ p. f' p || (inside start c p && g' p)) 0 64)
+      (no_bits : o.bits ≡ n.bits)
+      (minus : (f' g' : ℕ → Bool) (c : ℕ) → start + c ≤ 64 → Shows n.minus f' 0 64 → Shows types.minus g' start c → Shows o.minus (λ p. f' p || (inside start c p && g' p)) 0 64) where
+    pub types_at_hand : FoundPiece k book f stage earlier done (λ v. typed_steps v f.weights f.plane (some_one_where wanted) (span start count)) Anything (Ok (Some tt)) g g m o a b
+    types_at_hand =
+        let first = takes_first (shadow k a) (shadow k b) (first_of t.word.len window) (first_of ones rest) (shadow_in k a is_in) in_parts in
+        let last = takes_rest (shadow k a) (shadow k b) (first_of t.word.len window) (first_of ones rest) (shadow_in k a is_in) in_parts in
+        let word = word_taken book known (shadow_in k a is_in) (count_ones due) (few_ones due small) t.word t.is_word first in
+        let places = due_given book due small (few_ones due small) t.word.number types.new t.new.small word t.new.told t.new.back in
+        let w = some_given wanted (types_word next due (due_part next shown)) types.new t.wanted places in
+        found_back taken book f stage earlier done (λ v. typed_steps v f.weights f.plane (some_one_where wanted) (span start count)) Anything tt is_in
+        (types_given next types.new w no_minus bits known (λ book' gaggle f' stage' earlier' done' new_at after' known' signs.
+        signs_at_once signs next.few rest (rest / 2 / 2 ^ (63 - ones)) ones (omega arith) refl few refl no_bits
+        (λ f'' g'' shows is. minus f'' (λ p. new_at p && g'' p) count next.within shows (t.minus.told g'' new_at start count next.few signs.shown is))
+        book' known' (in_later (shadow_in k a is_in) first) last))

@@ -1,0 +1,67 @@
+// The types of a group and their signs, where all their bits stand at hand.
+
+ghost use Rattle.std.specs.Prelude.{◌≤◌, ◌<◌, IfSome};
+ghost use Rattle.block_masks.specs.Gaggles.{AreOptions};
+ghost use Rattle.plane_reader.specs.Hand.{IsWordIn, AreTypesIn};
+
+use crate::word::count_of;
+use bit_pipe::Front;
+use block_masks::{Gaggle, spread};
+use word_codes::{WordTables, word_in};
+
+// The word of so many bits that stands first in a window, and how many bits spell it: where it has one bit, or its option is known.
+#[inline(always)]
+fn known_word(tables: &WordTables, gaggle: &Gaggle, count: u8, window: u64) -> Option<Front>
+    requires few { count ≤ 4 }
+    requires known { AreOptions gaggle.now.options }
+    ensures { IfSome result (IsWordIn tables.now.book gaggle.now count window) }
+{
+    if count < 2 {
+        let bit = Front {
+            number: (window >> 63) as u8,
+            len: 1,
+        };
+        return (count == 1).then_some(bit);
+    }
+    let place = count as usize - 2;
+    if !gaggle.sent[place] {
+        return None;
+    }
+    Some(word_in(tables, gaggle.options[place], count, window))
+}
+
+// What a window tells of a group: the places whose type is 1, those of them that are negative, and how many bits say so.
+#[derive(Clone, Copy)]
+pub(crate) struct Types {
+    pub new: u64,
+    pub minus: u64,
+    pub len: u8,
+}
+
+// The types of these due places and the signs that come with them, as they stand first in a window. None come where there is no
+// word, its option isn't known, or one type at least must be 1 and none is.
+#[inline(always)]
+pub(crate) fn types_in(
+    tables: &WordTables,
+    gaggle: &Gaggle,
+    due: u64,
+    is_wanted: bool,
+    window: u64,
+) -> Option<Types>
+    requires due { due < 16 }
+    requires known { AreOptions gaggle.now.options }
+    ensures { IfSome result (AreTypesIn tables.now.book gaggle.now due is_wanted window) }
+{
+    let word = known_word(tables, gaggle, count_of(due), window)?;
+    let new = spread(due, word.number);
+    if is_wanted && new == 0 {
+        return None;
+    }
+    let count = count_of(new);
+    let signs = ((window << word.len) >> 1 >> (63 - count)) as u8;
+    Some(Types {
+        new,
+        minus: spread(new, signs),
+        len: word.len + count,
+    })
+}
