@@ -26,6 +26,7 @@ use Rattle.bit_pipe.specs.Sources.{SourceOf}
 use Rattle.bit_pipe.specs.Coming.{Coming}
 use Rattle.plane_reader.specs.declared.found.Found.{Found}
 use Rattle.plane_reader.specs.Frames.{Frame, steps_of, Sends, TypesNext}
+use Rattle.plane_reader.specs.Above.{IsAbove}
 use Rattle.plane_reader.specs.Pieces.{FoundPiece, Anything}
 use Rattle.plane_reader.specs.Children.{AreFamilies, StageNext}
 use Rattle.plane_reader.specs.Grandchildren.{GrandchildrenNext}
@@ -66,18 +67,22 @@ module _ (f : Frame) (deep : f.plane < f.depth) (v : List ℤ) where
 -- ---- what comes next
 
 module _ {f : Frame} {plan : CodedPlane} {depth k : ℕ} {earlier : ℕ → List Step} {mark : ℤ} {x : List ℤ} (frame : IsFrame f plan depth) (stands : StandsBefore f k earlier mark x) where
-  pub stage_next : (above : ℕ) → Shows above (significant x (plan.plane + 1)) 0 64 → k < 5 → (steps : List ℤ → List Step) → ((v : List ℤ) → steps_of f k v ≡ steps v) → StageNext f k earlier [] plan above steps (λ v. [])
-  stage_next above shows below steps same = record {
+  pub stage_next : (above : ℕ) → IsAbove f above → k < 5 → (steps : List ℤ → List Step) → ((v : List ℤ) → steps_of f k v ≡ steps v) → StageNext f k earlier [] plan above steps (λ v. [])
+  stage_next above is below steps same = record {
     below = below;
     weights = frame.weights;
     plane = frame.plane;
-    marked = λ p ac.
-        let z : 0 + p ≡ p = omega arith in
-        shows.at p ac.1 ∙ ap (significant x (plan.plane + 1)) z ∙ ap (λ b. significant x (b + 1) p) (sym frame.plane)
-        ∙ told_above f frame.awaits (told_before earlier k) stands.possible.block x (stands.tells stands.possible.block stands.possible.sends) p ac;
+    marked = is;
     leads = record { at = λ v s. same v ∙ sym (append-nil (steps v)) };
     possible = stands.possible;
   }
+
+  -- what the block has above the plane is what it had before
+  pub above_shown : (above : ℕ) → Shows above (significant x (plan.plane + 1)) 0 64 → IsAbove f above
+  above_shown above shows p ac =
+      let z : 0 + p ≡ p = omega arith in
+      shows.at p ac.1 ∙ ap (significant x (plan.plane + 1)) z ∙ ap (λ b. significant x (b + 1) p) (sym frame.plane)
+      ∙ told_above f frame.awaits (told_before earlier k) stands.possible.block x (stands.tells stands.possible.block stands.possible.sends) p ac
 
   pub refine_next : (mask above : ℕ) → k < 5 → ((p : ℕ) → IsAc p → bit above p ≡ significant f.block (f.plane + 1) p) → Shows mask (λ p. bit above p && coded f.weights f.plane p) 0 64 → ((v : List ℤ) → steps_of f k v ≡ refinement_steps v f.weights f.plane) →
       RefinementNext f k earlier [] mask (λ v. [])
@@ -229,10 +234,10 @@ children_shown {f} {plan} {depth} {earlier} {mark} {x} frame deep stands v sends
 
 -- the grandchildren, after what was told of the families and the children
 pub grandchildren_next : {f : Frame} {plan : CodedPlane} {depth : ℕ} {earlier : ℕ → List Step} {mark : ℤ} {x : List ℤ} (frame : IsFrame f plan depth) → f.plane < f.depth → (stands : StandsBefore f 3 earlier mark x) →
-    (above : ℕ) → Shows above (significant x (plan.plane + 1)) 0 64 → (now : ℕ) → Shows now (significant x plan.plane) 0 64 → (families : ℕ) → families ≡ families_in mark →
+    (above : ℕ) → IsAbove f above → (now : ℕ) → Shows now (significant x plan.plane) 0 64 → (families : ℕ) → families ≡ families_in mark →
     GrandchildrenNext f 3 earlier [] plan above now families (λ v. [])
-grandchildren_next {f} {plan} {depth} {earlier} {mark} {x} frame deep stands above shows now shown families same = record {
-  next = stage_next frame stands above shows (omega arith) (λ v. grandchildren_steps v f.weights f.plane) (deep_grandchildren f deep);
+grandchildren_next {f} {plan} {depth} {earlier} {mark} {x} frame deep stands above is now shown families same = record {
+  next = stage_next frame stands above is (omega arith) (λ v. grandchildren_steps v f.weights f.plane) (deep_grandchildren f deep);
   families_are = λ v s. subst (λ t. AreFamilies f t v) (sym same) (stands.families refl deep v s);
   children_are = λ v s i p lt reached low high.
       let z : 0 + p ≡ p = omega arith in

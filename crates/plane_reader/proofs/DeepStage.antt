@@ -76,3 +76,7 @@ module _ {I : Type 0} {k : SourceOf I} {book : Book} {f : Frame} {plan : CodedPl
 
   pub deep_given : (read : Option (Unit {0})) (part : Part) → ((read ≡ Some tt → part ≡ Whole) × (read ≡ None → part ≡ Ended)) → FoundPiece k book f stage earlier [] (steps_of f stage) (MarkSays f stage mark) (Ok read) g h (record { bits = 0; minus = 0 }) n a b → Applies plan.plane n.bits n.minus x y → StageTaken k book f stage earlier (Ok part) g h mark y a b
   deep_given read part is = deep_taken (Ok part) (given_part read part is)
+
+-- a frame has its own depth
+pub own_frame : {f : Frame} {plan : CodedPlane} {depth : ℕ} → IsFrame f plan depth → IsFrame f plan f.depth
+own_frame frame = record { weights = frame.weights; plane = frame.plane; q = frame.q; deep = refl; awaits = frame.awaits }

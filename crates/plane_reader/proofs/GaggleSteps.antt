@@ -21,26 +21,27 @@ use Rattle.bit_pipe.specs.Answers.{part_answer}
 use Rattle.plane_reader.specs.Frames.{Frame, steps_of}
 use Rattle.plane_reader.specs.Stages.{StandsBefore, StageTaken}
 use Rattle.plane_reader.specs.Terms.{IsFrame}
+use Rattle.plane_reader.specs.Above.{KeepsAbove}
 use Rattle.plane_reader.specs.Progress.{Start, IsStart, frame_of, Held, held, kept, with_one, Progress, GoesOn, Stops, Leaves, Reaches, Advances, KeepsGaggles}
 use Rattle.plane_reader.proofs.PlaneSteps.{ReadsBlock, block_further, gaggle_further}
 use Rattle.plane_reader.proofs.PlaneStop.{plane_cut}
 use Rattle.plane_reader.proofs.GaggleMarks.{one_there, one_other, kept_same, block_put, blocks_stay, put_long}
 
 -- what was read up to some place goes on from there
-pub goes_to : {I : Type 0} {source : SourceOf I} {book : Book} {plan : CodedPlane} {k g c stage gaggle block : ℕ} {old new : Held I} → GoesOn source book plan k g c old →
-    Reaches source book plan k g c stage gaggle block old new → GoesOn source book plan stage gaggle block new
+pub goes_to : {I : Type 0} {source : SourceOf I} {book : Book} {plan : CodedPlane} {above : List ℕ} {k g c stage gaggle block : ℕ} {old new : Held I} → GoesOn source book plan above k g c old →
+    Reaches source book plan above k g c stage gaggle block old new → GoesOn source book plan above stage gaggle block new
 goes_to goes reaches = record { start = goes.start; from = goes.from; is_start = goes.is_start; so_far = reaches.so_far goes.start goes.from goes.is_start goes.so_far }
 
-pub reaches_none : {I : Type 0} {source : SourceOf I} {book : Book} {plan : CodedPlane} {k g c : ℕ} (now : Held I) → Reaches source book plan k g c k g c now now
+pub reaches_none : {I : Type 0} {source : SourceOf I} {book : Book} {plan : CodedPlane} {above : List ℕ} {k g c : ℕ} (now : Held I) → Reaches source book plan above k g c k g c now now
 reaches_none now = record { so_far = λ s from start p. p }
 
 -- ---- what a call for a block may use
 
-pub goes_in : {I : Type 0} {source : SourceOf I} {book : Book} {plan : CodedPlane} {k g c : ℕ} {now : Held I} → GoesOn source book plan k g c now → IsIn now.input
+pub goes_in : {I : Type 0} {source : SourceOf I} {book : Book} {plan : CodedPlane} {above : List ℕ} {k g c : ℕ} {now : Held I} → GoesOn source book plan above k g c now → IsIn now.input
 goes_in goes = goes.so_far.is_in
 
-pub goes_known : {I : Type 0} {source : SourceOf I} {book : Book} {plan : CodedPlane} {k g c : ℕ} (h : ℕ) (marks blocks : List ℤ) (x : Gaggle) (input : Coming I) →
-    GoesOn source book plan k g c (held (with_one (kept marks) h x) marks blocks input) → AreOptions x.options
+pub goes_known : {I : Type 0} {source : SourceOf I} {book : Book} {plan : CodedPlane} {above : List ℕ} {k g c : ℕ} (h : ℕ) (marks blocks : List ℤ) (x : Gaggle) (input : Coming I) →
+    GoesOn source book plan above k g c (held (with_one (kept marks) h x) marks blocks input) → AreOptions x.options
 goes_known h marks blocks x input goes = subst (λ y. AreOptions y.options) (one_there (kept marks) h x) (goes.so_far.known h)
 
 -- a call changed block r in the slices
@@ -61,9 +62,9 @@ changes_block marks blocks g r n m b x y i j within cells size long same keeps =
 
 -- ---- one block
 
-module _ {I : Type 0} {source : SourceOf I} {book : Book} {plan : CodedPlane} {k : ℕ} (g c r : ℕ) {now : Held I} {mark : ℤ} {block : List ℤ}
+module _ {I : Type 0} {source : SourceOf I} {book : Book} {plan : CodedPlane} {above : List ℕ} {k : ℕ} (g c r : ℕ) {now : Held I} {mark : ℤ} {block : List ℤ}
     (place : 16 * g + c ≡ r) (within : r < length now.marks) (mark_is : get_or now.marks r (pos 0) ≡ mark) (block_is : block_at now.blocks r ≡ block)
-    (s : Start) {from : Coming I} (start : IsStart s plan) (so_far : Progress source book s k g c from now) where
+    (s : Start) {from : Coming I} (start : IsStart s plan above) (so_far : Progress source book s k g c from now) where
   pub inside : 16 * g + c < length s.depths
   inside = omega (arith, place, within, ap length so_far.depths, length-depths_of now.marks)
 
@@ -82,6 +83,9 @@ module _ {I : Type 0} {source : SourceOf I} {book : Book} {plan : CodedPlane} {k
     awaits = start.awaits (16 * g + c) inside;
   }
 
+  pub above_there : KeepsAbove above r (frame_of s (16 * g + c))
+  above_there = subst (λ n. KeepsAbove above n (frame_of s (16 * g + c))) place (start.masks (16 * g + c) inside)
+
   -- the block stands before its stage
   pub stands_there : StandsBefore (frame_of s (16 * g + c)) k (λ j. steps_of (frame_of s (16 * g + c)) j (get_or so_far.values (16 * g + c) [])) mark block
   stands_there =
@@ -90,11 +94,11 @@ module _ {I : Type 0} {source : SourceOf I} {book : Book} {plan : CodedPlane} {k
       (subst (λ z. StandsBefore (frame_of s (16 * g + c)) k earlier (get_or now.marks (16 * g + c) (pos 0)) z) block_there
       (so_far.after (16 * g + c) (omega arith) inside))
 
-module _ {I : Type 0} {source : SourceOf I} {book : Book} {plan : CodedPlane} {k : ℕ} (g c r : ℕ) {now new : Held I} {result : Result Part TextFault} {mark m : ℤ} {block b : List ℤ} (x y : Gaggle)
+module _ {I : Type 0} {source : SourceOf I} {book : Book} {plan : CodedPlane} {above : List ℕ} {k : ℕ} (g c r : ℕ) {now new : Held I} {result : Result Part TextFault} {mark m : ℤ} {block b : List ℤ} (x y : Gaggle)
     (few : c < 16) (place : 16 * g + c ≡ r) (within : r < length now.marks) (mark_is : get_or now.marks r (pos 0) ≡ mark) (block_is : block_at now.blocks r ≡ block) (x_is : now.gaggles g ≡ x) (y_is : new.gaggles g ≡ y)
     (read : ReadsBlock g r m b now new)
-    (call : (f : Frame) (earlier : ℕ → List Step) → IsFrame f plan (depth_of mark) → StandsBefore f k earlier mark block → StageTaken source book f k earlier result x y m b now.input new.input)
-    (s : Start) (from : Coming I) (start : IsStart s plan) (so_far : Progress source book s k g c from now) where
+    (call : (f : Frame) (earlier : ℕ → List Step) → IsFrame f plan (depth_of mark) → KeepsAbove above r f → StandsBefore f k earlier mark block → StageTaken source book f k earlier result x y m b now.input new.input)
+    (s : Start) (from : Coming I) (start : IsStart s plan above) (so_far : Progress source book s k g c from now) where
   within_plane : 16 * g + c < length s.depths
   within_plane = inside g c r place within mark_is block_is s start so_far
 
@@ -108,7 +112,7 @@ module _ {I : Type 0} {source : SourceOf I} {book : Book} {plan : CodedPlane} {k
   taken =
       subst (λ z. StageTaken source book (frame_of s (16 * g + c)) k earlier result z (new.gaggles g) m b now.input new.input) (sym x_is)
       (subst (λ z. StageTaken source book (frame_of s (16 * g + c)) k earlier result x z m b now.input new.input) (sym y_is)
-      (call (frame_of s (16 * g + c)) earlier (frame_there g c r place within mark_is block_is s start so_far) (stands_there g c r place within mark_is block_is s start so_far)))
+      (call (frame_of s (16 * g + c)) earlier (frame_there g c r place within mark_is block_is s start so_far) (above_there g c r place within mark_is block_is s start so_far) (stands_there g c r place within mark_is block_is s start so_far)))
 
   abbrev Next : Type 0
   Next = Progress source book s k g (c + 1) from new
@@ -129,12 +133,12 @@ module _ {I : Type 0} {source : SourceOf I} {book : Book} {plan : CodedPlane} {k
       by_ending (failed n fault) h = subst (λ z. Leaves z Next Stop) (sym (taken.answer ∙ ap part_answer h)) (stop (subst IsCut (sym h) tt))
 
 -- a call for block r, with slices of the marks and the blocks
-pub call_leaves : {I : Type 0} {source : SourceOf I} {book : Book} {plan : CodedPlane} {k : ℕ} (g r : ℕ) (marks blocks : List ℤ) (x y : Gaggle) (i j : Coming I) (m : ℤ) (b : List ℤ) {result : Result Part TextFault} {old : Held I} →
+pub call_leaves : {I : Type 0} {source : SourceOf I} {book : Book} {plan : CodedPlane} {above : List ℕ} {k : ℕ} (g r : ℕ) (marks blocks : List ℤ) (x y : Gaggle) (i j : Coming I) (m : ℤ) (b : List ℤ) {result : Result Part TextFault} {old : Held I} →
     16 * g ≤ r → r < 16 * g + 16 → r < length marks → length blocks ≡ 64 * length marks → length b ≡ 64 → KeepsGaggles marks (set marks r m) →
-    Reaches source book plan k g 0 k g (r - 16 * g) old (held (with_one (kept marks) g x) marks blocks i) →
-    ((f : Frame) (earlier : ℕ → List Step) → IsFrame f plan (depth_of (get_or marks r (pos 0))) →
+    Reaches source book plan above k g 0 k g (r - 16 * g) old (held (with_one (kept marks) g x) marks blocks i) →
+    ((f : Frame) (earlier : ℕ → List Step) → IsFrame f plan (depth_of (get_or marks r (pos 0))) → KeepsAbove above r f →
     StandsBefore f k earlier (get_or marks r (pos 0)) (take (64 * r + 64 - 64 * r) (drop (64 * r) blocks)) → StageTaken source book f k earlier result x y m b i j) →
-    (s : Start) (from : Coming I) → IsStart s plan → Progress source book s k g 0 from old →
+    (s : Start) (from : Coming I) → IsStart s plan above → Progress source book s k g 0 from old →
     Leaves result (Progress source book s k g (r + 1 - 16 * g) from (held (with_one (kept (set marks r m)) g y) (set marks r m) (put_mid (64 * r) (64 * r + 64 - 64 * r) blocks b) j))
     (Stops source book s k result from j (put_mid (64 * r) (64 * r + 64 - 64 * r) blocks b))
 call_leaves {I = I} {source = source} {book = book} {k = k} g r marks blocks x y i j m b {result = result} low high within cells long keeps reaches call s from start p =
@@ -150,8 +154,8 @@ call_leaves {I = I} {source = source} {book = book} {k = k} g r marks blocks x y
 
 -- ---- a gaggle's end
 
-pub gaggle_ends : {I : Type 0} {source : SourceOf I} {book : Book} {plan : CodedPlane} {k : ℕ} (g c : ℕ) {old now : Held I} → c ≡ min 16 (length now.marks - 16 * g) →
-    Reaches source book plan k g 0 k g c old now → Advances source book plan k g k (g + 1) (Ok Whole) old now
+pub gaggle_ends : {I : Type 0} {source : SourceOf I} {book : Book} {plan : CodedPlane} {above : List ℕ} {k : ℕ} (g c : ℕ) {old now : Held I} → c ≡ min 16 (length now.marks - 16 * g) →
+    Reaches source book plan above k g 0 k g c old now → Advances source book plan above k g k (g + 1) (Ok Whole) old now
 gaggle_ends g c {old = old} {now = now} all reaches = record {
   leaves = λ s from start p.
       let so_far = reaches.so_far s from start p in

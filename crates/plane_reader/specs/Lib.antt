@@ -1,5 +1,6 @@
 pub mod Taken
 pub mod Frames
+pub mod Above
 pub mod Pieces
 pub mod Words
 pub mod Stages

@@ -7,6 +7,7 @@
 //! the octets stand in memory, signs and refinement bits are taken all at once, and else one after another.
 #![tactic(auto)]
 
+mod above;
 mod apply;
 mod children;
 mod found;

@@ -7,6 +7,7 @@ ghost use Rattle.plane_defs.specs.Marks.{depths_of};
 ghost use Rattle.plane_reader.specs.Progress.{held, kept, with_one, GoesOn, Advances, KeepsGaggles, Clears};
 ghost use Rattle.plane_reader.specs.Taken.{AwaitPlane, TakesPlane};
 
+use crate::above::masks_above;
 use crate::stages::{Terms, take_block};
 use bit_pipe::{BitIn, OctetIn, Part, TextFault};
 use block_masks::{CodedPlane, Gaggle, PlanePlan, depth_of, load, mark_of, store};
@@ -42,11 +43,11 @@ fn take_gaggle<I: OctetIn>(
     marks: &mut [i32],
     g: usize,
 ) -> Result<Part, TextFault>
-    requires goes { GoesOn I.source terms.now.tables.now.book terms.now.plan.now number g 0 (held (with_one (kept marks.old) g gaggle.old) marks.old blocks.old (coming input.old)) }
+    requires goes { GoesOn I.source terms.now.tables.now.book terms.now.plan.now terms.now.above.now number g 0 (held (with_one (kept marks.old) g gaggle.old) marks.old blocks.old (coming input.old)) }
     requires number { number < 5 }
     requires whole { length blocks.old ≡ 64 * length marks.old }
     requires within { 16 * g < length marks.old }
-    ensures advances { Advances I.source terms.now.tables.now.book terms.now.plan.now number g number (g + 1) result
+    ensures advances { Advances I.source terms.now.tables.now.book terms.now.plan.now terms.now.above.now number g number (g + 1) result
         (held (with_one (kept marks.old) g gaggle.old) marks.old blocks.old (coming input.old)) (held (with_one (kept marks.new) g gaggle.new) marks.new blocks.new (coming input.new)) }
     ensures marks { KeepsGaggles marks.old marks.new }
     ensures size { length blocks.new ≡ length blocks.old }
@@ -54,7 +55,7 @@ fn take_gaggle<I: OctetIn>(
     let first = GAGGLE * g;
     for r in first..marks.len().min(first + GAGGLE) {
         let block = &mut blocks[BLOCK * r..BLOCK * r + BLOCK];
-        let Part::Whole = take_block(input, terms, gaggle, number, &mut marks[r], block)? else {
+        let Part::Whole = take_block(input, terms, gaggle, number, r, &mut marks[r], block)? else {
             return Ok(Part::Ended);
         };
     }
@@ -69,10 +70,10 @@ fn take_stage<I: OctetIn>(
     blocks: &mut [i32],
     marks: &mut [i32],
 ) -> Result<Part, TextFault>
-    requires goes { GoesOn I.source terms.now.tables.now.book terms.now.plan.now number 0 0 (held (kept marks.old) marks.old blocks.old (coming input.old)) }
+    requires goes { GoesOn I.source terms.now.tables.now.book terms.now.plan.now terms.now.above.now number 0 0 (held (kept marks.old) marks.old blocks.old (coming input.old)) }
     requires number { number < 5 }
     requires whole { length blocks.old ≡ 64 * length marks.old }
-    ensures advances { Advances I.source terms.now.tables.now.book terms.now.plan.now number 0 (number + 1) 0 result
+    ensures advances { Advances I.source terms.now.tables.now.book terms.now.plan.now terms.now.above.now number 0 (number + 1) 0 result
         (held (kept marks.old) marks.old blocks.old (coming input.old)) (held (kept marks.new) marks.new blocks.new (coming input.new)) }
     ensures depths { depths_of marks.new ≡ depths_of marks.old }
     ensures size { length blocks.new ≡ length blocks.old }
@@ -118,9 +119,11 @@ pub fn take_plane_with<I: OctetIn>(
     ensures depths { depths_of marks.new ≡ depths_of marks.old }
 {
     let coded = CodedPlane::new(plan);
+    let above = masks_above(blocks, marks, plan.plane);
     let terms = Terms {
         plan: &coded,
         tables,
+        above: &above,
     };
     clear(marks);
     for number in 0..plan.last + 1 {

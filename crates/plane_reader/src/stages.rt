@@ -14,7 +14,9 @@ ghost use Rattle.plane_reader.specs.Children.{StageNext};
 ghost use Rattle.plane_reader.specs.Blocks.{MarkSays};
 ghost use Rattle.plane_reader.specs.Stages.{StandsBefore, StageTaken};
 ghost use Rattle.plane_reader.specs.Terms.{IsFrame};
+ghost use Rattle.plane_reader.specs.Above.{IsAbove, KeepsAbove};
 
+use crate::above::mask_above;
 use crate::apply::{add_dc, apply};
 use crate::children::take_children;
 use crate::found::Found;
@@ -27,11 +29,12 @@ use block_masks::{
 };
 use word_codes::WordTables;
 
-// A plane and the codes of its words.
+// A plane, the codes of its words, and for the first blocks which of their numbers are significant above it.
 #[derive(Clone, Copy)]
 pub(crate) struct Terms<'a> {
     pub plan: &'a CodedPlane,
     pub tables: &'a WordTables,
+    pub above: &'a [u64; 64],
 }
 
 // Takes the types of the parents, and their signs.
@@ -94,6 +97,7 @@ fn take_words<I: OctetIn>(
     found: &mut Found,
     number: u8,
     mark: &mut i32,
+    above: u64,
     block: &[i32],
 ) -> Result<Option<()>, TextFault>
     requires open { IsIn (coming input.old) }
@@ -101,7 +105,7 @@ fn take_words<I: OctetIn>(
     requires some { 1 ≤ number }
     requires number { number < 5 }
     requires whole { length block.now ≡ 64 }
-    ensures words { (f : Frame) (earlier : ℕ → List Step) → IsFrame f terms.now.plan.now (depth_in mark.old) → f.plane < f.depth → StandsBefore f number earlier mark.old block.now →
+    ensures words { (f : Frame) (earlier : ℕ → List Step) → IsFrame f terms.now.plan.now (depth_in mark.old) → f.plane < f.depth → IsAbove f above → StandsBefore f number earlier mark.old block.now →
         FoundPiece I.source terms.now.tables.now.book f number earlier [] (steps_of f number) (MarkSays f number mark.new) result gaggle.old gaggle.new found.old found.new (coming input.old) (coming input.new) }
     ensures depth { depth_in mark.new ≡ depth_in mark.old }
     ensures options_kept { options_in mark.new ≡ options_in mark.old }
@@ -109,25 +113,14 @@ fn take_words<I: OctetIn>(
     ensures options { AreOptions gaggle.new.options }
     ensures is_in { OnSome result (IsIn (coming input.new)) }
 {
-    let plane = terms.plan.plane;
     match number {
-        1 => {
-            let above = all_reaching(block, plane + 1);
-            take_parents(input, terms, gaggle, found, above)
-        }
-        2 => {
-            let above = all_reaching(block, plane + 1);
-            take_families(input, terms, gaggle, found, above, mark)
-        }
+        1 => take_parents(input, terms, gaggle, found, above),
+        2 => take_families(input, terms, gaggle, found, above, mark),
         3 => {
-            let above = all_reaching(block, plane + 1);
-            let now = all_reaching(block, plane);
+            let now = all_reaching(block, terms.plan.plane);
             take_grandchildren(input, terms, gaggle, found, above, now, families_of(*mark))
         }
-        _ => {
-            let above = all_reaching(block, plane + 1);
-            take_refinement(input, found, both(above, terms.plan.coded))
-        }
+        _ => take_refinement(input, found, both(above, terms.plan.coded)),
     }
 }
 
@@ -168,6 +161,7 @@ fn take_deep<I: OctetIn>(
     terms: &Terms,
     gaggle: &mut Gaggle,
     number: u8,
+    r: usize,
     mark: &mut i32,
     block: &mut [i32],
 ) -> Result<Part, TextFault>
@@ -176,7 +170,7 @@ fn take_deep<I: OctetIn>(
     requires some { 1 ≤ number }
     requires number { number < 5 }
     requires whole { length block.old ≡ 64 }
-    ensures taken { (f : Frame) (earlier : ℕ → List Step) → IsFrame f terms.now.plan.now (depth_in mark.old) → f.plane < f.depth → StandsBefore f number earlier mark.old block.old →
+    ensures taken { (f : Frame) (earlier : ℕ → List Step) → IsFrame f terms.now.plan.now (depth_in mark.old) → f.plane < f.depth → KeepsAbove terms.now.above.now r f → StandsBefore f number earlier mark.old block.old →
         StageTaken I.source terms.now.tables.now.book f number earlier result gaggle.old gaggle.new mark.new block.new (coming input.old) (coming input.new) }
     ensures depth { depth_in mark.new ≡ depth_in mark.old }
     ensures options { options_in mark.new ≡ options_in mark.old }
@@ -184,17 +178,19 @@ fn take_deep<I: OctetIn>(
     ensures size { length block.new ≡ 64 }
 {
     let mut found = Found { bits: 0, minus: 0 };
-    let read = take_words(input, terms, gaggle, &mut found, number, mark, block);
+    let above = mask_above(terms, r, block);
+    let read = take_words(input, terms, gaggle, &mut found, number, mark, above, block);
     apply(found, terms.plan.plane, block);
     Ok(part_of(read?))
 }
 
-// Takes a stage of a block, whose mark tells its depth and keeps its families.
+// Takes a stage of block r, whose mark tells its depth and keeps its families.
 pub(crate) fn take_block<I: OctetIn>(
     input: &mut BitIn<I>,
     terms: &Terms,
     gaggle: &mut Gaggle,
     number: u8,
+    r: usize,
     mark: &mut i32,
     block: &mut [i32],
 ) -> Result<Part, TextFault>
@@ -202,7 +198,7 @@ pub(crate) fn take_block<I: OctetIn>(
     requires number { number < 5 }
     requires known { AreOptions gaggle.old.options }
     requires whole { length block.old ≡ 64 }
-    ensures taken { (f : Frame) (earlier : ℕ → List Step) → IsFrame f terms.now.plan.now (depth_in mark.old) → StandsBefore f number earlier mark.old block.old →
+    ensures taken { (f : Frame) (earlier : ℕ → List Step) → IsFrame f terms.now.plan.now (depth_in mark.old) → KeepsAbove terms.now.above.now r f → StandsBefore f number earlier mark.old block.old →
         StageTaken I.source terms.now.tables.now.book f number earlier result gaggle.old gaggle.new mark.new block.new (coming input.old) (coming input.new) }
     ensures depth { depth_in mark.new ≡ depth_in mark.old }
     ensures options { options_in mark.new ≡ options_in mark.old }
@@ -215,5 +211,5 @@ pub(crate) fn take_block<I: OctetIn>(
     if depth_of(*mark) <= terms.plan.plane {
         return Ok(Part::Whole);
     }
-    take_deep(input, terms, gaggle, number, mark, block)
+    take_deep(input, terms, gaggle, number, r, mark, block)
 }

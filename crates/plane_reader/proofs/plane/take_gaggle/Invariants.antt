@@ -5,7 +5,7 @@ use Rattle.plane_reader.proofs.plane.take_gaggle.Given as goal
 
 abbrev pub invariant-loop-r : goal.invariant-loop-r
 invariant-loop-r g l = record {
-  reaches : Reaches g.I.OctetIn.source l.terms.tables.now.book l.terms.plan.now l.number l.g 0 l.number l.g (l.r - 16 * l.g)
+  reaches : Reaches g.I.OctetIn.source l.terms.tables.now.book l.terms.plan.now l.terms.above.now l.number l.g 0 l.number l.g (l.r - 16 * l.g)
       (held (with_one (kept l.initial.marks) l.g l.initial.gaggle) l.initial.marks l.initial.blocks (coming l.initial.input)) (held (with_one (kept l.marks) l.g l.gaggle) l.marks l.blocks (coming l.input));
   marks : KeepsGaggles l.initial.marks l.marks;
   size : length l.blocks ≡ length l.initial.blocks;

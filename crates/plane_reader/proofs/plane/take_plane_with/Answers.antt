@@ -16,14 +16,14 @@ pub take_stage-requires-clause-goes : goal.take_stage-requires-clause-goes
 take_stage-requires-clause-goes g c = record {
   start = start_of c.args.plan.now c.args.marks.now c.args.blocks.now;
   from = coming c.args.input.now;
-  is_start = is_coded c.args.plan.now c.new-coded.result c.args.marks.now c.args.blocks.now c.new-coded.ensures.plane c.new-coded.ensures.q c.new-coded.ensures.weights c.requires.awaits;
+  is_start = is_coded c.args.plan.now c.new-coded.result c.args.marks.now c.args.blocks.now c.masks_above-above.result c.new-coded.ensures.plane c.new-coded.ensures.q c.new-coded.ensures.weights c.requires.awaits c.masks_above-above.ensures;
   so_far = c.loop-number.invariant.so_far;
 }
 
 pub loop-number-preserved : goal.loop-number-preserved
 loop-number-preserved g c =
     let s = start_of c.args.plan.now c.args.marks.now c.args.blocks.now in
-    let start = is_coded c.args.plan.now c.new-coded.result c.args.marks.now c.args.blocks.now c.new-coded.ensures.plane c.new-coded.ensures.q c.new-coded.ensures.weights c.requires.awaits in
+    let start = is_coded c.args.plan.now c.new-coded.result c.args.marks.now c.args.blocks.now c.masks_above-above.result c.new-coded.ensures.plane c.new-coded.ensures.q c.new-coded.ensures.weights c.requires.awaits c.masks_above-above.ensures in
     let a = rw c.in-Whole.is at c.in_ok-take_stage.ensures.advances in
     record {
       so_far = a.leaves s (coming c.args.input.now) start c.loop-number.invariant.so_far;
@@ -34,7 +34,7 @@ loop-number-preserved g c =
 pub returns-in_err-take_stage-clause-takes : goal.returns-in_err-take_stage-clause-takes
 returns-in_err-take_stage-clause-takes g c =
     let s = start_of c.args.plan.now c.args.marks.now c.args.blocks.now in
-    let start = is_coded c.args.plan.now c.new-coded.result c.args.marks.now c.args.blocks.now c.new-coded.ensures.plane c.new-coded.ensures.q c.new-coded.ensures.weights c.requires.awaits in
+    let start = is_coded c.args.plan.now c.new-coded.result c.args.marks.now c.args.blocks.now c.masks_above-above.result c.new-coded.ensures.plane c.new-coded.ensures.q c.new-coded.ensures.weights c.requires.awaits c.masks_above-above.ensures in
     let stop = c.in_err-take_stage.ensures.advances.leaves s (coming c.args.input.now) start c.loop-number.invariant.so_far in
     let p = err_from_is_err_and c.from_residual.result c.from_residual.ensures.1 in
     rw (p.1, p.2) (stop.takes (c.args.plan.now.last + 1) (omega (arith, c.loop-number-test.true)))
@@ -42,7 +42,7 @@ returns-in_err-take_stage-clause-takes g c =
 pub returns-in_default-clause-takes : goal.returns-in_default-clause-takes
 returns-in_default-clause-takes g c =
     let s = start_of c.args.plan.now c.args.marks.now c.args.blocks.now in
-    let start = is_coded c.args.plan.now c.new-coded.result c.args.marks.now c.args.blocks.now c.new-coded.ensures.plane c.new-coded.ensures.q c.new-coded.ensures.weights c.requires.awaits in
+    let start = is_coded c.args.plan.now c.new-coded.result c.args.marks.now c.args.blocks.now c.masks_above-above.result c.new-coded.ensures.plane c.new-coded.ensures.q c.new-coded.ensures.weights c.requires.awaits c.masks_above-above.ensures in
     let a = rw c.in_default.is at c.in_ok-take_stage.ensures.advances in
     let stop = a.leaves s (coming c.args.input.now) start c.loop-number.invariant.so_far in
     stop.takes (c.args.plan.now.last + 1) (omega (arith, c.loop-number-test.true))

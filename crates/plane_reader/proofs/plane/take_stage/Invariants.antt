@@ -6,7 +6,7 @@ use Rattle.plane_reader.proofs.plane.take_stage.Given as goal
 
 abbrev pub invariant-loop-g : goal.invariant-loop-g
 invariant-loop-g g l = record {
-  reaches : Reaches g.I.OctetIn.source l.terms.tables.now.book l.terms.plan.now l.number 0 0 l.number l.g 0
+  reaches : Reaches g.I.OctetIn.source l.terms.tables.now.book l.terms.plan.now l.terms.above.now l.number 0 0 l.number l.g 0
       (held (kept l.initial.marks) l.initial.marks l.initial.blocks (coming l.initial.input)) (held (kept l.marks) l.marks l.blocks (coming l.input));
   depths : depths_of l.marks ≡ depths_of l.initial.marks;
   size : length l.blocks ≡ length l.initial.blocks;

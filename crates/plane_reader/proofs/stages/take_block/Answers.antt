@@ -6,14 +6,14 @@ use Rattle.plane_reader.proofs.BlockStage.{first_or_later, shallow, stage_none, 
 use Rattle.plane_reader.proofs.stages.take_block.Goals as goal
 
 pub returns-then-depth_of-terms-clause-taken : goal.returns-then-depth_of-terms-clause-taken
-returns-then-depth_of-terms-clause-taken g c = λ f earlier frame stands.
+returns-then-depth_of-terms-clause-taken g c = λ f earlier frame keeps stands.
     let fits : FitsSigned w32 c.args.mark.now = search rules in
     let told : c.depth_of.result ≡ depth_in c.args.mark.now = simp to_z-of_z at c.depth_of.ensures.value in
     stage_none c.requires.known c.requires.open (takes_start g.I.OctetIn.source _ c.requires.open) (first_or_later c.args.number c.if-number-eq0.false) c.requires.number
     (shallow told c.if-depth_of-terms.true) frame stands
 
 pub returns-clause-taken : goal.returns-clause-taken
-returns-clause-taken g c = λ f earlier frame stands.
+returns-clause-taken g c = λ f earlier frame keeps stands.
     let fits : FitsSigned w32 c.args.mark.now = search rules in
     let told : c.depth_of.result ≡ depth_in c.args.mark.now = simp to_z-of_z at c.depth_of.ensures.value in
-    c.take_deep.ensures.taken f earlier frame (is_deep frame told c.if-depth_of-terms.false) stands
+    c.take_deep.ensures.taken f earlier frame (is_deep frame told c.if-depth_of-terms.false) keeps stands

@@ -1,12 +1,12 @@
 use Rattle.std.proofs.lemmas.Result.{err_from_is_err_and}
-use Rattle.plane_reader.proofs.DeepStage.{deep_fault, deep_given}
+use Rattle.plane_reader.proofs.DeepStage.{deep_fault, deep_given, own_frame}
 use Rattle.plane_reader.proofs.stages.take_deep.Goals as goal
 
 pub returns-in_err-read-clause-taken : goal.returns-in_err-read-clause-taken
-returns-in_err-read-clause-taken g c = λ f earlier frame deep stands.
+returns-in_err-read-clause-taken g c = λ f earlier frame deep keeps stands.
     let p = err_from_is_err_and c.from_residual.result c.from_residual.ensures.1 in
-    rw (p.1, p.2) (deep_fault frame deep c.requires.some c.requires.number stands (c.in_err-read.ensures.words f earlier frame deep stands) c.apply.ensures)
+    rw (p.1, p.2) (deep_fault frame deep c.requires.some c.requires.number stands (c.in_err-read.ensures.words f earlier frame deep (c.mask_above-above.ensures f c.args.number earlier c.args.mark.now (own_frame frame) deep keeps stands) stands) c.apply.ensures)
 
 pub returns-clause-taken : goal.returns-clause-taken
-returns-clause-taken g c = λ f earlier frame deep stands.
-    deep_given frame deep c.requires.some c.requires.number stands c.in_ok-read.field-0 c.part_of.result c.part_of.ensures (c.in_ok-read.ensures.words f earlier frame deep stands) c.apply.ensures
+returns-clause-taken g c = λ f earlier frame deep keeps stands.
+    deep_given frame deep c.requires.some c.requires.number stands c.in_ok-read.field-0 c.part_of.result c.part_of.ensures (c.in_ok-read.ensures.words f earlier frame deep (c.mask_above-above.ensures f c.args.number earlier c.args.mark.now (own_frame frame) deep keeps stands) stands) c.apply.ensures
