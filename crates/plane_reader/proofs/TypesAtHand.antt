@@ -1,10 +1,11 @@
 -- The types of a group and their signs, read at once.
-use Rattle.std.proofs.Common.{◌≡◌, ℕ, ◌+◌, ◌-◌, ◌*◌, ◌/◌, ◌%◌, ◌^◌, ◌<◌, ◌≤◌, Bool, true, ◌&&◌, ◌||◌, ℤ, List, [], ◌++◌, refl, sym, ap, subst, ◌∙◌, arith, inl, inr, get_or}
+use Rattle.std.proofs.Common.{◌≡◌, ℕ, zero, suc, ◌+◌, ◌-◌, ◌*◌, ◌/◌, ◌%◌, ◌^◌, ◌<◌, ◌≤◌, Bool, true, ◌&&◌, ◌||◌, ℤ, List, [], ◌++◌, refl, sym, ap, subst, ◌∙◌, arith, inl, inr, get_or}
 use Rattle.std.specs.Prelude.{Ok, Option, Some, count_ones}
 use Rattle.std.proofs.lemmas.Bool.{cases_lt}
 use Rattle.item_defs.specs.Bits.{bit}
 use Rattle.item_defs.specs.Items.{raw, item_bits}
 use Rattle.item_defs.specs.Readings.{whole}
+use Rattle.item_defs.proofs.NumberBits.{bits_none}
 use Rattle.plane_defs.specs.declared.codes.Book.{Book}
 use Rattle.plane_defs.specs.Codes.{word_item}
 use Rattle.plane_defs.specs.Spans.{span}
@@ -31,8 +32,24 @@ use Rattle.plane_reader.proofs.DueReading.{due_given, few_ones}
 use Rattle.plane_reader.proofs.Shadows.{told, shadow, takes_shadow, shadow_in, found_back, between, takes_first, takes_rest, window_parts}
 use Rattle.plane_reader.proofs.SignWindows.{signs_at_once}
 use Rattle.plane_reader.proofs.TypePieces.{due_part, types_word, types_given}
-use Rattle.plane_reader.proofs.WordReading.{word_raw, opens_known, opened_word, option_fits}
+use Rattle.plane_reader.proofs.WordReading.{word_none, word_raw, opens_known, opened_word, option_fits}
 use Rattle.plane_reader.proofs.WordTests.{some_given}
+
+-- a word that needs no option
+pub short_word : (book : Book) (gaggle : Gaggle) (count window : ℕ) → count < 2 → window < 2 ^ 64 → IsWordIn book gaggle count window (record { number = window / 2 ^ 63 * count; len = count })
+short_word book gaggle count window few fits = record {
+  none = λ e. e;
+  fits = by_count count few;
+  few = omega (arith, few);
+  one = λ e. let n : window / 2 ^ 63 * count ≡ window / 2 ^ 63 = (let p : window / 2 ^ 63 * count ≡ window / 2 ^ 63 * 1 = ap (λ m. window / 2 ^ 63 * m) e in omega (arith, p)) in rw (n, e) refl;
+  sent = λ more. absurd (omega (arith, few, more));
+  coded = λ more. absurd (omega (arith, few, more));
+}
+  where
+    by_count : (n : ℕ) → n < 2 → window / 2 ^ 63 * n < 2 ^ n
+    by_count zero lt = omega arith
+    by_count (suc zero) lt = omega (arith, fits)
+    by_count (suc (suc n)) lt = absurd (omega (arith, lt))
 
 module _ {I : Type 0} {k : SourceOf I} (book : Book) {g : Gaggle} (known : AreOptions g.options) {window : ℕ} {a b : Coming I} (is_in : IsIn a) where
   -- the word of a window was taken
@@ -41,10 +58,17 @@ module _ {I : Type 0} {k : SourceOf I} (book : Book) {g : Gaggle} (known : AreOp
     | inl more ↦
         opened_word book count more few g g (opens_known g count more few known is_in (w.sent more) (option_fits g.options count known more few) (takes_start k a is_in))
         (one (word_item book count (get_or g.options (count - 2) 0)) (2 ^ count) w.fits (w.coded more))
-    | inr one_bit ↦
-        let e : count ≡ 1 = omega (arith, one_bit, w.some) in
-        let below : word.number < 2 = (let p : 2 ^ count ≡ 2 = ap (λ n. 2 ^ n) e in omega (arith, p, w.fits)) in
-        subst (λ n. TakesWord k book n (Ok (Some word.number)) g g a b) (sym e) (word_raw book g known is_in (one raw 2 below (w.one e)))
+    | inr less ↦ elim (cases_lt 0 count) [
+      | inl some ↦
+          let e : count ≡ 1 = omega (arith, less, some) in
+          let below : word.number < 2 = (let p : 2 ^ count ≡ 2 = ap (λ n. 2 ^ n) e in omega (arith, p, w.fits)) in
+          subst (λ n. TakesWord k book n (Ok (Some word.number)) g g a b) (sym e) (word_raw book g known is_in (one raw 2 below (w.one e)))
+      | inr most ↦
+          let e : count ≡ 0 = omega (arith, most) in
+          let zero : word.number ≡ 0 = (let p : 2 ^ count ≡ 1 = ap (λ n. 2 ^ n) e in omega (arith, p, w.fits)) in
+          let nothing : first_of word.len window ≡ [] = ap (λ n. first_of n window) (w.none e) ∙ bits_none (window / 2 ^ 64) in
+          rw (e, zero) (word_none book g known is_in (subst (Takes k a b) nothing t))
+    ]
   ]
     where
       one : (item : ℕ → _) (most : ℕ) → word.number < most → item_bits (item word.number) ≡ first_of word.len window → TakesOne k (IsBelow most) item (Ok (Some word.number)) a b

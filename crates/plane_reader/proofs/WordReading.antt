@@ -88,10 +88,10 @@ whole_before n (failed m f) e = absurd (subst IsCut e tt)
 
 module _ {I : Type 0} {k : SourceOf I} (book : Book) (g : Gaggle) (known : AreOptions g.options) where
   -- an empty word is nothing
-  pub word_none : {a : Coming I} → IsIn a → Takes k a a [] → TakesWord k book 0 (Ok (Some 0)) g g a a
+  pub word_none : {a b : Coming I} → IsIn a → Takes k a b [] → TakesWord k book 0 (Ok (Some 0)) g g a b
   unfolding entry_reading
   word_none i t = record {
-    is_in = λ e. i;
+    is_in = λ e. in_later i t;
     value = 0;
     fits = omega arith;
     ending = stopped whole;

@@ -12,9 +12,9 @@ use Rattle.bit_pipe.specs.declared.front.Front.{Front}
 use Rattle.bit_pipe.specs.Windows.{first_of}
 use Rattle.plane_reader.specs.declared.hand.Types.{Types}
 
--- a word of some bits, and how many spell it: it is raw where it has one bit, and else by the option that is known of its length
+-- a word of so many bits, and how many spell it: one bit is raw, and more are spelled by the option that is known of their number
 pub record IsWordIn (book : Book) (gaggle : Gaggle) (count window : ℕ) (word : Front) : Type 0 where
-  pub some : 1 ≤ count
+  pub none : count ≡ 0 → word.len ≡ 0
   pub fits : word.number < 2 ^ count
   pub few : word.len ≤ 8
   pub one : count ≡ 1 → item_bits (raw word.number) ≡ first_of word.len window

@@ -9,7 +9,8 @@ use bit_pipe::Front;
 use block_masks::{Gaggle, spread};
 use word_codes::{WordTables, word_in};
 
-// The word of so many bits that stands first in a window, and how many bits spell it: where it has one bit, or its option is known.
+// The word of so many bits that stands first in a window, and how many bits spell it, where it needs no option or its option is
+// known.
 #[inline(always)]
 fn known_word(tables: &WordTables, gaggle: &Gaggle, count: u8, window: u64) -> Option<Front>
     requires few { count ≤ 4 }
@@ -17,11 +18,10 @@ fn known_word(tables: &WordTables, gaggle: &Gaggle, count: u8, window: u64) -> O
     ensures { IfSome result (IsWordIn tables.now.book gaggle.now count window) }
 {
     if count < 2 {
-        let bit = Front {
-            number: (window >> 63) as u8,
-            len: 1,
-        };
-        return (count == 1).then_some(bit);
+        return Some(Front {
+            number: (window >> 63) as u8 * count,
+            len: count,
+        });
     }
     let place = count as usize - 2;
     if !gaggle.sent[place] {
@@ -38,8 +38,8 @@ pub(crate) struct Types {
     pub len: u8,
 }
 
-// The types of these due places and the signs that come with them, as they stand first in a window. None come where there is no
-// word, its option isn't known, or one type at least must be 1 and none is.
+// The types of these due places and the signs that come with them, as they stand first in a window. None come where the word's
+// option isn't known, or where one type at least must be 1 and none is.
 #[inline(always)]
 pub(crate) fn types_in(
     tables: &WordTables,
