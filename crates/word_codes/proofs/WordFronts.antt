@@ -1,10 +1,11 @@
 -- The codes of an option, by the octets that they begin.
-use Rattle.std.proofs.Common.{◌≡◌, ℕ, zero, suc, ◌+◌, ◌-◌, ◌*◌, ◌/◌, ◌%◌, ◌^◌, ◌<◌, ◌≤◌, Bool, true, List, [], ◌∷◌, ◌++◌, length, take, get_or, refl, sym, ap, ◌∙◌, arith, append_assoc, length-append}
+use Rattle.std.proofs.Common.{◌≡◌, ℕ, zero, suc, ◌+◌, ◌-◌, ◌*◌, ◌/◌, ◌%◌, ◌^◌, ◌<◌, ◌≤◌, Bool, true, List, [], ◌∷◌, ◌++◌, length, take, get_or, refl, sym, ap, ◌∙◌, arith, append_assoc, length-append, inl, inr, subst}
+use Rattle.std.proofs.lemmas.Bool.{cases_lt}
 use Rattle.std.proofs.lemmas.List.{take_at}
 use Rattle.std.proofs.lemmas.Nat.{shr_split, shr_high, mod_below, pow_pos, shr_below, one_shl, pow-add}
 use Rattle.std.proofs.Math.Nat.{mul-le-mul_right}
 use Rattle.item_defs.specs.Bits.{bits_of}
-use Rattle.item_defs.specs.Items.{coded, spelling, item_bits}
+use Rattle.item_defs.specs.Items.{fixed, coded, spelling, item_bits}
 use Rattle.item_defs.specs.Readings.{Lacks}
 use Rattle.item_defs.proofs.NumberBits.{length-bits_of, bits_of-split, same_number}
 use Rattle.bit_pipe.specs.declared.front.Front.{Front}
@@ -14,9 +15,10 @@ use Rattle.plane_defs.specs.declared.codes.Book.{Book}
 use Rattle.plane_defs.specs.Codes.{symbol, table, table_place, is_book_sound, code_at, code_bits, codes_of, word_item}
 use Rattle.plane_defs.proofs.Tables.{sound_table}
 use Rattle.plane_defs.proofs.ReadOnce.{begins, code_there, words}
-use Rattle.word_codes.specs.WordFronts.{Begins, FrontOf, AreFronts}
+use Rattle.word_codes.specs.WordFronts.{Begins, FrontOf, AreFronts, ArePlain, row_place}
+use Rattle.word_codes.specs.declared.tables.WordTables.{WordTables}
 use Rattle.word_codes.proofs.CodeSearch.{past_prefix, code_length, said_below, below_said}
-use Rattle.word_codes.proofs.Words.{is_coded}
+use Rattle.word_codes.proofs.Words.{is_plain, is_coded}
 
 -- ---- the octets between two places that differ by a power of two
 
@@ -144,25 +146,69 @@ module _ (book : Book) (n option : ℕ) (sound : is_book_sound book ≡ true) (l
       lacks = told_lacks;
     }
 
+-- ---- words that are sent as they are
+
+pub tells_plain : (book : Book) (n option : ℕ) → option + 1 ≡ n → n ≤ 4 → (fronts : List Front) → ArePlain n fronts → Tells (2 ^ n) (word_item book n option) fronts
+tells_plain book n option e high fronts all = record {
+  shape = fixed n;
+  same = λ w. rw (is_plain n option e) refl;
+  known = λ octet small. rw (all octet small) (below octet small);
+  said = λ octet small. rw (is_plain n option e) (rw (all octet small) (below octet small));
+  few = λ octet small. rw (all octet small) (omega arith);
+  first = λ octet small. rw (is_plain n option e) (rw (all octet small) refl);
+  lacks = λ octet count small less m more said eq.
+      let len : (front_at fronts octet).len ≡ n = ap (λ f. f.len) (all octet small) in
+      absurd (omega (arith, less, len, ap length eq, length-append (bits_of n m) more, length-bits_of n m, length-bits_of count (octet / 2 ^ (8 - count))));
+}
+  where
+    below : (octet : ℕ) → octet < 256 → octet / 2 ^ (8 - n) < 2 ^ n
+    below octet small =
+        let whole : n + (8 - n) ≡ 8 = omega arith in
+        shr_below octet n (8 - n) (rw whole small)
+
 -- ---- all options
 
 abbrev Row : Book → ℕ → ℕ → List Front → Type 0
 Row book n option row = AreFronts book n option row
 
-pub all_told : (book : Book) (a b c d e f : List Front) → Row book 2 0 a → Row book 3 0 b → Row book 3 1 c → Row book 4 0 d → Row book 4 1 e → Row book 4 2 f →
-    (n option : ℕ) → 2 ≤ n → n ≤ 4 → option + 1 < n → Row book n option (get_or (a ∷ b ∷ c ∷ d ∷ e ∷ f ∷ []) (table_place n option) [])
-all_told book a b c d e f ta tb tc td te tf = rows
-  where
-    rows : (n option : ℕ) → 2 ≤ n → n ≤ 4 → option + 1 < n → Row book n option (get_or (a ∷ b ∷ c ∷ d ∷ e ∷ f ∷ []) (table_place n option) [])
-    rows zero option low high lt = absurd (omega arith)
-    rows (suc zero) option low high lt = absurd (omega arith)
-    rows (suc (suc zero)) zero low high lt = ta
-    rows (suc (suc zero)) (suc option) low high lt = absurd (omega arith)
-    rows (suc (suc (suc zero))) zero low high lt = tb
-    rows (suc (suc (suc zero))) (suc zero) low high lt = tc
-    rows (suc (suc (suc zero))) (suc (suc option)) low high lt = absurd (omega arith)
-    rows (suc (suc (suc (suc zero)))) zero low high lt = td
-    rows (suc (suc (suc (suc zero)))) (suc zero) low high lt = te
-    rows (suc (suc (suc (suc zero)))) (suc (suc zero)) low high lt = tf
-    rows (suc (suc (suc (suc zero)))) (suc (suc (suc option))) low high lt = absurd (omega arith)
-    rows (suc (suc (suc (suc (suc n))))) option low high lt = absurd (omega arith)
+module _ (book : Book) (a b c d e f g h i : List Front) where
+  abbrev rows : List (List Front)
+  rows = a ∷ b ∷ c ∷ d ∷ e ∷ f ∷ g ∷ h ∷ i ∷ []
+
+  pub all_told : Row book 2 0 a → Row book 3 0 c → Row book 3 1 d → Row book 4 0 f → Row book 4 1 g → Row book 4 2 h → (n option : ℕ) → 2 ≤ n → n ≤ 4 → option + 1 < n → Row book n option (get_or rows (row_place n option) [])
+  all_told ta tc td tf tg th = each
+    where
+      each : (n option : ℕ) → 2 ≤ n → n ≤ 4 → option + 1 < n → Row book n option (get_or rows (row_place n option) [])
+      each zero option low high lt = absurd (omega arith)
+      each (suc zero) option low high lt = absurd (omega arith)
+      each (suc (suc zero)) zero low high lt = ta
+      each (suc (suc zero)) (suc option) low high lt = absurd (omega arith)
+      each (suc (suc (suc zero))) zero low high lt = tc
+      each (suc (suc (suc zero))) (suc zero) low high lt = td
+      each (suc (suc (suc zero))) (suc (suc option)) low high lt = absurd (omega arith)
+      each (suc (suc (suc (suc zero)))) zero low high lt = tf
+      each (suc (suc (suc (suc zero)))) (suc zero) low high lt = tg
+      each (suc (suc (suc (suc zero)))) (suc (suc zero)) low high lt = th
+      each (suc (suc (suc (suc zero)))) (suc (suc (suc option))) low high lt = absurd (omega arith)
+      each (suc (suc (suc (suc (suc n))))) option low high lt = absurd (omega arith)
+
+  pub all_plain : ArePlain 2 b → ArePlain 3 e → ArePlain 4 i → (n : ℕ) → 2 ≤ n → n ≤ 4 → ArePlain n (get_or rows (row_place n (n - 1)) [])
+  all_plain tb te ti = each
+    where
+      each : (n : ℕ) → 2 ≤ n → n ≤ 4 → ArePlain n (get_or rows (row_place n (n - 1)) [])
+      each zero low high = absurd (omega arith)
+      each (suc zero) low high = absurd (omega arith)
+      each (suc (suc zero)) low high = tb
+      each (suc (suc (suc zero))) low high = te
+      each (suc (suc (suc (suc zero)))) low high = ti
+      each (suc (suc (suc (suc (suc n))))) low high = absurd (omega arith)
+
+-- the table of an option tells its words
+pub row_tells : (t : WordTables) (n option : ℕ) → 2 ≤ n → n ≤ 4 → option < n → Tells (2 ^ n) (word_item t.book n option) (get_or t.rows (row_place n option) [])
+row_tells t n option low high known = elim (cases_lt (option + 1) n) [
+  | inl coded_one ↦ tells_words t.book n option t.sound low high coded_one _ (t.told n option low high coded_one)
+  | inr most ↦
+      let last : option + 1 ≡ n = omega (arith, most, known) in
+      let there : n - 1 ≡ option = omega (arith, last) in
+      tells_plain t.book n option last high _ (subst (λ o. ArePlain n (get_or t.rows (row_place n o) [])) there (t.plain n low high))
+]

@@ -1,5 +1,5 @@
 -- Which word's code stands first in an octet. (This project's own.)
-use Rattle.std.specs.Prelude.{◌≡◌, ◌<◌, ℕ, ◌^◌, List}
+use Rattle.std.specs.Prelude.{◌≡◌, ◌<◌, ℕ, ◌+◌, ◌-◌, ◌*◌, ◌/◌, ◌^◌, List}
 use Rattle.bit_pipe.specs.declared.front.Front.{Front}
 use Rattle.bit_pipe.specs.Fronts.{front_at, first_bits}
 use Rattle.plane_defs.specs.declared.codes.Code.{Code}
@@ -19,3 +19,11 @@ pub record FrontOf (book : Book) (n option s : ℕ) (front : Front) : Type 0 whe
 -- each octet has the front of the symbol whose code stands first in it
 pub record AreFronts (book : Book) (n option : ℕ) (fronts : List Front) : Type 0 where
   pub at : (octet s : ℕ) → octet < 256 → s < 2 ^ n → Begins (code_at book n option s) octet → FrontOf book n option s (front_at fronts octet)
+
+-- each octet has its first bits in front, as they are
+abbrev pub ArePlain : (n : ℕ) → List Front → Type 0
+ArePlain n fronts = (octet : ℕ) → octet < 256 → front_at fronts octet ≡ record { number = octet / 2 ^ (8 - n); len = n }
+
+-- where the table of an option stands, those of two bits first
+abbrev pub row_place : (n option : ℕ) → ℕ
+row_place n option = n * (n - 1) / 2 - 1 + option

@@ -2,8 +2,8 @@
 
 ghost use Rattle.std.specs.Prelude.{◌≡◌, ◌≤◌, ◌<◌, ◌+◌, ◌-◌, ◌/◌, ◌^◌, ℕ, IsTrue, [], slice_index_or};
 ghost use Rattle.bit_pipe.specs.Fronts.{front_at};
-ghost use Rattle.plane_defs.specs.Codes.{is_book_sound, table_place};
-ghost use Rattle.word_codes.specs.WordFronts.{AreFronts};
+ghost use Rattle.plane_defs.specs.Codes.{is_book_sound};
+ghost use Rattle.word_codes.specs.WordFronts.{AreFronts, ArePlain, row_place};
 
 use crate::choice::table_at;
 use crate::put::trimmed;
@@ -13,15 +13,16 @@ use plane_defs::{Book, Code};
 
 const NOTHING: Front = Front { number: 0, len: 0 };
 
-/// For each coded option, which word's code stands first in an octet, as a sound book has the codes (docs/formats.md, "Words
-/// and codes"). Made once, it serves all words that are read.
+/// For each option of words of 2 to 4 bits, which word stands first in an octet, as a sound book has the codes (docs/formats.md,
+/// "Words and codes"). Made once, it serves all words that are read.
 #[derive(Drop)]
 pub struct WordTables {
     /// The book that the tables are of.
     pub book: Book,
-    pub(crate) rows: [[Front; 256]; 6],
+    pub(crate) rows: [[Front; 256]; 9],
     ghost sound: { IsTrue (is_book_sound book) },
-    ghost told: { (n option : ℕ) → 2 ≤ n → n ≤ 4 → option + 1 < n → AreFronts book n option (slice_index_or rows (table_place n option) []) },
+    ghost told: { (n option : ℕ) → 2 ≤ n → n ≤ 4 → option + 1 < n → AreFronts book n option (slice_index_or rows (row_place n option) []) },
+    ghost plain: { (n : ℕ) → 2 ≤ n → n ≤ 4 → ArePlain n (slice_index_or rows (row_place n (n - 1)) []) },
 }
 
 // The octets that begin with a code have it in front.
@@ -62,6 +63,36 @@ fn fronts_of(book: &Book, length: u8, option: u8) -> [Front; 256]
     fronts
 }
 
+// The table of the option that sends the words as they are.
+fn plain_fronts(length: u8) -> [Front; 256]
+    requires long { length ≤ 4 }
+    ensures { ArePlain length result }
+{
+    let mut fronts = [NOTHING; 256];
+    for octet in 0..256usize {
+        fronts[octet] = Front {
+            number: (octet >> (8 - length)) as u8,
+            len: length,
+        };
+    }
+    fronts
+}
+
+// Where the tables of the options of words of so many bits begin.
+const FIRST_ROWS: [usize; 5] = [0, 0, 0, 2, 5];
+
+// Where the table of an option stands.
+#[inline(always)]
+pub(crate) fn row_at(length: u8, option: u8) -> usize
+    requires short { 2 ≤ length }
+    requires long { length ≤ 4 }
+    requires known { option < length }
+    ensures value { result ≡ row_place length option }
+    ensures within { result < 9 }
+{
+    FIRST_ROWS[length as usize] + option as usize
+}
+
 impl WordTables {
     /// What a sound book gives.
     pub fn new(book: &Book) -> WordTables
@@ -72,11 +103,14 @@ impl WordTables {
             book: *book,
             rows: [
                 fronts_of(book, 2, 0),
+                plain_fronts(2),
                 fronts_of(book, 3, 0),
                 fronts_of(book, 3, 1),
+                plain_fronts(3),
                 fronts_of(book, 4, 0),
                 fronts_of(book, 4, 1),
                 fronts_of(book, 4, 2),
+                plain_fronts(4),
             ],
         }
     }

@@ -7,8 +7,7 @@ ghost use Rattle.bit_pipe.specs.Windows.{first_of};
 ghost use Rattle.item_defs.specs.Items.{item_bits};
 ghost use Rattle.plane_defs.specs.Codes.{is_book_sound, word_item, identifier_width, identifier_number, names_option, option_item};
 
-use crate::choice::table_at;
-use crate::tables::WordTables;
+use crate::tables::{WordTables, row_at};
 use bit_pipe::{BitIn, Front, OctetIn, TextFault};
 use plane_defs::Book;
 
@@ -81,13 +80,7 @@ pub fn take_word_by<I: OctetIn>(
     requires known { option < length }
     ensures { TakesOne I.source (IsBelow (2 ^ length)) (word_item tables.now.book length option) result (coming input.old) (coming input.new) }
 {
-    if option + 1 == length {
-        let Some(word) = input.take_bits(length)? else {
-            return Ok(None);
-        };
-        return Ok(Some(word as u8));
-    }
-    input.take_front(&tables.rows[table_at(length, option)])
+    input.take_front(&tables.rows[row_at(length, option)])
 }
 
 /// The word of 2 to 4 bits whose code stands first in a window of bits to come, the first highest, and how many bits the code has
@@ -103,13 +96,7 @@ pub fn word_in(tables: &WordTables, option: u8, length: u8, window: u64) -> Fron
     ensures few { result.len ≤ 8 }
     ensures first { item_bits (word_item tables.now.book length option result.number) ≡ first_of result.len window }
 {
-    if option + 1 == length {
-        return Front {
-            number: (window >> (64 - length)) as u8,
-            len: length,
-        };
-    }
-    tables.rows[table_at(length, option)][(window >> 56) as usize]
+    tables.rows[row_at(length, option)][(window >> 56) as usize]
 }
 
 /// `take_word_by` for one word, by a sound book.
