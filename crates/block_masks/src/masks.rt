@@ -12,7 +12,7 @@ use std::simd::prelude::*;
 
 // Reads sixteen numbers for the proof, which then knows that each fits its type. No code is left of it.
 #[inline(always)]
-fn read(block: &[i32], start: usize)
+pub(crate) fn read(block: &[i32], start: usize)
     requires { start + 16 ≤ length block.now }
     ensures { (k : ℕ) → k < 16 → FitsSigned w32 (slice_index_or block.now (start + k) (pos 0)) }
 {
