@@ -1,10 +1,10 @@
 -- From the lanes of sixteen numbers to a mask.
-use Rattle.std.proofs.Common.{◌≡◌, ℕ, ◌+◌, ◌-◌, ◌*◌, ◌/◌, ◌%◌, ◌<◌, ◌≤◌, ◌^◌, ℤ, pos, negsuc, Bool, true, false, cond, List, length, take, drop, map, get_or, replicate, ◌-ℤ◌, ◌≤ℤ◌, zero, suc, ◌||◌, unsigned_abs, bit_or, nat_lt, nat_le, FitsSigned, refl, ap, sym, ◌∙◌, subst, arith, w32}
+use Rattle.std.proofs.Common.{◌≡◌, ℕ, ◌+◌, ◌-◌, ◌*◌, ◌/◌, ◌%◌, ◌<◌, ◌≤◌, ◌^◌, ℤ, pos, negsuc, Bool, true, false, cond, List, length, take, drop, map, get_or, replicate, ◌+ℤ◌, ◌*ℤ◌, ◌≤ℤ◌, ◌<ℤ◌, unsigned_abs, nat_lt, nat_le, FitsSigned, refl, ap, sym, ◌∙◌, subst, arith, w32}
 use Rattle.std.specs.Prelude.{◌==◌}
 use Rattle.std.specs.Simd.Lanes.{mask_l, top, zip2}
 use Rattle.std.proofs.lemmas.List.{get_or-map, get_or-take, get_or-drop, length-map, length-take, length-drop}
-use Rattle.std.proofs.lemmas.Simd.{bit_mask_l, mask_l-lt, mask_l-mod, zip2_splat, zip2_splat_left, zip2_of_maps, map-map}
-use Rattle.std.proofs.lemmas.Int.{to_z-of_z, to_z_pos}
+use Rattle.std.proofs.lemmas.Simd.{bit_mask_l, mask_l-lt, mask_l-mod, zip2_splat, zip2_of_maps, splat_is_map, map-map}
+use Rattle.std.proofs.lemmas.Int.{ints, to_z-of_z, to_z_pos}
 use Rattle.std.proofs.Math.Pow.{pow_mono}
 use lib.Signed.{lt_z}
 use mir.Val.{of_z, to_z}
@@ -57,17 +57,17 @@ compared op y f cells start within each =
     ap (map (top 31)) (zip2_splat op (lanes cells start) 16 y long) ∙ map-map (top 31) (λ x. op x y) (lanes cells start) in
     subst (λ ms. Shows (mask_l ms % 2 ^ 64) f start 16) (sym step) (shown (λ x. top 31 (op x y)) f cells start within each)
 
--- two comparisons with one number each
-pub compared_twice : (o g h : ℕ → ℕ → ℕ) (y z : ℕ) (f : ℕ → Bool) (cells : List ℤ) (start : ℕ) → start + 16 ≤ length cells →
-    ((k : ℕ) → k < 16 → top 31 (o (g y (of_z w32 (get_or cells (start + k) (pos 0)))) (h (of_z w32 (get_or cells (start + k) (pos 0))) z)) ≡ f (start + k)) →
-    Shows (mask_l (map (top 31) (zip2 o (zip2 g (replicate 16 y) (lanes cells start)) (zip2 h (lanes cells start) (replicate 16 z)))) % 2 ^ 64) f start 16
-compared_twice o g h y z f cells start within each =
+-- a comparison with a sum
+pub compared_sum : (less add : ℕ → ℕ → ℕ) (y z : ℕ) (f : ℕ → Bool) (cells : List ℤ) (start : ℕ) → start + 16 ≤ length cells →
+    ((k : ℕ) → k < 16 → top 31 (less y (add (of_z w32 (get_or cells (start + k) (pos 0))) z)) ≡ f (start + k)) →
+    Shows (mask_l (map (top 31) (zip2 less (replicate 16 y) (zip2 add (lanes cells start) (replicate 16 z)))) % 2 ^ 64) f start 16
+compared_sum less add y z f cells start within each =
     let long = length-lanes cells start within in
     let xs = lanes cells start in
-    let both = zip2_of_maps o (λ x. g y x) (λ x. h x z) xs (zip2_splat_left g y 16 xs long) (zip2_splat h xs 16 z long) in
-    let step : map (top 31) (zip2 o (zip2 g (replicate 16 y) xs) (zip2 h xs (replicate 16 z))) ≡ map (λ x. top 31 (o (g y x) (h x z))) xs =
-    ap (map (top 31)) both ∙ map-map (top 31) (λ x. o (g y x) (h x z)) xs in
-    subst (λ ms. Shows (mask_l ms % 2 ^ 64) f start 16) (sym step) (shown (λ x. top 31 (o (g y x) (h x z))) f cells start within each)
+    let both = zip2_of_maps less (λ x. y) (λ x. add x z) xs (splat_is_map xs 16 y long) (zip2_splat add xs 16 z long) in
+    let step : map (top 31) (zip2 less (replicate 16 y) (zip2 add xs (replicate 16 z))) ≡ map (λ x. top 31 (less y (add x z))) xs =
+    ap (map (top 31)) both ∙ map-map (top 31) (λ x. less y (add x z)) xs in
+    subst (λ ms. Shows (mask_l ms % 2 ^ 64) f start 16) (sym step) (shown (λ x. top 31 (less y (add x z))) f cells start within each)
 
 -- ---- one lane
 
@@ -82,31 +82,27 @@ top_of false = refl
 pub negative_lane : (z : ℤ) → FitsSigned w32 z → top 31 (cond (lt_z (to_z w32 (of_z w32 z)) (pos 0)) 4294967295 0) ≡ negative z
 negative_lane z fits = rw (to_z-of_z w32 z fits) (top_of (lt_z z (pos 0)) ∙ below_zero z)
 
-either_top : (a b : Bool) → top 31 (bit_or (cond a 4294967295 0) (cond b 4294967295 0)) ≡ (a || b)
-either_top true true = refl
-either_top true false = refl
-either_top false true = refl
-either_top false false = refl
+-- the least number and one more
+over_least : (n : ℕ) → n < 2147483648 → of_z w32 (negsuc 2147483647 +ℤ pos n) ≡ 2147483648 + n
+over_least n small = omega (arith, ints)
 
-opposite : (n : ℕ) → pos 0 -ℤ pos (suc n) ≡ negsuc n
-opposite n = grind arith
+least_and : (n : ℕ) → n < 2147483648 → to_z w32 (2147483648 + n) ≡ negsuc 2147483647 +ℤ pos n
+least_and n small = grind (arith, ints)
 
-fits_opposite : (n : ℕ) → FitsSigned w32 (pos n) → FitsSigned w32 (pos 0 -ℤ pos n)
-fits_opposite zero fits = fits
-fits_opposite (suc n) fits = rw (opposite n) (record { sfits = omega (arith, fits.sfits) })
+-- the least number and n, added in arithmetic that wraps, take -n to the least number and n to the 2n-th after it
+past : (n : ℕ) (z : ℤ) → n < 1073741824 → FitsSigned w32 z → lt_z (negsuc 2147483647 +ℤ pos (2 * n)) (to_z w32 ((of_z w32 z + (2147483648 + n)) % 4294967296)) ≡ nat_lt n (unsigned_abs z)
+past n (pos a) few fits = grind (arith, ints, fits.sfits)
+past n (negsuc a) few fits = grind (arith, ints, fits.sfits)
 
-past : (n : ℕ) (z : ℤ) → (lt_z (pos n) z || lt_z z (pos 0 -ℤ pos n)) ≡ nat_lt n (unsigned_abs z)
-past zero (pos a) = grind arith
-past (suc n) (pos a) = rw (opposite n) (grind arith)
-past zero (negsuc a) = grind arith
-past (suc n) (negsuc a) = rw (opposite n) (grind arith)
-
-pub outside_lane : (m z : ℤ) → pos 0 ≤ℤ m → FitsSigned w32 m → FitsSigned w32 z →
-    top 31 (bit_or (cond (lt_z (to_z w32 (of_z w32 m)) (to_z w32 (of_z w32 z))) 4294967295 0)
-    (cond (lt_z (to_z w32 (of_z w32 z)) (to_z w32 (of_z w32 (pos 0 -ℤ to_z w32 (of_z w32 m))))) 4294967295 0)) ≡ nat_lt (unsigned_abs m) (unsigned_abs z)
+pub outside_lane : (m z : ℤ) → pos 0 ≤ℤ m → m <ℤ pos (2 ^ 30) → FitsSigned w32 z →
+    top 31 (cond (lt_z (to_z w32 (of_z w32 (negsuc 2147483647 +ℤ to_z w32 (of_z w32 (pos 2 *ℤ to_z w32 (of_z w32 m))))))
+    (to_z w32 ((of_z w32 z + of_z w32 (negsuc 2147483647 +ℤ to_z w32 (of_z w32 m))) % 4294967296))) 4294967295 0) ≡ nat_lt (unsigned_abs m) (unsigned_abs z)
 outside_lane (pos n) z low few fits =
-    rw (to_z-of_z w32 (pos n) few, to_z-of_z w32 z fits, to_z-of_z w32 (pos 0 -ℤ pos n) (fits_opposite n few))
-    (either_top (lt_z (pos n) z) (lt_z z (pos 0 -ℤ pos n)) ∙ past n z)
+    let small : n < 1073741824 = grind (arith, few) in
+    let same : to_z w32 (of_z w32 (pos n)) ≡ pos n = omega (arith, ints) in
+    let twice : to_z w32 (of_z w32 (pos 2 *ℤ pos n)) ≡ pos (2 * n) = omega (arith, ints) in
+    rw (same, twice, over_least (2 * n) (omega arith), over_least n (omega arith), least_and (2 * n) (omega arith))
+    (top_of (lt_z (negsuc 2147483647 +ℤ pos (2 * n)) (to_z w32 ((of_z w32 z + (2147483648 + n)) % 4294967296))) ∙ past n z small fits)
 outside_lane (negsuc n) z low few fits = absurd (omega (arith, low))
 
 -- ---- a mask told in other words
@@ -116,6 +112,14 @@ shows_same {start = start} same shows = record { at = λ k below. shows.at k bel
 
 pub reached : (m n plane : ℕ) → n + 1 ≡ 2 ^ plane → nat_lt n m ≡ nat_le (2 ^ plane) m
 reached m n plane e = grind arith
+
+pub below_half : (plane : ℕ) → plane < 31 → to_z w32 (1 * 2 ^ plane % 4294967296 - 1) <ℤ pos (2 ^ 30)
+below_half plane low =
+    let under : plane ≤ 30 = omega arith in
+    let from : 0 ≤ plane = omega arith in
+    let most : 2 ^ plane ≤ 2 ^ 30 = pow_mono under in
+    let some : 2 ^ 0 ≤ 2 ^ plane = pow_mono from in
+    omega (arith, ints)
 
 pub one_less : (plane : ℕ) → plane < 31 → unsigned_abs (to_z w32 (1 * 2 ^ plane % 4294967296 - 1)) + 1 ≡ 2 ^ plane
 one_less plane low =

@@ -1,5 +1,7 @@
 pub mod LaneMasks
 pub mod SizeLanes
+pub mod SettingLanes
+pub mod SettingParts
 pub mod Maskings
 pub mod Picking
 pub mod Viewing

@@ -12,7 +12,7 @@ use Rattle.item_defs.specs.Bits.{bit}
 use Rattle.block_masks.specs.Masks.{Shows}
 use Rattle.block_masks.proofs.LaneMasks.{lanes, length-lanes, shown}
 
-sel_of_maps : (p : ℕ → Bool) (g h : ℕ → ℕ) (vs : List ℕ) → sel_l (map p vs) (map g vs) (map h vs) ≡ map (λ v. cond (p v) (g v) (h v)) vs
+pub sel_of_maps : (p : ℕ → Bool) (g h : ℕ → ℕ) (vs : List ℕ) → sel_l (map p vs) (map g vs) (map h vs) ≡ map (λ v. cond (p v) (g v) (h v)) vs
 sel_of_maps p g h [] = refl
 sel_of_maps p g h (v ∷ vs) = ap (λ l. cond (p v) (g v) (h v) ∷ l) (sel_of_maps p g h vs)
 
@@ -32,7 +32,7 @@ apart a b = cond (not (eqb a b)) 4294967295 0
 abbrev pub sizes : List ℕ → List ℕ
 sizes xs = sel_l (map (top 31) (zip2 less xs (zip2 minus (replicate 16 0) xs))) (zip2 minus (replicate 16 0) xs) xs
 
-sizes_are : (xs : List ℕ) → length xs ≡ 16 → sizes xs ≡ map size xs
+pub sizes_are : (xs : List ℕ) → length xs ≡ 16 → sizes xs ≡ map size xs
 sizes_are xs long =
     let opposites : zip2 minus (replicate 16 0) xs ≡ map (minus 0) xs = zip2_splat_left minus 0 16 xs long in
     let compared : zip2 less xs (zip2 minus (replicate 16 0) xs) ≡ map (λ x. less x (minus 0 x)) xs =
@@ -63,7 +63,7 @@ top_of : (b : Bool) → top 31 (cond b 4294967295 0) ≡ b
 top_of true = refl
 top_of false = refl
 
-size_is : (z : ℤ) → FitsSigned w32 z → size (of_z w32 z) ≡ unsigned_abs z
+pub size_is : (z : ℤ) → FitsSigned w32 z → size (of_z w32 z) ≡ unsigned_abs z
 size_is (pos n) fits = rw (top_of (lt_z (to_z w32 n) (to_z w32 (minus 0 n)))) (grind (arith, fits.sfits))
 size_is (negsuc n) fits = rw (top_of (lt_z (to_z w32 (4294967296 - suc n)) (to_z w32 (minus 0 (4294967296 - suc n))))) (grind (arith, fits.sfits))
 

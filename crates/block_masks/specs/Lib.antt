@@ -3,3 +3,4 @@ pub mod Picks
 pub mod SetMasks
 pub mod Gaggles
 pub mod Stored
+pub mod BitsSet

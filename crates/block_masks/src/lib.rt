@@ -13,6 +13,7 @@ mod nibbles;
 mod picks;
 mod plan;
 mod sets;
+mod setting;
 mod stages;
 
 pub use gaggle::{
@@ -23,4 +24,5 @@ pub use nibbles::{beside, both, either, four, has, is_any, joined, masked, one, 
 pub use picks::{pick, spread};
 pub use plan::{CodedPlane, PlanePlan};
 pub use sets::{Sets, is_any_of, quads_of};
+pub use setting::set_bits;
 pub use stages::stage_at;

@@ -1,6 +1,6 @@
 // Masks of the numbers of a block, sixteen at a time.
 
-ghost use Rattle.std.specs.Prelude.{◌≡◌, ◌+◌, ◌≤◌, ◌<◌, ℕ, ◌≤ℤ◌, ◌^◌, Bool, length, pos, slice_index_or, unsigned_abs, nat_lt, FitsSigned};
+ghost use Rattle.std.specs.Prelude.{◌≡◌, ◌+◌, ◌≤◌, ◌<◌, ℕ, ◌≤ℤ◌, ◌<ℤ◌, ◌^◌, Bool, length, pos, slice_index_or, unsigned_abs, nat_lt, FitsSigned};
 ghost use Rattle.std.specs.Int.{w32};
 ghost use Rattle.item_defs.specs.Bits.{bit};
 ghost use Rattle.plane_defs.specs.Sets.{magnitude, significant};
@@ -12,7 +12,7 @@ use std::simd::prelude::*;
 
 // Reads sixteen numbers for the proof, which then knows that each fits its type. No code is left of it.
 #[inline(always)]
-fn read(block: &[i32], start: usize)
+pub(crate) fn read(block: &[i32], start: usize)
     requires { start + 16 ≤ length block.now }
     ensures { (k : ℕ) → k < 16 → FitsSigned w32 (slice_index_or block.now (start + k) (pos 0)) }
 {
@@ -25,14 +25,17 @@ fn read(block: &[i32], start: usize)
 #[inline(always)]
 fn outside(block: &[i32], start: usize, most: i32) -> u64
     requires within { start + 16 ≤ length block.now }
-    requires most { pos 0 ≤ℤ most }
+    requires least { pos 0 ≤ℤ most }
+    requires greatest { most <ℤ pos (2 ^ 30) }
     ensures { Shows result (λ p. nat_lt (unsigned_abs most) (magnitude block.now p)) start 16 }
 {
     read(block, start);
     let numbers = i32x16::from_slice(&block[start..]);
-    let above = numbers.simd_gt(i32x16::splat(most));
-    let below = numbers.simd_lt(i32x16::splat(-most));
-    (above | below).to_bitmask()
+    // Sums of lanes wrap: those of -most to most are the least numbers, up to MIN + 2 * most, and all others are above.
+    let moved = numbers + i32x16::splat(i32::MIN + most);
+    moved
+        .simd_gt(i32x16::splat(i32::MIN + 2 * most))
+        .to_bitmask()
 }
 
 // Which of the sixteen numbers from `start` on are at least 2^plane in magnitude.

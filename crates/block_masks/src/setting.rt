@@ -1,0 +1,74 @@
+// Numbers of a block that get a bit, sixteen at a time.
+
+ghost use Rattle.std.specs.Prelude.{◌≡◌, ◌+◌, ◌≤◌, ◌<◌, ◌^◌, ℕ, length, pos, negsuc, map, slice_index_or, FitsSigned, if◌then◌else◌};
+ghost use Rattle.std.specs.List.{range_with_len};
+ghost use Rattle.std.specs.Int.{w32};
+ghost use Rattle.item_defs.specs.Bits.{bit};
+ghost use Rattle.block_masks.specs.BitsSet.{SetsBits, SetsPart};
+
+use crate::masks::read;
+use crate::nibbles::{both, part};
+use std::simd::prelude::*;
+
+// The lanes of sixteen positions: all bits of a lane are set where the mask tells the position, and else none.
+#[inline(always)]
+fn lanes_of(mask: u64) -> i32x16
+    requires { mask < 2 ^ 16 }
+    ensures { result ≡ map (λ k. if bit mask k then negsuc 0 else pos 0) (range_with_len 0 16) }
+{
+    let weights = i32x16::from_array([
+        1, 2, 4, 8, 16, 32, 64, 128, 256, 512, 1024, 2048, 4096, 8192, 16384, 32768,
+    ]);
+    let tested = i32x16::splat(mask as i32) & weights;
+    tested.simd_eq(weights).to_simd()
+}
+
+// Sixteen numbers, where those that a mask tells get the bit, and the sign that another has for them.
+#[inline(always)]
+fn with_bits(numbers: i32x16, plane: u8, bits: u64, minus: u64) -> i32x16
+    requires long { length numbers ≡ 16 }
+    requires fit { (k : ℕ) → k < 16 → FitsSigned w32 (slice_index_or numbers k (pos 0)) }
+    requires low { plane < 27 }
+    requires bits { bits < 2 ^ 16 }
+    requires minus { minus < 2 ^ 16 }
+    ensures set { SetsBits plane bits minus numbers result }
+    ensures fit { (k : ℕ) → k < 16 → FitsSigned w32 (slice_index_or result k (pos 0)) }
+{
+    let more = lanes_of(bits) & i32x16::splat(1i32 << plane);
+    let sizes = numbers.abs() | more;
+    let was = numbers.simd_lt(i32x16::splat(0)).to_simd();
+    let sign = lanes_of(both(bits, minus)) | was;
+    (sizes ^ sign) - sign
+}
+
+// Gives the numbers at sixteen positions the bit where a mask tells them.
+#[inline(always)]
+fn set_part(block: &mut [i32], start: u8, plane: u8, bits: u64, minus: u64)
+    requires whole { length block.old ≡ 64 }
+    requires within { start + 16 ≤ 64 }
+    requires low { plane < 27 }
+    ensures { SetsPart plane bits minus start block.old block.new }
+{
+    let here = part(bits, start, 16);
+    if here != 0 {
+        let first = start as usize;
+        read(block, first);
+        let numbers = i32x16::from_slice(&block[first..]);
+        let told = with_bits(numbers, plane, here, part(minus, start, 16));
+        told.copy_to_slice(&mut block[first..]);
+    }
+}
+
+/// Gives the numbers of a block at the positions of a mask the bit of weight 2^plane in their magnitude. They are negative
+/// where they were, or where `minus` tells them. What it tells of other positions is passed over.
+#[inline]
+pub fn set_bits(block: &mut [i32], plane: u8, bits: u64, minus: u64)
+    requires whole { length block.old ≡ 64 }
+    requires low { plane < 27 }
+    ensures { SetsBits plane bits minus block.old block.new }
+{
+    set_part(block, 0, plane, bits, minus);
+    set_part(block, 16, plane, bits, minus);
+    set_part(block, 32, plane, bits, minus);
+    set_part(block, 48, plane, bits, minus);
+}
