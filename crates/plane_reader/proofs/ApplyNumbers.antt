@@ -1,4 +1,4 @@
--- A number that gets the bit of a plane, and a sign.
+-- The DC gets the bit of a plane.
 use Rattle.std.proofs.Common.{◌≡◌, inl, inr, ℕ, zero, suc, ◌+◌, ◌-◌, ◌*◌, ◌%◌, ◌<◌, ◌≤◌, ◌^◌, Bool, true, false, not, bit_and, bit_or, refl, ap, sym, ◌∙◌, arith, ℤ, pos, negsuc, neg_ℤ, ◌+ℤ◌, ◌-ℤ◌, to_z, of_z, w32}
 use Rattle.std.specs.Prelude.{◌==◌, ◌||◌, unsigned_abs, if◌then◌else◌}
 use Rattle.std.specs.Int.{bit_at}
@@ -20,58 +20,8 @@ use Rattle.plane_reader.specs.Taken.{IsCleared}
 use Rattle.plane_reader.specs.Applied.{with_bit}
 use Rattle.plane_reader.proofs.ToldNumbers.{weight, pow_more}
 
--- the weight of a bit that isn't there
-missing : (n plane : ℕ) → bit_at n plane * 2 ^ plane + weight plane (not (bit n plane)) ≡ 2 ^ plane
-missing n plane = by_bit (bit_at n plane) (omega arith)
-  where
-    by_bit : (b : ℕ) → b < 2 → b * 2 ^ plane + weight plane (not (b == 1)) ≡ 2 ^ plane
-    by_bit zero lt = omega arith
-    by_bit (suc zero) lt = omega arith
-    by_bit (suc (suc b)) lt = absurd (omega (arith, lt))
-
-pub size_set : (n plane : ℕ) → n < 2 ^ 30 → plane < 27 → bit_and (bit_or n (1 * 2 ^ plane % 4294967296)) 2147483647 ≡ n + weight plane (not (bit n plane))
-size_set n plane small low =
-    let le : plane ≤ 26 = omega arith in
-    let most : 2 ^ plane ≤ 2 ^ 26 = pow_mono le in
-    let same : 1 * 2 ^ plane % 4294967296 ≡ 2 ^ plane = omega (arith, most) in
-    let sum : bit_or n (2 ^ plane) + bit_and n (2 ^ plane) ≡ n + 2 ^ plane = or_add_and n (2 ^ plane) in
-    let set : bit_or n (2 ^ plane) ≡ n + weight plane (not (bit n plane)) = omega (arith, sum, and_pow n plane, missing n plane) in
-    let mask : bit_and (bit_or n (2 ^ plane)) 2147483647 ≡ bit_or n (2 ^ plane) % 2147483648 = and_mask (bit_or n (2 ^ plane)) 31 in
-    ap (λ m. bit_and (bit_or n m) 2147483647) same ∙ mask ∙ omega (arith, set, small, most, missing n plane)
-
--- a test of the code's is the sign
-pub sign_is : (z : ℤ) → SFits w32 z → lt_z (to_z w32 (of_z w32 z)) (pos 0) ≡ negative z
-sign_is z fits = ap (λ x. lt_z x (pos 0)) (to_z-of_z w32 z fits) ∙ below z
-  where
-    below : (x : ℤ) → lt_z x (pos 0) ≡ negative x
-    below (pos n) = grind (arith, nat_tests)
-    below (negsuc n) = refl
-
-taken_from_zero : (n : ℕ) → n < 2147483648 → to_z w32 (of_z w32 (pos 0 -ℤ to_z w32 n)) ≡ neg_ℤ (pos n)
-taken_from_zero n small = omega (arith, ints)
-
 as_positive : (n : ℕ) → n < 2147483648 → to_z w32 n ≡ pos n
 as_positive n small = omega (arith, ints)
-
-module _ (z : ℤ) (plane : ℕ) (minus : Bool) (small : unsigned_abs z < 2 ^ 30) (low : plane < 27) where
-  abbrev pub size_now : ℕ
-  size_now = bit_and (bit_or (unsigned_abs z) (1 * 2 ^ plane % 4294967296)) 2147483647
-
-  size_small : size_now < 2147483648
-  size_small = let mask : size_now ≡ bit_or (unsigned_abs z) (1 * 2 ^ plane % 4294967296) % 2147483648 = and_mask (bit_or (unsigned_abs z) (1 * 2 ^ plane % 4294967296)) 31 in omega (arith, mask)
-
-  signed : (b : Bool) → (negative z || minus) ≡ b → (if b then neg_ℤ (pos size_now) else pos size_now) ≡ with_bit plane z minus
-  signed b e =
-      ap (λ n. if b then neg_ℤ (pos n) else pos n) (size_set (unsigned_abs z) plane small low) ∙
-      ap (λ t. if t then neg_ℤ (pos (unsigned_abs z + weight plane (not (bit (unsigned_abs z) plane)))) else pos (unsigned_abs z + weight plane (not (bit (unsigned_abs z) plane)))) (sym e)
-
-  pub set_negative : (negative z || minus) ≡ true → to_z w32 (of_z w32 (pos 0 -ℤ to_z w32 size_now)) ≡ with_bit plane z minus
-  set_negative e = taken_from_zero size_now size_small ∙ signed true e
-
-  pub set_positive : (negative z || minus) ≡ false → to_z w32 size_now ≡ with_bit plane z minus
-  set_positive e = as_positive size_now size_small ∙ signed false e
-
--- ---- the DC
 
 -- above a multiple there is room for all below the next one
 room_above : (a k m : ℕ) → a * k < a * m → a * k + a ≤ a * m

@@ -1,31 +1,8 @@
-use Rattle.std.proofs.Common.{sym, ap, subst, ◌∙◌, arith, rules, w32, get_or, pos, ◌<◌, ◌^◌, ◌≡◌, w64, unsigned_abs, of_z, to_z}
-use Rattle.std.specs.Int.{trailing_zeros}
-use Rattle.std.proofs.lemmas.Int.{to_z-of_z}
-use mir.Val.{SFits}
-use Rattle.item_defs.specs.Bits.{bit}
-use Rattle.plane_reader.specs.Applied.{with_bit}
-use Rattle.plane_reader.proofs.ApplySteps.{shows_own, lowest, without_less, apply_start, apply_step}
+use Rattle.std.proofs.Common.{rules, ◌<◌, ◌^◌}
+use Rattle.plane_reader.proofs.ApplySteps.{applied}
 use Rattle.plane_reader.proofs.apply.apply.Goals as goal
 
-pub loop-left-init : goal.loop-left-init
-loop-left-init c = apply_start c.args.plane c.args.found.bits c.args.found.minus c.args.block.now (search rules) c.requires.whole
-
-pub loop-left-smaller : goal.loop-left-smaller
-loop-left-smaller c =
-    let r = lowest c.loop-left.left c.loop-left.auto.left-fits.fits c.loop-left-test.true in
-    without_less c.loop-left.left (trailing_zeros w64 c.loop-left.left) r.0 r.1
-
-pub loop-left-preserved : goal.loop-left-preserved
-loop-left-preserved c =
-    let at = trailing_zeros w64 c.loop-left.left in
-    let r = lowest c.loop-left.left c.loop-left.auto.left-fits.fits c.loop-left-test.true in
-    let number = get_or c.loop-left.block at (pos 0) in
-    let read : SFits w32 number = search rules in
-    let made : SFits w32 c.set_bit.result = search rules in
-    let minus : c.args.found.minus < 2 ^ 64 = search rules in
-    let same : to_z w32 (of_z w32 number) ≡ number = to_z-of_z w32 number read in
-    let sign : c.has.result ≡ bit c.args.found.minus at = c.has.ensures (bit c.args.found.minus) 0 64 (shows_own c.args.found.minus minus) r.0 ∙ ap (bit c.args.found.minus) (omega arith) in
-    apply_step c.loop-left.invariant c.loop-left.auto.left-fits.fits at r.1 (to_z w32 (of_z w32 c.set_bit.result))
-    (λ small.
-    to_z-of_z w32 c.set_bit.result made ∙ c.set_bit.ensures (subst (λ z. unsigned_abs z < 2 ^ 30) (sym same) small)
-    ∙ ap (λ z. with_bit c.args.plane z c.has.result) same ∙ ap (with_bit c.args.plane number) sign)
+pub returns : goal.returns
+returns c =
+    let small : c.without.result < 2 ^ 64 = search rules in
+    applied c.args.plane c.args.found.bits c.without.result c.args.found.minus small c.requires.whole c.without.ensures.gone c.without.ensures.others c.set_bits.ensures
