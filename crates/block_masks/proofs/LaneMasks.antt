@@ -71,7 +71,7 @@ compared_sum less add y z f cells start within each =
 
 -- ---- one lane
 
-below_zero : (z : ℤ) → lt_z z (pos 0) ≡ negative z
+pub below_zero : (z : ℤ) → lt_z z (pos 0) ≡ negative z
 below_zero (pos n) = grind arith
 below_zero (negsuc n) = refl
 

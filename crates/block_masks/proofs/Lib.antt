@@ -2,6 +2,7 @@ pub mod LaneMasks
 pub mod SizeLanes
 pub mod SettingLanes
 pub mod SettingParts
+pub mod SettingSingly
 pub mod Maskings
 pub mod Picking
 pub mod Viewing

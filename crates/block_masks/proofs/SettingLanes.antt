@@ -129,7 +129,7 @@ other_lane weight z fits =
     by_sign (negsuc n) fits = turned (suc n) (omega (arith, fits.sfits))
 
 -- the weight of a bit that isn't there
-missing : (n plane : ℕ) → bit_at n plane * 2 ^ plane + (if not (bit n plane) then 2 ^ plane else 0) ≡ 2 ^ plane
+pub missing : (n plane : ℕ) → bit_at n plane * 2 ^ plane + (if not (bit n plane) then 2 ^ plane else 0) ≡ 2 ^ plane
 missing n plane = by_bit (bit_at n plane) (omega arith)
   where
     by_bit : (b : ℕ) → b < 2 → b * 2 ^ plane + (if not (b == 1) then 2 ^ plane else 0) ≡ 2 ^ plane
@@ -137,7 +137,7 @@ missing n plane = by_bit (bit_at n plane) (omega arith)
     by_bit (suc zero) lt = omega arith
     by_bit (suc (suc b)) lt = absurd (omega (arith, lt))
 
-size_set : (n plane : ℕ) → bit_or n (2 ^ plane) ≡ n + (if not (bit n plane) then 2 ^ plane else 0)
+pub size_set : (n plane : ℕ) → bit_or n (2 ^ plane) ≡ n + (if not (bit n plane) then 2 ^ plane else 0)
 size_set n plane = omega (arith, or_add_and n (2 ^ plane), and_pow n plane, missing n plane)
 
 -- a lane that gets the bit

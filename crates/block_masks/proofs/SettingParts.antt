@@ -1,6 +1,6 @@
 -- A block whose numbers get a bit, sixteen positions after sixteen.
 use Rattle.std.proofs.Common.{◌≡◌, inl, inr, ℕ, ◌+◌, ◌-◌, ◌<◌, ◌≤◌, ◌^◌, ℤ, pos, true, false, List, length, map, get_or, FitsSigned, refl, ap, sym, ◌∙◌, subst, arith, w32}
-use Rattle.std.specs.Prelude.{◌==◌, unsigned_abs}
+use Rattle.std.specs.Prelude.{◌==◌, ◌&&◌, unsigned_abs}
 use Rattle.std.specs.Simd.Lanes.{chunk, put_chunk}
 use Rattle.std.proofs.lemmas.Bool.{cases_lt}
 use Rattle.std.proofs.lemmas.Int.{to_z-of_z}
@@ -121,3 +121,15 @@ all_set whole first = record {
     | inr past ↦ first.after p past
   ];
 }
+
+-- where no number gets a sign, none is given
+pub without_signs : {plane bits minus shared : ℕ} {before now : List ℤ} → shared ≡ 0 → ((p : ℕ) → p < 64 → bit shared p ≡ (bit bits p && bit minus p)) → length before ≡ 64 →
+    SetsBits plane bits 0 before now → SetsBits plane bits minus before now
+without_signs {plane} {bits} {minus} {shared} {before} {now} none is whole sets = record {
+  long = sets.long;
+  named = λ p below has small. sets.named p below has small ∙ ap (with_bit plane (get_or before p (pos 0))) (no_bit p ∙ sym (ap (λ m. bit m p) none ∙ no_bit p) ∙ is p (omega (arith, below, whole)) ∙ ap (λ b. b && bit minus p) has);
+  others = sets.others;
+}
+  where
+    no_bit : (k : ℕ) → bit 0 k ≡ false
+    no_bit k = ap (λ n. n == 1) (bit_at_above 0 0 k (omega arith) (omega arith))

@@ -3,8 +3,9 @@
 //!
 //! Bit k of a mask tells of the k-th position. `plan` makes a `CodedPlane` of a `PlanePlan`, once for all blocks. `masks`
 //! reads a block, `nibbles` makes masks of masks, `sets` tells which sets of positions have a member of a mask, and `picks`
-//! gathers the bits of up to four positions. `stages` has the stages by their numbers; from one stage to the next `gaggle`
-//! keeps in the marks which options and words the gaggles have, and which families of a block are significant.
+//! gathers the bits of up to four positions. `setting` gives the numbers at the positions of a mask a bit. `stages` has the
+//! stages by their numbers; from one stage to the next `gaggle` keeps in the marks which options and words the gaggles have,
+//! and which families of a block are significant.
 #![tactic(auto)]
 
 mod gaggle;

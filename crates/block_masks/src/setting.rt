@@ -1,14 +1,20 @@
-// Numbers of a block that get a bit, sixteen at a time.
+// Numbers of a block that get a bit: sixteen at a time by lanes, or one by one.
 
-ghost use Rattle.std.specs.Prelude.{◌≡◌, ◌+◌, ◌≤◌, ◌<◌, ◌^◌, ℕ, length, pos, negsuc, map, slice_index_or, FitsSigned, if◌then◌else◌};
+ghost use Rattle.std.specs.Prelude.{◌≡◌, ◌+◌, ◌≤◌, ◌<◌, ◌^◌, ℕ, length, pos, negsuc, map, slice_index_or, FitsSigned, unsigned_abs, if◌then◌else◌};
 ghost use Rattle.std.specs.List.{range_with_len};
 ghost use Rattle.std.specs.Int.{w32};
 ghost use Rattle.item_defs.specs.Bits.{bit};
-ghost use Rattle.block_masks.specs.BitsSet.{SetsBits, SetsPart};
+ghost use Rattle.block_masks.specs.BitsSet.{with_bit, SetsBits, SetsPart};
 
 use crate::masks::read;
-use crate::nibbles::{both, part};
+use crate::nibbles::{both, has, part};
 use std::simd::prelude::*;
+
+// The bits of a magnitude.
+const MAGNITUDE: u32 = (1 << 31) - 1;
+
+// Below so many numbers it is faster to set them one by one, unless all are among the first sixteen.
+const FEW: u32 = 8;
 
 // The lanes of sixteen positions: all bits of a lane are set where the mask tells the position, and else none.
 #[inline(always)]
@@ -59,10 +65,9 @@ fn set_part(block: &mut [i32], start: u8, plane: u8, bits: u64, minus: u64)
     }
 }
 
-/// Gives the numbers of a block at the positions of a mask the bit of weight 2^plane in their magnitude. They are negative
-/// where they were, or where `minus` tells them. What it tells of other positions is passed over.
-#[inline]
-pub fn set_bits(block: &mut [i32], plane: u8, bits: u64, minus: u64)
+// Gives the numbers that a mask tells the bit, sixteen after sixteen.
+#[inline(always)]
+fn set_parts(block: &mut [i32], plane: u8, bits: u64, minus: u64)
     requires whole { length block.old ≡ 64 }
     requires low { plane < 27 }
     ensures { SetsBits plane bits minus block.old block.new }
@@ -71,4 +76,64 @@ pub fn set_bits(block: &mut [i32], plane: u8, bits: u64, minus: u64)
     set_part(block, 16, plane, bits, minus);
     set_part(block, 32, plane, bits, minus);
     set_part(block, 48, plane, bits, minus);
+}
+
+// The same where many numbers get it. A stage that refines tells no signs, and has less to do without them.
+fn set_by_lanes(block: &mut [i32], plane: u8, bits: u64, minus: u64)
+    requires whole { length block.old ≡ 64 }
+    requires low { plane < 27 }
+    ensures { SetsBits plane bits minus block.old block.new }
+{
+    if both(bits, minus) == 0 {
+        set_parts(block, plane, bits, 0);
+    } else {
+        set_parts(block, plane, bits, minus);
+    }
+}
+
+// The number with the bit of weight 2^plane in its magnitude: negative if it was, or if this says so.
+#[inline(always)]
+fn set_bit(number: i32, plane: u8, is_negative: bool) -> i32
+    requires { plane < 27 }
+    ensures { unsigned_abs number < 2 ^ 30 → result ≡ with_bit plane number is_negative }
+{
+    let size = (number.unsigned_abs() | (1 << plane)) & MAGNITUDE;
+    let number_size = size as i32;
+    // `|` and two plain values leave no branch: signs come at random, and half the guesses would be wrong.
+    if (number < 0) | is_negative {
+        -number_size
+    } else {
+        number_size
+    }
+}
+
+// The same where few numbers get it: one after the other.
+#[inline]
+fn set_singly(block: &mut [i32], plane: u8, bits: u64, minus: u64)
+    requires whole { length block.old ≡ 64 }
+    requires low { plane < 27 }
+    ensures { SetsBits plane bits minus block.old block.new }
+{
+    let mut left = bits;
+    while left != 0 {
+        let at = left.trailing_zeros() as u8;
+        left &= !(1 << at);
+        let place = at as usize;
+        block[place] = set_bit(block[place], plane, has(minus, at));
+    }
+}
+
+/// Gives the numbers of a block at the positions of a mask the bit of weight 2^plane in their magnitude. They are negative
+/// where they were, or where `minus` tells them. What it tells of other positions is passed over.
+#[inline]
+pub fn set_bits(block: &mut [i32], plane: u8, bits: u64, minus: u64)
+    requires whole { length block.old ≡ 64 }
+    requires low { plane < 27 }
+    ensures { SetsBits plane bits minus block.old block.new }
+{
+    if bits >> 16 != 0 && bits.count_ones() < FEW {
+        set_singly(block, plane, bits, minus);
+    } else {
+        set_by_lanes(block, plane, bits, minus);
+    }
 }

@@ -1,5 +1,5 @@
 use Rattle.block_masks.proofs.SettingParts.{first_none, first_more, all_set}
-use Rattle.block_masks.proofs.setting.set_bits.Goals as goal
+use Rattle.block_masks.proofs.setting.set_parts.Goals as goal
 
 pub returns : goal.returns
 returns c =
