@@ -10,7 +10,7 @@ ghost use Rattle.wave_defs.specs.Held.{Agrees, signal};
 mod back;
 mod halves;
 
-pub use lift_lanes::{predict_add, predict_sub, update_add, update_sub};
+pub use lift_lanes::{predict_add, predict_onto, predict_sub, update_add, update_onto, update_sub};
 
 /// The number of the even sample before even sample `j`, where the line is mirrored
 /// (docs/formats.md, "A line").
@@ -112,6 +112,17 @@ mod tests {
         assert_eq!(rt; odd, [5, -7]);
         let mut even = [12, -4];
         update_add(&mut even, &[3, -6], &[4, -5]);
+        assert_eq!(rt; even, [10, -1]);
+        Ok(())
+    }
+
+    #[test]
+    fn kernels_put_onto_another_row(rt: HostRuntime) -> Result<(), Fail> {
+        let mut odd = [0; 2];
+        predict_onto(&mut odd, &[7, -3], &[0, -1], &[-3, 2], &[0, -9], &[1, 4]);
+        assert_eq!(rt; odd, [5, -7]);
+        let mut even = [0; 2];
+        update_onto(&mut even, &[12, -4], &[3, -6], &[4, -5]);
         assert_eq!(rt; even, [10, -1]);
         Ok(())
     }
