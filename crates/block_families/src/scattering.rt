@@ -53,7 +53,8 @@ fn scatter_tops<B: BandSink>(bands: &mut B, column: u32, weights: &Weights, from
     }
 }
 
-// The four numbers of a square.
+// The four numbers of a square. With its place known all tests of the band fall away.
+#[inline(always)]
 fn put_square<B: BandSink>(bands: &mut B, column: u32, weights: &Weights, from: &[i32], square: u8)
     requires stands { IsTrue (B.stands bands.old) }
     requires ready { CanScatter weights.now.shifts from.now (B.columns bands.old) column }
@@ -69,17 +70,49 @@ fn put_square<B: BandSink>(bands: &mut B, column: u32, weights: &Weights, from: 
     bands.set_square(place, numbers);
 }
 
-// The children and the grandchildren.
-fn scatter_squares<B: BandSink>(bands: &mut B, column: u32, weights: &Weights, from: &[i32])
+// The children.
+fn scatter_children<B: BandSink>(bands: &mut B, column: u32, weights: &Weights, from: &[i32])
     requires stands { IsTrue (B.stands bands.old) }
     requires ready { CanScatter weights.now.shifts from.now (B.columns bands.old) column }
-    ensures scattered { PutsBack weights.now.shifts column from.now 4 60 (B.number bands.old) (B.number bands.new) }
+    ensures scattered { PutsBack weights.now.shifts column from.now 4 12 (B.number bands.old) (B.number bands.new) }
     ensures columns { B.columns bands.new ≡ B.columns bands.old }
     ensures stands { B.stands bands.new ≡ B.stands bands.old }
     ensures keeps { B.keeps bands.old bands.new }
 {
-    for square in 0..15u8 {
+    for square in 0..3u8 {
         put_square(bands, column, weights, from, square);
+    }
+}
+
+// The grandchildren of a family. Its squares stand one by one, so that each is a constant one from the first.
+#[inline(always)]
+fn put_family<B: BandSink>(bands: &mut B, column: u32, weights: &Weights, from: &[i32], family: u8)
+    requires stands { IsTrue (B.stands bands.old) }
+    requires ready { CanScatter weights.now.shifts from.now (B.columns bands.old) column }
+    requires family { family < 3 }
+    ensures scattered { PutsBack weights.now.shifts column from.now (16 + 16 * family) 16 (B.number bands.old) (B.number bands.new) }
+    ensures columns { B.columns bands.new ≡ B.columns bands.old }
+    ensures stands { B.stands bands.new ≡ B.stands bands.old }
+    ensures keeps { B.keeps bands.old bands.new }
+{
+    let first = 3 + 4 * family;
+    put_square(bands, column, weights, from, first);
+    put_square(bands, column, weights, from, first + 1);
+    put_square(bands, column, weights, from, first + 2);
+    put_square(bands, column, weights, from, first + 3);
+}
+
+// The grandchildren.
+fn scatter_grandchildren<B: BandSink>(bands: &mut B, column: u32, weights: &Weights, from: &[i32])
+    requires stands { IsTrue (B.stands bands.old) }
+    requires ready { CanScatter weights.now.shifts from.now (B.columns bands.old) column }
+    ensures scattered { PutsBack weights.now.shifts column from.now 16 48 (B.number bands.old) (B.number bands.new) }
+    ensures columns { B.columns bands.new ≡ B.columns bands.old }
+    ensures stands { B.stands bands.new ≡ B.stands bands.old }
+    ensures keeps { B.keeps bands.old bands.new }
+{
+    for family in 0..3u8 {
+        put_family(bands, column, weights, from, family);
     }
 }
 
@@ -101,5 +134,6 @@ pub fn scatter<B: BandSink>(bands: &mut B, column: u32, weights: &Weights, from:
     ensures keeps { B.keeps bands.old bands.new }
 {
     scatter_tops(bands, column, weights, from);
-    scatter_squares(bands, column, weights, from);
+    scatter_children(bands, column, weights, from);
+    scatter_grandchildren(bands, column, weights, from);
 }

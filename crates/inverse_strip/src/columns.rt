@@ -7,7 +7,7 @@ ghost use Rattle.wave_defs.specs.Held.{Agrees, signal};
 ghost use Rattle.wave_defs.specs.Rings.{AreRows, RowsWithin, AreNewest};
 ghost use Rattle.inverse_strip.specs.Kept.{AreRings, HoldPairs, AreSmall, half_more};
 
-use lift_rows::{mirrored_after, mirrored_before, predict_add, update_add};
+use lift_rows::{mirrored_after, mirrored_before, predict_onto, update_onto};
 use line_rings::RowRing;
 use std::alloc::{AllocError, Global};
 
@@ -29,12 +29,11 @@ fn even_row(highs: &RowRing<i64>, j: usize, low: &[i64], high: &[i64], into: &mu
         → AllWithin m (length into.old) (signal high.now)
         → AllWithin (half_more m) (length into.old) (signal into.new) }
 {
-    into.copy_from_slice(low);
     if j == 0 {
-        update_add(into, high, high);
+        update_onto(into, low, high, high);
         return;
     }
-    update_add(into, highs.at(2), high);
+    update_onto(into, low, highs.at(2), high);
 }
 
 /// Odd row k, where n pairs were taken and the even and the high rows that it needs are kept
@@ -51,9 +50,9 @@ fn odd_row(evens: &RowRing<i64>, highs: &RowRing<i64>, n: usize, k: usize, into:
     ensures small { (m : ℕ) → 9 ≤ m → AreSmall m (length into.old) evens.now highs.now
         → AllWithin (3 * m) (length into.old) (signal into.new) }
 {
-    into.copy_from_slice(highs.at(k + 3 - n));
-    predict_add(
+    predict_onto(
         into,
+        highs.at(k + 3 - n),
         evens.at(mirrored_before(k) + 4 - n),
         evens.at(k + 4 - n),
         evens.at(mirrored_after(n, k + 1) + 4 - n),
@@ -119,7 +118,7 @@ impl Columns {
             → IsSmall m self.new }
     {
         even_row(&self.highs, self.taken, low, high, &mut self.room);
-        self.evens.turn_copy(&self.room);
+        self.evens.turn_swap(&mut self.room);
         self.highs.turn_copy(high);
         self.taken += 1;
     }

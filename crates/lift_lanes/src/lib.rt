@@ -6,9 +6,11 @@ mod lanes;
 mod narrow;
 mod samples;
 mod wide;
+mod wide_onto;
 mod wide_samples;
 
 pub use narrow::{predict_sub, update_sub};
 pub use samples::{high_sample, low_sample};
 pub use wide::{predict_add, update_add};
+pub use wide_onto::{predict_onto, update_onto};
 pub use wide_samples::{even_sample, odd_sample};

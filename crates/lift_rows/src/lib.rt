@@ -7,10 +7,10 @@ ghost use Rattle.wave_defs.specs.Line.{even_before, even_within, high_of, low_of
 ghost use Rattle.wave_defs.specs.Within.{AllWithin};
 ghost use Rattle.wave_defs.specs.Held.{Agrees, signal};
 
+mod back;
 mod halves;
 
-pub use lift_lanes::{predict_add, predict_sub, update_add, update_sub};
-use lift_lanes::{even_sample, odd_sample};
+pub use lift_lanes::{predict_add, predict_onto, predict_sub, update_add, update_onto, update_sub};
 
 /// The number of the even sample before even sample `j`, where the line is mirrored
 /// (docs/formats.md, "A line").
@@ -65,16 +65,15 @@ pub fn inverse_row(low: &[i64], high: &[i64], row: &mut [i64])
         (merged (signal low.now) (signal high.now) (length low.now)) }
 {
     let n = low.len();
-    'evens: for j in 0..n {
-        row[2 * j] = even_sample(low[j], high[j.saturating_sub(1)], high[j]);
+    back::put_even(low, high, row, 0);
+    back::put_even(low, high, row, 1);
+    back::put_even(low, high, row, 2);
+    back::put_odd(low, high, row, 0);
+    'pairs: for j in 1..n - 2 {
+        back::put_pair(low, high, row, j);
     }
-    'odds: for j in 0..n {
-        let before = row[2 * mirrored_before(j)];
-        let here = row[2 * j];
-        let after = row[2 * mirrored_after(n, j + 1)];
-        let second = row[2 * mirrored_after(n, j + 2)];
-        row[2 * j + 1] = odd_sample(high[j], before, here, after, second);
-    }
+    back::put_odd(low, high, row, n - 2);
+    back::put_odd(low, high, row, n - 1);
 }
 
 #[cfg(test)]
@@ -113,6 +112,17 @@ mod tests {
         assert_eq!(rt; odd, [5, -7]);
         let mut even = [12, -4];
         update_add(&mut even, &[3, -6], &[4, -5]);
+        assert_eq!(rt; even, [10, -1]);
+        Ok(())
+    }
+
+    #[test]
+    fn kernels_put_onto_another_row(rt: HostRuntime) -> Result<(), Fail> {
+        let mut odd = [0; 2];
+        predict_onto(&mut odd, &[7, -3], &[0, -1], &[-3, 2], &[0, -9], &[1, 4]);
+        assert_eq!(rt; odd, [5, -7]);
+        let mut even = [0; 2];
+        update_onto(&mut even, &[12, -4], &[3, -6], &[4, -5]);
         assert_eq!(rt; even, [10, -1]);
         Ok(())
     }

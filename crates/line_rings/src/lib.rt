@@ -6,6 +6,7 @@ ghost use Rattle.std.specs.Prelude.{◌≡◌, ℕ, ◌+◌, ◌<◌, ◌≤◌,
 use circular_buffer::HeapCircularBuffer;
 use std::alloc::{AllocError, Global};
 use std::marker::Model;
+use std::mem;
 
 /// As many rows as it was made for, from the oldest to the newest.
 #[derive(Drop)]
@@ -77,6 +78,21 @@ impl<T: Copy> RowRing<T> {
         }
     }
 
+    /// The row becomes the newest, and the oldest stands in its place. The row has the width of the
+    /// others.
+    pub fn turn_swap(&mut self, row: &mut Vec<T>)
+        requires { vec_len row.old ≡ length (slice_index_or self.old 0 []) }
+        ensures rows { self.new ≡ drop 1 self.old ++ row.old.items ∷ [] }
+        ensures oldest { row.new.items ≡ slice_index_or self.old 0 [] }
+    {
+        match self.rows.pop_front() {
+            Some(oldest) => {
+                self.rows.push_back(mem::replace(row, oldest));
+            }
+            None => unreachable!(),
+        }
+    }
+
     /// A row, counted from the oldest.
     pub fn at(&self, i: usize) -> &[T]
         requires { i < length self.now }
@@ -105,6 +121,10 @@ mod tests {
         let oldest = ring.turn(vec![in alloc; 7, 8, 9]?);
         assert_eq!(rt; oldest.as_slice(), [1, 2, 3].as_slice());
         assert_eq!(rt; ring.at(0), [4, 5, 6].as_slice());
+        let mut row = vec![in alloc; 10, 11, 12]?;
+        ring.turn_swap(&mut row);
+        assert_eq!(rt; row.as_slice(), [4, 5, 6].as_slice());
+        assert_eq!(rt; ring.at(1), [10, 11, 12].as_slice());
         Ok(())
     }
 }

@@ -105,18 +105,24 @@ impl PixelForm {
         pixel as u16
     }
 
-    /// Puts the octets of a number at the place of a pixel.
-    pub(crate) fn put_number(self, into: &mut [u8], place: usize, number: u16)
+    /// Puts the octet of a number at the place of a pixel that has one.
+    pub(crate) fn put_octet(self, into: &mut [u8], place: usize, number: u16)
+        requires narrow { self.depth ≤ 8 }
         requires place { (place + 1) * pixel_size self.depth ≤ length into.old }
-        requires octet { self.depth ≤ 8 → number < 256 }
+        requires octet { number < 256 }
         ensures { take ((place + 1) * pixel_size self.depth) into.new ≡ take (place * pixel_size self.depth) into.old ++ octets_of self.depth number }
     {
-        if self.depth <= 8 {
-            into[place] = number as u8;
-        } else {
-            into[2 * place] = (number / 256) as u8;
-            into[2 * place + 1] = (number % 256) as u8;
-        }
+        into[place] = number as u8;
+    }
+
+    /// Puts the octets of a number at the place of a pixel that has two.
+    pub(crate) fn put_octets(self, into: &mut [u8], place: usize, number: u16)
+        requires wide { 8 < self.depth }
+        requires place { (place + 1) * pixel_size self.depth ≤ length into.old }
+        ensures { take ((place + 1) * pixel_size self.depth) into.new ≡ take (place * pixel_size self.depth) into.old ++ octets_of self.depth number }
+    {
+        into[2 * place] = (number / 256) as u8;
+        into[2 * place + 1] = (number % 256) as u8;
     }
 
     /// Whether a value is in the range of pixels.

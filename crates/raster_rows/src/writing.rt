@@ -56,8 +56,32 @@ fn spell_pixels(form: PixelForm, pixels: &[i64], into: &mut [u8]) -> usize
     ensures count { result ≡ length pixels.now * pixel_size form.depth }
     ensures octets { take result into.new ≡ pixel_octets form.depth (map (clamped form.depth form.signed) pixels.now) }
 {
-    for (place, pixel) in pixels.iter().enumerate() {
-        form.put_number(into, place, form.number_of(form.nearest(*pixel)));
+    if form.depth <= 8 {
+        spell_octets(form, pixels, into);
+    } else {
+        spell_pairs(form, pixels, into);
     }
     form.octets(pixels.len())
+}
+
+// Puts the octets of these values at the front, one for each.
+fn spell_octets(form: PixelForm, pixels: &[i64], into: &mut [u8])
+    requires narrow { form.depth ≤ 8 }
+    requires room { length pixels.now * pixel_size form.depth ≤ length into.old }
+    ensures { take (length pixels.now * pixel_size form.depth) into.new ≡ pixel_octets form.depth (map (clamped form.depth form.signed) pixels.now) }
+{
+    for (place, pixel) in pixels.iter().enumerate() {
+        form.put_octet(into, place, form.number_of(form.nearest(*pixel)));
+    }
+}
+
+// Puts the octets of these values at the front, two for each.
+fn spell_pairs(form: PixelForm, pixels: &[i64], into: &mut [u8])
+    requires wide { 8 < form.depth }
+    requires room { length pixels.now * pixel_size form.depth ≤ length into.old }
+    ensures { take (length pixels.now * pixel_size form.depth) into.new ≡ pixel_octets form.depth (map (clamped form.depth form.signed) pixels.now) }
+{
+    for (place, pixel) in pixels.iter().enumerate() {
+        form.put_octets(into, place, form.number_of(form.nearest(*pixel)));
+    }
 }

@@ -1,6 +1,6 @@
 use Rattle.std.proofs.Common.{◌≡◌, ◌*◌, map, take}
 use Rattle.raster_rows.specs.Pixels.{pixel_size, pixel_octets, clamped}
-use Rattle.raster_rows.proofs.writing.spell_pixels.Given as goal
+use Rattle.raster_rows.proofs.writing.spell_octets.Given as goal
 
 abbrev pub invariant-loop-place : goal.invariant-loop-place
 invariant-loop-place l =

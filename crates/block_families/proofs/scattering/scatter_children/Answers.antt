@@ -1,6 +1,6 @@
 use Rattle.std.proofs.Common.{◌+◌, ◌*◌, ◌∙◌, arith}
 use Rattle.block_families.proofs.PutBack.{puts_on}
-use Rattle.block_families.proofs.scattering.scatter_squares.Goals as goal
+use Rattle.block_families.proofs.scattering.scatter_children.Goals as goal
 
 pub loop-square-preserved : goal.loop-square-preserved
 loop-square-preserved g c =
