@@ -6,7 +6,7 @@ use Rattle.std.proofs.lemmas.Nat.{pow_pos, shr-shr, shr_high}
 use Rattle.std.proofs.lemmas.List.{take_at, take-append-drop, take-append-le, length-take-le, append_cancel_left}
 use Rattle.std.proofs.lemmas.List.Elements.{All-take, All-drop}
 use Rattle.item_defs.specs.Bits.{bits_of, bits_of_octets}
-use Rattle.item_defs.proofs.NumberBits.{bits_of-mod, bits_of-split, take-bits_of}
+use Rattle.item_defs.proofs.NumberBits.{length-bits_of, bits_of-mod, bits_of-split, take-bits_of}
 use Rattle.item_defs.proofs.OctetBits.{octets_append, length-bits_of_octets}
 use Rattle.plane_defs.specs.declared.codes.Book.{Book}
 use Rattle.plane_defs.specs.declared.entries.Entry.{Entry}
