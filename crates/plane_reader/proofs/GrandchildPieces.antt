@@ -16,10 +16,10 @@ use Rattle.bit_pipe.specs.Sources.{SourceOf}
 use Rattle.bit_pipe.specs.Coming.{Coming}
 use Rattle.plane_reader.specs.declared.found.Found.{Found}
 use Rattle.plane_reader.specs.Frames.{Frame, Sends, Leads}
-use Rattle.plane_reader.specs.Pieces.{FoundPiece, Anything}
+use Rattle.plane_reader.specs.Pieces.{FoundPiece, Anything, pieces, SoFar}
 use Rattle.plane_reader.specs.Grandchildren.{QuadsNext, AllQuadsNext}
 use Rattle.plane_reader.proofs.PieceLaws.{sends_front}
-use Rattle.plane_reader.proofs.IndexPieces.{pieces, rest_after, pieces_more, found_as, leads_as, SoFar, so_far_more, so_far_cut, leads_next}
+use Rattle.plane_reader.proofs.IndexPieces.{rest_after, pieces_more, found_as, leads_as, so_far_more, so_far_cut, leads_next}
 use Rattle.plane_reader.proofs.SignPieces.{found_missing, found_fault, found_whole}
 use Rattle.plane_reader.proofs.TypePieces.{filter_span}
 use Rattle.plane_reader.proofs.GrandchildFacts.{at_zero}

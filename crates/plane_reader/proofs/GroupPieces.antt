@@ -10,13 +10,10 @@ use Rattle.bit_pipe.specs.declared.fault.TextFault.{TextFault}
 use Rattle.bit_pipe.specs.Sources.{SourceOf}
 use Rattle.bit_pipe.specs.Coming.{Coming}
 use Rattle.plane_reader.specs.declared.found.Found.{Found}
-use Rattle.plane_reader.specs.Frames.{Frame, Leads, group_steps, TypesNext, GroupsNext}
-use Rattle.plane_reader.specs.Pieces.{FoundPiece, Anything}
-use Rattle.plane_reader.proofs.IndexPieces.{pieces, rest_after, pieces_more, found_as, leads_as, SoFar, so_far_more, so_far_cut, leads_next}
+use Rattle.plane_reader.specs.Frames.{Frame, Leads, group_steps, group_item, TypesNext, GroupsNext}
+use Rattle.plane_reader.specs.Pieces.{FoundPiece, Anything, pieces, SoFar}
+use Rattle.plane_reader.proofs.IndexPieces.{rest_after, pieces_more, found_as, leads_as, so_far_more, so_far_cut, leads_next}
 use Rattle.plane_reader.proofs.SignPieces.{found_missing, found_fault, found_whole}
-
-abbrev pub group_item : Frame → (first : ℕ) → (now wanted : ℕ → Bool) → ℕ → List ℤ → List Step
-group_item f first now wanted j v = cond (now j) (typed_steps v f.weights f.plane (some_one_where (wanted j)) (span (first + 4 * j) 4)) []
 
 groups_are : (f : Frame) (first count : ℕ) (now wanted : ℕ → Bool) (v : List ℤ) → group_steps f first count now wanted v ≡ pieces (group_item f first now wanted) 0 count v
 groups_are f first count now wanted v = filter_flat (λ j. typed_steps v f.weights f.plane (some_one_where (wanted j)) (span (first + 4 * j) 4)) now (span 0 count)

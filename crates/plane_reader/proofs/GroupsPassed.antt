@@ -13,23 +13,16 @@ use Rattle.bit_pipe.specs.declared.fault.TextFault.{TextFault}
 use Rattle.bit_pipe.specs.Sources.{SourceOf}
 use Rattle.bit_pipe.specs.Coming.{Coming, IsIn, Takes}
 use Rattle.plane_reader.specs.declared.found.Found.{Found}
-use Rattle.plane_reader.specs.Frames.{Frame, group_steps, TypesNext, GroupsNext}
-use Rattle.plane_reader.specs.Pieces.{FoundPiece, Anything}
-use Rattle.plane_reader.proofs.IndexPieces.{SoFar, so_far_none}
-use Rattle.plane_reader.proofs.GroupPieces.{group_item, group_skipped, group_call, group_read, group_missing, group_fault, groups_whole}
+use Rattle.plane_reader.specs.Frames.{Frame, group_steps, group_item, TypesNext, GroupsNext}
+use Rattle.plane_reader.specs.Pieces.{FoundPiece, Anything, SoFar}
+use Rattle.plane_reader.specs.Groups.{GroupsPassed}
+use Rattle.plane_reader.proofs.IndexPieces.{so_far_none}
+use Rattle.plane_reader.proofs.GroupPieces.{group_skipped, group_call, group_read, group_missing, group_fault, groups_whole}
 use Rattle.plane_reader.proofs.SignsPassed.{bit_inside, no_bit, never}
 
 -- a mask tells its own bits
 pub nibble_shown : (mask count : ℕ) → mask < 2 ^ count → Shows mask (λ p. bit mask p) 0 count
 nibble_shown mask count small = record { at = λ j lt. let e : j ≡ 0 + j = omega arith in ap (bit mask) e; small = small }
-
--- all below n were read, and these are left of a mask
-pub record GroupsPassed {I : Type 0} (k : SourceOf I) (book : Book) (f : Frame) (stage : ℕ) (earlier : ℕ → List Step) (done : List Step) (first count : ℕ) (now wanted : ℕ → Bool) (mask left : ℕ) (g h : Gaggle) (m o : Found) (a b : Coming I) : Type 0 where
-  pub n : ℕ
-  pub within : n ≤ count
-  pub kept : (p : ℕ) → n ≤ p → p < 64 → bit left p ≡ bit mask p
-  pub gone : (p : ℕ) → p < n → bit left p ≡ false
-  pub so_far : SoFar k book f stage earlier done (group_item f first now wanted) 0 n g h m o a b
 
 module _ {f : Frame} {stage : ℕ} {earlier : ℕ → List Step} {done : List Step} {first count : ℕ} {now wanted : ℕ → Bool} {due now_mask wanted_mask : ℕ} {after : List ℤ → List Step} (next : GroupsNext f stage earlier done first count now wanted due now_mask wanted_mask after) {I : Type 0} {k : SourceOf I} {book : Book} {g : Gaggle} {m : Found} {a : Coming I} where
   -- none was read yet

@@ -16,7 +16,7 @@ use Rattle.bit_pipe.specs.Reading.{stopped, IsCut}
 use Rattle.bit_pipe.specs.Answers.{item_answer}
 use Rattle.plane_reader.specs.declared.found.Found.{Found}
 use Rattle.plane_reader.specs.Frames.{Frame, Sends, Possible, Leads}
-use Rattle.plane_reader.specs.Pieces.{ReadsSteps, Piece, FoundPiece, Finds, Anything}
+use Rattle.plane_reader.specs.Pieces.{ReadsSteps, Piece, FoundPiece, Finds, Anything, pieces, SoFar}
 use Rattle.plane_reader.proofs.PieceLaws.{sends_front, leads_on, nothing, cut_piece, joined, later_cut}
 
 -- ---- the same steps told otherwise
@@ -81,10 +81,6 @@ module _ {I : Type 0} {k : SourceOf I} (book : Book) (f : Frame) (stage : ℕ) (
 
 -- ---- by an index
 
--- the pieces of the first n places from a start on
-abbrev pub pieces : (item : ℕ → List ℤ → List Step) → (start n : ℕ) → List ℤ → List Step
-pieces item start n v = flat_map (λ i. item i v) (span start n)
-
 pub pieces_none : (item : ℕ → List ℤ → List Step) (start : ℕ) (v : List ℤ) → pieces item start 0 v ≡ []
 unfolding span
 pieces_none item start v = refl
@@ -102,10 +98,6 @@ pieces_both item start n (suc m) v =
     ∙ sym (append_assoc (pieces item start n v) (pieces item (start + n) m v) (item ((start + n) + m) v))
     ∙ ap (λ l. l ++ item ((start + n) + m) v) (pieces_both item start n m v) ∙ ap (λ x. pieces item start (n + m) v ++ item x v) there
     ∙ pieces_more item start (n + m) v ∙ ap (λ x. pieces item start x v) all
-
--- the first n pieces were read
-abbrev pub SoFar : {I : Type 0} → SourceOf I → Book → (f : Frame) → (stage : ℕ) → (ℕ → List Step) → (done : List Step) → (item : ℕ → List ℤ → List Step) → (start n : ℕ) → Gaggle → Gaggle → Found → Found → Coming I → Coming I → Type 0
-SoFar k book f stage earlier done item start n g h l m a b = FoundPiece k book f stage earlier done (λ v. pieces item start n v) Anything (Ok (Some tt)) g h l m a b
 
 module _ (item : ℕ → List ℤ → List Step) (start total : ℕ) where
   split_at : (n : ℕ) → n < total → (v : List ℤ) → pieces item start total v ≡ pieces item start n v ++ (item (start + n) v ++ pieces item (start + (n + 1)) (total - (n + 1)) v)

@@ -51,3 +51,4 @@ pub mod DcStage
 pub mod BlockStage
 mod Shadows
 mod TypesAtHand
+mod GroupsAtHand

@@ -27,12 +27,12 @@ use Rattle.bit_pipe.specs.Sources.{SourceOf}
 use Rattle.bit_pipe.specs.Coming.{Coming, IsIn, Takes}
 use Rattle.plane_reader.specs.declared.found.Found.{Found}
 use Rattle.plane_reader.specs.Frames.{Frame, Leads}
-use Rattle.plane_reader.specs.Pieces.{OneStep, FoundPiece, Finds, Anything}
+use Rattle.plane_reader.specs.Pieces.{OneStep, FoundPiece, Finds, Anything, pieces, SoFar}
 use Rattle.plane_reader.specs.Places.{inside}
 use Rattle.plane_reader.specs.Refining.{RefinementNext}
 use Rattle.plane_reader.specs.Words.{TakesFlag}
 use Rattle.plane_reader.proofs.StepPieces.{bit_step}
-use Rattle.plane_reader.proofs.IndexPieces.{pieces, pieces_none, pieces_more, pieces_both, rest_after, found_as, leads_as, SoFar, so_far_none, so_far_more, so_far_cut, leads_next}
+use Rattle.plane_reader.proofs.IndexPieces.{pieces_none, pieces_more, pieces_both, rest_after, found_as, leads_as, so_far_none, so_far_more, so_far_cut, leads_next}
 use Rattle.plane_reader.proofs.SignPieces.{missing_step, fault_step, given_step, found_missing, found_fault, found_whole}
 use Rattle.plane_reader.proofs.TypePieces.{filter_span}
 

@@ -23,13 +23,13 @@ use Rattle.bit_pipe.specs.Windows.{first_of}
 use Rattle.bit_pipe.proofs.Taking.{in_later}
 use Rattle.plane_reader.specs.declared.found.Found.{Found}
 use Rattle.plane_reader.specs.Frames.{Frame, Sends, Leads}
-use Rattle.plane_reader.specs.Pieces.{FoundPiece, Finds, Anything}
+use Rattle.plane_reader.specs.Pieces.{FoundPiece, Finds, Anything, pieces, SoFar}
 use Rattle.plane_reader.specs.Places.{inside}
 use Rattle.plane_reader.specs.Refining.{Deals, RefinementNext}
 use Rattle.plane_reader.proofs.Dealing.{filter_to}
 use Rattle.plane_reader.proofs.BitPieces.{told_steps, steps_at, sent_bits, bits_piece, told_there, told_nowhere}
 use Rattle.plane_reader.proofs.PieceLaws.{leads_on}
-use Rattle.plane_reader.proofs.IndexPieces.{pieces, pieces_both, found_as, found_joined, leads_as, SoFar}
+use Rattle.plane_reader.proofs.IndexPieces.{pieces_both, found_as, found_joined, leads_as}
 use Rattle.plane_reader.proofs.SignPieces.{found_whole}
 use Rattle.plane_reader.proofs.SignsPassed.{never}
 use Rattle.plane_reader.proofs.RefinePieces.{refine_item, refine_leads, Passed}

@@ -1,11 +1,12 @@
 -- What bits mean doesn't depend on the source that they come from. So bits that were taken at once may be taken for ones that came
 -- in two parts, from a source that is nothing but what is still to come.
-use Rattle.std.proofs.Common.{◌≡◌, ℕ, ◌+◌, ◌-◌, ◌*◌, ◌/◌, ◌%◌, ◌^◌, ◌<◌, ◌≤◌, ℤ, List, [], ◌++◌, Bool, length, take, drop, refl, sym, ap, subst, ◌∙◌, append_assoc, length-append, arith}
+use Rattle.std.proofs.Common.{◌≡◌, ℕ, ◌+◌, ◌-◌, ◌*◌, ◌/◌, ◌%◌, ◌^◌, ◌<◌, ◌≤◌, ℤ, List, [], ◌++◌, Bool, length, take, drop, refl, sym, ap, subst, ◌∙◌, append_assoc, append-nil, length-append, arith}
 use Rattle.std.specs.Prelude.{Option, None, Some, Ok}
 use Rattle.std.proofs.lemmas.Nat.{pow_pos, shr-shr, shr_high}
 use Rattle.std.proofs.lemmas.List.{take_at, take-append-drop, take-append-le, length-take-le, append_cancel_left}
 use Rattle.std.proofs.lemmas.List.Elements.{All-take, All-drop}
 use Rattle.item_defs.specs.Bits.{bits_of, bits_of_octets}
+use Rattle.item_defs.specs.Items.{text}
 use Rattle.item_defs.proofs.NumberBits.{length-bits_of, bits_of-mod, bits_of-split, take-bits_of}
 use Rattle.item_defs.proofs.OctetBits.{octets_append, length-bits_of_octets}
 use Rattle.plane_defs.specs.declared.codes.Book.{Book}
@@ -13,30 +14,18 @@ use Rattle.plane_defs.specs.declared.entries.Entry.{Entry}
 use Rattle.plane_defs.specs.Steps.{Step}
 use Rattle.plane_defs.specs.Reading.{read_after}
 use Rattle.block_masks.specs.declared.gaggle.Gaggle.{Gaggle}
+use Rattle.block_masks.specs.Gaggles.{Agrees}
 use Rattle.item_defs.specs.Readings.{whole}
 use Rattle.bit_pipe.specs.Sources.{Tail, SourceOf, Comes}
 use Rattle.bit_pipe.specs.Coming.{Coming, IsIn, Takes}
 use Rattle.bit_pipe.specs.Reading.{Ending, stopped, EndsReading}
 use Rattle.bit_pipe.specs.Windows.{first_of}
-use Rattle.bit_pipe.proofs.Taking.{in_later}
+use Rattle.bit_pipe.proofs.Taking.{in_later, takes_then}
 use Rattle.plane_reader.specs.declared.found.Found.{Found}
 use Rattle.plane_reader.specs.Frames.{Frame}
-use Rattle.plane_reader.specs.Pieces.{ReadsSteps, FoundPiece}
+use Rattle.plane_reader.specs.Pieces.{Knows, ReadsSteps, FoundPiece}
+use Rattle.plane_reader.specs.Shadows.{told, shadow}
 use Rattle.plane_reader.proofs.WordReading.{one_given}
-
--- the source that is nothing but what is still to come, where that is told
-abbrev pub told : SourceOf (Option Tail)
-told = record {
-  tail = λ t. t;
-  buffer = λ t. [];
-  faults = λ t. 0;
-  Went = λ s t. Unit {0};
-  went_none = λ s. tt;
-  went_both = λ s t u p q. tt;
-}
-
-abbrev pub shadow : {I : Type 0} → SourceOf I → Coming I → Coming (Option Tail)
-shadow k s = record { source = k.tail s.source; pending = s.pending; used = s.used; room = s.room; name = s.name }
 
 pub takes_shadow : {I : Type 0} {k : SourceOf I} {a b : Coming I} {bits : List Bool} → Takes k a b bits → Takes told (shadow k a) (shadow k b) bits
 takes_shadow p = record { octets = p.octets; small = p.small; came = p.came; spell = p.spell; pending = p.pending; used = p.used; room = p.room; faults = omega arith; went = tt; name = p.name }
@@ -44,21 +33,41 @@ takes_shadow p = record { octets = p.octets; small = p.small; came = p.came; spe
 pub shadow_in : {I : Type 0} (k : SourceOf I) (a : Coming I) → IsIn a → IsIn (shadow k a)
 shadow_in k a h = record { bound = h.bound; pending = h.pending }
 
-module _ {I : Type 0} {k : SourceOf I} {a b : Coming I} {some : List Bool} (p : Takes k a b some) where
-  takes_back : {bits : List Bool} → Takes told (shadow k a) (shadow k b) bits → Takes k a b bits
-  takes_back q = record { octets = q.octets; small = q.small; came = q.came; spell = q.spell; pending = q.pending; used = q.used; room = q.room; faults = p.faults; went = p.went; name = p.name }
+-- some bits were taken
+pub record TakesSome {I : Type 0} (k : SourceOf I) (a b : Coming I) : Type 0 where
+  pub bits : List Bool
+  pub taken : Takes k a b bits
 
-  steps_back : (book : Book) (options : List ℕ) (sent : List Entry) (part : List Step) (steps : List Step) (ending : Ending) → ending ≡ stopped whole →
-      ReadsSteps told book options sent part ending steps (shadow k a) (shadow k b) → ReadsSteps k book options sent part ending steps a b
-  steps_back book options sent part steps ending e r =
+takes_back : {I : Type 0} {k : SourceOf I} {a b : Coming I} {bits : List Bool} → TakesSome k a b → Takes told (shadow k a) (shadow k b) bits → Takes k a b bits
+takes_back p q = record { octets = q.octets; small = q.small; came = q.came; spell = q.spell; pending = q.pending; used = q.used; room = q.room; faults = p.taken.faults; went = p.taken.went; name = p.taken.name }
+
+module _ {I : Type 0} {k : SourceOf I} {a b : Coming I} (book : Book) (options : List ℕ) (sent : List Entry) (part : List Step) (steps : List Step) (ending : Ending) (e : ending ≡ stopped whole) where
+  steps_back : TakesSome k a b → ReadsSteps told book options sent part ending steps (shadow k a) (shadow k b) → ReadsSteps k book options sent part ending steps a b
+  steps_back p r =
       let items = read_after book options sent steps in
       let all : EndsReading told items (stopped whole) (shadow k a) (shadow k b) = subst (λ x. EndsReading told items x (shadow k a) (shadow k b)) e r.reads.ends in
-      record { reads = record { ends = subst (λ x. EndsReading k items x a b) (sym e) (takes_back all) }; stops = r.stops }
+      record { reads = record { ends = subst (λ x. EndsReading k items x a b) (sym e) (takes_back p all) }; stops = r.stops }
 
-  -- what was read whole of the shadow was read of the source
-  pub found_back : {A : Type 0} (book : Book) (f : Frame) (stage : ℕ) (earlier : ℕ → List Step) (done : List Step) (next : List ℤ → List Step) (Is : A → List ℤ → Type 0) (x : A) {g h : Gaggle} {m n : Found} → IsIn a →
+  steps_taken : ReadsSteps k book options sent part ending steps a b → TakesSome k a b
+  steps_taken r = let items = read_after book options sent steps in record { bits = text items; taken = subst (λ x. EndsReading k items x a b) e r.reads.ends }
+
+  steps_forth : ReadsSteps k book options sent part ending steps a b → ReadsSteps told book options sent part ending steps (shadow k a) (shadow k b)
+  steps_forth r =
+      let items = read_after book options sent steps in
+      let all : EndsReading k items (stopped whole) a b = subst (λ x. EndsReading k items x a b) e r.reads.ends in
+      record { reads = record { ends = subst (λ x. EndsReading told items x (shadow k a) (shadow k b)) (sym e) (takes_shadow all) }; stops = r.stops }
+
+  steps_on : {c : Coming I} → Takes k b c [] → ReadsSteps k book options sent part ending steps a b → ReadsSteps k book options sent part ending steps a c
+  steps_on {c} none r =
+      let items = read_after book options sent steps in
+      let all : EndsReading k items (stopped whole) a b = subst (λ x. EndsReading k items x a b) e r.reads.ends in
+      record { reads = record { ends = subst (λ x. EndsReading k items x a c) (sym e) (subst (Takes k a c) (append-nil (text items)) (takes_then all none)) }; stops = r.stops }
+
+-- what was read whole of a source was read of the shadow, and the other way round where its bits were taken
+module _ {I A : Type 0} {k : SourceOf I} {a b : Coming I} (book : Book) (f : Frame) (stage : ℕ) (earlier : ℕ → List Step) (done : List Step) (next : List ℤ → List Step) (Is : A → List ℤ → Type 0) (x : A) {g h : Gaggle} {m n : Found} (is_in : IsIn b) where
+  pub found_back : ((sent : List Entry) (options : List ℕ) → Agrees g.sent sent → Knows h options → TakesSome k a b) →
       FoundPiece told book f stage earlier done next Is (Ok (Some x)) g h m n (shadow k a) (shadow k b) → FoundPiece k book f stage earlier done next Is (Ok (Some x)) g h m n a b
-  found_back book f stage earlier done next Is x is_in q =
+  found_back takes q =
       let e = one_given q.piece.value x q.piece.ending q.piece.answer in
       record {
         piece = record {
@@ -66,11 +75,11 @@ module _ {I : Type 0} {k : SourceOf I} {a b : Coming I} {some : List Bool} (p : 
           part = q.piece.part;
           ending = q.piece.ending;
           answer = q.piece.answer;
-          is_in = λ w. in_later is_in p;
+          is_in = λ w. is_in;
           possible = q.piece.possible;
           all = q.piece.all;
           so = q.piece.so;
-          read = λ v s sent options agrees knows. steps_back book options sent q.piece.part (next v) q.piece.ending e.0 (q.piece.read v s sent options agrees knows);
+          read = λ v s sent options agrees knows. steps_back book options sent q.piece.part (next v) q.piece.ending e.0 (takes sent options agrees knows) (q.piece.read v s sent options agrees knows);
           count = q.piece.count;
           counted = q.piece.counted;
           agrees = q.piece.agrees;
@@ -79,6 +88,60 @@ module _ {I : Type 0} {k : SourceOf I} {a b : Coming I} {some : List Bool} (p : 
         };
         found = q.found;
       }
+
+  pub found_forth : FoundPiece k book f stage earlier done next Is (Ok (Some x)) g h m n a b → FoundPiece told book f stage earlier done next Is (Ok (Some x)) g h m n (shadow k a) (shadow k b)
+  found_forth q =
+      let e = one_given q.piece.value x q.piece.ending q.piece.answer in
+      record {
+        piece = record {
+          value = q.piece.value;
+          part = q.piece.part;
+          ending = q.piece.ending;
+          answer = q.piece.answer;
+          is_in = λ w. shadow_in k b is_in;
+          possible = q.piece.possible;
+          all = q.piece.all;
+          so = q.piece.so;
+          read = λ v s sent options agrees knows. steps_forth book options sent q.piece.part (next v) q.piece.ending e.0 (q.piece.read v s sent options agrees knows);
+          count = q.piece.count;
+          counted = q.piece.counted;
+          agrees = q.piece.agrees;
+          knows = q.piece.knows;
+          options = q.piece.options;
+        };
+        found = q.found;
+      }
+
+  -- no bit came after it
+  pub found_on : {c : Coming I} → IsIn c → Takes k b c [] → FoundPiece k book f stage earlier done next Is (Ok (Some x)) g h m n a b → FoundPiece k book f stage earlier done next Is (Ok (Some x)) g h m n a c
+  found_on opened none q =
+      let e = one_given q.piece.value x q.piece.ending q.piece.answer in
+      record {
+        piece = record {
+          value = q.piece.value;
+          part = q.piece.part;
+          ending = q.piece.ending;
+          answer = q.piece.answer;
+          is_in = λ w. opened;
+          possible = q.piece.possible;
+          all = q.piece.all;
+          so = q.piece.so;
+          read = λ v s sent options agrees knows. steps_on book options sent q.piece.part (next v) q.piece.ending e.0 none (q.piece.read v s sent options agrees knows);
+          count = q.piece.count;
+          counted = q.piece.counted;
+          agrees = q.piece.agrees;
+          knows = q.piece.knows;
+          options = q.piece.options;
+        };
+        found = q.found;
+      }
+
+  -- the bits of what was read
+  pub found_taken : FoundPiece k book f stage earlier done next Is (Ok (Some x)) g h m n a b → (sent : List Entry) (options : List ℕ) → Agrees g.sent sent → Knows h options → TakesSome k a b
+  found_taken q sent options agrees knows =
+      let e = one_given q.piece.value x q.piece.ending q.piece.answer in
+      let v = q.piece.possible.block in
+      steps_taken book options sent q.piece.part (next v) q.piece.ending e.0 (q.piece.read v q.piece.possible.sends sent options agrees knows)
 
 -- ---- bits in two parts
 

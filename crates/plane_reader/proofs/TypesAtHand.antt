@@ -28,8 +28,9 @@ use Rattle.plane_reader.specs.Frames.{Frame, TypesNext}
 use Rattle.plane_reader.specs.Hand.{IsWordIn, AreTypesIn}
 use Rattle.plane_reader.specs.Pieces.{FoundPiece, Anything, TakesWord}
 use Rattle.plane_reader.specs.Places.{inside}
+use Rattle.plane_reader.specs.Shadows.{told, shadow}
 use Rattle.plane_reader.proofs.DueReading.{due_given, few_ones}
-use Rattle.plane_reader.proofs.Shadows.{told, shadow, takes_shadow, shadow_in, found_back, between, takes_first, takes_rest, window_parts}
+use Rattle.plane_reader.proofs.Shadows.{TakesSome, takes_shadow, shadow_in, found_back, between, takes_first, takes_rest, window_parts}
 use Rattle.plane_reader.proofs.SignWindows.{signs_at_once}
 use Rattle.plane_reader.proofs.TypePieces.{due_part, types_word, types_given}
 use Rattle.plane_reader.proofs.WordReading.{word_none, word_raw, opens_known, opened_word, option_fits}
@@ -103,7 +104,7 @@ module _ {I : Type 0} {k : SourceOf I} {book : Book} {g : Gaggle} (known : AreOp
         let word = word_taken book known (shadow_in k a is_in) (count_ones due) (few_ones due small) t.word t.is_word first in
         let places = due_given book due small (few_ones due small) t.word.number types.new t.new.small word t.new.told t.new.back in
         let w = some_given wanted (types_word next due (due_part next shown)) types.new t.wanted places in
-        found_back taken book f stage earlier done (λ v. typed_steps v f.weights f.plane (some_one_where wanted) (span start count)) Anything tt is_in
+        found_back book f stage earlier done (λ v. typed_steps v f.weights f.plane (some_one_where wanted) (span start count)) Anything tt (in_later is_in taken) (λ sent options agrees knows. record { bits = first_of types.len window; taken = taken })
         (types_given next types.new w no_minus bits known (λ book' gaggle f' stage' earlier' done' new_at after' known' signs.
         signs_at_once signs next.few rest (rest / 2 / 2 ^ (63 - ones)) ones (omega arith) refl few refl no_bits
         (λ f'' g'' shows is. minus f'' (λ p. new_at p && g'' p) count next.within shows (t.minus.told g'' new_at start count next.few signs.shown is))

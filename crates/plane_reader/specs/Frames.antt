@@ -1,5 +1,5 @@
 -- A block in a plane, and the blocks that what was read of it may stand for. (This project's own.)
-use Rattle.std.specs.Prelude.{◌≡◌, ◌<◌, ◌≤◌, ℕ, ◌+◌, ◌*◌, ℤ, pos, Bool, List, [], ◌∷◌, ◌++◌, map, filter}
+use Rattle.std.specs.Prelude.{◌≡◌, ◌<◌, ◌≤◌, ℕ, ◌+◌, ◌*◌, ℤ, pos, Bool, List, [], ◌∷◌, ◌++◌, map, filter, cond}
 use Rattle.item_defs.specs.Bits.{bit}
 use Rattle.plane_defs.specs.StepLaws.{IsAc}
 use Rattle.plane_defs.specs.Spans.{span}
@@ -81,6 +81,10 @@ pub record TypesNext (f : Frame) (stage : ℕ) (earlier : ℕ → List Step) (do
 -- the types of groups of four positions, of those that are sent
 abbrev pub group_steps : Frame → (first count : ℕ) → (now wanted : ℕ → Bool) → List ℤ → List Step
 group_steps f first count now wanted v = flat_map (λ j. typed_steps v f.weights f.plane (some_one_where (wanted j)) (span (first + 4 * j) 4)) (filter now (span 0 count))
+
+-- the types of one of them, where it is sent
+abbrev pub group_item : Frame → (first : ℕ) → (now wanted : ℕ → Bool) → ℕ → List ℤ → List Step
+group_item f first now wanted j v = cond (now j) (typed_steps v f.weights f.plane (some_one_where (wanted j)) (span (first + 4 * j) 4)) []
 
 -- these groups come next
 pub record GroupsNext (f : Frame) (stage : ℕ) (earlier : ℕ → List Step) (done : List Step) (first count : ℕ) (now wanted : ℕ → Bool) (mask now_mask wanted_mask : ℕ) (after : List ℤ → List Step) : Type 0 where

@@ -13,3 +13,5 @@ pub mod Applied
 pub mod Grandchildren
 pub mod Blocks
 pub mod Hand
+pub mod Groups
+pub mod Shadows

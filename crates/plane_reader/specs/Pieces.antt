@@ -1,7 +1,9 @@
 -- What calls leave that read some steps of a block. (This project's own.)
 use Rattle.std.specs.Prelude.{◌≡◌, ◌<◌, ◌≤◌, ℕ, ◌+◌, ◌-◌, ◌^◌, ◌&&◌, ℤ, pos, Bool, true, false, List, [], ◌∷◌, ◌++◌, length, Result, Ok, Option, Some}
 use lib.ListN.{get_or}
+use Rattle.std.specs.List.{flat_map}
 use Rattle.item_defs.specs.Bits.{bit}
+use Rattle.plane_defs.specs.Spans.{span}
 use Rattle.plane_defs.specs.declared.codes.Book.{Book}
 use Rattle.plane_defs.specs.declared.entries.Entry.{Entry}
 use Rattle.plane_defs.specs.declared.entries.Entry.TheVariants.{Word}
@@ -122,3 +124,13 @@ ArePlaces count other = Unit {0}
 abbrev pub OnSome : {A : Type 0} → Result (Option A) TextFault → Type 0 → Type 0
 OnSome (Ok (Some value)) Holds = Holds
 OnSome other Holds = Unit {0}
+
+-- ---- by an index
+
+-- the pieces of the first n places from a start on
+abbrev pub pieces : (item : ℕ → List ℤ → List Step) → (start n : ℕ) → List ℤ → List Step
+pieces item start n v = flat_map (λ i. item i v) (span start n)
+
+-- the first n pieces were read
+abbrev pub SoFar : {I : Type 0} → SourceOf I → Book → (f : Frame) → (stage : ℕ) → (ℕ → List Step) → (done : List Step) → (item : ℕ → List ℤ → List Step) → (start n : ℕ) → Gaggle → Gaggle → Found → Found → Coming I → Coming I → Type 0
+SoFar k book f stage earlier done item start n g h l m a b = FoundPiece k book f stage earlier done (λ v. pieces item start n v) Anything (Ok (Some tt)) g h l m a b

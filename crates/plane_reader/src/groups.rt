@@ -1,17 +1,24 @@
 // Groups of four positions, one after another.
 
-ghost use Rattle.std.specs.Prelude.{◌≡◌, ◌≤◌, ◌<◌, ◌+◌, ◌*◌, ◌^◌, ℕ, ℤ, Bool, List};
-ghost use Rattle.bit_pipe.specs.Coming.{coming, IsIn};
+ghost use Rattle.std.specs.Prelude.{◌≡◌, ◌≤◌, ◌<◌, ◌+◌, ◌*◌, ◌^◌, ℕ, ℤ, Bool, List, Option};
+ghost use Rattle.bit_pipe.specs.Sources.{Tail};
+ghost use Rattle.bit_pipe.specs.Coming.{Coming, coming, IsIn, Takes};
+ghost use Rattle.bit_pipe.specs.Windows.{first_of};
 ghost use Rattle.plane_defs.specs.Steps.{Step};
 ghost use Rattle.block_masks.specs.Gaggles.{AreOptions};
 ghost use Rattle.plane_reader.specs.Frames.{Frame, group_steps, GroupsNext};
+ghost use Rattle.plane_reader.specs.Groups.{GroupsPassed};
 ghost use Rattle.plane_reader.specs.Pieces.{FoundPiece, Anything, OnSome};
+ghost use Rattle.plane_reader.specs.Shadows.{told};
+ghost use Rattle.plane_reader.specs.declared.found.Found.{Found as FoundValue};
+ghost use Rattle.block_masks.specs.declared.gaggle.Gaggle.{Gaggle as GaggleValue};
 
 use crate::found::Found;
+use crate::hand::types_in;
 use crate::types::{Group, take_types};
 use crate::walk::{first_in, without};
 use bit_pipe::{BitIn, OctetIn, TextFault};
-use block_masks::{Gaggle, has};
+use block_masks::{Gaggle, has, part};
 use word_codes::WordTables;
 
 // Groups of four positions from `first` on: those whose types are sent, and those of which one type at least must be 1.
@@ -23,7 +30,93 @@ pub(crate) struct Groups {
     pub wanted: u64,
 }
 
-// Takes the types of these groups, of which these are due, and their signs.
+// What was read of some groups at hand: those that are left, what the others told, and how many bits that took.
+#[derive(Clone, Copy)]
+struct Read {
+    left: u64,
+    found: Found,
+    len: u8,
+}
+
+// Reads groups of which these are left from a window, as many as stand at hand, up to one whose word's option isn't known or that
+// must have a type that is 1 and has none.
+#[inline(always)]
+fn groups_in(
+    tables: &WordTables,
+    gaggle: &Gaggle,
+    found: Found,
+    due: u64,
+    groups: Groups,
+    left: u64,
+    window: u64,
+) -> Read
+    requires known { AreOptions gaggle.now.options }
+    requires within { groups.first + 4 * groups.count ≤ 64 }
+    requires few { left < 2 ^ groups.count }
+    ensures few { result.left < 2 ^ groups.count }
+    ensures fewer { result.left ≤ left }
+    ensures short { result.len ≤ 56 }
+    ensures read { (f : Frame) (stage : ℕ) (earlier : ℕ → List Step) (done : List Step) (now wanted : ℕ → Bool) (after : List ℤ → List Step) (g : GaggleValue) (m : FoundValue) (a b c : Coming (Option Tail)) →
+        GroupsNext f stage earlier done groups.first groups.count now wanted due groups.now groups.wanted after →
+        GroupsPassed told tables.now.book f stage earlier done groups.first groups.count now wanted groups.now left g gaggle.now m found a b → IsIn b →
+        Takes told b c (first_of result.len window) →
+        GroupsPassed told tables.now.book f stage earlier done groups.first groups.count now wanted groups.now result.left g gaggle.now m result.found a c }
+{
+    let mut read = Read {
+        left,
+        found,
+        len: 0,
+    };
+    let mut rest = window;
+    while read.left != 0 && read.len <= 44 {
+        let j = first_in(read.left);
+        let start = groups.first + 4 * j;
+        let here = part(due, start, 4);
+        let Some(types) = types_in(tables, gaggle, here, has(groups.wanted, j), rest) else {
+            return read;
+        };
+        read.found.add_bits(types.new, start);
+        read.found.add_minus(types.minus, start);
+        read.left = without(read.left, j);
+        read.len += types.len;
+        rest <<= types.len;
+    }
+    read
+}
+
+// Takes what stands at hand of the groups of which these are left, and answers those that are left then.
+#[inline(always)]
+fn take_at_hand<I: OctetIn>(
+    input: &mut BitIn<I>,
+    tables: &WordTables,
+    gaggle: &Gaggle,
+    found: &mut Found,
+    due: u64,
+    groups: Groups,
+    left: u64,
+) -> u64
+    requires open { IsIn (coming input.old) }
+    requires known { AreOptions gaggle.now.options }
+    requires within { groups.first + 4 * groups.count ≤ 64 }
+    requires few { left < 2 ^ groups.count }
+    ensures few { result < 2 ^ groups.count }
+    ensures fewer { result ≤ left }
+    ensures passed { (f : Frame) (stage : ℕ) (earlier : ℕ → List Step) (done : List Step) (now wanted : ℕ → Bool) (after : List ℤ → List Step) (g : GaggleValue) (m : FoundValue) (a : Coming I) →
+        GroupsNext f stage earlier done groups.first groups.count now wanted due groups.now groups.wanted after →
+        GroupsPassed I.source tables.now.book f stage earlier done groups.first groups.count now wanted groups.now left g gaggle.now m found.old a (coming input.old) →
+        GroupsPassed I.source tables.now.book f stage earlier done groups.first groups.count now wanted groups.now result g gaggle.now m found.new a (coming input.new) }
+    ensures is_in { IsIn (coming input.new) }
+{
+    let Some(window) = input.window() else {
+        return left;
+    };
+    let read = groups_in(tables, gaggle, *found, due, groups, left, window);
+    input.take_window(window, read.len);
+    *found = read.found;
+    read.left
+}
+
+// Takes the types of these groups, of which these are due, and their signs: as many at once as stand at hand.
 pub(crate) fn take_groups<I: OctetIn>(
     input: &mut BitIn<I>,
     tables: &WordTables,
@@ -43,7 +136,7 @@ pub(crate) fn take_groups<I: OctetIn>(
     ensures options { AreOptions gaggle.new.options }
     ensures is_in { OnSome result (IsIn (coming input.new)) }
 {
-    let mut left = groups.now;
+    let mut left = take_at_hand(input, tables, gaggle, found, due, groups, groups.now);
     while left != 0 {
         let j = first_in(left);
         let group = Group {
@@ -54,7 +147,7 @@ pub(crate) fn take_groups<I: OctetIn>(
         let Some(()) = take_types(input, tables, gaggle, found, due, group)? else {
             return Ok(None);
         };
-        left = without(left, j);
+        left = take_at_hand(input, tables, gaggle, found, due, groups, without(left, j));
     }
     Ok(Some(()))
 }

@@ -1,10 +1,10 @@
+use Rattle.plane_reader.specs.Pieces.{SoFar}
 use Rattle.std.proofs.Common.{ℕ, ℤ, List}
 use Rattle.plane_defs.specs.Steps.{Step}
 use Rattle.block_masks.specs.Gaggles.{AreOptions}
 use Rattle.bit_pipe.specs.Coming.{coming, IsIn}
 use Rattle.plane_reader.specs.Frames.{Frame}
 use Rattle.plane_reader.specs.Grandchildren.{AllQuadsNext}
-use Rattle.plane_reader.proofs.IndexPieces.{SoFar}
 use Rattle.plane_reader.proofs.GrandchildPieces.{sixteen_item}
 use Rattle.plane_reader.proofs.grandchildren.take_sixteens.Given as goal
 

@@ -1,5 +1,6 @@
 use Rattle.std.proofs.Common.{rules, ◌≡◌, ◌+◌, ◌*◌, ◌^◌, ◌<◌, ◌∙◌, arith, ap, refl}
 use Rattle.std.proofs.lemmas.Result.{err_from_is_err_and}
+use Rattle.bit_pipe.specs.Coming.{coming}
 use Rattle.bit_pipe.proofs.Taking.{takes_start}
 use Rattle.plane_reader.proofs.SignsPassed.{bit_inside}
 use Rattle.plane_reader.proofs.GroupsPassed.{groups_start, groups_all, groups_more, groups_missing, groups_fault}
@@ -7,10 +8,12 @@ use Rattle.plane_reader.proofs.groups.take_groups.Goals as goal
 
 pub loop-left-init : goal.loop-left-init
 loop-left-init g c = record {
-  is_in = c.requires.open;
+  is_in = c.take_at_hand-left.ensures.is_in;
   options = c.requires.known;
-  small = c.requires.few;
-  passed = λ f stage earlier done now wanted after next. groups_start next c.requires.known c.requires.open (takes_start g.I.OctetIn.source _ c.requires.open);
+  small = c.take_at_hand-left.ensures.few;
+  passed = λ f stage earlier done now wanted after next.
+      c.take_at_hand-left.ensures.passed f stage earlier done now wanted after c.args.gaggle.now c.args.found.now (coming c.args.input.now) next
+      (groups_start next c.requires.known c.requires.open (takes_start g.I.OctetIn.source _ c.requires.open));
 }
 
 pub returns-clause-groups : goal.returns-clause-groups
@@ -39,23 +42,31 @@ returns-in_default-clause-groups g c = λ f stage earlier done now wanted after 
     let t = rw c.in_default.is at c.in_ok-take_types.ensures in
     groups_missing next passed j first.within first.here first.none_before c.has.result flag t.types refl
 
+pub take_at_hand-left-requires-in-loop-left-clause-few : goal.take_at_hand-left-requires-in-loop-left-clause-few
+take_at_hand-left-requires-in-loop-left-clause-few g c = omega (arith, c.loop-left.invariant.small, c.without.ensures.fewer c.first_in-j.ensures.here)
+
 pub loop-left-preserved : goal.loop-left-preserved
 loop-left-preserved g c =
     let t = rw c.in-Some.is at c.in_ok-take_types.ensures in
     let j = c.first_in-j.result in
     let first = c.first_in-j.ensures in
-    let rest = c.without-left in
+    let rest = c.without in
+    let hand = c.take_at_hand-left-in-loop-left.ensures in
     let inside : j < c.args.groups.count = bit_inside c.loop-left.left c.args.groups.count j c.loop-left.invariant.small first.here in
     record {
-      is_in = t.is_in;
+      is_in = hand.is_in;
       options = t.options;
-      small = omega (arith, c.loop-left.invariant.small, rest.ensures.fewer first.here);
+      small = hand.few;
       passed = λ f stage earlier done now wanted after next.
           let passed = c.loop-left.invariant.passed f stage earlier done now wanted after next in
           let z : 0 + j ≡ j = omega arith in
           let flag = c.has.ensures wanted 0 c.args.groups.count next.wanted_shown inside ∙ ap wanted z in
-          groups_more next passed j first.within first.here first.none_before c.has.result flag t.types refl rest.result rest.ensures.gone rest.ensures.others;
+          hand.passed f stage earlier done now wanted after c.args.gaggle.now c.args.found.now (coming c.args.input.now) next
+          (groups_more next passed j first.within first.here first.none_before c.has.result flag t.types refl rest.result rest.ensures.gone rest.ensures.others);
     }
+
+pub loop-left-smaller : goal.loop-left-smaller
+loop-left-smaller g c = omega (arith, c.take_at_hand-left-in-loop-left.ensures.fewer, c.without.ensures.fewer c.first_in-j.ensures.here)
 
 pub overflow_add-group : goal.overflow_add-group
 overflow_add-group g c =

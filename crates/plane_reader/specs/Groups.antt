@@ -1,0 +1,19 @@
+-- The groups of a mask, of which those are left that weren't read yet. (This project's own.)
+use Rattle.std.specs.Prelude.{◌≡◌, ◌<◌, ◌≤◌, ℕ, Bool, false, List}
+use Rattle.item_defs.specs.Bits.{bit}
+use Rattle.plane_defs.specs.declared.codes.Book.{Book}
+use Rattle.plane_defs.specs.Steps.{Step}
+use Rattle.block_masks.specs.declared.gaggle.Gaggle.{Gaggle}
+use Rattle.bit_pipe.specs.Sources.{SourceOf}
+use Rattle.bit_pipe.specs.Coming.{Coming}
+use Rattle.plane_reader.specs.declared.found.Found.{Found}
+use Rattle.plane_reader.specs.Frames.{Frame, group_item}
+use Rattle.plane_reader.specs.Pieces.{SoFar}
+
+-- all below n were read, and these are left of a mask
+pub record GroupsPassed {I : Type 0} (k : SourceOf I) (book : Book) (f : Frame) (stage : ℕ) (earlier : ℕ → List Step) (done : List Step) (first count : ℕ) (now wanted : ℕ → Bool) (mask left : ℕ) (g h : Gaggle) (m o : Found) (a b : Coming I) : Type 0 where
+  pub n : ℕ
+  pub within : n ≤ count
+  pub kept : (p : ℕ) → n ≤ p → p < 64 → bit left p ≡ bit mask p
+  pub gone : (p : ℕ) → p < n → bit left p ≡ false
+  pub so_far : SoFar k book f stage earlier done (group_item f first now wanted) 0 n g h m o a b

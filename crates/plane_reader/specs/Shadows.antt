@@ -1,0 +1,19 @@
+-- Bits that come from nothing but what is told of a source. What bits mean doesn't depend on their source, so what is read of a
+-- source may be shown of its shadow. (This project's own.)
+use Rattle.std.specs.Prelude.{ℕ, List, [], Option}
+use Rattle.bit_pipe.specs.Sources.{Tail, SourceOf}
+use Rattle.bit_pipe.specs.Coming.{Coming}
+
+-- the source that is nothing but what is still to come, where that is told
+abbrev pub told : SourceOf (Option Tail)
+told = record {
+  tail = λ t. t;
+  buffer = λ t. [];
+  faults = λ t. 0;
+  Went = λ s t. Unit {0};
+  went_none = λ s. tt;
+  went_both = λ s t u p q. tt;
+}
+
+abbrev pub shadow : {I : Type 0} → SourceOf I → Coming I → Coming (Option Tail)
+shadow k s = record { source = k.tail s.source; pending = s.pending; used = s.used; room = s.room; name = s.name }
