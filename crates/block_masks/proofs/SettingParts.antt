@@ -62,6 +62,9 @@ module _ (cells : List ℤ) (start : ℕ) (within : start + 16 ≤ length cells)
       stored k below = get_or-put_chunk_at start cells (passed lanes) k (pos 0) (omega (arith, below, many)) (omega (arith, within, many)) ∙ passed_at lanes k (omega (arith, below, long)) (made k below)
 
 -- no bit is set in a mask that is 0
+no_bit : (k : ℕ) → bit 0 k ≡ false
+no_bit k = ap (λ n. n == 1) (bit_at_above 0 0 k (omega arith) (omega arith))
+
 pub none_set : (plane bits minus start : ℕ) (cells : List ℤ) → Shows 0 (bit bits) start 16 → SetsPart plane bits minus start cells cells
 none_set plane bits minus start cells shows = record {
   long = refl;
@@ -71,9 +74,6 @@ none_set plane bits minus start cells shows = record {
   above = λ p over. refl;
 }
   where
-    no_bit : (k : ℕ) → bit 0 k ≡ false
-    no_bit k = ap (λ n. n == 1) (bit_at_above 0 0 k (omega arith) (omega arith))
-
     unset : {X : Type 0} → false ≡ true → X
     unset e = absurd cc
 
@@ -130,6 +130,3 @@ without_signs {plane} {bits} {minus} {shared} {before} {now} none is whole sets 
   named = λ p below has small. sets.named p below has small ∙ ap (with_bit plane (get_or before p (pos 0))) (no_bit p ∙ sym (ap (λ m. bit m p) none ∙ no_bit p) ∙ is p (omega (arith, below, whole)) ∙ ap (λ b. b && bit minus p) has);
   others = sets.others;
 }
-  where
-    no_bit : (k : ℕ) → bit 0 k ≡ false
-    no_bit k = ap (λ n. n == 1) (bit_at_above 0 0 k (omega arith) (omega arith))
