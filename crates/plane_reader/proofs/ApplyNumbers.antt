@@ -1,24 +1,15 @@
 -- The DC gets the bit of a plane.
-use Rattle.std.proofs.Common.{◌≡◌, inl, inr, ℕ, zero, suc, ◌+◌, ◌-◌, ◌*◌, ◌%◌, ◌<◌, ◌≤◌, ◌^◌, Bool, true, false, not, bit_and, bit_or, refl, ap, sym, ◌∙◌, arith, ℤ, pos, negsuc, neg_ℤ, ◌+ℤ◌, ◌-ℤ◌, to_z, of_z, w32}
-use Rattle.std.specs.Prelude.{◌==◌, ◌||◌, unsigned_abs, if◌then◌else◌}
-use Rattle.std.specs.Int.{bit_at}
-use Rattle.std.specs.Int.Bits.{or_add_and}
+use Rattle.std.proofs.Common.{◌≡◌, inl, inr, ℕ, suc, ◌+◌, ◌-◌, ◌*◌, ◌%◌, ◌<◌, ◌≤◌, ◌^◌, ap, sym, ◌∙◌, arith, ℤ, pos, negsuc, ◌+ℤ◌, to_z, of_z, w32}
 use Rattle.std.proofs.Math.Pow.{pow_mono}
 use Rattle.std.proofs.lemmas.Int.{ints, to_z-of_z, wrapping_add-bits, int_wrap_fits, fits_signed_from_abs}
-use Rattle.std.proofs.lemmas.Bool.Decides.{nat_tests}
 use Rattle.std.proofs.lemmas.Bool.{cases_lt}
 use Rattle.std.proofs.Math.Nat.{mul-le-mul_left}
 use Rattle.std.specs.Int.{int_wrap}
 use Rattle.std.specs.Int.RustNames.{FitsSigned}
-use lib.Signed.{lt_z}
 use mir.Val.{SFits}
-use Rattle.std.proofs.lemmas.Nat.{pow_pos, and_mask, pow-add}
-use Rattle.std.proofs.lemmas.Nat.Bits.{and_pow}
-use Rattle.item_defs.specs.Bits.{bit}
-use Rattle.plane_defs.specs.Entries.{negative}
+use Rattle.std.proofs.lemmas.Nat.{pow_pos, pow-add}
 use Rattle.plane_reader.specs.Taken.{IsCleared}
-use Rattle.plane_reader.specs.Applied.{with_bit}
-use Rattle.plane_reader.proofs.ToldNumbers.{weight, pow_more}
+use Rattle.plane_reader.proofs.ToldNumbers.{pow_more}
 
 as_positive : (n : ℕ) → n < 2147483648 → to_z w32 n ≡ pos n
 as_positive n small = omega (arith, ints)

@@ -1,13 +1,12 @@
 -- Groups that are read from a window.
-use Rattle.std.proofs.Common.{◌≡◌, ℕ, ◌+◌, ◌*◌, ◌/◌, ◌%◌, ◌^◌, ◌<◌, ◌≤◌, ℤ, Bool, List, [], refl, sym, ap, subst, ◌∙◌, arith}
-use Rattle.std.specs.Prelude.{Option}
+use Rattle.std.proofs.Common.{◌≡◌, ℕ, ◌+◌, ◌*◌, ◌/◌, ◌%◌, ◌^◌, Bool, List, [], sym, ap, subst, ◌∙◌}
 use Rattle.std.proofs.lemmas.Nat.{mul-mod_first, pow-add}
 use Rattle.std.proofs.Math.Nat.{mul_assoc}
 use Rattle.item_defs.proofs.NumberBits.{bits_none}
 use Rattle.plane_defs.specs.declared.codes.Book.{Book}
 use Rattle.plane_defs.specs.Steps.{Step}
 use Rattle.block_masks.specs.declared.gaggle.Gaggle.{Gaggle}
-use Rattle.bit_pipe.specs.Sources.{Tail, SourceOf}
+use Rattle.bit_pipe.specs.Sources.{SourceOf}
 use Rattle.bit_pipe.specs.Coming.{Coming, IsIn, Takes}
 use Rattle.bit_pipe.specs.Windows.{first_of}
 use Rattle.bit_pipe.proofs.Taking.{in_later, takes_then}
@@ -16,7 +15,7 @@ use Rattle.plane_reader.specs.Frames.{Frame, group_item}
 use Rattle.plane_reader.specs.Groups.{GroupsPassed}
 use Rattle.plane_reader.specs.Pieces.{Anything, pieces}
 use Rattle.plane_reader.specs.Shadows.{told, shadow}
-use Rattle.plane_reader.proofs.Shadows.{TakesSome, takes_shadow, found_back, found_forth, found_on, found_taken}
+use Rattle.plane_reader.proofs.Shadows.{found_back, found_forth, found_on, found_taken}
 
 -- the bits after some are a window too
 pub moved_on : (window len more rest : ℕ) → rest ≡ window * 2 ^ len % 2 ^ 64 → rest * 2 ^ more % 2 ^ 64 ≡ window * 2 ^ (len + more) % 2 ^ 64

@@ -1,7 +1,6 @@
 -- Pieces one after another by an index: those of the positions of a group, of families, of sets of four.
 use Rattle.std.proofs.Common.{◌≡◌, ℕ, zero, suc, ◌+◌, ◌-◌, ◌<◌, ℤ, List, [], ◌++◌, refl, ap, sym, ◌∙◌, subst, arith, append_assoc, append-nil}
 use Rattle.std.specs.Prelude.{Ok, Some, Result, Option}
-use Rattle.std.specs.List.{flat_map}
 use Rattle.item_defs.specs.Readings.{whole}
 use Rattle.plane_defs.specs.declared.codes.Book.{Book}
 use Rattle.plane_defs.specs.Spans.{span}

@@ -7,7 +7,7 @@ use Rattle.std.proofs.lemmas.List.{take_at, take-append-drop, take-append-le, le
 use Rattle.std.proofs.lemmas.List.Elements.{All-take, All-drop}
 use Rattle.item_defs.specs.Bits.{bits_of, bits_of_octets}
 use Rattle.item_defs.specs.Items.{text}
-use Rattle.item_defs.proofs.NumberBits.{length-bits_of, bits_of-mod, bits_of-split, take-bits_of}
+use Rattle.item_defs.proofs.NumberBits.{bits_of-mod, bits_of-split, take-bits_of}
 use Rattle.item_defs.proofs.OctetBits.{octets_append, length-bits_of_octets}
 use Rattle.plane_defs.specs.declared.codes.Book.{Book}
 use Rattle.plane_defs.specs.declared.entries.Entry.{Entry}
@@ -20,7 +20,7 @@ use Rattle.bit_pipe.specs.Sources.{Tail, SourceOf, Comes}
 use Rattle.bit_pipe.specs.Coming.{Coming, IsIn, Takes}
 use Rattle.bit_pipe.specs.Reading.{Ending, stopped, EndsReading}
 use Rattle.bit_pipe.specs.Windows.{first_of}
-use Rattle.bit_pipe.proofs.Taking.{in_later, takes_then}
+use Rattle.bit_pipe.proofs.Taking.{takes_then}
 use Rattle.plane_reader.specs.declared.found.Found.{Found}
 use Rattle.plane_reader.specs.Frames.{Frame}
 use Rattle.plane_reader.specs.Pieces.{Knows, ReadsSteps, FoundPiece}

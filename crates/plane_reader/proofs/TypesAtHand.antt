@@ -1,5 +1,5 @@
 -- The types of a group and their signs, read at once.
-use Rattle.std.proofs.Common.{◌≡◌, ℕ, zero, suc, ◌+◌, ◌-◌, ◌*◌, ◌/◌, ◌%◌, ◌^◌, ◌<◌, ◌≤◌, Bool, true, ◌&&◌, ◌||◌, ℤ, List, [], ◌++◌, refl, sym, ap, subst, ◌∙◌, arith, inl, inr, get_or}
+use Rattle.std.proofs.Common.{◌≡◌, ℕ, zero, suc, ◌+◌, ◌-◌, ◌*◌, ◌/◌, ◌%◌, ◌^◌, ◌<◌, ◌≤◌, Bool, ◌&&◌, ◌||◌, ℤ, List, [], ◌++◌, refl, sym, ap, subst, ◌∙◌, arith, inl, inr, get_or}
 use Rattle.std.specs.Prelude.{Ok, Option, Some, count_ones}
 use Rattle.std.proofs.lemmas.Bool.{cases_lt}
 use Rattle.item_defs.specs.Bits.{bit}
@@ -9,7 +9,6 @@ use Rattle.item_defs.proofs.NumberBits.{bits_none}
 use Rattle.plane_defs.specs.declared.codes.Book.{Book}
 use Rattle.plane_defs.specs.Codes.{word_item}
 use Rattle.plane_defs.specs.Spans.{span}
-use Rattle.plane_defs.specs.Sets.{significant, type_due}
 use Rattle.plane_defs.specs.Steps.{Step, typed_steps, some_one_where}
 use Rattle.block_masks.specs.declared.gaggle.Gaggle.{Gaggle}
 use Rattle.block_masks.specs.Gaggles.{AreOptions}
@@ -30,7 +29,7 @@ use Rattle.plane_reader.specs.Pieces.{FoundPiece, Anything, TakesWord}
 use Rattle.plane_reader.specs.Places.{inside}
 use Rattle.plane_reader.specs.Shadows.{told, shadow}
 use Rattle.plane_reader.proofs.DueReading.{due_given, few_ones}
-use Rattle.plane_reader.proofs.Shadows.{TakesSome, takes_shadow, shadow_in, found_back, between, takes_first, takes_rest, window_parts}
+use Rattle.plane_reader.proofs.Shadows.{takes_shadow, shadow_in, found_back, between, takes_first, takes_rest, window_parts}
 use Rattle.plane_reader.proofs.SignWindows.{signs_at_once}
 use Rattle.plane_reader.proofs.TypePieces.{due_part, types_word, types_given}
 use Rattle.plane_reader.proofs.WordReading.{word_none, word_raw, opens_known, opened_word, option_fits}

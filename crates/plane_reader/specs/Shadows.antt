@@ -1,6 +1,6 @@
 -- Bits that come from nothing but what is told of a source. What bits mean doesn't depend on their source, so what is read of a
 -- source may be shown of its shadow. (This project's own.)
-use Rattle.std.specs.Prelude.{ℕ, List, [], Option}
+use Rattle.std.specs.Prelude.{[], Option}
 use Rattle.bit_pipe.specs.Sources.{Tail, SourceOf}
 use Rattle.bit_pipe.specs.Coming.{Coming}
 

@@ -1,8 +1,8 @@
-use Rattle.std.proofs.Common.{rules, ◌≡◌, ◌<◌, ◌≤◌, ◌+◌, ◌*◌, ◌-◌, ℕ, pos, length, get_or, take, drop, ap, sym, subst, ◌∙◌, arith, FitsSigned, w32, inl, inr, get_or-set_same, get_or-set_other, length-set}
+use Rattle.std.proofs.Common.{rules, ◌≡◌, ◌<◌, ◌+◌, ◌*◌, ◌-◌, pos, get_or, take, drop, sym, subst, ◌∙◌, arith, FitsSigned, w32, inl, inr, get_or-set_same, get_or-set_other, length-set}
 use Rattle.std.proofs.lemmas.Bool.{cases_eq}
 use Rattle.std.proofs.lemmas.Int.{to_z-of_z}
 use Rattle.wave_defs.specs.Held.{block_at}
-use Rattle.plane_defs.specs.Marks.{depth_of as depth_in, depths_of}
+use Rattle.plane_defs.specs.Marks.{depths_of}
 use Rattle.plane_defs.specs.Sets.{significant}
 use Rattle.block_masks.specs.Masks.{Shows}
 use Rattle.block_masks.proofs.Marking.{depth_there}

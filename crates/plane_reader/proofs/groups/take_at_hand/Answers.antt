@@ -1,4 +1,3 @@
-use Rattle.bit_pipe.proofs.Taking.{in_later}
 use Rattle.bit_pipe.specs.Coming.{coming}
 use Rattle.plane_reader.specs.Shadows.{shadow}
 use Rattle.plane_reader.proofs.Shadows.{shadow_in, takes_shadow}

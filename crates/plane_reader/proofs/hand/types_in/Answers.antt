@@ -1,6 +1,5 @@
-use Rattle.std.proofs.Common.{◌≡◌, ◌<◌, ◌≤◌, ◌*◌, ◌%◌, ◌^◌, refl, sym, ap, subst, arith}
+use Rattle.std.proofs.Common.{◌≤◌, ◌*◌, ◌%◌, ◌^◌, refl, arith}
 use Rattle.std.proofs.Math.Pow.{pow_mono}
-use Rattle.plane_reader.specs.Hand.{IsWordIn}
 use Rattle.plane_reader.proofs.DueReading.{few_ones}
 use Rattle.plane_reader.proofs.SignWindows.{word_small}
 use Rattle.plane_reader.proofs.hand.types_in.Goals as goal
