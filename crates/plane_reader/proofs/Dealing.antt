@@ -1,9 +1,10 @@
 -- Bits dealt out to the positions of a mask.
-use Rattle.std.proofs.Common.{◌≡◌, inl, inr, ℕ, zero, suc, ◌+◌, ◌-◌, ◌/◌, ◌%◌, ◌<◌, ◌≤◌, ◌^◌, Bool, true, false, ◌&&◌, ◌||◌, cond, List, [], ◌∷◌, ◌++◌, length, refl, ap, sym, ◌∙◌, subst, arith, length-append}
+use Rattle.std.proofs.Common.{◌≡◌, inl, inr, ℕ, zero, suc, ◌+◌, ◌-◌, ◌*◌, ◌/◌, ◌%◌, ◌<◌, ◌≤◌, ◌^◌, Bool, true, false, ◌&&◌, ◌||◌, cond, List, [], ◌∷◌, ◌++◌, length, refl, ap, sym, ◌∙◌, subst, arith, length-append}
 use Rattle.std.specs.Prelude.{◌==◌, map, filter}
 use Rattle.std.proofs.lemmas.Bool.{cases_lt}
 use Rattle.std.proofs.lemmas.List.{map-append, append-nil}
-use Rattle.std.proofs.lemmas.Nat.{pow_pos, shr-shr}
+use Rattle.std.proofs.lemmas.Nat.{pow_pos, pow-add, shr-shr, shr_high}
+use Rattle.std.proofs.Math.Nat.{mul_assoc}
 use Rattle.std.proofs.lemmas.Nat.Bits.{bit_at_above}
 use Rattle.item_defs.specs.Bits.{bit, bits_of}
 use Rattle.item_defs.proofs.NumberBits.{bits_of-split}
@@ -175,3 +176,29 @@ module _ {mask window count left bits : ℕ} (s : DealtSo mask window count left
         (sym (map-append f (filter (bit mask) (span 0 s.end)) (position ∷ [])) ∙ ap (map f) (sym one_more) ∙ e ∙ first_more count window lt) in
         shows_same (λ p. shown f x p (is ∙ sym both.1)) (told (λ p. (inside 0 s.end p && bit mask p) && f p) (s.told f both.0));
   }
+
+-- ---- a window that is moved up by a bit after each
+
+pub moved_none : (window : ℕ) → window < 2 ^ 64 → window ≡ window * 2 ^ 0 % 2 ^ 64
+moved_none window fits = omega (arith, fits)
+
+pub moved_more : (window count rest : ℕ) → rest ≡ window * 2 ^ count % 2 ^ 64 → rest * 2 % 2 ^ 64 ≡ window * 2 ^ (count + 1) % 2 ^ 64
+moved_more window count rest e =
+    let x = window * 2 ^ count in
+    let twice : window * 2 ^ (count + 1) ≡ x * 2 = ap (λ n. window * n) (pow-add 2 count 1) ∙ sym (mul_assoc window (2 ^ count) 2) in
+    ap (λ n. n * 2 % 2 ^ 64) e ∙ both x ∙ ap (λ n. n % 2 ^ 64) (sym twice)
+  where
+    both : (x : ℕ) → x % 2 ^ 64 * 2 % 2 ^ 64 ≡ x * 2 % 2 ^ 64
+    both x = omega arith
+
+pub moved_bit : (window count rest : ℕ) → count < 56 → rest ≡ window * 2 ^ count % 2 ^ 64 → bit rest 63 ≡ bit window (63 - count)
+moved_bit window count rest lt e =
+    let x = window * 2 ^ count in
+    let up : count + (63 - count) ≡ 63 = omega (arith, lt) in
+    let none : x ≡ x + 0 = omega arith in
+    ap (λ n. bit n 63) e
+    ∙ ap (λ n. n == 1) (top x)
+    ∙ ap (λ n. n % 2 == 1) (ap (λ n. x / 2 ^ n) (sym up) ∙ sym (shr-shr x count (63 - count)) ∙ ap (λ n. n / 2 ^ (63 - count)) (ap (λ n. n / 2 ^ count) none ∙ shr_high window count 0 (pow_pos count)))
+  where
+    top : (x : ℕ) → x % 2 ^ 64 / 2 ^ 63 % 2 ≡ x / 2 ^ 63 % 2
+    top x = omega arith

@@ -52,3 +52,4 @@ pub mod BlockStage
 mod Shadows
 mod TypesAtHand
 mod GroupsAtHand
+mod MaskParts

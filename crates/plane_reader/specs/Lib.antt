@@ -15,3 +15,4 @@ pub mod Blocks
 pub mod Hand
 pub mod Groups
 pub mod Shadows
+pub mod Walk

@@ -11,11 +11,11 @@ ghost use Rattle.plane_reader.specs.Frames.{Frame};
 ghost use Rattle.plane_reader.specs.Pieces.{Piece, FoundPiece, Anything, OnSome};
 ghost use Rattle.plane_reader.specs.Refining.{Deals, RefinementNext, DcBitNext, IsDcBit};
 
-use crate::found::{Found, placed};
-use crate::walk::{first_in, without};
+use crate::found::Found;
+use crate::walk::{first_in, part_first, without};
 use crate::word::take_flag;
 use bit_pipe::{BitIn, OctetIn, TextFault};
-use block_masks::{CodedPlane, either, has, one};
+use block_masks::{CodedPlane, either, has, masked, one};
 
 // What bits were dealt out to positions: those whose bit is 1, those that are left, and how many bits that took.
 #[derive(Clone, Copy)]
@@ -34,12 +34,13 @@ fn deal(mask: u64, window: u64) -> Dealt
     let mut bits = 0;
     let mut left = mask;
     let mut count = 0;
+    let mut rest = window;
     while left != 0 && count < 56 {
-        let position = first_in(left);
-        let bit = one(has(window, 63 - count));
-        bits = either(bits, placed(bit, position));
-        left = without(left, position);
+        let parts = part_first(left);
+        bits = either(bits, masked(parts.first, has(rest, 63)));
+        left = parts.others;
         count += 1;
+        rest <<= 1;
     }
     Dealt { bits, left, count }
 }

@@ -2,6 +2,7 @@
 
 ghost use Rattle.std.specs.Prelude.{◌≡◌, ◌<◌, ℕ, true, false};
 ghost use Rattle.item_defs.specs.Bits.{bit as bit_in};
+ghost use Rattle.plane_reader.specs.Walk.{IsParted};
 
 // The first position of a mask that has some.
 #[inline(always)]
@@ -23,4 +24,24 @@ pub(crate) fn without(mask: u64, position: u8) -> u64
     ensures fewer { bit_in mask position ≡ true → result < mask }
 {
     mask & !(1 << position)
+}
+
+// A mask of some positions in two: its first position, and the others.
+#[derive(Clone, Copy)]
+pub(crate) struct Parted {
+    pub first: u64,
+    pub others: u64,
+}
+
+// The first position of a mask that has some, and the others. To take 1 from a mask clears its first position and sets those below.
+#[inline(always)]
+pub(crate) fn part_first(mask: u64) -> Parted
+    requires some { 0 < mask }
+    ensures { IsParted mask result.first result.others }
+{
+    let others = mask & (mask - 1);
+    Parted {
+        first: mask ^ others,
+        others,
+    }
 }
