@@ -8,11 +8,11 @@ ghost use Rattle.inverse_strip.specs.Cells.{first_cell, first_of_row};
 
 use std::alloc::{AllocError, Global};
 
-/// The numbers of a block row of so many blocks, band after band.
+/// The numbers of a block row of so many blocks, band after band. They fit 32 bits, which halves what waits in memory.
 #[derive(Drop)]
 pub struct BlockRow {
     pub columns: usize,
-    pub cells: Vec<i64>,
+    pub cells: Vec<i32>,
     ghost few: { columns ≤ 2 ^ 17 },
     ghost whole: { vec_len cells ≡ 64 * columns },
     ghost small: { AllWithin (2 ^ 27) (64 * columns) (signal cells.items) },
@@ -74,7 +74,7 @@ impl BlockRow {
     }
 
     /// A row of a band.
-    pub fn row(&self, band: usize, row: usize) -> &[i64]
+    pub fn row(&self, band: usize, row: usize) -> &[i32]
         requires band { band < 10 }
         requires row { row < block_side band }
         ensures wide { length result.now ≡ block_side band * self.now.columns }
@@ -103,7 +103,7 @@ impl BlockRow {
             → number_in self.new.columns self.new.cells.items p
             ≡ number_in self.old.columns self.old.cells.items p }
     {
-        self.cells[start + column] = value;
+        self.cells[start + column] = value as i32;
     }
 
     /// Makes a value the number at a place.

@@ -4,6 +4,7 @@ ghost use Rattle.std.specs.Prelude.{◌≡◌, ℕ, ◌+◌, ◌*◌, ◌-◌, �
 ghost use Rattle.inverse_strip.specs.Kept.{Waits};
 
 use crate::columns::Columns;
+use crate::wide::widen;
 use lift_rows::inverse_row;
 use std::alloc::{AllocError, Global};
 
@@ -84,6 +85,42 @@ impl Level {
     {
         self.left.push(ll, lh);
         self.right.push(hl, hh);
+    }
+
+    /// Takes the next row of each band, as by `push`, whose numbers come in 32 bits.
+    pub fn push_narrow(&mut self, ll: &[i32], hl: &[i32], lh: &[i32], hh: &[i32])
+        requires wide_ll { length ll.now ≡ self.old.left.width }
+        requires wide_hl { length hl.now ≡ self.old.left.width }
+        requires wide_lh { length lh.now ≡ self.old.left.width }
+        requires wide_hh { length hh.now ≡ self.old.left.width }
+        requires few { self.old.left.taken < 2 ^ 32 - 1 }
+        requires drained { IsDrained self.old.left.taken self.old.given }
+        requires small_ll { AllWithin (2 ^ 36) self.old.left.width (signal ll.now) }
+        requires small_hl { AllWithin (2 ^ 36) self.old.left.width (signal hl.now) }
+        requires small_lh { AllWithin (2 ^ 36) self.old.left.width (signal lh.now) }
+        requires small_hh { AllWithin (2 ^ 36) self.old.left.width (signal hh.now) }
+        ensures width { self.new.left.width ≡ self.old.left.width }
+        ensures taken { self.new.left.taken ≡ self.old.left.taken + 1 }
+        ensures given { self.new.given ≡ self.old.given }
+        ensures follows { (q : Quarters) → FollowLevel q self.old
+            → Agrees self.old.left.width (signal ll.now) (q.ll self.old.left.taken)
+            → Agrees self.old.left.width (signal hl.now) (q.hl self.old.left.taken)
+            → Agrees self.old.left.width (signal lh.now) (q.lh self.old.left.taken)
+            → Agrees self.old.left.width (signal hh.now) (q.hh self.old.left.taken)
+            → FollowLevel q self.new }
+        ensures small { (m : ℕ) → 1 ≤ m → IsSmallLevel m self.old
+            → AllWithin m self.old.left.width (signal ll.now)
+            → AllWithin m self.old.left.width (signal hl.now)
+            → AllWithin m self.old.left.width (signal lh.now)
+            → AllWithin m self.old.left.width (signal hh.now)
+            → IsSmallLevel m self.new }
+    {
+        widen(ll, &mut self.left_row);
+        widen(lh, &mut self.right_row);
+        self.left.push(&self.left_row, &self.right_row);
+        widen(hl, &mut self.left_row);
+        widen(hh, &mut self.right_row);
+        self.right.push(&self.left_row, &self.right_row);
     }
 
     /// Whether the next row can be given, where the bands have `height` rows in all.

@@ -8,5 +8,6 @@ mod level;
 mod sink;
 mod stage;
 mod strip;
+mod wide;
 
 pub use strip::StripInverse;

@@ -5,11 +5,11 @@ ghost use Rattle.wave_defs.specs.Rings.{AreRows, RowsWithin};
 
 use crate::block_row::BlockRow;
 use crate::level::Level;
+use crate::wide::turn_wide;
 use line_rings::RowRing;
 use std::alloc::{AllocError, Global};
 
-/// A level, the newest rows of its three high bands, of which so many came, and room for a row of
-/// the low band.
+/// A level, the newest rows of its three high bands, of which so many came, and room for a row.
 #[derive(Drop)]
 pub struct Stage {
     pub level: Level,
@@ -70,7 +70,7 @@ impl Stage {
     }
 
     /// The next row of each high band comes. There is room for it.
-    pub fn come(&mut self, hl: &[i64], lh: &[i64], hh: &[i64])
+    pub fn come(&mut self, hl: &[i32], lh: &[i32], hh: &[i32])
         requires wide_hl { length hl.now ≡ self.old.level.left.width }
         requires wide_lh { length lh.now ≡ self.old.level.left.width }
         requires wide_hh { length hh.now ≡ self.old.level.left.width }
@@ -88,9 +88,9 @@ impl Stage {
             → Agrees self.old.level.left.width (signal hh.now) (q.hh self.old.came)
             → FollowStage q self.new }
     {
-        self.hl.turn_copy(hl);
-        self.lh.turn_copy(lh);
-        self.hh.turn_copy(hh);
+        turn_wide(&mut self.hl, hl, &mut self.low);
+        turn_wide(&mut self.lh, lh, &mut self.low);
+        turn_wide(&mut self.hh, hh, &mut self.low);
         self.came += 1;
     }
 

@@ -139,7 +139,7 @@ impl StripInverse {
         ensures follows { (p : Pyramid) (r : ℕ) → FollowStrip p r self.old
             → IsNext p (taken_of self.old) self.old → FollowStrip p r self.new }
     {
-        self.third.push(
+        self.third.push_narrow(
             self.next.row(9, 0),
             self.next.row(7, 0),
             self.next.row(8, 0),
