@@ -1,17 +1,14 @@
 -- A mask in two: its first position, and the others.
-use Rattle.std.proofs.Common.{◌≡◌, ◌≢◌, inl, inr, ℕ, ◌+◌, ◌-◌, ◌*◌, ◌/◌, ◌%◌, ◌<◌, ◌≤◌, ◌^◌, Bool, true, false, min, bit_and, bit_xor, refl, ap, sym, ◌∙◌, subst, arith}
+use Rattle.std.proofs.Common.{◌≡◌, inl, inr, ℕ, ◌+◌, ◌-◌, ◌*◌, ◌/◌, ◌%◌, ◌<◌, ◌≤◌, ◌^◌, Bool, true, false, min, bit_and, bit_xor, refl, ap, sym, ◌∙◌, subst, arith}
 use Rattle.std.specs.Prelude.{◌==◌, if◌then◌else◌}
 use Rattle.std.specs.Int.{w64, bit_at, trailing_zeros}
 use Rattle.std.proofs.lemmas.Bool.{cases_lt, cases_eq}
 use Rattle.std.proofs.lemmas.Nat.{pow_pos, pow-add, shr_split, mod_below, and_le_r}
-use Rattle.std.proofs.lemmas.Nat.Bits.{bit_at_and, bit_at_xor, bit_at-lt, bit_at-pow_same, bit_at-pow_other, bit_at_ones, bit_at_ones_above, bit_at_cat_low, bit_at_cat_high, same_from_bits_below, same_from_bits, bit_at-trailing_zeros}
+use Rattle.std.proofs.lemmas.Nat.Bits.{bit_at_and, bit_at_xor, bit_at-pow_same, bit_at-pow_other, bit_at_ones_above, bit_at_cat_low, bit_at_cat_high, same_from_bits_below, same_from_bits, bit_at-trailing_zeros}
 use Rattle.std.proofs.lemmas.Bool.Decides.{nat_tests}
 use Rattle.std.proofs.Math.Pow.{pow-lt}
-use Rattle.item_defs.specs.Bits.{bit}
-use Rattle.block_masks.specs.Masks.{Shows}
 use Rattle.plane_reader.specs.Places.{inside}
 use Rattle.plane_reader.specs.Walk.{IsParted}
-use Rattle.plane_reader.proofs.FoundMasks.{inside_at, before_inside, past_inside}
 
 module _ (n k : ℕ) (here : bit_at n k ≡ 1) (none : (i : ℕ) → i < k → bit_at n i ≡ 0) where
   abbrev high : ℕ
@@ -26,10 +23,10 @@ module _ (n k : ℕ) (here : bit_at n k ≡ 1) (none : (i : ℕ) → i < k → b
       let low = n % 2 ^ (k + 1) in
       let whole : high * 2 ^ (k + 1) + low ≡ n = shr_split n (k + 1) in
       let each : (i : ℕ) → i < k + 1 → bit_at low i ≡ bit_at (2 ^ k) i = λ i lt.
-          sym (bit_at_cat_low high (k + 1) low i lt) ∙ ap (λ m. bit_at m i) whole ∙ elim (cases_eq i k) [
-            | inl e ↦ subst (λ j. bit_at n j ≡ bit_at (2 ^ k) j) (sym e) (here ∙ sym (bit_at-pow_same k))
-            | inr apart ↦ none i (omega (arith, lt, apart)) ∙ sym (bit_at-pow_other k i apart)
-          ] in
+      sym (bit_at_cat_low high (k + 1) low i lt) ∙ ap (λ m. bit_at m i) whole ∙ elim (cases_eq i k) [
+        | inl e ↦ subst (λ j. bit_at n j ≡ bit_at (2 ^ k) j) (sym e) (here ∙ sym (bit_at-pow_same k))
+        | inr apart ↦ none i (omega (arith, lt, apart)) ∙ sym (bit_at-pow_other k i apart)
+      ] in
       let same : low ≡ 2 ^ k = same_from_bits_below (k + 1) low (2 ^ k) (mod_below n (2 ^ (k + 1)) (pow_pos (k + 1))) (omega (arith, twice, pow_pos k)) each in
       sym whole ∙ ap (λ m. high * 2 ^ (k + 1) + m) same
 

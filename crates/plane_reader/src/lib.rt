@@ -3,8 +3,9 @@
 //! `take_plane` puts into the blocks of a segment the bits and signs that the plane's text gives. `plane` goes over the stages,
 //! gaggles and blocks, and `stages` takes what a block sends in a stage, by masks of 64 positions: `children`, `grandchildren`
 //! and `refine` its parts, `groups` and `types` flags, types and signs, and `word` the words of a gaggle. `found` gathers what
-//! they give, and `apply` puts it into the block. `block_masks` keeps in the marks what lasts from one stage to the next. Where
-//! the octets stand in memory, signs and refinement bits are taken all at once, and else one after another.
+//! they give, and `apply` puts it into the block. `above` keeps what is significant above the plane, and `block_masks` keeps in
+//! the marks what lasts from one stage to the next. Where the octets stand in memory, groups and refinement bits are read from
+//! one window of their bits, by `hand`, and else one after another. `walk` goes over the positions of a mask.
 #![tactic(auto)]
 
 mod above;

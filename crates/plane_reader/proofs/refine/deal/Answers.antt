@@ -1,9 +1,8 @@
-use Rattle.std.proofs.Common.{◌≡◌, ◌+◌, ◌-◌, ◌&&◌, ap, ◌∙◌, arith}
+use Rattle.std.proofs.Common.{◌≡◌, ◌+◌, ◌&&◌, ap, ◌∙◌, arith}
 use Rattle.item_defs.specs.Bits.{bit}
 use Rattle.block_masks.specs.Masks.{Shows}
 use Rattle.plane_reader.specs.Places.{inside}
 use Rattle.plane_reader.proofs.Dealing.{dealt_none, dealt_more, moved_none, moved_bit, moved_more}
-use Rattle.plane_reader.proofs.FoundMasks.{room_one}
 use Rattle.plane_reader.proofs.refine.deal.Goals as goal
 
 pub loop-left-init : goal.loop-left-init
