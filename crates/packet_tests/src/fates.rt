@@ -47,10 +47,16 @@ fn compare(rt: &impl Abort, packets: &mut Assembly, port: &mut MemoryPort, notes
 }
 
 // No further packet comes, for this reason.
-fn ends(rt: &impl Abort, packets: &mut Assembly, port: &mut MemoryPort, framing: Option<Framing>) {
+fn ends(
+    rt: &impl Abort,
+    packets: &mut Assembly,
+    port: &mut MemoryPort,
+    piece: usize,
+    framing: Option<Framing>,
+) {
     assert_eq!(rt; packets.framing(), None);
     assert_eq!(rt; packets.next_packet(port), Ok(None));
-    assert_eq!(rt; packets.framing(), framing);
+    assert_eq!(rt; packets.framing(), framing, "pieces of {piece}");
     assert_eq!(rt; packets.next_packet(port), Ok(None));
 }
 
@@ -66,7 +72,7 @@ fn expect(
     let mut port = port_of(rt.alloc(), parts, &[], piece)?;
     let mut packets = Assembly::new(rt.alloc(), 100, 1000)?;
     compare(rt, &mut packets, &mut port, notes);
-    ends(rt, &mut packets, &mut port, framing);
+    ends(rt, &mut packets, &mut port, piece, framing);
     Ok(())
 }
 

@@ -30,9 +30,15 @@ fn is_text_of(answer: Result<PacketRead, InFault>, text: &[u8]) -> bool {
 }
 
 // Asks for packets, and compares the answers, and the text after each.
-fn compare(rt: &impl Abort, reader: &mut PacketReader, port: &mut MemoryPort, answers: Answers) {
+fn compare(
+    rt: &impl Abort,
+    reader: &mut PacketReader,
+    port: &mut MemoryPort,
+    piece: usize,
+    answers: Answers,
+) {
     for (apid, answer) in answers {
-        assert_eq!(rt; reader.next(port, *apid), *answer);
+        assert_eq!(rt; reader.next(port, *apid), *answer, "pieces of {piece}");
         assert!(rt; is_text_of(*answer, reader.text()), "after {answer:?}");
     }
 }
@@ -45,7 +51,7 @@ fn ends(
     cap: u64,
     end: Result<PacketRead, InFault>,
 ) {
-    assert_eq!(rt; reader.next(port, 100), end);
+    assert_eq!(rt; reader.next(port, 100), end, "cap {cap}");
     let calls = port.asked().len();
     assert_eq!(rt; reader.next(port, 100), end);
     assert_eq!(rt; port.asked().len(), calls);
@@ -68,7 +74,7 @@ fn expect(
     assert!(rt; piece > 0);
     let mut port = port_of(rt.alloc(), parts, fail, piece)?;
     let mut reader = PacketReader::new(rt.alloc(), cap)?;
-    compare(rt, &mut reader, &mut port, answers);
+    compare(rt, &mut reader, &mut port, piece, answers);
     ends(rt, &mut reader, &mut port, cap, end);
     Ok(())
 }

@@ -59,7 +59,10 @@ fn fail_at(
     if !is_same(&ran, whole) {
         return Ok(true);
     }
-    assert!(rt; ran.port.given() == whole.port.given(), "{text}, call {number}");
+    assert!(rt;
+        ran.port.given() == whole.port.given(),
+        "{text}, call {number}"
+    );
     Ok(false)
 }
 
@@ -109,6 +112,14 @@ fn lists_of_a_cut_stream(rt: HostRuntime) -> Result<(), Fail> {
 #[test]
 fn a_note_that_fails_leaves_the_status(rt: HostRuntime) -> Result<(), Fail> {
     // Sixteen rows, a part of the last, the end, and the note.
-    ended(&rt, "encode width=17 rows=17", &[0; 288], &[18], WHOLE, 3, "")?;
+    ended(
+        &rt,
+        "encode width=17 rows=17",
+        &[0; 288],
+        &[18],
+        WHOLE,
+        3,
+        "",
+    )?;
     Ok(())
 }

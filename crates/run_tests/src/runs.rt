@@ -203,6 +203,21 @@ fn a_million_made_pixels(rt: HostRuntime) -> Result<(), Fail> {
     Ok(())
 }
 
+// A limit of 32 octets cuts a segment of 100 blocks.
+fn limit_cuts(rt: &(impl Abort + AllocGlobal)) -> Result<(), Fail> {
+    let words = "encode width=80 rows=80 segment=100 limit=32";
+    let given = done(rt, words, &[200; 6400])?;
+    let text = [
+        0xC0, 0x18, 0x07, 0x00, 0x00, 0x00, 0x04, 0x00, 0x60, 0x00, 0x06, 0x4C, 0x88, 0x00, 0x05,
+        0x00, 0x00, 0x00, 0x00, 0x00, 0x06, 0x47, 0xFF, 0xF0, 0xFF, 0xFF, 0x0F, 0xFF, 0xF0, 0xFF,
+        0xFF, 0x0F,
+    ];
+    assert_eq!(rt; given.len(), 62);
+    assert_eq!(rt; part(&given, 30, 62), text.as_slice());
+    done(rt, "decode", &given)?;
+    Ok(())
+}
+
 #[test]
 fn a_limit_fills_and_cuts(rt: HostRuntime) -> Result<(), Fail> {
     let mut filled = [0; 64];
@@ -212,22 +227,8 @@ fn a_limit_fills_and_cuts(rt: HostRuntime) -> Result<(), Fail> {
     let words = "encode width=17 rows=17 limit=64 fill=1";
     let whole = packet(&rt, &filled)?;
     expect(&rt, words, &[200; 289], 0, &whole, "")?;
-    expect(&rt, "decode", &whole, 0, &[200; 289], "")
-}
-
-#[test]
-fn a_limit_cuts_a_segment_of_a_hundred_blocks(rt: HostRuntime) -> Result<(), Fail> {
-    let words = "encode width=80 rows=80 segment=100 limit=32";
-    let given = done(&rt, words, &[200; 6400])?;
-    let text = [
-        0xC0, 0x18, 0x07, 0x00, 0x00, 0x00, 0x04, 0x00, 0x60, 0x00, 0x06, 0x4C, 0x88, 0x00, 0x05,
-        0x00, 0x00, 0x00, 0x00, 0x00, 0x06, 0x47, 0xFF, 0xF0, 0xFF, 0xFF, 0x0F, 0xFF, 0xF0, 0xFF,
-        0xFF, 0x0F,
-    ];
-    assert_eq!(rt; given.len(), 62);
-    assert_eq!(rt; &given[30..], text.as_slice());
-    done(&rt, "decode", &given)?;
-    Ok(())
+    expect(&rt, "decode", &whole, 0, &[200; 289], "")?;
+    limit_cuts(&rt)
 }
 
 #[test]
@@ -311,8 +312,16 @@ fn what_is_settled_is_given_before_a_bad_pixel(rt: HostRuntime) -> Result<(), Fa
     // 37 rows settle the first segment, and 53 the second.
     let words = "encode width=64 rows=128 depth=7 segment=16";
     for (place, count, note) in [
-        (53 * 64 + 9, 102, "strip122: bad pixel 128 at row 53 column 9\n"),
-        (52 * 64 + 9, 51, "strip122: bad pixel 128 at row 52 column 9\n"),
+        (
+            53 * 64 + 9,
+            102,
+            "strip122: bad pixel 128 at row 53 column 9\n",
+        ),
+        (
+            52 * 64 + 9,
+            51,
+            "strip122: bad pixel 128 at row 52 column 9\n",
+        ),
     ] {
         let mut input = [0; 8192];
         assert!(rt; place < 8192);

@@ -38,7 +38,7 @@ fn expect_text(
     octets: &[u8],
 ) {
     let mut out = SliceOut::new(room);
-    assert_eq!(rt; put_text(&mut out, 8, fill), answer);
+    assert_eq!(rt; put_text(&mut out, 8, fill), answer, "fill {fill}");
     assert_eq!(rt; out.len(), octets.len());
     expect_written(rt, room, octets);
 }

@@ -48,8 +48,8 @@ fn expect(
     requires count { length blocks.old ≡ 64 * length marks.old }
     requires most { length marks.old ≤ 100 }
 {
-    assert_eq!(rt; decode(rt, text, blocks, marks), Ok(part));
-    assert!(rt; *blocks == *numbers);
+    assert_eq!(rt; decode(rt, text, blocks, marks), Ok(part), "{text:?}");
+    assert!(rt; *blocks == *numbers, "{text:?}");
 }
 
 // The text of one block gives these numbers.
@@ -125,7 +125,7 @@ fn refused_texts(rt: HostRuntime) {
     ];
     for (rest, fault) in cases {
         assert!(rt; rest.len() <= 20);
-        assert_eq!(rt; answer_to(&rt, rest), Err(fault));
+        assert_eq!(rt; answer_to(&rt, rest), Err(fault), "{rest:?}");
     }
 }
 

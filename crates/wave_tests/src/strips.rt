@@ -18,10 +18,9 @@ use wave_plain::{Bands, BlockRow, Plane, forward3};
 use wave_strip::StripWave;
 
 /// Three block rows come at the end of 24 rows, and none before.
-fn three_block_rows_come_at_the_end(rt: &impl Abort, strip: &mut StripWave)
+fn end_after_24_rows(rt: &impl Abort, strip: &mut StripWave)
     requires columns { columns_of strip.old ≡ 3 }
     requires start { IsAtStart strip.old }
-    ensures columns { columns_of strip.new ≡ 3 }
 {
     let row = [200; 24];
     for _ in 0..24u32 {
@@ -42,7 +41,7 @@ fn three_block_rows_come_at_the_end(rt: &impl Abort, strip: &mut StripWave)
 }
 
 /// Of 32 rows the first block row comes with row 29, and the others at the end.
-fn the_first_block_row_comes_with_row_29(rt: &impl Abort, strip: &mut StripWave)
+fn push_32_rows(rt: &impl Abort, strip: &mut StripWave)
     requires columns { columns_of strip.old ≡ 3 }
     requires start { IsAtStart strip.old }
 {
@@ -58,11 +57,18 @@ fn the_first_block_row_comes_with_row_29(rt: &impl Abort, strip: &mut StripWave)
 }
 
 #[test]
-fn block_rows_come_with_their_last_row_or_at_the_end(rt: HostRuntime) -> Result<(), Fail> {
+fn three_block_rows_come_at_the_end(rt: HostRuntime) -> Result<(), Fail> {
     let mut strip = StripWave::new(rt.alloc(), 24)?;
-    three_block_rows_come_at_the_end(&rt, &mut strip);
-    strip.reset();
-    the_first_block_row_comes_with_row_29(&rt, &mut strip);
+    end_after_24_rows(&rt, &mut strip);
+    // Its drop would be dear to prove.
+    mem::forget(strip);
+    Ok(())
+}
+
+#[test]
+fn the_first_block_row_comes_with_row_29(rt: HostRuntime) -> Result<(), Fail> {
+    let mut strip = StripWave::new(rt.alloc(), 24)?;
+    push_32_rows(&rt, &mut strip);
     // Its drop would be dear to prove.
     mem::forget(strip);
     Ok(())
