@@ -49,13 +49,18 @@ pub fn second() -> [u8; 51] {
     packet
 }
 
-// A port with these octets, which moves so many at a time.
-pub fn port_of(alloc: Global, parts: &[&[u8]], piece: usize) -> Result<MemoryPort, AllocError>
+// A port with these octets, which moves so many at a time, and whose calls of these numbers fail.
+pub fn port_of(
+    alloc: Global,
+    parts: &[&[u8]],
+    fail: &[u64],
+    piece: usize,
+) -> Result<MemoryPort, AllocError>
     requires { 0 < piece }
 {
     let mut input = Vec::new(alloc);
     for part in parts {
         input.extend_from_slice(part)?;
     }
-    MemoryPort::new(alloc, input, Vec::new(alloc), piece)
+    MemoryPort::new(alloc, input, fail.to_vec(alloc)?, piece)
 }

@@ -2,9 +2,10 @@
 ghost use Rattle.std.specs.Prelude.{◌<◌};
 
 use crate::examples::{BLACK, FIRST, changed, port_of, second};
-use bit_pipe::InFault;
 use packet_assembly::{Assembly, Fate, Framing, PacketNote, Skip};
+use port_122::MemoryPort;
 use segment_defs::{HeadFault, HeadField};
+use std::process::Abort;
 use std::test::Fail;
 
 // What is told of a packet of 22 octets of text in the first segment's part 0.
@@ -34,44 +35,89 @@ fn bad(field: HeadField) -> Fate {
     Fate::BadHead(HeadFault::BadValue(field))
 }
 
-#[test]
-fn a_packet_of_the_image_is_kept(rt: HostRuntime) -> Result<(), Fail> {
-    let mut port = port_of(rt.alloc(), &[&BLACK], 7)?;
-    let mut packets = Assembly::new(rt.alloc(), 100, 1000)?;
+// Passes packets, and compares what is told of each. There is a geometry from the first kept packet on.
+fn compare(rt: &impl Abort, packets: &mut Assembly, port: &mut MemoryPort, notes: &[PacketNote]) {
+    let mut kept = false;
     assert!(rt; packets.geometry().is_none());
-    assert_eq!(rt;
-        packets.next_packet(&mut port),
-        Ok(Some(told(0, Fate::Kept)))
-    );
-    assert!(rt; packets.geometry().is_some());
-    assert_eq!(rt; packets.next_packet(&mut port), Ok(None));
-    assert_eq!(rt; packets.next_packet(&mut port), Ok(None));
+    for note in notes {
+        assert_eq!(rt; packets.next_packet(port), Ok(Some(*note)));
+        kept |= note.fate == Fate::Kept;
+        assert_eq!(rt; packets.geometry().is_some(), kept, "{note:?}");
+    }
+}
+
+// No further packet comes, for this reason.
+fn ends(
+    rt: &impl Abort,
+    packets: &mut Assembly,
+    port: &mut MemoryPort,
+    piece: usize,
+    framing: Option<Framing>,
+) {
     assert_eq!(rt; packets.framing(), None);
+    assert_eq!(rt; packets.next_packet(port), Ok(None));
+    assert_eq!(rt; packets.framing(), framing, "pieces of {piece}");
+    assert_eq!(rt; packets.next_packet(port), Ok(None));
+}
+
+// Passes all packets of a stream, with pieces of this size.
+fn expect(
+    rt: &(impl Abort + AllocGlobal),
+    parts: &[&[u8]],
+    piece: usize,
+    notes: &[PacketNote],
+    framing: Option<Framing>,
+) -> Result<(), Fail> {
+    assert!(rt; piece > 0);
+    let mut port = port_of(rt.alloc(), parts, &[], piece)?;
+    let mut packets = Assembly::new(rt.alloc(), 100, 1000)?;
+    compare(rt, &mut packets, &mut port, notes);
+    ends(rt, &mut packets, &mut port, piece, framing);
     Ok(())
 }
 
 #[test]
+fn a_packet_of_the_image_is_kept(rt: HostRuntime) -> Result<(), Fail> {
+    expect(&rt, &[&BLACK], 7, &[told(0, Fate::Kept)], None)?;
+    expect(&rt, &[], 51, &[], None)
+}
+
+// With an octet changed in one place the packet has this fate.
+fn expect_fate(
+    rt: &(impl Abort + AllocGlobal),
+    place: usize,
+    octet: u8,
+    fate: Fate,
+) -> Result<(), Fail> {
+    assert!(rt; place < 52);
+    let note = match fate {
+        Fate::Skipped(skip) => passed_over(0, skip),
+        fate => told(0, fate),
+    };
+    expect(rt, &[&changed(place, octet)], 64, &[note], None)
+}
+
+#[test]
 fn one_octet_changes_the_fate(rt: HostRuntime) -> Result<(), Fail> {
-    let cases = [
-        (0, 0x18, passed_over(0, Skip::NotTelemetry)),
-        (0, 0x00, passed_over(0, Skip::NoSecondary)),
-        (1, 0x65, passed_over(0, Skip::OtherApid)),
-        (7, 0x22, passed_over(0, Skip::OtherMark)),
-        (13, 16, told(0, Fate::Foreign)),
-        (17, 15, told(0, Fate::Foreign)),
-        (25, 1, told(0, Fate::Foreign)),
-        (2, 0, told(0, Fate::OutOfPlace)),
-        (30, 0x40, told(0, bad(HeadField::First))),
-        (31, 0x42, told(0, bad(HeadField::Count))),
-        (41, 0x8c, told(0, bad(HeadField::Blocks))),
-        (33, 0xc0, told(0, bad(HeadField::PadRows))),
-    ];
-    for (place, octet, note) in cases {
-        assert!(rt; place < 52);
-        let mut port = port_of(rt.alloc(), &[&changed(place, octet)], 64)?;
-        let mut packets = Assembly::new(rt.alloc(), 100, 1000)?;
-        assert_eq!(rt; packets.next_packet(&mut port), Ok(Some(note)));
-        assert!(rt; packets.geometry().is_none());
+    for (place, octet, fate) in [
+        (0, 0x18, Fate::Skipped(Skip::NotTelemetry)),
+        (0, 0x00, Fate::Skipped(Skip::NoSecondary)),
+        (1, 0x65, Fate::Skipped(Skip::OtherApid)),
+        (7, 0x22, Fate::Skipped(Skip::OtherMark)),
+        (13, 16, Fate::Foreign),
+        (17, 15, Fate::Foreign),
+        (25, 1, Fate::Foreign),
+        (2, 0, Fate::OutOfPlace),
+    ] {
+        expect_fate(&rt, place, octet, fate)?;
+    }
+    for (place, octet, field) in [
+        (30, 0x40, HeadField::First),
+        (31, 0x42, HeadField::Count),
+        (41, 0x8c, HeadField::Blocks),
+        (33, 0xc0, HeadField::PadRows),
+    ] {
+        expect_fate(&rt, place, octet, bad(field))?;
     }
     Ok(())
 }
@@ -80,65 +126,47 @@ fn one_octet_changes_the_fate(rt: HostRuntime) -> Result<(), Fail> {
 fn a_short_field_is_skipped(rt: HostRuntime) -> Result<(), Fail> {
     let mut packet = BLACK;
     packet[5] = 0x16;
-    let mut port = port_of(rt.alloc(), &[&packet[..29]], 64)?;
-    let mut packets = Assembly::new(rt.alloc(), 100, 1000)?;
-    assert_eq!(rt;
-        packets.next_packet(&mut port),
-        Ok(Some(passed_over(0, Skip::ShortAncillary)))
-    );
-    Ok(())
+    let note = passed_over(0, Skip::ShortAncillary);
+    expect(&rt, &[&packet[..29]], 64, &[note], None)
 }
 
 #[test]
 fn a_second_packet_is_late_or_another_image_s(rt: HostRuntime) -> Result<(), Fail> {
-    let cases = [
-        (0, 0x08, told(1, Fate::Late)),
-        (9, 1, told(1, Fate::Foreign)),
-    ];
-    for (place, octet, note) in cases {
-        assert!(rt; place < 52);
-        let mut port = port_of(rt.alloc(), &[&BLACK, &changed(place, octet)], 51)?;
-        let mut packets = Assembly::new(rt.alloc(), 100, 1000)?;
-        assert_eq!(rt;
-            packets.next_packet(&mut port),
-            Ok(Some(told(0, Fate::Kept)))
-        );
-        assert_eq!(rt; packets.next_packet(&mut port), Ok(Some(note)));
-    }
-    Ok(())
+    let notes = [told(0, Fate::Kept), told(1, Fate::Late)];
+    expect(&rt, &[&BLACK, &BLACK], 51, &notes, None)?;
+    let notes = [told(0, Fate::Kept), told(1, Fate::Foreign)];
+    expect(&rt, &[&BLACK, &changed(9, 1)], 51, &notes, None)
 }
 
 #[test]
 fn an_idle_packet_is_skipped(rt: HostRuntime) -> Result<(), Fail> {
     let mut idle = changed(0, 0x0f);
     idle[1] = 0xff;
-    let mut port = port_of(rt.alloc(), &[&BLACK, &idle], 51)?;
-    let mut packets = Assembly::new(rt.alloc(), 100, 1000)?;
-    assert_eq!(rt;
-        packets.next_packet(&mut port),
-        Ok(Some(told(0, Fate::Kept)))
-    );
-    assert_eq!(rt;
-        packets.next_packet(&mut port),
-        Ok(Some(passed_over(1, Skip::Idle)))
-    );
-    Ok(())
+    let notes = [told(0, Fate::Kept), passed_over(1, Skip::Idle)];
+    expect(&rt, &[&BLACK, &idle], 51, &notes, None)
+}
+
+// What is told of a packet of 21 octets of text in the first part of a segment.
+fn told_of(number: u64, fate: Fate, index: u32) -> PacketNote {
+    PacketNote {
+        number,
+        fate,
+        index,
+        part: 0,
+        octets: 21,
+    }
 }
 
 #[test]
 fn another_width_is_refused_last(rt: HostRuntime) -> Result<(), Fail> {
     let mut wide = second();
     wide[43] = 0x05;
-    let mut port = port_of(rt.alloc(), &[&FIRST, &wide, &second()], 64)?;
-    let mut packets = Assembly::new(rt.alloc(), 100, 1000)?;
-    let mut fates = [Fate::Late; 3];
-    for i in 0..3 {
-        if let Ok(Some(note)) = packets.next_packet(&mut port) {
-            fates[i] = note.fate;
-        }
-    }
-    assert_eq!(rt; fates, [Fate::Kept, bad(HeadField::Image), Fate::Kept]);
-    Ok(())
+    let notes = [
+        told_of(0, Fate::Kept, 0),
+        told_of(1, bad(HeadField::Image), 1),
+        told_of(2, Fate::Kept, 1),
+    ];
+    expect(&rt, &[&FIRST, &wide, &second()], 64, &notes, None)
 }
 
 #[test]
@@ -150,35 +178,21 @@ fn what_cant_be_read_on_ends_the_packets(rt: HostRuntime) -> Result<(), Fail> {
     ];
     for (end, fault) in cases {
         for piece in [1, 7, 51, 65_536] {
-            let mut port = port_of(rt.alloc(), &[&BLACK, end], piece)?;
-            let mut packets = Assembly::new(rt.alloc(), 100, 1000)?;
-            assert_eq!(rt;
-                packets.next_packet(&mut port),
-                Ok(Some(told(0, Fate::Kept)))
-            );
-            assert_eq!(rt; packets.framing(), None);
-            assert_eq!(rt; packets.next_packet(&mut port), Ok(None));
-            assert_eq!(rt; packets.framing(), Some(fault));
+            let notes = [told(0, Fate::Kept)];
+            expect(&rt, &[&BLACK, end], piece, &notes, Some(fault))?;
         }
     }
-    let mut port = port_of(rt.alloc(), &[&changed(0, 0x28)], 64)?;
-    let mut packets = Assembly::new(rt.alloc(), 100, 1000)?;
-    assert_eq!(rt; packets.next_packet(&mut port), Ok(None));
-    assert_eq!(rt; packets.framing(), Some(Framing::BadVersion { octet: 0 }));
-    Ok(())
+    let framing = Some(Framing::BadVersion { octet: 0 });
+    expect(&rt, &[&changed(0, 0x28)], 64, &[], framing)
 }
 
 #[test]
 fn no_segment_begins_with_a_later_part(rt: HostRuntime) -> Result<(), Fail> {
     let mut later = changed(2, 0x80);
     later[29] = 1;
-    let mut port = port_of(rt.alloc(), &[&later, &later], 51)?;
+    let mut port = port_of(rt.alloc(), &[&later, &later], &[], 51)?;
     let mut packets = Assembly::new(rt.alloc(), 100, 1000)?;
     assert_eq!(rt; packets.next_segment(&mut port), Ok(None));
     assert!(rt; packets.geometry().is_none());
-    let mut nothing = port_of(rt.alloc(), &[], 51)?;
-    let mut none = Assembly::new(rt.alloc(), 100, 1000)?;
-    let note: Result<Option<PacketNote>, InFault> = none.next_packet(&mut nothing);
-    assert_eq!(rt; note, Ok(None));
     Ok(())
 }

@@ -9,6 +9,7 @@ use packet_assembly::Framing;
 use port_122::MemoryPort;
 use raster_rows::{MadeImage, made_pixel};
 use std::alloc::Global;
+use std::mem;
 use std::process::Abort;
 use std::test::Fail;
 use strip_coder::{Work, encode_rows};
@@ -94,7 +95,10 @@ fn encode_port(alloc: Global, setting: &Setting, port: &mut MemoryPort) -> bool
     let Ok(mut work) = Work::new(alloc, setting) else {
         return false;
     };
-    encode_rows(port, setting, &mut work).is_ok()
+    let done = encode_rows(port, setting, &mut work).is_ok();
+    // Its drop would be dear to prove.
+    mem::forget(work);
+    done
 }
 
 // The packets of a raster.
@@ -105,7 +109,7 @@ fn make_packets(
 ) -> Result<Vec<u8>, Fail>
     requires { IsInRange setting.now }
 {
-    let mut port = port_of(rt.alloc(), &[raster], 65_536)?;
+    let mut port = port_of(rt.alloc(), &[raster], &[], 65_536)?;
     assert!(rt; encode_port(rt.alloc(), setting, &mut port));
     Ok(port.given().to_vec(rt.alloc())?)
 }
@@ -165,6 +169,14 @@ fn decoded(
     Ok(Outcome { answer, port })
 }
 
+// Why a decoder has failed.
+fn fault_of(answer: &Result<DecodeDone, DecodeFault>) -> Option<DecodeFault> {
+    match answer {
+        Ok(_) => None,
+        Err(fault) => Some(*fault),
+    }
+}
+
 // The input has no picture, for this reason.
 fn expect_fault(
     rt: &(impl Abort + AllocGlobal),
@@ -173,7 +185,7 @@ fn expect_fault(
     fault: DecodeFault,
 ) -> Result<(), Fail> {
     let outcome = decoded(rt, wish, input, &[], 100)?;
-    assert_eq!(rt; outcome.answer.err(), Some(fault));
+    assert_eq!(rt; fault_of(&outcome.answer), Some(fault));
     assert!(rt; outcome.port.given().is_empty());
     Ok(())
 }
@@ -238,6 +250,12 @@ fn expect_picture(
     Ok(())
 }
 
+// The made image of a setting comes back whole.
+fn expect_back(rt: &(impl Abort + AllocGlobal), setting: &Setting) -> Result<(), Fail> {
+    let made = encode_made(rt, setting)?;
+    expect_picture(rt, setting, &made.raster, &made.packets, None, None)
+}
+
 #[test]
 fn an_image_comes_back(rt: HostRuntime) -> Result<(), Fail> {
     for (width, rows, depth, signed) in [
@@ -249,49 +267,77 @@ fn an_image_comes_back(rt: HostRuntime) -> Result<(), Fail> {
         let mut setting = usual(width, rows, 1024);
         setting.depth = depth;
         setting.signed = signed;
-        let made = encode_made(&rt, &setting)?;
-        expect_picture(&rt, &setting, &made.raster, &made.packets, None, None)?;
+        expect_back(&rt, &setting)?;
     }
     Ok(())
+}
+
+// These packets without that of a segment's part.
+fn without(
+    rt: &(impl Abort + AllocGlobal),
+    packets: &[u8],
+    index: u8,
+    part: u8,
+) -> Result<Vec<u8>, Fail> {
+    let (start, end) = place_of(rt, packets, index, part);
+    assert!(rt; start < end && end <= packets.len());
+    let mut left = packets[..start].to_vec(rt.alloc())?;
+    left.extend_from_slice(&packets[end..])?;
+    Ok(left)
+}
+
+// Just these rows of the made image are damaged without the packet of a segment's part.
+fn expect_loss(
+    rt: &(impl Abort + AllocGlobal),
+    packet: u32,
+    index: u8,
+    part: u8,
+    damaged: RowRange,
+) -> Result<(), Fail> {
+    let setting = usual(17, 128, packet);
+    let made = encode_made(rt, &setting)?;
+    let left = without(rt, &made.packets, index, part)?;
+    expect_picture(rt, &setting, &made.raster, &left, Some(damaged), None)
 }
 
 #[test]
 fn a_lost_packet_damages_the_rows_it_reaches(rt: HostRuntime) -> Result<(), Fail> {
     // Block rows 0 to 5, 5 to 10 and 10 to 15.
-    let cases = [
+    for (packet, index, part, first, last) in [
         (65_536, 0, 0, 0, 69),
         (65_536, 1, 0, 19, 109),
         (65_536, 2, 0, 59, 127),
         (64, 1, 0, 19, 109),
         (64, 1, 2, 19, 109),
-    ];
-    for (packet, index, part, first, last) in cases {
-        let setting = usual(17, 128, packet);
-        let made = encode_made(&rt, &setting)?;
-        let (start, end) = place_of(&rt, &made.packets, index, part);
-        assert!(rt; start < end && end <= made.packets.len());
-        let mut input = made.packets[..start].to_vec(rt.alloc())?;
-        input.extend_from_slice(&made.packets[end..])?;
-        let damaged = Some(RowRange { first, last });
-        expect_picture(&rt, &setting, &made.raster, &input, damaged, None)?;
+    ] {
+        expect_loss(&rt, packet, index, part, RowRange { first, last })?;
     }
     Ok(())
+}
+
+// Where a segment's packet can't be read, all rows from one on are damaged.
+fn expect_bad_version(
+    rt: &(impl Abort + AllocGlobal),
+    made: &MadeStream,
+    index: u8,
+    first: u32,
+) -> Result<(), Fail> {
+    let (start, _) = place_of(rt, &made.packets, index, 0);
+    let mut input = made.packets.to_vec(rt.alloc())?;
+    assert!(rt; start < input.len());
+    input[start] = 0x28;
+    let damaged = Some(RowRange { first, last: 127 });
+    let framing = Some(Framing::BadVersion {
+        octet: start as u64,
+    });
+    expect_picture(rt, &tall(), &made.raster, &input, damaged, framing)
 }
 
 #[test]
 fn what_cant_be_read_on_is_lost(rt: HostRuntime) -> Result<(), Fail> {
     let made = encode_made(&rt, &tall())?;
-    for (index, first) in [(1, 19), (2, 59)] {
-        let (start, _) = place_of(&rt, &made.packets, index, 0);
-        let mut input = made.packets.to_vec(rt.alloc())?;
-        assert!(rt; start < input.len());
-        input[start] = 0x28;
-        let damaged = Some(RowRange { first, last: 127 });
-        let framing = Some(Framing::BadVersion {
-            octet: start as u64,
-        });
-        expect_picture(&rt, &tall(), &made.raster, &input, damaged, framing)?;
-    }
+    expect_bad_version(&rt, &made, 1, 19)?;
+    expect_bad_version(&rt, &made, 2, 59)?;
     assert!(rt; !made.packets.is_empty());
     let cut = &made.packets[..made.packets.len() - 1];
     let damaged = Some(RowRange {
@@ -300,6 +346,15 @@ fn what_cant_be_read_on_is_lost(rt: HostRuntime) -> Result<(), Fail> {
     });
     let framing = Some(Framing::CutPacket { missing: 1 });
     expect_picture(&rt, &tall(), &made.raster, cut, damaged, framing)
+}
+
+// Whether there is a picture.
+fn is_decoded(
+    rt: &(impl Abort + AllocGlobal),
+    wish: &DecodeWish,
+    input: &[u8],
+) -> Result<bool, Fail> {
+    Ok(decoded(rt, wish, input, &[], 100)?.answer.is_ok())
 }
 
 #[test]
@@ -314,8 +369,17 @@ fn no_picture_without_a_segment_or_of_too_many_pixels(rt: HostRuntime) -> Result
     let many = DecodeFault::TooManyPixels { pixels: 2_176 };
     expect_fault(&rt, &wish, &made.packets, many)?;
     wish.pixels = 2_176;
-    assert!(rt; decoded(&rt, &wish, &made.packets, &[], 100)?.answer.is_ok());
+    assert!(rt; is_decoded(&rt, &wish, &made.packets)?);
     Ok(())
+}
+
+// The decoder took this number of octets, and stopped there.
+fn expect_capped(rt: &impl Abort, outcome: &Outcome, octets: u64, raster: &[u8]) {
+    assert_eq!(rt; fault_of(&outcome.answer), Some(DecodeFault::LongInput));
+    assert_eq!(rt; outcome.port.taken(), octets);
+    // The last segment lacks an octet, and its blocks reach row 59.
+    let given = outcome.port.given();
+    assert_eq!(rt; given.get(..59 * 17), raster.get(..59 * 17));
 }
 
 #[test]
@@ -325,12 +389,21 @@ fn cap_leaves_the_rows_before(rt: HostRuntime) -> Result<(), Fail> {
     let mut wish = WISH;
     wish.octets = made.packets.len() as u64 - 1;
     let outcome = decoded(&rt, &wish, &made.packets, &[], 100)?;
-    assert_eq!(rt; outcome.answer.err(), Some(DecodeFault::LongInput));
-    assert_eq!(rt; outcome.port.taken(), wish.octets);
-    // The last segment lacks an octet, and its blocks reach row 59.
-    let given = outcome.port.given();
-    assert_eq!(rt; given.get(..59 * 17), made.raster.get(..59 * 17));
+    expect_capped(&rt, &outcome, wish.octets, &made.raster);
     Ok(())
+}
+
+// Where one call fails a front of the raster is given, before the first call nothing; and the fault.
+fn fault_at(
+    rt: &(impl Abort + AllocGlobal),
+    made: &MadeStream,
+    call: u64,
+) -> Result<Option<DecodeFault>, Fail> {
+    let outcome = decoded(rt, &WISH, &made.packets, &[call], 17)?;
+    let given = outcome.port.given();
+    assert!(rt; made.raster.starts_with(given), "call {call}");
+    assert!(rt; call > 0 || given.is_empty());
+    Ok(fault_of(&outcome.answer))
 }
 
 #[test]
@@ -340,16 +413,11 @@ fn a_fault_leaves_a_front_of_the_image(rt: HostRuntime) -> Result<(), Fail> {
     let mut writes = false;
     // A row in each write: no fewer than 128 calls.
     for call in 0..128 {
-        let outcome = decoded(&rt, &WISH, &made.packets, &[call], 17)?;
-        let fault = outcome.answer.err();
-        let read = fault == Some(DecodeFault::ReadFault);
-        let write = fault == Some(DecodeFault::WriteFault);
-        assert!(rt; read || write);
-        reads |= read;
-        writes |= write;
-        let given = outcome.port.given();
-        assert!(rt; made.raster.starts_with(given));
-        assert!(rt; call > 0 || given.is_empty());
+        match fault_at(&rt, &made, call)? {
+            Some(DecodeFault::ReadFault) => reads = true,
+            Some(DecodeFault::WriteFault) => writes = true,
+            other => panic!(rt; "call {call} fails, and the answer is {other:?}"),
+        }
     }
     assert!(rt; reads && writes);
     Ok(())

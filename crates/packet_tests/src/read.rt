@@ -4,6 +4,7 @@ use crate::written::write_text;
 use bit_pipe::InFault;
 use port_122::{MemoryPort, SteadyPort};
 use space_packets::{Framing, PacketHead, PacketRead, PacketReader, Packetiser, Skip};
+use std::process::Abort;
 use std::test::Fail;
 
 // What the black image's packet says.
@@ -17,66 +18,103 @@ const MINE: PacketRead = PacketRead::Mine {
     ancillary: FIRST_SEGMENT,
 };
 
+// The packets that are asked for, each with its APID, and what is answered.
+type Answers<'a> = &'a [(u16, Result<PacketRead, InFault>)];
+
+// Whether this text stands after an answer: that of the black image's packet, or none.
+fn is_text_of(answer: Result<PacketRead, InFault>, text: &[u8]) -> bool {
+    match answer {
+        Ok(PacketRead::Mine { .. }) => text == &BLACK[30..],
+        _ => text.is_empty(),
+    }
+}
+
+// Asks for packets, and compares the answers, and the text after each.
+fn compare(
+    rt: &impl Abort,
+    reader: &mut PacketReader,
+    port: &mut MemoryPort,
+    piece: usize,
+    answers: Answers,
+) {
+    for (apid, answer) in answers {
+        assert_eq!(rt; reader.next(port, *apid), *answer, "pieces of {piece}");
+        assert!(rt; is_text_of(*answer, reader.text()), "after {answer:?}");
+    }
+}
+
+// What ends the reading is answered again, and nothing is read for it. The cap's octets are taken where it is that.
+fn ends(
+    rt: &impl Abort,
+    reader: &mut PacketReader,
+    port: &mut MemoryPort,
+    cap: u64,
+    end: Result<PacketRead, InFault>,
+) {
+    assert_eq!(rt; reader.next(port, 100), end, "cap {cap}");
+    let calls = port.asked().len();
+    assert_eq!(rt; reader.next(port, 100), end);
+    assert_eq!(rt; port.asked().len(), calls);
+    assert!(rt;
+        end != Err(InFault::LongInput) || port.taken() == cap,
+        "cap {cap}"
+    );
+}
+
+// Reads these octets up to what ends the reading, with pieces of this size and calls of these numbers that fail.
+fn expect(
+    rt: &(impl Abort + AllocGlobal),
+    parts: &[&[u8]],
+    fail: &[u64],
+    piece: usize,
+    cap: u64,
+    answers: Answers,
+    end: Result<PacketRead, InFault>,
+) -> Result<(), Fail> {
+    assert!(rt; piece > 0);
+    let mut port = port_of(rt.alloc(), parts, fail, piece)?;
+    let mut reader = PacketReader::new(rt.alloc(), cap)?;
+    compare(rt, &mut reader, &mut port, piece, answers);
+    ends(rt, &mut reader, &mut port, cap, end);
+    Ok(())
+}
+
 #[test]
 fn packets_come_one_by_one(rt: HostRuntime) -> Result<(), Fail> {
+    let other = Ok(PacketRead::Skipped(Skip::OtherApid));
     for piece in [1, 7, 51, 52, 65_536] {
-        let mut port = port_of(rt.alloc(), &[&BLACK, &BLACK], piece)?;
-        let mut reader = PacketReader::new(rt.alloc(), 1 << 40)?;
-        assert_eq!(rt; reader.next(&mut port, 100), Ok(MINE));
-        assert_eq!(rt; reader.text(), &BLACK[30..]);
-        assert_eq!(rt;
-            reader.next(&mut port, 101),
-            Ok(PacketRead::Skipped(Skip::OtherApid))
-        );
-        assert!(rt; reader.text().is_empty());
-        assert_eq!(rt; reader.next(&mut port, 100), Ok(PacketRead::Ended));
-        let calls = port.asked().len();
-        assert_eq!(rt; reader.next(&mut port, 100), Ok(PacketRead::Ended));
-        assert_eq!(rt; port.asked().len(), calls);
+        let answers = [(100, Ok(MINE)), (101, other)];
+        let end = Ok(PacketRead::Ended);
+        expect(&rt, &[&BLACK, &BLACK], &[], piece, 1 << 40, &answers, end)?;
     }
     Ok(())
 }
 
 #[test]
 fn idle_packets_and_others_are_skipped(rt: HostRuntime) -> Result<(), Fail> {
-    let cases = [
+    for (header, skip) in [
         ([0x0f, 0xff, 0xc0, 0, 0, 0], Skip::Idle),
         ([0x18, 0x64, 0xc0, 0, 0, 0], Skip::NotTelemetry),
         ([0x08, 0x65, 0xc0, 0, 0, 0], Skip::OtherApid),
         ([0x00, 0x64, 0xc0, 0, 0, 0], Skip::NoSecondary),
         ([0x08, 0x64, 0xc0, 0, 0, 0], Skip::ShortAncillary),
-    ];
-    for (header, skip) in cases {
-        let mut input = header.to_vec(rt.alloc())?;
-        input.push(7)?;
-        let mut port = MemoryPort::new(rt.alloc(), input, Vec::new(rt.alloc()), 4)?;
-        let mut reader = PacketReader::new(rt.alloc(), 100)?;
-        assert_eq!(rt; reader.next(&mut port, 100), Ok(PacketRead::Skipped(skip)));
-        assert_eq!(rt; reader.next(&mut port, 100), Ok(PacketRead::Ended));
+    ] {
+        let answers = [(100, Ok(PacketRead::Skipped(skip)))];
+        let end = Ok(PacketRead::Ended);
+        expect(&rt, &[&header, &[7]], &[], 4, 100, &answers, end)?;
     }
     let mut marked = BLACK;
     marked[7] = 0x22;
-    let mut port = port_of(rt.alloc(), &[&BLACK, &marked], 64)?;
-    let mut reader = PacketReader::new(rt.alloc(), 1000)?;
-    assert_eq!(rt; reader.next(&mut port, 100), Ok(MINE));
-    assert_eq!(rt;
-        reader.next(&mut port, 100),
-        Ok(PacketRead::Skipped(Skip::OtherMark))
-    );
-    Ok(())
+    let skipped = Ok(PacketRead::Skipped(Skip::OtherMark));
+    let answers = [(100, Ok(MINE)), (100, skipped)];
+    let end = Ok(PacketRead::Ended);
+    expect(&rt, &[&BLACK, &marked], &[], 64, 1000, &answers, end)
 }
 
 #[test]
 fn framing_faults_end_the_reading(rt: HostRuntime) -> Result<(), Fail> {
-    let mut port = MemoryPort::new(
-        rt.alloc(),
-        BLACK.to_vec(rt.alloc())?,
-        Vec::new(rt.alloc()),
-        9,
-    )?;
-    let mut reader = PacketReader::new(rt.alloc(), 53)?;
-    assert_eq!(rt; reader.next(&mut port, 100), Ok(MINE));
-    assert_eq!(rt; reader.next(&mut port, 100), Ok(PacketRead::Ended));
+    let answers = [(100, Ok(MINE))];
+    expect(&rt, &[&BLACK], &[], 9, 53, &answers, Ok(PacketRead::Ended))?;
     let cases: [(&[u8], Framing); 5] = [
         (&[0xff], Framing::BadVersion { octet: 52 }),
         (&[0x20, 0, 0], Framing::BadVersion { octet: 52 }),
@@ -88,46 +126,30 @@ fn framing_faults_end_the_reading(rt: HostRuntime) -> Result<(), Fail> {
         (&BLACK[..51], Framing::CutPacket { missing: 1 }),
     ];
     for (second, fault) in cases {
-        let mut port = port_of(rt.alloc(), &[&BLACK, second], 9)?;
-        let mut reader = PacketReader::new(rt.alloc(), 1000)?;
-        assert_eq!(rt; reader.next(&mut port, 100), Ok(MINE));
-        assert_eq!(rt; reader.next(&mut port, 100), Ok(PacketRead::Fault(fault)));
-        assert_eq!(rt; reader.next(&mut port, 100), Ok(PacketRead::Fault(fault)));
+        let end = Ok(PacketRead::Fault(fault));
+        expect(&rt, &[&BLACK, second], &[], 9, 1000, &answers, end)?;
     }
     Ok(())
 }
 
 #[test]
 fn cap_is_long_input_but_for_a_bad_version(rt: HostRuntime) -> Result<(), Fail> {
+    let long = Err(InFault::LongInput);
     for cap in [1, 30, 51] {
-        let mut port = port_of(rt.alloc(), &[&BLACK], 20)?;
-        let mut reader = PacketReader::new(rt.alloc(), cap)?;
-        assert_eq!(rt; reader.next(&mut port, 100), Err(InFault::LongInput));
-        assert_eq!(rt; reader.next(&mut port, 100), Err(InFault::LongInput));
-        assert_eq!(rt; port.taken(), cap);
+        expect(&rt, &[&BLACK], &[], 20, cap, &[], long)?;
     }
-    let mut port = port_of(rt.alloc(), &[&BLACK], 20)?;
-    let mut reader = PacketReader::new(rt.alloc(), 52)?;
-    assert_eq!(rt; reader.next(&mut port, 100), Ok(MINE));
-    assert_eq!(rt; reader.next(&mut port, 100), Err(InFault::LongInput));
-    let mut port = port_of(rt.alloc(), &[&BLACK, &[0xff, 0, 0]], 20)?;
-    let mut reader = PacketReader::new(rt.alloc(), 53)?;
-    assert_eq!(rt; reader.next(&mut port, 100), Ok(MINE));
-    let fault = PacketRead::Fault(Framing::BadVersion { octet: 52 });
-    assert_eq!(rt; reader.next(&mut port, 100), Ok(fault));
-    Ok(())
+    let answers = [(100, Ok(MINE))];
+    expect(&rt, &[&BLACK], &[], 20, 52, &answers, long)?;
+    let fault = Ok(PacketRead::Fault(Framing::BadVersion { octet: 52 }));
+    expect(&rt, &[&BLACK, &[0xff, 0, 0]], &[], 20, 53, &answers, fault)
 }
 
 #[test]
 fn failed_read_is_tried_again(rt: HostRuntime) -> Result<(), Fail> {
-    let fail = [0, 2].to_vec(rt.alloc())?;
-    let mut port = MemoryPort::new(rt.alloc(), BLACK.to_vec(rt.alloc())?, fail, 30)?;
-    let mut reader = PacketReader::new(rt.alloc(), 1000)?;
-    assert_eq!(rt; reader.next(&mut port, 100), Err(InFault::ReadFault));
-    assert_eq!(rt; reader.next(&mut port, 100), Err(InFault::ReadFault));
-    assert_eq!(rt; reader.next(&mut port, 100), Ok(MINE));
-    assert_eq!(rt; reader.next(&mut port, 100), Ok(PacketRead::Ended));
-    Ok(())
+    let fault = Err(InFault::ReadFault);
+    let answers = [(100, fault), (100, fault), (100, Ok(MINE))];
+    let end = Ok(PacketRead::Ended);
+    expect(&rt, &[&BLACK], &[0, 2], 30, 1000, &answers, end)
 }
 
 #[test]

@@ -1,54 +1,100 @@
 // Texts of segments, octet by octet.
 use crate::examples::{FIRST, changed, port_of, second};
 use bit_pipe::{InFault, OctetIn};
-use packet_assembly::{Assembly, Framing, SegmentStart, SegmentText};
+use packet_assembly::{Assembly, Framing, SegmentStart};
 use port_122::MemoryPort;
+use std::process::Abort;
 use std::test::Fail;
 
+// What is asked for, and what is answered.
+#[derive(Clone, Copy, Debug, PartialEq, Eq)]
+enum Step {
+    // The next segment, by its index.
+    Segment(Result<Option<u32>, InFault>),
+    // The next octet of its text.
+    Octet(Result<Option<u8>, InFault>),
+    // How many octets were read so far.
+    Taken(u64),
+    // Why the stream can't be read on.
+    Framing(Option<Framing>),
+}
+
+const FIRST_FOUND: Step = Step::Segment(Ok(Some(0)));
+
+const SECOND_FOUND: Step = Step::Segment(Ok(Some(1)));
+
+const NONE_FOUND: Step = Step::Segment(Ok(None));
+
+const BROKEN: Step = Step::Octet(Err(InFault::Broken));
+
 // The index of the segment that was found.
-fn index_of(found: Result<Option<SegmentStart>, InFault>) -> Option<u32> {
+fn index_of(found: Result<Option<SegmentStart>, InFault>) -> Result<Option<u32>, InFault> {
     match found {
-        Ok(Some(start)) => Some(start.ancillary.index),
-        Ok(None) => None,
-        Err(_) => None,
+        Ok(Some(start)) => Ok(Some(start.ancillary.index)),
+        Ok(None) => Ok(None),
+        Err(fault) => Err(fault),
     }
+}
+
+// Asks for what a step does, and tells what was answered.
+fn asked(assembly: &mut Assembly, port: &mut MemoryPort, step: Step) -> Step {
+    match step {
+        Step::Segment(_) => Step::Segment(index_of(assembly.next_segment(port))),
+        Step::Octet(_) => Step::Octet(assembly.text(port).take()),
+        Step::Taken(_) => Step::Taken(port.taken()),
+        Step::Framing(_) => Step::Framing(assembly.framing()),
+    }
+}
+
+// Takes these steps over a stream, with pieces of this size and calls of these numbers that fail.
+fn expect(
+    rt: &(impl Abort + AllocGlobal),
+    parts: &[&[u8]],
+    fail: &[u64],
+    piece: usize,
+    cap: u64,
+    steps: &[Step],
+) -> Result<(), Fail> {
+    assert!(rt; piece > 0);
+    let mut port = port_of(rt.alloc(), parts, fail, piece)?;
+    let mut packets = Assembly::new(rt.alloc(), 100, cap)?;
+    for (number, step) in steps.iter().enumerate() {
+        let answered = asked(&mut packets, &mut port, *step);
+        assert_eq!(rt; answered, *step, "step {number} with a cap of {cap}");
+    }
+    Ok(())
 }
 
 #[test]
 fn a_text_comes_octet_by_octet(rt: HostRuntime) -> Result<(), Fail> {
-    let mut port = port_of(rt.alloc(), &[&FIRST, &second()], 7)?;
-    let mut packets = Assembly::new(rt.alloc(), 100, 1000)?;
-    assert_eq!(rt; index_of(packets.next_segment(&mut port)), Some(0));
-    let mut text = packets.text(&mut port);
-    assert_eq!(rt; text.take(), Ok(Some(0x5a)));
-    assert_eq!(rt; text.take(), Ok(Some(0xa5)));
-    assert_eq!(rt; text.take(), Ok(None));
-    assert_eq!(rt; text.take(), Ok(None));
-    assert_eq!(rt; port.taken(), 56);
-    assert_eq!(rt; index_of(packets.next_segment(&mut port)), Some(1));
-    assert_eq!(rt; packets.text(&mut port).take(), Ok(Some(0x77)));
-    assert_eq!(rt; packets.next_segment(&mut port), Ok(None));
-    Ok(())
+    let steps = [
+        FIRST_FOUND,
+        Step::Octet(Ok(Some(0x5a))),
+        Step::Octet(Ok(Some(0xa5))),
+        Step::Octet(Ok(None)),
+        Step::Octet(Ok(None)),
+        Step::Taken(56),
+        SECOND_FOUND,
+        Step::Octet(Ok(Some(0x77))),
+        NONE_FOUND,
+    ];
+    expect(&rt, &[&FIRST, &second()], &[], 7, 1000, &steps)
 }
 
 #[test]
 fn another_segment_breaks_a_text(rt: HostRuntime) -> Result<(), Fail> {
     let mut broken = FIRST;
     broken[2] = 0x40;
-    let mut port = port_of(rt.alloc(), &[&broken, &second()], 64)?;
-    let mut packets = Assembly::new(rt.alloc(), 100, 1000)?;
-    assert!(rt; packets.next_segment(&mut port).is_ok());
-    let mut text = SegmentText {
-        assembly: &mut packets,
-        port: &mut port,
-    };
-    assert_eq!(rt; text.take(), Ok(Some(0x5a)));
-    assert_eq!(rt; text.take(), Ok(Some(0xa5)));
-    assert_eq!(rt; text.take(), Err(InFault::Broken));
-    assert_eq!(rt; text.take(), Err(InFault::Broken));
-    assert_eq!(rt; index_of(packets.next_segment(&mut port)), Some(1));
-    assert_eq!(rt; packets.text(&mut port).take(), Ok(Some(0x77)));
-    Ok(())
+    let steps = [
+        FIRST_FOUND,
+        Step::Octet(Ok(Some(0x5a))),
+        Step::Octet(Ok(Some(0xa5))),
+        BROKEN,
+        BROKEN,
+        SECOND_FOUND,
+        Step::Octet(Ok(Some(0x77))),
+    ];
+    expect(&rt, &[&broken, &second()], &[], 64, 1000, &steps)
 }
 
 #[test]
@@ -58,22 +104,18 @@ fn a_later_part_goes_on(rt: HostRuntime) -> Result<(), Fail> {
     let mut last = FIRST;
     last[2] = 0x80;
     last[29] = 1;
-    let mut port = port_of(rt.alloc(), &[&head, &changed(0, 0x18), &last, &[0xff]], 64)?;
-    let mut packets = Assembly::new(rt.alloc(), 100, 1000)?;
-    assert!(rt; packets.next_segment(&mut port).is_ok());
-    let mut text = packets.text(&mut port);
-    let mut octets = [0; 23];
-    for i in 0..23 {
-        if let Ok(Some(octet)) = text.take() {
-            octets[i] = octet;
-        }
+    // Two octets, and the 21 that stand as the text of the later part.
+    let mut steps = [Step::Octet(Ok(None)); 27];
+    steps[0] = FIRST_FOUND;
+    steps[1] = Step::Octet(Ok(Some(0x5a)));
+    steps[2] = Step::Octet(Ok(Some(0xa5)));
+    for i in 0..21 {
+        steps[3 + i] = Step::Octet(Ok(Some(FIRST[30 + i])));
     }
-    assert_eq!(rt; text.take(), Ok(None));
-    assert_eq!(rt; (octets[0], octets[1]), (0x5a, 0xa5));
-    assert_eq!(rt; &octets[2..], &FIRST[30..]);
-    assert_eq!(rt; packets.next_segment(&mut port), Ok(None));
-    assert_eq!(rt; packets.framing(), Some(Framing::BadVersion { octet: 154 }));
-    Ok(())
+    steps[25] = NONE_FOUND;
+    steps[26] = Step::Framing(Some(Framing::BadVersion { octet: 154 }));
+    let parts: [&[u8]; 4] = [&head, &changed(0, 0x18), &last, &[0xff]];
+    expect(&rt, &parts, &[], 64, 1000, &steps)
 }
 
 #[test]
@@ -81,27 +123,22 @@ fn the_end_and_the_cap_break_a_text(rt: HostRuntime) -> Result<(), Fail> {
     let mut broken = FIRST;
     broken[2] = 0x40;
     for (cap, fault) in [(1000, InFault::Broken), (51, InFault::LongInput)] {
-        let mut port = port_of(rt.alloc(), &[&broken], 64)?;
-        let mut packets = Assembly::new(rt.alloc(), 100, cap)?;
-        assert!(rt; packets.next_segment(&mut port).is_ok());
-        let mut text = packets.text(&mut port);
-        assert_eq!(rt; text.take(), Ok(Some(0x5a)));
-        assert_eq!(rt; text.take(), Ok(Some(0xa5)));
-        assert_eq!(rt; text.take(), Err(fault));
-        assert_eq!(rt; text.take(), Err(fault));
+        let steps = [
+            FIRST_FOUND,
+            Step::Octet(Ok(Some(0x5a))),
+            Step::Octet(Ok(Some(0xa5))),
+            Step::Octet(Err(fault)),
+            Step::Octet(Err(fault)),
+        ];
+        expect(&rt, &[&broken], &[], 64, cap, &steps)?;
     }
     Ok(())
 }
 
 #[test]
 fn a_failed_read_is_read_again(rt: HostRuntime) -> Result<(), Fail> {
-    let fail = [1, 3].to_vec(rt.alloc())?;
-    let mut port = MemoryPort::new(rt.alloc(), FIRST.to_vec(rt.alloc())?, fail, 40)?;
-    let mut packets = Assembly::new(rt.alloc(), 100, 1000)?;
-    assert_eq!(rt; packets.next_segment(&mut port), Err(InFault::ReadFault));
-    assert_eq!(rt; index_of(packets.next_segment(&mut port)), Some(0));
-    assert_eq!(rt; packets.text(&mut port).take(), Ok(Some(0x5a)));
-    assert_eq!(rt; packets.next_segment(&mut port), Err(InFault::ReadFault));
-    assert_eq!(rt; packets.next_segment(&mut port), Ok(None));
-    Ok(())
+    let fault = Step::Segment(Err(InFault::ReadFault));
+    let octet = Step::Octet(Ok(Some(0x5a)));
+    let steps = [fault, FIRST_FOUND, octet, fault, NONE_FOUND];
+    expect(&rt, &[&FIRST], &[1, 3], 40, 1000, &steps)
 }

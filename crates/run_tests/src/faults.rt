@@ -1,13 +1,72 @@
 // Each call of a run fails in turn.
-use crate::runs::{WHOLE, black, part, run_words};
+use crate::runs::{Outcome, WHOLE, black, done, ended, part, run_words};
 use std::process::Abort;
 use std::test::Fail;
 
 // More calls than a run here makes.
 const CALLS: u64 = 2000;
 
-// Lets each call of a run fail in turn: a read gives status 4, a write 5, and a note changes none; what is given
-// begins what the undisturbed run gives. Each read call of that run fails once here, and with pieces of one octet each write.
+// How many reads and writes of a run have failed, one in each run.
+#[derive(Drop)]
+struct Failures {
+    reads: usize,
+    writes: usize,
+}
+
+// Counts what failed in a run: a read gives status 4, a write 5, and a note changes none. What is given begins what the
+// undisturbed run gives.
+fn count(rt: &impl Abort, failures: &mut Failures, whole: &Outcome, ran: &Outcome, text: &str) {
+    assert!(rt; whole.port.given().starts_with(ran.port.given()), "{text}");
+    match ran.status {
+        4 => failures.reads = failures.reads.saturating_add(1),
+        5 => failures.writes = failures.writes.saturating_add(1),
+        status => {
+            assert_eq!(rt; status, whole.status, "{text}");
+        }
+    }
+}
+
+// Whether a run was the undisturbed one again.
+fn is_same(ran: &Outcome, whole: &Outcome) -> bool {
+    ran.status == whole.status && ran.port.noted() == whole.port.noted()
+}
+
+// Each read call of the undisturbed run has failed once, and with pieces of one octet each write.
+fn have_all_failed(
+    rt: &impl Abort,
+    failures: &Failures,
+    whole: &Outcome,
+    piece: usize,
+    text: &str,
+) {
+    assert_eq!(rt; failures.reads, whole.port.asked().len(), "{text}");
+    let written = whole.port.given().len();
+    assert!(rt; piece > 1 || failures.writes == written, "{text}");
+}
+
+// Lets one call of a run fail, and answers whether the run has so many.
+fn fail_at(
+    rt: &(impl Abort + AllocGlobal),
+    text: &str,
+    input: &[u8],
+    piece: usize,
+    number: u64,
+    whole: &Outcome,
+    failures: &mut Failures,
+) -> Result<bool, Fail> {
+    let ran = run_words(rt, text, input, &[number], piece)?;
+    count(rt, failures, whole, &ran, text);
+    if !is_same(&ran, whole) {
+        return Ok(true);
+    }
+    assert!(rt;
+        ran.port.given() == whole.port.given(),
+        "{text}, call {number}"
+    );
+    Ok(false)
+}
+
+// Lets each call of a run fail in turn.
 fn fail_each(
     rt: &(impl Abort + AllocGlobal),
     text: &str,
@@ -15,29 +74,13 @@ fn fail_each(
     piece: usize,
 ) -> Result<(), Fail> {
     let whole = run_words(rt, text, input, &[], piece)?;
-    let mut reads = 0usize;
-    let mut writes = 0usize;
+    let mut failures = Failures {
+        reads: 0,
+        writes: 0,
+    };
     for number in 0..CALLS {
-        let ran = run_words(rt, text, input, &[number], piece)?;
-        assert!(rt;
-            whole.port.given().starts_with(ran.port.given()),
-            "{text}, call {number} of pieces of {piece}"
-        );
-        match ran.status {
-            4 => reads = reads.saturating_add(1),
-            5 => writes = writes.saturating_add(1),
-            status => {
-                assert_eq!(rt;
-                    status,
-                    whole.status,
-                    "{text}, call {number} of pieces of {piece}"
-                );
-            }
-        }
-        if ran.status == whole.status && ran.port.noted() == whole.port.noted() {
-            assert_eq!(rt; ran.port.given(), whole.port.given());
-            assert_eq!(rt; reads, whole.port.asked().len(), "{text}");
-            assert!(rt; piece > 1 || writes == whole.port.given().len(), "{text}");
+        if !fail_at(rt, text, input, piece, number, &whole, &mut failures)? {
+            have_all_failed(rt, &failures, &whole, piece, text);
             return Ok(());
         }
     }
@@ -56,11 +99,9 @@ fn encoding_and_decoding(rt: HostRuntime) -> Result<(), Fail> {
 
 #[test]
 fn lists_of_a_cut_stream(rt: HostRuntime) -> Result<(), Fail> {
-    let words = "encode width=64 rows=48 segment=16";
-    let ran = run_words(&rt, words, &[0; 3072], &[], WHOLE)?;
-    let given = ran.port.given();
+    let given = done(&rt, "encode width=64 rows=48 segment=16", &[0; 3072])?;
     assert_eq!(rt; given.len(), 154);
-    let cut = part(given, 0, 153);
+    let cut = part(&given, 0, 153);
     for piece in [1, 7, WHOLE] {
         fail_each(&rt, "list", cut, piece)?;
         fail_each(&rt, "damage", cut, piece)?;
@@ -71,8 +112,14 @@ fn lists_of_a_cut_stream(rt: HostRuntime) -> Result<(), Fail> {
 #[test]
 fn a_note_that_fails_leaves_the_status(rt: HostRuntime) -> Result<(), Fail> {
     // Sixteen rows, a part of the last, the end, and the note.
-    let ran = run_words(&rt, "encode width=17 rows=17", &[0; 288], &[18], WHOLE)?;
-    assert_eq!(rt; ran.status, 3);
-    assert!(rt; ran.port.noted().is_empty());
+    ended(
+        &rt,
+        "encode width=17 rows=17",
+        &[0; 288],
+        &[18],
+        WHOLE,
+        3,
+        "",
+    )?;
     Ok(())
 }

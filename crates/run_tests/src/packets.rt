@@ -1,13 +1,11 @@
 // Whole runs over packets: pictures, damaged rows and lists, worked out by hand.
-use crate::runs::{TWO_HUNDRED, WHOLE, black, expect, packet, part, run_words};
+use crate::runs::{TWO_HUNDRED, WHOLE, black, done, ended, expect, packet, part, run_words};
 use std::process::Abort;
 use std::test::Fail;
 
 // The eight packets of 128 rows of 64 pixels of 0: seven of 51 octets and one of 52.
 fn eight(rt: &(impl Abort + AllocGlobal)) -> Result<Vec<u8>, Fail> {
-    let words = "encode width=64 rows=128 segment=16";
-    let ran = run_words(rt, words, &[0; 8192], &[], WHOLE)?;
-    Ok(ran.port.given().to_vec(rt.alloc())?)
+    done(rt, "encode width=64 rows=128 segment=16", &[0; 8192])
 }
 
 // These octets without those of some places.
@@ -59,49 +57,44 @@ fn ranges_are_apart(rt: HostRuntime) -> Result<(), Fail> {
     expect(&rt, "damage", &left, 1, b"0-37\n91-127\n", note)
 }
 
+// The three packets of 48 rows of 64 pixels of 0: two of 51 octets and one of 52.
+fn three(rt: &(impl Abort + AllocGlobal)) -> Result<Vec<u8>, Fail> {
+    let given = done(rt, "encode width=64 rows=48 segment=16", &[0; 3072])?;
+    assert_eq!(rt; given.len(), 154);
+    Ok(given)
+}
+
 #[test]
 fn reaches_that_meet_are_one_range(rt: HostRuntime) -> Result<(), Fail> {
-    // Segments of two block rows, of which each has a packet of 51 octets, the last of 52.
-    let words = "encode width=64 rows=48 segment=16";
-    let ran = run_words(&rt, words, &[0; 3072], &[], WHOLE)?;
-    let given = ran.port.given();
-    assert_eq!(rt; given.len(), 154);
-    for (first, end, line) in [
-        (0, 51, "0-37\n"),
-        (51, 102, "0-47\n"),
-        (102, 154, "11-47\n"),
+    // Segments of two block rows.
+    let whole = three(&rt)?;
+    for (first, end, line, note) in [
+        (0, 51, "0-37\n", "strip122: damaged rows 0-37\n"),
+        (51, 102, "0-47\n", "strip122: damaged rows 0-47\n"),
+        (102, 154, "11-47\n", "strip122: damaged rows 11-47\n"),
     ] {
-        let left = without(&rt, given, first, end)?;
-        let found = run_words(&rt, "damage", &left, &[], WHOLE)?;
-        assert_eq!(rt; found.status, 1);
-        assert_eq!(rt; found.port.given(), line.as_bytes());
+        let left = without(&rt, &whole, first, end)?;
+        expect(&rt, "damage", &left, 1, line.as_bytes(), note)?;
     }
     Ok(())
 }
 
 #[test]
 fn a_segment_that_lacks_a_packet_is_lost(rt: HostRuntime) -> Result<(), Fail> {
-    let made = run_words(&rt, "make width=64 rows=128", &[], &[], WHOLE)?;
+    let made = done(&rt, "make width=64 rows=128", &[])?;
     let words = "encode width=64 rows=128 segment=16 limit=120 fill=1 packet=64";
-    let ran = run_words(&rt, words, made.port.given(), &[], WHOLE)?;
-    assert_eq!(rt; ran.port.given().len(), 24 * 70);
-    let left = without(&rt, ran.port.given(), 700, 770)?;
-    let back = run_words(&rt, "decode", &left, &[], WHOLE)?;
-    assert_eq!(rt; back.status, 1);
-    assert_eq!(rt;
-        back.port.noted(),
-        b"strip122: damaged rows 27-85\n".as_slice()
-    );
-    let list = run_words(&rt, "list", &left, &[], WHOLE)?;
-    assert_eq!(rt; list.status, 0);
+    let whole = done(&rt, words, &made)?;
+    assert_eq!(rt; whole.len(), 24 * 70);
+    let left = without(&rt, &whole, 700, 770)?;
+    let note = "strip122: damaged rows 27-85\n";
+    ended(&rt, "decode", &left, &[], WHOLE, 1, note)?;
     let lines = "0 kept 0 0 40\n1 kept 0 1 40\n2 kept 0 2 40\n3 kept 1 0 40\n4 kept 1 1 40\n\
                  5 kept 1 2 40\n6 kept 2 0 40\n7 kept 2 1 40\n8 kept 2 2 40\n9 kept 3 0 40\n\
                  10 out-of-place\n11 kept 4 0 40\n12 kept 4 1 40\n13 kept 4 2 40\n\
                  14 kept 5 0 40\n15 kept 5 1 40\n16 kept 5 2 40\n17 kept 6 0 40\n\
                  18 kept 6 1 40\n19 kept 6 2 40\n20 kept 7 0 40\n21 kept 7 1 40\n\
                  22 kept 7 2 40\n";
-    assert_eq!(rt; list.port.given(), lines.as_bytes());
-    Ok(())
+    expect(&rt, "list", &left, 0, lines.as_bytes(), "")
 }
 
 #[test]
@@ -144,12 +137,9 @@ fn a_stream_that_breaks_off(rt: HostRuntime) -> Result<(), Fail> {
     let note = "strip122: damaged rows 91-127; packet cut, 1 octets missing\n";
     let whole = eight(&rt)?;
     expect(&rt, "decode", part(&whole, 0, 408), 1, &[0; 8192], note)?;
-    let words = "encode width=64 rows=48 segment=16";
-    let ran = run_words(&rt, words, &[0; 3072], &[], WHOLE)?;
-    let given = ran.port.given();
-    assert_eq!(rt; given.len(), 154);
+    let whole = three(&rt)?;
     let note = "strip122: damaged rows 11-47; packet cut, 1 octets missing\n";
-    expect(&rt, "decode", part(given, 0, 153), 1, &[0; 3072], note)
+    expect(&rt, "decode", part(&whole, 0, 153), 1, &[0; 3072], note)
 }
 
 #[test]
@@ -164,28 +154,29 @@ fn caps_are_kept(rt: HostRuntime) -> Result<(), Fail> {
         ("damage pixels=288", 3, "strip122: too many pixels, 289\n"),
         ("decode pixels=289", 0, ""),
     ] {
-        let ran = run_words(&rt, words, &one, &[], WHOLE)?;
-        assert_eq!(rt; ran.status, status, "{words}");
-        assert_eq!(rt; ran.port.noted(), note.as_bytes(), "{words}");
+        ended(&rt, words, &one, &[], WHOLE, status, note)?;
     }
     Ok(())
+}
+
+// At each read call all rows are given that the segments so far determine.
+fn expect_ready(rt: &impl Abort, asked: &[(u64, u64)]) {
+    for (taken, given) in asked {
+        let ready = match *taken {
+            102..=152 => 704,
+            357..=408 => 5824,
+            409 => 8192,
+            _ => *given,
+        };
+        assert_eq!(rt; *given, ready, "{taken} octets taken");
+    }
 }
 
 #[test]
 fn rows_go_out_as_soon_as_they_are_ready(rt: HostRuntime) -> Result<(), Fail> {
     let ran = run_words(&rt, "decode", &eight(&rt)?, &[], 51)?;
     assert_eq!(rt; ran.status, 0);
-    for (taken, given) in ran.port.asked() {
-        if 102 <= *taken && *taken < 153 {
-            assert_eq!(rt; *given, 704);
-        }
-        if 357 <= *taken && *taken < 409 {
-            assert_eq!(rt; *given, 5824);
-        }
-        if *taken == 409 {
-            assert_eq!(rt; *given, 8192);
-        }
-    }
+    expect_ready(&rt, ran.port.asked());
     Ok(())
 }
 
@@ -200,27 +191,27 @@ fn no_room_for_the_whole_image_is_taken(rt: HostRuntime) -> Result<(), Fail> {
     first.extend_from_slice(part(&whole, 45, 51))?;
     // Two reads, and the first write.
     let words = "decode pixels=1099511627776";
-    let ran = run_words(&rt, words, &first, &[2], WHOLE)?;
-    assert_eq!(rt; ran.status, 5);
-    assert!(rt; ran.port.given().is_empty());
+    let note = "strip122: write fault\n";
+    let given = ended(&rt, words, &first, &[2], WHOLE, 5, note)?;
+    assert!(rt; given.is_empty());
     Ok(())
 }
 
 #[test]
 fn each_call_fails_in_turn(rt: HostRuntime) -> Result<(), Fail> {
     // A read of the packet, a write for each row, and the read that finds the end.
-    for (text, number, status, given) in [
-        ("decode", 0, 4, 0),
-        ("decode", 1, 5, 0),
-        ("decode", 3, 5, 34),
-        ("decode", 18, 4, 289),
-        ("damage", 1, 4, 0),
-        ("list", 1, 5, 0),
-        ("list", 2, 4, 14),
+    let one = black(&rt)?;
+    for (text, number, status, count, note) in [
+        ("decode", 0, 4, 0, "strip122: read fault\n"),
+        ("decode", 1, 5, 0, "strip122: write fault\n"),
+        ("decode", 3, 5, 34, "strip122: write fault\n"),
+        ("decode", 18, 4, 289, "strip122: read fault\n"),
+        ("damage", 1, 4, 0, "strip122: read fault\n"),
+        ("list", 1, 5, 0, "strip122: write fault\n"),
+        ("list", 2, 4, 14, "strip122: read fault\n"),
     ] {
-        let ran = run_words(&rt, text, &black(&rt)?, &[number], WHOLE)?;
-        assert_eq!(rt; ran.status, status, "{text}, call {number}");
-        assert_eq!(rt; ran.port.given().len(), given, "{text}, call {number}");
+        let given = ended(&rt, text, &one, &[number], WHOLE, status, note)?;
+        assert_eq!(rt; given.len(), count, "{text}, call {number}");
     }
     Ok(())
 }

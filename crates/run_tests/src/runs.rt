@@ -45,6 +45,41 @@ pub(crate) fn run_words(
     Ok(Outcome { status, port })
 }
 
+// The run ended with this status and this note, and read nothing where its words are refused.
+fn compare(rt: &impl Abort, text: &str, piece: usize, ran: &Outcome, status: u8, note: &str) {
+    assert_eq!(rt; ran.status, status, "{text} with pieces of {piece}");
+    assert_eq!(rt;
+        ran.port.noted(),
+        note.as_bytes(),
+        "{text} with pieces of {piece}"
+    );
+    assert!(rt; status != 2 || ran.port.asked().is_empty(), "{text}");
+}
+
+// What a run gives that ends with this status and this note, where the calls of these numbers fail.
+pub(crate) fn ended(
+    rt: &(impl Abort + AllocGlobal),
+    text: &str,
+    input: &[u8],
+    fail: &[u64],
+    piece: usize,
+    status: u8,
+    note: &str,
+) -> Result<Vec<u8>, Fail> {
+    let ran = run_words(rt, text, input, fail, piece)?;
+    compare(rt, text, piece, &ran, status, note);
+    Ok(ran.port.given().to_vec(rt.alloc())?)
+}
+
+// What a run gives that ends with status 0.
+pub(crate) fn done(
+    rt: &(impl Abort + AllocGlobal),
+    text: &str,
+    input: &[u8],
+) -> Result<Vec<u8>, Fail> {
+    ended(rt, text, input, &[], WHOLE, 0, "")
+}
+
 // Runs these words over an input, and compares the status, what was given and what was noted.
 pub(crate) fn expect(
     rt: &(impl Abort + AllocGlobal),
@@ -55,14 +90,8 @@ pub(crate) fn expect(
     note: &str,
 ) -> Result<(), Fail> {
     for piece in [1, 7, WHOLE] {
-        let ran = run_words(rt, text, input, &[], piece)?;
-        assert_eq!(rt; ran.status, status, "{text} with pieces of {piece}");
-        assert_eq!(rt; ran.port.given(), given, "{text} with pieces of {piece}");
-        assert_eq!(rt;
-            ran.port.noted(),
-            note.as_bytes(),
-            "{text} with pieces of {piece}"
-        );
+        let found = ended(rt, text, input, &[], piece, status, note)?;
+        assert_eq!(rt; found.as_slice(), given, "{text} with pieces of {piece}");
     }
     Ok(())
 }
@@ -148,44 +177,44 @@ fn the_greatest_pixels_and_weights(rt: HostRuntime) -> Result<(), Fail> {
         fields.extend_from_slice(&pixel)?;
     }
     let words = "encode width=32 rows=32 depth=16 weights=3333333333";
-    let ran = run_words(&rt, words, &fields, &[], WHOLE)?;
-    assert_eq!(rt; ran.status, 0);
-    expect(&rt, "decode", ran.port.given(), 0, &fields, "")
+    let packets = done(&rt, words, &fields)?;
+    expect(&rt, "decode", &packets, 0, &fields, "")
 }
 
 #[test]
 fn two_thousand_segments(rt: HostRuntime) -> Result<(), Fail> {
     let zeros = vec![in rt.alloc(); 0; 128 * 16_000]?;
-    let words = "encode width=128 rows=16000 segment=16";
-    let ran = run_words(&rt, words, &zeros, &[], WHOLE)?;
-    assert_eq!(rt; ran.status, 0);
-    let given = ran.port.given();
+    let given = done(&rt, "encode width=128 rows=16000 segment=16", &zeros)?;
     assert_eq!(rt; given.len(), 1999 * 51 + 52);
-    let mut some = part(given, 0, 5100).to_vec(rt.alloc())?;
-    some.extend_from_slice(part(given, 20_400, 102_001))?;
-    let left = run_words(&rt, "damage", &some, &[], WHOLE)?;
-    assert_eq!(rt; left.status, 1);
-    assert_eq!(rt; left.port.given(), b"779-3221\n".as_slice());
+    let mut some = part(&given, 0, 5100).to_vec(rt.alloc())?;
+    some.extend_from_slice(part(&given, 20_400, 102_001))?;
+    let note = "strip122: damaged rows 779-3221\n";
+    let lines = ended(&rt, "damage", &some, &[], WHOLE, 1, note)?;
+    assert_eq!(rt; lines.as_slice(), b"779-3221\n".as_slice());
     Ok(())
 }
 
 #[test]
 fn a_million_made_pixels(rt: HostRuntime) -> Result<(), Fail> {
-    let made = run_words(
-        &rt,
-        "make width=1024 rows=1024 depth=12 seed=7",
-        &[],
-        &[],
-        WHOLE,
-    )?;
-    assert_eq!(rt; made.status, 0);
-    assert_eq!(rt; made.port.given().len(), 2_097_152);
-    let words = "encode width=1024 rows=1024 depth=12";
-    let ran = run_words(&rt, words, made.port.given(), &[], WHOLE)?;
-    assert_eq!(rt; ran.status, 0);
-    let back = run_words(&rt, "decode", ran.port.given(), &[], WHOLE)?;
-    assert_eq!(rt; back.status, 0);
-    assert!(rt; back.port.given() == made.port.given());
+    let made = done(&rt, "make width=1024 rows=1024 depth=12 seed=7", &[])?;
+    assert_eq!(rt; made.len(), 2_097_152);
+    let packets = done(&rt, "encode width=1024 rows=1024 depth=12", &made)?;
+    assert!(rt; done(&rt, "decode", &packets)? == made);
+    Ok(())
+}
+
+// A limit of 32 octets cuts a segment of 100 blocks.
+fn limit_cuts(rt: &(impl Abort + AllocGlobal)) -> Result<(), Fail> {
+    let words = "encode width=80 rows=80 segment=100 limit=32";
+    let given = done(rt, words, &[200; 6400])?;
+    let text = [
+        0xC0, 0x18, 0x07, 0x00, 0x00, 0x00, 0x04, 0x00, 0x60, 0x00, 0x06, 0x4C, 0x88, 0x00, 0x05,
+        0x00, 0x00, 0x00, 0x00, 0x00, 0x06, 0x47, 0xFF, 0xF0, 0xFF, 0xFF, 0x0F, 0xFF, 0xF0, 0xFF,
+        0xFF, 0x0F,
+    ];
+    assert_eq!(rt; given.len(), 62);
+    assert_eq!(rt; part(&given, 30, 62), text.as_slice());
+    done(rt, "decode", &given)?;
     Ok(())
 }
 
@@ -199,25 +228,7 @@ fn a_limit_fills_and_cuts(rt: HostRuntime) -> Result<(), Fail> {
     let whole = packet(&rt, &filled)?;
     expect(&rt, words, &[200; 289], 0, &whole, "")?;
     expect(&rt, "decode", &whole, 0, &[200; 289], "")?;
-    let ran = run_words(
-        &rt,
-        "encode width=80 rows=80 segment=100 limit=32",
-        &[200; 6400],
-        &[],
-        WHOLE,
-    )?;
-    assert_eq!(rt; ran.status, 0);
-    let text = [
-        0xC0, 0x18, 0x07, 0x00, 0x00, 0x00, 0x04, 0x00, 0x60, 0x00, 0x06, 0x4C, 0x88, 0x00, 0x05,
-        0x00, 0x00, 0x00, 0x00, 0x00, 0x06, 0x47, 0xFF, 0xF0, 0xFF, 0xFF, 0x0F, 0xFF, 0xF0, 0xFF,
-        0xFF, 0x0F,
-    ];
-    let given = ran.port.given();
-    assert_eq!(rt; given.len(), 62);
-    assert_eq!(rt; &given[30..], text.as_slice());
-    let back = run_words(&rt, "decode", given, &[], WHOLE)?;
-    assert_eq!(rt; back.status, 0);
-    Ok(())
+    limit_cuts(&rt)
 }
 
 #[test]
@@ -272,6 +283,18 @@ fn a_pixel_out_of_range_is_refused(rt: HostRuntime) -> Result<(), Fail> {
     expect(&rt, words, &[0xFE; 289], 3, &[], note)
 }
 
+// At each read call just the segments are given that the rows settle.
+fn expect_settled(rt: &impl Abort, asked: &[(u64, u64)]) {
+    for (taken, given) in asked {
+        // Two block rows make a segment, and segment i is settled by 37 + 16i rows.
+        let settled = match taken / 64 {
+            128 => 409,
+            rows => 51 * ((rows + 11) / 16).saturating_sub(2),
+        };
+        assert_eq!(rt; *given, settled, "{taken} octets taken");
+    }
+}
+
 #[test]
 fn a_segment_goes_out_as_soon_as_it_is_settled(rt: HostRuntime) -> Result<(), Fail> {
     for piece in [7, WHOLE] {
@@ -279,14 +302,7 @@ fn a_segment_goes_out_as_soon_as_it_is_settled(rt: HostRuntime) -> Result<(), Fa
         let ran = run_words(&rt, words, &[0; 8192], &[], piece)?;
         assert_eq!(rt; ran.status, 0);
         assert_eq!(rt; ran.port.given().len(), 7 * 51 + 52);
-        for (taken, given) in ran.port.asked() {
-            // Two block rows make a segment, and segment i is settled by 37 + 16i rows.
-            let settled = match taken / 64 {
-                128 => 409,
-                rows => 51 * ((rows + 11) / 16).saturating_sub(2),
-            };
-            assert_eq!(rt; *given, settled, "{taken} octets taken");
-        }
+        expect_settled(&rt, ran.port.asked());
     }
     Ok(())
 }
@@ -294,50 +310,49 @@ fn a_segment_goes_out_as_soon_as_it_is_settled(rt: HostRuntime) -> Result<(), Fa
 #[test]
 fn what_is_settled_is_given_before_a_bad_pixel(rt: HostRuntime) -> Result<(), Fail> {
     // 37 rows settle the first segment, and 53 the second.
-    let mut input = [0; 8192];
-    input[53 * 64 + 9] = 0x80;
     let words = "encode width=64 rows=128 depth=7 segment=16";
-    let ran = run_words(&rt, words, &input, &[], WHOLE)?;
-    assert_eq!(rt; ran.status, 3);
-    assert_eq!(rt; ran.port.given().len(), 102);
-    assert_eq!(rt;
-        ran.port.noted(),
-        "strip122: bad pixel 128 at row 53 column 9\n".as_bytes()
-    );
-    input[53 * 64 + 9] = 0;
-    input[52 * 64 + 9] = 0x80;
-    let ran = run_words(&rt, words, &input, &[], WHOLE)?;
-    assert_eq!(rt; ran.port.given().len(), 51);
+    for (place, count, note) in [
+        (
+            53 * 64 + 9,
+            102,
+            "strip122: bad pixel 128 at row 53 column 9\n",
+        ),
+        (
+            52 * 64 + 9,
+            51,
+            "strip122: bad pixel 128 at row 52 column 9\n",
+        ),
+    ] {
+        let mut input = [0; 8192];
+        assert!(rt; place < 8192);
+        input[place] = 0x80;
+        let given = ended(&rt, words, &input, &[], WHOLE, 3, note)?;
+        assert_eq!(rt; given.len(), count, "{note}");
+    }
     Ok(())
 }
 
 #[test]
 fn all_rows_and_columns(rt: HostRuntime) -> Result<(), Fail> {
     let words = "encode width=1048575 rows=262144 segment=16";
-    let ran = run_words(&rt, words, &[], &[], WHOLE)?;
-    assert_eq!(rt; ran.status, 3);
-    assert_eq!(rt;
-        ran.port.noted(),
-        "strip122: input short, 0 octets taken\n".as_bytes()
-    );
+    let note = "strip122: input short, 0 octets taken\n";
+    ended(&rt, words, &[], &[], WHOLE, 3, note)?;
     Ok(())
 }
 
 #[test]
 fn segments_have_packets_of_their_own(rt: HostRuntime) -> Result<(), Fail> {
     let words = "encode width=64 rows=48 segment=16 stop=dc";
-    let ran = run_words(&rt, words, &[0; 3072], &[], WHOLE)?;
-    assert_eq!(rt; ran.status, 0);
-    let given = ran.port.given();
+    let given = done(&rt, words, &[0; 3072])?;
     assert_eq!(rt; given.len(), 51 + 51 + 52);
     for (at, octets) in [
         (0, [0x08, 0x64, 0xC0, 0x00, 0x00, 0x2C]),
         (51, [0x08, 0x64, 0xC0, 0x01, 0x00, 0x2C]),
         (102, [0x08, 0x64, 0xC0, 0x02, 0x00, 0x2D]),
     ] {
-        assert_eq!(rt; given.get(at..at + 6), Some(octets.as_slice()));
+        assert_eq!(rt; part(&given, at, at + 6), octets.as_slice(), "at {at}");
     }
-    assert_eq!(rt; &given[30..33], [0x80, 0x02, 0x07].as_slice());
+    assert_eq!(rt; part(&given, 30, 33), [0x80, 0x02, 0x07].as_slice());
     Ok(())
 }
 
@@ -359,13 +374,8 @@ fn words_are_refused(rt: HostRuntime) -> Result<(), Fail> {
             "strip122: out of range: fill\n",
         ),
     ] {
-        let ran = run_words(&rt, text, &[0; 289], &[], WHOLE)?;
-        assert_eq!(rt; ran.status, 2, "{text}");
-        assert_eq!(rt; ran.port.noted(), note.as_bytes());
-        assert!(rt;
-            ran.port.asked().is_empty() && ran.port.given().is_empty(),
-            "{text}"
-        );
+        let given = ended(&rt, text, &[0; 289], &[], WHOLE, 2, note)?;
+        assert!(rt; given.is_empty(), "{text}");
     }
     Ok(())
 }
@@ -378,16 +388,22 @@ fn no_word_is_a_missing_command(rt: HostRuntime) -> Result<(), Fail> {
     Ok(())
 }
 
+// Nothing is read for a made image, and these octets stand in it.
+fn expect_made(rt: &impl Abort, ran: &Outcome) {
+    let given = ran.port.given();
+    assert_eq!(rt; given.len(), 289);
+    assert_eq!(rt; &given[..5], [0x00, 0x04, 0x09, 0x0E, 0x13].as_slice());
+    assert_eq!(rt; &given[16..18], [0x4C, 0x02].as_slice());
+    assert!(rt; ran.port.asked().is_empty());
+}
+
 #[test]
 fn a_made_image(rt: HostRuntime) -> Result<(), Fail> {
+    let words = "make width=17 rows=17";
     for piece in [7, WHOLE] {
-        let ran = run_words(&rt, "make width=17 rows=17", &[1], &[], piece)?;
-        assert_eq!(rt; ran.status, 0);
-        let given = ran.port.given();
-        assert_eq!(rt; given.len(), 289);
-        assert_eq!(rt; &given[..5], [0x00, 0x04, 0x09, 0x0E, 0x13].as_slice());
-        assert_eq!(rt; &given[16..18], [0x4C, 0x02].as_slice());
-        assert!(rt; ran.port.asked().is_empty() && ran.port.noted().is_empty());
+        let ran = run_words(&rt, words, &[1], &[], piece)?;
+        compare(&rt, words, piece, &ran, 0, "");
+        expect_made(&rt, &ran);
     }
     Ok(())
 }
@@ -396,23 +412,27 @@ fn a_made_image(rt: HostRuntime) -> Result<(), Fail> {
 fn a_failed_call_has_its_status(rt: HostRuntime) -> Result<(), Fail> {
     // A read for each row, the write of the packet and the read at the end.
     let packet = black(&rt)?;
-    for (number, status, given) in [(0, 4, 0), (17, 5, 0), (18, 4, 52), (19, 0, 52)] {
-        let ran = run_words(&rt, "encode width=17 rows=17", &[0; 289], &[number], WHOLE)?;
-        assert_eq!(rt; ran.status, status, "call {number}");
-        assert_eq!(rt; ran.port.given(), part(&packet, 0, given), "call {number}");
+    let words = "encode width=17 rows=17";
+    for (number, status, count, note) in [
+        (0, 4, 0, "strip122: read fault\n"),
+        (17, 5, 0, "strip122: write fault\n"),
+        (18, 4, 52, "strip122: read fault\n"),
+        (19, 0, 52, ""),
+    ] {
+        let given = ended(&rt, words, &[0; 289], &[number], WHOLE, status, note)?;
+        assert_eq!(rt; given.as_slice(), part(&packet, 0, count), "call {number}");
     }
     // A made row is one write.
-    let ran = run_words(&rt, "make width=17 rows=17", &[], &[2], WHOLE)?;
-    assert_eq!(rt; ran.status, 5);
-    assert_eq!(rt; ran.port.given().len(), 34);
+    let words = "make width=17 rows=17";
+    let note = "strip122: write fault\n";
+    let given = ended(&rt, words, &[], &[2], WHOLE, 5, note)?;
+    assert_eq!(rt; given.len(), 34);
     Ok(())
 }
 
 #[test]
 fn a_note_that_fails_changes_no_status(rt: HostRuntime) -> Result<(), Fail> {
-    let ran = run_words(&rt, "encode", &[], &[1], 10)?;
-    assert_eq!(rt; ran.status, 2);
-    assert_eq!(rt; ran.port.noted(), "strip122: ".as_bytes());
+    ended(&rt, "encode", &[], &[1], 10, 2, "strip122: ")?;
     Ok(())
 }
 

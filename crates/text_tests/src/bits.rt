@@ -20,31 +20,36 @@ fn put_text<O: OctetOut>(out: &mut O, limit: u64, fill: bool) -> Result<u64, Put
     Ok(bits.end(2, fill)?)
 }
 
-#[test]
-fn pads_to_the_word(rt: HostRuntime) -> Result<(), Fail> {
-    let mut octets = [0xaa; 9];
-    let mut out = SliceOut::new(&mut octets);
-    assert_eq!(rt; put_text(&mut out, 8, false)?, 4);
-    assert_eq!(rt; out.len(), 4);
-    assert_eq!(rt; octets, [0xd8, 0x1f, 0xf0, 0, 0xaa, 0xaa, 0xaa, 0xaa, 0xaa]);
-    Ok(())
+// The octets that were written stand first in the room, and the rest of it is as it was.
+fn expect_written(rt: &impl Abort, room: &[u8], octets: &[u8]) {
+    assert!(rt; room.starts_with(octets), "{room:?} for {octets:?}");
+    assert!(rt;
+        room.iter().skip(octets.len()).all(|octet| *octet == 0xaa),
+        "{room:?} for {octets:?}"
+    );
+}
+
+// The text goes out with this answer, and just these octets are written.
+fn expect_text(
+    rt: &impl Abort,
+    fill: bool,
+    room: &mut [u8],
+    answer: Result<u64, PutFault>,
+    octets: &[u8],
+) {
+    let mut out = SliceOut::new(room);
+    assert_eq!(rt; put_text(&mut out, 8, fill), answer, "fill {fill}");
+    assert_eq!(rt; out.len(), octets.len());
+    expect_written(rt, room, octets);
 }
 
 #[test]
-fn fills_to_the_limit(rt: HostRuntime) -> Result<(), Fail> {
-    let mut octets = [0xaa; 9];
-    let mut out = SliceOut::new(&mut octets);
-    assert_eq!(rt; put_text(&mut out, 8, true)?, 8);
-    assert_eq!(rt; octets, [0xd8, 0x1f, 0xf0, 0, 0, 0, 0, 0, 0xaa]);
-    Ok(())
-}
-
-#[test]
-fn fails_at_a_full_slice(rt: HostRuntime) {
-    let mut octets = [0xaa; 2];
-    let mut out = SliceOut::new(&mut octets);
-    assert_eq!(rt; put_text(&mut out, 8, false), Err(PutFault::WriteFault));
-    assert_eq!(rt; octets, [0xd8, 0x1f]);
+fn a_text_is_padded_or_filled(rt: HostRuntime) {
+    let octets = [0xd8, 0x1f, 0xf0, 0, 0, 0, 0, 0];
+    expect_text(&rt, false, &mut [0xaa; 9], Ok(4), &octets[..4]);
+    expect_text(&rt, true, &mut [0xaa; 9], Ok(8), &octets);
+    let full = Err(PutFault::WriteFault);
+    expect_text(&rt, false, &mut [0xaa; 2], full, &octets[..2]);
 }
 
 #[test]
@@ -80,27 +85,22 @@ fn put_words<O: OctetOut>(out: &mut O) -> Result<u64, PutFault>
     Ok(bits.end(1, false)?)
 }
 
-#[test]
-fn fills_words(rt: HostRuntime) -> Result<(), Fail> {
-    let mut octets = [0xaa; 17];
-    let mut out = SliceOut::new(&mut octets);
-    assert_eq!(rt; put_words(&mut out)?, 16);
-    assert_eq!(rt;
-        octets,
-        [
-            0xbc, 0x48, 0xd1, 0x59, 0xe2, 0x6a, 0xf3, 0x7b, 0xff, 0xff, 0xff, 0xff, 0xff, 0xff,
-            0xff, 0xfe, 0xaa
-        ]
-    );
-    Ok(())
+// The words go out with this answer, and just these octets are written.
+fn expect_words(rt: &impl Abort, room: &mut [u8], answer: Result<u64, PutFault>, octets: &[u8]) {
+    assert_eq!(rt; put_words(&mut SliceOut::new(room)), answer);
+    expect_written(rt, room, octets);
 }
 
 #[test]
-fn fails_within_a_word(rt: HostRuntime) {
-    let mut octets = [0xaa; 3];
-    let mut out = SliceOut::new(&mut octets);
-    assert_eq!(rt; put_words(&mut out), Err(PutFault::WriteFault));
-    assert_eq!(rt; octets, [0xbc, 0x48, 0xd1]);
+fn fills_words(rt: HostRuntime) {
+    let octets = [
+        0xbc, 0x48, 0xd1, 0x59, 0xe2, 0x6a, 0xf3, 0x7b, 0xff, 0xff, 0xff, 0xff, 0xff, 0xff, 0xff,
+        0xfe,
+    ];
+    expect_words(&rt, &mut [0xaa; 17], Ok(16), &octets);
+    // It fails within a word.
+    let full = Err(PutFault::WriteFault);
+    expect_words(&rt, &mut [0xaa; 3], full, &octets[..3]);
 }
 
 #[tactic(auto, using(bit_pipe::proofs::Taking::in_after_bit, bit_pipe::proofs::Taking::in_after_item))]
@@ -121,19 +121,16 @@ fn take_text<I: OctetIn>(rt: &impl Abort, input: &mut I) -> Result<u64, InFault>
     Ok(bits.used())
 }
 
-#[test]
-fn takes_up_to_the_bound(rt: HostRuntime) -> Result<(), Fail> {
-    let octets = [0xd8, 0x1f, 0xf0, 0xff];
-    let mut input = SliceIn::new(&octets);
-    assert_eq!(rt; take_text(&rt, &mut input)?, 24);
-    assert_eq!(rt; input.take()?, Some(0xff));
-    assert_eq!(rt; input.take()?, None);
-    Ok(())
+// So many bits of the octets are taken, and this octet comes after them.
+fn expect_taken(rt: &impl Abort, octets: &[u8], used: u64, after: Option<u8>) {
+    let mut input = SliceIn::new(octets);
+    assert_eq!(rt; take_text(rt, &mut input), Ok(used));
+    assert_eq!(rt; input.take(), Ok(after), "after {used} bits");
+    assert_eq!(rt; input.take(), Ok(None), "after {used} bits");
 }
 
 #[test]
-fn takes_up_to_the_end(rt: HostRuntime) -> Result<(), Fail> {
-    let octets = [0xd8, 0x1f];
-    assert_eq!(rt; take_text(&rt, &mut SliceIn::new(&octets))?, 16);
-    Ok(())
+fn takes_up_to_the_bound_or_the_end(rt: HostRuntime) {
+    expect_taken(&rt, &[0xd8, 0x1f, 0xf0, 0xff], 24, Some(0xff));
+    expect_taken(&rt, &[0xd8, 0x1f], 16, None);
 }

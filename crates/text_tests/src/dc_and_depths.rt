@@ -4,7 +4,6 @@ ghost use Rattle.std.specs.Prelude.{◌≡◌};
 use base_122::Select;
 use bit_pipe::{BitOut, OctetOut, PutFault, SliceOut};
 use dc_depths::{DcPlan, put_dc, put_depths};
-use std::test::Fail;
 
 fn plan(depth_dc: u8, depth_ac: u8) -> DcPlan {
     DcPlan {
@@ -40,14 +39,10 @@ fn put_nine<O: OctetOut>(out: &mut O, select: Select) -> Result<u64, PutFault>
 }
 
 #[test]
-fn nine_dcs(rt: HostRuntime) -> Result<(), Fail> {
+fn nine_dcs(rt: HostRuntime) {
     let mut octets = [0xaa; 3];
-    assert_eq!(rt;
-        put_nine(&mut SliceOut::new(&mut octets), Select::Heuristic)?,
-        3
-    );
-    assert_eq!(rt; octets, [0x06, 0x47, 0xf8]);
-    Ok(())
+    let put = put_nine(&mut SliceOut::new(&mut octets), Select::Heuristic);
+    assert_eq!(rt; (put, octets), (Ok(3), [0x06, 0x47, 0xf8]));
 }
 
 // The block depths 0, 2, 3 and 1 of at most 3.
@@ -61,9 +56,8 @@ fn put_four<O: OctetOut>(out: &mut O) -> Result<u64, PutFault>
 }
 
 #[test]
-fn four_depths(rt: HostRuntime) -> Result<(), Fail> {
+fn four_depths(rt: HostRuntime) {
     let mut octets = [0xaa; 2];
-    assert_eq!(rt; put_four(&mut SliceOut::new(&mut octets))?, 2);
-    assert_eq!(rt; octets, [0x95, 0x00]);
-    Ok(())
+    let put = put_four(&mut SliceOut::new(&mut octets));
+    assert_eq!(rt; (put, octets), (Ok(2), [0x95, 0x00]));
 }

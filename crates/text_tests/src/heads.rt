@@ -2,7 +2,7 @@
 use base_122::{Stop, Weights};
 use bit_pipe::{BitOut, SliceOut};
 use segment_head::{HeadFault, HeadField, ImagePart, Odd, SegmentHead, read_head, write_head};
-use std::test::Fail;
+use std::process::Abort;
 
 // The only segment of 17 by 17 pixels of 8 bits, whose image has 7 rows of padding.
 const ONLY: [u8; 20] = [
@@ -16,9 +16,20 @@ const BETWEEN: [u8; 19] = [
     0x72, 0x70, 0x00,
 ];
 
+// The octets are read as this head, and written for it.
+fn expect_head(rt: &impl Abort, octets: &[u8], said: &SegmentHead, room: &mut [u8]) {
+    let head = read_head(octets).expect(rt, "a head");
+    assert_eq!(rt; head, *said);
+    assert_eq!(rt; usize::from(head.octets()), octets.len());
+    let mut out = SliceOut::new(room);
+    let mut bits = BitOut::new(&mut out, 0, 0);
+    assert_eq!(rt; write_head(&mut bits, &head), Ok(()));
+    assert!(rt; bits.end(1, false).is_ok());
+    assert!(rt; *room == *octets);
+}
+
 #[test]
-fn only_segment(rt: HostRuntime) -> Result<(), Fail> {
-    let head = read_head(&ONLY)?;
+fn only_segment(rt: HostRuntime) {
     let image = ImagePart {
         signed: false,
         depth: 8,
@@ -45,20 +56,11 @@ fn only_segment(rt: HostRuntime) -> Result<(), Fail> {
         best_ac: true,
         image,
     };
-    assert_eq!(rt; head, said);
-    assert_eq!(rt; head.octets(), 20);
-    let mut octets = [0xaa; 20];
-    let mut out = SliceOut::new(&mut octets);
-    let mut bits = BitOut::new(&mut out, 0, 0);
-    write_head(&mut bits, &head)?;
-    bits.end(1, false)?;
-    assert_eq!(rt; octets, ONLY);
-    Ok(())
+    expect_head(&rt, &ONLY, &said, &mut [0xaa; 20]);
 }
 
 #[test]
-fn segment_between(rt: HostRuntime) -> Result<(), Fail> {
-    let head = read_head(&BETWEEN)?;
+fn segment_between(rt: HostRuntime) {
     let image = ImagePart {
         signed: true,
         depth: 16,
@@ -87,31 +89,15 @@ fn segment_between(rt: HostRuntime) -> Result<(), Fail> {
         best_ac: false,
         image,
     };
-    assert_eq!(rt; head, said);
-    assert_eq!(rt; head.octets(), 19);
-    let mut octets = [0xaa; 19];
-    let mut out = SliceOut::new(&mut octets);
-    let mut bits = BitOut::new(&mut out, 0, 0);
-    write_head(&mut bits, &head)?;
-    bits.end(1, false)?;
-    assert_eq!(rt; octets, BETWEEN);
-    Ok(())
+    expect_head(&rt, &BETWEEN, &said, &mut [0xaa; 19]);
 }
 
 #[test]
 fn heads_cut_short(rt: HostRuntime) {
-    assert_eq!(rt;
-        read_head(&ONLY[..2]),
-        Err(HeadFault::HeadShort { octets: 2 })
-    );
-    assert_eq!(rt;
-        read_head(&ONLY[..19]),
-        Err(HeadFault::HeadShort { octets: 19 })
-    );
-    assert_eq!(rt;
-        read_head(&BETWEEN[..18]),
-        Err(HeadFault::HeadShort { octets: 18 })
-    );
+    let cases: [(&[u8], u32); 3] = [(&ONLY[..2], 2), (&ONLY[..19], 19), (&BETWEEN[..18], 18)];
+    for (text, octets) in cases {
+        assert_eq!(rt; read_head(text), Err(HeadFault::HeadShort { octets }));
+    }
 }
 
 #[test]

@@ -5,7 +5,6 @@ use base_122::Select;
 use bit_pipe::{BitOut, OctetOut, PutFault, SliceOut};
 use gaggle_codes::{NumberRange, choose, put_values};
 use std::process::Abort;
-use std::test::Fail;
 
 fn fit(values: &[u16], bits: u8) -> bool
     requires { bits < 16 }
@@ -26,22 +25,28 @@ fn options(rt: &impl Abort, values: &[u16], bits: u8) -> (u8, u8) {
 
 #[test]
 fn options_of_small_gaggles(rt: HostRuntime) {
-    assert_eq!(rt; options(&rt, &[], 4), (15, 15));
-    // Both choices agree on the values of 0, 1, 1, -2.
-    assert_eq!(rt; options(&rt, &[2, 0, 5], 4), (1, 1));
-    // On each side of the heuristic's thresholds for one value of 4 bits.
-    assert_eq!(rt; options(&rt, &[1], 4), (0, 0));
-    assert_eq!(rt; options(&rt, &[2], 4), (1, 0));
-    assert_eq!(rt; options(&rt, &[3], 4), (1, 1));
-    assert_eq!(rt; options(&rt, &[6], 4), (15, 15));
-    // Two values for k take 4 bits, as many as uncoded.
-    assert_eq!(rt; options(&rt, &[5], 4), (2, 15));
-    // 2 bits know no k but 0, which ties at 1.
-    assert_eq!(rt; options(&rt, &[0], 2), (0, 0));
-    assert_eq!(rt; options(&rt, &[1], 2), (0, 15));
-    assert_eq!(rt; options(&rt, &[2], 2), (15, 15));
-    assert_eq!(rt; options(&rt, &[100], 10), (6, 6));
-    assert_eq!(rt; options(&rt, &[367], 10), (8, 15));
+    let cases: [(&[u16], u8, u8, u8); 12] = [
+        (&[], 4, 15, 15),
+        // Both choices agree on the values of 0, 1, 1, -2.
+        (&[2, 0, 5], 4, 1, 1),
+        // On each side of the heuristic's thresholds for one value of 4 bits.
+        (&[1], 4, 0, 0),
+        (&[2], 4, 1, 0),
+        (&[3], 4, 1, 1),
+        (&[6], 4, 15, 15),
+        // Two values for k take 4 bits, as many as uncoded.
+        (&[5], 4, 2, 15),
+        // 2 bits know no k but 0, which ties at 1.
+        (&[0], 2, 0, 0),
+        (&[1], 2, 0, 15),
+        (&[2], 2, 15, 15),
+        (&[100], 10, 6, 6),
+        (&[367], 10, 8, 15),
+    ];
+    for (values, bits, heuristic, optimal) in cases {
+        let options = options(&rt, values, bits);
+        assert_eq!(rt; options, (heuristic, optimal), "{values:?} of {bits} bits");
+    }
 }
 
 const FOUR: [i32; 4] = [0, 1, 1, -2];
@@ -74,29 +79,17 @@ fn put_front<O: OctetOut>(out: &mut O, select: Select) -> Result<u64, PutFault>
 }
 
 #[test]
-fn four_numbers(rt: HostRuntime) -> Result<(), Fail> {
-    let mut octets = [0; 2];
-    assert_eq!(rt;
-        put_four(&mut SliceOut::new(&mut octets), Select::Optimal)?,
-        2
-    );
-    assert_eq!(rt; octets, [0x41, 0x92]);
-    let mut again = [0; 2];
-    assert_eq!(rt;
-        put_four(&mut SliceOut::new(&mut again), Select::Heuristic)?,
-        2
-    );
-    assert_eq!(rt; again, octets);
-    Ok(())
+fn four_numbers(rt: HostRuntime) {
+    for select in [Select::Optimal, Select::Heuristic] {
+        let mut octets = [0; 2];
+        let put = put_four(&mut SliceOut::new(&mut octets), select);
+        assert_eq!(rt; (put, octets), (Ok(2), [0x41, 0x92]), "{select:?}");
+    }
 }
 
 #[test]
-fn four_numbers_stopped(rt: HostRuntime) -> Result<(), Fail> {
+fn four_numbers_stopped(rt: HostRuntime) {
     let mut octets = [0; 2];
-    assert_eq!(rt;
-        put_front(&mut SliceOut::new(&mut octets), Select::Optimal)?,
-        1
-    );
-    assert_eq!(rt; octets, [0x41, 0]);
-    Ok(())
+    let put = put_front(&mut SliceOut::new(&mut octets), Select::Optimal);
+    assert_eq!(rt; (put, octets), (Ok(1), [0x41, 0]));
 }

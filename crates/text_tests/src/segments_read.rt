@@ -36,25 +36,55 @@ fn answer_to(rt: &impl Abort, rest: &[u8]) -> Result<Part, SegmentFault>
     decode(rt, &text[..19 + rest.len()], &mut [7; 64], &mut [7])
 }
 
+// The text gives this answer and these numbers, in place of those that stood there.
+fn expect(
+    rt: &impl Abort,
+    text: &[u8],
+    blocks: &mut [i32],
+    marks: &mut [i32],
+    part: Part,
+    numbers: &[i32],
+)
+    requires count { length blocks.old ≡ 64 * length marks.old }
+    requires most { length marks.old ≤ 100 }
+{
+    assert_eq!(rt; decode(rt, text, blocks, marks), Ok(part), "{text:?}");
+    assert!(rt; *blocks == *numbers, "{text:?}");
+}
+
+// The text of one block gives these numbers.
+fn expect_block(rt: &impl Abort, text: &[u8], numbers: &[i32]) {
+    expect(rt, text, &mut [7; 64], &mut [7], Part::Whole, numbers);
+}
+
 #[test]
 fn flat_image(rt: HostRuntime) {
-    let mut blocks = [7; 576];
-    let mut marks = [7; 9];
-    assert_eq!(rt;
-        decode(&rt, &FLAT, &mut blocks, &mut marks),
-        Ok(Part::Whole)
+    let (mut blocks, mut marks) = ([7; 576], [7; 9]);
+    expect(
+        &rt,
+        &FLAT,
+        &mut blocks,
+        &mut marks,
+        Part::Whole,
+        &flat_blocks(),
     );
-    assert_eq!(rt; blocks, flat_blocks());
+    // Bits after the last item are free.
+    let mut text = FLAT;
+    text[22] |= 0x07;
+    let (mut blocks, mut marks) = ([7; 576], [7; 9]);
+    expect(
+        &rt,
+        &text,
+        &mut blocks,
+        &mut marks,
+        Part::Whole,
+        &flat_blocks(),
+    );
 }
 
 #[test]
 fn all_planes_of_a_block(rt: HostRuntime) {
-    let mut block = [7; 64];
-    assert_eq!(rt;
-        decode(&rt, &THREE_NUMBERS, &mut block, &mut [7]),
-        Ok(Part::Whole)
-    );
-    assert_eq!(rt; block, three_numbers());
+    expect_block(&rt, &THREE_NUMBERS, &three_numbers());
 }
 
 // The DC 5 has its two lower bits in the planes, of which none is sent.
@@ -62,24 +92,14 @@ fn all_planes_of_a_block(rt: HostRuntime) {
 fn stopped_above_all_planes(rt: HostRuntime) {
     let mut text = THREE_NUMBERS;
     text[6] = 0x01;
-    let mut block = [7; 64];
-    assert_eq!(rt;
-        decode(&rt, &text[..20], &mut block, &mut [7]),
-        Ok(Part::Whole)
-    );
     let mut expected = [0; 64];
     expected[0] = 4;
-    assert_eq!(rt; block, expected);
+    expect_block(&rt, &text[..20], &expected);
 }
 
 #[test]
 fn only_the_finest_diagonal_band(rt: HostRuntime) {
-    let mut block = [7; 64];
-    assert_eq!(rt;
-        decode(&rt, &DIAGONAL, &mut block, &mut [7]),
-        Ok(Part::Whole)
-    );
-    assert_eq!(rt; block, diagonal());
+    expect_block(&rt, &DIAGONAL, &diagonal());
 }
 
 #[test]
@@ -87,53 +107,43 @@ fn stopped_after_stage_2(rt: HostRuntime) {
     let mut text = DIAGONAL;
     text[7] = 0x20;
     text[19] = 0xbc;
-    let mut block = [7; 64];
-    assert_eq!(rt;
-        decode(&rt, &text[..20], &mut block, &mut [7]),
-        Ok(Part::Whole)
-    );
     let mut expected = [0; 64];
     expected[0] = 8;
-    assert_eq!(rt; block, expected);
+    expect_block(&rt, &text[..20], &expected);
 }
 
 #[test]
 fn refused_texts(rt: HostRuntime) {
-    let answer = answer_to(&rt, &[0xb8, 0x35, 0x90]);
-    assert_eq!(rt; answer, Err(SegmentFault::FalseFlag));
-    let answer = answer_to(&rt, &[0xb9, 0x00]);
-    assert_eq!(rt; answer, Err(SegmentFault::BadOption));
-    let answer = answer_to(&rt, &[0xb8, 0x35, 0x89, 0x91]);
-    assert_eq!(rt; answer, Err(SegmentFault::ShortSegment));
-    let answer = answer_to(&rt, &[0xb8, 0x35, 0x89, 0x91, 0x40, 0x00]);
-    assert_eq!(rt; answer, Err(SegmentFault::Overlong));
-}
-
-// Bits after the last item are free.
-#[test]
-fn other_bits_pad_the_text(rt: HostRuntime) {
-    let mut text = FLAT;
-    text[22] |= 0x07;
-    let mut blocks = [7; 576];
-    assert_eq!(rt;
-        decode(&rt, &text, &mut blocks, &mut [7; 9]),
-        Ok(Part::Whole)
-    );
-    assert_eq!(rt; blocks, flat_blocks());
+    let cases: [(&[u8], SegmentFault); 4] = [
+        (&[0xb8, 0x35, 0x90], SegmentFault::FalseFlag),
+        (&[0xb9, 0x00], SegmentFault::BadOption),
+        (&[0xb8, 0x35, 0x89, 0x91], SegmentFault::ShortSegment),
+        (
+            &[0xb8, 0x35, 0x89, 0x91, 0x40, 0x00],
+            SegmentFault::Overlong,
+        ),
+    ];
+    for (rest, fault) in cases {
+        assert!(rt; rest.len() <= 20);
+        assert_eq!(rt; answer_to(&rt, rest), Err(fault), "{rest:?}");
+    }
 }
 
 #[test]
 fn flat_image_cut_at_the_limit(rt: HostRuntime) {
-    let mut blocks = [7; 6400];
-    assert_eq!(rt;
-        decode(&rt, &LIMITED, &mut blocks, &mut [7; 100]),
-        Ok(Part::Ended)
-    );
     let mut expected = [0; 6400];
     for i in 0..68 {
         expected[64 * i] = 1600;
     }
-    assert_eq!(rt; blocks, expected);
+    let (mut blocks, mut marks) = ([7; 6400], [7; 100]);
+    expect(
+        &rt,
+        &LIMITED,
+        &mut blocks,
+        &mut marks,
+        Part::Ended,
+        &expected,
+    );
 }
 
 // The limit is 32 octets.
@@ -141,9 +151,13 @@ fn flat_image_cut_at_the_limit(rt: HostRuntime) {
 fn cut_texts_have_the_limit(rt: HostRuntime) {
     let mut text = [0; 33];
     text[..32].copy_from_slice(&LIMITED);
-    let mut blocks = [7; 6400];
-    let answer = decode(&rt, &text[..31], &mut blocks, &mut [7; 100]);
-    assert_eq!(rt; answer, Err(SegmentFault::ShortSegment));
-    let answer = decode(&rt, &text, &mut blocks, &mut [7; 100]);
-    assert_eq!(rt; answer, Err(SegmentFault::Overlong));
+    for (octets, fault) in [
+        (31, SegmentFault::ShortSegment),
+        (33, SegmentFault::Overlong),
+    ] {
+        assert!(rt; octets <= 33);
+        let (mut blocks, mut marks) = ([7; 6400], [7; 100]);
+        let answer = decode(&rt, &text[..octets], &mut blocks, &mut marks);
+        assert_eq!(rt; answer, Err(fault), "{octets} octets");
+    }
 }

@@ -15,12 +15,22 @@ fn option_of(octets: &[u8], length: u8) -> Result<Option<u8>, TextFault>
 
 #[test]
 fn options(rt: HostRuntime) {
-    assert_eq!(rt; option_of(&[0b1000_0000], 2), Ok(Some(1)));
-    assert_eq!(rt; option_of(&[0b0100_0000], 3), Ok(Some(1)));
-    assert_eq!(rt; option_of(&[0b1000_0000], 3), Err(TextFault::BadOption));
-    assert_eq!(rt; option_of(&[0b1100_0000], 3), Ok(Some(2)));
-    assert_eq!(rt; option_of(&[0b1000_0000], 4), Ok(Some(2)));
-    assert_eq!(rt; option_of(&[], 4), Ok(None));
+    let cases: [(&[u8], u8, Result<Option<u8>, TextFault>); 6] = [
+        (&[0b1000_0000], 2, Ok(Some(1))),
+        (&[0b0100_0000], 3, Ok(Some(1))),
+        (&[0b1000_0000], 3, Err(TextFault::BadOption)),
+        (&[0b1100_0000], 3, Ok(Some(2))),
+        (&[0b1000_0000], 4, Ok(Some(2))),
+        (&[], 4, Ok(None)),
+    ];
+    for (octets, length, answer) in cases {
+        assert!(rt; 2 <= length && length <= 4);
+        assert_eq!(rt;
+            option_of(octets, length),
+            answer,
+            "{octets:?} for {length} bits"
+        );
+    }
 }
 
 fn word_of(octets: &[u8], option: u8, length: u8) -> Result<Option<u8>, TextFault>
@@ -35,9 +45,15 @@ fn word_of(octets: &[u8], option: u8, length: u8) -> Result<Option<u8>, TextFaul
 
 #[test]
 fn words(rt: HostRuntime) {
-    // The codes of the symbols 15 and 4, which are the words 1111 and 0001; and 110, which stands as it is.
-    assert_eq!(rt; word_of(&[0b0000_1111], 0, 4), Ok(Some(0b1111)));
-    assert_eq!(rt; word_of(&[0b0010_0000], 1, 4), Ok(Some(0b0001)));
-    assert_eq!(rt; word_of(&[0b1100_0000], 2, 3), Ok(Some(0b110)));
-    assert_eq!(rt; word_of(&[], 0, 2), Ok(None));
+    let cases: [(&[u8], u8, u8, Option<u8>); 4] = [
+        // The codes of the symbols 15 and 4, which are the words 1111 and 0001; and 110, which stands as it is.
+        (&[0b0000_1111], 0, 4, Some(0b1111)),
+        (&[0b0010_0000], 1, 4, Some(0b0001)),
+        (&[0b1100_0000], 2, 3, Some(0b110)),
+        (&[], 0, 2, None),
+    ];
+    for (octets, option, length, word) in cases {
+        assert!(rt; 2 <= length && length <= 4 && option < length);
+        assert_eq!(rt; word_of(octets, option, length), Ok(word), "{octets:?}");
+    }
 }

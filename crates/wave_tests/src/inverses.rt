@@ -12,6 +12,7 @@ use block_families::{BandSink, BandSource, place_of};
 use inverse_strip::StripInverse;
 use raster_rows::{MadeImage, made_pixel};
 use std::alloc::{AllocError, Global};
+use std::mem;
 use std::process::Abort;
 use std::test::Fail;
 use wave_plain::{Bands, BlockRow, Plane, forward3};
@@ -208,6 +209,8 @@ fn rows_come_back_where_the_end_is_told_late(rt: HostRuntime) -> Result<(), Fail
     let mut rows = Vec::new(alloc);
     let mut strip = StripInverse::new(alloc, COLUMNS, 262_144)?;
     end_is_told_late(&rt, &mut strip, &bands, &image, &mut rows);
+    // Its drop would be dear to prove.
+    mem::forget(strip);
     Ok(())
 }
 
@@ -219,5 +222,7 @@ fn a_lost_block_row_changes_only_rows_in_its_reach(rt: HostRuntime) -> Result<()
     let mut rows = Vec::new(alloc);
     let mut strip = StripInverse::new(alloc, COLUMNS, 96)?;
     one_is_lost(&rt, &mut strip, &bands, &image, &mut rows);
+    // Its drop would be dear to prove.
+    mem::forget(strip);
     Ok(())
 }

@@ -5,20 +5,23 @@ ghost use Rattle.wave_defs.specs.Within.{AllWithin, EachWithin, IsWithin};
 ghost use Rattle.wave_defs.specs.Held.{signal};
 ghost use Rattle.wave_plain.specs.BlockRows.{IsBlockRow};
 ghost use Rattle.wave_plain.specs.Shown.{HasSize, image_of};
-ghost use Rattle.wave_strip.specs.Strip.{columns_of, has_ended, is_standing, rows_of};
+ghost use Rattle.wave_strip.specs.Strip.{IsAtStart, columns_of, has_ended, is_standing, rows_of};
 
 use base_122::Band;
 use block_families::{BandSource, Place, place_of};
 use raster_rows::{MadeImage, made_pixel};
 use std::alloc::{AllocError, Global};
+use std::mem;
 use std::process::Abort;
 use std::test::Fail;
 use wave_plain::{Bands, BlockRow, Plane, forward3};
 use wave_strip::StripWave;
 
-#[test]
-fn three_block_rows_come_at_the_end(rt: HostRuntime) -> Result<(), Fail> {
-    let mut strip = StripWave::new(rt.alloc(), 24)?;
+/// Three block rows come at the end of 24 rows, and none before.
+fn end_after_24_rows(rt: &impl Abort, strip: &mut StripWave)
+    requires columns { columns_of strip.old ≡ 3 }
+    requires start { IsAtStart strip.old }
+{
     let row = [200; 24];
     for _ in 0..24u32 {
         let None = strip.push_row(&row) else {
@@ -35,21 +38,39 @@ fn three_block_rows_come_at_the_end(rt: HostRuntime) -> Result<(), Fail> {
     assert_eq!(rt; strip.finish_row(), Some(1));
     assert_eq!(rt; strip.finish_row(), Some(2));
     assert_eq!(rt; strip.finish_row(), None);
+}
+
+/// Of 32 rows the first block row comes with row 29, and the others at the end.
+fn push_32_rows(rt: &impl Abort, strip: &mut StripWave)
+    requires columns { columns_of strip.old ≡ 3 }
+    requires start { IsAtStart strip.old }
+{
+    let row = [200; 24];
+    for taken in 0..32u32 {
+        let came = strip.push_row(&row);
+        assert_eq!(rt; came.is_some(), taken == 28, "{taken} rows before");
+    }
+    assert_eq!(rt; strip.finish_row(), Some(1));
+    assert_eq!(rt; strip.finish_row(), Some(2));
+    assert_eq!(rt; strip.finish_row(), Some(3));
+    assert_eq!(rt; strip.finish_row(), None);
+}
+
+#[test]
+fn three_block_rows_come_at_the_end(rt: HostRuntime) -> Result<(), Fail> {
+    let mut strip = StripWave::new(rt.alloc(), 24)?;
+    end_after_24_rows(&rt, &mut strip);
+    // Its drop would be dear to prove.
+    mem::forget(strip);
     Ok(())
 }
 
 #[test]
 fn the_first_block_row_comes_with_row_29(rt: HostRuntime) -> Result<(), Fail> {
     let mut strip = StripWave::new(rt.alloc(), 24)?;
-    let row = [200; 24];
-    for taken in 0..32u32 {
-        let came = strip.push_row(&row);
-        assert_eq!(rt; came.is_some(), taken == 28);
-    }
-    assert_eq!(rt; strip.finish_row(), Some(1));
-    assert_eq!(rt; strip.finish_row(), Some(2));
-    assert_eq!(rt; strip.finish_row(), Some(3));
-    assert_eq!(rt; strip.finish_row(), None);
+    push_32_rows(&rt, &mut strip);
+    // Its drop would be dear to prove.
+    mem::forget(strip);
     Ok(())
 }
 
@@ -168,5 +189,7 @@ fn rows_give_the_bands_of_the_whole_image(rt: HostRuntime) -> Result<(), Fail> {
     let mut strip = StripWave::new(alloc, COLUMNS)?;
     push_rows(&rt, &mut strip, &bands);
     finish_rows(&rt, &mut strip, &bands);
+    // Its drop would be dear to prove.
+    mem::forget(strip);
     Ok(())
 }

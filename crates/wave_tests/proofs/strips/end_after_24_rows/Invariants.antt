@@ -1,6 +1,6 @@
 use Rattle.std.proofs.Common.{◌≡◌, false}
 use Rattle.wave_strip.specs.Strip.{rows_of, columns_of, has_ended}
-use Rattle.wave_tests.proofs.strips.three_block_rows_come_at_the_end.Given as goal
+use Rattle.wave_tests.proofs.strips.end_after_24_rows.Given as goal
 
 abbrev pub invariant-loop : goal.invariant-loop
 invariant-loop g l = record {
