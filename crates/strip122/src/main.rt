@@ -60,7 +60,7 @@ status  0 done, 1 rows are missing or the packets can't be read on, 2 the words 
         refused, 3 the input is refused, 4 read fault, 5 write fault, 6 no memory
 ";
 
-const VERSION: &str = "strip122 0.1.0\n";
+const VERSION: &str = "strip122 0.1.0 (CCSDS 122.0-B-2 in CCSDS 133.0-B-2 packets)\n";
 
 // What the program itself answers, to one word alone.
 fn answer(words: &[String]) -> Option<&'static str>

@@ -20,7 +20,8 @@ fn help_tells_the_usage(rt: HostRuntime) -> Result<(), Fail> {
 
 #[test]
 fn version_is_told(rt: HostRuntime) -> Result<(), Fail> {
-    assert_eq!(rt; first_line(&rt, "--version")?, Some("strip122 0.1.0"));
+    let version = "strip122 0.1.0 (CCSDS 122.0-B-2 in CCSDS 133.0-B-2 packets)";
+    assert_eq!(rt; first_line(&rt, "--version")?, Some(version));
     Ok(())
 }
 
