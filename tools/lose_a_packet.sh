@@ -11,7 +11,7 @@ program() {
     if [ -x "$built" ]; then
         "$built" "$@"
     else
-        echo "compiling it unproved for '$1', 10 to 30 seconds" >&2
+        echo "compiling it unproved for '$1', 10 to 60 seconds" >&2
         (cd "$top/crates/strip122" && rt try -- "$@" 2>"$kept/told")
         status=$?
         grep '^strip122: ' "$kept/told" >&2

@@ -31,33 +31,32 @@ usage: strip122 encode width=N rows=N [KEY=VALUE ..]
        strip122 make|trial width=N rows=N [KEY=VALUE ..]
        strip122 --help | --version
 
-encode  reads a raster from standard input and writes space packets to standard output
-decode  reads packets and writes the raster, each row as soon as the packets determine it
-damage  reads packets and writes a line FIRST-LAST for each range of rows that what is
-        lost may have reached
-list    reads packets and writes a line for each: its number, and what became of it
-make    writes a made raster, and reads nothing
-trial   makes, encodes and decodes an image of at most 16777216 pixels in memory, reads
-        nothing, and writes a line of what was counted
+encode  raster in, space packets out, each as soon as the rows determine it
+decode  packets in, raster out, each row as soon as the packets determine it
+damage  packets in, a line FIRST-LAST out for rows that what is lost may reach
+list    packets in, a line out for each: its number, and what became of it
+make    a made raster out; nothing is read
+trial   a made image there and back in memory, and a line of what was counted
 
-A raster has its rows from the top. A pixel has one octet where depth is at most 8, else
-two, the greater first.
+A raster has its rows from the top; a pixel has one octet where depth is at most
+8, else two, the greater first.
 
-keys, each at most once, with the default in parentheses; those without one are required
-encode, make, trial
-                width=17..1048575 rows=17..262144 depth=1..16 (8) signed=0|1 (0)
-encode, trial   segment=16..1048575 (64) limit=0|32..134217724 (0) fill=0|1 (0)
-                word=1..4 (1) stop=dc|PLANE.STAGE (0.3) weights=ten of 0..3 (0111222333)
-                select=heuristic|optimal (optimal) image=0..65535 (0)
-                packet=64..65536 (1024)
-make, trial     seed=0..4294967295 (0)
-all but make    apid=0..2046 (100)
-decode, damage  pixels=0..1099511627776 (4294967296), the most that a picture may have
-decode, damage, list
-                octets=1..1099511627776 (1099511627776), after which reading ends
+keys, each at most once, with their defaults in parentheses
+encode, make, trial   width=17..1048575 rows=17..262144, both required
+                      depth=1..16 (8) signed=0|1 (0)
+encode, trial         segment=16..1048575 (64) word=1..4 (1) fill=0|1 (0)
+                      limit=0|32..134217724 (0), a multiple of word
+                      stop=dc|PLANE.STAGE (0.3), 0..27 and 0..3
+                      weights=ten of 0..3 (0111222333)
+                      select=heuristic|optimal (optimal)
+                      image=0..65535 (0) packet=64..65536 (1024)
+make, trial           seed=0..4294967295 (0); a trial has at most 2^24 pixels
+all but make          apid=0..2046 (100)
+decode, damage        pixels=0..1099511627776 (4294967296), of a picture at most
+decode, damage, list  octets=1..1099511627776 (1099511627776), read at most
 
-status  0 done, 1 rows are missing or the packets can't be read on, 2 the words are
-        refused, 3 the input is refused, 4 read fault, 5 write fault, 6 no memory
+status  0 done, 1 rows are missing or the packets can't be read on, 2 bad words,
+        3 bad input, 4 read fault, 5 write fault, 6 no memory
 ";
 
 const VERSION: &str = "strip122 0.1.0 (CCSDS 122.0-B-2 in CCSDS 133.0-B-2 packets)\n";
