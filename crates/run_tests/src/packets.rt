@@ -1,7 +1,5 @@
 // Whole runs over packets: pictures, damaged rows and lists, worked out by hand.
-use crate::runs::{
-    TWO_HUNDRED, WHOLE, black, done, ended, expect, failed, packet, part, run_words,
-};
+use crate::runs::{TWO_HUNDRED, WHOLE, black, done, ended, expect, packet, part, run_words};
 use std::process::Abort;
 use std::test::Fail;
 
@@ -99,25 +97,20 @@ fn a_segment_that_lacks_a_packet_is_lost(rt: HostRuntime) -> Result<(), Fail> {
     expect(&rt, "list", &left, 0, lines.as_bytes(), "")
 }
 
-// The packet of the black image, and the same again.
-fn twice(rt: &(impl Abort + AllocGlobal)) -> Result<Vec<u8>, Fail> {
-    let mut two = black(rt)?;
-    two.extend_from_slice(&black(rt)?)?;
-    assert_eq!(rt; two.len(), 104);
-    Ok(two)
-}
-
 #[test]
 fn packets_have_fates(rt: HostRuntime) -> Result<(), Fail> {
-    expect(&rt, "list apid=101", &black(&rt)?, 0, b"0 other-apid\n", "")?;
-    let mut two = twice(&rt)?;
+    let one = black(&rt)?;
+    let mut two = one.as_slice().to_vec(rt.alloc())?;
+    two.extend_from_slice(&one)?;
     expect(&rt, "decode", &two, 0, &[0; 289], "")?;
     expect(&rt, "list", &two, 0, b"0 kept 0 0 22\n1 late\n", "")?;
+    assert_eq!(rt; two.len(), 104);
     two[52 + 9] = 1;
     expect(&rt, "list", &two, 0, b"0 kept 0 0 22\n1 foreign\n", "")?;
     two[52] = 0x0F;
     two[53] = 0xFF;
-    expect(&rt, "list", &two, 0, b"0 kept 0 0 22\n1 idle\n", "")
+    expect(&rt, "list", &two, 0, b"0 kept 0 0 22\n1 idle\n", "")?;
+    expect(&rt, "list apid=101", &one, 0, b"0 other-apid\n", "")
 }
 
 #[test]
@@ -134,36 +127,19 @@ fn nothing_begins_a_segment(rt: HostRuntime) -> Result<(), Fail> {
     expect(&rt, "list", &second, 0, b"0 out-of-place\n", "")
 }
 
-// Where a bad version comes after the packet of the black image, that is told.
-fn expect_bad_version(rt: &(impl Abort + AllocGlobal)) -> Result<(), Fail> {
-    let mut octets = black(rt)?;
-    octets.push(0xFF)?;
-    let note = "strip122: damaged rows none; bad version at octet 52\n";
-    expect(rt, "decode", &octets, 1, &[0; 289], note)?;
-    expect(rt, "list", &octets, 1, b"0 kept 0 0 22\n", note)
-}
-
 #[test]
 fn a_stream_that_breaks_off(rt: HostRuntime) -> Result<(), Fail> {
-    expect_bad_version(&rt)?;
+    let mut octets = black(&rt)?;
+    octets.push(0xFF)?;
+    let note = "strip122: damaged rows none; bad version at octet 52\n";
+    expect(&rt, "decode", &octets, 1, &[0; 289], note)?;
+    expect(&rt, "list", &octets, 1, b"0 kept 0 0 22\n", note)?;
     let note = "strip122: damaged rows 91-127; packet cut, 1 octets missing\n";
-    expect(
-        &rt,
-        "decode",
-        part(&eight(&rt)?, 0, 408),
-        1,
-        &[0; 8192],
-        note,
-    )?;
+    let whole = eight(&rt)?;
+    expect(&rt, "decode", part(&whole, 0, 408), 1, &[0; 8192], note)?;
+    let whole = three(&rt)?;
     let note = "strip122: damaged rows 11-47; packet cut, 1 octets missing\n";
-    expect(
-        &rt,
-        "decode",
-        part(&three(&rt)?, 0, 153),
-        1,
-        &[0; 3072],
-        note,
-    )
+    expect(&rt, "decode", part(&whole, 0, 153), 1, &[0; 3072], note)
 }
 
 #[test]
@@ -225,17 +201,17 @@ fn no_room_for_the_whole_image_is_taken(rt: HostRuntime) -> Result<(), Fail> {
 fn each_call_fails_in_turn(rt: HostRuntime) -> Result<(), Fail> {
     // A read of the packet, a write for each row, and the read that finds the end.
     let one = black(&rt)?;
-    for (text, number, status, count) in [
-        ("decode", 0, 4, 0),
-        ("decode", 1, 5, 0),
-        ("decode", 3, 5, 34),
-        ("decode", 18, 4, 289),
-        ("damage", 1, 4, 0),
-        ("list", 1, 5, 0),
-        ("list", 2, 4, 14),
+    for (text, number, status, count, note) in [
+        ("decode", 0, 4, 0, "strip122: read fault\n"),
+        ("decode", 1, 5, 0, "strip122: write fault\n"),
+        ("decode", 3, 5, 34, "strip122: write fault\n"),
+        ("decode", 18, 4, 289, "strip122: read fault\n"),
+        ("damage", 1, 4, 0, "strip122: read fault\n"),
+        ("list", 1, 5, 0, "strip122: write fault\n"),
+        ("list", 2, 4, 14, "strip122: read fault\n"),
     ] {
-        let given = failed(&rt, text, &one, number, status)?;
-        assert!(rt; given.len() == count, "{text}, call {number}");
+        let given = ended(&rt, text, &one, &[number], WHOLE, status, note)?;
+        assert_eq!(rt; given.len(), count, "{text}, call {number}");
     }
     Ok(())
 }

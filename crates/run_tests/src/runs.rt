@@ -71,22 +71,6 @@ pub(crate) fn ended(
     Ok(ran.port.given().to_vec(rt.alloc())?)
 }
 
-// What a run gives whose call of this number fails, and changes the status to this one.
-pub(crate) fn failed(
-    rt: &(impl Abort + AllocGlobal),
-    text: &str,
-    input: &[u8],
-    number: u64,
-    status: u8,
-) -> Result<Vec<u8>, Fail> {
-    let note = match status {
-        4 => "strip122: read fault\n",
-        5 => "strip122: write fault\n",
-        _ => "",
-    };
-    ended(rt, text, input, &[number], WHOLE, status, note)
-}
-
 // What a run gives that ends with status 0.
 pub(crate) fn done(
     rt: &(impl Abort + AllocGlobal),
@@ -428,15 +412,20 @@ fn a_made_image(rt: HostRuntime) -> Result<(), Fail> {
 fn a_failed_call_has_its_status(rt: HostRuntime) -> Result<(), Fail> {
     // A read for each row, the write of the packet and the read at the end.
     let packet = black(&rt)?;
-    for (number, status, count) in [(0, 4, 0), (17, 5, 0), (18, 4, 52), (19, 0, 52)] {
-        let given = failed(&rt, "encode width=17 rows=17", &[0; 289], number, status)?;
-        assert!(rt;
-            given.as_slice() == part(&packet, 0, count),
-            "call {number}"
-        );
+    let words = "encode width=17 rows=17";
+    for (number, status, count, note) in [
+        (0, 4, 0, "strip122: read fault\n"),
+        (17, 5, 0, "strip122: write fault\n"),
+        (18, 4, 52, "strip122: read fault\n"),
+        (19, 0, 52, ""),
+    ] {
+        let given = ended(&rt, words, &[0; 289], &[number], WHOLE, status, note)?;
+        assert_eq!(rt; given.as_slice(), part(&packet, 0, count), "call {number}");
     }
     // A made row is one write.
-    let given = failed(&rt, "make width=17 rows=17", &[], 2, 5)?;
+    let words = "make width=17 rows=17";
+    let note = "strip122: write fault\n";
+    let given = ended(&rt, words, &[], &[2], WHOLE, 5, note)?;
     assert_eq!(rt; given.len(), 34);
     Ok(())
 }
