@@ -20,7 +20,7 @@ mod stages;
 pub use gaggle::{
     Gaggle, depth_of, families_of, gaggle_in, load, mark_of, store, store_families, with_families,
 };
-pub use masks::{all_having_bit, all_negative, all_reaching};
+pub use masks::{all_having_bit, all_negative, all_reaching, reaching};
 pub use nibbles::{beside, both, either, four, has, is_any, joined, masked, one, part, three};
 pub use picks::{pick, spread};
 pub use plan::{CodedPlane, PlanePlan};

@@ -38,9 +38,9 @@ fn outside(block: &[i32], start: usize, most: i32) -> u64
         .to_bitmask()
 }
 
-// Which of the sixteen numbers from `start` on are at least 2^plane in magnitude.
+/// Which of the sixteen numbers from `start` on are significant in a plane: at least 2^plane in magnitude.
 #[inline(always)]
-fn reaching(block: &[i32], start: usize, plane: u8) -> u64
+pub fn reaching(block: &[i32], start: usize, plane: u8) -> u64
     requires within { start + 16 ≤ length block.now }
     requires low { plane < 31 }
     ensures { Shows result (significant block.now plane) start 16 }
