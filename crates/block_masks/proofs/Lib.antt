@@ -9,3 +9,4 @@ pub mod Viewing
 pub mod MarkParts
 pub mod Marking
 pub mod Agreeing
+pub mod MaskParts

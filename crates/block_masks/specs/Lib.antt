@@ -4,3 +4,5 @@ pub mod SetMasks
 pub mod Gaggles
 pub mod Stored
 pub mod BitsSet
+pub mod Places
+pub mod Walk

@@ -3,9 +3,9 @@
 //!
 //! Bit k of a mask tells of the k-th position. `plan` makes a `CodedPlane` of a `PlanePlan`, once for all blocks. `masks`
 //! reads a block, `nibbles` makes masks of masks, `sets` tells which sets of positions have a member of a mask, and `picks`
-//! gathers the bits of up to four positions. `setting` gives the numbers at the positions of a mask a bit. `stages` has the
-//! stages by their numbers; from one stage to the next `gaggle` keeps in the marks which options and words the gaggles have,
-//! and which families of a block are significant.
+//! gathers the bits of up to four positions. `walk` goes over the positions of a mask, and `setting` gives the numbers
+//! at them a bit. `stages` has the stages by their numbers; from one stage to the next `gaggle` keeps in the marks which
+//! options and words the gaggles have, and which families of a block are significant.
 #![tactic(auto)]
 
 mod gaggle;
@@ -16,6 +16,7 @@ mod plan;
 mod sets;
 mod setting;
 mod stages;
+mod walk;
 
 pub use gaggle::{
     Gaggle, depth_of, families_of, gaggle_in, load, mark_of, store, store_families, with_families,
@@ -27,3 +28,4 @@ pub use plan::{CodedPlane, PlanePlan};
 pub use sets::{Sets, is_any_of, quads_of};
 pub use setting::set_bits;
 pub use stages::stage_at;
+pub use walk::{Parted, first_in, part_first, without};

@@ -1,0 +1,50 @@
+// The positions of a mask, one after another.
+
+ghost use Rattle.std.specs.Prelude.{◌≡◌, ◌<◌, ℕ, true, false};
+ghost use Rattle.item_defs.specs.Bits.{bit as bit_in};
+ghost use Rattle.block_masks.specs.Walk.{IsParted};
+
+/// The first position of a mask that has some.
+#[inline(always)]
+pub fn first_in(mask: u64) -> u8
+    requires some { 0 < mask }
+    ensures within { result < 64 }
+    ensures here { bit_in mask result ≡ true }
+    ensures none_before { (k : ℕ) → k < result → bit_in mask k ≡ false }
+{
+    mask.trailing_zeros() as u8
+}
+
+/// The positions of a mask but this.
+#[inline(always)]
+pub fn without(mask: u64, position: u8) -> u64
+    requires position { position < 64 }
+    ensures gone { bit_in result position ≡ false }
+    ensures others { (k : ℕ) → k < 64 → (k ≡ position → ⊥) → bit_in result k ≡ bit_in mask k }
+    ensures fewer { bit_in mask position ≡ true → result < mask }
+{
+    mask & !(1 << position)
+}
+
+/// A mask of some positions in two.
+#[derive(Clone, Copy)]
+pub struct Parted {
+    /// Its first position.
+    pub first: u64,
+    /// Its other positions.
+    pub others: u64,
+}
+
+/// The first position of a mask that has some, and the others.
+#[inline(always)]
+pub fn part_first(mask: u64) -> Parted
+    requires some { 0 < mask }
+    ensures { IsParted mask result.first result.others }
+{
+    // To take 1 from a mask clears its first position and sets those below.
+    let others = mask & (mask - 1);
+    Parted {
+        first: mask ^ others,
+        others,
+    }
+}
