@@ -8,6 +8,7 @@ ghost use Rattle.block_masks.specs.BitsSet.{with_bit, SetsBits, SetsPart};
 
 use crate::masks::read;
 use crate::nibbles::{both, has, part};
+use crate::walk::{first_in, without};
 use std::simd::prelude::*;
 
 // The bits of a magnitude.
@@ -116,8 +117,8 @@ fn set_singly(block: &mut [i32], plane: u8, bits: u64, minus: u64)
 {
     let mut left = bits;
     while left != 0 {
-        let at = left.trailing_zeros() as u8;
-        left &= !(1 << at);
+        let at = first_in(left);
+        left = without(left, at);
         let place = at as usize;
         block[place] = set_bit(block[place], plane, has(minus, at));
     }
