@@ -9,7 +9,7 @@ use Rattle.plane_defs.specs.Spans.{span}
 use Rattle.plane_defs.proofs.SpanLists.{map-filter-span-suc, map-filter-span-passed, map-filter-span-none}
 use Rattle.plane_defs.proofs.Tables.{list_all-span-zero, and-left, and-right}
 use Rattle.block_masks.specs.Masks.{Shows}
-use Rattle.block_masks.specs.Picks.{packed}
+use Rattle.block_masks.specs.Picks.{packed, AreSpread}
 use Rattle.block_masks.specs.declared.picks.TheConstants.{PICKS, SPREADS}
 
 abbrev entry : ℕ → ℕ → ℕ
@@ -368,6 +368,13 @@ pub back_of : (due word start count : ℕ) (g : ℕ → Bool) → count ≤ 4 �
     value_of (map (placed (spread_entry due word) start) (filter g (span start count))) ≡ word
 back_of due word start count g few p small fits =
     sym (ap value_of (wider_choice (placed (spread_entry due word) start) g start count few)) ∙ back_of_four due word start (within start count g) (wider due start count g few p) small fits
+
+pub are_spread : (due word : ℕ) → due < 16 → word < 16 → AreSpread due word (spread_entry due word)
+are_spread due word four low = record {
+  small = small_spread due word four low;
+  told = λ f g start count few p is. spread_of due word start count f g few p is;
+  back = λ g start count few p fits. back_of due word start count g few p low fits;
+}
 
 chosen_length : (p q r s a b c d : Bool) → length (chosen p q r s a b c d) ≡ length (chosen p q r s false false false false)
 chosen_length p q r s a b c d =

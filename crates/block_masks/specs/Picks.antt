@@ -1,7 +1,15 @@
--- Some bits as one number.
-use Rattle.std.specs.Prelude.{ℕ, ◌+◌, ◌*◌, Bool, List, length}
-use Rattle.item_defs.specs.Bits.{value_of}
+-- Some bits as one number, and a number spread over some places.
+use Rattle.std.specs.Prelude.{◌≡◌, ◌<◌, ◌≤◌, ℕ, ◌+◌, ◌-◌, ◌*◌, ◌^◌, ◌&&◌, Bool, List, length, map, filter, count_ones}
+use Rattle.item_defs.specs.Bits.{bit, value_of}
+use Rattle.plane_defs.specs.Spans.{span}
+use Rattle.block_masks.specs.Masks.{Shows}
 
 -- up to four bits: sixteen times their number, and the number that they make
 unfoldable pub packed : List Bool → ℕ
 packed bits = 16 * length bits + value_of bits
+
+-- the places of some due ones that a word tells
+pub record AreSpread (due word places : ℕ) : Type 0 where
+  pub small : places < 16
+  pub told : (f g : ℕ → Bool) (start count : ℕ) → count ≤ 4 → Shows due g start count → value_of (map f (filter g (span start count))) ≡ word → Shows places (λ p. g p && f p) start count
+  pub back : (g : ℕ → Bool) (start count : ℕ) → count ≤ 4 → Shows due g start count → word < 2 ^ count_ones due → value_of (map (λ p. bit places (p - start)) (filter g (span start count))) ≡ word

@@ -1,10 +1,9 @@
 // The bits of four positions that are due, as a word and back.
 
-ghost use Rattle.std.specs.Prelude.{◌≡◌, ◌<◌, ◌≤◌, ◌/◌, ◌%◌, ◌^◌, ◌&&◌, ◌-◌, ℕ, Bool, count_ones, map, filter};
-ghost use Rattle.item_defs.specs.Bits.{bit, value_of};
+ghost use Rattle.std.specs.Prelude.{◌≡◌, ◌<◌, ◌≤◌, ◌/◌, ◌%◌, ◌^◌, ℕ, Bool, map, filter};
 ghost use Rattle.plane_defs.specs.Spans.{span};
 ghost use Rattle.block_masks.specs.Masks.{Shows};
-ghost use Rattle.block_masks.specs.Picks.{packed};
+ghost use Rattle.block_masks.specs.Picks.{packed, AreSpread};
 
 // For each mask of what is due, and each mask of bits: sixteen times the number of bits that are due, and the
 // number that they make, the first position highest.
@@ -97,10 +96,7 @@ const SPREADS: [[u8; 16]; 16] = [
 pub fn spread(due: u64, word: u8) -> u64
     requires due { due < 16 }
     requires word { word < 16 }
-    ensures told { (f g : ℕ → Bool) (start count : ℕ) → count ≤ 4 → Shows due g start count → value_of (map f (filter g (span start count))) ≡ word → Shows result (λ p. g p && f p) start count }
-    ensures back { (g : ℕ → Bool) (start count : ℕ) → count ≤ 4 → Shows due g start count → word < 2 ^ count_ones due →
-        value_of (map (λ p. bit result (p - start)) (filter g (span start count))) ≡ word }
-    ensures within { result < 16 }
+    ensures { AreSpread due word result }
 {
     u64::from(SPREADS[due as usize][word as usize])
 }
