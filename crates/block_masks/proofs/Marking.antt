@@ -6,7 +6,7 @@ use Rattle.std.proofs.lemmas.List.{length-map}
 use Rattle.plane_defs.specs.Marks.{depth_of, depths_of}
 use Rattle.block_masks.specs.declared.gaggle.Gaggle.{Gaggle}
 use Rattle.block_masks.specs.Gaggles.{AreOptions, AreKnown, SameMarks, first_mark, options_in, sent_in, families_in, options_at}
-use Rattle.block_masks.specs.Stored.{Stores, StoresFamilies}
+use Rattle.block_masks.specs.Stored.{Stores}
 
 pub depth_there : (marks : List ℤ) (r : ℕ) → get_or (depths_of marks) r 0 ≡ depth_of (get_or marks r (pos 0))
 unfolding depths_of
@@ -45,21 +45,6 @@ stored marks g mark gaggle within depth options sent families =
   where
     far : (h g : ℕ) → h ≢ g → 16 * h ≢ 16 * g
     far h g apart = omega arith
-
-pub families_stored : (marks : List ℤ) (r : ℕ) (mark : ℤ) (f : ℕ) → r < length marks → depth_of mark ≡ depth_of (get_or marks r (pos 0)) →
-    options_in mark ≡ options_in (get_or marks r (pos 0)) → sent_in mark ≡ sent_in (get_or marks r (pos 0)) → families_in mark ≡ f →
-    StoresFamilies marks (set marks r mark) r f
-unfolding depths_of
-families_stored marks r mark f within depth options sent families = record {
-  same = record {
-    depths = map-set_same depth_of marks r mark (pos 0) depth;
-    whole = length-set marks r mark;
-    options = λ g. kept_set options_in marks r mark within options (16 * g);
-  };
-  sent = λ g. kept_set sent_in marks r mark within sent (16 * g);
-  families = ap families_in (get_or-set_same marks r mark (pos 0) within) ∙ families;
-  others = λ h apart. get_or-set_other marks r h mark (pos 0) apart;
-}
 
 pub same_marks : (marks : List ℤ) → SameMarks marks marks
 same_marks marks = record { depths = refl; whole = refl; options = λ g. refl }

@@ -3,7 +3,7 @@ use Rattle.std.specs.Prelude.{◌≡◌, ℕ, ℤ, pos, List, length}
 use lib.ListN.{get_or}
 use Rattle.plane_defs.specs.Marks.{depths_of}
 use Rattle.block_masks.specs.declared.gaggle.Gaggle.{Gaggle}
-use Rattle.block_masks.specs.Gaggles.{SameMarks, first_mark, families_in, options_at, sent_at}
+use Rattle.block_masks.specs.Gaggles.{first_mark, families_in, options_at, sent_at}
 
 -- this of gaggle g
 pub record Stores (old new : List ℤ) (g : ℕ) (gaggle : Gaggle) : Type 0 where
@@ -13,10 +13,3 @@ pub record Stores (old new : List ℤ) (g : ℕ) (gaggle : Gaggle) : Type 0 wher
   pub options : options_at new g ≡ gaggle.options
   pub sent : sent_at new g ≡ gaggle.sent
   pub others : (h : ℕ) → (h ≡ g → ⊥) → first_mark new h ≡ first_mark old h
-
--- these families of block r
-pub record StoresFamilies (old new : List ℤ) (r f : ℕ) : Type 0 where
-  pub same : SameMarks old new
-  pub sent : (g : ℕ) → sent_at new g ≡ sent_at old g
-  pub families : families_in (get_or new r (pos 0)) ≡ f
-  pub others : (h : ℕ) → (h ≡ r → ⊥) → get_or new h (pos 0) ≡ get_or old h (pos 0)

@@ -4,7 +4,7 @@ ghost use Rattle.std.specs.Prelude.{◌≡◌, ◌+◌, ◌*◌, ◌<◌, [], �
 ghost use Rattle.item_defs.specs.Bits.{digit};
 ghost use Rattle.plane_defs.specs.Marks.{depth_of as depth_in};
 ghost use Rattle.block_masks.specs.Gaggles.{low_bits, options_in, sent_in, families_in, options_at, sent_at, AreOptions};
-ghost use Rattle.block_masks.specs.Stored.{Stores, StoresFamilies};
+ghost use Rattle.block_masks.specs.Stored.{Stores};
 
 /// What lasts of a gaggle from one stage to the next (docs/formats.md, "Words and codes").
 #[derive(Clone, Copy)]
@@ -133,14 +133,4 @@ pub fn store(marks: &mut [i32], g: usize, gaggle: Gaggle)
     let mark = marks[16 * g];
     let kept = mark_of(depth_of(mark), gaggle);
     marks[16 * g] = with_families(kept, families_of(mark));
-}
-
-/// Keeps the families of block r in the marks, of which bit i tells family i; what else they keep stays.
-#[inline]
-pub fn store_families(marks: &mut [i32], r: usize, families: u64)
-    requires within { r < length marks.old }
-    requires few { families < 8 }
-    ensures { StoresFamilies marks.old marks.new r families }
-{
-    marks[r] = with_families(marks[r], families);
 }

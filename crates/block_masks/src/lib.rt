@@ -19,7 +19,7 @@ mod stages;
 mod walk;
 
 pub use gaggle::{
-    Gaggle, depth_of, families_of, gaggle_in, load, mark_of, store, store_families, with_families,
+    Gaggle, depth_of, families_of, gaggle_in, load, mark_of, store, with_families,
 };
 pub use masks::{all_having_bit, all_negative, all_reaching, reaching};
 pub use nibbles::{beside, both, either, four, has, is_any, joined, masked, one, part, three};
