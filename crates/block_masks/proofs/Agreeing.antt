@@ -13,9 +13,6 @@ use Rattle.block_masks.specs.Gaggles.{Agrees, AllAgree, AreOptions, sent_in, sen
 use Rattle.block_masks.specs.Stored.{Stores}
 use Rattle.block_masks.proofs.Marking.{same_or_other}
 
-pub known_later : {options later : List ℕ} → later ≡ options → AreOptions options → AreOptions later
-known_later same known = subst AreOptions (sym same) known
-
 pub option_known : (options : List ℕ) (n : ℕ) → AreOptions options → 2 ≤ n → n ≤ 4 → option_of options n < n
 option_known options zero known low high = absurd (omega arith)
 option_known options (suc zero) known low high = absurd (omega arith)

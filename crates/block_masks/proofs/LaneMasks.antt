@@ -75,7 +75,7 @@ pub below_zero : (z : ℤ) → lt_z z (pos 0) ≡ negative z
 below_zero (pos n) = grind arith
 below_zero (negsuc n) = refl
 
-top_of : (b : Bool) → top 31 (cond b 4294967295 0) ≡ b
+pub top_of : (b : Bool) → top 31 (cond b 4294967295 0) ≡ b
 top_of true = refl
 top_of false = refl
 

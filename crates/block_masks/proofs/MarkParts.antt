@@ -3,6 +3,7 @@ use Rattle.std.proofs.Common.{◌≡◌, ℕ, ◌+◌, ◌*◌, ◌/◌, ◌%◌
 use Rattle.std.proofs.lemmas.Int.{to_z_pos}
 use Rattle.std.specs.Prelude.{◌==◌}
 use Rattle.item_defs.specs.Bits.{digit}
+use Rattle.item_defs.proofs.NumberBits.{digit_small}
 use Rattle.plane_defs.specs.Marks.{depth_of}
 use Rattle.block_masks.specs.Gaggles.{low_bits, options_in, sent_in, families_in}
 
@@ -16,10 +17,6 @@ three_of (a ∷ b ∷ c ∷ e ∷ rest) d h = absurd (omega arith)
 bit_back : (n : ℕ) (b : Bool) → n ≡ digit b → (n == 1) ≡ b
 bit_back n true h = grind arith
 bit_back n false h = grind arith
-
-digit_small : (b : Bool) → digit b < 2
-digit_small true = omega arith
-digit_small false = omega arith
 
 -- the number with these parts
 record Packed (n d a b c s t u : ℕ) : Type 0 where

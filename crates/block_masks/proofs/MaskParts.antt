@@ -2,7 +2,7 @@
 use Rattle.std.proofs.Common.{◌≡◌, inl, inr, ℕ, ◌+◌, ◌-◌, ◌*◌, ◌/◌, ◌%◌, ◌<◌, ◌≤◌, ◌^◌, Bool, true, false, min, bit_and, bit_xor, refl, ap, sym, ◌∙◌, subst, arith}
 use Rattle.std.specs.Prelude.{◌==◌, if◌then◌else◌}
 use Rattle.std.specs.Int.{w64, bit_at, trailing_zeros}
-use Rattle.std.proofs.lemmas.Bool.{cases_lt, cases_eq}
+use Rattle.std.proofs.lemmas.Bool.{cases_lt, cases_eq, eqb-true, eq-eqb, ne_eqb, true≢false}
 use Rattle.std.proofs.lemmas.Nat.{pow_pos, pow-add, shr_split, mod_below, and_le_l, and_le_r}
 use Rattle.std.proofs.lemmas.Nat.Bits.{bit_at_and, bit_at_xor, bit_at-pow_same, bit_at-pow_other, bit_at_ones_above, bit_at_cat_low, bit_at_cat_high, same_from_bits_below, same_from_bits, bit_at-trailing_zeros}
 use Rattle.std.proofs.lemmas.Bool.Decides.{nat_tests}
@@ -17,11 +17,8 @@ fewer_left mask rest position here gone =
       | inl lt ↦ lt
       | inr ge ↦
           let e : bit_and mask rest ≡ mask = omega (arith, and_le_l mask rest, ge) in
-          absurd (never (sym here ∙ ap (λ x. bit x position) (sym e) ∙ gone))
+          absurd (true≢false (sym here ∙ ap (λ x. bit x position) (sym e) ∙ gone))
     ]
-  where
-    never : true ≡ false → ⊥
-    never e = cc
 
 -- ---- a mask in two
 
@@ -50,26 +47,20 @@ module _ (n k : ℕ) (here : bit_at n k ≡ 1) (none : (i : ℕ) → i < k → b
 
   one_less : (i : ℕ) → bit_at (bit_and n (n - 1)) i ≡ bit_at n i - (if i == k then 1 else 0)
   one_less i = bit_at_and n (n - 1) i ∙ elim (cases_lt i k) [
-    | inl before ↦ both_none (none i before) (unequal i k (λ e. omega (arith, e, before)))
+    | inl before ↦ both_none (none i before) (ne_eqb i k (λ e. omega (arith, e, before)))
     | inr ge ↦ elim (cases_eq i k) [
-      | inl e ↦ subst (λ j. min (bit_at n j) (bit_at (n - 1) j) ≡ bit_at n j - (if j == k then 1 else 0)) (sym e) (first_one gone_at (equal_self k))
+      | inl e ↦ subst (λ j. min (bit_at n j) (bit_at (n - 1) j) ≡ bit_at n j - (if j == k then 1 else 0)) (sym e) (first_one gone_at (eq-eqb k k refl))
       | inr apart ↦
           let past : k + 1 ≤ i = omega (arith, ge, apart) in
           let same : bit_at (n - 1) i ≡ bit_at n i =
           ap (λ m. bit_at m i) less ∙ bit_at_cat_high high (k + 1) (2 ^ k - 1) i (omega (arith, twice, pow_pos k)) past
           ∙ sym (ap (λ m. bit_at m i) split ∙ bit_at_cat_high high (k + 1) (2 ^ k) i (omega (arith, twice, pow_pos k)) past) in
-          as_before same (unequal i k apart)
+          as_before same (ne_eqb i k apart)
     ]
   ]
     where
       gone_at : bit_at (n - 1) k ≡ 0
       gone_at = ap (λ m. bit_at m k) less ∙ bit_at_cat_low high (k + 1) (2 ^ k - 1) k (omega arith) ∙ bit_at_ones_above k k (omega arith)
-
-      unequal : (a b : ℕ) → (a ≡ b → ⊥) → (a == b) ≡ false
-      unequal a b ne = grind arith
-
-      equal_self : (a : ℕ) → (a == a) ≡ true
-      equal_self a = grind arith
 
       both_none : bit_at n i ≡ 0 → (i == k) ≡ false → min (bit_at n i) (bit_at (n - 1) i) ≡ bit_at n i - (if i == k then 1 else 0)
       both_none e t = rw (e, t) (omega arith)
@@ -87,11 +78,8 @@ module _ (n k : ℕ) (here : bit_at n k ≡ 1) (none : (i : ℕ) → i < k → b
   alone_at : (i : ℕ) → bit_at (bit_xor n (bit_and n (n - 1))) i ≡ (if i == k then 1 else 0)
   alone_at i = bit_at_xor n (bit_and n (n - 1)) i ∙ ap (λ b. (bit_at n i + b) % 2) (one_less i) ∙ by_place (i == k) refl
     where
-      from_test : (a b : ℕ) → (a == b) ≡ true → a ≡ b
-      from_test a b e = grind (arith, nat_tests)
-
       by_place : (t : Bool) → (i == k) ≡ t → (bit_at n i + (bit_at n i - (if t then 1 else 0))) % 2 ≡ (if t then 1 else 0)
-      by_place true e = let h : bit_at n i ≡ 1 = ap (bit_at n) (from_test i k e) ∙ here in rw h refl
+      by_place true e = let h : bit_at n i ≡ 1 = ap (bit_at n) (eqb-true i k e) ∙ here in rw h refl
       by_place false e = let two : (b : ℕ) → (b + (b - 0)) % 2 ≡ 0 = λ b. omega arith in two (bit_at n i)
 
   first_is : bit_xor n (bit_and n (n - 1)) ≡ 2 ^ k
@@ -101,10 +89,10 @@ module _ (n k : ℕ) (here : bit_at n k ≡ 1) (none : (i : ℕ) → i < k → b
   ])
     where
       one : (i : ℕ) → i ≡ k → (b : ℕ) → b ≡ 1 → (if i == k then 1 else 0) ≡ b
-      one i e b f = let t : (i == k) ≡ true = grind arith in rw (t, f) refl
+      one i e b f = let t : (i == k) ≡ true = eq-eqb i k e in rw (t, f) refl
 
       nothing : (i : ℕ) → (i ≡ k → ⊥) → (b : ℕ) → b ≡ 0 → (if i == k then 1 else 0) ≡ b
-      nothing i apart b f = let t : (i == k) ≡ false = grind arith in rw (t, f) refl
+      nothing i apart b f = let t : (i == k) ≡ false = ne_eqb i k apart in rw (t, f) refl
 
 pub parts : (n : ℕ) → 0 < n → n < 2 ^ 64 → IsParted n (bit_xor n (bit_and n (n - 1))) (bit_and n (n - 1))
 parts n some fits =
@@ -128,7 +116,7 @@ parts n some fits =
     shown i k = grind (arith, nat_tests)
 
     none_left : (k b : ℕ) → b ≤ 1 → b - (if k == k then 1 else 0) ≡ 0
-    none_left k b le = let t : (k == k) ≡ true = grind arith in rw t (omega arith)
+    none_left k b le = let t : (k == k) ≡ true = eq-eqb k k refl in rw t (omega arith)
 
     all_left : (i k b : ℕ) → (i ≡ k → ⊥) → b - (if i == k then 1 else 0) ≡ b
-    all_left i k b apart = let t : (i == k) ≡ false = grind arith in rw t (omega arith)
+    all_left i k b apart = let t : (i == k) ≡ false = ne_eqb i k apart in rw t (omega arith)

@@ -1,8 +1,10 @@
 -- Masks of masks, bit by bit.
-use Rattle.std.proofs.Common.{◌≡◌, ℕ, zero, suc, ◌+◌, ◌-◌, ◌*◌, ◌/◌, ◌%◌, ◌<◌, ◌≤◌, ◌^◌, ◌⊎◌, inl, inr, min, max, Bool, true, false, not, ◌&&◌, ◌||◌, nat_eq, bit_and, bit_or, bit_xor, refl, ap, sym, ◌∙◌, subst, arith, w64, shr-shr, eq-zero-or-pos, add-one}
+use Rattle.std.proofs.Common.{◌≡◌, ℕ, zero, suc, ◌+◌, ◌-◌, ◌*◌, ◌/◌, ◌%◌, ◌<◌, ◌≤◌, ◌^◌, inl, inr, min, max, Bool, true, false, not, ◌&&◌, ◌||◌, nat_eq, bit_and, bit_or, bit_xor, refl, ap, sym, ◌∙◌, subst, arith, w64, shr-shr, eq-zero-or-pos, add-one}
 use Rattle.std.specs.Prelude.{◌==◌}
 use Rattle.std.specs.Int.{trailing_zeros}
 use Rattle.std.specs.List.{list_any}
+use Rattle.std.proofs.Math.Bool.{and-true}
+use Rattle.std.proofs.lemmas.Bool.{cases_lt}
 use Rattle.std.proofs.lemmas.Nat.{and_le_l, and_le_r, xor_lt, or_lt, and_mask, one_shl, mod_below, pow_pos, shl_whole, or_shifted, pow-add, mul-add-lt}
 use Rattle.std.proofs.lemmas.Nat.Bits.{bit_at_and, bit_at_xor, bit_at_or, bit_at_cat_low, bit_at_cat_high, bit_at-trailing_zeros, bit_at-zero, bit_at_ones, bit_at_above}
 use Rattle.item_defs.specs.Bits.{bit}
@@ -66,12 +68,8 @@ module _ {a b start count : ℕ} {f g : ℕ → Bool} where
 
 -- ---- some positions of a mask, and two masks side by side
 
-and_true : (b : Bool) → (b && true) ≡ b
-and_true true = refl
-and_true false = refl
-
 bit_low : (m n k : ℕ) → k < n → bit (m % 2 ^ n) k ≡ bit m k
-bit_low m n k low = ap (λ x. bit x k) (sym (and_mask m n)) ∙ bit_both m (2 ^ n - 1) k ∙ ap (λ x. bit m k && (x == 1)) (bit_at_ones n k low) ∙ and_true (bit m k)
+bit_low m n k low = ap (λ x. bit x k) (sym (and_mask m n)) ∙ bit_both m (2 ^ n - 1) k ∙ ap (λ x. bit m k && (x == 1)) (bit_at_ones n k low) ∙ and-true (bit m k)
 
 -- the part as the code makes it
 part_is : (mask at n : ℕ) → n < 64 → bit_and (mask / 2 ^ at) ((1 * 2 ^ n) % 2 ^ 64 - 1) ≡ mask / 2 ^ at % 2 ^ n
@@ -98,7 +96,7 @@ joined_within {low} {high} at n lt fits room small =
 
 pub shows_joined : {low high start n : ℕ} {f : ℕ → Bool} (at : ℕ) → at < 64 → low < 2 ^ at → high < 2 ^ (64 - at) → Shows low f start at → Shows high f (start + at) n → Shows (bit_or ((high * 2 ^ at) % 2 ^ 64) low) f start (at + n)
 shows_joined {low} {high} {start} {n} {f} at lt fits room p q = record {
-  at = λ k below. ap (λ x. bit x k) (joined_is at lt fits room) ∙ elim (below_or_past k at) [
+  at = λ k below. ap (λ x. bit x k) (joined_is at lt fits room) ∙ elim (cases_lt k at) [
     | inl h ↦ ap (λ x. x == 1) (bit_at_cat_low high at low k h) ∙ p.at k h
     | inr h ↦
         let there : (start + at) + (k - at) ≡ start + k = omega arith in
@@ -106,9 +104,6 @@ shows_joined {low} {high} {start} {n} {f} at lt fits room p q = record {
   ];
   small = joined_within at n lt fits room q.small;
 }
-  where
-    below_or_past : (k n : ℕ) → (k < n) ⊎ (n ≤ k)
-    below_or_past k n = grind arith
 
 pub beside_within : (a b n : ℕ) → b < 2 ^ n → bit_xor b (bit_and a b) < 2 ^ n
 beside_within a b n fits = let le : bit_and a b ≤ b = and_le_r a b in xor_lt n b (bit_and a b) fits (omega arith)
@@ -137,7 +132,4 @@ any_shown {mask} {start} {count} {f} fits p =
     ]
   where
     within : (k : ℕ) → mask / 2 ^ k % 2 ≡ 1 → k < count
-    within k set = elim (either k) [ inl h ↦ h | inr h ↦ let none = bit_at_above mask count k p.small h in absurd (omega (arith, set, none)) ]
-      where
-        either : (k : ℕ) → (k < count) ⊎ (count ≤ k)
-        either k = grind arith
+    within k set = elim (cases_lt k count) [ inl h ↦ h | inr h ↦ let none = bit_at_above mask count k p.small h in absurd (omega (arith, set, none)) ]

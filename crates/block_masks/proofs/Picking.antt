@@ -1,10 +1,12 @@
--- The table of what is picked, entry by entry.
+-- The tables of what is picked and of what is spread, entry by entry.
 use Rattle.std.proofs.Math.Pow.{pow_mono}
+use Rattle.std.proofs.lemmas.Bool.{cases_lt, eqb-true, eqb-false, ltb-true, lt-ltb, false≢true}
 use Rattle.std.proofs.lemmas.Nat.Bits.{bit_at_above}
-use Rattle.std.proofs.Common.{◌≡◌, ◌⊎◌, inl, inr, ◌≤◌, ◌-◌, ℕ, zero, suc, ◌+◌, ◌*◌, ◌/◌, ◌%◌, ◌^◌, ◌<◌, Bool, true, false, not, ◌&&◌, cond, List, [], ◌∷◌, ◌++◌, length, map, filter, nat_lt, slice_index_or, refl, ap, sym, ◌∙◌, subst, arith, length-append}
+use Rattle.std.proofs.Common.{◌≡◌, inl, inr, ◌≤◌, ◌-◌, ℕ, zero, suc, ◌+◌, ◌*◌, ◌/◌, ◌%◌, ◌^◌, ◌<◌, Bool, true, false, not, ◌&&◌, cond, List, [], ◌∷◌, ◌++◌, length, map, filter, nat_lt, slice_index_or, refl, ap, sym, ◌∙◌, subst, arith, length-append}
 use Rattle.std.specs.Prelude.{◌==◌, ◌||◌, count_ones}
 use Rattle.std.specs.List.{list_all}
 use Rattle.item_defs.specs.Bits.{bit, digit, value_of}
+use Rattle.item_defs.proofs.NumberBits.{digit_small}
 use Rattle.plane_defs.specs.Spans.{span}
 use Rattle.plane_defs.proofs.SpanLists.{map-filter-span-suc, map-filter-span-passed, map-filter-span-none}
 use Rattle.plane_defs.proofs.Tables.{list_all-span-zero, and-left, and-right}
@@ -32,10 +34,7 @@ fitting_entries = refl
 pub fitting_entry : (i j : ℕ) → i < 16 → j < 16 → entry i j % 16 < 2 ^ (entry i j / 16)
 fitting_entry i j hi hj =
     let row = list_all-span-zero (λ i. list_all (λ j. nat_lt (entry i j % 16) (2 ^ (entry i j / 16))) (span 0 16)) 16 i fitting_entries hi in
-    less_from_test _ _ (list_all-span-zero (λ j. nat_lt (entry i j % 16) (2 ^ (entry i j / 16))) 16 j row hj)
-  where
-    less_from_test : (a b : ℕ) → nat_lt a b ≡ true → a < b
-    less_from_test a b h = grind arith
+    ltb-true _ _ (list_all-span-zero (λ j. nat_lt (entry i j % 16) (2 ^ (entry i j / 16))) 16 j row hj)
 
 -- ---- a mask of four by its bits
 
@@ -100,20 +99,14 @@ one_agrees p q r s a b c d =
     of_each (λ q. each (λ r. each (λ s. each (λ a. each (λ b. each (λ c. each (λ d. agrees p q r s a b c d))))))) (
     of_each (λ p. each (λ q. each (λ r. each (λ s. each (λ a. each (λ b. each (λ c. each (λ d. agrees p q r s a b c d)))))))) all_agree p) q) r) s) a) b) c) d
 
-equal_from : (m n : ℕ) → (m == n) ≡ true → m ≡ n
-equal_from m n h = grind arith
-
 picked : (due bits start : ℕ) (f g : ℕ → Bool) → Shows due g start 4 → Shows bits f start 4 → entry due bits ≡ packed (map f (filter g (span start 4)))
 picked due bits start f g p q =
     ap (λ n. entry n bits) (four_is due start g p) ∙
     ap (entry (four (g (start + 0)) (g (start + 1)) (g (start + 2)) (g (start + 3)))) (four_is bits start f q) ∙
-    equal_from _ _ (one_agrees (g (start + 0)) (g (start + 1)) (g (start + 2)) (g (start + 3)) (f (start + 0)) (f (start + 1)) (f (start + 2)) (f (start + 3))) ∙
+    eqb-true _ _ (one_agrees (g (start + 0)) (g (start + 1)) (g (start + 2)) (g (start + 3)) (f (start + 0)) (f (start + 1)) (f (start + 2)) (f (start + 3))) ∙
     sym (ap packed (chosen_is f g start))
 
 -- ---- fewer positions: the others tell nothing
-
-below_or_past : (k n : ℕ) → (k < n) ⊎ (n ≤ k)
-below_or_past k n = grind arith
 
 -- what a mask tells of its own positions, and nothing past them
 abbrev within : (start count : ℕ) → (ℕ → Bool) → ℕ → Bool
@@ -127,7 +120,7 @@ past start count k f beyond = let h : nat_lt (start + k) (start + count) ≡ fal
 
 wider : (mask start count : ℕ) (f : ℕ → Bool) → count ≤ 4 → Shows mask f start count → Shows mask (within start count f) start 4
 wider mask start count f few p = record {
-  at = λ k below. elim (below_or_past k count) [
+  at = λ k below. elim (cases_lt k count) [
     | inl lt ↦ p.at k lt ∙ sym (there start count k f lt)
     | inr ge ↦ ap (λ n. n == 1) (bit_at_above mask count k p.small ge) ∙ sym (past start count k f ge)
   ];
@@ -231,10 +224,6 @@ four_shows f start = shown (f (start + 0)) (f (start + 1)) (f (start + 2)) (f (s
     small : (a b c d : Bool) → four a b c d < 16
     small a b c d =
         let p = digit_small a in let q = digit_small b in let r = digit_small c in let s = digit_small d in omega arith
-      where
-        digit_small : (x : Bool) → digit x < 2
-        digit_small true = omega arith
-        digit_small false = omega arith
 
     shown : (a b c d : Bool) → f (start + 0) ≡ a → f (start + 1) ≡ b → f (start + 2) ≡ c → f (start + 3) ≡ d → Shows (four a b c d) f start 4
     shown a b c d ea eb ec ed = record { at = λ k below. each_bit k below; small = small a b c d }
@@ -251,35 +240,23 @@ spread_of_four due word start f g p e =
     let same : spread_entry due word ≡ four (g (start + 0) && f (start + 0)) (g (start + 1) && f (start + 1)) (g (start + 2) && f (start + 2)) (g (start + 3) && f (start + 3)) =
     ap (λ n. spread_entry n word) (four_is due start g p) ∙
     ap (spread_entry (four (g (start + 0)) (g (start + 1)) (g (start + 2)) (g (start + 3)))) (sym e ∙ ap value_of (chosen_is f g start)) ∙
-    equal_from _ _ (one_spreads (g (start + 0)) (g (start + 1)) (g (start + 2)) (g (start + 3)) (f (start + 0)) (f (start + 1)) (f (start + 2)) (f (start + 3))) in
+    eqb-true _ _ (one_spreads (g (start + 0)) (g (start + 1)) (g (start + 2)) (g (start + 3)) (f (start + 0)) (f (start + 1)) (f (start + 2)) (f (start + 3))) in
     subst (λ n. Shows n (λ p. g p && f p) start 4) (sym same) (four_shows (λ p. g p && f p) start)
 
 small_below : (mask count : ℕ) → ((k : ℕ) → count ≤ k → k < 4 → bit mask k ≡ false) → mask < 16 → count ≤ 4 → mask < 2 ^ count
 small_below mask zero none lt le =
     let a = none 0 (omega arith) (omega arith) in let b = none 1 (omega arith) (omega arith) in let c = none 2 (omega arith) (omega arith) in let d = none 3 (omega arith) (omega arith) in
-    let a' = not_one (mask / 1 % 2) a in let b' = not_one (mask / 2 % 2) b in let c' = not_one (mask / 4 % 2) c in let d' = not_one (mask / 8 % 2) d in
+    let a' = eqb-false (mask / 1 % 2) 1 a in let b' = eqb-false (mask / 2 % 2) 1 b in let c' = eqb-false (mask / 4 % 2) 1 c in let d' = eqb-false (mask / 8 % 2) 1 d in
     omega arith
-  where
-    not_one : (n : ℕ) → (n == 1) ≡ false → n ≡ 1 → ⊥
-    not_one n e f = grind arith
 small_below mask (suc zero) none lt le =
     let b = none 1 (omega arith) (omega arith) in let c = none 2 (omega arith) (omega arith) in let d = none 3 (omega arith) (omega arith) in
-    let b' = not_one (mask / 2 % 2) b in let c' = not_one (mask / 4 % 2) c in let d' = not_one (mask / 8 % 2) d in
+    let b' = eqb-false (mask / 2 % 2) 1 b in let c' = eqb-false (mask / 4 % 2) 1 c in let d' = eqb-false (mask / 8 % 2) 1 d in
     omega arith
-  where
-    not_one : (n : ℕ) → (n == 1) ≡ false → n ≡ 1 → ⊥
-    not_one n e f = grind arith
 small_below mask (suc (suc zero)) none lt le =
     let c = none 2 (omega arith) (omega arith) in let d = none 3 (omega arith) (omega arith) in
-    let c' = not_one (mask / 4 % 2) c in let d' = not_one (mask / 8 % 2) d in
+    let c' = eqb-false (mask / 4 % 2) 1 c in let d' = eqb-false (mask / 8 % 2) 1 d in
     omega arith
-  where
-    not_one : (n : ℕ) → (n == 1) ≡ false → n ≡ 1 → ⊥
-    not_one n e f = grind arith
-small_below mask (suc (suc (suc zero))) none lt le = let d = none 3 (omega arith) (omega arith) in let d' = not_one (mask / 8 % 2) d in omega arith
-  where
-    not_one : (n : ℕ) → (n == 1) ≡ false → n ≡ 1 → ⊥
-    not_one n e f = grind arith
+small_below mask (suc (suc (suc zero))) none lt le = let d = none 3 (omega arith) (omega arith) in let d' = eqb-false (mask / 8 % 2) 1 d in omega arith
 small_below mask (suc (suc (suc (suc zero)))) none lt le = lt
 small_below mask (suc (suc (suc (suc (suc n))))) none lt le = absurd (omega (arith, le))
 
@@ -321,10 +298,7 @@ all_ones = refl
 
 or_from : (a b : Bool) → (not a || b) ≡ true → a ≡ true → b ≡ true
 or_from true b e h = e
-or_from false b e h = absurd (never h)
-  where
-    never : false ≡ true → ⊥
-    never e = cc
+or_from false b e h = absurd (false≢true h)
 
 -- the bits that stand at the due places
 abbrev pub placed : ℕ → ℕ → ℕ → Bool
@@ -341,7 +315,7 @@ back_of_four due word start g p small fits =
     let same : due ≡ four a b c d = four_is due start g p in
     let test = list_all-span-zero (λ w. spread_back a b c d w) 16 word (of_each_four (λ p q r s. list_all (λ w. spread_back p q r s w) (span 0 16)) all_back a b c d) small in
     let n = spread_entry (four a b c d) word in
-    let found : value_of (chosen a b c d (bit n 0) (bit n 1) (bit n 2) (bit n 3)) ≡ word = equal_from _ _ (or_from _ _ test (below word (2 ^ count_ones (four a b c d)) (subst (λ x. word < 2 ^ count_ones x) same fits))) in
+    let found : value_of (chosen a b c d (bit n 0) (bit n 1) (bit n 2) (bit n 3)) ≡ word = eqb-true _ _ (or_from _ _ test (lt-ltb word (2 ^ count_ones (four a b c d)) (subst (λ x. word < 2 ^ count_ones x) same fits))) in
     let h = placed m start in
     ap value_of (chosen_is h g start) ∙
     ap (λ x. value_of (chosen a b c d x (h (start + 1)) (h (start + 2)) (h (start + 3)))) (placed_at m start 0) ∙
@@ -349,13 +323,6 @@ back_of_four due word start g p small fits =
     ap (λ x. value_of (chosen a b c d (bit m 0) (bit m 1) x (h (start + 3)))) (placed_at m start 2) ∙
     ap (λ x. value_of (chosen a b c d (bit m 0) (bit m 1) (bit m 2) x)) (placed_at m start 3) ∙
     ap (λ x. value_of (chosen a b c d (bit x 0) (bit x 1) (bit x 2) (bit x 3))) (ap (λ z. spread_entry z word) same) ∙ found
-  where
-    below : (x y : ℕ) → x < y → nat_lt x y ≡ true
-    below x y lt = grind arith
-
--- only the positions of a span count
-pub same_there : (f h : ℕ → Bool) (g : ℕ → Bool) (start count : ℕ) → ((k : ℕ) → k < count → f (start + k) ≡ h (start + k)) → map f (filter g (span start count)) ≡ map h (filter g (span start count))
-same_there f h g start count same = same_choice f g h g start count same (λ k lt. refl)
 
 wider_choice : (f g : ℕ → Bool) (start count : ℕ) → count ≤ 4 → map f (filter (within start count g) (span start 4)) ≡ map f (filter g (span start count))
 wider_choice f g start count few =
@@ -369,6 +336,7 @@ pub back_of : (due word start count : ℕ) (g : ℕ → Bool) → count ≤ 4 �
 back_of due word start count g few p small fits =
     sym (ap value_of (wider_choice (placed (spread_entry due word) start) g start count few)) ∙ back_of_four due word start (within start count g) (wider due start count g few p) small fits
 
+-- what the table has for a word
 pub are_spread : (due word : ℕ) → due < 16 → word < 16 → AreSpread due word (spread_entry due word)
 are_spread due word four low = record {
   small = small_spread due word four low;
@@ -390,5 +358,5 @@ pub ones_of : (due start count : ℕ) (f g : ℕ → Bool) → count ≤ 4 → S
 ones_of due start count f g few p =
     let b = within start count g in
     let w = b (start + 0) in let x = b (start + 1) in let y = b (start + 2) in let z = b (start + 3) in
-    ap count_ones (four_is due start b (wider due start count g few p)) ∙ equal_from _ _ (of_each_four (λ p q r s. ones_there p q r s) all_ones w x y z) ∙
+    ap count_ones (four_is due start b (wider due start count g few p)) ∙ eqb-true _ _ (of_each_four (λ p q r s. ones_there p q r s) all_ones w x y z) ∙
     sym (chosen_length w x y z (f (start + 0)) (f (start + 1)) (f (start + 2)) (f (start + 3))) ∙ sym (ap length (chosen_is f b start)) ∙ ap length (wider_choice f g start count few)

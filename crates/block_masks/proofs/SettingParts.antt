@@ -2,10 +2,10 @@
 use Rattle.std.proofs.Common.{◌≡◌, inl, inr, ℕ, ◌+◌, ◌-◌, ◌<◌, ◌≤◌, ◌^◌, ℤ, pos, true, false, List, length, map, get_or, FitsSigned, refl, ap, sym, ◌∙◌, subst, arith, w32}
 use Rattle.std.specs.Prelude.{◌==◌, ◌&&◌, unsigned_abs}
 use Rattle.std.specs.Simd.Lanes.{chunk, put_chunk}
-use Rattle.std.proofs.lemmas.Bool.{cases_lt}
+use Rattle.std.proofs.lemmas.Bool.{cases_lt, false≢true}
 use Rattle.std.proofs.lemmas.Int.{to_z-of_z}
 use Rattle.std.proofs.lemmas.List.{get_or-map, length-map}
-use Rattle.std.proofs.lemmas.Nat.Bits.{bit_at_above}
+use Rattle.std.proofs.lemmas.Nat.Bits.{bit_at-zero}
 use Rattle.std.proofs.lemmas.Simd.{length-chunk, get_or-chunk, length-put_chunk, get_or-put_chunk_at, get_or-put_chunk_below, get_or-put_chunk_above}
 use mir.Val.{of_z, to_z}
 use Rattle.item_defs.specs.Bits.{bit}
@@ -63,19 +63,16 @@ module _ (cells : List ℤ) (start : ℕ) (within : start + 16 ≤ length cells)
 
 -- no bit is set in a mask that is 0
 no_bit : (k : ℕ) → bit 0 k ≡ false
-no_bit k = ap (λ n. n == 1) (bit_at_above 0 0 k (omega arith) (omega arith))
+no_bit k = ap (λ n. n == 1) (bit_at-zero k)
 
 pub none_set : (plane bits minus start : ℕ) (cells : List ℤ) → Shows 0 (bit bits) start 16 → SetsPart plane bits minus start cells cells
 none_set plane bits minus start cells shows = record {
   long = refl;
-  named = λ k below has small. unset (sym (no_bit k) ∙ shows.at k below ∙ has);
+  named = λ k below has small. absurd (false≢true (sym (no_bit k) ∙ shows.at k below ∙ has));
   others = λ k below none. refl;
   below = λ p under. refl;
   above = λ p over. refl;
 }
-  where
-    unset : {X : Type 0} → false ≡ true → X
-    unset e = absurd cc
 
 -- ---- the parts of a block, one after the other
 

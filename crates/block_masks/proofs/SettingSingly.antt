@@ -2,7 +2,7 @@
 use Rattle.std.proofs.Common.{◌≡◌, ◌≢◌, inl, inr, ℕ, ◌+◌, ◌*◌, ◌%◌, ◌<◌, ◌≤◌, ◌^◌, Bool, true, false, not, List, length, set, get_or, bit_and, bit_or, refl, ap, sym, ◌∙◌, subst, arith, ℤ, pos, neg_ℤ, ◌-ℤ◌, to_z, of_z, w32}
 use Rattle.std.specs.Prelude.{◌||◌, unsigned_abs, if◌then◌else◌}
 use Rattle.std.proofs.Math.Pow.{pow_mono}
-use Rattle.std.proofs.lemmas.Bool.{cases_eq}
+use Rattle.std.proofs.lemmas.Bool.{cases_eq, true≢false}
 use Rattle.std.proofs.lemmas.Int.{ints, to_z-of_z}
 use Rattle.std.proofs.lemmas.List.{get_or-set_same, get_or-set_other, length-set}
 use Rattle.std.proofs.lemmas.Nat.{and_mask}
@@ -55,9 +55,6 @@ module _ (z : ℤ) (plane : ℕ) (minus : Bool) (small : unsigned_abs z < 2 ^ 30
 
 -- ---- the loop
 
-true_false : {X : Type 0} → true ≡ false → X
-true_false e = absurd cc
-
 -- the numbers at the positions of `left` are as they were, and the others that are named got theirs
 pub record Setting (plane bits minus left : ℕ) (before now : List ℤ) : Type 0 where
   pub whole : length now ≡ 64
@@ -72,7 +69,7 @@ single_start plane bits minus before whole = record {
   whole = whole;
   was_whole = whole;
   left_same = λ p below has. refl;
-  named = λ p below has gone. true_false (sym has ∙ gone);
+  named = λ p below has gone. absurd (true≢false (sym has ∙ gone));
   others = λ p below none. none;
   same = λ p none. refl;
 }
@@ -85,7 +82,7 @@ single_step {plane} {bits} {minus} {left} {fewer} {at} {before} {now} a lt has g
   whole = length-set now at number ∙ a.whole;
   was_whole = a.was_whole;
   left_same = λ p below h.
-      let apart : p ≢ at = λ e. true_false (sym h ∙ ap (bit fewer) e ∙ gone) in
+      let apart : p ≢ at = λ e. true≢false (sym h ∙ ap (bit fewer) e ∙ gone) in
       elsewhere p apart ∙ a.left_same p below (sym (still p below apart) ∙ h);
   named = λ p below h none size. elim (cases_eq p at) [
     | inl e ↦
@@ -97,7 +94,7 @@ single_step {plane} {bits} {minus} {left} {fewer} {at} {before} {now} a lt has g
     | inl e ↦ ap (bit fewer) e ∙ gone
     | inr apart ↦ still p below apart ∙ a.others p below none
   ];
-  same = λ p none. elsewhere p (λ e. true_false (sym has ∙ a.others at lt (sym (ap (bit bits) e) ∙ none))) ∙ a.same p none;
+  same = λ p none. elsewhere p (λ e. true≢false (sym has ∙ a.others at lt (sym (ap (bit bits) e) ∙ none))) ∙ a.same p none;
 }
   where
     elsewhere : (p : ℕ) → p ≢ at → get_or (set now at number) p (pos 0) ≡ get_or now p (pos 0)

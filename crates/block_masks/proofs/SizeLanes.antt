@@ -1,5 +1,5 @@
 -- The magnitudes of sixteen numbers, and their bits.
-use Rattle.std.proofs.Common.{◌≡◌, ℕ, zero, suc, ◌+◌, ◌-◌, ◌*◌, ◌/◌, ◌%◌, ◌<◌, ◌≤◌, ◌^◌, ℤ, pos, negsuc, Bool, true, false, not, cond, eqb, List, [], ◌∷◌, length, map, get_or, replicate, unsigned_abs, bit_and, FitsSigned, refl, ap, sym, ◌∙◌, subst, arith, w32}
+use Rattle.std.proofs.Common.{◌≡◌, ℕ, zero, suc, ◌+◌, ◌-◌, ◌*◌, ◌/◌, ◌%◌, ◌<◌, ◌≤◌, ◌^◌, ℤ, pos, negsuc, Bool, not, cond, eqb, List, [], ◌∷◌, length, map, get_or, replicate, unsigned_abs, bit_and, FitsSigned, refl, ap, sym, ◌∙◌, subst, arith, w32}
 use Rattle.std.specs.Prelude.{◌==◌}
 use Rattle.std.specs.Simd.Lanes.{mask_l, top, zip2, sel_l}
 use Rattle.std.proofs.Math.Pow.{pow_mono}
@@ -10,7 +10,7 @@ use lib.Signed.{lt_z}
 use mir.Val.{of_z, to_z}
 use Rattle.item_defs.specs.Bits.{bit}
 use Rattle.block_masks.specs.Masks.{Shows}
-use Rattle.block_masks.proofs.LaneMasks.{lanes, length-lanes, shown}
+use Rattle.block_masks.proofs.LaneMasks.{lanes, length-lanes, shown, top_of}
 
 pub sel_of_maps : (p : ℕ → Bool) (g h : ℕ → ℕ) (vs : List ℕ) → sel_l (map p vs) (map g vs) (map h vs) ≡ map (λ v. cond (p v) (g v) (h v)) vs
 sel_of_maps p g h [] = refl
@@ -58,10 +58,6 @@ tested y f cells start within each =
     subst (λ ms. Shows (mask_l ms % 2 ^ 64) f start 16) (sym step) (shown (λ x. top 31 (apart (bit_and (size x) y) 0)) f cells start within each)
 
 -- ---- one lane
-
-top_of : (b : Bool) → top 31 (cond b 4294967295 0) ≡ b
-top_of true = refl
-top_of false = refl
 
 pub size_is : (z : ℤ) → FitsSigned w32 z → size (of_z w32 z) ≡ unsigned_abs z
 size_is (pos n) fits = rw (top_of (lt_z (to_z w32 n) (to_z w32 (minus 0 n)))) (grind (arith, fits.sfits))

@@ -59,15 +59,6 @@ one_shown {mask} {b} f at same p = record {
 
 -- ---- sets
 
-pub three_sets : {mask : ℕ} {f g : ℕ → Bool} → f 0 ≡ g 0 → f 1 ≡ g 1 → f 2 ≡ g 2 → Shows mask f 0 3 → Shows mask g 0 3
-three_sets {mask} {f} {g} a b c p = record { at = λ k below. p.at k below ∙ same k below; small = p.small }
-  where
-    same : (k : ℕ) → k < 3 → f (0 + k) ≡ g (0 + k)
-    same zero below = a
-    same (suc zero) below = b
-    same (suc (suc zero)) below = c
-    same (suc (suc (suc k))) below = absurd (omega arith)
-
 -- the positions of two spans
 pub any_of_both : {a b : Bool} (f : ℕ → Bool) (s m t n : ℕ) → a ≡ list_any f (span s m) → b ≡ list_any f (span t n) → (a || b) ≡ list_any f (span s m ++ span t n)
 any_of_both {a} {b} f s m t n p q = ap (λ x. x || b) p ∙ ap (λ y. list_any f (span s m) || y) q ∙ sym (list_any-append f (span s m) (span t n))

@@ -3,9 +3,9 @@
 //!
 //! Bit k of a mask tells of the k-th position. `plan` makes a `CodedPlane` of a `PlanePlan`, once for all blocks. `masks`
 //! reads a block, `nibbles` makes masks of masks, `sets` tells which sets of positions have a member of a mask, and `picks`
-//! gathers the bits of up to four positions. `walk` goes over the positions of a mask, and `setting` gives the numbers
-//! at them a bit. `stages` has the stages by their numbers; from one stage to the next `gaggle` keeps in the marks which
-//! options and words the gaggles have, and which families of a block are significant.
+//! gathers the bits of up to four positions. `walk` goes over the positions of a mask, and `setting` gives the numbers at
+//! them a bit. `stages` has the stages by their numbers; from one stage to the next `gaggle` keeps in the marks which options
+//! and words the gaggles have, and which families of a block are significant.
 #![tactic(auto)]
 
 mod gaggle;
@@ -18,9 +18,7 @@ mod setting;
 mod stages;
 mod walk;
 
-pub use gaggle::{
-    Gaggle, depth_of, families_of, gaggle_in, load, mark_of, store, with_families,
-};
+pub use gaggle::{Gaggle, depth_of, families_of, gaggle_in, load, mark_of, store, with_families};
 pub use masks::{all_having_bit, all_negative, all_reaching, reaching};
 pub use nibbles::{beside, both, either, four, has, is_any, joined, masked, one, part, three};
 pub use picks::{pick, spread};
