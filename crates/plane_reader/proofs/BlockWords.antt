@@ -234,13 +234,11 @@ children_shown {f} {plan} {depth} {earlier} {mark} {x} frame deep stands v sends
 
 -- the grandchildren, after what was told of the families and the children
 pub grandchildren_next : {f : Frame} {plan : CodedPlane} {depth : ℕ} {earlier : ℕ → List Step} {mark : ℤ} {x : List ℤ} (frame : IsFrame f plan depth) → f.plane < f.depth → (stands : StandsBefore f 3 earlier mark x) →
-    (above : ℕ) → IsAbove f above → (now : ℕ) → Shows now (significant x plan.plane) 0 64 → (families : ℕ) → families ≡ families_in mark →
+    (above : ℕ) → IsAbove f above → (now : ℕ) → ((p : ℕ) → 1 ≤ p → p < 16 → bit now p ≡ significant x plan.plane p) → (families : ℕ) → families ≡ families_in mark →
     GrandchildrenNext f 3 earlier [] plan above now families (λ v. [])
 grandchildren_next {f} {plan} {depth} {earlier} {mark} {x} frame deep stands above is now shown families same = record {
   next = stage_next frame stands above is (omega arith) (λ v. grandchildren_steps v f.weights f.plane) (deep_grandchildren f deep);
   families_are = λ v s. subst (λ t. AreFamilies f t v) (sym same) (stands.families refl deep v s);
   children_are = λ v s i p lt reached low high.
-      let z : 0 + p ≡ p = omega arith in
-      let within : p < 64 = omega (arith, high, lt) in
-      shown.at p within ∙ ap (significant x plan.plane) z ∙ ap (λ b. significant x b p) (sym frame.plane) ∙ children_shown frame deep stands v s i p lt reached low high;
+      shown p (omega (arith, low)) (omega (arith, high, lt)) ∙ ap (λ b. significant x b p) (sym frame.plane) ∙ children_shown frame deep stands v s i p lt reached low high;
 }

@@ -13,7 +13,7 @@ use Rattle.plane_defs.proofs.SpanLists.{filter-span-suc, filter-span-none}
 use Rattle.block_masks.specs.Masks.{Shows}
 use Rattle.block_masks.proofs.LaneMasks.{shows_same}
 use Rattle.bit_pipe.specs.Windows.{first_of}
-use Rattle.plane_reader.specs.Places.{inside}
+use Rattle.block_masks.specs.Places.{inside}
 use Rattle.plane_reader.proofs.SignsPassed.{never}
 use Rattle.plane_reader.proofs.FoundMasks.{inside_at, before_inside, past_inside}
 

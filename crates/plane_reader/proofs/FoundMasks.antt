@@ -8,7 +8,7 @@ use Rattle.std.proofs.lemmas.Nat.{pow_pos}
 use Rattle.std.proofs.lemmas.Nat.Bits.{bit_at_above}
 use Rattle.item_defs.specs.Bits.{bit}
 use Rattle.block_masks.specs.Masks.{Shows}
-use Rattle.plane_reader.specs.Places.{inside}
+use Rattle.block_masks.specs.Places.{inside}
 
 pub inside_at : (start count k : ℕ) → k < count → inside start count (start + k) ≡ true
 inside_at start count k lt = both (nat_le start (start + k)) (nat_lt (start + k) (start + count)) (le start k) (below start k count lt)

@@ -11,6 +11,7 @@ use Rattle.plane_texts.proofs.SmallFacts.{itself, not_equal}
 use Rattle.block_masks.specs.declared.gaggle.Gaggle.{Gaggle}
 use Rattle.block_masks.specs.Gaggles.{AreOptions, options_in, sent_in}
 use Rattle.block_masks.proofs.Marking.{same_or_other}
+use Rattle.plane_reader.specs.Shown.{SameAcs, KeepsAcs}
 use Rattle.plane_reader.specs.Progress.{kept, with_one, KeepsGaggles, IsClear, Clears}
 
 -- ---- gaggles
@@ -120,3 +121,16 @@ module _ (cells : List ℤ) (r n : ℕ) (b : List ℤ) (within : 64 * r + 64 ≤
 
   pub put_long : length (put_mid (64 * r) n cells b) ≡ length cells
   put_long = search (rules, overwrites)
+
+-- the AC numbers of the first blocks stay where they stay in one more
+pub acs_stay : (first cells : List ℤ) (r n : ℕ) (b : List ℤ) → 64 * r + 64 ≤ length cells → n ≡ 64 → length b ≡ 64 → (r < 64 → SameAcs (take n (drop (64 * r) cells)) b) → KeepsAcs first cells → KeepsAcs first (put_mid (64 * r) n cells b)
+acs_stay first cells r n b within size whole same keeps i low p ac =
+    elim (same_or_other i r) [
+      | inl e ↦
+          subst (λ k. get_or (block_at (put_mid (64 * r) n cells b) k) p (pos 0) ≡ get_or (block_at first k) p (pos 0)) (sym e)
+          (ap (λ x. get_or x p (pos 0)) (block_put cells r n b within size whole) ∙ same (omega (arith, low, e)) p ac ∙ ap (λ k. get_or (take k (drop (64 * r) cells)) p (pos 0)) size ∙ keeps r (omega (arith, low, e)) p ac)
+      | inr apart ↦ ap (λ x. get_or x p (pos 0)) (blocks_stay cells r n b within size whole i apart) ∙ keeps i low p ac
+    ]
+
+pub acs_then : (a b c : List ℤ) → KeepsAcs a b → KeepsAcs b c → KeepsAcs a c
+acs_then a b c first second r low p ac = second r low p ac ∙ first r low p ac

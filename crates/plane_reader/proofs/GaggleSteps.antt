@@ -22,9 +22,12 @@ use Rattle.plane_reader.specs.Frames.{Frame, steps_of}
 use Rattle.plane_reader.specs.Stages.{StandsBefore, StageTaken}
 use Rattle.plane_reader.specs.Terms.{IsFrame}
 use Rattle.plane_reader.specs.Above.{KeepsAbove}
+use Rattle.plane_reader.specs.declared.found.Found.{Found}
+use Rattle.plane_reader.specs.Shown.{nothing, shown_block, shown}
 use Rattle.plane_reader.specs.Progress.{Start, IsStart, frame_of, Held, held, kept, with_one, Progress, GoesOn, Stops, Leaves, Reaches, Advances, KeepsGaggles}
 use Rattle.plane_reader.proofs.PlaneSteps.{ReadsBlock, block_further, gaggle_further}
 use Rattle.plane_reader.proofs.PlaneStop.{plane_cut}
+use Rattle.plane_reader.proofs.ShownBlocks.{shown_long, block_shown, shown_alike}
 use Rattle.plane_reader.proofs.GaggleMarks.{one_there, one_other, kept_same, block_put, blocks_stay, put_long}
 
 -- what was read up to some place goes on from there
@@ -44,19 +47,20 @@ pub goes_known : {I : Type 0} {source : SourceOf I} {book : Book} {plan : CodedP
     GoesOn source book plan above k g c (held (with_one (kept marks) h x) marks blocks input) → AreOptions x.options
 goes_known h marks blocks x input goes = subst (λ y. AreOptions y.options) (one_there (kept marks) h x) (goes.so_far.known h)
 
--- a call changed block r in the slices
-pub changes_block : {I : Type 0} (marks blocks : List ℤ) (g r n : ℕ) (m : ℤ) (b : List ℤ) (x y : Gaggle) (i j : Coming I) → r < length marks → length blocks ≡ 64 * length marks → n ≡ 64 → length b ≡ 64 →
-    length (put_mid (64 * r) n blocks b) ≡ length blocks → KeepsGaggles marks (set marks r m) →
-    ReadsBlock g r m b (held (with_one (kept marks) g x) marks blocks i) (held (with_one (kept (set marks r m)) g y) (set marks r m) (put_mid (64 * r) n blocks b) j)
-changes_block marks blocks g r n m b x y i j within cells size long same keeps =
+-- a call changed block r in the slices, and what waits for it
+pub changes_block : {I : Type 0} (plane : ℕ) (marks blocks : List ℤ) (v w : List Found) (g r n : ℕ) (m : ℤ) (b : List ℤ) (x y : Gaggle) (i j : Coming I) → r < length marks → length blocks ≡ 64 * length marks → n ≡ 64 → length b ≡ 64 →
+    length (put_mid (64 * r) n blocks b) ≡ length blocks → KeepsGaggles marks (set marks r m) → ((h : ℕ) → (h ≡ r → ⊥) → get_or w h nothing ≡ get_or v h nothing) →
+    ReadsBlock g r m (shown_block plane (get_or w r nothing) b) (held (with_one (kept marks) g x) marks (shown plane v blocks) i)
+    (held (with_one (kept (set marks r m)) g y) (set marks r m) (shown plane w (put_mid (64 * r) n blocks b)) j)
+changes_block plane marks blocks v w g r n m b x y i j within cells size long same keeps others =
     let room : 64 * r + 64 ≤ length blocks = omega (arith, within, cells) in
     record {
       others = λ h apart. one_other (kept (set marks r m)) g y h apart ∙ kept_same marks (set marks r m) keeps h ∙ sym (one_other (kept marks) g x h apart);
       mark = get_or-set_same marks r m (pos 0) within;
       marks = λ h apart. get_or-set_other marks r h m (pos 0) apart;
-      block = block_put blocks r n b room size long;
-      blocks = λ h apart. blocks_stay blocks r n b room size long h apart;
-      size = same;
+      block = block_shown plane w (put_mid (64 * r) n blocks b) r (omega (arith, room, same)) ∙ ap (shown_block plane (get_or w r nothing)) (block_put blocks r n b room size long);
+      blocks = λ h apart. shown_alike plane v w blocks (put_mid (64 * r) n blocks b) h same (length marks) cells (others h apart) (blocks_stay blocks r n b room size long h apart);
+      size = shown_long plane w (put_mid (64 * r) n blocks b) ∙ same ∙ sym (shown_long plane v blocks);
       depths = keeps.depths;
     }
 
@@ -133,24 +137,28 @@ module _ {I : Type 0} {source : SourceOf I} {book : Book} {plan : CodedPlane} {a
       by_ending (failed n fault) h = subst (λ z. Leaves z Next Stop) (sym (taken.answer ∙ ap part_answer h)) (stop (subst IsCut (sym h) tt))
 
 -- a call for block r, with slices of the marks and the blocks
-pub call_leaves : {I : Type 0} {source : SourceOf I} {book : Book} {plan : CodedPlane} {above : List ℕ} {k : ℕ} (g r : ℕ) (marks blocks : List ℤ) (x y : Gaggle) (i j : Coming I) (m : ℤ) (b : List ℤ) {result : Result Part TextFault} {old : Held I} →
-    16 * g ≤ r → r < 16 * g + 16 → r < length marks → length blocks ≡ 64 * length marks → length b ≡ 64 → KeepsGaggles marks (set marks r m) →
-    Reaches source book plan above k g 0 k g (r - 16 * g) old (held (with_one (kept marks) g x) marks blocks i) →
+pub call_leaves : {I : Type 0} {source : SourceOf I} {book : Book} {plan : CodedPlane} {above : List ℕ} {k : ℕ} (g r : ℕ) (marks blocks : List ℤ) (v w : List Found) (x y : Gaggle) (i j : Coming I) (m : ℤ) (b : List ℤ) {result : Result Part TextFault} {old : Held I} →
+    16 * g ≤ r → r < 16 * g + 16 → r < length marks → length blocks ≡ 64 * length marks → length b ≡ 64 → KeepsGaggles marks (set marks r m) → ((h : ℕ) → (h ≡ r → ⊥) → get_or w h nothing ≡ get_or v h nothing) →
+    Reaches source book plan above k g 0 k g (r - 16 * g) old (held (with_one (kept marks) g x) marks (shown plan.plane v blocks) i) →
     ((f : Frame) (earlier : ℕ → List Step) → IsFrame f plan (depth_of (get_or marks r (pos 0))) → KeepsAbove above r f →
-    StandsBefore f k earlier (get_or marks r (pos 0)) (take (64 * r + 64 - 64 * r) (drop (64 * r) blocks)) → StageTaken source book f k earlier result x y m b i j) →
+    StandsBefore f k earlier (get_or marks r (pos 0)) (shown_block plan.plane (get_or v r nothing) (take (64 * r + 64 - 64 * r) (drop (64 * r) blocks))) →
+    StageTaken source book f k earlier result x y m (shown_block plan.plane (get_or w r nothing) b) i j) →
     (s : Start) (from : Coming I) → IsStart s plan above → Progress source book s k g 0 from old →
-    Leaves result (Progress source book s k g (r + 1 - 16 * g) from (held (with_one (kept (set marks r m)) g y) (set marks r m) (put_mid (64 * r) (64 * r + 64 - 64 * r) blocks b) j))
-    (Stops source book s k result from j (put_mid (64 * r) (64 * r + 64 - 64 * r) blocks b))
-call_leaves {I = I} {source = source} {book = book} {k = k} g r marks blocks x y i j m b {result = result} low high within cells long keeps reaches call s from start p =
+    Leaves result (Progress source book s k g (r + 1 - 16 * g) from (held (with_one (kept (set marks r m)) g y) (set marks r m) (shown plan.plane w (put_mid (64 * r) (64 * r + 64 - 64 * r) blocks b)) j))
+    (Stops source book s k result from j (shown plan.plane w (put_mid (64 * r) (64 * r + 64 - 64 * r) blocks b)))
+call_leaves {I = I} {source = source} {book = book} {plan = plan} {k = k} g r marks blocks v w x y i j m b {result = result} low high within cells long keeps others reaches call s from start p =
     let n : ℕ = 64 * r + 64 - 64 * r in
     let size : n ≡ 64 = omega arith in
-    let now : Held I = held (with_one (kept marks) g x) marks blocks i in
-    let new : Held I = held (with_one (kept (set marks r m)) g y) (set marks r m) (put_mid (64 * r) n blocks b) j in
-    let same : length (put_mid (64 * r) n blocks b) ≡ length blocks = put_long blocks r n b (omega (arith, within, cells)) size long in
+    let room : 64 * r + 64 ≤ length blocks = omega (arith, within, cells) in
+    let now : Held I = held (with_one (kept marks) g x) marks (shown plan.plane v blocks) i in
+    let new : Held I = held (with_one (kept (set marks r m)) g y) (set marks r m) (shown plan.plane w (put_mid (64 * r) n blocks b)) j in
+    let same : length (put_mid (64 * r) n blocks b) ≡ length blocks = put_long blocks r n b room size long in
     let next : r + 1 - 16 * g ≡ r - 16 * g + 1 = omega (arith, low) in
-    subst (λ c. Leaves result (Progress source book s k g c from new) (Stops source book s k result from j (put_mid (64 * r) n blocks b))) (sym next)
-    (block_leaves g (r - 16 * g) r x y (omega (arith, low, high)) (omega (arith, low)) within refl (ap (λ w. take w (drop (64 * r) blocks)) (sym size)) (one_there (kept marks) g x) (one_there (kept (set marks r m)) g y)
-    (changes_block marks blocks g r n m b x y i j within cells size long same keeps) call s from start (reaches.so_far s from start p))
+    let seen : block_at (shown plan.plane v blocks) r ≡ shown_block plan.plane (get_or v r nothing) (take n (drop (64 * r) blocks)) =
+    block_shown plan.plane v blocks r room ∙ ap (λ k. shown_block plan.plane (get_or v r nothing) (take k (drop (64 * r) blocks))) (sym size) in
+    subst (λ c. Leaves result (Progress source book s k g c from new) (Stops source book s k result from j (shown plan.plane w (put_mid (64 * r) n blocks b)))) (sym next)
+    (block_leaves g (r - 16 * g) r x y (omega (arith, low, high)) (omega (arith, low)) within refl seen (one_there (kept marks) g x) (one_there (kept (set marks r m)) g y)
+    (changes_block plan.plane marks blocks v w g r n m b x y i j within cells size long same keeps others) call s from start (reaches.so_far s from start p))
 
 -- ---- a gaggle's end
 

@@ -1,5 +1,5 @@
 -- The groups of a mask, of which those are left that weren't read yet.
-use Rattle.std.proofs.Common.{◌≡◌, inl, inr, ℕ, zero, suc, ◌+◌, ◌-◌, ◌*◌, ◌^◌, ◌<◌, ◌≤◌, Bool, true, false, ℤ, List, [], ap, sym, ◌∙◌, subst, refl, arith}
+use Rattle.std.proofs.Common.{◌≡◌, inl, inr, ℕ, zero, suc, ◌+◌, ◌-◌, ◌*◌, ◌<◌, ◌≤◌, Bool, true, false, ℤ, List, [], ap, sym, ◌∙◌, subst, refl, arith}
 use Rattle.std.specs.Prelude.{Ok, Err, Some, None, Result, Option}
 use Rattle.std.proofs.lemmas.Bool.{cases_lt}
 use Rattle.item_defs.specs.Bits.{bit}
@@ -8,7 +8,6 @@ use Rattle.plane_defs.specs.Spans.{span}
 use Rattle.plane_defs.specs.Steps.{Step, some_one_where, typed_steps}
 use Rattle.block_masks.specs.declared.gaggle.Gaggle.{Gaggle}
 use Rattle.block_masks.specs.Gaggles.{AreOptions}
-use Rattle.block_masks.specs.Masks.{Shows}
 use Rattle.bit_pipe.specs.declared.fault.TextFault.{TextFault}
 use Rattle.bit_pipe.specs.Sources.{SourceOf}
 use Rattle.bit_pipe.specs.Coming.{Coming, IsIn, Takes}
@@ -19,10 +18,6 @@ use Rattle.plane_reader.specs.Groups.{GroupsPassed}
 use Rattle.plane_reader.proofs.IndexPieces.{so_far_none}
 use Rattle.plane_reader.proofs.GroupPieces.{group_skipped, group_call, group_read, group_missing, group_fault, groups_whole}
 use Rattle.plane_reader.proofs.SignsPassed.{bit_inside, no_bit, never}
-
--- a mask tells its own bits
-pub nibble_shown : (mask count : ℕ) → mask < 2 ^ count → Shows mask (λ p. bit mask p) 0 count
-nibble_shown mask count small = record { at = λ j lt. let e : j ≡ 0 + j = omega arith in ap (bit mask) e; small = small }
 
 module _ {f : Frame} {stage : ℕ} {earlier : ℕ → List Step} {done : List Step} {first count : ℕ} {now wanted : ℕ → Bool} {due now_mask wanted_mask : ℕ} {after : List ℤ → List Step} (next : GroupsNext f stage earlier done first count now wanted due now_mask wanted_mask after) {I : Type 0} {k : SourceOf I} {book : Book} {g : Gaggle} {m : Found} {a : Coming I} where
   -- none was read yet

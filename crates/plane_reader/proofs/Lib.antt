@@ -4,6 +4,11 @@ pub mod PlaneSteps
 pub mod PlaneStart
 pub mod PlaneStop
 pub mod GaggleMarks
+pub mod BitsTwice
+pub mod ShownNumbers
+pub mod ShownBlocks
+pub mod Settling
+mod AboveNext
 pub mod GaggleSteps
 pub mod GaggleStages
 pub mod PlaneEnds
@@ -28,7 +33,6 @@ pub mod FoundPieces
 pub mod SetFacts
 pub mod ChildPieces
 mod Dealing
-pub mod RefineMasks
 pub mod RefinePieces
 pub mod DcBitPieces
 pub mod ChildStage
@@ -52,4 +56,3 @@ pub mod BlockStage
 mod Shadows
 mod TypesAtHand
 mod GroupsAtHand
-mod MaskParts

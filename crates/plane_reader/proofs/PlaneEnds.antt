@@ -1,41 +1,37 @@
 -- A plane's stages, one after another.
-use Rattle.std.proofs.Common.{◌≡◌, ℕ, ◌+◌, ◌*◌, ◌<◌, ℤ, List, length, get_or, refl, ap, sym, ◌∙◌, subst, arith}
+use Rattle.std.proofs.Common.{◌≡◌, ℕ, ◌+◌, ◌*◌, ℤ, List, length, get_or, refl, sym, subst, arith}
 use Rattle.std.specs.Prelude.{Ok}
 use Rattle.plane_defs.specs.declared.codes.Book.{Book}
-use Rattle.wave_defs.specs.Held.{block_at}
 use Rattle.plane_defs.specs.Marks.{depths_of}
-use Rattle.plane_defs.specs.Sets.{significant}
-use Rattle.block_masks.specs.Masks.{Shows}
 use Rattle.block_masks.proofs.Marking.{length-depths_of}
 use Rattle.block_masks.specs.declared.plan.CodedPlane.{CodedPlane}
-use Rattle.block_masks.specs.declared.plan.PlanePlan.{PlanePlan}
 use Rattle.bit_pipe.specs.declared.fault.Part.TheVariants.{Whole}
 use Rattle.bit_pipe.specs.Sources.{SourceOf}
 use Rattle.bit_pipe.specs.Coming.{Coming, IsIn}
+use Rattle.plane_reader.specs.declared.found.Found.{Found}
+use Rattle.plane_reader.specs.Shown.{nothing, shown}
+use Rattle.plane_reader.specs.Above.{AreSignificant}
 use Rattle.plane_reader.specs.Taken.{AwaitPlane, TakesPlane}
 use Rattle.plane_reader.specs.Progress.{Start, start_of, IsStart, Held, held, kept, Progress, Clears}
+use Rattle.plane_reader.proofs.ShownBlocks.{shown_own}
 use Rattle.plane_reader.proofs.PlaneStart.{HasNone, not_begun}
 use Rattle.plane_reader.proofs.PlaneStop.{plane_whole}
 
 -- marks that are clear are a plane's start
-pub plane_begins : {I : Type 0} (source : SourceOf I) (book : Book) (plan : PlanePlan) (old marks blocks : List ℤ) (input : Coming I) →
-    AwaitPlane plan.weights.shifts plan.plane plan.q (depths_of old) blocks → Clears old marks → IsIn input → Progress source book (start_of plan old blocks) 0 0 0 input (held (kept marks) marks blocks input)
-plane_begins source book plan old marks blocks input awaits clears opened =
-    not_begun source book (start_of plan old blocks) input (held (kept marks) marks blocks input) awaits refl clears.depths
+pub plane_begins : {I : Type 0} (source : SourceOf I) (book : Book) (plan : CodedPlane) (old marks blocks : List ℤ) (waiting : List Found) (input : Coming I) → ((r : ℕ) → get_or waiting r nothing ≡ nothing) →
+    AwaitPlane plan.weights.shifts plan.plane plan.q (depths_of old) blocks → Clears old marks → IsIn input → Progress source book (start_of plan old blocks) 0 0 0 input (held (kept marks) marks (shown plan.plane waiting blocks) input)
+plane_begins source book plan old marks blocks waiting input none awaits clears opened =
+    not_begun source book (start_of plan old blocks) input (held (kept marks) marks (shown plan.plane waiting blocks) input) awaits (shown_own plan.plane waiting blocks none) clears.depths
     (λ h. subst HasNone (sym (clears.marks (16 * h)).sent) (record { two = refl; three = refl; four = refl })) (λ h. (clears.marks (16 * h)).options) refl opened
 
-pub is_coded : (plan : PlanePlan) (coded : CodedPlane) (marks blocks : List ℤ) (above : List ℕ) → coded.plane ≡ plan.plane → coded.q ≡ plan.q → coded.weights ≡ plan.weights →
-    AwaitPlane plan.weights.shifts plan.plane plan.q (depths_of marks) blocks →
-    ((r : ℕ) → r < 64 → r < length marks → plan.plane < get_or (depths_of marks) r 0 → Shows (get_or above r 0) (significant (block_at blocks r) (plan.plane + 1)) 0 64) →
-    IsStart (start_of plan marks blocks) coded above
-is_coded plan coded marks blocks above plane q weights awaits shown = record {
-  weights = ap (λ w. w.shifts) (sym weights);
-  plane = sym plane;
-  q = sym q;
+pub is_coded : (plan : CodedPlane) (marks blocks : List ℤ) (above : List ℕ) → length blocks ≡ 64 * length marks → AwaitPlane plan.weights.shifts plan.plane plan.q (depths_of marks) blocks →
+    AreSignificant (plan.plane + 1) blocks above → IsStart (start_of plan marks blocks) plan above
+is_coded plan marks blocks above whole awaits told = record {
+  weights = refl;
+  plane = refl;
+  q = refl;
   awaits = awaits;
-  masks = λ r within few deep p ac.
-      let z : 0 + p ≡ p = omega arith in
-      (shown r few (omega (arith, within, length-depths_of marks)) deep).at p ac.1 ∙ ap (significant (block_at blocks r) (plan.plane + 1)) z;
+  masks = λ r within few p ac. told r p few (omega (arith, within, length-depths_of marks, whole)) ac;
 }
 
 -- the last stage is the end

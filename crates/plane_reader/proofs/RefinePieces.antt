@@ -28,7 +28,7 @@ use Rattle.bit_pipe.specs.Coming.{Coming, IsIn, Takes}
 use Rattle.plane_reader.specs.declared.found.Found.{Found}
 use Rattle.plane_reader.specs.Frames.{Frame, Leads}
 use Rattle.plane_reader.specs.Pieces.{OneStep, FoundPiece, Finds, Anything, pieces, SoFar}
-use Rattle.plane_reader.specs.Places.{inside}
+use Rattle.block_masks.specs.Places.{inside}
 use Rattle.plane_reader.specs.Refining.{RefinementNext}
 use Rattle.plane_reader.specs.Words.{TakesFlag}
 use Rattle.plane_reader.proofs.StepPieces.{bit_step}

@@ -24,7 +24,7 @@ use Rattle.bit_pipe.proofs.Taking.{in_later}
 use Rattle.plane_reader.specs.declared.found.Found.{Found}
 use Rattle.plane_reader.specs.Frames.{Frame, Sends, Leads}
 use Rattle.plane_reader.specs.Pieces.{FoundPiece, Finds, Anything, pieces, SoFar}
-use Rattle.plane_reader.specs.Places.{inside}
+use Rattle.block_masks.specs.Places.{inside}
 use Rattle.plane_reader.specs.Refining.{Deals, RefinementNext}
 use Rattle.plane_reader.proofs.Dealing.{filter_to}
 use Rattle.plane_reader.proofs.BitPieces.{told_steps, steps_at, sent_bits, bits_piece, told_there, told_nowhere}

@@ -28,7 +28,7 @@ use Rattle.plane_reader.specs.Frames.{Frame, Sends, Leads, sign_steps, SignsNext
 use Rattle.plane_reader.specs.Pieces.{Piece, OneStep, FoundPiece, Finds, Anything, pieces, SoFar}
 use Rattle.plane_reader.specs.Words.{TakesFlag}
 use Rattle.plane_reader.proofs.WordReading.{one_given, one_missing, one_fault}
-use Rattle.plane_reader.specs.Places.{inside}
+use Rattle.block_masks.specs.Places.{inside}
 use Rattle.plane_reader.proofs.StepPieces.{bit_step}
 use Rattle.plane_reader.proofs.IndexPieces.{rest_after, pieces_more, found_as, leads_as, so_far_more, so_far_cut, leads_next}
 

@@ -25,7 +25,7 @@ use Rattle.bit_pipe.proofs.Taking.{in_later}
 use Rattle.plane_reader.specs.declared.found.Found.{Found}
 use Rattle.plane_reader.specs.Frames.{Frame, Sends, sign_steps, SignsNext}
 use Rattle.plane_reader.specs.Pieces.{FoundPiece, Finds, Anything}
-use Rattle.plane_reader.specs.Places.{inside}
+use Rattle.block_masks.specs.Places.{inside}
 use Rattle.plane_reader.proofs.BitPieces.{told_steps, sent_bits, bits_piece, told_there, told_nowhere}
 
 abbrev minus_at : List ℤ → ℕ → Bool

@@ -15,7 +15,7 @@ use Rattle.bit_pipe.specs.Coming.{Coming, IsIn, Takes}
 use Rattle.plane_reader.specs.declared.found.Found.{Found}
 use Rattle.plane_reader.specs.Frames.{Frame, sign_steps, SignsNext}
 use Rattle.plane_reader.specs.Pieces.{FoundPiece, Anything, SoFar}
-use Rattle.plane_reader.specs.Places.{inside}
+use Rattle.block_masks.specs.Places.{inside}
 use Rattle.plane_reader.specs.Words.{TakesFlag}
 use Rattle.plane_reader.proofs.IndexPieces.{so_far_none}
 use Rattle.plane_reader.proofs.SignPieces.{sign_item, sign_skipped, sign_read, sign_missing, sign_fault, signs_whole}

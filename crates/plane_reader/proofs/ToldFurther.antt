@@ -18,7 +18,8 @@ use Rattle.plane_reader.specs.Frames.{Frame, Sends}
 use Rattle.plane_reader.specs.Stages.{told_before}
 use Rattle.plane_reader.specs.Pieces.{Finds}
 use Rattle.plane_reader.specs.Taken.{IsCleared, AwaitsPlane}
-use Rattle.plane_reader.specs.Applied.{with_bit, Applies, AddsDc}
+use Rattle.block_masks.specs.BitsSet.{with_bit}
+use Rattle.plane_reader.specs.Applied.{Applies, AddsDc}
 use Rattle.plane_reader.proofs.ToldNumbers.{weight, abs_told, pow_more, weight_below}
 use Rattle.plane_reader.proofs.ToldSigns.{sign_with_bit, covered_part, covered_before}
 use Rattle.plane_reader.proofs.ToldDc.{no_dc_part, dc_part_alone, dc_part_below}

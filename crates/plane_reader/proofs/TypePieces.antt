@@ -1,5 +1,5 @@
 -- The types of a group of positions, and the signs of those that become significant.
-use Rattle.std.proofs.Common.{◌≡◌, ℕ, zero, suc, ◌+◌, ◌-◌, ◌<◌, ◌≤◌, ◌^◌, Bool, true, false, not, ◌&&◌, ◌||◌, cond, ℤ, pos, List, [], ◌∷◌, ◌++◌, get_or, refl, ap, sym, ◌∙◌, subst, arith}
+use Rattle.std.proofs.Common.{◌≡◌, ℕ, zero, suc, ◌+◌, ◌-◌, ◌<◌, ◌≤◌, Bool, true, false, not, ◌&&◌, ◌||◌, cond, ℤ, pos, List, [], ◌∷◌, ◌++◌, get_or, refl, ap, sym, ◌∙◌, subst, arith}
 use Rattle.std.specs.Prelude.{◌==◌, Ok, Err, Some, None, Result, Option, map, filter, nat_le, nat_lt}
 use Rattle.std.specs.List.{list_any, AllByRecursion}
 use Rattle.std.proofs.lemmas.Bool.Decides.{nat_tests}
@@ -27,7 +27,7 @@ use Rattle.bit_pipe.specs.declared.fault.TextFault.{TextFault}
 use Rattle.bit_pipe.specs.Sources.{SourceOf}
 use Rattle.bit_pipe.specs.Coming.{Coming}
 use Rattle.plane_reader.specs.declared.found.Found.{Found}
-use Rattle.plane_reader.specs.Places.{inside}
+use Rattle.block_masks.specs.Places.{inside}
 use Rattle.plane_reader.specs.Frames.{Frame, Sends, Leads, due_bits, WordNext, sign_steps, SignsNext, TypesNext}
 use Rattle.plane_reader.specs.Pieces.{FoundPiece, Finds, Anything, TakesPlaces}
 use Rattle.plane_reader.proofs.WordReading.{one_given}
@@ -249,5 +249,3 @@ module _ {f : Frame} {stage : ℕ} {earlier : ℕ → List Step} {done : List St
       types_given known signs = types_then (signs book h f stage earlier (done ++ word_piece.piece.part) new_at after known signs_next)
 
 -- a mask tells its own bits
-pub mask_shows : (mask : ℕ) → mask < 2 ^ 64 → Shows mask (λ p. bit mask p) 0 64
-mask_shows mask small = record { at = λ j lt. let e : j ≡ 0 + j = omega arith in ap (bit mask) e; small = small }

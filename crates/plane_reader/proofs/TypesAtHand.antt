@@ -26,7 +26,7 @@ use Rattle.plane_reader.specs.declared.hand.Types.{Types}
 use Rattle.plane_reader.specs.Frames.{Frame, TypesNext}
 use Rattle.plane_reader.specs.Hand.{IsWordIn, AreTypesIn}
 use Rattle.plane_reader.specs.Pieces.{FoundPiece, Anything, TakesWord}
-use Rattle.plane_reader.specs.Places.{inside}
+use Rattle.block_masks.specs.Places.{inside}
 use Rattle.plane_reader.specs.Shadows.{told, shadow}
 use Rattle.plane_reader.proofs.DueReading.{due_given, few_ones}
 use Rattle.plane_reader.proofs.Shadows.{takes_shadow, shadow_in, found_back, between, takes_first, takes_rest, window_parts}

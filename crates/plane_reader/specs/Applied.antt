@@ -1,15 +1,11 @@
 -- What a block has after it got what was found of its numbers. (This project's own.)
-use Rattle.std.specs.Prelude.{◌≡◌, ◌<◌, ◌≤◌, ℕ, ◌^◌, ℤ, pos, ◌+ℤ◌, Bool, true, false, not, unsigned_abs, List, length}
+use Rattle.std.specs.Prelude.{◌≡◌, ◌<◌, ◌≤◌, ℕ, ◌^◌, ℤ, pos, ◌+ℤ◌, Bool, true, false, List, length}
 use lib.ListN.{get_or}
 use Rattle.item_defs.specs.Bits.{bit}
 use Rattle.plane_defs.specs.Sets.{magnitude}
 use Rattle.plane_defs.specs.StepLaws.{IsAc}
-use Rattle.plane_texts.specs.Given.{told_number}
+use Rattle.block_masks.specs.BitsSet.{with_bit}
 use Rattle.plane_reader.specs.Taken.{IsCleared}
-
--- a number that has the plane's bit in its magnitude, and is negative where it was or is so now
-abbrev pub with_bit : (plane : ℕ) → ℤ → (minus : Bool) → ℤ
-with_bit plane z minus = told_number plane z (not (bit (unsigned_abs z) plane)) minus
 
 -- the AC numbers at the positions of a mask got the plane's bit, and the sign that another mask has for them
 pub record Applies (plane bits minus : ℕ) (before now : List ℤ) : Type 0 where

@@ -1,13 +1,11 @@
 -- What stands first in a window of bits. (This project's own.)
-use Rattle.std.specs.Prelude.{◌≡◌, ◌≤◌, ◌<◌, ℕ, ◌+◌, ◌-◌, ◌*◌, ◌/◌, ◌%◌, ◌^◌, ◌&&◌, Bool, true, false, count_ones, map, filter}
+use Rattle.std.specs.Prelude.{◌≡◌, ◌≤◌, ◌<◌, ℕ, ◌+◌, ◌-◌, ◌*◌, ◌/◌, ◌%◌, ◌^◌, Bool, true, false, count_ones}
 use lib.ListN.{get_or}
-use Rattle.item_defs.specs.Bits.{bit, value_of}
 use Rattle.item_defs.specs.Items.{item_bits, raw}
-use Rattle.plane_defs.specs.Spans.{span}
 use Rattle.plane_defs.specs.Codes.{word_item}
 use Rattle.plane_defs.specs.declared.codes.Book.{Book}
 use Rattle.block_masks.specs.declared.gaggle.Gaggle.{Gaggle}
-use Rattle.block_masks.specs.Masks.{Shows}
+use Rattle.block_masks.specs.Picks.{AreSpread}
 use Rattle.bit_pipe.specs.declared.front.Front.{Front}
 use Rattle.bit_pipe.specs.Windows.{first_of}
 use Rattle.plane_reader.specs.declared.hand.Types.{Types}
@@ -20,12 +18,6 @@ pub record IsWordIn (book : Book) (gaggle : Gaggle) (count window : ℕ) (word :
   pub one : count ≡ 1 → item_bits (raw word.number) ≡ first_of word.len window
   pub sent : 2 ≤ count → get_or gaggle.sent (count - 2) false ≡ true
   pub coded : 2 ≤ count → item_bits (word_item book count (get_or gaggle.options (count - 2) 0) word.number) ≡ first_of word.len window
-
--- the places of some due ones that a word tells
-pub record AreSpread (due word places : ℕ) : Type 0 where
-  pub small : places < 16
-  pub told : (f g : ℕ → Bool) (start count : ℕ) → count ≤ 4 → Shows due g start count → value_of (map f (filter g (span start count))) ≡ word → Shows places (λ p. g p && f p) start count
-  pub back : (g : ℕ → Bool) (start count : ℕ) → count ≤ 4 → Shows due g start count → word < 2 ^ count_ones due → value_of (map (λ p. bit places (p - start)) (filter g (span start count))) ≡ word
 
 -- the types of some due places, one of them 1 where that is wanted, and the signs of those that are, from the bits after the word
 pub record AreTypesIn (book : Book) (gaggle : Gaggle) (due : ℕ) (is_wanted : Bool) (window : ℕ) (types : Types) : Type 0 where

@@ -6,13 +6,12 @@ pub mod Words
 pub mod Stages
 pub mod Terms
 pub mod Progress
-pub mod Places
 pub mod Children
 pub mod Refining
 pub mod Applied
+pub mod Shown
 pub mod Grandchildren
 pub mod Blocks
 pub mod Hand
 pub mod Groups
 pub mod Shadows
-pub mod Walk

@@ -14,7 +14,6 @@ use Rattle.plane_defs.specs.Reading.{read_after, steps_of_block, gaggle_reading,
 use Rattle.plane_texts.specs.Candidates.{IsCandidate}
 use Rattle.block_masks.specs.declared.gaggle.Gaggle.{Gaggle}
 use Rattle.block_masks.specs.declared.plan.CodedPlane.{CodedPlane}
-use Rattle.block_masks.specs.declared.plan.PlanePlan.{PlanePlan}
 use Rattle.block_masks.specs.Gaggles.{AreOptions, Agrees, options_in, sent_in, options_at, sent_at}
 use Rattle.bit_pipe.specs.declared.fault.Part.{Part}
 use Rattle.bit_pipe.specs.declared.fault.Part.TheVariants.{Whole, Ended}
@@ -35,7 +34,7 @@ pub record Start : Type 0 where
   pub depths : List ℕ
   pub blocks : List ℤ
 
-abbrev pub start_of : PlanePlan → (marks blocks : List ℤ) → Start
+abbrev pub start_of : CodedPlane → (marks blocks : List ℤ) → Start
 start_of plan marks blocks = record { weights = plan.weights.shifts; plane = plan.plane; q = plan.q; depths = depths_of marks; blocks = blocks }
 
 abbrev pub frame_of : Start → ℕ → Frame

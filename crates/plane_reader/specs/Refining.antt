@@ -11,7 +11,7 @@ use Rattle.block_masks.specs.declared.plan.CodedPlane.{CodedPlane}
 use Rattle.block_masks.specs.Masks.{Shows}
 use Rattle.bit_pipe.specs.Windows.{first_of}
 use Rattle.plane_defs.specs.Spans.{span}
-use Rattle.plane_reader.specs.Places.{inside}
+use Rattle.block_masks.specs.Places.{inside}
 use Rattle.plane_reader.specs.Frames.{Frame, Possible, Leads}
 
 -- the refinement bits come next, at the positions of a mask

@@ -4,8 +4,7 @@ ghost use Rattle.std.specs.Prelude.{◌≡◌, ◌<◌, length};
 ghost use Rattle.plane_reader.specs.Applied.{Applies, AddsDc};
 
 use crate::found::Found;
-use crate::walk::without;
-use block_masks::set_bits;
+use block_masks::{set_bits, without};
 
 // Gives the AC numbers that were found to have the plane's bit that bit, and their signs.
 #[inline]

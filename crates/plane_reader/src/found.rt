@@ -1,10 +1,12 @@
 // What the words of a block gave in a stage.
 
 ghost use Rattle.std.specs.Prelude.{◌≡◌, ◌+◌, ◌-◌, ◌≤◌, ◌<◌, ◌^◌, ◌&&◌, ◌||◌, ℕ, Bool};
+ghost use Rattle.item_defs.specs.Bits.{bit as bit_in};
 ghost use Rattle.block_masks.specs.Masks.{Shows};
-ghost use Rattle.plane_reader.specs.Places.{inside};
+ghost use Rattle.block_masks.specs.Places.{inside};
+ghost use Rattle.plane_reader.specs.Shown.{Joins};
 
-use block_masks::{either, joined};
+use block_masks::{both, either, joined};
 
 // Masks of the positions that have the plane's bit, and of those that are told to be negative.
 #[derive(Clone, Copy)]
@@ -24,6 +26,37 @@ pub(crate) fn placed(mask: u64, start: u8) -> u64
 }
 
 impl Found {
+    // Nothing was found.
+    pub const NOTHING: Found = Found { bits: 0, minus: 0 };
+
+    // The positions of a mask, and with them those that have the bit.
+    #[inline(always)]
+    pub fn with(self, mask: u64) -> u64
+        ensures { (p : ℕ) → p < 64 → bit_in result p ≡ (bit_in mask p || bit_in self.bits p) }
+    {
+        either(mask, self.bits)
+    }
+
+    // Those of the told signs whose numbers have the bit.
+    #[inline(always)]
+    fn signs(self) -> u64
+        ensures { (p : ℕ) → p < 64 → bit_in result p ≡ (bit_in self.minus p && bit_in self.bits p) }
+    {
+        both(self.minus, self.bits)
+    }
+
+    // These, and others that were found after them.
+    #[inline(always)]
+    pub fn and(self, more: Found) -> Found
+        ensures { Joins self more result }
+    {
+        let minus = self.signs();
+        Found {
+            bits: more.with(self.bits),
+            minus: either(minus, more.signs()),
+        }
+    }
+
     // The positions from `start` on of which these have the plane's bit.
     #[inline]
     pub fn add_bits(&mut self, mask: u64, start: u8)

@@ -16,9 +16,8 @@ ghost use Rattle.block_masks.specs.declared.gaggle.Gaggle.{Gaggle as GaggleValue
 use crate::found::Found;
 use crate::hand::types_in;
 use crate::types::{Group, take_types};
-use crate::walk::{first_in, without};
 use bit_pipe::{BitIn, OctetIn, TextFault};
-use block_masks::{Gaggle, has, part};
+use block_masks::{Gaggle, first_in, has, part, without};
 use word_codes::WordTables;
 
 // Groups of four positions from `first` on: those whose types are sent, and those of which one type at least must be 1.

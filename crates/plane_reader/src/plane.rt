@@ -1,21 +1,23 @@
 // A plane of a segment, stage by stage and gaggle by gaggle.
 
-ghost use Rattle.std.specs.Prelude.{◌≡◌, ◌+◌, ◌*◌, ◌≤◌, ◌<◌, IsTrue, length};
+ghost use Rattle.std.specs.Prelude.{◌≡◌, ◌+◌, ◌*◌, ◌≤◌, ◌<◌, ℕ, IsTrue, length};
 ghost use Rattle.bit_pipe.specs.Coming.{coming, IsIn};
 ghost use Rattle.plane_defs.specs.Codes.{is_book_sound};
 ghost use Rattle.plane_defs.specs.Marks.{depths_of};
 ghost use Rattle.plane_reader.specs.Progress.{held, kept, with_one, GoesOn, Advances, KeepsGaggles, Clears};
+ghost use lib.ListN.{get_or};
+ghost use Rattle.plane_reader.specs.Above.{AreSignificant};
+ghost use Rattle.plane_reader.specs.Shown.{nothing, shown, KeepsAcs};
 ghost use Rattle.plane_reader.specs.Taken.{AwaitPlane, TakesPlane};
 
-use crate::above::masks_above;
+use crate::above::all_significant;
+use crate::found::Found;
 use crate::stages::{Terms, take_block};
+use crate::waiting::{BLOCK, KEPT, settle};
 use bit_pipe::{BitIn, OctetIn, Part, TextFault};
 use block_masks::{CodedPlane, Gaggle, PlanePlan, depth_of, load, mark_of, store};
 use plane_defs::Book;
 use word_codes::WordTables;
-
-// Numbers of a block.
-const BLOCK: usize = 64;
 
 // Blocks of a gaggle.
 const GAGGLE: usize = 16;
@@ -41,21 +43,24 @@ fn take_gaggle<I: OctetIn>(
     number: u8,
     blocks: &mut [i32],
     marks: &mut [i32],
+    waiting: &mut [Found; KEPT],
     g: usize,
 ) -> Result<Part, TextFault>
-    requires goes { GoesOn I.source terms.now.tables.now.book terms.now.plan.now terms.now.above.now number g 0 (held (with_one (kept marks.old) g gaggle.old) marks.old blocks.old (coming input.old)) }
+    requires goes { GoesOn I.source terms.now.tables.now.book terms.now.plan.now terms.now.above.now number g 0 (held (with_one (kept marks.old) g gaggle.old) marks.old (shown terms.now.plan.now.plane waiting.old blocks.old) (coming input.old)) }
     requires number { number < 5 }
     requires whole { length blocks.old ≡ 64 * length marks.old }
     requires within { 16 * g < length marks.old }
     ensures advances { Advances I.source terms.now.tables.now.book terms.now.plan.now terms.now.above.now number g number (g + 1) result
-        (held (with_one (kept marks.old) g gaggle.old) marks.old blocks.old (coming input.old)) (held (with_one (kept marks.new) g gaggle.new) marks.new blocks.new (coming input.new)) }
+        (held (with_one (kept marks.old) g gaggle.old) marks.old (shown terms.now.plan.now.plane waiting.old blocks.old) (coming input.old)) (held (with_one (kept marks.new) g gaggle.new) marks.new (shown terms.now.plan.now.plane waiting.new blocks.new) (coming input.new)) }
     ensures marks { KeepsGaggles marks.old marks.new }
+    ensures acs { KeepsAcs blocks.old blocks.new }
     ensures size { length blocks.new ≡ length blocks.old }
 {
     let first = GAGGLE * g;
     for r in first..marks.len().min(first + GAGGLE) {
         let block = &mut blocks[BLOCK * r..BLOCK * r + BLOCK];
-        let Part::Whole = take_block(input, terms, gaggle, number, r, &mut marks[r], block)? else {
+        let mark = &mut marks[r];
+        let Part::Whole = take_block(input, terms, gaggle, number, r, mark, waiting, block)? else {
             return Ok(Part::Ended);
         };
     }
@@ -69,21 +74,54 @@ fn take_stage<I: OctetIn>(
     number: u8,
     blocks: &mut [i32],
     marks: &mut [i32],
+    waiting: &mut [Found; KEPT],
 ) -> Result<Part, TextFault>
-    requires goes { GoesOn I.source terms.now.tables.now.book terms.now.plan.now terms.now.above.now number 0 0 (held (kept marks.old) marks.old blocks.old (coming input.old)) }
+    requires goes { GoesOn I.source terms.now.tables.now.book terms.now.plan.now terms.now.above.now number 0 0 (held (kept marks.old) marks.old (shown terms.now.plan.now.plane waiting.old blocks.old) (coming input.old)) }
     requires number { number < 5 }
     requires whole { length blocks.old ≡ 64 * length marks.old }
     ensures advances { Advances I.source terms.now.tables.now.book terms.now.plan.now terms.now.above.now number 0 (number + 1) 0 result
-        (held (kept marks.old) marks.old blocks.old (coming input.old)) (held (kept marks.new) marks.new blocks.new (coming input.new)) }
+        (held (kept marks.old) marks.old (shown terms.now.plan.now.plane waiting.old blocks.old) (coming input.old)) (held (kept marks.new) marks.new (shown terms.now.plan.now.plane waiting.new blocks.new) (coming input.new)) }
     ensures depths { depths_of marks.new ≡ depths_of marks.old }
+    ensures acs { KeepsAcs blocks.old blocks.new }
     ensures size { length blocks.new ≡ length blocks.old }
 {
     for g in 0..marks.len().div_ceil(GAGGLE) {
         let mut gaggle = load(marks, g);
-        let Part::Whole = take_gaggle(input, terms, &mut gaggle, number, blocks, marks, g)? else {
+        let Part::Whole = take_gaggle(input, terms, &mut gaggle, number, blocks, marks, waiting, g)?
+        else {
             return Ok(Part::Ended);
         };
         store(marks, g, gaggle);
+    }
+    Ok(Part::Whole)
+}
+
+// Takes the stages of a plane up to the last one that is sent.
+fn take_stages<I: OctetIn>(
+    input: &mut BitIn<I>,
+    terms: &Terms,
+    last: u8,
+    blocks: &mut [i32],
+    marks: &mut [i32],
+    waiting: &mut [Found; KEPT],
+) -> Result<Part, TextFault>
+    requires open { IsIn (coming input.old) }
+    requires whole { length blocks.old ≡ 64 * length marks.old }
+    requires last { last ≤ 4 }
+    requires awaits { AwaitPlane terms.now.plan.now.weights.shifts terms.now.plan.now.plane terms.now.plan.now.q (depths_of marks.old) blocks.old }
+    requires above { AreSignificant (terms.now.plan.now.plane + 1) blocks.old terms.now.above.now }
+    requires nothing { (r : ℕ) → get_or waiting.old r nothing ≡ nothing }
+    ensures takes { TakesPlane I.source terms.now.tables.now.book terms.now.plan.now.plane terms.now.plan.now.q terms.now.plan.now.weights.shifts (last + 1) (depths_of marks.old)
+        result (coming input.old) (coming input.new) blocks.old (shown terms.now.plan.now.plane waiting.new blocks.new) }
+    ensures depths { depths_of marks.new ≡ depths_of marks.old }
+    ensures acs { KeepsAcs blocks.old blocks.new }
+    ensures size { length blocks.new ≡ length blocks.old }
+{
+    clear(marks);
+    for number in 0..last + 1 {
+        let Part::Whole = take_stage(input, terms, number, blocks, marks, waiting)? else {
+            return Ok(Part::Ended);
+        };
     }
     Ok(Part::Whole)
 }
@@ -98,6 +136,9 @@ fn take_stage<I: OctetIn>(
 ///
 /// The other bits of the marks are free, and the call writes there; the depths stay, whatever it answers.
 ///
+/// `above` tells which numbers of the first blocks are significant above the plane, as `all_significant` does, and then which are
+/// in the plane, so that it serves the next lower one.
+///
 /// # Errors
 ///
 /// `BadOption` at the first identifier that names no option, `FalseFlag` at the first word that leaves a set without a
@@ -108,30 +149,29 @@ pub fn take_plane_with<I: OctetIn>(
     marks: &mut [i32],
     plan: &PlanePlan,
     tables: &WordTables,
+    above: &mut [u64; KEPT],
 ) -> Result<Part, TextFault>
     requires open { IsIn (coming input.old) }
     requires whole { length blocks.old ≡ 64 * length marks.old }
     requires plane { plan.now.plane ≤ 26 }
     requires last { plan.now.last ≤ 4 }
     requires awaits { AwaitPlane plan.now.weights.shifts plan.now.plane plan.now.q (depths_of marks.old) blocks.old }
+    requires above { AreSignificant (plan.now.plane + 1) blocks.old above.old }
     ensures takes { TakesPlane I.source tables.now.book plan.now.plane plan.now.q plan.now.weights.shifts (plan.now.last + 1) (depths_of marks.old)
         result (coming input.old) (coming input.new) blocks.old blocks.new }
     ensures depths { depths_of marks.new ≡ depths_of marks.old }
+    ensures above { AreSignificant plan.now.plane blocks.new above.new }
 {
     let coded = CodedPlane::new(plan);
-    let above = masks_above(blocks, marks, plan.plane);
+    let mut waiting = [Found::NOTHING; KEPT];
     let terms = Terms {
         plan: &coded,
         tables,
-        above: &above,
+        above,
     };
-    clear(marks);
-    for number in 0..plan.last + 1 {
-        let Part::Whole = take_stage(input, &terms, number, blocks, marks)? else {
-            return Ok(Part::Ended);
-        };
-    }
-    Ok(Part::Whole)
+    let read = take_stages(input, &terms, plan.last, blocks, marks, &mut waiting);
+    settle(&waiting, plan.plane, blocks, above);
+    read
 }
 
 /// The same by a sound book. Several planes are read sooner by `take_plane_with`, with tables that are made once.
@@ -156,5 +196,7 @@ pub fn take_plane<I: OctetIn>(
         result (coming input.old) (coming input.new) blocks.old blocks.new }
     ensures depths { depths_of marks.new ≡ depths_of marks.old }
 {
-    take_plane_with(input, blocks, marks, plan, &WordTables::new(book))
+    let mut above = all_significant(blocks, plan.plane + 1);
+    let tables = WordTables::new(book);
+    take_plane_with(input, blocks, marks, plan, &tables, &mut above)
 }

@@ -12,10 +12,9 @@ ghost use Rattle.plane_reader.specs.Pieces.{Piece, FoundPiece, Anything, OnSome}
 ghost use Rattle.plane_reader.specs.Refining.{Deals, RefinementNext, DcBitNext, IsDcBit};
 
 use crate::found::Found;
-use crate::walk::{first_in, part_first, without};
 use crate::word::take_flag;
 use bit_pipe::{BitIn, OctetIn, TextFault};
-use block_masks::{CodedPlane, either, has, masked, one};
+use block_masks::{CodedPlane, either, first_in, has, masked, one, part_first, without};
 
 // What bits were dealt out to positions: those whose bit is 1, those that are left, and how many bits that took.
 #[derive(Clone, Copy)]

@@ -8,25 +8,27 @@ ghost use Rattle.plane_defs.specs.Steps.{Step, parents_steps, children_steps};
 ghost use Rattle.plane_defs.specs.declared.codes.Book.{Book as BookValue};
 ghost use Rattle.block_masks.specs.declared.gaggle.Gaggle.{Gaggle as GaggleValue};
 ghost use Rattle.block_masks.specs.Gaggles.{AreOptions, options_in, sent_in};
+ghost use Rattle.plane_reader.specs.declared.found.Found.{Found as FoundValue};
 ghost use Rattle.plane_reader.specs.Frames.{Frame, steps_of};
 ghost use Rattle.plane_reader.specs.Pieces.{FoundPiece, Anything, OnSome};
 ghost use Rattle.plane_reader.specs.Children.{StageNext};
 ghost use Rattle.plane_reader.specs.Blocks.{MarkSays};
 ghost use Rattle.plane_reader.specs.Stages.{StandsBefore, StageTaken};
 ghost use Rattle.plane_reader.specs.Terms.{IsFrame};
+ghost use lib.ListN.{get_or};
 ghost use Rattle.plane_reader.specs.Above.{IsAbove, KeepsAbove};
+ghost use Rattle.plane_reader.specs.Shown.{nothing, shown_block, SameAcs};
 
 use crate::above::mask_above;
-use crate::apply::{add_dc, apply};
+use crate::apply::add_dc;
 use crate::children::take_children;
 use crate::found::Found;
 use crate::grandchildren::take_grandchildren;
 use crate::refine::{take_dc_bit, take_refinement};
 use crate::types::{Group, take_types};
+use crate::waiting::{KEPT, first_reaching, put_by, waits_for};
 use bit_pipe::{BitIn, OctetIn, Part, TextFault};
-use block_masks::{
-    CodedPlane, Gaggle, all_reaching, beside, both, depth_of, families_of, with_families,
-};
+use block_masks::{CodedPlane, Gaggle, beside, both, depth_of, families_of, with_families};
 use word_codes::WordTables;
 
 // A plane, the codes of its words, and for the first blocks which of their numbers are significant above it.
@@ -34,7 +36,14 @@ use word_codes::WordTables;
 pub(crate) struct Terms<'a> {
     pub plan: &'a CodedPlane,
     pub tables: &'a WordTables,
-    pub above: &'a [u64; 64],
+    pub above: &'a [u64; KEPT],
+}
+
+// What is seen of a block before a stage: which of its numbers are significant above the plane, and what waits for it.
+#[derive(Clone, Copy)]
+struct Seen {
+    above: u64,
+    waits: Found,
 }
 
 // Takes the types of the parents, and their signs.
@@ -97,7 +106,7 @@ fn take_words<I: OctetIn>(
     found: &mut Found,
     number: u8,
     mark: &mut i32,
-    above: u64,
+    seen: Seen,
     block: &[i32],
 ) -> Result<Option<()>, TextFault>
     requires open { IsIn (coming input.old) }
@@ -105,7 +114,7 @@ fn take_words<I: OctetIn>(
     requires some { 1 ≤ number }
     requires number { number < 5 }
     requires whole { length block.now ≡ 64 }
-    ensures words { (f : Frame) (earlier : ℕ → List Step) → IsFrame f terms.now.plan.now (depth_in mark.old) → f.plane < f.depth → IsAbove f above → StandsBefore f number earlier mark.old block.now →
+    ensures words { (f : Frame) (earlier : ℕ → List Step) → IsFrame f terms.now.plan.now (depth_in mark.old) → f.plane < f.depth → IsAbove f seen.above → StandsBefore f number earlier mark.old (shown_block terms.now.plan.now.plane seen.waits block.now) →
         FoundPiece I.source terms.now.tables.now.book f number earlier [] (steps_of f number) (MarkSays f number mark.new) result gaggle.old gaggle.new found.old found.new (coming input.old) (coming input.new) }
     ensures depth { depth_in mark.new ≡ depth_in mark.old }
     ensures options_kept { options_in mark.new ≡ options_in mark.old }
@@ -114,13 +123,14 @@ fn take_words<I: OctetIn>(
     ensures is_in { OnSome result (IsIn (coming input.new)) }
 {
     match number {
-        1 => take_parents(input, terms, gaggle, found, above),
-        2 => take_families(input, terms, gaggle, found, above, mark),
+        1 => take_parents(input, terms, gaggle, found, seen.above),
+        2 => take_families(input, terms, gaggle, found, seen.above, mark),
         3 => {
-            let now = all_reaching(block, terms.plan.plane);
-            take_grandchildren(input, terms, gaggle, found, above, now, families_of(*mark))
+            let now = first_reaching(block, terms.plan.plane, seen.waits);
+            let families = families_of(*mark);
+            take_grandchildren(input, terms, gaggle, found, seen.above, now, families)
         }
-        _ => take_refinement(input, found, both(above, terms.plan.coded)),
+        _ => take_refinement(input, found, both(seen.above, terms.plan.coded)),
     }
 }
 
@@ -144,8 +154,9 @@ fn take_dc<I: OctetIn>(
 ) -> Result<Part, TextFault>
     requires open { IsIn (coming input.old) }
     requires whole { length block.old ≡ 64 }
-    ensures taken { (book : BookValue) (gaggle : GaggleValue) (mark : ℤ) (f : Frame) (earlier : ℕ → List Step) → AreOptions gaggle.options → IsFrame f plan.now f.depth → StandsBefore f 0 earlier mark block.old →
-        StageTaken I.source book f 0 earlier result gaggle gaggle mark block.new (coming input.old) (coming input.new) }
+    ensures taken { (book : BookValue) (gaggle : GaggleValue) (mark : ℤ) (waits : FoundValue) (f : Frame) (earlier : ℕ → List Step) → AreOptions gaggle.options → IsFrame f plan.now f.depth →
+        StandsBefore f 0 earlier mark (shown_block plan.now.plane waits block.old) → StageTaken I.source book f 0 earlier result gaggle gaggle mark (shown_block plan.now.plane waits block.new) (coming input.old) (coming input.new) }
+    ensures acs { SameAcs block.old block.new }
     ensures size { length block.new ≡ 64 }
 {
     let Some(bit) = take_dc_bit(input, plan)? else {
@@ -155,7 +166,7 @@ fn take_dc<I: OctetIn>(
     Ok(Part::Whole)
 }
 
-// Takes the words of a stage of a block that is deep enough, and puts what they tell into it.
+// Takes the words of a stage of a block that is deep enough. What they tell waits, or goes into the block.
 fn take_deep<I: OctetIn>(
     input: &mut BitIn<I>,
     terms: &Terms,
@@ -163,6 +174,7 @@ fn take_deep<I: OctetIn>(
     number: u8,
     r: usize,
     mark: &mut i32,
+    waiting: &mut [Found; KEPT],
     block: &mut [i32],
 ) -> Result<Part, TextFault>
     requires open { IsIn (coming input.old) }
@@ -170,17 +182,23 @@ fn take_deep<I: OctetIn>(
     requires some { 1 ≤ number }
     requires number { number < 5 }
     requires whole { length block.old ≡ 64 }
-    ensures taken { (f : Frame) (earlier : ℕ → List Step) → IsFrame f terms.now.plan.now (depth_in mark.old) → f.plane < f.depth → KeepsAbove terms.now.above.now r f → StandsBefore f number earlier mark.old block.old →
-        StageTaken I.source terms.now.tables.now.book f number earlier result gaggle.old gaggle.new mark.new block.new (coming input.old) (coming input.new) }
+    ensures taken { (f : Frame) (earlier : ℕ → List Step) → IsFrame f terms.now.plan.now (depth_in mark.old) → f.plane < f.depth → KeepsAbove terms.now.above.now r f →
+        StandsBefore f number earlier mark.old (shown_block terms.now.plan.now.plane (get_or waiting.old r nothing) block.old) →
+        StageTaken I.source terms.now.tables.now.book f number earlier result gaggle.old gaggle.new mark.new (shown_block terms.now.plan.now.plane (get_or waiting.new r nothing) block.new) (coming input.old) (coming input.new) }
     ensures depth { depth_in mark.new ≡ depth_in mark.old }
     ensures options { options_in mark.new ≡ options_in mark.old }
     ensures sent { sent_in mark.new ≡ sent_in mark.old }
+    ensures others { (i : ℕ) → (i ≡ r → ⊥) → get_or waiting.new i nothing ≡ get_or waiting.old i nothing }
+    ensures acs { r < 64 → SameAcs block.old block.new }
     ensures size { length block.new ≡ 64 }
 {
-    let mut found = Found { bits: 0, minus: 0 };
-    let above = mask_above(terms, r, block);
-    let read = take_words(input, terms, gaggle, &mut found, number, mark, above, block);
-    apply(found, terms.plan.plane, block);
+    let mut found = Found::NOTHING;
+    let seen = Seen {
+        above: mask_above(terms, r, block),
+        waits: waits_for(waiting, r),
+    };
+    let read = take_words(input, terms, gaggle, &mut found, number, mark, seen, block);
+    put_by(waiting, r, found, terms.plan.plane, block);
     Ok(part_of(read?))
 }
 
@@ -192,17 +210,21 @@ pub(crate) fn take_block<I: OctetIn>(
     number: u8,
     r: usize,
     mark: &mut i32,
+    waiting: &mut [Found; KEPT],
     block: &mut [i32],
 ) -> Result<Part, TextFault>
     requires open { IsIn (coming input.old) }
     requires number { number < 5 }
     requires known { AreOptions gaggle.old.options }
     requires whole { length block.old ≡ 64 }
-    ensures taken { (f : Frame) (earlier : ℕ → List Step) → IsFrame f terms.now.plan.now (depth_in mark.old) → KeepsAbove terms.now.above.now r f → StandsBefore f number earlier mark.old block.old →
-        StageTaken I.source terms.now.tables.now.book f number earlier result gaggle.old gaggle.new mark.new block.new (coming input.old) (coming input.new) }
+    ensures taken { (f : Frame) (earlier : ℕ → List Step) → IsFrame f terms.now.plan.now (depth_in mark.old) → KeepsAbove terms.now.above.now r f →
+        StandsBefore f number earlier mark.old (shown_block terms.now.plan.now.plane (get_or waiting.old r nothing) block.old) →
+        StageTaken I.source terms.now.tables.now.book f number earlier result gaggle.old gaggle.new mark.new (shown_block terms.now.plan.now.plane (get_or waiting.new r nothing) block.new) (coming input.old) (coming input.new) }
     ensures depth { depth_in mark.new ≡ depth_in mark.old }
     ensures options { options_in mark.new ≡ options_in mark.old }
     ensures sent { sent_in mark.new ≡ sent_in mark.old }
+    ensures others { (i : ℕ) → (i ≡ r → ⊥) → get_or waiting.new i nothing ≡ get_or waiting.old i nothing }
+    ensures acs { r < 64 → SameAcs block.old block.new }
     ensures size { length block.new ≡ 64 }
 {
     if number == 0 {
@@ -211,5 +233,5 @@ pub(crate) fn take_block<I: OctetIn>(
     if depth_of(*mark) <= terms.plan.plane {
         return Ok(Part::Whole);
     }
-    take_deep(input, terms, gaggle, number, r, mark, block)
+    take_deep(input, terms, gaggle, number, r, mark, waiting, block)
 }

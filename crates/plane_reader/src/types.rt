@@ -14,10 +14,9 @@ ghost use Rattle.plane_reader.specs.Pieces.{TakesPlaces, FoundPiece, Anything, A
 
 use crate::found::Found;
 use crate::hand::types_in;
-use crate::walk::{first_in, without};
 use crate::word::{count_of, take_due, take_flag};
 use bit_pipe::{BitIn, OctetIn, TextFault};
-use block_masks::{Gaggle, beside, is_any, one, part, spread};
+use block_masks::{Gaggle, beside, first_in, is_any, one, part, spread, without};
 use word_codes::WordTables;
 
 // Takes the word of some due places, of which one at least must be 1 where that is wanted.

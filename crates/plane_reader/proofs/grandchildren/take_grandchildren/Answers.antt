@@ -1,7 +1,7 @@
 use Rattle.std.proofs.Common.{arith, rules}
 use Rattle.std.proofs.lemmas.Result.{err_from_is_err_and}
 use Rattle.item_defs.specs.Bits.{bit}
-use Rattle.plane_reader.proofs.TypePieces.{mask_shows}
+use Rattle.block_masks.proofs.SettingLanes.{shows_own}
 use Rattle.plane_reader.proofs.GrandchildFlags.{sixteen_due, last_hope, families_shown, above_shown, families_above, live_shown, sixteens_word, sixteens_missing, sixteens_fault, sixteens_given}
 use Rattle.plane_reader.proofs.grandchildren.take_grandchildren.Goals as goal
 
@@ -14,7 +14,7 @@ take_wanted-requires-clause-due g c =
 pub returns-in_err-new-clause-grandchildren : goal.returns-in_err-new-clause-grandchildren
 returns-in_err-new-clause-grandchildren g c = λ f stage earlier done after next.
     let p = err_from_is_err_and c.from_residual.result c.from_residual.ensures.1 in
-    let before = c.of-before.ensures (λ p. bit c.args.above p) (mask_shows c.args.above (search rules)) in
+    let before = c.of-before.ensures (λ p. bit c.args.above p) (shows_own c.args.above 64 (search rules)) in
     let families = families_shown next in
     let due = c.both-due.ensures.told _ _ 0 3 (c.beside.ensures.told _ _ 0 3 (above_shown next before) (live_shown next c.args.terms.now.plan.now.live_shown)) families in
     let hope = c.both-hope.ensures.told _ _ 0 3 (c.beside-2.ensures.told _ _ 0 3 (families_above next before) families) c.without_child.ensures in
@@ -22,7 +22,7 @@ returns-in_err-new-clause-grandchildren g c = λ f stage earlier done after next
 
 pub returns-in_default-clause-grandchildren : goal.returns-in_default-clause-grandchildren
 returns-in_default-clause-grandchildren g c = λ f stage earlier done after next.
-    let before = c.of-before.ensures (λ p. bit c.args.above p) (mask_shows c.args.above (search rules)) in
+    let before = c.of-before.ensures (λ p. bit c.args.above p) (shows_own c.args.above 64 (search rules)) in
     let families = families_shown next in
     let due = c.both-due.ensures.told _ _ 0 3 (c.beside.ensures.told _ _ 0 3 (above_shown next before) (live_shown next c.args.terms.now.plan.now.live_shown)) families in
     let hope = c.both-hope.ensures.told _ _ 0 3 (c.beside-2.ensures.told _ _ 0 3 (families_above next before) families) c.without_child.ensures in
@@ -31,7 +31,7 @@ returns-in_default-clause-grandchildren g c = λ f stage earlier done after next
 
 pub returns-clause-grandchildren : goal.returns-clause-grandchildren
 returns-clause-grandchildren g c = λ f stage earlier done after next.
-    let before = c.of-before.ensures (λ p. bit c.args.above p) (mask_shows c.args.above (search rules)) in
+    let before = c.of-before.ensures (λ p. bit c.args.above p) (shows_own c.args.above 64 (search rules)) in
     let families = families_shown next in
     let due = c.both-due.ensures.told _ _ 0 3 (c.beside.ensures.told _ _ 0 3 (above_shown next before) (live_shown next c.args.terms.now.plan.now.live_shown)) families in
     let hope = c.both-hope.ensures.told _ _ 0 3 (c.beside-2.ensures.told _ _ 0 3 (families_above next before) families) c.without_child.ensures in

@@ -2,7 +2,7 @@ use Rattle.std.proofs.Common.{sym, ◌∙◌, arith, rules, ap, zero-add}
 use Rattle.std.proofs.lemmas.Result.{err_from_is_err_and}
 use Rattle.item_defs.specs.Bits.{bit}
 use Rattle.bit_pipe.proofs.Taking.{takes_start}
-use Rattle.plane_reader.proofs.TypePieces.{mask_shows}
+use Rattle.block_masks.proofs.SettingLanes.{shows_own}
 use Rattle.plane_reader.proofs.IndexPieces.{so_far_none}
 use Rattle.plane_reader.proofs.GrandchildPieces.{sixteen_item, sixteens_whole, sixteen_skipped, sixteen_call, sixteen_read, sixteen_missing, sixteen_fault}
 use Rattle.plane_reader.proofs.grandchildren.take_sixteens.Goals.{then-has+in_ok-take_quads+in-Some, else-has}
@@ -25,16 +25,16 @@ returns-in_err-take_quads-clause-sixteens g c = λ f stage earlier done after ne
     let p = err_from_is_err_and c.from_residual.result c.from_residual.ensures.1 in
     let i = c.loop-i.i in
     let so_far = c.loop-i.invariant.so_far f stage earlier done after next in
-    let due = ap (bit c.args.sixteens) (sym (zero-add i)) ∙ sym (c.has.ensures (bit c.args.sixteens) 0 64 (mask_shows c.args.sixteens (search rules)) (omega (arith, c.loop-i-test.true))) ∙ c.if-has.true in
-    let flag = c.has-is_new.ensures (bit c.args.new) 0 64 (mask_shows c.args.new (search rules)) (omega (arith, c.loop-i-test.true)) ∙ ap (bit c.args.new) (zero-add i) in
+    let due = ap (bit c.args.sixteens) (sym (zero-add i)) ∙ sym (c.has.ensures (bit c.args.sixteens) 0 64 (shows_own c.args.sixteens 64 (search rules)) (omega (arith, c.loop-i-test.true))) ∙ c.if-has.true in
+    let flag = c.has-is_new.ensures (bit c.args.new) 0 64 (shows_own c.args.new 64 (search rules)) (omega (arith, c.loop-i-test.true)) ∙ ap (bit c.args.new) (zero-add i) in
     rw (p.1, p.2) (sixteen_fault next i c.loop-i-test.true so_far (sixteen_call next i c.loop-i-test.true so_far due flag c.in_err-take_quads.ensures.quads))
 
 pub returns-in_default-clause-sixteens : goal.returns-in_default-clause-sixteens
 returns-in_default-clause-sixteens g c = λ f stage earlier done after next.
     let i = c.loop-i.i in
     let so_far = c.loop-i.invariant.so_far f stage earlier done after next in
-    let due = ap (bit c.args.sixteens) (sym (zero-add i)) ∙ sym (c.has.ensures (bit c.args.sixteens) 0 64 (mask_shows c.args.sixteens (search rules)) (omega (arith, c.loop-i-test.true))) ∙ c.if-has.true in
-    let flag = c.has-is_new.ensures (bit c.args.new) 0 64 (mask_shows c.args.new (search rules)) (omega (arith, c.loop-i-test.true)) ∙ ap (bit c.args.new) (zero-add i) in
+    let due = ap (bit c.args.sixteens) (sym (zero-add i)) ∙ sym (c.has.ensures (bit c.args.sixteens) 0 64 (shows_own c.args.sixteens 64 (search rules)) (omega (arith, c.loop-i-test.true))) ∙ c.if-has.true in
+    let flag = c.has-is_new.ensures (bit c.args.new) 0 64 (shows_own c.args.new 64 (search rules)) (omega (arith, c.loop-i-test.true)) ∙ ap (bit c.args.new) (zero-add i) in
     let t = rw c.in_default.is at c.in_ok-take_quads.ensures in
     sixteen_missing next i c.loop-i-test.true so_far (sixteen_call next i c.loop-i-test.true so_far due flag t.quads)
 
@@ -48,8 +48,8 @@ loop-i-preserved g c = elim c.if-has.branch [
         so_far = λ f stage earlier done after next.
             let i = c.loop-i.i in
             let so_far = c.loop-i.invariant.so_far f stage earlier done after next in
-            let due = ap (bit c.args.sixteens) (sym (zero-add i)) ∙ sym (c.has.ensures (bit c.args.sixteens) 0 64 (mask_shows c.args.sixteens (search rules)) (omega (arith, c.loop-i-test.true))) ∙ w.if-has.true in
-            let flag = w.has-is_new.ensures (bit c.args.new) 0 64 (mask_shows c.args.new (search rules)) (omega (arith, c.loop-i-test.true)) ∙ ap (bit c.args.new) (zero-add i) in
+            let due = ap (bit c.args.sixteens) (sym (zero-add i)) ∙ sym (c.has.ensures (bit c.args.sixteens) 0 64 (shows_own c.args.sixteens 64 (search rules)) (omega (arith, c.loop-i-test.true))) ∙ w.if-has.true in
+            let flag = w.has-is_new.ensures (bit c.args.new) 0 64 (shows_own c.args.new 64 (search rules)) (omega (arith, c.loop-i-test.true)) ∙ ap (bit c.args.new) (zero-add i) in
             sixteen_read next i c.loop-i-test.true so_far (sixteen_call next i c.loop-i-test.true so_far due flag t.quads);
       })
   | else-has w ↦
@@ -59,7 +59,7 @@ loop-i-preserved g c = elim c.if-has.branch [
         so_far = λ f stage earlier done after next.
             let i = c.loop-i.i in
             let so_far = c.loop-i.invariant.so_far f stage earlier done after next in
-            let none = ap (bit c.args.sixteens) (sym (zero-add i)) ∙ sym (c.has.ensures (bit c.args.sixteens) 0 64 (mask_shows c.args.sixteens (search rules)) (omega (arith, c.loop-i-test.true))) ∙ w.if-has.false in
+            let none = ap (bit c.args.sixteens) (sym (zero-add i)) ∙ sym (c.has.ensures (bit c.args.sixteens) 0 64 (shows_own c.args.sixteens 64 (search rules)) (omega (arith, c.loop-i-test.true))) ∙ w.if-has.false in
             sixteen_skipped next i c.loop-i-test.true so_far none;
       })
 ]

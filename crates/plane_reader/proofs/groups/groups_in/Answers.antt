@@ -7,7 +7,7 @@ use Rattle.plane_reader.specs.Shadows.{told}
 use Rattle.plane_reader.proofs.DueReading.{few_ones}
 use Rattle.plane_reader.proofs.FoundMasks.{room_four}
 use Rattle.plane_reader.proofs.SignsPassed.{bit_inside}
-use Rattle.plane_reader.proofs.TypePieces.{mask_shows}
+use Rattle.block_masks.proofs.SettingLanes.{shows_own}
 use Rattle.plane_reader.proofs.Shadows.{between, takes_first, takes_rest, window_parts}
 use Rattle.plane_reader.proofs.TypesAtHand.{types_at_hand}
 use Rattle.plane_reader.proofs.GroupsAtHand.{none_read, moved_on}
@@ -83,7 +83,7 @@ loop-read-preserved c =
           let flag = c.has.ensures wanted 0 c.args.groups.count next.wanted_shown inside ∙ ap wanted z in
           groups_more next (i.read f stage earlier done now wanted after g m a b mid next passed is_in before) j here.within here.here here.none_before c.has.result flag
           (λ f' stage' earlier' done' after' types_next.
-          let shown = from_zero (c.args.groups.first + 4 * j) (c.part-here.ensures.told _ 0 64 (mask_shows c.args.due (search rules)) types_next.within) in
+          let shown = from_zero (c.args.groups.first + 4 * j) (c.part-here.ensures.told _ 0 64 (shows_own c.args.due 64 (search rules)) types_next.within) in
           types_at_hand c.requires.known types_next c.part-here.result small shown c.loop-read.rest t (in_later is_in before) last c.add_bits.ensures.minus c.add_bits.ensures.bits c.add_minus.ensures.bits c.add_minus.ensures.minus)
           refl c.without.result c.without.ensures.gone c.without.ensures.others;
     }

@@ -14,10 +14,10 @@ spread-new-requires-clause-word c =
 
 pub overflow_cast-signs-3 : goal.overflow_cast-signs-3
 overflow_cast-signs-3 c =
-    let few : c.count_of-count.result ≤ 4 = rw c.count_of-count.ensures (few_ones c.spread-new.result c.spread-new.ensures.within) in
+    let few : c.count_of-count.result ≤ 4 = rw c.count_of-count.ensures (few_ones c.spread-new.result c.spread-new.ensures.small) in
     omega (arith, word_small (c.args.window * 2 ^ c.in_ok-word.word.len % 2 ^ 64) _ c.count_of-count.result (omega arith) refl few)
 
 pub spread-requires-clause-word : goal.spread-requires-clause-word
 spread-requires-clause-word c =
-    let few : c.count_of-count.result ≤ 4 = rw c.count_of-count.ensures (few_ones c.spread-new.result c.spread-new.ensures.within) in
+    let few : c.count_of-count.result ≤ 4 = rw c.count_of-count.ensures (few_ones c.spread-new.result c.spread-new.ensures.small) in
     word_small (c.args.window * 2 ^ c.in_ok-word.word.len % 2 ^ 64) _ c.count_of-count.result (omega arith) refl few

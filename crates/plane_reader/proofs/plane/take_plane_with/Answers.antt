@@ -1,52 +1,16 @@
-use Rattle.std.proofs.Common.{◌+◌, ◌∙◌, refl, arith}
-use Rattle.std.proofs.lemmas.Result.{err_from_is_err_and}
-use Rattle.bit_pipe.specs.Coming.{coming}
-use Rattle.plane_reader.specs.Progress.{start_of}
-use Rattle.plane_reader.proofs.PlaneEnds.{plane_begins, is_coded, plane_ends}
+use Rattle.std.proofs.Common.{subst, sym}
+use Rattle.plane_reader.specs.Above.{AreSignificant}
+use Rattle.plane_reader.proofs.AboveNext.{small_before, significant_now}
+use Rattle.plane_reader.proofs.ShownBlocks.{nothing_each}
 use Rattle.plane_reader.proofs.plane.take_plane_with.Goals as goal
 
-pub loop-number-init : goal.loop-number-init
-loop-number-init g c = record {
-  so_far = plane_begins g.I.OctetIn.source c.args.tables.now.book c.args.plan.now c.args.marks.now c.clear.new.marks c.args.blocks.now (coming c.args.input.now) c.requires.awaits c.clear.ensures c.requires.«open»;
-  depths = c.clear.ensures.depths;
-  size = refl;
-}
+pub take_stages-read-requires-clause-nothing : goal.take_stages-read-requires-clause-nothing
+take_stages-read-requires-clause-nothing g c = nothing_each 64
 
-pub take_stage-requires-clause-goes : goal.take_stage-requires-clause-goes
-take_stage-requires-clause-goes g c = record {
-  start = start_of c.args.plan.now c.args.marks.now c.args.blocks.now;
-  from = coming c.args.input.now;
-  is_start = is_coded c.args.plan.now c.new-coded.result c.args.marks.now c.args.blocks.now c.masks_above-above.result c.new-coded.ensures.plane c.new-coded.ensures.q c.new-coded.ensures.weights c.requires.awaits c.masks_above-above.ensures;
-  so_far = c.loop-number.invariant.so_far;
-}
+pub settle-requires-clause-small : goal.settle-requires-clause-small
+settle-requires-clause-small g c = small_before c.args.marks.now c.args.blocks.now c.take_stages-read.new.blocks c.requires.awaits c.requires.whole c.take_stages-read.ensures.acs c.take_stages-read.ensures.size
 
-pub loop-number-preserved : goal.loop-number-preserved
-loop-number-preserved g c =
-    let s = start_of c.args.plan.now c.args.marks.now c.args.blocks.now in
-    let start = is_coded c.args.plan.now c.new-coded.result c.args.marks.now c.args.blocks.now c.masks_above-above.result c.new-coded.ensures.plane c.new-coded.ensures.q c.new-coded.ensures.weights c.requires.awaits c.masks_above-above.ensures in
-    let a = rw c.in-Whole.is at c.in_ok-take_stage.ensures.advances in
-    record {
-      so_far = a.leaves s (coming c.args.input.now) start c.loop-number.invariant.so_far;
-      depths = c.in_ok-take_stage.ensures.depths ∙ c.loop-number.invariant.depths;
-      size = c.in_ok-take_stage.ensures.size ∙ c.loop-number.invariant.size;
-    }
-
-pub returns-in_err-take_stage-clause-takes : goal.returns-in_err-take_stage-clause-takes
-returns-in_err-take_stage-clause-takes g c =
-    let s = start_of c.args.plan.now c.args.marks.now c.args.blocks.now in
-    let start = is_coded c.args.plan.now c.new-coded.result c.args.marks.now c.args.blocks.now c.masks_above-above.result c.new-coded.ensures.plane c.new-coded.ensures.q c.new-coded.ensures.weights c.requires.awaits c.masks_above-above.ensures in
-    let stop = c.in_err-take_stage.ensures.advances.leaves s (coming c.args.input.now) start c.loop-number.invariant.so_far in
-    let p = err_from_is_err_and c.from_residual.result c.from_residual.ensures.1 in
-    rw (p.1, p.2) (stop.takes (c.args.plan.now.last + 1) (omega (arith, c.loop-number-test.true)))
-
-pub returns-in_default-clause-takes : goal.returns-in_default-clause-takes
-returns-in_default-clause-takes g c =
-    let s = start_of c.args.plan.now c.args.marks.now c.args.blocks.now in
-    let start = is_coded c.args.plan.now c.new-coded.result c.args.marks.now c.args.blocks.now c.masks_above-above.result c.new-coded.ensures.plane c.new-coded.ensures.q c.new-coded.ensures.weights c.requires.awaits c.masks_above-above.ensures in
-    let a = rw c.in_default.is at c.in_ok-take_stage.ensures.advances in
-    let stop = a.leaves s (coming c.args.input.now) start c.loop-number.invariant.so_far in
-    stop.takes (c.args.plan.now.last + 1) (omega (arith, c.loop-number-test.true))
-
-pub returns-clause-takes : goal.returns-clause-takes
-returns-clause-takes g c =
-    plane_ends c.loop-number.number (c.args.plan.now.last + 1) (omega (arith, c.loop-number-test.false, c.loop-number.auto.number-end)) c.loop-number.invariant.so_far
+pub returns-clause-above : goal.returns-clause-above
+returns-clause-above g c =
+    subst (λ b. AreSignificant c.args.plan.now.plane b c.settle.new.above) (sym c.settle.ensures.blocks)
+    (significant_now c.args.marks.now c.args.blocks.now c.take_stages-read.new.blocks c.requires.awaits c.requires.whole c.take_stages-read.ensures.acs c.take_stages-read.ensures.size c.take_stages-read.new.waiting c.args.above.now c.settle.new.above c.requires.above c.settle.ensures.above)

@@ -1,7 +1,7 @@
 use Rattle.std.proofs.Common.{◌≡◌, ◌+◌, ◌&&◌, ap, ◌∙◌, arith}
 use Rattle.item_defs.specs.Bits.{bit}
 use Rattle.block_masks.specs.Masks.{Shows}
-use Rattle.plane_reader.specs.Places.{inside}
+use Rattle.block_masks.specs.Places.{inside}
 use Rattle.plane_reader.proofs.Dealing.{dealt_none, dealt_more, moved_none, moved_bit, moved_more}
 use Rattle.plane_reader.proofs.refine.deal.Goals as goal
 

@@ -30,7 +30,7 @@ spread-requires-clause-word g c =
     word_small c.in-Some.window _ c.count_of-due.result (omega arith) refl due
 
 pub add_minus-requires-clause-room : goal.add_minus-requires-clause-room
-add_minus-requires-clause-room g c = room_four c.spread.result c.args.start c.requires.start c.spread.ensures.within
+add_minus-requires-clause-room g c = room_four c.spread.result c.args.start c.requires.start c.spread.ensures.small
 
 pub returns-clause-signs : goal.returns-clause-signs
 returns-clause-signs g c = λ book gaggle f stage earlier done new after known next.

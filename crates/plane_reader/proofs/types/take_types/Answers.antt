@@ -1,7 +1,7 @@
 use Rattle.std.proofs.Common.{rules}
 use Rattle.block_masks.proofs.Viewing.{from_zero, nibble_small}
 use Rattle.plane_reader.proofs.FoundMasks.{room_four}
-use Rattle.plane_reader.proofs.TypePieces.{mask_shows}
+use Rattle.block_masks.proofs.SettingLanes.{shows_own}
 use Rattle.plane_reader.proofs.TypesAtHand.{types_at_hand}
 use Rattle.plane_reader.proofs.types.take_types.Goals as goal
 
@@ -17,11 +17,11 @@ add_minus-requires-clause-room g c = room_four c.in-Some-types_in.types.minus c.
 pub returns-in-Some-types_in-clause-types : goal.returns-in-Some-types_in-clause-types
 returns-in-Some-types_in-clause-types g c = λ f stage earlier done after next.
     let small = nibble_small c.part-here.result c.args.group.count c.requires.few c.part-here.ensures.within in
-    let shown = from_zero c.args.group.start (c.part-here.ensures.told _ 0 64 (mask_shows c.args.due (search rules)) next.within) in
+    let shown = from_zero c.args.group.start (c.part-here.ensures.told _ 0 64 (shows_own c.args.due 64 (search rules)) next.within) in
     types_at_hand c.requires.known next c.part-here.result small shown c.in-Some.window c.in-Some-types_in.ensures c.requires.open c.take_window.ensures
     c.add_bits.ensures.minus c.add_bits.ensures.bits c.add_minus.ensures.bits c.add_minus.ensures.minus
 
 pub returns-clause-types : goal.returns-clause-types
 returns-clause-types g c = λ f stage earlier done after next.
-    let shown = from_zero c.args.group.start (c.part-here.ensures.told _ 0 64 (mask_shows c.args.due (search rules)) next.within) in
+    let shown = from_zero c.args.group.start (c.part-here.ensures.told _ 0 64 (shows_own c.args.due 64 (search rules)) next.within) in
     c.take_types_in_turn.ensures.types f stage earlier done c.args.due after next shown

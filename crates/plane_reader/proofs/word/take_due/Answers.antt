@@ -26,4 +26,4 @@ pub returns : goal.returns
 returns g c =
     let w = rw c.in-Some.is at c.in_ok-word.ensures in
     let v = rw c.count_of.ensures at w in
-    due_given c.args.tables.now.book c.args.due c.requires.due (few_ones c.args.due c.requires.due) c.in-Some.word c.spread.result c.spread.ensures.within v c.spread.ensures.told c.spread.ensures.back
+    due_given c.args.tables.now.book c.args.due c.requires.due (few_ones c.args.due c.requires.due) c.in-Some.word c.spread.result c.spread.ensures.small v c.spread.ensures.told c.spread.ensures.back

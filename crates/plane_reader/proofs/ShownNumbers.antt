@@ -1,0 +1,180 @@
+-- What a number and a block show, with what waits for them.
+use Rattle.std.proofs.Common.{◌≡◌, inl, inr, ℕ, ◌+◌, ◌<◌, ◌≤◌, ◌^◌, Bool, true, false, ◌&&◌, ◌||◌, List, length, get_or, refl, ap, sym, ◌∙◌, subst, arith, ℤ, pos, ◌+ℤ◌}
+use Rattle.std.specs.Prelude.{◌==◌, nat_le, nat_lt, unsigned_abs, if◌then◌else◌}
+use Rattle.std.proofs.lemmas.Bool.{cases_lt}
+use Rattle.std.proofs.lemmas.Bool.Decides.{nat_tests}
+use Rattle.std.proofs.lemmas.List.{ext_get_or, get_or_past}
+use Rattle.std.proofs.lemmas.List.FromFn.{get_or-map-range_with_len, length-map-range_with_len}
+use Rattle.std.proofs.lemmas.Nat.Bits.{bit_at_above}
+use Rattle.item_defs.specs.Bits.{bit}
+use Rattle.plane_defs.specs.Sets.{significant}
+use Rattle.plane_defs.specs.StepLaws.{IsAc}
+use Rattle.block_masks.specs.Masks.{Shows}
+use Rattle.block_masks.specs.BitsSet.{with_bit}
+use Rattle.block_masks.proofs.Viewing.{reached_is}
+use Rattle.plane_reader.specs.declared.found.Found.{Found}
+use Rattle.plane_reader.specs.Taken.{IsCleared}
+use Rattle.plane_reader.specs.Applied.{Applies, AddsDc}
+use Rattle.plane_reader.specs.Shown.{nothing, shown_number, shown_block, Joins}
+use Rattle.plane_reader.proofs.BitsTwice.{has_bit, bit_twice}
+
+-- what a mask shows stands at its own positions
+pub shown_there : {mask count : ℕ} {f : ℕ → Bool} → Shows mask f 0 count → (p : ℕ) → p < count → bit mask p ≡ f p
+shown_there {f = f} shows p lt = let z : 0 + p ≡ p = omega arith in shows.at p lt ∙ ap f z
+
+-- ---- a number
+
+module _ (plane : ℕ) (found : Found) (p : ℕ) (z : ℤ) where
+  pub number_told : 1 ≤ p → bit found.bits p ≡ true → shown_number plane found p z ≡ with_bit plane z (bit found.minus p)
+  number_told first has = ap (λ t. if t && bit found.bits p then with_bit plane z (bit found.minus p) else z) (is_ac p first) ∙ ap (λ t. if t then with_bit plane z (bit found.minus p) else z) has
+    where
+      is_ac : (p : ℕ) → 1 ≤ p → nat_lt 0 p ≡ true
+      is_ac p first = grind (arith, nat_tests)
+
+  pub number_stays : bit found.bits p ≡ false → shown_number plane found p z ≡ z
+  number_stays none = by_test (nat_lt 0 p) (bit found.bits p) none
+    where
+      by_test : (a b : Bool) → b ≡ false → (if a && b then with_bit plane z (bit found.minus p) else z) ≡ z
+      by_test true false e = refl
+      by_test false false e = refl
+      by_test a true e = cc
+
+pub none_waits : (p : ℕ) → bit 0 p ≡ false
+none_waits p = ap (λ x. x == 1) (bit_at_above 0 0 p (omega arith) (omega arith))
+
+-- ---- a block
+
+module _ (plane : ℕ) (found : Found) (block : List ℤ) where
+  pub block_long : length (shown_block plane found block) ≡ 64
+  unfolding shown_block
+  block_long = length-map-range_with_len (λ p. shown_number plane found p (get_or block p (pos 0))) 0 64
+
+  pub block_number : (p : ℕ) → p < 64 → get_or (shown_block plane found block) p (pos 0) ≡ shown_number plane found p (get_or block p (pos 0))
+  unfolding shown_block
+  block_number p lt = get_or-map-range_with_len (λ p. shown_number plane found p (get_or block p (pos 0))) 0 64 p p (pos 0) lt (omega arith)
+
+  pub block_dc : get_or (shown_block plane found block) 0 (pos 0) ≡ get_or block 0 (pos 0)
+  block_dc = block_number 0 (omega arith)
+
+  block_past : (p : ℕ) → 64 ≤ p → get_or (shown_block plane found block) p (pos 0) ≡ pos 0
+  block_past p past = get_or_past (shown_block plane found block) p (pos 0) (omega (arith, past, block_long))
+
+  -- an AC number is significant in the plane where it was, or where its bit waits
+  pub block_reaches : (p : ℕ) → IsAc p → significant (shown_block plane found block) plane p ≡ (significant block plane p || bit found.bits p)
+  unfolding significant
+  block_reaches p ac = by_bit (bit found.bits p) refl
+    where
+      or_true : (b : Bool) → (b || true) ≡ true
+      or_true true = refl
+      or_true false = refl
+
+      or_false : (b : Bool) → (b || false) ≡ b
+      or_false true = refl
+      or_false false = refl
+
+      number : get_or (shown_block plane found block) p (pos 0) ≡ shown_number plane found p (get_or block p (pos 0))
+      number = block_number p ac.1
+
+      by_bit : (b : Bool) → bit found.bits p ≡ b → significant (shown_block plane found block) plane p ≡ (significant block plane p || b)
+      by_bit true e =
+          let told = number ∙ number_told plane found p (get_or block p (pos 0)) ac.0 e in
+          sym (reached_is (shown_block plane found block) plane p) ∙
+          ap (λ t. significant (shown_block plane found block) (plane + 1) p || t) (ap (λ z. bit (unsigned_abs z) plane) told ∙ has_bit plane (get_or block p (pos 0)) (bit found.minus p)) ∙
+          or_true _ ∙ sym (or_true (significant block plane p))
+      by_bit false e =
+          ap (λ z. nat_le (2 ^ plane) (unsigned_abs z)) (number ∙ number_stays plane found p (get_or block p (pos 0)) e) ∙ sym (or_false (significant block plane p))
+
+-- nothing waits
+pub block_shows_own : (plane : ℕ) (block : List ℤ) → length block ≡ 64 → shown_block plane nothing block ≡ block
+block_shows_own plane block whole =
+    ext_get_or (pos 0) (shown_block plane nothing block) block (block_long plane nothing block ∙ sym whole) (λ p lt.
+    block_number plane nothing block p (omega (arith, lt, block_long plane nothing block)) ∙ number_stays plane nothing p (get_or block p (pos 0)) (none_waits p))
+
+-- a block that nothing waits for shows what it gets
+pub applies_shown : (plane bits minus : ℕ) (before now : List ℤ) → length before ≡ 64 → Applies plane bits minus before now → Applies plane bits minus (shown_block plane nothing before) (shown_block plane nothing now)
+applies_shown plane bits minus before now whole applies =
+    subst (λ x. Applies plane bits minus x (shown_block plane nothing now)) (sym (block_shows_own plane before whole)) (subst (λ x. Applies plane bits minus before x) (sym (block_shows_own plane now applies.whole)) applies)
+
+-- ---- more is found
+
+-- what was found further goes to what is shown
+pub applies_more : (plane : ℕ) (found more now : Found) (block : List ℤ) → Joins found more now → Applies plane more.bits more.minus (shown_block plane found block) (shown_block plane now block)
+applies_more plane found more now block joins = record {
+  whole = block_long plane now block;
+  named = λ p ac has small. after p ac ∙ with_more p ac has (bit found.bits p) refl ∙ ap (λ z. with_bit plane z (bit more.minus p)) (sym (before p ac));
+  others = λ p none. elim (cases_lt p 64) [
+    | inl lt ↦ block_number plane now block p lt ∙ as_before p lt none ∙ sym (block_number plane found block p lt)
+    | inr past ↦ get_or_past (shown_block plane now block) p (pos 0) (omega (arith, past, block_long plane now block)) ∙ sym (get_or_past (shown_block plane found block) p (pos 0) (omega (arith, past, block_long plane found block)))
+  ];
+  dc = block_dc plane now block ∙ sym (block_dc plane found block);
+}
+  where
+    number : ℕ → ℤ
+    number p = get_or block p (pos 0)
+
+    before : (p : ℕ) → IsAc p → get_or (shown_block plane found block) p (pos 0) ≡ shown_number plane found p (number p)
+    before p ac = block_number plane found block p ac.1
+
+    after : (p : ℕ) → IsAc p → get_or (shown_block plane now block) p (pos 0) ≡ shown_number plane now p (number p)
+    after p ac = block_number plane now block p ac.1
+
+    or_true : (b : Bool) → (b || true) ≡ true
+    or_true true = refl
+    or_true false = refl
+
+    and_true : (b : Bool) → (b && true) ≡ b
+    and_true true = refl
+    and_true false = refl
+
+    and_false : (b : Bool) → (b && false) ≡ false
+    and_false true = refl
+    and_false false = refl
+
+    or_false : (b : Bool) → (b || false) ≡ b
+    or_false true = refl
+    or_false false = refl
+
+    with_more : (p : ℕ) → IsAc p → bit more.bits p ≡ true → (b : Bool) → bit found.bits p ≡ b → shown_number plane now p (number p) ≡ with_bit plane (shown_number plane found p (number p)) (bit more.minus p)
+    with_more p ac has b e =
+        number_told plane now p (number p) ac.0 (joins.bits p ac.1 ∙ ap (λ t. bit found.bits p || t) has ∙ or_true (bit found.bits p)) ∙
+        ap (with_bit plane (number p)) (joins.minus p ac.1 ∙ ap (λ t. (bit found.minus p && bit found.bits p) || (bit more.minus p && t)) has ∙ ap (λ t. (bit found.minus p && bit found.bits p) || t) (and_true (bit more.minus p))) ∙
+        by_before b e
+      where
+        by_before : (b : Bool) → bit found.bits p ≡ b → with_bit plane (number p) ((bit found.minus p && bit found.bits p) || bit more.minus p) ≡ with_bit plane (shown_number plane found p (number p)) (bit more.minus p)
+        by_before true e =
+            ap (λ t. with_bit plane (number p) ((bit found.minus p && t) || bit more.minus p)) e ∙
+            ap (λ t. with_bit plane (number p) (t || bit more.minus p)) (and_true (bit found.minus p)) ∙
+            sym (bit_twice plane (number p) (bit found.minus p) (bit more.minus p)) ∙
+            ap (λ z. with_bit plane z (bit more.minus p)) (sym (number_told plane found p (number p) ac.0 e))
+        by_before false e =
+            ap (λ t. with_bit plane (number p) ((bit found.minus p && t) || bit more.minus p)) e ∙
+            ap (λ t. with_bit plane (number p) (t || bit more.minus p)) (and_false (bit found.minus p)) ∙
+            ap (λ z. with_bit plane z (bit more.minus p)) (sym (number_stays plane found p (number p) e))
+
+    as_before : (p : ℕ) → p < 64 → bit more.bits p ≡ false → shown_number plane now p (number p) ≡ shown_number plane found p (number p)
+    as_before p lt none =
+        ap (λ t. if nat_lt 0 p && t then with_bit plane (number p) (bit now.minus p) else number p) (joins.bits p lt ∙ ap (λ t. bit found.bits p || t) none ∙ or_false (bit found.bits p)) ∙
+        by_before (bit found.bits p) refl
+      where
+        by_before : (b : Bool) → bit found.bits p ≡ b → (if nat_lt 0 p && b then with_bit plane (number p) (bit now.minus p) else number p) ≡ (if nat_lt 0 p && b then with_bit plane (number p) (bit found.minus p) else number p)
+        by_before true e =
+            ap (λ m. if nat_lt 0 p && true then with_bit plane (number p) m else number p)
+            (joins.minus p lt ∙ ap (λ t. (bit found.minus p && bit found.bits p) || (bit more.minus p && t)) none ∙ ap (λ t. (bit found.minus p && bit found.bits p) || t) (and_false (bit more.minus p)) ∙ or_false _ ∙
+            ap (λ t. bit found.minus p && t) e ∙ and_true (bit found.minus p))
+        by_before false e = same (nat_lt 0 p) (with_bit plane (number p) (bit now.minus p)) (with_bit plane (number p) (bit found.minus p)) (number p)
+          where
+            same : (a : Bool) (x y z : ℤ) → (if a && false then x else z) ≡ (if a && false then y else z)
+            same true x y z = refl
+            same false x y z = refl
+
+-- the DC gets its bit, and what waits goes on to
+pub adds_shown : (plane : ℕ) (found : Found) (more : Bool) (before now : List ℤ) → AddsDc plane more before now → AddsDc plane more (shown_block plane found before) (shown_block plane found now)
+adds_shown plane found more before now adds = record {
+  whole = block_long plane found now;
+  acs = λ p first. elim (cases_lt p 64) [
+    | inl lt ↦ block_number plane found now p lt ∙ ap (shown_number plane found p) (adds.acs p first) ∙ sym (block_number plane found before p lt)
+    | inr past ↦ get_or_past (shown_block plane found now) p (pos 0) (omega (arith, past, block_long plane found now)) ∙ sym (get_or_past (shown_block plane found before) p (pos 0) (omega (arith, past, block_long plane found before)))
+  ];
+  added = λ has cleared. block_dc plane found now ∙ adds.added has (subst (IsCleared plane) (block_dc plane found before) cleared) ∙ ap (λ z. z +ℤ pos (2 ^ plane)) (sym (block_dc plane found before));
+  kept = λ none. block_dc plane found now ∙ adds.kept none ∙ sym (block_dc plane found before);
+}
