@@ -31,3 +31,4 @@ mod FromText
 mod ReadNames
 pub mod CodedHeld
 pub mod CodedOptions
+mod NoneAbove

@@ -1,8 +1,10 @@
 // The bit planes of a segment, read.
-ghost use Rattle.std.specs.Prelude.{◌≡◌, ◌<◌, ◌≤◌, ◌+◌, ◌-◌, ◌*◌, false, length};
+ghost use Rattle.std.specs.Prelude.{◌≡◌, ◌<◌, ◌≤◌, ◌+◌, ◌-◌, ◌*◌, false, length, Ok};
+ghost use Rattle.bit_pipe.specs.declared.fault.Part.TheVariants.{Whole};
 ghost use Rattle.bit_pipe.specs.Coming.{coming, IsIn};
 ghost use Rattle.plane_defs.specs.Marks.{depths_of};
 ghost use Rattle.plane_defs.specs.Profile.{profile};
+ghost use Rattle.plane_reader.specs.Above.{AreSignificant};
 ghost use Rattle.plane_reader.specs.Taken.{AwaitPlane, TakesPlane};
 ghost use Rattle.segment_defs.specs.Head.{IsHead};
 ghost use Rattle.segment_defs.specs.SegmentItems.{q_of};
@@ -10,7 +12,7 @@ ghost use Rattle.segment_code.specs.TakenPlanes.{HaveDcs, TakesWholePlanes, Take
 
 use crate::planes::plane_plan;
 use bit_pipe::{BitIn, OctetIn, Part, TextFault};
-use plane_reader::take_plane_with;
+use plane_reader::{KEPT, take_plane_with};
 use segment_head::SegmentHead;
 use word_codes::{WordTables, profile_book};
 
@@ -26,6 +28,7 @@ fn take_stages<I: OctetIn>(
     tables: &WordTables,
     plane: u8,
     last: u8,
+    above: &mut [u64; KEPT],
 ) -> Result<Part, TextFault>
     requires open { IsIn (coming input.old) }
     requires whole { length blocks.old ≡ 64 * length marks.old }
@@ -33,12 +36,14 @@ fn take_stages<I: OctetIn>(
     requires last { last ≤ 4 }
     requires book { tables.now.book ≡ profile }
     requires awaits { AwaitPlane head.now.image.weights.shifts plane (q_of head.now) (depths_of marks.old) blocks.old }
+    requires above { AreSignificant (plane + 1) blocks.old above.old }
     ensures takes { TakesPlane I.source profile plane (q_of head.now) head.now.image.weights.shifts (last + 1) (depths_of marks.old)
         result (coming input.old) (coming input.new) blocks.old blocks.new }
     ensures depths { depths_of marks.new ≡ depths_of marks.old }
+    ensures above { AreSignificant plane blocks.new above.new }
 {
     let plan = plane_plan(head, plane, last);
-    take_plane_with(input, blocks, marks, &plan, tables)
+    take_plane_with(input, blocks, marks, &plan, tables, above)
 }
 
 // Takes the planes above the stop's, from the top down.
@@ -48,6 +53,7 @@ fn take_whole_planes<I: OctetIn>(
     blocks: &mut [i32],
     marks: &mut [i32],
     tables: &WordTables,
+    above: &mut [u64; KEPT],
 ) -> Result<Part, TextFault>
     requires fits { IsHead head.now }
     requires open { IsIn (coming input.old) }
@@ -56,12 +62,15 @@ fn take_whole_planes<I: OctetIn>(
     requires sent { head.now.stop.plane < head.now.depth_ac }
     requires goes_on { head.now.stop.dc ≡ false }
     requires dcs { HaveDcs head.now (depths_of marks.old) blocks.old }
+    requires above { AreSignificant head.now.depth_ac blocks.old above.old }
     ensures takes { TakesWholePlanes I.source head.now (depths_of marks.old) result (coming input.old) (coming input.new) blocks.old blocks.new }
     ensures depths { depths_of marks.new ≡ depths_of marks.old }
+    ensures above { result ≡ Ok Whole → AreSignificant (head.now.stop.plane + 1) blocks.new above.new }
 {
     for n in 0..head.depth_ac - 1 - head.stop.plane {
         let plane = head.depth_ac - 1 - n;
-        let Part::Whole = take_stages(input, head, blocks, marks, tables, plane, LAST)? else {
+        let Part::Whole = take_stages(input, head, blocks, marks, tables, plane, LAST, above)?
+        else {
             return Ok(Part::Ended);
         };
     }
@@ -87,7 +96,8 @@ pub(crate) fn take_planes<I: OctetIn>(
         return Ok(Part::Whole);
     }
     let tables = WordTables::new(&profile_book());
-    let Part::Whole = take_whole_planes(input, head, blocks, marks, &tables)? else {
+    let mut above = [0; KEPT];
+    let Part::Whole = take_whole_planes(input, head, blocks, marks, &tables, &mut above)? else {
         return Ok(Part::Ended);
     };
     take_stages(
@@ -98,5 +108,6 @@ pub(crate) fn take_planes<I: OctetIn>(
         &tables,
         head.stop.plane,
         head.stop.stage + 1,
+        &mut above,
     )
 }

@@ -1,8 +1,9 @@
 // All planes of segments, taken.
-ghost use Rattle.std.specs.Prelude.{◌≡◌, ◌≤◌, ◌*◌, ◌%◌, replicate, length};
+ghost use Rattle.std.specs.Prelude.{◌≡◌, ◌≤◌, ◌+◌, ◌*◌, ◌%◌, replicate, length};
 ghost use Rattle.std.specs.Bool.{OnTrue};
 ghost use Rattle.bit_pipe.specs.Coming.{coming, IsIn};
 ghost use Rattle.plane_defs.specs.Marks.{depths_of};
+ghost use Rattle.plane_reader.specs.Above.{AreSignificant};
 ghost use Rattle.plane_reader.specs.Taken.{AwaitPlane};
 ghost use Rattle.benches.specs.Settled.{AreShallow, IsAbove};
 
@@ -13,7 +14,7 @@ use base_122::Weights;
 use bit_pipe::{BitIn, OctetIn, Part, SliceIn};
 use block_masks::depth_of;
 use plane_coder::PlanePlan;
-use plane_reader::take_plane_with;
+use plane_reader::{KEPT, all_significant, take_plane_with};
 use std::io;
 use std::time::Duration;
 use word_codes::{WordTables, profile_book};
@@ -75,11 +76,13 @@ fn take_plane<I: OctetIn>(
     marks: &mut [i32],
     plane: u8,
     tables: &WordTables,
+    above: &mut [u64; KEPT],
 ) -> bool
     requires open { IsIn (coming input.old) }
     requires count { length blocks.old ≡ 64 * length marks.old }
     requires plane { plane ≤ 8 }
     requires awaits { AwaitPlane (replicate 10 0) plane 0 (depths_of marks.old) blocks.old }
+    requires above { AreSignificant (plane + 1) blocks.old above.old }
     ensures { OnTrue result (IsIn (coming input.new)) }
 {
     let plan = PlanePlan {
@@ -89,7 +92,7 @@ fn take_plane<I: OctetIn>(
         last: 4,
     };
     matches!(
-        take_plane_with(input, blocks, marks, &plan, tables),
+        take_plane_with(input, blocks, marks, &plan, tables, above),
         Ok(Part::Whole)
     )
 }
@@ -107,12 +110,13 @@ fn take_planes(
     let mut source = SliceIn::new(octets);
     let mut input = BitIn::new(&mut source, 0, 0);
     let mut time = Duration::ZERO;
-    for above in 0..PLANES {
-        let plane = PLANES - 1 - above;
+    for taken in 0..PLANES {
+        let plane = PLANES - 1 - taken;
         bound_depths(marks);
         clear_below(blocks, marks, plane);
+        let mut significant = all_significant(blocks, plane + 1);
         let watch = Watch::start(rt)?;
-        let is_whole = take_plane(&mut input, blocks, marks, plane, tables);
+        let is_whole = take_plane(&mut input, blocks, marks, plane, tables, &mut significant);
         time = time.saturating_add(watch.time(rt)?);
         if !is_whole {
             return Ok(None);

@@ -6,6 +6,7 @@ use Rattle.plane_defs.specs.Marks.{depths_of}
 use Rattle.segment_defs.specs.declared.head.SegmentHead.{SegmentHead}
 use Rattle.segment_defs.specs.SegmentItems.{stages_sent}
 use Rattle.segment_code.proofs.PlaneStates.{none_sent, takes_stop, in_above}
+use Rattle.segment_code.proofs.NoneAbove.{none_significant}
 use Rattle.segment_code.proofs.planes_in.take_planes.Goals as goal
 
 at_stop : (head : SegmentHead) → stages_sent head head.stop.plane ≡ head.stop.stage + 1 + 1
@@ -36,3 +37,9 @@ returns-clause-takes g c =
     let t = rw c.in-Whole.is at c.in_ok-take_whole_planes.ensures.takes in
     let p = rw c.in_ok-take_whole_planes.ensures.depths at c.take_stages.ensures.takes in
     takes_stop head c.requires.goes_on (depths_of c.args.marks.now) head.stop.plane (head.stop.stage + 1 + 1) (omega arith) (omega arith) (at_stop head) t.ends p refl c.requires.dcs.deep
+
+pub take_whole_planes-requires-clause-above : goal.take_whole_planes-requires-clause-above
+take_whole_planes-requires-clause-above g c = none_significant c.args.head.now c.args.marks.now c.args.blocks.now c.requires.count c.requires.dcs
+
+pub take_stages-requires-clause-above : goal.take_stages-requires-clause-above
+take_stages-requires-clause-above g c = let a = rw c.in-Whole.is at c.in_ok-take_whole_planes.ensures.above in a refl

@@ -4,6 +4,7 @@ use Rattle.bit_pipe.specs.Coming.{coming}
 use Rattle.dc_depths.proofs.TakenPlanes.{whole_ending, ended_cut, err_cut, in_whole}
 use Rattle.plane_defs.specs.Marks.{depths_of}
 use Rattle.text_defs.proofs.SegmentAlike.{sent_all}
+use Rattle.plane_reader.specs.Above.{AreSignificant}
 use Rattle.segment_code.specs.TakenPlanes.{PlanesAbove}
 use Rattle.segment_code.proofs.PlaneStates.{above_start, takes_cut, next_above}
 use Rattle.segment_code.proofs.planes_in.take_whole_planes.Goals as goal
@@ -14,6 +15,7 @@ loop-n-init g c = record {
       (let z : c.args.head.now.depth_ac - 1 ≡ c.args.head.now.depth_ac - 1 - 0 = omega arith in z)
       (above_start g.I.OctetIn.source c.args.head.now (depths_of c.args.marks.now) (coming c.args.input.now) c.args.blocks.now c.requires.open c.requires.dcs c.requires.fits.depth_ac (omega (arith, c.requires.sent)));
   depths = refl;
+  marked = let z : c.args.head.now.depth_ac ≡ c.args.head.now.depth_ac - 0 = omega arith in subst (λ p. AreSignificant p c.args.blocks.now c.args.above.now) z c.requires.above;
   is_in = c.requires.open;
 }
 
@@ -56,6 +58,9 @@ loop-n-preserved g c =
       above = subst (λ p. PlanesAbove g.I.OctetIn.source head (depths_of c.args.marks.now) p (coming c.args.input.now) (coming c.take_stages.new.input) c.args.blocks.now c.take_stages.new.blocks) next
           (next_above head c.requires.goes_on (depths_of c.args.marks.now) plane 5 (omega (arith, high)) (omega (arith, high)) (sent_all head plane high) c.loop-n.invariant.above t refl high ended);
       depths = c.in_ok-take_stages.ensures.depths ∙ c.loop-n.invariant.depths;
+      marked =
+          let lower : plane ≡ head.depth_ac - (c.loop-n.n + 1) = omega arith in
+          subst (λ p. AreSignificant p c.take_stages.new.blocks c.take_stages.new.above) lower c.in_ok-take_stages.ensures.above;
       is_in = in_whole c.loop-n.invariant.is_in ended t.read;
     }
 
@@ -66,3 +71,15 @@ returns-clause-takes g c =
     record {
       ends = subst (λ p. PlanesAbove g.I.OctetIn.source head (depths_of c.args.marks.now) p (coming c.args.input.now) (coming c.loop-n.input) c.args.blocks.now c.loop-n.blocks) last c.loop-n.invariant.above;
     }
+
+pub take_stages-requires-clause-above : goal.take_stages-requires-clause-above
+take_stages-requires-clause-above g c =
+    let head = c.args.head.now in
+    let higher : head.depth_ac - c.loop-n.n ≡ head.depth_ac - 1 - c.loop-n.n + 1 = omega (arith, c.loop-n-test.true) in
+    subst (λ p. AreSignificant p c.loop-n.blocks c.loop-n.above) higher c.loop-n.invariant.marked
+
+pub returns-clause-above : goal.returns-clause-above
+returns-clause-above g c = λ whole.
+    let head = c.args.head.now in
+    let last : head.depth_ac - c.loop-n.n ≡ head.stop.plane + 1 = omega (arith, c.loop-n-test.false, c.loop-n.auto.n-end, c.requires.sent) in
+    subst (λ p. AreSignificant p c.loop-n.blocks c.loop-n.above) last c.loop-n.invariant.marked
