@@ -63,78 +63,45 @@ module _ {I : Type 0} {k : SourceOf I} {a b : Coming I} (book : Book) (options :
       let all : EndsReading k items (stopped whole) a b = subst (λ x. EndsReading k items x a b) e r.reads.ends in
       record { reads = record { ends = subst (λ x. EndsReading k items x a c) (sym e) (subst (Takes k a c) (append-nil (text items)) (takes_then all none)) }; stops = r.stops }
 
+-- what was read whole of a source was read of another one where its steps were
+found_moved : {I J A : Type 0} {j : SourceOf J} {k : SourceOf I} {c d : Coming J} {a b : Coming I} {book : Book} {f : Frame} {stage : ℕ} {earlier : ℕ → List Step} {done : List Step} {next : List ℤ → List Step} {Is : A → List ℤ → Type 0} {x : A} {g h : Gaggle} {m n : Found} → IsIn b →
+    ((sent : List Entry) (options : List ℕ) (part : List Step) (steps : List Step) (ending : Ending) → ending ≡ stopped whole → Agrees g.sent sent → Knows h options → ReadsSteps j book options sent part ending steps c d → ReadsSteps k book options sent part ending steps a b) →
+    FoundPiece j book f stage earlier done next Is (Ok (Some x)) g h m n c d → FoundPiece k book f stage earlier done next Is (Ok (Some x)) g h m n a b
+found_moved {next = next} {x = x} is_in moves q =
+    let p = q.piece in
+    let e = one_given p.value x p.ending p.answer in
+    record {
+      piece = record {
+        value = p.value;
+        part = p.part;
+        ending = p.ending;
+        answer = p.answer;
+        is_in = λ w. is_in;
+        possible = p.possible;
+        all = p.all;
+        so = p.so;
+        read = λ v s sent options agrees knows. moves sent options p.part (next v) p.ending e.0 agrees knows (p.read v s sent options agrees knows);
+        count = p.count;
+        counted = p.counted;
+        agrees = p.agrees;
+        knows = p.knows;
+        options = p.options;
+      };
+      found = q.found;
+    }
+
 -- what was read whole of a source was read of the shadow, and the other way round where its bits were taken
 module _ {I A : Type 0} {k : SourceOf I} {a b : Coming I} (book : Book) (f : Frame) (stage : ℕ) (earlier : ℕ → List Step) (done : List Step) (next : List ℤ → List Step) (Is : A → List ℤ → Type 0) (x : A) {g h : Gaggle} {m n : Found} (is_in : IsIn b) where
   pub found_back : ((sent : List Entry) (options : List ℕ) → Agrees g.sent sent → Knows h options → TakesSome k a b) →
       FoundPiece told book f stage earlier done next Is (Ok (Some x)) g h m n (shadow k a) (shadow k b) → FoundPiece k book f stage earlier done next Is (Ok (Some x)) g h m n a b
-  found_back takes q =
-      let e = one_given q.piece.value x q.piece.ending q.piece.answer in
-      record {
-        piece = record {
-          value = q.piece.value;
-          part = q.piece.part;
-          ending = q.piece.ending;
-          answer = q.piece.answer;
-          is_in = λ w. is_in;
-          possible = q.piece.possible;
-          all = q.piece.all;
-          so = q.piece.so;
-          read = λ v s sent options agrees knows. steps_back book options sent q.piece.part (next v) q.piece.ending e.0 (takes sent options agrees knows) (q.piece.read v s sent options agrees knows);
-          count = q.piece.count;
-          counted = q.piece.counted;
-          agrees = q.piece.agrees;
-          knows = q.piece.knows;
-          options = q.piece.options;
-        };
-        found = q.found;
-      }
+  found_back takes = found_moved is_in (λ sent options part steps ending e agrees knows r. steps_back book options sent part steps ending e (takes sent options agrees knows) r)
 
   pub found_forth : FoundPiece k book f stage earlier done next Is (Ok (Some x)) g h m n a b → FoundPiece told book f stage earlier done next Is (Ok (Some x)) g h m n (shadow k a) (shadow k b)
-  found_forth q =
-      let e = one_given q.piece.value x q.piece.ending q.piece.answer in
-      record {
-        piece = record {
-          value = q.piece.value;
-          part = q.piece.part;
-          ending = q.piece.ending;
-          answer = q.piece.answer;
-          is_in = λ w. shadow_in k b is_in;
-          possible = q.piece.possible;
-          all = q.piece.all;
-          so = q.piece.so;
-          read = λ v s sent options agrees knows. steps_forth book options sent q.piece.part (next v) q.piece.ending e.0 (q.piece.read v s sent options agrees knows);
-          count = q.piece.count;
-          counted = q.piece.counted;
-          agrees = q.piece.agrees;
-          knows = q.piece.knows;
-          options = q.piece.options;
-        };
-        found = q.found;
-      }
+  found_forth = found_moved (shadow_in k b is_in) (λ sent options part steps ending e agrees knows r. steps_forth book options sent part steps ending e r)
 
   -- no bit came after it
   pub found_on : {c : Coming I} → IsIn c → Takes k b c [] → FoundPiece k book f stage earlier done next Is (Ok (Some x)) g h m n a b → FoundPiece k book f stage earlier done next Is (Ok (Some x)) g h m n a c
-  found_on opened none q =
-      let e = one_given q.piece.value x q.piece.ending q.piece.answer in
-      record {
-        piece = record {
-          value = q.piece.value;
-          part = q.piece.part;
-          ending = q.piece.ending;
-          answer = q.piece.answer;
-          is_in = λ w. opened;
-          possible = q.piece.possible;
-          all = q.piece.all;
-          so = q.piece.so;
-          read = λ v s sent options agrees knows. steps_on book options sent q.piece.part (next v) q.piece.ending e.0 none (q.piece.read v s sent options agrees knows);
-          count = q.piece.count;
-          counted = q.piece.counted;
-          agrees = q.piece.agrees;
-          knows = q.piece.knows;
-          options = q.piece.options;
-        };
-        found = q.found;
-      }
+  found_on opened none = found_moved opened (λ sent options part steps ending e agrees knows r. steps_on book options sent part steps ending e none r)
 
   -- the bits of what was read
   pub found_taken : FoundPiece k book f stage earlier done next Is (Ok (Some x)) g h m n a b → (sent : List Entry) (options : List ℕ) → Agrees g.sent sent → Knows h options → TakesSome k a b

@@ -42,7 +42,7 @@ module _ (window word due : ℕ) (fits : window < 2 ^ 64) (is : word ≡ window 
   pub word_small : word < 16
   word_small = let most : 2 ^ due ≤ 2 ^ 4 = pow_mono few in omega (arith, word_below, most)
 
-  word_value : value_of (first_of due window) ≡ word
+  pub word_value : value_of (first_of due window) ≡ word
   word_value = ap (λ n. value_of (bits_of due n)) (sym word_is) ∙ value_of-bits_of due word ∙ mod-eq_of_lt word_below
 
 module _ {f : Frame} {stage : ℕ} {earlier : ℕ → List Step} {done : List Step} {new : ℕ → Bool} {start count mask : ℕ} {after : List ℤ → List Step} (next : SignsNext f stage earlier done new start count mask after) (four : count ≤ 4)

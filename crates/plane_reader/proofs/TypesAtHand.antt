@@ -1,11 +1,12 @@
 -- The types of a group and their signs, read at once.
-use Rattle.std.proofs.Common.{◌≡◌, ℕ, zero, suc, ◌+◌, ◌-◌, ◌*◌, ◌/◌, ◌%◌, ◌^◌, ◌<◌, ◌≤◌, Bool, ◌&&◌, ◌||◌, ℤ, List, [], ◌++◌, refl, sym, ap, subst, ◌∙◌, arith, inl, inr, get_or}
+use Rattle.std.proofs.Common.{◌≡◌, ℕ, zero, suc, ◌+◌, ◌-◌, ◌*◌, ◌/◌, ◌%◌, ◌^◌, ◌<◌, ◌≤◌, Bool, ◌&&◌, ◌||◌, ℤ, List, [], ◌++◌, length, drop, refl, sym, ap, subst, ◌∙◌, arith, inl, inr, get_or}
 use Rattle.std.specs.Prelude.{Ok, Option, Some, count_ones}
+use Rattle.std.proofs.Math.Seq.{drop-append_seam}
 use Rattle.std.proofs.lemmas.Bool.{cases_lt}
-use Rattle.item_defs.specs.Bits.{bit}
+use Rattle.item_defs.specs.Bits.{bit, value_of}
 use Rattle.item_defs.specs.Items.{raw, item_bits}
 use Rattle.item_defs.specs.Readings.{whole}
-use Rattle.item_defs.proofs.NumberBits.{bits_none}
+use Rattle.item_defs.proofs.NumberBits.{bits_none, length-bits_of}
 use Rattle.plane_defs.specs.declared.codes.Book.{Book}
 use Rattle.plane_defs.specs.Codes.{word_item}
 use Rattle.plane_defs.specs.Spans.{span}
@@ -30,7 +31,7 @@ use Rattle.block_masks.specs.Places.{inside}
 use Rattle.plane_reader.specs.Shadows.{told, shadow}
 use Rattle.plane_reader.proofs.DueReading.{due_given, few_ones}
 use Rattle.plane_reader.proofs.Shadows.{takes_shadow, shadow_in, found_back, between, takes_first, takes_rest, window_parts}
-use Rattle.plane_reader.proofs.SignWindows.{signs_at_once}
+use Rattle.plane_reader.proofs.SignWindows.{signs_at_once, word_value}
 use Rattle.plane_reader.proofs.TypePieces.{due_part, types_word, types_given}
 use Rattle.plane_reader.proofs.WordReading.{word_none, word_raw, opens_known, opened_word, option_fits}
 use Rattle.plane_reader.proofs.WordTests.{some_given}
@@ -74,6 +75,14 @@ module _ {I : Type 0} {k : SourceOf I} (book : Book) {g : Gaggle} (known : AreOp
       one : (item : ℕ → _) (most : ℕ) → word.number < most → item_bits (item word.number) ≡ first_of word.len window → TakesOne k (IsBelow most) item (Ok (Some word.number)) a b
       one item most below same = record { value = word.number; known = below; ending = stopped whole; read = one_whole (item word.number) (subst (Takes k a b) (sym same) t); answer = refl }
 
+-- the signs are the word of the bits after the types' one
+pub signs_value : (window len ones : ℕ) → len ≤ 8 → ones ≤ 4 → value_of (drop len (first_of (len + ones) window)) ≡ window * 2 ^ len % 2 ^ 64 / 2 / 2 ^ (63 - ones)
+signs_value window len ones brief few =
+    let rest = window * 2 ^ len % 2 ^ 64 in
+    let long : length (first_of len window) ≡ len = length-bits_of len (window / 2 ^ (64 - len)) in
+    ap (λ l. value_of (drop len l)) (window_parts window len ones (omega (arith, brief, few))) ∙ ap (λ n. value_of (drop n (first_of len window ++ first_of ones rest))) (sym long) ∙
+    ap value_of (drop-append_seam (first_of len window) (first_of ones rest)) ∙ word_value rest (rest / 2 / 2 ^ (63 - ones)) ones (omega arith) refl few
+
 module _ {I : Type 0} {k : SourceOf I} {book : Book} {g : Gaggle} (known : AreOptions g.options) {f : Frame} {stage : ℕ} {earlier : ℕ → List Step} {done : List Step} {wanted : Bool} {start count mask : ℕ} {after : List ℤ → List Step}
     (next : TypesNext f stage earlier done wanted start count mask after) (due : ℕ) (small : due < 16) (shown : Shows due (λ p. bit mask p) start count)
     (window : ℕ) {types : Types} (t : AreTypesIn book g due wanted window types) {a b : Coming I} (is_in : IsIn a) (taken : Takes k a b (first_of types.len window)) where
@@ -85,6 +94,9 @@ module _ {I : Type 0} {k : SourceOf I} {book : Book} {g : Gaggle} (known : AreOp
 
   few : ones ≤ 4
   few = few_ones types.new t.new.small
+
+  signs_word : value_of (drop t.word.len (first_of types.len window)) ≡ rest / 2 / 2 ^ (63 - ones)
+  signs_word = ap (λ n. value_of (drop t.word.len (first_of n window))) t.len ∙ signs_value window t.word.len ones t.is_word.few few
 
   in_parts : Takes told (shadow k a) (shadow k b) (first_of t.word.len window ++ first_of ones rest)
   in_parts = takes_shadow (subst (Takes k a b) (ap (λ n. first_of n window) t.len ∙ window_parts window t.word.len ones (omega (arith, few, t.is_word.few))) taken)
@@ -106,5 +118,5 @@ module _ {I : Type 0} {k : SourceOf I} {book : Book} {g : Gaggle} (known : AreOp
         found_back book f stage earlier done (λ v. typed_steps v f.weights f.plane (some_one_where wanted) (span start count)) Anything tt (in_later is_in taken) (λ sent options agrees knows. record { bits = first_of types.len window; taken = taken })
         (types_given next types.new w no_minus bits known (λ book' gaggle f' stage' earlier' done' new_at after' known' signs.
         signs_at_once signs next.few rest (rest / 2 / 2 ^ (63 - ones)) ones (omega arith) refl few refl no_bits
-        (λ f'' g'' shows is. minus f'' (λ p. new_at p && g'' p) count next.within shows (t.minus.told g'' new_at start count next.few signs.shown is))
+        (λ f'' g'' shows is. minus f'' (λ p. new_at p && g'' p) count next.within shows (t.minus.told g'' new_at start count next.few signs.shown (is ∙ sym signs_word)))
         book' known' (in_later (shadow_in k a is_in) first) last))

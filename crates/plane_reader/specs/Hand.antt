@@ -1,6 +1,7 @@
 -- What stands first in a window of bits. (This project's own.)
-use Rattle.std.specs.Prelude.{◌≡◌, ◌≤◌, ◌<◌, ℕ, ◌+◌, ◌-◌, ◌*◌, ◌/◌, ◌%◌, ◌^◌, Bool, true, false, count_ones}
-use lib.ListN.{get_or}
+use Rattle.std.specs.Prelude.{◌≡◌, ◌≤◌, ◌<◌, ℕ, ◌+◌, ◌-◌, ◌^◌, Bool, true, false, count_ones}
+use lib.ListN.{get_or, drop}
+use Rattle.item_defs.specs.Bits.{value_of}
 use Rattle.item_defs.specs.Items.{item_bits, raw}
 use Rattle.plane_defs.specs.Codes.{word_item}
 use Rattle.plane_defs.specs.declared.codes.Book.{Book}
@@ -19,11 +20,11 @@ pub record IsWordIn (book : Book) (gaggle : Gaggle) (count window : ℕ) (word :
   pub sent : 2 ≤ count → get_or gaggle.sent (count - 2) false ≡ true
   pub coded : 2 ≤ count → item_bits (word_item book count (get_or gaggle.options (count - 2) 0) word.number) ≡ first_of word.len window
 
--- the types of some due places, one of them 1 where that is wanted, and the signs of those that are, from the bits after the word
+-- the types of some due places, one of them 1 where that is wanted, and the signs of those that are: the bits after the word
 pub record AreTypesIn (book : Book) (gaggle : Gaggle) (due : ℕ) (is_wanted : Bool) (window : ℕ) (types : Types) : Type 0 where
   pub word : Front
   pub is_word : IsWordIn book gaggle (count_ones due) window word
   pub new : AreSpread due word.number types.new
   pub wanted : is_wanted ≡ true → types.new ≡ 0 → ⊥
   pub len : types.len ≡ word.len + count_ones types.new
-  pub minus : AreSpread types.new (window * 2 ^ word.len % 2 ^ 64 / 2 / 2 ^ (63 - count_ones types.new)) types.minus
+  pub minus : AreSpread types.new (value_of (drop word.len (first_of types.len window))) types.minus

@@ -1,7 +1,10 @@
-use Rattle.std.proofs.Common.{◌≤◌, ◌*◌, ◌%◌, ◌^◌, refl, arith}
+use Rattle.std.proofs.Common.{◌+◌, ◌≤◌, ◌*◌, ◌%◌, ◌^◌, refl, ap, sym, ◌∙◌, subst, inl, inr, arith}
 use Rattle.std.proofs.Math.Pow.{pow_mono}
+use Rattle.std.proofs.lemmas.Bool.{true≢false}
 use Rattle.plane_reader.proofs.DueReading.{few_ones}
 use Rattle.plane_reader.proofs.SignWindows.{word_small}
+use Rattle.block_masks.specs.Picks.{AreSpread}
+use Rattle.plane_reader.proofs.TypesAtHand.{signs_value}
 use Rattle.plane_reader.proofs.hand.types_in.Goals as goal
 
 pub known_word-requires-clause-few : goal.known_word-requires-clause-few
@@ -21,3 +24,19 @@ pub spread-requires-clause-word : goal.spread-requires-clause-word
 spread-requires-clause-word c =
     let few : c.count_of-count.result ≤ 4 = rw c.count_of-count.ensures (few_ones c.spread-new.result c.spread-new.ensures.small) in
     word_small (c.args.window * 2 ^ c.in_ok-word.word.len % 2 ^ 64) _ c.count_of-count.result (omega arith) refl few
+
+pub returns : goal.returns
+returns c =
+    let w = c.in_ok-word.ensures in
+    let few : c.count_of-count.result ≤ 4 = rw c.count_of-count.ensures (few_ones c.spread-new.result c.spread-new.ensures.small) in
+    record {
+      word = c.in_ok-word.word;
+      is_word = rw c.count_of.ensures at w;
+      new = c.spread-new.ensures;
+      wanted = λ e z. elim c.else-is_wanted.either [
+        | inl p ↦ p.1 z
+        | inr f ↦ absurd (true≢false (sym e ∙ f))
+      ];
+      len = ap (λ n. c.in_ok-word.word.len + n) c.count_of-count.ensures;
+      minus = subst (λ m. AreSpread c.spread-new.result m c.spread.result) (sym (signs_value c.args.window c.in_ok-word.word.len c.count_of-count.result w.few few)) c.spread.ensures;
+    }
