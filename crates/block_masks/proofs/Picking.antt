@@ -336,12 +336,26 @@ pub back_of : (due word start count : ℕ) (g : ℕ → Bool) → count ≤ 4 �
 back_of due word start count g few p small fits =
     sym (ap value_of (wider_choice (placed (spread_entry due word) start) g start count few)) ∙ back_of_four due word start (within start count g) (wider due start count g few p) small fits
 
+-- as many positions are told as the word has ones
+abbrev ones_kept : ℕ → ℕ → Bool
+ones_kept due word = not (nat_lt word (2 ^ count_ones due)) || (count_ones (spread_entry due word) == count_ones word)
+
+all_ones_kept : list_all (λ i. list_all (λ j. ones_kept i j) (span 0 16)) (span 0 16) ≡ true
+unfolding span lib.Count.ones
+all_ones_kept = refl
+
+pub ones_spread : (due word : ℕ) → due < 16 → word < 16 → word < 2 ^ count_ones due → count_ones (spread_entry due word) ≡ count_ones word
+ones_spread due word four low fits =
+    let row = list_all-span-zero (λ i. list_all (λ j. ones_kept i j) (span 0 16)) 16 due all_ones_kept four in
+    eqb-true _ _ (or_from _ _ (list_all-span-zero (λ j. ones_kept due j) 16 word row low) (lt-ltb word (2 ^ count_ones due) fits))
+
 -- what the table has for a word
 pub are_spread : (due word : ℕ) → due < 16 → word < 16 → AreSpread due word (spread_entry due word)
 are_spread due word four low = record {
   small = small_spread due word four low;
   told = λ f g start count few p is. spread_of due word start count f g few p is;
   back = λ g start count few p fits. back_of due word start count g few p low fits;
+  ones = λ fits. ones_spread due word four low fits;
 }
 
 chosen_length : (p q r s a b c d : Bool) → length (chosen p q r s a b c d) ≡ length (chosen p q r s false false false false)

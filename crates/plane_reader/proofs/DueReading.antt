@@ -112,17 +112,6 @@ module _ {I : Type 0} {k : SourceOf I} where
 
 -- ---- how many places are due
 
-abbrev counts : List ℕ
-counts = 0 ∷ 1 ∷ 1 ∷ 2 ∷ 1 ∷ 2 ∷ 2 ∷ 3 ∷ 1 ∷ 2 ∷ 2 ∷ 3 ∷ 2 ∷ 3 ∷ 3 ∷ 4 ∷ []
-
-counts_all : list_all (λ n. get_or counts n 0 == count_ones n) (span 0 16) ≡ true
-unfolding span lib.Count.ones
-counts_all = refl
-
--- the code's table has them
-pub counts_are : (n : ℕ) → n < 16 → get_or counts n 0 ≡ count_ones n
-counts_are n lt = grind (arith, nat_tests, list_all-span-zero (λ n. get_or counts n 0 == count_ones n) 16 n counts_all lt)
-
 few_ones_all : list_all (λ n. nat_le (count_ones n) 4) (span 0 16) ≡ true
 unfolding span lib.Count.ones
 few_ones_all = refl

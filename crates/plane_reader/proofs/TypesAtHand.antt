@@ -1,7 +1,9 @@
 -- The types of a group and their signs, read at once.
-use Rattle.std.proofs.Common.{◌≡◌, ℕ, zero, suc, ◌+◌, ◌-◌, ◌*◌, ◌/◌, ◌%◌, ◌^◌, ◌<◌, ◌≤◌, Bool, ◌&&◌, ◌||◌, ℤ, List, [], ◌++◌, length, drop, refl, sym, ap, subst, ◌∙◌, arith, inl, inr, get_or}
+use Rattle.std.proofs.Common.{◌≡◌, ℕ, zero, suc, ◌+◌, ◌-◌, ◌*◌, ◌/◌, ◌%◌, ◌^◌, ◌<◌, ◌≤◌, Bool, ◌&&◌, ◌||◌, ℤ, List, [], ◌++◌, length, drop, bit_and, refl, sym, ap, subst, ◌∙◌, arith, inl, inr, get_or}
 use Rattle.std.specs.Prelude.{Ok, Option, Some, count_ones}
 use Rattle.std.proofs.Math.Seq.{drop-append_seam}
+use Rattle.std.proofs.Math.Nat.{mod-eq_of_lt}
+use Rattle.std.proofs.lemmas.Nat.{and_mask, and_le_r}
 use Rattle.std.proofs.lemmas.Bool.{cases_lt}
 use Rattle.item_defs.specs.Bits.{bit, value_of}
 use Rattle.item_defs.specs.Items.{raw, item_bits}
@@ -37,19 +39,25 @@ use Rattle.plane_reader.proofs.WordReading.{word_none, word_raw, opens_known, op
 use Rattle.plane_reader.proofs.WordTests.{some_given}
 
 -- a word that needs no option
-pub short_word : (book : Book) (gaggle : Gaggle) (count window : ℕ) → count < 2 → window < 2 ^ 64 → IsWordIn book gaggle count window (record { number = window / 2 ^ 63 * count; len = count })
+pub short_word : (book : Book) (gaggle : Gaggle) (count window : ℕ) → count < 2 → window < 2 ^ 64 → IsWordIn book gaggle count window (record { number = bit_and (window / 2 ^ 63) count; len = count })
 short_word book gaggle count window few fits = record {
   none = λ e. e;
   fits = by_count count few;
   few = omega (arith, few);
-  one = λ e. let n : window / 2 ^ 63 * count ≡ window / 2 ^ 63 = (let p : window / 2 ^ 63 * count ≡ window / 2 ^ 63 * 1 = ap (λ m. window / 2 ^ 63 * m) e in omega (arith, p)) in rw (n, e) refl;
+  one = λ e. let n : bit_and (window / 2 ^ 63) count ≡ window / 2 ^ 63 = ap (bit_and (window / 2 ^ 63)) e ∙ and_one in rw (n, e) refl;
   sent = λ more. absurd (omega (arith, few, more));
   coded = λ more. absurd (omega (arith, few, more));
 }
   where
-    by_count : (n : ℕ) → n < 2 → window / 2 ^ 63 * n < 2 ^ n
-    by_count zero lt = omega arith
-    by_count (suc zero) lt = omega (arith, fits)
+    high : window / 2 ^ 63 < 2
+    high = omega (arith, fits)
+
+    and_one : bit_and (window / 2 ^ 63) 1 ≡ window / 2 ^ 63
+    and_one = and_mask (window / 2 ^ 63) 1 ∙ mod-eq_of_lt high
+
+    by_count : (n : ℕ) → n < 2 → bit_and (window / 2 ^ 63) n < 2 ^ n
+    by_count zero lt = let le : bit_and (window / 2 ^ 63) 0 ≤ 0 = and_le_r (window / 2 ^ 63) 0 in omega (arith, le)
+    by_count (suc zero) lt = omega (arith, and_one, high)
     by_count (suc (suc n)) lt = absurd (omega (arith, lt))
 
 module _ {I : Type 0} {k : SourceOf I} (book : Book) {g : Gaggle} (known : AreOptions g.options) {window : ℕ} {a b : Coming I} (is_in : IsIn a) where

@@ -19,7 +19,7 @@ fn known_word(tables: &WordTables, gaggle: &Gaggle, count: u8, window: u64) -> O
 {
     if count < 2 {
         return Some(Front {
-            number: (window >> 63) as u8 * count,
+            number: (window >> 63) as u8 & count,
             len: count,
         });
     }
@@ -57,7 +57,8 @@ pub(crate) fn types_in(
     if is_wanted && new == 0 {
         return None;
     }
-    let count = count_of(new);
+    // The word has as many ones, and is known before its places are.
+    let count = count_of(u64::from(word.number));
     let signs = ((window << word.len) >> 1 >> (63 - count)) as u8;
     Some(Types {
         new,

@@ -12,16 +12,13 @@ use bit_pipe::{BitIn, OctetIn, TextFault};
 use block_masks::{Gaggle, spread};
 use word_codes::{WordTables, take_option, take_word_by};
 
-// How many of four places each mask has.
-const COUNTS: [u8; 16] = [0, 1, 1, 2, 1, 2, 2, 3, 1, 2, 2, 3, 2, 3, 3, 4];
-
-// How many of four places are due.
+// How many places of four are told.
 #[inline(always)]
-pub(crate) fn count_of(due: u64) -> u8
-    requires { due < 16 }
-    ensures { result ≡ count_ones due }
+pub(crate) fn count_of(places: u64) -> u8
+    requires { places < 16 }
+    ensures { result ≡ count_ones places }
 {
-    COUNTS[due as usize]
+    places.count_ones() as u8
 }
 
 // A word of one bit.

@@ -1,5 +1,7 @@
-use Rattle.plane_reader.proofs.DueReading.{counts_are}
+use Rattle.std.proofs.Common.{◌≤◌, ◌%◌, ◌≡◌, arith}
+use Rattle.std.specs.Prelude.{count_ones}
+use Rattle.plane_reader.proofs.DueReading.{few_ones}
 use Rattle.plane_reader.proofs.word.count_of.Goals as goal
 
-pub returns : goal.returns
-returns c = counts_are c.args.due c.requires
+pub overflow_cast-result : goal.overflow_cast-result
+overflow_cast-result c = let few = few_ones c.args.places c.requires in omega (arith, few)
