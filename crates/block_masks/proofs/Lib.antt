@@ -10,3 +10,4 @@ pub mod MarkParts
 pub mod Marking
 pub mod Agreeing
 pub mod MaskParts
+pub mod Bands

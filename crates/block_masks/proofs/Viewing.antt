@@ -45,18 +45,6 @@ from_zero {mask} {count} {f} at p = subst (λ s. Shows mask f s count) (zero-add
 pub any_from_zero : {b : Bool} (f : ℕ → Bool) (at count : ℕ) → b ≡ list_any f (span (0 + at) count) → b ≡ list_any f (span at count)
 any_from_zero f at count e = e ∙ ap (λ s. list_any f (span s count)) (zero-add at)
 
-pub none_shown : (f : ℕ → Bool) → Shows 0 f 0 0
-none_shown f = record { at = λ k below. absurd (omega arith); small = omega arith }
-
--- a mask of one position, where it tells of another function
-pub one_shown : {mask : ℕ} {b : Bool} (f : ℕ → Bool) (at : ℕ) → b ≡ f at → Shows mask (λ p. b) 0 1 → Shows mask f (0 + at) 1
-one_shown {mask} {b} f at same p = record {
-  at = λ k below.
-      let place : at ≡ (0 + at) + k = omega arith in
-      p.at k below ∙ same ∙ ap f place;
-  small = p.small;
-}
-
 -- ---- sets
 
 -- the positions of two spans

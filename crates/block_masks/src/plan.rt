@@ -1,11 +1,12 @@
 // What a call is told of a plane, and what the weights settle for all of its blocks.
 
-ghost use Rattle.std.specs.Prelude.{◌≡◌, ◌<◌, ◌≤◌, ◌+◌, ℕ, slice_index};
+ghost use Rattle.std.specs.Prelude.{◌≡◌, ◌<◌, ◌≤◌, ◌+◌, ◌*◌, ℕ, slice_index};
 ghost use Rattle.plane_defs.specs.Sets.{coded as is_coded_at};
 ghost use Rattle.block_masks.specs.Masks.{Shows};
+ghost use Rattle.block_masks.specs.Places.{IsOneBand};
 ghost use Rattle.block_masks.specs.SetMasks.{AreSets, AreQuads};
 
-use crate::nibbles::{joined, one};
+use crate::nibbles::{joined, masked};
 use crate::sets::{Sets, quads_of};
 use base_122::Weights;
 use block_families::place_of;
@@ -52,15 +53,43 @@ fn can_have_bit(plan: &PlanePlan, position: u8) -> bool
     plan.weights.shift(place_of(position, 0).band) <= plan.plane
 }
 
+// The `count` positions of one band from `start` on, where they can have a bit of the plane. A band has one shift, so the
+// first of them tells.
+fn coded_in_band(plan: &PlanePlan, start: u8, count: u8) -> u64
+    requires start { start < 64 }
+    requires count { count < 64 }
+    requires band { IsOneBand start count }
+    ensures { Shows result (is_coded_at plan.now.weights.shifts plan.now.plane) start count }
+{
+    masked((1 << count) - 1, can_have_bit(plan, start))
+}
+
+// The same for the three families of a level, each with `count` positions of a band of its own (docs/formats.md, "Blocks").
+fn coded_in_level(plan: &PlanePlan, start: u8, count: u8) -> u64
+    requires within { start + 3 * count ≤ 64 }
+    requires some { 0 < count }
+    requires bands { (i : ℕ) → i < 3 → IsOneBand (start + i * count) count }
+    ensures { Shows result (is_coded_at plan.now.weights.shifts plan.now.plane) start (3 * count) }
+{
+    let first = coded_in_band(plan, start, count);
+    let second = coded_in_band(plan, start + count, count);
+    let third = coded_in_band(plan, start + 2 * count, count);
+    joined(joined(first, second, count), third, 2 * count)
+}
+
 // The positions at which a number can have a bit of the plane.
 fn coded_positions(plan: &PlanePlan) -> u64
     ensures { Shows result (is_coded_at plan.now.weights.shifts plan.now.plane) 0 64 }
 {
-    let mut coded = 0;
-    for position in 0..64u8 {
-        coded = joined(coded, one(can_have_bit(plan, position)), position);
-    }
-    coded
+    let dc = coded_in_band(plan, 0, 1);
+    let parents = coded_in_level(plan, 1, 1);
+    let children = coded_in_level(plan, 4, 4);
+    let grandchildren = coded_in_level(plan, 16, 16);
+    joined(
+        joined(joined(dc, parents, 1), children, 4),
+        grandchildren,
+        16,
+    )
 }
 
 impl CodedPlane {

@@ -1,28 +1,22 @@
-use Rattle.std.proofs.Common.{◌≡◌, ◌≤◌, ◌-◌, ◌^◌, subst, arith}
-use Rattle.std.proofs.Math.Pow.{pow_mono}
 use Rattle.plane_defs.specs.Sets.{coded}
-use Rattle.block_masks.specs.Masks.{Shows}
-use Rattle.block_masks.proofs.Viewing.{none_shown, one_shown}
+use Rattle.block_masks.proofs.Bands.{child_bands, grandchild_bands}
 use Rattle.block_masks.proofs.plan.coded_positions.Goals as goal
 
-pub loop-position-init : goal.loop-position-init
-loop-position-init c = record { shown = none_shown (coded c.args.plan.now.weights.shifts c.args.plan.now.plane) }
+pub coded_in_level-children-requires-clause-bands : goal.coded_in_level-children-requires-clause-bands
+coded_in_level-children-requires-clause-bands c = child_bands
 
-pub joined-coded-requires-clause-low : goal.joined-coded-requires-clause-low
-joined-coded-requires-clause-low c = c.loop-position.invariant.shown.small
+pub coded_in_level-grandchildren-requires-clause-bands : goal.coded_in_level-grandchildren-requires-clause-bands
+coded_in_level-grandchildren-requires-clause-bands c = grandchild_bands
 
-pub joined-coded-requires-clause-high : goal.joined-coded-requires-clause-high
-joined-coded-requires-clause-high c =
-    let some : 1 ≤ 64 - c.loop-position.position = omega arith in
-    let most : 2 ^ 1 ≤ 2 ^ (64 - c.loop-position.position) = pow_mono some in
-    omega (arith, c.one.ensures.within, most)
+pub joined-requires-2-clause-low : goal.joined-requires-2-clause-low
+joined-requires-2-clause-low c = c.joined.ensures.within 3 c.coded_in_level-parents.ensures.small
 
-pub loop-position-preserved : goal.loop-position-preserved
-loop-position-preserved c =
-    let f = coded c.args.plan.now.weights.shifts c.args.plan.now.plane in
-    record { shown = c.joined-coded.ensures.told f 0 1 c.loop-position.invariant.shown (one_shown f c.loop-position.position c.can_have_bit.ensures (c.one.ensures.told 0)) }
+pub joined-requires-3-clause-low : goal.joined-requires-3-clause-low
+joined-requires-3-clause-low c = c.joined-2.ensures.within 12 c.coded_in_level-children.ensures.small
 
 pub returns : goal.returns
 returns c =
-    let all : c.loop-position.position ≡ 64 = omega (arith, c.loop-position-test.false, c.loop-position.auto.position-end) in
-    subst (Shows c.loop-position.coded (coded c.args.plan.now.weights.shifts c.args.plan.now.plane) 0) all c.loop-position.invariant.shown
+    let f = coded c.args.plan.now.weights.shifts c.args.plan.now.plane in
+    let parents = c.joined.ensures.told f 0 3 c.coded_in_band-dc.ensures c.coded_in_level-parents.ensures in
+    let children = c.joined-2.ensures.told f 0 12 parents c.coded_in_level-children.ensures in
+    c.joined-3.ensures.told f 0 48 children c.coded_in_level-grandchildren.ensures
