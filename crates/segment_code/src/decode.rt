@@ -1,5 +1,6 @@
 // A segment's text, read.
 ghost use Rattle.std.specs.Prelude.{◌≡◌, ◌*◌, length};
+ghost use Rattle.plane_defs.specs.Profile.{profile};
 ghost use Rattle.segment_defs.specs.Head.{IsHead};
 ghost use Rattle.segment_code.specs.Decoded.{DecodesSegment};
 ghost use Rattle.segment_code.specs.TakenText.{AreClear, TakesFrom};
@@ -8,6 +9,7 @@ use crate::end_in::{end_cut, end_whole};
 use crate::text_in::take_text;
 use bit_pipe::{BitIn, InFault, OctetIn, Part, TextFault};
 use segment_head::SegmentHead;
+use word_codes::{WordTables, profile_book};
 
 /// Why a segment's text isn't taken (docs/formats.md, "Reading a segment").
 #[derive(Clone, Copy, Debug, PartialEq, Eq)]
@@ -80,28 +82,72 @@ fn take_from<I: OctetIn>(
     head: &SegmentHead,
     blocks: &mut [i32],
     marks: &mut [i32],
+    tables: &WordTables,
 ) -> Result<(Part, u64), TextFault>
     requires fits { IsHead head.now }
     requires count { length blocks.old ≡ 64 * length marks.old }
     requires marks { length marks.old ≡ head.now.blocks }
     requires clear { AreClear blocks.old }
+    requires book { tables.now.book ≡ profile }
     ensures takes { TakesFrom I.source head.now result input.old input.new blocks.new }
     ensures sizes { (length blocks.new ≡ length blocks.old) × (length marks.new ≡ length marks.old) }
     ensures ten { length head.now.image.weights.shifts ≡ 10 }
 {
     let mut bits = BitIn::new(input, u64::from(head.limit), u64::from(head.octets()));
-    let part = take_text(&mut bits, head, blocks, marks)?;
+    let part = take_text(&mut bits, head, blocks, marks, tables)?;
     Ok((part, bits.used()))
 }
 
-/// Reads a segment's text from the octets after its head into 64 numbers for each block (docs/formats.md, "Reading a
-/// segment"). `Whole` says that all items stood in the text, `Ended` that the limit cut them; what isn't given is 0, and
-/// positive. It asks for the input's end before it answers either. There is a mark for each block, and the call writes
-/// there.
+/// Reads the texts of segments, by tables of their words that are made once.
+#[derive(Drop)]
+pub struct SegmentReader {
+    tables: WordTables,
+    ghost of_profile: { tables.book ≡ profile },
+}
+
+impl SegmentReader {
+    /// A reader of any segments.
+    pub fn new() -> SegmentReader {
+        SegmentReader {
+            tables: WordTables::new(&profile_book()),
+        }
+    }
+
+    /// Reads a segment's text from the octets after its head into 64 numbers for each block (docs/formats.md, "Reading a
+    /// segment"). `Whole` says that all items stood in the text, `Ended` that the limit cut them; what isn't given is 0, and
+    /// positive. It asks for the input's end before it answers either. There is a mark for each block, and the call writes
+    /// there.
+    ///
+    /// # Errors
+    ///
+    /// The name by which the text is refused, or how the input ended. Blocks and marks have no meaning then.
+    pub fn decode<I: OctetIn>(
+        &self,
+        input: &mut I,
+        head: &SegmentHead,
+        blocks: &mut [i32],
+        marks: &mut [i32],
+    ) -> Result<Part, SegmentFault>
+        requires fits { IsHead head.now }
+        requires count { length blocks.old ≡ 64 * length marks.old }
+        requires marks { length marks.old ≡ head.now.blocks }
+        ensures decodes { DecodesSegment I.source head.now result input.old input.new blocks.new }
+        ensures sizes { (length blocks.new ≡ length blocks.old) × (length marks.new ≡ length marks.old) }
+    {
+        clear(blocks);
+        let (part, used) = take_from(input, head, blocks, marks, &self.tables)?;
+        match part {
+            Part::Whole => end_whole(input, head, used),
+            Part::Ended => end_cut(input, head, used),
+        }
+    }
+}
+
+/// The same for a single segment: `SegmentReader` serves many.
 ///
 /// # Errors
 ///
-/// The name by which the text is refused, or how the input ended. Blocks and marks have no meaning then.
+/// As there.
 pub fn decode_segment<I: OctetIn>(
     input: &mut I,
     head: &SegmentHead,
@@ -114,10 +160,5 @@ pub fn decode_segment<I: OctetIn>(
     ensures decodes { DecodesSegment I.source head.now result input.old input.new blocks.new }
     ensures sizes { (length blocks.new ≡ length blocks.old) × (length marks.new ≡ length marks.old) }
 {
-    clear(blocks);
-    let (part, used) = take_from(input, head, blocks, marks)?;
-    match part {
-        Part::Whole => end_whole(input, head, used),
-        Part::Ended => end_cut(input, head, used),
-    }
+    SegmentReader::new().decode(input, head, blocks, marks)
 }

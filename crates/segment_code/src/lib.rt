@@ -13,7 +13,7 @@ mod text_in;
 
 ghost use Rattle.segment_code.specs.Laws.{CodedHolds, TextsAreShort};
 
-pub use decode::{SegmentFault, decode_segment};
+pub use decode::{SegmentFault, SegmentReader, decode_segment};
 pub use depths::segment_depths;
 pub use encode::encode_segment;
 

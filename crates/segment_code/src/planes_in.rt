@@ -14,7 +14,7 @@ use crate::planes::plane_plan;
 use bit_pipe::{BitIn, OctetIn, Part, TextFault};
 use plane_reader::{KEPT, take_plane_with};
 use segment_head::SegmentHead;
-use word_codes::{WordTables, profile_book};
+use word_codes::WordTables;
 
 // The last stage of a plane.
 const LAST: u8 = 4;
@@ -83,10 +83,12 @@ pub(crate) fn take_planes<I: OctetIn>(
     head: &SegmentHead,
     blocks: &mut [i32],
     marks: &mut [i32],
+    tables: &WordTables,
 ) -> Result<Part, TextFault>
     requires fits { IsHead head.now }
     requires open { IsIn (coming input.old) }
     requires count { length blocks.old ≡ 64 * length marks.old }
+    requires book { tables.now.book ≡ profile }
     requires goes_on { head.now.stop.dc ≡ false }
     requires dcs { HaveDcs head.now (depths_of marks.old) blocks.old }
     ensures takes { TakesPlanes I.source head.now (depths_of marks.old) result (coming input.old) (coming input.new) blocks.old blocks.new }
@@ -95,9 +97,8 @@ pub(crate) fn take_planes<I: OctetIn>(
     if head.stop.plane >= head.depth_ac {
         return Ok(Part::Whole);
     }
-    let tables = WordTables::new(&profile_book());
     let mut above = [0; KEPT];
-    let Part::Whole = take_whole_planes(input, head, blocks, marks, &tables, &mut above)? else {
+    let Part::Whole = take_whole_planes(input, head, blocks, marks, tables, &mut above)? else {
         return Ok(Part::Ended);
     };
     take_stages(
@@ -105,7 +106,7 @@ pub(crate) fn take_planes<I: OctetIn>(
         head,
         blocks,
         marks,
-        &tables,
+        tables,
         head.stop.plane,
         head.stop.stage + 1,
         &mut above,

@@ -1,6 +1,7 @@
 // The items of a segment's text, read.
 ghost use Rattle.std.specs.Prelude.{◌≡◌, ◌*◌, length};
 ghost use Rattle.bit_pipe.specs.Coming.{coming, IsIn};
+ghost use Rattle.plane_defs.specs.Profile.{profile};
 ghost use Rattle.segment_defs.specs.Head.{IsHead};
 ghost use Rattle.segment_code.specs.TakenText.{AreClear, TakesText};
 
@@ -9,6 +10,7 @@ use crate::tells::plan_of;
 use bit_pipe::{BitIn, OctetIn, Part, TextFault};
 use dc_depths::{take_dc, take_depths};
 use segment_head::SegmentHead;
+use word_codes::WordTables;
 
 // Takes the DC part, the block depths and the planes, as far as they are sent. A part after one that is cut isn't read.
 pub(crate) fn take_text<I: OctetIn>(
@@ -16,11 +18,13 @@ pub(crate) fn take_text<I: OctetIn>(
     head: &SegmentHead,
     blocks: &mut [i32],
     marks: &mut [i32],
+    tables: &WordTables,
 ) -> Result<Part, TextFault>
     requires fits { IsHead head.now }
     requires open { IsIn (coming input.old) }
     requires count { length blocks.old ≡ 64 * length marks.old }
     requires marks { length marks.old ≡ head.now.blocks }
+    requires book { tables.now.book ≡ profile }
     requires clear { AreClear blocks.old }
     ensures takes { TakesText I.source head.now result (coming input.old) (coming input.new) blocks.new }
     ensures sizes { (length blocks.new ≡ length blocks.old) × (length marks.new ≡ length marks.old) }
@@ -36,5 +40,5 @@ pub(crate) fn take_text<I: OctetIn>(
     let Part::Whole = take_depths(input, marks, head.depth_ac)? else {
         return Ok(Part::Ended);
     };
-    take_planes(input, head, blocks, marks)
+    take_planes(input, head, blocks, marks, tables)
 }

@@ -13,6 +13,7 @@ use crate::segments::{find_next, take_segment};
 use base_122::{DecodeWish, Geometry};
 use packet_assembly::{Assembly, SegmentStart};
 use port_122::{Failed, Port};
+use segment_code::SegmentReader;
 use std::alloc::Global;
 
 /// Takes the packets of an APID and gives the picture of the segments that are received, each row as soon as the packets so far
@@ -109,9 +110,10 @@ fn take_segments<X: Port>(
     ensures takes { TakesAll (X.outside port.old) (X.outside port.new) assembly.old assembly.new (shown picture.old) (shown picture.new) result }
     ensures runs { (w : Run) → ComesTo w (X.outside port.old) assembly.old (shown picture.old) first → RunsAll w (X.outside port.new) assembly.new (shown picture.new) result }
 {
+    let reader = SegmentReader::new();
     let mut start = first;
     'segments: loop {
-        match take_segment(port, assembly, picture, &start) {
+        match take_segment(port, assembly, picture, &reader, &start) {
             Ok(()) => {}
             Err(fault) => return Err(fault),
         }

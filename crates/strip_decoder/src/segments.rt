@@ -11,7 +11,7 @@ use crate::picture::Picture;
 use bit_pipe::InFault;
 use packet_assembly::{Assembly, SegmentStart};
 use port_122::{Failed, Port};
-use segment_code::{SegmentFault, decode_segment};
+use segment_code::{SegmentFault, SegmentReader};
 use segment_head::SegmentHead;
 
 /// Goes on to the next segment, or to the end of the stream.
@@ -43,6 +43,7 @@ fn end_text<X: Port>(port: &mut X, assembly: &mut Assembly) -> Result<bool, Deco
 fn read_text<X: Port>(
     port: &mut X,
     assembly: &mut Assembly,
+    reader: &SegmentReader,
     head: &SegmentHead,
     blocks: &mut [i32],
     marks: &mut [i32],
@@ -54,7 +55,7 @@ fn read_text<X: Port>(
 {
     let count = head.blocks as usize;
     let mut text = assembly.text(port);
-    let read = decode_segment(
+    let read = reader.decode(
         &mut text,
         head,
         &mut blocks[..64 * count],
@@ -93,6 +94,7 @@ pub fn take_segment<X: Port>(
     port: &mut X,
     assembly: &mut Assembly,
     picture: &mut Picture,
+    reader: &SegmentReader,
     start: &SegmentStart,
 ) -> Result<(), DecodeFault>
     requires standing { IsStanding (shown picture.old) }
@@ -107,6 +109,7 @@ pub fn take_segment<X: Port>(
     let accepted = read_text(
         port,
         assembly,
+        reader,
         &start.head,
         &mut picture.blocks,
         &mut picture.marks,

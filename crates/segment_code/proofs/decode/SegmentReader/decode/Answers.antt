@@ -1,6 +1,6 @@
 use Rattle.std.proofs.lemmas.Result.{err_from_is_err_and}
 use Rattle.segment_code.proofs.FromText.{used_within, fault_decoded, whole_decoded, cut_decoded}
-use Rattle.segment_code.proofs.decode.decode_segment.Goals as goal
+use Rattle.segment_code.proofs.decode.SegmentReader.decode.Goals as goal
 
 pub returns-in_err-part-clause-decodes : goal.returns-in_err-part-clause-decodes
 returns-in_err-part-clause-decodes g c =
