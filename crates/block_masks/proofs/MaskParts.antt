@@ -1,10 +1,11 @@
 -- A mask without one of its positions, and a mask in two: its first position, and the others.
 use Rattle.std.proofs.Common.{◌≡◌, inl, inr, ℕ, ◌+◌, ◌-◌, ◌*◌, ◌/◌, ◌%◌, ◌<◌, ◌≤◌, ◌^◌, Bool, true, false, min, bit_and, bit_xor, refl, ap, sym, ◌∙◌, subst, arith}
-use Rattle.std.specs.Prelude.{◌==◌, if◌then◌else◌}
+use Rattle.std.specs.Prelude.{◌==◌, if◌then◌else◌, count_ones}
+use lib.Count.{ones_step, ones_cat}
 use Rattle.std.specs.Int.{w64, bit_at, trailing_zeros}
 use Rattle.std.proofs.lemmas.Bool.{cases_lt, cases_eq, eqb-true, eq-eqb, ne_eqb, true≢false}
-use Rattle.std.proofs.lemmas.Nat.{pow_pos, pow-add, shr_split, mod_below, and_le_l, and_le_r}
-use Rattle.std.proofs.lemmas.Nat.Bits.{bit_at_and, bit_at_xor, bit_at-pow_same, bit_at-pow_other, bit_at_ones_above, bit_at_cat_low, bit_at_cat_high, same_from_bits_below, same_from_bits, bit_at-trailing_zeros}
+use Rattle.std.proofs.lemmas.Nat.{pow_pos, pow-add, shr_split, mod_below, and_le_l, and_le_r, ones_le_self}
+use Rattle.std.proofs.lemmas.Nat.Bits.{bit_at_and, bit_at_xor, bit_at-pow_same, bit_at-pow_other, bit_at_ones_above, bit_at_cat_low, bit_at_cat_high, same_from_bits_below, same_from_bits, bit_at-trailing_zeros, bit_at-zero}
 use Rattle.std.proofs.lemmas.Bool.Decides.{nat_tests}
 use Rattle.std.proofs.Math.Pow.{pow-lt}
 use Rattle.item_defs.specs.Bits.{bit}
@@ -75,6 +76,42 @@ module _ (n k : ℕ) (here : bit_at n k ≡ 1) (none : (i : ℕ) → i < k → b
   others_less : bit_and n (n - 1) < n
   others_less = let le : bit_and n (n - 1) ≤ n - 1 = and_le_r n (n - 1) in omega (arith, le, split, pow_pos k)
 
+  -- the others are what stands above the first
+  others_are : bit_and n (n - 1) ≡ high * 2 ^ (k + 1) + 0
+  others_are = same_from_bits (bit_and n (n - 1)) (high * 2 ^ (k + 1) + 0) (λ i. one_less i ∙ elim (cases_lt i (k + 1)) [
+    | inl low ↦ elim (cases_eq i k) [
+      | inl e ↦ gone_first i e (bit_at n i) (ap (bit_at n) e ∙ here) ∙ sym (nothing_low i low)
+      | inr apart ↦ gone_low i apart (bit_at n i) (none i (omega (arith, low, apart))) ∙ sym (nothing_low i low)
+    ]
+    | inr past ↦
+        stays i (λ e. omega (arith, past, e)) (bit_at n i) ∙
+        (ap (λ m. bit_at m i) split ∙ bit_at_cat_high high (k + 1) (2 ^ k) i (omega (arith, twice, pow_pos k)) past) ∙ sym (bit_at_cat_high high (k + 1) 0 i (pow_pos (k + 1)) past)
+  ])
+    where
+      nothing_low : (i : ℕ) → i < k + 1 → bit_at (high * 2 ^ (k + 1) + 0) i ≡ 0
+      nothing_low i low = bit_at_cat_low high (k + 1) 0 i low ∙ bit_at-zero i
+
+      gone_first : (i : ℕ) → i ≡ k → (b : ℕ) → b ≡ 1 → b - (if i == k then 1 else 0) ≡ 0
+      gone_first i e b f = let t : (i == k) ≡ true = grind arith in rw (t, f) refl
+
+      gone_low : (i : ℕ) → (i ≡ k → ⊥) → (b : ℕ) → b ≡ 0 → b - (if i == k then 1 else 0) ≡ 0
+      gone_low i apart b f = let t : (i == k) ≡ false = grind arith in rw (t, f) refl
+
+      stays : (i : ℕ) → (i ≡ k → ⊥) → (b : ℕ) → b - (if i == k then 1 else 0) ≡ b
+      stays i apart b = let t : (i == k) ≡ false = grind arith in rw t (omega arith)
+
+  ones_less : count_ones n ≡ count_ones (bit_and n (n - 1)) + 1
+  ones_less =
+      let one : count_ones (2 ^ k) ≡ 1 = (let e : 2 ^ k ≡ 1 * 2 ^ k + 0 = omega arith in ap count_ones e ∙ ones_cat k 1 0 (pow_pos k) ∙ one_and_none) in
+      ap count_ones split ∙ ones_cat (k + 1) high (2 ^ k) (omega (arith, twice, pow_pos k)) ∙ ap (λ x. count_ones high + x) one ∙
+      sym (ap (λ x. x + 1) (ap count_ones others_are ∙ ones_cat (k + 1) high 0 (pow_pos (k + 1)) ∙ none_more))
+    where
+      one_and_none : count_ones 1 + count_ones 0 ≡ 1
+      one_and_none = omega (arith, ones_step 1, ones_le_self 0)
+
+      none_more : count_ones high + count_ones 0 ≡ count_ones high
+      none_more = omega (arith, ones_le_self 0)
+
   alone_at : (i : ℕ) → bit_at (bit_xor n (bit_and n (n - 1))) i ≡ (if i == k then 1 else 0)
   alone_at i = bit_at_xor n (bit_and n (n - 1)) i ∙ ap (λ b. (bit_at n i + b) % 2) (one_less i) ∙ by_place (i == k) refl
     where
@@ -110,6 +147,7 @@ parts n some fits =
       gone = ap (λ x. x == 1) (one_less n k r.1 r.2 k ∙ none_left k (bit_at n k) (omega (arith, r.1)));
       same = λ i lt apart. ap (λ x. x == 1) (one_less n k r.1 r.2 i ∙ all_left i k (bit_at n i) apart);
       fewer = others_less n k r.1 r.2;
+      ones = ones_less n k r.1 r.2;
     }
   where
     shown : (i k : ℕ) → ((if i == k then 1 else 0) == 1) ≡ inside k 1 i

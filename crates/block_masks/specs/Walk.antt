@@ -1,5 +1,5 @@
 -- The positions of a mask, one after another. (This project's own.)
-use Rattle.std.specs.Prelude.{◌≡◌, ◌<◌, ℕ, true, false}
+use Rattle.std.specs.Prelude.{◌≡◌, ◌<◌, ℕ, ◌+◌, true, false, count_ones}
 use Rattle.item_defs.specs.Bits.{bit}
 use Rattle.block_masks.specs.Masks.{Shows}
 use Rattle.block_masks.specs.Places.{inside}
@@ -14,3 +14,4 @@ pub record IsParted (mask first others : ℕ) : Type 0 where
   pub gone : bit others place ≡ false
   pub same : (k : ℕ) → k < 64 → (k ≡ place → ⊥) → bit others k ≡ bit mask k
   pub fewer : others < mask
+  pub ones : count_ones mask ≡ count_ones others + 1

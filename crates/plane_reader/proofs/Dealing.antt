@@ -1,19 +1,24 @@
 -- Bits dealt out to the positions of a mask.
-use Rattle.std.proofs.Common.{◌≡◌, inl, inr, ℕ, zero, suc, ◌+◌, ◌-◌, ◌*◌, ◌/◌, ◌%◌, ◌<◌, ◌≤◌, ◌^◌, Bool, true, false, ◌&&◌, ◌||◌, cond, List, [], ◌∷◌, ◌++◌, length, refl, ap, sym, ◌∙◌, subst, arith, length-append}
-use Rattle.std.specs.Prelude.{◌==◌, map, filter}
-use Rattle.std.proofs.lemmas.Bool.{cases_lt}
+use Rattle.std.proofs.Common.{◌≡◌, inl, inr, ℕ, zero, suc, ◌+◌, ◌-◌, ◌*◌, ◌/◌, ◌%◌, ◌<◌, ◌≤◌, ◌^◌, Bool, true, false, not, min, bit_and, ◌&&◌, ◌||◌, cond, List, [], ◌∷◌, ◌++◌, length, refl, ap, sym, ◌∙◌, subst, arith, length-append}
+use Rattle.std.specs.Prelude.{◌==◌, map, filter, count_ones}
+use Rattle.std.specs.Int.{bit_at}
+use lib.Count.{ones_cat, ones-le}
+use Rattle.std.proofs.lemmas.Bool.{cases_lt, eqb-true}
 use Rattle.std.proofs.lemmas.List.{map-append, append-nil}
-use Rattle.std.proofs.lemmas.Nat.{pow_pos, pow-add, shr-shr, shr_high}
+use Rattle.std.proofs.lemmas.Nat.{pow_pos, pow-add, shr-shr, shr_high, zero_from_ones, ones_le_self, and_le_r}
 use Rattle.std.proofs.Math.Nat.{mul_assoc}
-use Rattle.std.proofs.lemmas.Nat.Bits.{bit_at_above}
+use Rattle.std.proofs.lemmas.Nat.Bits.{bit_at_above, bit_at_cat_low, bit_at_and, bit_at-lt, same_from_bits_below}
 use Rattle.item_defs.specs.Bits.{bit, bits_of}
 use Rattle.item_defs.proofs.NumberBits.{bits_of-split}
 use Rattle.plane_defs.specs.Spans.{span}
 use Rattle.plane_defs.proofs.SpanLists.{filter-span-suc, filter-span-none}
 use Rattle.block_masks.specs.Masks.{Shows}
+use Rattle.block_masks.specs.Walk.{IsParted}
+use Rattle.block_masks.proofs.MaskParts.{fewer_left}
 use Rattle.block_masks.proofs.LaneMasks.{shows_same}
 use Rattle.bit_pipe.specs.Windows.{first_of}
 use Rattle.block_masks.specs.Places.{inside}
+use Rattle.plane_reader.specs.Refining.{IsFront, Deals}
 use Rattle.plane_reader.proofs.SignsPassed.{never}
 use Rattle.plane_reader.proofs.FoundMasks.{inside_at, before_inside, past_inside}
 
@@ -202,3 +207,138 @@ moved_bit window count rest lt e =
   where
     top : (x : ℕ) → x % 2 ^ 64 / 2 ^ 63 % 2 ≡ x / 2 ^ 63 % 2
     top x = omega arith
+
+-- ---- the positions that a window serves
+
+-- the first 56 positions have all but eight of the ones
+pub front_ones : (mask : ℕ) → mask < 2 ^ 64 → count_ones mask ≤ 8 + count_ones (mask % 2 ^ 56)
+front_ones mask fits =
+    let high = mask / 2 ^ 56 in
+    let low : mask % 2 ^ 56 < 2 ^ 56 = omega arith in
+    let whole : mask ≡ high * 2 ^ 56 + mask % 2 ^ 56 = omega arith in
+    let few : count_ones high ≤ 8 = ones-le 8 high (omega (arith, fits)) in
+    omega (arith, ap count_ones whole ∙ ones_cat 56 high (mask % 2 ^ 56) low, few)
+
+pub front_all : (mask : ℕ) → IsFront mask mask
+front_all mask = record { end = 64; within = omega arith; same = λ p lt. refl; past = λ p high low. absurd (omega (arith, high, low)) }
+
+pub front_low : (mask : ℕ) → IsFront mask (mask % 2 ^ 56)
+front_low mask = record {
+  end = 56;
+  within = omega arith;
+  same = λ p lt. let whole : mask / 2 ^ 56 * 2 ^ 56 + mask % 2 ^ 56 ≡ mask = omega arith in ap (λ x. x == 1) (sym (bit_at_cat_low (mask / 2 ^ 56) 56 (mask % 2 ^ 56) p lt) ∙ ap (λ m. bit_at m p) whole);
+  past = λ p high low. ap (λ x. x == 1) (bit_at_above (mask % 2 ^ 56) 56 p (omega arith) high);
+}
+
+-- ---- the loop over them
+
+-- so many positions were passed, and the window moved on by as many bits
+pub record DealtOn (mask window rest left bits : ℕ) : Type 0 where
+  pub count : ℕ
+  pub dealt : DealtSo mask window count left bits
+  pub moved : rest ≡ window * 2 ^ count % 2 ^ 64
+  pub ones : count + count_ones left ≡ count_ones mask
+
+pub on_none : (mask window : ℕ) → window < 2 ^ 64 → DealtOn mask window window mask 0
+on_none mask window fits = record { count = 0; dealt = dealt_none mask window; moved = moved_none window fits; ones = omega arith }
+
+some_ones : (n : ℕ) → (n ≡ 0 → ⊥) → 0 < count_ones n
+some_ones n some = grind (arith, zero_from_ones n)
+
+module _ {mask window rest left bits : ℕ} (s : DealtOn mask window rest left bits) (few : count_ones mask ≤ 56) (some : left ≡ 0 → ⊥) {first others : ℕ} (parts : IsParted left first others) where
+  less : s.count < 56
+  less = omega (arith, s.ones, few, some_ones left some)
+
+  pub on_more : (x : Bool) (more : ℕ) → x ≡ bit rest 63 → ((f : ℕ → Bool) → Shows bits f 0 64 → Shows more (λ p. f p || (inside parts.place 1 p && x)) 0 64) → DealtOn mask window (rest * 2 % 2 ^ 64) others more
+  on_more x more is told = record {
+    count = s.count + 1;
+    dealt = dealt_more s.dealt less parts.place parts.within parts.here parts.none_before x more others (is ∙ moved_bit window s.count rest less s.moved) told parts.gone parts.same parts.fewer;
+    moved = moved_more window s.count rest s.moved;
+    ones = omega (arith, s.ones, parts.ones);
+  }
+
+filter_alike : (f g : ℕ → Bool) (n : ℕ) → ((p : ℕ) → p < n → f p ≡ g p) → filter f (span 0 n) ≡ filter g (span 0 n)
+filter_alike f g zero same = filter-span-none f 0 ∙ sym (filter-span-none g 0)
+filter_alike f g (suc n) same =
+    let more : n + 1 ≡ suc n = omega arith in
+    let there : n ≡ 0 + n = omega arith in
+    ap (λ m. filter f (span 0 m)) (sym more) ∙ filter-span-suc f 0 n ∙ ap (λ l. l ++ cond (f (0 + n)) ((0 + n) ∷ []) []) (filter_alike f g n (λ p lt. same p (omega (arith, lt)))) ∙
+    ap (λ t. filter g (span 0 n) ++ cond t ((0 + n) ∷ []) []) (ap f (sym there) ∙ same n (omega arith) ∙ ap g there) ∙ sym (filter-span-suc g 0 n) ∙ ap (λ m. filter g (span 0 m)) more
+
+-- a mask of some positions of another one, and not of all
+part_less : (mask rest position : ℕ) → rest < 2 ^ 64 → ((p : ℕ) → p < 64 → bit rest p ≡ true → bit mask p ≡ true) → bit mask position ≡ true → bit rest position ≡ false → rest < mask
+part_less mask rest position small part here gone =
+    let same : bit_and mask rest ≡ rest = same_from_bits_below 64 (bit_and mask rest) rest (omega (arith, and_le_r mask rest, small)) small (λ i lt. bit_at_and mask rest i ∙ both (bit_at mask i) (bit_at rest i) (bit_at-lt mask i) (bit_at-lt rest i) (λ e. of_test (part i lt (ap (λ x. x == 1) e)))) in
+    subst (λ n. n < mask) same (fewer_left mask rest position here (ap (λ n. bit n position) same ∙ gone))
+  where
+    of_test : {n : ℕ} → (n == 1) ≡ true → n ≡ 1
+    of_test e = eqb-true _ _ e
+
+    both : (a b : ℕ) → a < 2 → b < 2 → (b ≡ 1 → a ≡ 1) → min a b ≡ b
+    both a zero la lb h = omega arith
+    both a (suc zero) la lb h = omega (arith, h refl)
+    both a (suc (suc b)) la lb h = absurd (omega (arith, lb))
+
+-- all that a window serves got their bits
+pub dealt_all : {mask here window rest bits : ℕ} → DealtOn here window rest 0 bits → IsFront mask here → 0 < here → count_ones here ≤ 56 → (left : ℕ) → Shows left (λ p. not (bit here p) && bit mask p) 0 64 → Deals mask window (count_ones here) left bits
+dealt_all {mask} {here} {window} {rest} {bits} s front some few left shows = record {
+  some = total;
+  few = few;
+  fewer = part_less mask left (d.end - 1) shows.small (λ p lt has. of_both (not (bit here p)) (bit mask p) (sym (left_is p lt) ∙ has)) (sym (same (d.end - 1) before) ∙ (d.last more).1) (gone (d.end - 1) before);
+  end = d.end;
+  within = d.within;
+  gone = gone;
+  kept = λ p high low. left_is p low ∙ ap (λ t. not t && bit mask p) (sym (d.kept p high low) ∙ none p);
+  last = ((d.last more).0, sym (same (d.end - 1) before) ∙ (d.last more).1);
+  many = ap length (filter_alike (bit mask) (bit here) d.end (λ p lt. sym (same p lt))) ∙ d.many ∙ all;
+  told = λ f e.
+      shows_same (alike f)
+      (d.told f (ap (map f) (filter_alike (bit here) (bit mask) d.end same) ∙ e ∙ ap (λ n. first_of n window) (sym all)));
+}
+  where
+    d : DealtSo here window s.count 0 bits
+    d = s.dealt
+
+    all : s.count ≡ count_ones here
+    all = omega (arith, s.ones, ones_le_self 0)
+
+    total : 0 < count_ones here
+    total = some_ones here (λ e. omega (arith, e, some))
+
+    more : 0 < s.count
+    more = omega (arith, all, total)
+
+    before : d.end - 1 < d.end
+    before = let e = (d.last more).0 in omega (arith, e)
+
+    none : (p : ℕ) → bit 0 p ≡ false
+    none = zero_bit
+
+    left_is : (p : ℕ) → p < 64 → bit left p ≡ (not (bit here p) && bit mask p)
+    left_is p lt = let z : 0 + p ≡ p = omega arith in shows.at p lt ∙ ap (λ q. not (bit here q) && bit mask q) z
+
+    reaches : d.end - 1 < front.end
+    reaches = elim (cases_lt (d.end - 1) front.end) [
+      | inl lt ↦ lt
+      | inr past ↦ absurd (never (sym (d.last more).1 ∙ front.past (d.end - 1) past (omega (arith, before, d.within))))
+    ]
+
+    same : (p : ℕ) → p < d.end → bit here p ≡ bit mask p
+    same p lt = front.same p (omega (arith, lt, reaches))
+
+    not_both : (b : Bool) → (not b && b) ≡ false
+    not_both true = refl
+    not_both false = refl
+
+    gone : (p : ℕ) → p < d.end → bit left p ≡ false
+    gone p lt = left_is p (omega (arith, lt, d.within)) ∙ ap (λ t. not t && bit mask p) (same p lt) ∙ not_both (bit mask p)
+
+    of_both : (a b : Bool) → (a && b) ≡ true → b ≡ true
+    of_both true b e = e
+    of_both false b e = cc
+
+    alike : (f : ℕ → Bool) (p : ℕ) → ((inside 0 d.end p && bit here p) && f p) ≡ ((inside 0 d.end p && bit mask p) && f p)
+    alike f p = elim (cases_lt p d.end) [
+      | inl lt ↦ ap (λ t. (inside 0 d.end p && t) && f p) (same p lt)
+      | inr past ↦ let out = past_inside 0 d.end p (omega (arith, past)) in ap (λ t. (t && bit here p) && f p) out ∙ sym (ap (λ t. (t && bit mask p) && f p) out)
+    ]

@@ -33,6 +33,13 @@ pub record DcBitNext (f : Frame) (plan : CodedPlane) (earlier : ℕ → List Ste
 abbrev pub IsDcBit : Frame → Bool → List ℤ → Type 0
 IsDcBit f x v = x ≡ (has_bit_in (dc_steps v f.weights f.plane f.q) 0 && twos_bit (get_or v 0 (pos 0)) f.plane)
 
+-- the positions of a mask before an end
+pub record IsFront (mask here : ℕ) : Type 0 where
+  pub end : ℕ
+  pub within : end ≤ 64
+  pub same : (p : ℕ) → p < end → bit here p ≡ bit mask p
+  pub past : (p : ℕ) → end ≤ p → p < 64 → bit here p ≡ false
+
 -- the first bits of a window went to the first positions of a mask, in turn: to all of them before an end, which leaves the
 -- others, and these have bits that are 1
 pub record Deals (mask window count left bits : ℕ) : Type 0 where

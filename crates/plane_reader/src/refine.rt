@@ -1,6 +1,6 @@
 // The refinement bits of a block, and the DC's bit.
 
-ghost use Rattle.std.specs.Prelude.{◌≡◌, ◌<◌, ◌&&◌, ℕ, ℤ, [], List, nat_lt};
+ghost use Rattle.std.specs.Prelude.{◌≡◌, ◌<◌, ◌≤◌, ◌&&◌, ℕ, ℤ, [], List, nat_lt, count_ones};
 ghost use Rattle.bit_pipe.specs.Coming.{coming, IsIn};
 ghost use Rattle.plane_defs.specs.Sets.{coded};
 ghost use Rattle.plane_defs.specs.Steps.{Step, dc_steps, refinement_steps};
@@ -9,12 +9,27 @@ ghost use Rattle.block_masks.specs.declared.gaggle.Gaggle.{Gaggle as GaggleValue
 ghost use Rattle.block_masks.specs.Gaggles.{AreOptions};
 ghost use Rattle.plane_reader.specs.Frames.{Frame};
 ghost use Rattle.plane_reader.specs.Pieces.{Piece, FoundPiece, Anything, OnSome};
-ghost use Rattle.plane_reader.specs.Refining.{Deals, RefinementNext, DcBitNext, IsDcBit};
+ghost use Rattle.plane_reader.specs.Refining.{IsFront, Deals, RefinementNext, DcBitNext, IsDcBit};
 
 use crate::found::Found;
 use crate::word::take_flag;
 use bit_pipe::{BitIn, OctetIn, TextFault};
-use block_masks::{CodedPlane, either, first_in, has, masked, one, part_first, without};
+use block_masks::{CodedPlane, beside, either, first_in, has, masked, one, part_first, without};
+
+// Those of a mask's positions that a window serves for sure: all, or where these are more than 56, those among the first 56.
+#[inline(always)]
+fn served(mask: u64) -> u64
+    requires some { 0 < mask }
+    ensures some { 0 < result }
+    ensures few { count_ones result ≤ 56 }
+    ensures front { IsFront mask result }
+{
+    if mask.count_ones() <= 56 {
+        mask
+    } else {
+        mask & ((1 << 56) - 1)
+    }
+}
 
 // What bits were dealt out to positions: those whose bit is 1, those that are left, and how many bits that took.
 #[derive(Clone, Copy)]
@@ -24,24 +39,27 @@ struct Dealt {
     count: u8,
 }
 
-// Deals the bits of a window out to the positions of a mask, the first to the first, up to 56 of them.
+// Deals the bits of a window out to the positions of a mask that it serves, the first to the first.
 #[inline(always)]
 fn deal(mask: u64, window: u64) -> Dealt
     requires some { 0 < mask }
     ensures { Deals mask window result.count result.left result.bits }
 {
+    let here = served(mask);
     let mut bits = 0;
-    let mut left = mask;
-    let mut count = 0;
+    let mut left = here;
     let mut rest = window;
-    while left != 0 && count < 56 {
+    while left != 0 {
         let parts = part_first(left);
         bits = either(bits, masked(parts.first, has(rest, 63)));
         left = parts.others;
-        count += 1;
         rest <<= 1;
     }
-    Dealt { bits, left, count }
+    Dealt {
+        bits,
+        left: beside(here, mask),
+        count: here.count_ones() as u8,
+    }
 }
 
 // Takes the plane's bit of each AC number of this mask: as many at once as stand at hand, else one after another.
