@@ -1,6 +1,7 @@
 -- What a number and a block show, with what waits for them.
 use Rattle.std.proofs.Common.{◌≡◌, inl, inr, ℕ, ◌+◌, ◌<◌, ◌≤◌, ◌^◌, Bool, true, false, ◌&&◌, ◌||◌, List, length, get_or, refl, ap, sym, ◌∙◌, subst, arith, ℤ, pos, ◌+ℤ◌}
 use Rattle.std.specs.Prelude.{◌==◌, nat_le, nat_lt, unsigned_abs, if◌then◌else◌}
+use Rattle.std.proofs.Math.Bool.{or-true, or-false, and-true, and-false}
 use Rattle.std.proofs.lemmas.Bool.{cases_lt}
 use Rattle.std.proofs.lemmas.Bool.Decides.{nat_tests}
 use Rattle.std.proofs.lemmas.List.{ext_get_or, get_or_past}
@@ -64,14 +65,6 @@ module _ (plane : ℕ) (found : Found) (block : List ℤ) where
   unfolding significant
   block_reaches p ac = by_bit (bit found.bits p) refl
     where
-      or_true : (b : Bool) → (b || true) ≡ true
-      or_true true = refl
-      or_true false = refl
-
-      or_false : (b : Bool) → (b || false) ≡ b
-      or_false true = refl
-      or_false false = refl
-
       number : get_or (shown_block plane found block) p (pos 0) ≡ shown_number plane found p (get_or block p (pos 0))
       number = block_number p ac.1
 
@@ -80,9 +73,9 @@ module _ (plane : ℕ) (found : Found) (block : List ℤ) where
           let told = number ∙ number_told plane found p (get_or block p (pos 0)) ac.0 e in
           sym (reached_is (shown_block plane found block) plane p) ∙
           ap (λ t. significant (shown_block plane found block) (plane + 1) p || t) (ap (λ z. bit (unsigned_abs z) plane) told ∙ has_bit plane (get_or block p (pos 0)) (bit found.minus p)) ∙
-          or_true _ ∙ sym (or_true (significant block plane p))
+          or-true _ ∙ sym (or-true (significant block plane p))
       by_bit false e =
-          ap (λ z. nat_le (2 ^ plane) (unsigned_abs z)) (number ∙ number_stays plane found p (get_or block p (pos 0)) e) ∙ sym (or_false (significant block plane p))
+          ap (λ z. nat_le (2 ^ plane) (unsigned_abs z)) (number ∙ number_stays plane found p (get_or block p (pos 0)) e) ∙ sym (or-false (significant block plane p))
 
 -- nothing waits
 pub block_shows_own : (plane : ℕ) (block : List ℤ) → length block ≡ 64 → shown_block plane nothing block ≡ block
@@ -118,49 +111,33 @@ applies_more plane found more now block joins = record {
     after : (p : ℕ) → IsAc p → get_or (shown_block plane now block) p (pos 0) ≡ shown_number plane now p (number p)
     after p ac = block_number plane now block p ac.1
 
-    or_true : (b : Bool) → (b || true) ≡ true
-    or_true true = refl
-    or_true false = refl
-
-    and_true : (b : Bool) → (b && true) ≡ b
-    and_true true = refl
-    and_true false = refl
-
-    and_false : (b : Bool) → (b && false) ≡ false
-    and_false true = refl
-    and_false false = refl
-
-    or_false : (b : Bool) → (b || false) ≡ b
-    or_false true = refl
-    or_false false = refl
-
     with_more : (p : ℕ) → IsAc p → bit more.bits p ≡ true → (b : Bool) → bit found.bits p ≡ b → shown_number plane now p (number p) ≡ with_bit plane (shown_number plane found p (number p)) (bit more.minus p)
     with_more p ac has b e =
-        number_told plane now p (number p) ac.0 (joins.bits p ac.1 ∙ ap (λ t. bit found.bits p || t) has ∙ or_true (bit found.bits p)) ∙
-        ap (with_bit plane (number p)) (joins.minus p ac.1 ∙ ap (λ t. (bit found.minus p && bit found.bits p) || (bit more.minus p && t)) has ∙ ap (λ t. (bit found.minus p && bit found.bits p) || t) (and_true (bit more.minus p))) ∙
+        number_told plane now p (number p) ac.0 (joins.bits p ac.1 ∙ ap (λ t. bit found.bits p || t) has ∙ or-true (bit found.bits p)) ∙
+        ap (with_bit plane (number p)) (joins.minus p ac.1 ∙ ap (λ t. (bit found.minus p && bit found.bits p) || (bit more.minus p && t)) has ∙ ap (λ t. (bit found.minus p && bit found.bits p) || t) (and-true (bit more.minus p))) ∙
         by_before b e
       where
         by_before : (b : Bool) → bit found.bits p ≡ b → with_bit plane (number p) ((bit found.minus p && bit found.bits p) || bit more.minus p) ≡ with_bit plane (shown_number plane found p (number p)) (bit more.minus p)
         by_before true e =
             ap (λ t. with_bit plane (number p) ((bit found.minus p && t) || bit more.minus p)) e ∙
-            ap (λ t. with_bit plane (number p) (t || bit more.minus p)) (and_true (bit found.minus p)) ∙
+            ap (λ t. with_bit plane (number p) (t || bit more.minus p)) (and-true (bit found.minus p)) ∙
             sym (bit_twice plane (number p) (bit found.minus p) (bit more.minus p)) ∙
             ap (λ z. with_bit plane z (bit more.minus p)) (sym (number_told plane found p (number p) ac.0 e))
         by_before false e =
             ap (λ t. with_bit plane (number p) ((bit found.minus p && t) || bit more.minus p)) e ∙
-            ap (λ t. with_bit plane (number p) (t || bit more.minus p)) (and_false (bit found.minus p)) ∙
+            ap (λ t. with_bit plane (number p) (t || bit more.minus p)) (and-false (bit found.minus p)) ∙
             ap (λ z. with_bit plane z (bit more.minus p)) (sym (number_stays plane found p (number p) e))
 
     as_before : (p : ℕ) → p < 64 → bit more.bits p ≡ false → shown_number plane now p (number p) ≡ shown_number plane found p (number p)
     as_before p lt none =
-        ap (λ t. if nat_lt 0 p && t then with_bit plane (number p) (bit now.minus p) else number p) (joins.bits p lt ∙ ap (λ t. bit found.bits p || t) none ∙ or_false (bit found.bits p)) ∙
+        ap (λ t. if nat_lt 0 p && t then with_bit plane (number p) (bit now.minus p) else number p) (joins.bits p lt ∙ ap (λ t. bit found.bits p || t) none ∙ or-false (bit found.bits p)) ∙
         by_before (bit found.bits p) refl
       where
         by_before : (b : Bool) → bit found.bits p ≡ b → (if nat_lt 0 p && b then with_bit plane (number p) (bit now.minus p) else number p) ≡ (if nat_lt 0 p && b then with_bit plane (number p) (bit found.minus p) else number p)
         by_before true e =
             ap (λ m. if nat_lt 0 p && true then with_bit plane (number p) m else number p)
-            (joins.minus p lt ∙ ap (λ t. (bit found.minus p && bit found.bits p) || (bit more.minus p && t)) none ∙ ap (λ t. (bit found.minus p && bit found.bits p) || t) (and_false (bit more.minus p)) ∙ or_false _ ∙
-            ap (λ t. bit found.minus p && t) e ∙ and_true (bit found.minus p))
+            (joins.minus p lt ∙ ap (λ t. (bit found.minus p && bit found.bits p) || (bit more.minus p && t)) none ∙ ap (λ t. (bit found.minus p && bit found.bits p) || t) (and-false (bit more.minus p)) ∙ or-false _ ∙
+            ap (λ t. bit found.minus p && t) e ∙ and-true (bit found.minus p))
         by_before false e = same (nat_lt 0 p) (with_bit plane (number p) (bit now.minus p)) (with_bit plane (number p) (bit found.minus p)) (number p)
           where
             same : (a : Bool) (x y z : ℤ) → (if a && false then x else z) ≡ (if a && false then y else z)

@@ -12,8 +12,8 @@ use crate::stages::Terms;
 use crate::waiting::{BLOCK, KEPT};
 use block_masks::all_reaching;
 
-/// Which numbers of the first blocks are significant in a plane: bit p of mask r tells of number p of block r
-/// (docs/formats.md, "Bit planes"). `blocks` has the 64 numbers of each block, one block after another.
+/// Which AC numbers of the first blocks are significant in a plane: bit p of mask r tells of number p of block r, and bit 0
+/// tells nothing (docs/formats.md, "Bit planes"). `blocks` has the 64 numbers of each block, one block after another.
 pub fn all_significant(blocks: &[i32], plane: u8) -> [u64; KEPT]
     requires whole { length blocks.now % 64 ≡ 0 }
     requires low { plane < 31 }

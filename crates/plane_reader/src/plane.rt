@@ -136,8 +136,8 @@ fn take_stages<I: OctetIn>(
 ///
 /// The other bits of the marks are free, and the call writes there; the depths stay, whatever it answers.
 ///
-/// `above` tells which numbers of the first blocks are significant above the plane, as `all_significant` does, and then which are
-/// in the plane, so that it serves the next lower one.
+/// `above` tells which AC numbers of the first blocks are significant above the plane, as `all_significant` does, and then which
+/// are in the plane, so that it serves the next lower one.
 ///
 /// # Errors
 ///

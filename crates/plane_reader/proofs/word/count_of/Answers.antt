@@ -1,5 +1,4 @@
-use Rattle.std.proofs.Common.{◌≤◌, ◌%◌, ◌≡◌, arith}
-use Rattle.std.specs.Prelude.{count_ones}
+use Rattle.std.proofs.Common.{arith}
 use Rattle.plane_reader.proofs.DueReading.{few_ones}
 use Rattle.plane_reader.proofs.word.count_of.Goals as goal
 
