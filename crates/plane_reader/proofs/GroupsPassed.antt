@@ -14,10 +14,21 @@ use Rattle.bit_pipe.specs.Coming.{Coming, IsIn, Takes}
 use Rattle.plane_reader.specs.declared.found.Found.{Found}
 use Rattle.plane_reader.specs.Frames.{Frame, group_steps, group_item, TypesNext, GroupsNext}
 use Rattle.plane_reader.specs.Pieces.{FoundPiece, Anything, SoFar}
+use Rattle.block_masks.specs.Walk.{IsParted}
 use Rattle.plane_reader.specs.Groups.{GroupsPassed}
 use Rattle.plane_reader.proofs.IndexPieces.{so_far_none}
 use Rattle.plane_reader.proofs.GroupPieces.{group_skipped, group_call, group_read, group_missing, group_fault, groups_whole}
 use Rattle.plane_reader.proofs.SignsPassed.{bit_inside, no_bit, never}
+
+-- the first position of a mask is the place at which it is parted
+pub place_is : {mask first others : ℕ} (parts : IsParted mask first others) (j : ℕ) → j < 64 → bit mask j ≡ true → ((k : ℕ) → k < j → bit mask k ≡ false) → parts.place ≡ j
+place_is parts j within here none = elim (cases_lt parts.place j) [
+  | inl before ↦ absurd (never (sym parts.here ∙ none parts.place before))
+  | inr past ↦ elim (cases_lt j parts.place) [
+    | inl after ↦ absurd (never (sym here ∙ parts.none_before j after))
+    | inr near ↦ omega (arith, past, near)
+  ]
+]
 
 module _ {f : Frame} {stage : ℕ} {earlier : ℕ → List Step} {done : List Step} {first count : ℕ} {now wanted : ℕ → Bool} {due now_mask wanted_mask : ℕ} {after : List ℤ → List Step} (next : GroupsNext f stage earlier done first count now wanted due now_mask wanted_mask after) {I : Type 0} {k : SourceOf I} {book : Book} {g : Gaggle} {m : Found} {a : Coming I} where
   -- none was read yet

@@ -17,7 +17,7 @@ use crate::found::Found;
 use crate::hand::types_in;
 use crate::types::{Group, take_types};
 use bit_pipe::{BitIn, OctetIn, TextFault};
-use block_masks::{Gaggle, first_in, has, part, without};
+use block_masks::{Gaggle, first_in, has, part, part_first, without};
 use word_codes::WordTables;
 
 // Groups of four positions from `first` on: those whose types are sent, and those of which one type at least must be 1.
@@ -76,7 +76,7 @@ fn groups_in(
         };
         read.found.add_bits(types.new, start);
         read.found.add_minus(types.minus, start);
-        read.left = without(read.left, j);
+        read.left = part_first(read.left).others;
         read.len += types.len;
         rest <<= types.len;
     }

@@ -1,4 +1,5 @@
-use Rattle.std.proofs.Common.{rules, ◌≡◌, ◌+◌, ◌*◌, ◌%◌, ◌^◌, ◌<◌, ◌≤◌, ◌++◌, ◌∙◌, refl, ap, sym, subst, arith}
+use Rattle.std.proofs.Common.{rules, ◌≡◌, ◌+◌, ◌*◌, ◌%◌, ◌^◌, ◌<◌, ◌≤◌, ◌++◌, ◌∙◌, false, refl, ap, sym, subst, arith}
+use Rattle.item_defs.specs.Bits.{bit}
 use Rattle.block_masks.proofs.Viewing.{from_zero}
 use Rattle.bit_pipe.specs.Coming.{Takes}
 use Rattle.bit_pipe.specs.Windows.{first_of}
@@ -11,7 +12,7 @@ use Rattle.block_masks.proofs.SettingLanes.{shows_own}
 use Rattle.plane_reader.proofs.Shadows.{between, takes_first, takes_rest, window_parts}
 use Rattle.plane_reader.proofs.TypesAtHand.{types_at_hand}
 use Rattle.plane_reader.proofs.GroupsAtHand.{none_read, moved_on}
-use Rattle.plane_reader.proofs.GroupsPassed.{groups_more}
+use Rattle.plane_reader.proofs.GroupsPassed.{groups_more, place_is}
 use Rattle.plane_reader.proofs.groups.groups_in.Goals as goal
 
 pub loop-read-init : goal.loop-read-init
@@ -65,10 +66,12 @@ loop-read-preserved c =
     let t = c.in-Some.ensures in
     let inside : j < c.args.groups.count = bit_inside c.loop-read.read.left c.args.groups.count j i.small here.here in
     let small : c.part-here.result < 16 = omega (arith, c.part-here.ensures.within) in
+    let parts = c.part_first.ensures in
+    let place : parts.place ≡ j = place_is parts j here.within here.here here.none_before in
     let short : types.len ≤ 12 = omega (arith, t.len, t.is_word.few, few_ones types.new t.new.small) in
     record {
-      fewer = omega (arith, i.fewer, c.without.ensures.fewer here.here);
-      small = omega (arith, i.small, c.without.ensures.fewer here.here);
+      fewer = omega (arith, i.fewer, parts.fewer);
+      small = omega (arith, i.small, parts.fewer);
       short = omega (arith, short, c.if-read-le44.true);
       moved = moved_on c.args.window len types.len c.loop-read.rest i.moved;
       read = λ f stage earlier done now wanted after g m a b d next passed is_in taken.
@@ -85,5 +88,5 @@ loop-read-preserved c =
           (λ f' stage' earlier' done' after' types_next.
           let shown = from_zero (c.args.groups.first + 4 * j) (c.part-here.ensures.told _ 0 64 (shows_own c.args.due 64 (search rules)) types_next.within) in
           types_at_hand c.requires.known types_next c.part-here.result small shown c.loop-read.rest t (in_later is_in before) last c.add_bits.ensures.minus c.add_bits.ensures.bits c.add_minus.ensures.bits c.add_minus.ensures.minus)
-          refl c.without.result c.without.ensures.gone c.without.ensures.others;
+          refl c.part_first.result.others (subst (λ n. bit c.part_first.result.others n ≡ false) place parts.gone) (λ k lt apart. parts.same k lt (λ e. apart (e ∙ place)));
     }
