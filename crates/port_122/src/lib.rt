@@ -5,6 +5,7 @@
 mod memory;
 mod pieces;
 mod port;
+mod retries;
 mod standard;
 mod steady;
 #[cfg(test)]

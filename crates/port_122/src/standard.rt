@@ -6,12 +6,14 @@ ghost use Rattle.port_122.specs.Faults.{HasFaults, faults_after};
 ghost use Rattle.port_122.specs.Standard.{outside_of};
 
 use crate::port::{Failed, Port};
+use crate::retries::{read_some, write_some};
 use std::io::{Read, Write};
 
 /// A port over a reader and two writers, which counts their faults (docs/architecture.md, "The outside").
 ///
-/// It tells no octets: nothing is claimed of what a file, a pipe or a terminal holds. A write or a note that
-/// takes nothing of a piece that isn't empty is a fault.
+/// It tells no octets: nothing is claimed of what a file, a pipe or a terminal holds. A call that was interrupted
+/// (`ErrorKind::Interrupted`) moved nothing and is made again. Any other error is a fault, `WouldBlock` too, and so is
+/// a write or a note that takes nothing of a piece that isn't empty.
 #[derive(Drop)]
 pub struct StdPort<I: Read, O: Write, N: Write> {
     input: I,
@@ -53,7 +55,7 @@ impl<I: Read, O: Write, N: Write> Port for StdPort<I, O, N> {
         ensures output { self.new.output ≡ self.old.output }
         ensures notes { self.new.notes ≡ self.old.notes }
     {
-        match self.input.read(into) {
+        match read_some(&mut self.input, into) {
             Ok(count) => Ok(count),
             Err(_) => {
                 self.read_faults = self.read_faults.saturating_add(1);
@@ -71,7 +73,7 @@ impl<I: Read, O: Write, N: Write> Port for StdPort<I, O, N> {
         ensures input { self.new.input ≡ self.old.input }
         ensures notes { self.new.notes ≡ self.old.notes }
     {
-        match self.output.write(bytes) {
+        match write_some(&mut self.output, bytes) {
             Ok(count) if count > 0 || bytes.is_empty() => Ok(count),
             _ => {
                 self.write_faults = self.write_faults.saturating_add(1);
@@ -89,7 +91,7 @@ impl<I: Read, O: Write, N: Write> Port for StdPort<I, O, N> {
         ensures input { self.new.input ≡ self.old.input }
         ensures output { self.new.output ≡ self.old.output }
     {
-        match self.notes.write(bytes) {
+        match write_some(&mut self.notes, bytes) {
             Ok(count) if count > 0 || bytes.is_empty() => Ok(count),
             _ => {
                 self.note_faults = self.note_faults.saturating_add(1);
