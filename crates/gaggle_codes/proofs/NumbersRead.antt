@@ -212,6 +212,9 @@ module _ {I : Type 0} {k : SourceOf I} (range : NumberRange) (too_great : ℕ �
       m : ℕ
       m = items_read (length t.items) t.ending
 
+      pub got_fits : 16 * g + length got ≤ count
+      got_fits = (let n = ap length t.whole in omega (arith, n, length-take (given_in range.bits t.option size g (items_read (length t.items) t.ending)) t.heights, t.all, size_is, lt))
+
       -- ---- where not all of its items were read
 
       pub numbers_stop : {now : List ℤ} (answer : Result (Part × ℕ) TextFault) → ((i : ℕ) → i < length got → too_great (get_or got i 0) ≡ false) → ((e : Ending) (n : ℕ) → r ≡ part_answer e → answer ≡ numbers_answer (later_by n e) (16 * g + length got)) → IsCut t.ending →
@@ -236,6 +239,7 @@ module _ {I : Type 0} {k : SourceOf I} (range : NumberRange) (too_great : ℕ �
             ending = later_by base t.ending;
             read = subst (λ l. Reads k l (later_by base t.ending) a c) joined both;
             given = 16 * g + length got;
+            bounded = omega (arith, got_fits, length-padded count (s.heights ++ t.heights));
             allowed = λ i less inside.
                 let front : get_or (take (16 * g + length got) list) i 0 ≡ get_or list i 0 = get_or-take (16 * g + length got) list i 0 less in
                 ap too_great (sym front ∙ ap (λ l. get_or l i 0) (front_given size_given))
@@ -347,9 +351,6 @@ module _ {I : Type 0} {k : SourceOf I} (range : NumberRange) (too_great : ℕ �
       pub got_small : (i : ℕ) → get_or got i 0 < 2 ^ range.bits
       got_small i = (let few = t.few in rw t.whole (front_few (2 ^ range.bits) (given_in range.bits t.option size g (items_read (length t.items) t.ending)) t.heights (pow_pos range.bits) few i))
 
-      pub got_fits : 16 * g + length got ≤ count
-      got_fits = (let n = ap length t.whole in omega (arith, n, length-take (given_in range.bits t.option size g (items_read (length t.items) t.ending)) t.heights, t.all, size_is, lt))
-
   -- ---- all gaggles
 
   pub numbers_all : (g last : ℕ) {a b : Coming I} {before now : List ℤ} → gaggle_count count ≡ g → count ≡ div_ceil (length before) stride → SoFar k range too_great shift stride count g last a b before now →
@@ -369,6 +370,7 @@ module _ {I : Type 0} {k : SourceOf I} (range : NumberRange) (too_great : ℕ �
         ending = stopped whole;
         read = reads_whole (subst (λ l. Takes k a b (text l)) items s.so_far);
         given = count;
+        bounded = omega (arith, length-padded count s.heights);
         given_are = λ i less. (λ h. within i (omega (arith, h)), λ h. omega (arith, less, length-padded count s.heights));
         allowed = λ i less inside. ap too_great (padded_at count s.heights i less) ∙ s.allowed i (omega (arith, less, long));
         answer = refl;

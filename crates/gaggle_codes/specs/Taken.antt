@@ -172,6 +172,7 @@ pub record TakesNumbers {I : Type 0} (k : SourceOf I) (kind : Kind) (range : Num
   pub ending : Ending
   pub read : Reads k (number_items kind heights options) ending old new
   pub given : ℕ
+  pub bounded : given ≤ length heights
   pub given_are : (i : ℕ) → i < length heights →
       let m = items_read (length (number_items kind heights options)) ending in
       (i < given → numbers_through kind heights options i ≤ m) × (numbers_through kind heights options i ≤ m → i < given)

@@ -248,6 +248,7 @@ impl StripInverse {
     /// `make_row`.
     pub fn next_row(&mut self) -> Option<&[i64]>
         ensures* after_borrow { sem 𝓛 (MovesAfter self.entry result) }
+        ensures wide { IfSome result (λ x. length x.now ≡ 8 * columns_of self.old) }
         ensures value { (p : Pyramid) (r : ℕ)
             → IsCompletion (taken_of self.old) (height_of self.old) r
             → FollowStrip p r self.old

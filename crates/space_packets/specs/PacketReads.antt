@@ -28,11 +28,12 @@ pub record ReadsPacket (apid : ℕ) (old new : Outside) (v w : Intake) (result :
   pub end_below : saw_end ≡ true → v.taken + length took < v.cap
   pub ends : EndsPacket apid old new (fed v took saw_end) w result
 
--- what one read into a reader leaves
+-- what one read into a reader leaves: it asks for 1 to 4,096 octets
 pub record Fed (old new : Outside) (v w : Intake) : Type 0 where
   pub piece : List ℕ
   pub count : ℕ
   pub some : 0 < length piece
+  pub few : length piece ≤ 4096
   pub read : Read old new piece count
   pub within : v.taken + count ≤ v.cap
   pub stands : w ≡ fed v (take count piece) (count == 0)

@@ -3,14 +3,14 @@
 ghost use Rattle.std.specs.Prelude.{◌≡◌, ◌*◌, ◌^◌, ◌<◌, ◌≤◌, IfOk, vec_len};
 ghost use Rattle.wave_defs.specs.Level.{joined, columns_merged, rows_merged};
 ghost use Rattle.wave_defs.specs.Within.{EachWithin, QuartersWithin};
-ghost use Rattle.wave_plain.specs.Shown.{image_of, quarters_in, HasSize, Shows};
+ghost use Rattle.wave_plain.specs.Shown.{image_of, quarters_in, zeros, HasSize, Shows};
 
 use crate::{Plane, columns, rows};
 use std::alloc::{AllocError, Global};
 
 /// A plane of zeros.
 fn zero_plane(alloc: Global, width: u32, rows: u32) -> Result<Plane, AllocError>
-    ensures { IfOk result (HasSize rows width) }
+    ensures { IfOk result (Shows rows width zeros) }
 {
     let cells = vec![in alloc; 0; rows as usize * width as usize]?;
     Ok(Plane { width, rows, cells })

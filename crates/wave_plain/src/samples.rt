@@ -40,12 +40,12 @@ fn widen(from: &[i32], to: &mut [i64])
 impl Samples {
     ghost use Rattle.std.specs.Prelude.{◌≡◌, ℕ, ◌+◌, ◌*◌, ◌-◌, ◌/◌, ◌^◌, ◌<◌, ◌≤◌, length, IfOk, vec_len};
     ghost use Rattle.wave_defs.specs.Within.{EachWithin};
-    ghost use Rattle.wave_plain.specs.Shown.{image_of, Shows};
+    ghost use Rattle.wave_plain.specs.Shown.{image_of, zeros, Shows};
     ghost use Rattle.wave_plain.specs.ShownSamples.{samples_of, ShowsSamples};
 
     /// Zeros.
     pub fn zeros(alloc: Global, width: u32, rows: u32) -> Result<Samples, AllocError>
-        ensures { IfOk result (λ s. (s.width ≡ width) × (s.rows ≡ rows)) }
+        ensures { IfOk result (ShowsSamples rows width zeros) }
     {
         let cells = vec![in alloc; 0; rows as usize * width as usize]?;
         Ok(Samples { width, rows, cells })

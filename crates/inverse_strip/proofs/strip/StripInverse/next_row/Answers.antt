@@ -1,4 +1,4 @@
-use Rattle.std.proofs.Common.{◌≡◌, ◌+◌, ◌*◌, Bool, true, refl, subst}
+use Rattle.std.proofs.Common.{◌≡◌, ◌+◌, ◌*◌, Bool, true, refl, subst, arith}
 use Rattle.std.specs.Bool.{OnTrue}
 use Rattle.wave_defs.specs.Pyramid.{rebuilt}
 use Rattle.wave_defs.specs.Held.{Agrees, signal}
@@ -29,6 +29,7 @@ returns c =
       ),
       record {
         after_borrow = tt;
+        wide = omega arith;
         value = λ p r completion follow.
             let row = subst (λ (b : Bool). OnTrue b (Agrees (8 * w) (signal new.row.items) (rebuilt p r w k))) made (c.make_row.ensures.value p r completion follow) in
             rw c.deref.ensures.value row;
