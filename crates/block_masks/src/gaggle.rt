@@ -87,7 +87,8 @@ fn packed_mark(depth: u8, options: (u8, u8, u8), sent: (bool, bool, bool)) -> i3
     low as i32
 }
 
-/// A mark that keeps this depth and this of a gaggle, and no family.
+/// A mark that keeps this depth and this of a gaggle, and no family. The depth is below 32, and the options for words of two,
+/// three and four bits are below 2, 3 and 4.
 #[tactic(auto, using(crate::proofs::MarkParts::three_of))]
 pub fn mark_of(depth: u8, gaggle: Gaggle) -> i32
     requires below { depth < 32 }
@@ -124,7 +125,8 @@ pub fn load(marks: &[i32], g: usize) -> Gaggle
     gaggle_in(marks[16 * g])
 }
 
-/// Keeps this of gaggle g in the marks, whose depths and families stay.
+/// Keeps this of gaggle g in the marks, whose depths and families stay. There is a mark for the first block of the gaggle, and
+/// the options for words of two, three and four bits are below 2, 3 and 4.
 pub fn store(marks: &mut [i32], g: usize, gaggle: Gaggle)
     requires within { 16 * g < length marks.old }
     requires known { AreOptions gaggle.options }

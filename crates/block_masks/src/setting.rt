@@ -125,7 +125,8 @@ fn set_singly(block: &mut [i32], plane: u8, bits: u64, minus: u64)
 }
 
 /// Gives the numbers of a block at the positions of a mask the bit of weight 2^plane in their magnitude. They are negative
-/// where they were, or where `minus` tells them. What it tells of other positions is passed over.
+/// where they were, or where `minus` has their bit. Other bits of `minus` are passed over. A number whose magnitude is 2^30
+/// or more is left open if it is at a position of the mask; the numbers of a segment are below 2^28.
 #[inline]
 pub fn set_bits(block: &mut [i32], plane: u8, bits: u64, minus: u64)
     requires whole { length block.old ≡ 64 }

@@ -71,7 +71,8 @@ fn put_planes<O: OctetOut>(
 }
 
 /// Puts the DC part of a segment: the numbers of its blocks' DCs, then their bit planes down to the depth of
-/// AC (docs/formats.md, "DC part and block depths"). A block is 64 numbers, of which the first is its DC.
+/// AC (docs/formats.md, "DC part and block depths"). A block is 64 numbers, of which the first is its DC. The depth of DC is
+/// at most 28, the shift at most 3, and each DC over 2^q, rounded down, fits the bits of the numbers that are put.
 pub fn put_dc<O: OctetOut>(
     out: &mut BitOut<O>,
     blocks: &[i32],

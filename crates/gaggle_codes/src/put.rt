@@ -61,7 +61,8 @@ fn put_gaggle<O: OctetOut>(
 }
 
 /// Puts the numbers of a range by their differences (docs/formats.md, "Numbers by differences"). The numbers
-/// are every `stride`-th cell over 2^shift, rounded down.
+/// are every `stride`-th cell over 2^shift, rounded down: the stride is at least 1, the shift at most 27, and each number is
+/// one of the range, which has 2 to 10 bits.
 pub fn put_values<O: OctetOut>(
     out: &mut BitOut<O>,
     cells: &[i32],

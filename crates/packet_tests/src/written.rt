@@ -90,6 +90,20 @@ fn parts_and_packets_are_numbered(rt: HostRuntime) -> Result<(), Fail> {
 }
 
 #[test]
+fn each_packet_is_one_write(rt: HostRuntime) -> Result<(), Fail> {
+    // Packets of 70, 70 and 50 octets, and the call that fails.
+    for (call, given) in [(0, 0), (1, 70), (2, 140), (3, 190)] {
+        let fail = [call].to_vec(rt.alloc())?;
+        let mut port = MemoryPort::new(rt.alloc(), Vec::new(rt.alloc()), fail, 4096)?;
+        let mut packets = Packetiser::new(rt.alloc(), 64)?;
+        let written = write_text(&mut packets, &mut port, &[1; 100]);
+        assert_eq!(rt; written.is_ok(), call == 3);
+        assert_eq!(rt; port.given().len(), given);
+    }
+    Ok(())
+}
+
+#[test]
 fn after_a_failed_write_only_reset_goes_on(rt: HostRuntime) -> Result<(), Fail> {
     let fail = [0].to_vec(rt.alloc())?;
     let mut port = MemoryPort::new(rt.alloc(), Vec::new(rt.alloc()), fail, 4096)?;

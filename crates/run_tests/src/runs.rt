@@ -9,7 +9,7 @@ use top_122::run;
 pub(crate) const WHOLE: usize = 65_536;
 
 // The words of a text, with a space between each two.
-fn words(rt: &impl AllocGlobal, text: &str) -> Result<Vec<String>, Fail> {
+pub(crate) fn words(rt: &impl AllocGlobal, text: &str) -> Result<Vec<String>, Fail> {
     let mut words = Vec::new(rt.alloc());
     for word in text.split(' ') {
         words.push(String::from_str(rt.alloc(), word)?)?;
@@ -241,6 +241,25 @@ fn code_words_of_four_octets(rt: HostRuntime) -> Result<(), Fail> {
     expect(&rt, words, &[200; 289], 0, &packet(&rt, &text)?, "")
 }
 
+// A square of this one pixel goes out with this text, with and without its bit planes, and the whole packet gives it back.
+fn expect_flat(
+    rt: &(impl Abort + AllocGlobal),
+    fields: &str,
+    raster: &[u8],
+    text: &[u8],
+) -> Result<(), Fail> {
+    assert!(rt; text.len() > 7);
+    let mut words = String::from_str(rt.alloc(), "encode width=17 rows=17 ")?;
+    words.push_str(fields)?;
+    let whole = packet(rt, text)?;
+    expect(rt, words.as_str(), raster, 0, &whole, "")?;
+    expect(rt, "decode", &whole, 0, raster, "")?;
+    words.push_str(" stop=dc")?;
+    let mut stopped = text.to_vec(rt.alloc())?;
+    stopped[7] = 0x10;
+    expect(rt, words.as_str(), raster, 0, &packet(rt, &stopped)?, "")
+}
+
 #[test]
 fn the_deepest_and_the_flattest_signed_pixels(rt: HostRuntime) -> Result<(), Fail> {
     let mut least = Vec::new(rt.alloc());
@@ -248,17 +267,15 @@ fn the_deepest_and_the_flattest_signed_pixels(rt: HostRuntime) -> Result<(), Fai
         least.extend_from_slice(&[0x80, 0x00])?;
     }
     let text = [
-        0xC0, 0x26, 0x07, 0xE0, 0x00, 0x00, 0x00, 0x10, 0x60, 0x00, 0x00, 0x9C, 0x90, 0x00, 0x01,
+        0xC0, 0x26, 0x07, 0xE0, 0x00, 0x00, 0x00, 0x00, 0x60, 0x00, 0x00, 0x9C, 0x90, 0x00, 0x01,
         0x10, 0x00, 0x00, 0x00, 0x00, 0x08, 0x03, 0xFC, 0, 0, 0, 0, 0, 0, 0,
     ];
-    let words = "encode width=17 rows=17 depth=16 signed=1 stop=dc";
-    expect(&rt, words, &least, 0, &packet(&rt, &text)?, "")?;
+    expect_flat(&rt, "depth=16 signed=1", &least, &text)?;
     let text = [
-        0xC0, 0x08, 0x07, 0xE0, 0x00, 0x00, 0x00, 0x10, 0x60, 0x00, 0x00, 0x9C, 0x91, 0x00, 0x01,
+        0xC0, 0x08, 0x07, 0xE0, 0x00, 0x00, 0x00, 0x00, 0x60, 0x00, 0x00, 0x9C, 0x91, 0x00, 0x01,
         0x10, 0x00, 0x00, 0x00, 0x00, 0xFF, 0x80,
     ];
-    let words = "encode width=17 rows=17 depth=1 signed=1 stop=dc";
-    expect(&rt, words, &[0xFF; 289], 0, &packet(&rt, &text)?, "")
+    expect_flat(&rt, "depth=1 signed=1", &[0xFF; 289], &text)
 }
 
 #[test]

@@ -44,7 +44,7 @@ chosen_below p g (suc (suc (suc zero))) low high = cheapest_below profile 3 (sym
 chosen_below p g (suc (suc (suc (suc zero)))) low high = cheapest_below profile 4 (symbol_counts 4 (counted p g)) (omega arith)
 chosen_below p g (suc (suc (suc (suc (suc n))))) low high = absurd (omega arith)
 
-words_are : (head : SegmentHead) (blocks : List (List ℤ)) → AreWordOptions (chosen_options head blocks)
+pub words_are : (head : SegmentHead) (blocks : List (List ℤ)) → AreWordOptions (chosen_options head blocks)
 words_are head blocks = record { at = λ b g n low high. chosen_below (plane_at head blocks (block_depths blocks) b) g n low high }
 
 -- ---- numbers

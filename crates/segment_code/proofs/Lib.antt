@@ -32,3 +32,4 @@ mod ReadNames
 pub mod CodedHeld
 pub mod CodedOptions
 mod NoneAbove
+mod ExactTexts

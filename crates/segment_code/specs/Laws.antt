@@ -1,5 +1,5 @@
 -- The laws of a segment's text.
-use Rattle.std.specs.Prelude.{◌≡◌, ◌<◌, ℕ, ◌^◌, ℤ, List, ◌++◌, length, drop}
+use Rattle.std.specs.Prelude.{◌≡◌, ◌<◌, ◌↔◌, ℕ, ◌^◌, ℤ, false, List, ◌++◌, length, drop}
 use Rattle.item_defs.specs.Items.{text}
 use Rattle.segment_defs.specs.declared.head.SegmentHead.{SegmentHead}
 use Rattle.segment_defs.specs.Depths.{block_depths, depth_ac_of}
@@ -13,6 +13,18 @@ use Rattle.text_defs.specs.Outcomes.{Holds}
 abbrev pub CodedHolds : Type 0
 CodedHolds = (head : SegmentHead) (blocks : List (List ℤ)) → IsHead head → length head.image.weights.shifts ≡ 10 → IsSpellable head blocks (block_depths blocks) →
     head.depth_ac ≡ depth_ac_of blocks → (w : List (List ℤ)) × Holds head (drop (head_length head) (coded head blocks)) w
+
+-- the stop is after the last stage of the last bit plane
+pub record HasNoStop (head : SegmentHead) : Type 0 where
+  pub goes_on : head.stop.dc ≡ false
+  pub plane : head.stop.plane ≡ 0
+  pub stage : head.stop.stage ≡ 3
+
+-- a coded text with neither a stop nor a limit holds exactly the blocks that were coded
+abbrev pub CodedHoldsExactly : Type 0
+CodedHoldsExactly = (head : SegmentHead) (blocks : List (List ℤ)) → IsHead head → length head.image.weights.shifts ≡ 10 → IsSpellable head blocks (block_depths blocks) →
+    head.depth_ac ≡ depth_ac_of blocks → head.limit ≡ 0 → HasNoStop head →
+    (w : List (List ℤ)) → Holds head (drop (head_length head) (coded head blocks)) w ↔ (w ≡ blocks)
 
 -- head and items of values that can be spelled, with any options, take fewer than 2 ^ 31 octets: the bound of 2 ^ 32
 -- octets that stands for no limit never cuts them

@@ -16,10 +16,10 @@ use bit_pipe::{BitOut, Failed, OctetOut, PutFault};
 use dc_depths::{put_dc, put_depths};
 use segment_head::{SegmentHead, write_head};
 
-/// Writes the text of a segment, and answers its length in octets (docs/formats.md, "Stops, cut and fill"). Its blocks
-/// are 64 weighted numbers each. The depths of the head and the marks are those of the blocks, as `segment_depths`
-/// answers them; the marks keep them in their lowest five bits, and what their other bits hold afterwards is left open.
-/// `Failed` comes only where the sink failed.
+/// Writes the text of a segment, and answers its length in octets (docs/formats.md, "Stops, cut and fill"). The sink was
+/// given nothing yet. The blocks are 64 weighted numbers each. The depths of the head and the marks are those of the blocks,
+/// as `segment_depths` answers them; the marks keep them in their lowest five bits, and what their other bits hold afterwards
+/// is left open. `Failed` comes only where the sink failed.
 pub fn encode_segment<O: OctetOut>(
     out: &mut O,
     head: &SegmentHead,

@@ -11,16 +11,25 @@ mod planes_in;
 mod tells;
 mod text_in;
 
-ghost use Rattle.segment_code.specs.Laws.{CodedHolds, TextsAreShort};
+ghost use Rattle.segment_code.specs.Laws.{CodedHolds, CodedHoldsExactly, TextsAreShort};
 
 pub use decode::{SegmentFault, SegmentReader, decode_segment};
 pub use depths::segment_depths;
 pub use encode::encode_segment;
+use text_defs::{items_give_all, readings_give_one};
 
 /// What was encoded can be decoded: the coded text of values that can be spelled holds something.
 pub const fn coded_holds()
     ensures { CodedHolds }
 {}
+
+/// A coded text with neither a stop nor a limit holds exactly the blocks that were coded.
+pub const fn coded_holds_exactly()
+    ensures { CodedHoldsExactly }
+{
+    readings_give_one();
+    items_give_all();
+}
 
 /// Without a limit a text is never cut: head and items of values that can be spelled take fewer than 2^31 octets.
 pub const fn texts_are_short()

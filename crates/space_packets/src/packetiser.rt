@@ -16,8 +16,8 @@ use std::marker::Model;
 
 /// Cuts texts into packets and writes them to a port (docs/formats.md, "Packets").
 ///
-/// It holds one packet, which is written only when a further octet of its text comes, or at the text's end. Each packet is
-/// one `write_all`. Packets are numbered from 0 with each `reset`, their parts from 0 with each text. After a call that
+/// It holds one packet, which is written only when a further octet of its text arrives, or at the text's end. Each packet is
+/// one `write_all`, which is tested and not proved. Packets are numbered from 0 with each `reset`, their parts from 0 with each text. After a call that
 /// answered `Failed` only `reset` may follow.
 #[derive(Drop)]
 pub struct Packetiser {
