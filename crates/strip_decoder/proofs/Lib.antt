@@ -25,6 +25,7 @@ pub mod Containing
 pub mod SublistPictures
 pub mod SpelledImages
 pub mod CodedImages
+pub mod SublistSegments
+pub mod DecodedSublists
 pub mod WholeImages
-pub mod WholeTexts
 pub mod RoundTrips

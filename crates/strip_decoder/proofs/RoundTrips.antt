@@ -16,14 +16,13 @@ use Rattle.base_122.proofs.SizeBounds.{three-le-block_count}
 use Rattle.packet_defs.specs.Streams.{framing}
 use Rattle.raster_rows.specs.Pixels.{clamped, pixel_octets, raster_octets}
 use Rattle.raster_rows.proofs.Numbers.{clamped_is}
-use Rattle.segment_code.specs.Laws.{CodedHolds, TextsAreShort}
+use Rattle.segment_code.specs.Laws.{CodedHolds, CodedHoldsExactly, TextsAreShort}
 use Rattle.stream_defs.specs.Damage.{missing_rows}
 use Rattle.stream_defs.specs.Fates.{geometry_in}
 use Rattle.stream_defs.specs.Output.{head_of, image_blocks, output, segment_of, segments_of}
 use Rattle.stream_defs.specs.Picture.{number_at, picture, picture_octets, picture_with, pyramid_with}
 use Rattle.stream_defs.specs.Received.{ReceivedIn}
 use Rattle.stream_defs.proofs.ImageLaws.{image_block}
-use Rattle.text_defs.specs.Laws.{SameGiven, AllGiven}
 use Rattle.wave_defs.specs.Blocks.{block, coefficient, weight_at}
 use Rattle.wave_defs.specs.Pyramid.{Pyramid, padded, pyramid}
 use Rattle.wave_defs.specs.Reach.{SameBlock}
@@ -40,7 +39,6 @@ use Rattle.strip_decoder.proofs.Showing.{number_in}
 use Rattle.strip_decoder.proofs.SpelledImages.{head_fits, spells}
 use Rattle.strip_decoder.proofs.SublistPictures.{some_geometry}
 use Rattle.strip_decoder.proofs.WholeImages.{comes_whole, each_received, geometry_told, held_by, segment_within}
-use Rattle.strip_decoder.proofs.WholeTexts.{holds_just}
 
 -- ---- rasters of images that are the same
 
@@ -61,7 +59,7 @@ raster_same depth rows width a b same =
     flat_same (λ row. pixel_octets depth (map (a row) (range_with_len 0 width))) (λ row. pixel_octets depth (map (b row) (range_with_len 0 width))) 0 rows
     (λ i from inside. ap (pixel_octets depth) (map_same (a i) (b i) 0 width (λ j first across. same i j (omega (arith, inside)) (omega (arith, across)))))
 
-module _ (short : TextsAreShort) (holds : CodedHolds) (one : SameGiven) (given : AllGiven) (s : Setting) (x : ℕ → ℕ → ℤ) (is : IsImageFor s x) (received : Numbers)
+module _ (short : TextsAreShort) (holds : CodedHolds) (exact : CodedHoldsExactly) (s : Setting) (x : ℕ → ℕ → ℤ) (is : IsImageFor s x) (received : Numbers)
     (received_is : ReceivedIn holds_after s.apid (output s x) received) where
   abbrev all : List (List ℤ)
   all = image_blocks s x
@@ -93,8 +91,8 @@ module _ (short : TextsAreShort) (holds : CodedHolds) (one : SameGiven) (given :
             let h = head_of s index blocks in
             let plane : h.stop.plane ≡ 0 = ap (λ b. if b then 0 else s.stop.plane) sends.goes_on ∙ sends.plane in
             let stage : h.stop.stage ≡ 3 = ap (λ b. if b then 3 else s.stop.stage) sends.goes_on ∙ sends.stage in
-            e ∙ ap Some (holds_just h blocks (head_fits s x is.range is.pixels index lt) is.weights sends.limit (spells s x is.range is.pixels index lt) refl
-            one given sends.goes_on plane stage w (held_by short s x is received received_is index w lt e))
+            e ∙ ap Some ((exact h blocks (head_fits s x is.range is.pixels index lt) is.weights (spells s x is.range is.pixels index lt) refl sends.limit
+            (record { goes_on = sends.goes_on; plane = plane; stage = stage }) w).0 (held_by short s x is received received_is index w lt e))
 
     -- so each block is there with its numbers
     number_is : (b i : ℕ) → b < total_blocks s.width s.rows → number_at g received b i ≡ get_or (get_or all b []) i (pos 0)
@@ -147,9 +145,9 @@ module _ (short : TextsAreShort) (holds : CodedHolds) (one : SameGiven) (given :
 
 -- ---- what a decoder gives
 
-pub decoded_back : TextsAreShort → CodedHolds → SameGiven → AllGiven → (wish : DecodeWish) (start new : Outside) (took gave every : List ℕ) (done : DecodeDone) (s : Setting) (x : ℕ → ℕ → ℤ) →
+pub decoded_back : TextsAreShort → CodedHolds → CodedHoldsExactly → (wish : DecodeWish) (start new : Outside) (took gave every : List ℕ) (done : DecodeDone) (s : Setting) (x : ℕ → ℕ → ℤ) →
     IsPicture wish start new took gave done → start.rest ≡ Some every → wish.apid ≡ s.apid → took ≡ output s x → IsImageFor s x → GivesBack s x gave done
-decoded_back short holds one given wish start new took gave every done s x found told apid took_is is =
+decoded_back short holds exact wish start new took gave every done s x found told apid took_is is =
     let t = found.told every told in
     let received = t.0 in
     let there : geometry_in s.apid (output s x) ≡ Some done.geometry = subst (λ octets. geometry_in s.apid octets ≡ Some done.geometry) took_is (subst (λ n. geometry_in n took ≡ Some done.geometry) apid found.geometry) in
@@ -160,5 +158,5 @@ decoded_back short holds one given wish start new took gave every done s x found
       geometry = size;
       missing = t.3 ∙ ap (λ g. missing_rows g received) size ∙ whole.missing;
       framing_is = found.framing_is ∙ ap framing took_is ∙ whole.framing_is;
-      same = λ sends. t.2 ∙ ap (λ g. picture_octets g received) size ∙ (comes_same short holds one given s x is received mine sends).octets;
+      same = λ sends. t.2 ∙ ap (λ g. picture_octets g received) size ∙ (comes_same short holds exact s x is received mine sends).octets;
     }

@@ -4,13 +4,11 @@ use Rattle.std.specs.Prelude.{true, Option, None, Some, is_some, MatchOption}
 use Rattle.std.specs.List.{AllByRecursion}
 use Rattle.std.proofs.lemmas.Bool.{false≢true}
 use Rattle.std.proofs.lemmas.Nat.{div_below}
-use Rattle.port_122.specs.Outside.{Outside}
 use Rattle.port_122.proofs.Stretches.{each_of_both}
 use Rattle.base_122.specs.Setting.{geometry_of}
 use Rattle.base_122.specs.Sizes.{total_blocks}
 use Rattle.base_122.specs.declared.geometry.Geometry.{Geometry}
 use Rattle.base_122.specs.declared.setting.Setting.{Setting}
-use Rattle.base_122.specs.declared.wish.DecodeWish.{DecodeWish}
 use Rattle.base_122.proofs.GeometryRanges.{in_range-geometry}
 use Rattle.base_122.proofs.SizeBounds.{total-le-segments}
 use Rattle.packet_defs.specs.Packets.{joined, text_packets}
@@ -18,20 +16,18 @@ use Rattle.packet_defs.specs.Streams.{IsPacket, whole_packets}
 use Rattle.packet_defs.proofs.Splits.{splits_whole, joined_splits}
 use Rattle.segment_code.specs.Laws.{TextsAreShort}
 use Rattle.stream_defs.specs.Chosen.{IsRising, IsChoice, chosen, all_parts}
-use Rattle.stream_defs.specs.Damage.{damage, ranges, missing_rows}
+use Rattle.stream_defs.specs.Damage.{damage}
 use Rattle.stream_defs.specs.Fates.{fresh, after_all, kept, geometry_in}
 use Rattle.stream_defs.specs.Output.{image_blocks, output, packets_of, segments_of}
-use Rattle.stream_defs.specs.Picture.{number_at, picture, picture_with, picture_octets}
+use Rattle.stream_defs.specs.Picture.{number_at, picture}
 use Rattle.stream_defs.specs.Places.{parts_of, packet_at, AreCoded}
 use Rattle.stream_defs.specs.Received.{IsReceived, ReceivedIn}
 use Rattle.stream_defs.proofs.ChosenLaws.{chosen_more}
 use Rattle.stream_defs.proofs.OutPackets.{part_reads}
 use Rattle.stream_defs.proofs.SublistLaws.{all_rise, received_only, received_each}
 use Rattle.stream_defs.proofs.WholeStreams.{sublist_kept}
-use Rattle.strip_decoder.specs.declared.decode.DecodeDone.{DecodeDone}
-use Rattle.strip_decoder.specs.Answers.{IsPicture}
 use Rattle.strip_decoder.specs.Runs.{Numbers, holds_after}
-use Rattle.strip_decoder.specs.Containment.{SameOutside, AreWith, some_output, BeginsOne, IsImageFor, AreSome, told_damage, GivesContained, GivesAlike}
+use Rattle.strip_decoder.specs.Containment.{SameOutside, AreWith, some_output, BeginsOne, IsImageFor, AreSome}
 use Rattle.strip_decoder.proofs.Asking.{both_tell}
 use Rattle.strip_decoder.proofs.CodedImages.{images_coded}
 use Rattle.strip_decoder.proofs.Containing.{contained}
@@ -119,41 +115,7 @@ module _ (short : TextsAreShort) (s : Setting) (x : ℕ → ℕ → ℤ) (parts 
         let same = contained g received (number_at g whole) (in_range-geometry s are.image.range) with_all in
         record { at = λ i j inside across uncovered. sym (same.at i j inside across uncovered) }
 
--- ---- what a decoder gives
-
--- the damage that it tells is that of the segments that are received
-damage_told : (done : DecodeDone) (received : Numbers) → done.damage.rows ≡ done.geometry.rows → done.damage.missing ≡ missing_rows done.geometry received → told_damage done ≡ damage done.geometry received
-damage_told done received rows missing = ap (λ n. ranges n done.damage.missing) rows ∙ ap (ranges done.geometry.rows) missing
-
-pub decoded_contained : (wish : DecodeWish) (start new : Outside) (took gave every : List ℕ) (done : DecodeDone) → IsPicture wish start new took gave done → start.rest ≡ Some every → GivesContained wish took gave done
-decoded_contained wish start new took gave every done is told =
-    let t = is.told every told in
-    let g = done.geometry in
-    record {
-      received = t.0;
-      received_is = t.1;
-      gave_is = t.2;
-      whatever = λ numbers are.
-          subst (λ rs. SameOutside g.rows g.width rs (picture_with g numbers) (picture g t.0)) (sym (damage_told done t.0 is.rows t.3)) (contained g t.0 numbers is.range are);
-    }
+-- ---- geometries
 
 pub some_geometry : {x y : Geometry} → Some x ≡ Some y → x ≡ y
 some_geometry e = cc
-
-pub decoded_alike : TextsAreShort → (wish : DecodeWish) (start new : Outside) (took gave every : List ℕ) (done : DecodeDone) (s : Setting) (x : ℕ → ℕ → ℤ) (parts : ℕ → List ℕ) →
-    IsPicture wish start new took gave done → start.rest ≡ Some every → wish.apid ≡ s.apid → took ≡ some_output s x parts → AreSome s x parts → BeginsOne s parts → GivesAlike s x parts gave done
-decoded_alike short wish start new took gave every done s x parts is told apid took_is are begins =
-    let t = is.told every told in
-    let received = t.0 in
-    let there : geometry_in s.apid (some_output s x parts) ≡ Some done.geometry = subst (λ octets. geometry_in s.apid octets ≡ Some done.geometry) took_is (subst (λ n. geometry_in n took ≡ Some done.geometry) apid is.geometry) in
-    let same : done.geometry ≡ geometry_of s = some_geometry (sym there ∙ geometry_there short s x parts are begins) in
-    let mine : ReceivedIn holds_after s.apid (some_output s x parts) received = subst (λ octets. ReceivedIn holds_after s.apid octets received) took_is (subst (λ n. ReceivedIn holds_after n took received) apid t.1) in
-    let damaged : told_damage done ≡ damage (geometry_of s) received = damage_told done received is.rows t.3 ∙ ap (λ g. damage g received) same in
-    record {
-      geometry = same;
-      received = received;
-      received_is = mine;
-      gave_is = t.2 ∙ ap (λ g. picture_octets g received) same;
-      same = λ whole all_are.
-          subst (λ rs. SameOutside s.rows s.width rs (picture (geometry_of s) received) (picture (geometry_of s) whole)) (sym damaged) (sublist_same short s x parts are received whole mine all_are);
-    }

@@ -1,6 +1,6 @@
 -- All packets of an image: each of its segments is received.
 use Rattle.std.proofs.Common.{◌≡◌, ◌≤◌, ◌<◌, ◌+◌, ◌-◌, ◌*◌, ◌/◌, ℕ, zero, suc, ℤ, List, [], ◌∷◌, refl, sym, ap, subst, ◌∙◌, arith}
-use Rattle.std.specs.Prelude.{Bool, true, false, cond, not, Option, None, Some, is_some, MatchOption, filter, length}
+use Rattle.std.specs.Prelude.{Bool, true, false, cond, not, Option, None, Some, is_some, filter, length}
 use Rattle.std.specs.List.{range_with_len}
 use Rattle.std.proofs.lemmas.Nat.{div_below, le-div}
 use Rattle.std.proofs.Math.Nat.{mul-le-mul_right}
@@ -10,22 +10,21 @@ use Rattle.base_122.specs.declared.geometry.Geometry.{Geometry}
 use Rattle.base_122.specs.declared.setting.Setting.{Setting}
 use Rattle.base_122.proofs.SizeBounds.{total-le-segments, nine-le-total_blocks}
 use Rattle.packet_defs.specs.Packets.{joined, part_size}
-use Rattle.packet_defs.specs.Streams.{whole_packets, left_over, place_after, framing, framing_at}
+use Rattle.packet_defs.specs.Streams.{left_over, place_after, framing, framing_at}
 use Rattle.packet_defs.proofs.Splits.{joined_splits, splits_left}
 use Rattle.segment_code.specs.Laws.{CodedHolds, TextsAreShort}
 use Rattle.stream_defs.specs.Chosen.{IsChoice, chosen, all_parts}
 use Rattle.stream_defs.specs.Damage.{is_missing, missing_rows}
-use Rattle.stream_defs.specs.Fates.{fresh, kept, geometry_in}
+use Rattle.stream_defs.specs.Fates.{geometry_in}
 use Rattle.stream_defs.specs.Output.{head_of, image_blocks, output, segment_of, segment_text, segments_of}
 use Rattle.stream_defs.specs.Places.{parts_of, AreCoded}
-use Rattle.stream_defs.specs.Received.{IsReceived, ReceivedIn}
-use Rattle.stream_defs.proofs.SublistLaws.{received_only, received_each}
+use Rattle.stream_defs.specs.Received.{ReceivedIn}
 use Rattle.strip_decoder.specs.Runs.{Numbers, holds_after}
-use Rattle.strip_decoder.specs.Containment.{BeginsOne, AreSome, IsImageFor}
+use Rattle.strip_decoder.specs.Containment.{some_output, BeginsOne, AreSome, IsImageFor}
 use Rattle.strip_decoder.specs.RoundTrip.{ComesWhole}
 use Rattle.strip_decoder.proofs.RunEnds.{any_miss}
-use Rattle.strip_decoder.proofs.SpelledImages.{head_fits, spells}
-use Rattle.strip_decoder.proofs.SublistPictures.{all_packets, choice_all, coded_for, geometry_there, output_whole, whole_choice}
+use Rattle.strip_decoder.proofs.SublistPictures.{all_packets, choice_all, coded_for, geometry_there, whole_choice}
+use Rattle.strip_decoder.proofs.SublistSegments.{only_whole, each_whole}
 
 -- ---- none of a range
 
@@ -68,9 +67,6 @@ module _ (short : TextsAreShort) (s : Setting) (x : ℕ → ℕ → ℤ) (is : I
   all_are : output s x ≡ joined packets
   all_are = ap joined (whole_choice s all (segments_of s))
 
-  packets_are : whole_packets (output s x) ≡ packets
-  packets_are = output_whole short s x is
-
   -- nothing is left over
   none_left : left_over (output s x) ≡ []
   none_left = ap left_over all_are ∙ splits_left (joined_splits packets (all_packets s all coded (all_parts s all) choice (segments_of s) (omega arith)))
@@ -111,30 +107,17 @@ module _ (short : TextsAreShort) (s : Setting) (x : ℕ → ℕ → ℤ) (is : I
   -- ---- what is received
 
   module _ (received : Numbers) (received_is : ReceivedIn holds_after s.apid (output s x) received) where
+    of_all : ReceivedIn holds_after s.apid (some_output s x (all_parts s all)) received
+    of_all = subst (λ octets. ReceivedIn holds_after s.apid octets received) all_are received_is
+
     -- a segment that is received is the one that its packets carry
     pub held_by : (index : ℕ) (w : List (List ℤ)) → index < segments_of s → received index ≡ Some w →
         holds_after (head_of s index (segment_of s all index)) (segment_text s all index) w
-    held_by index w lt e =
-        let here : IsReceived holds_after (kept s.apid fresh (whole_packets (output s x))) index w =
-        subst (λ o. MatchOption o ((v : List (List ℤ)) → IsReceived holds_after (kept s.apid fresh (whole_packets (output s x))) index v → ⊥)
-        (IsReceived holds_after (kept s.apid fresh (whole_packets (output s x))) index)) e (received_is.at index) in
-        (received_only s all coded (all_parts s all) choice holds_after index w lt
-        (subst (λ ps. IsReceived holds_after (kept s.apid fresh ps) index w) packets_are here)).1
+    held_by index w lt e = (only_whole short s x (all_parts s all) are received of_all index w lt e).1
 
     -- and each is received
     pub each_received : CodedHolds → (index : ℕ) → index < segments_of s → is_some (received index) ≡ true
-    each_received holds index lt = by (received index) refl
-      where
-        by : (o : Option (List (List ℤ))) → received index ≡ o → is_some o ≡ true
-        by (Some w) e = refl
-        by None e =
-            let none : (v : List (List ℤ)) → IsReceived holds_after (kept s.apid fresh (whole_packets (output s x))) index v → ⊥ =
-            subst (λ o. MatchOption o ((v : List (List ℤ)) → IsReceived holds_after (kept s.apid fresh (whole_packets (output s x))) index v → ⊥)
-            (IsReceived holds_after (kept s.apid fresh (whole_packets (output s x))) index)) e (received_is.at index) in
-            let blocks = segment_of s all index in
-            let held = holds (head_of s index blocks) blocks (head_fits s x is.range is.pixels index lt) is.weights (spells s x is.range is.pixels index lt) refl in
-            absurd (none held.0 (subst (λ ps. IsReceived holds_after (kept s.apid fresh ps) index held.0) (sym packets_are)
-            (received_each s all coded (all_parts s all) choice holds_after index held.0 lt refl held.1)))
+    each_received holds index lt = each_whole short s x (all_parts s all) are received of_all holds index lt refl
 
     -- the segment of a block
     pub segment_within : (block : ℕ) → block < total_blocks s.width s.rows → block / s.segment < segments_of s

@@ -1,5 +1,5 @@
 -- Losses are contained: no pixel outside the damaged rows hangs on what was lost. This project's own.
-use Rattle.std.specs.Prelude.{◌≡◌, ◌<◌, ◌/◌, ℕ, ℤ, true, false, List, ◌∷◌, length, Some, is_some}
+use Rattle.std.specs.Prelude.{◌≡◌, ◌<◌, ◌↔◌, ◌/◌, ℕ, ℤ, true, false, List, ◌∷◌, length, Some, is_some}
 use Rattle.port_122.specs.Outside.{Outside}
 use Rattle.base_122.specs.Ranges.{IsInRange, IsGeometryInRange}
 use Rattle.base_122.specs.Setting.{geometry_of}
@@ -10,7 +10,7 @@ use Rattle.packet_defs.specs.Packets.{joined}
 use Rattle.raster_rows.specs.Pixels.{IsPixel}
 use Rattle.stream_defs.specs.declared.range.RowRange.{RowRange}
 use Rattle.stream_defs.specs.Agreement.{blocks_of}
-use Rattle.stream_defs.specs.Chosen.{IsChoice, chosen}
+use Rattle.stream_defs.specs.Chosen.{IsChoice, chosen, all_parts}
 use Rattle.stream_defs.specs.Damage.{damage, is_covered, ranges}
 use Rattle.stream_defs.specs.Fates.{geometry_in}
 use Rattle.stream_defs.specs.Output.{image_blocks, output, segments_of}
@@ -54,12 +54,19 @@ pub record AreSome (s : Setting) (x : ℕ → ℕ → ℤ) (parts : ℕ → List
   pub image : IsImageFor s x
   pub choice : IsChoice s (image_blocks s x) parts
 
+-- Of the segments of an image exactly those are received whose packets are all among these.
+pub record ReceivesThose (s : Setting) (x : ℕ → ℕ → ℤ) (parts : ℕ → List ℕ) (received : Numbers) : Type 0 where
+  pub at : (index : ℕ) → index < segments_of s → (is_some (received index) ≡ true) ↔ (parts index ≡ all_parts s (image_blocks s x) index)
+
 -- Whatever numbers stand in the blocks that are lost, no pixel outside the damage changes. So where some packets of an image's are
--- read, each pixel outside their damage is that of the picture for all of them.
+-- read, each pixel outside their damage is that of the picture for all of them; and the damage is that of the segments which lack a
+-- packet.
 pub record LossesContained : Type 0 where
   pub whatever : (g : Geometry) (received : Numbers) (numbers : ℕ → ℕ → ℤ) → IsGeometryInRange g → AreWith g received numbers →
       SameOutside g.rows g.width (damage g received) (picture_with g numbers) (picture g received)
   pub geometry : (s : Setting) (x : ℕ → ℕ → ℤ) (parts : ℕ → List ℕ) → AreSome s x parts → BeginsOne s parts → geometry_in s.apid (some_output s x parts) ≡ Some (geometry_of s)
+  pub those : (s : Setting) (x : ℕ → ℕ → ℤ) (parts : ℕ → List ℕ) (received : Numbers) → AreSome s x parts →
+      ReceivedIn holds_after s.apid (some_output s x parts) received → ReceivesThose s x parts received
   pub sublists : (s : Setting) (x : ℕ → ℕ → ℤ) (parts : ℕ → List ℕ) (received whole : Numbers) → AreSome s x parts →
       ReceivedIn holds_after s.apid (some_output s x parts) received → ReceivedIn holds_after s.apid (output s x) whole →
       SameOutside s.rows s.width (damage (geometry_of s) received) (picture (geometry_of s) received) (picture (geometry_of s) whole)
@@ -81,6 +88,7 @@ pub record GivesAlike (s : Setting) (x : ℕ → ℕ → ℤ) (parts : ℕ → L
   pub geometry : done.geometry ≡ geometry_of s
   pub received : Numbers
   pub received_is : ReceivedIn holds_after s.apid (some_output s x parts) received
+  pub those : ReceivesThose s x parts received
   pub gave_is : gave ≡ picture_octets (geometry_of s) received
   pub same : (whole : Numbers) → ReceivedIn holds_after s.apid (output s x) whole →
       SameOutside s.rows s.width (told_damage done) (picture (geometry_of s) received) (picture (geometry_of s) whole)

@@ -3,20 +3,21 @@ ghost use Rattle.strip_decoder.specs.Containment.{DecodedContained, LossesContai
 ghost use Rattle.strip_decoder.specs.Laws.{ReceivedIsTold};
 ghost use Rattle.strip_decoder.specs.RoundTrip.{RoundTrip};
 
-use segment_code::{coded_holds, texts_are_short};
-use text_defs::{items_give_all, readings_give_one};
+use segment_code::{coded_holds, coded_holds_exactly, texts_are_short};
 
 /// The octets of a stream tell which segments are received, and with which numbers, in just one way.
 pub const fn received_is_told()
     ensures { ReceivedIsTold }
 {}
 
-/// Whatever numbers stand in the blocks that are lost, no pixel outside the damaged rows changes. So where some packets of an image's
-/// are read, in order, each pixel outside their damage is that of the picture for all of them.
+/// Whatever numbers the lost blocks have, no pixel outside the damaged rows changes. So if some packets of an image are read, in order,
+/// each pixel outside their damage is that of the picture for all of them, and exactly the segments with all their packets are
+/// received.
 pub const fn losses_are_contained()
     ensures { LossesContained }
 {
     texts_are_short();
+    coded_holds();
 }
 
 /// So it is of a picture that a decoder gave whole; and each pixel outside its damage is that of the picture for all packets, where
@@ -25,6 +26,7 @@ pub const fn decoding_contains()
     ensures { DecodedContained }
 {
     texts_are_short();
+    coded_holds();
 }
 
 /// All packets of an image, in order, give it whole: its size, each of its block rows, and no fault of framing. Where there is neither
@@ -34,6 +36,5 @@ pub const fn round_trip()
 {
     texts_are_short();
     coded_holds();
-    items_give_all();
-    readings_give_one();
+    coded_holds_exactly();
 }

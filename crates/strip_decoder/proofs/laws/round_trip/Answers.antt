@@ -6,10 +6,9 @@ pub returns : goal.returns
 returns c =
     let short = c.texts_are_short.ensures in
     let holds = c.coded_holds.ensures in
-    let one = c.readings_give_one.ensures in
-    let given = c.items_give_all.ensures in
+    let exact = c.coded_holds_exactly.ensures in
     record {
       whole = λ s x received is received_is. comes_whole short s x is received received_is holds;
-      same = λ s x received is sends received_is. comes_same short holds one given s x is received received_is sends;
-      decoded = λ wish start new took gave every done s x found told apid took_is is. decoded_back short holds one given wish start new took gave every done s x found told apid took_is is;
+      same = λ s x received is sends received_is. comes_same short holds exact s x is received received_is sends;
+      decoded = λ wish start new took gave every done s x found told apid took_is is. decoded_back short holds exact wish start new took gave every done s x found told apid took_is is;
     }
