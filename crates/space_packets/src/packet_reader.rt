@@ -95,6 +95,13 @@ impl PacketReader {
         self.answer(apid)
     }
 
+    /// Whether the octets that were taken hold the whole next packet. Then `next` answers it and reads nothing.
+    pub fn has_packet(&self) -> bool
+        ensures { result ≡ begins_packet self.now.pending }
+    {
+        begins_packet(self.pending())
+    }
+
     // Lets the text of the last packet go.
     fn forget_text(&mut self)
         ensures stands { self.new ≡ fed self.old [] false }
