@@ -34,7 +34,7 @@ from ground_packets import HEADER, Format, Image, Packet, Place, Skipped, Table,
 try:
     import numpy
 except ImportError:
-    numpy = None
+    numpy = None  # type: ignore[assignment]
 
 DONE, PARTLY, BAD_WORDS, BAD_INPUT, READ_FAULT, WRITE_FAULT, NO_MEMORY = range(7)
 
@@ -465,7 +465,12 @@ status  0 done, 1 rows or packets are missing or copies of a packet differ, 2 ba
 
 def parser() -> Parser:
     lines = argparse.RawDescriptionHelpFormatter
-    top = Parser(prog="ground.py", formatter_class=lines, epilog=STATUSES, description="Mends files of packets, and moves images between packets and arrays.")
+    top = Parser(
+        prog="ground.py",
+        formatter_class=lines,
+        epilog=STATUSES,
+        description="Mends files of packets, and moves images between packets and arrays.",
+    )
     commands = top.add_subparsers(dest="command", required=True, parser_class=Parser)
 
     def command(name: str, action: Any, about: str) -> argparse.ArgumentParser:

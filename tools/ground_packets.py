@@ -54,7 +54,7 @@ class SegmentHead(NamedTuple):
 
     is_first: bool
     is_last: bool
-    count: int
+    segment_count: int
     pad_rows: int
     blocks: int
     format: Format
@@ -112,8 +112,8 @@ def head_of(text: bytes) -> Optional[SegmentHead]:
         return None
     part_2, part_3, part_4 = (int.from_bytes(text[at + a : at + b], "big") for a, b in ((0, 5), (5, 8), (8, 16)))
     dc, ac, limit, fill, blocks = part_1 >> 9 & 31, part_1 >> 4 & 31, part_2 >> 13, part_2 >> 4 & 1, part_3 >> 4
-    word, width = WORD_LENGTHS.get(part_4 >> 32 & 7), part_4 >> 36 & 0xFFFFF
-    is_supported = part_4 >> 63 and not part_4 >> 61 & 1 and not part_4 >> 35 & 1 and word and blocks
+    word, width = WORD_LENGTHS.get(part_4 >> 32 & 7, 0), part_4 >> 36 & 0xFFFFF
+    is_supported = part_4 >> 63 and not part_4 >> 61 & 1 and not part_4 >> 35 & 1 and word > 0 and blocks > 0
     if not is_supported or not 1 <= dc <= 28 or ac > 27 or width < LEAST_WIDTH:
         return None
     if limit % word or 0 < limit < 32 or fill and not limit:
@@ -138,7 +138,7 @@ def rows_by(header: Header, head: SegmentHead) -> int:
 
 def agrees(header: Header, head: SegmentHead) -> bool:
     """Returns whether the head of a segment agrees with the header of its packet, by the tests of the program."""
-    if head.is_first != (header.index == 0) or head.count != header.index % 256:
+    if head.is_first != (header.index == 0) or head.segment_count != header.index % 256:
         return False
     full, across, end = header.key.blocks, blocks_across(head.format.width), header.first_block + head.blocks
     if header.key.mark == ROWS_FIRST:
@@ -181,7 +181,7 @@ class Skipped(NamedTuple):
     """A stretch of octets that is used in no image."""
 
     at: int
-    count: int
+    length: int
     why: str
 
 
@@ -346,10 +346,10 @@ def grouped(packets: List[Packet]) -> List[Image]:
     images = [assembled(Image(*it), them) for it, them in groups.items()]
     images.sort(key=lambda it: it.key[:2])  # images of one number keep the order of the octets
     seen: Counter = Counter()
-    for it in images:
-        seen[it.key[:2]] += 1
-        again = f"-{seen[it.key[:2]]}" if seen[it.key[:2]] > 1 else ""
-        it.name = f"apid-{it.key.apid}-image-{it.key.image}{again}"
+    for image in images:
+        number = image.key[:2]
+        seen[number] += 1
+        image.name = f"apid-{image.key.apid}-image-{image.key.image}" + (f"-{seen[number]}" if seen[number] > 1 else "")
     return images
 
 
@@ -397,12 +397,12 @@ class Table(NamedTuple):
 
     def __str__(self) -> str:
         lines = aligned([COLUMNS, *map(cells_of, self.images)])
-        count = sum(it.count for it in self.skipped)
-        stretches = [f"skipped {it.at}-{it.at + it.count - 1}, {it.count} octets: {it.why}" for it in self.skipped]
+        skipped = sum(it.length for it in self.skipped)
+        stretches = [f"skipped {it.at}-{it.at + it.length - 1}, {it.length} octets: {it.why}" for it in self.skipped]
         used = [(image, it) for image in self.images for it in image.packets]
         differing = [f"copies differ: {it.header}" for image, it in used if len(image.copies[it.place]) > 1]
         before_junk = [f"before junk: {it.header}" for _, it in used if not it.leads_on]
-        return "\n".join([*lines, f"{self.octets} octets, {count} skipped", *stretches, *differing, *before_junk])
+        return "\n".join([*lines, f"{self.octets} octets, {skipped} skipped", *stretches, *differing, *before_junk])
 
 
 COLUMNS = "image width rows depth signed packets octets mended duplicates differing before-junk segments missing".split()

@@ -71,8 +71,8 @@ def counted_on(packet, count):
 def of_others(chance):
     """A packet of no image: idle, a telecommand, of another source, or of another coder."""
     kind = chance.choice([0x0FFF, 0x1864, 0x0064, 0x0864])
-    data = chance.randbytes(chance.randint(1, 300))
-    return struct.pack(">HHH", kind, 0xC000 | chance.randrange(16384), len(data) - 1) + b"\0\1" + data[2:] if len(data) > 2 else b""
+    data = b"\0\1" + chance.randbytes(chance.randint(1, 300))
+    return struct.pack(">HHH", kind, 0xC000 | chance.randrange(16384), len(data) - 1) + data
 
 
 class Tries:
@@ -97,7 +97,7 @@ class Tries:
             gone = {place[0] for place in map(place_of, self.packets[it.key[:2]]) if place not in want}
             missing = {index for them in it.missing for index in them}
             assert missing == gone if it.segments else missing <= gone, str(table)
-        assert skipped is None or sum(it.count for it in table.skipped) == skipped, str(table)
+        assert skipped is None or sum(it.length for it in table.skipped) == skipped, str(table)
         assert str(table).startswith("image ")
         return images, table
 
@@ -195,6 +195,18 @@ class Tries:
         images, _ = self.expect(b"".join(octets), packets, skipped=sum(map(len, octets)) - sum(map(len, packets)))
         assert all(it.leads_on for image in images for it in image.packets)
 
+    def mixed(self):
+        """Three identifiers with two images each, a gap, duplicates, reversed packets, and junk in the middle."""
+        streams = [list(it) for it in self.packets.values()]
+        lost = streams[0].pop(3)
+        streams[2].reverse()
+        twice = streams[4][5:9] + streams[5][2:4]
+        kept = [it for them in streams for it in them]
+        octets = kept[: len(kept) // 2] + [self.chance.randbytes(5000)] + kept[len(kept) // 2 :] + twice
+        images, table = self.expect(b"".join(octets), kept, skipped=5000)
+        assert len(images) == 6 and sum(it.duplicates for it in images) == len(twice)
+        assert images[0].missing == [range(place_of(lost)[0], place_of(lost)[0] + 1)] and not table.is_whole
+
     def second_pass(self):
         """Two files with gaps, each of which has what the other lacks; the first ends in a packet."""
         packets = self.all()
@@ -289,11 +301,11 @@ class Tries:
             images, table = ground.sort(b"".join(octets), (), self.program)
             places = {(it.key[:2], place) for it in images for place in it.copies}
             assert all((key_of(it), place_of(it)) in places for it in kept), str(table)
-            # No one can tell of a packet whose end is junk that it isn't whole.
-            assert all(it.octets in kept or not it.leads_on for image in images for it in image.packets), str(table)
+            # A packet whose end is junk may be used, but hardly one that leads on: the junk has to fit.
             strict, _ = ground.sort(b"".join(octets), strict=True)
-            used += sum(len(it.packets) for it in strict)
-            odd += sum(it.octets not in kept for image in strict for it in image.packets)
+            packets = [packet for them in (images, strict) for it in them for packet in it.packets]
+            used += len(packets)
+            odd += sum(it.leads_on and it.octets not in kept for it in packets)
         assert used > 1000 and odd * 500 < used, (odd, used)
 
     # ---- arrays and pictures
@@ -368,7 +380,9 @@ class Tries:
 
     def commands(self, folder):
         def told(status, *words):
-            ran = subprocess.run([*TOOL, *map(str, words)], capture_output=True, cwd=folder, env={**os.environ, "STRIP122": self.program})
+            ran = subprocess.run(
+                [*TOOL, *map(str, words)], capture_output=True, cwd=folder, env={**os.environ, "STRIP122": self.program}
+            )
             assert ran.returncode == status, (words, ran)
             assert b"Traceback" not in ran.stderr, ran.stderr.decode()
             return ran.stdout.decode(), ran.stderr.decode()
@@ -429,7 +443,7 @@ def png_rows(octets):
     return [list(struct.unpack(f">{size * 8 // bits}{'B' if bits == 8 else 'H'}", it[1:])) for it in lines]
 
 
-FAULTS = "whole reversed shuffled duplicated junk lost cut cut_fronts cut_to_fit headers_in_text others second_pass differing".split()
+FAULTS = "whole reversed shuffled duplicated junk lost cut cut_fronts cut_to_fit headers_in_text others mixed second_pass differing".split()
 FAULTS += "voted replaced_tail refused_heads one_number_twice height_last everything".split()
 ARRAYS = "arrays refusals damage pictures".split()
 
