@@ -105,13 +105,18 @@ def picture_of(packets: List[Packet], apid: int, program: Optional[str]) -> byte
 # ---- the program
 
 
+TOP = Path(__file__).resolve().parent.parent
+
+
 def default_program() -> str:
-    return os.environ.get("STRIP122") or str(Path(__file__).resolve().parent.parent / "strip122")
+    return os.environ.get("STRIP122") or str(TOP / "strip122")
 
 
 def called(words: Sequence[str], octets: bytes, program: Optional[str]) -> subprocess.CompletedProcess:
     """Runs the program, whatever it answers."""
     name = program or default_program()
+    if name == str(TOP / "strip122") and not (TOP / "crates/strip122/out/strip122").exists():
+        print("ground.py: strip122 is proved and built first, which may take an hour", file=sys.stderr)
     try:
         return subprocess.run([name, *words], input=octets, capture_output=True)
     except OSError as fault:
@@ -431,12 +436,18 @@ def need_numpy() -> None:
         raise GroundError(BAD_WORDS, ".npy needs numpy (Debian: apt-get install python3-numpy)")
 
 
+def keys_of(words: Sequence[str]) -> Dict[str, Any]:
+    keys: Dict[str, Any] = {}
+    for word in words:
+        key, equals, value = word.partition("=")
+        if not key or not equals or key in keys or key in ("depth", "signed") and not value.isdecimal():
+            raise GroundError(BAD_WORDS, f"bad word: {word}")
+        keys[key] = int(value) if key in ("depth", "signed") else value
+    return keys
+
+
 def write_stream(words: argparse.Namespace) -> int:
-    keys: Dict[str, Any] = dict(it.partition("=")[::2] for it in words.keys)
-    for key in {"depth", "signed"} & set(keys):
-        if not keys[key].isdecimal():
-            raise GroundError(BAD_WORDS, f"bad word: {key}={keys[key]}")
-        keys[key] = int(keys[key])
+    keys = keys_of(words.keys)
     if Path(words.array).suffix == ".npy":
         array = load_npy(words.array)
     else:

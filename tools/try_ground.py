@@ -401,7 +401,8 @@ class Tries:
         told(5, "sort", "first", "--into", "none/x")
         told(2)
         told(2, "sort")
-        told(2, "write", "x.pgm", "y", "depth=many")
+        for word in ("depth=many", "depth", "=8"):
+            assert told(2, "write", "sorted/x.pgm", "y", word)[1] == f"ground.py: bad word: {word}\n"
         told(0, "--help")
         stream = "sorted/apid-100-image-0.packets"
         told(0, "read", stream, "a.pgm")
