@@ -72,6 +72,10 @@ class Header:
     part: int
 
     @property
+    def place(self) -> Place:
+        return self.index, self.part
+
+    @property
     def first_block(self) -> int:
         return self.index * self.key.blocks
 
@@ -164,7 +168,7 @@ class Packet:
 
     @property
     def place(self) -> Place:
-        return self.header.index, self.header.part
+        return self.header.place
 
     @property
     def closes(self) -> bool:
@@ -194,33 +198,52 @@ def leads_on(octets: bytes, at: int, begins: Collection[int], ends: Collection[i
     return True
 
 
+class Seen:
+    """All headers of some octets, and how often there are headers of an identifier, an image or a place."""
+
+    def __init__(self, octets: bytes, ends: Sequence[int]):
+        self.headers = list(headers_in(octets))
+        self.begins = [it.at for it in self.headers]
+        known, stops = set(self.begins), {len(octets), *ends}
+        self.leads = [leads_on(octets, it.end, known, stops) for it in self.headers]
+        self.apids = Counter(it.key.apid for it in self.headers)
+        self.keys = Counter(it.key for it in self.headers)
+        self.places = Counter((it.key, it.place) for it in self.headers)
+
+    def begun_inside(self, number: int) -> List[int]:
+        """Returns the headers that begin inside a packet.
+
+        The last octets of a packet and another one that lacks its first octets may look like a header. Its identifier
+        is then hardly that of another header.
+        """
+        end = self.headers[number].end
+        inside = range(number + 1, bisect_left(self.begins, end))
+        return [it for it in inside if end - self.begins[it] > PRIMARY_HEADER or self.apids[self.headers[it].key.apid] > 1]
+
+    def is_needed(self, number: int, outer: int) -> bool:
+        """Returns whether a packet leads on, or no other has its place except the outer one, in an image that has others."""
+        if self.leads[number]:
+            return True
+        key, place = self.headers[number].key, self.headers[number].place
+        of_outer = self.headers[outer].key == key and self.headers[outer].place == place
+        return self.keys[key] > 1 and self.places[key, place] == 1 + of_outer
+
+
 def find(octets: bytes, ends: Sequence[int] = ()) -> Tuple[List[Packet], List[Skipped]]:
     """Returns all whole packets of this coder, in the order of the octets, and the stretches between them.
 
     A packet whose octets are all there is whole if no header of this coder begins inside it. If one does, the packet was
-    cut there; except if its length leads on to a packet or an end, and no whole packet inside it leads on too. `ends`
-    are further places that a packet may lead to, as the ends of joined files.
+    cut there; except if its length leads on to a packet or an end, and no whole packet inside it leads on too, or is the
+    only one of its place in an image that has others. `ends` are further places that a packet may lead to, as the ends
+    of joined files.
     """
-    headers = list(headers_in(octets))
-    begins, apids = [it.at for it in headers], Counter(it.key.apid for it in headers)
-    known, stops = set(begins), {len(octets), *ends}
-    leads = [leads_on(octets, it.end, known, stops) for it in headers]
-    is_whole = [False] * len(headers)
-    for number in reversed(range(len(headers))):
-        end = headers[number].end
-        inside = [it for it in range(number + 1, bisect_left(begins, end)) if is_begun_inside(headers[it], end, apids)]
-        is_cut = any(is_whole[it] and leads[it] for it in inside) if leads[number] else len(inside) > 0
-        is_whole[number] = end <= len(octets) and not is_cut
-    return taken(octets, outermost(list(zip(headers, leads, is_whole))))
-
-
-def is_begun_inside(header: Header, end: int, apids: Counter) -> bool:
-    """Returns whether a header that begins before the end of a packet can be another packet's.
-
-    The end of one packet and a packet that lacks its first octets may look like a header; its identifier is then one
-    that no other header has.
-    """
-    return end - header.at > PRIMARY_HEADER or apids[header.key.apid] > 1
+    seen = Seen(octets, ends)
+    is_whole = [False] * len(seen.headers)
+    for number in reversed(range(len(seen.headers))):
+        inside = seen.begun_inside(number)
+        is_cut = any(is_whole[it] and seen.is_needed(it, number) for it in inside) if seen.leads[number] else len(inside) > 0
+        is_whole[number] = seen.headers[number].end <= len(octets) and not is_cut
+    return taken(octets, outermost(list(zip(seen.headers, seen.leads, is_whole))))
 
 
 def outermost(headers: List[Tuple[Header, bool, bool]]) -> List[Tuple[Header, bool, bool]]:
