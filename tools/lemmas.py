@@ -1,0 +1,117 @@
+#!/usr/bin/env python3
+"""Finds definitions and lemmas that nothing cites, statements that are written twice, and unfoldings across crates.
+
+Usage: tools/lemmas.py [--list] [CRATE ..]. It reads specs/, proofs/ and src/ of all crates, and prints a count of each kind by
+crate; with --list also the places. It reads text and proves nothing: a row is a place to look at.
+"""
+
+import re
+import sys
+from collections import Counter, defaultdict
+from dataclasses import dataclass, field
+from pathlib import Path
+
+TOP = Path(__file__).resolve().parent.parent
+NAME = r"[^\s(){}\[\],;:.]+"
+DECLARED = re.compile(rf"^(?:(?:abbrev|unfoldable|pub) )*(?:(?:record|data) ({NAME}) (?:[({{]|: Type)|({NAME}) : )")
+WORD = re.compile(r"[^\s(){}\[\],;.]+")
+UNFOLDS = re.compile(r"^\s*unfolding (.+)$")
+IMPORT = re.compile(r"^\s*(?:pub )?(?:ghost )?use Rattle\.(\w+)\.((?:specs|proofs)\.[\w.]+?)\.\{(.*)\};?$")
+
+
+@dataclass
+class Block:
+    """A declaration with its equations, and the words in them."""
+
+    name: str
+    file: Path
+    line: int
+    text: list[str] = field(default_factory=list)
+
+    def words(self) -> Counter:
+        return Counter(word for line in self.text for word in WORD.findall(line))
+
+    def statement(self) -> str:
+        """The type, without names of variables' order or spaces: what two copies share."""
+        joined = " ".join(line.strip() for line in self.text)
+        return re.sub(r"\s+", " ", joined.split(" : ", 1)[-1].split(f" {self.name} ")[0]) if " : " in joined else ""
+
+
+def crate_of(file: Path) -> str:
+    return file.relative_to(TOP / "crates").parts[0]
+
+
+def sources(suffix: str) -> list[Path]:
+    return sorted(file for file in (TOP / "crates").rglob(f"*{suffix}") if "out" not in file.parts)
+
+
+def indent_of(line: str) -> int:
+    return len(line) - len(line.lstrip())
+
+
+def blocks_of(file: Path) -> list[Block]:
+    """The declarations of a file, those of its modules and `where` parts too; fields of records belong to the record."""
+    blocks: list[Block] = []
+    record = None
+    for number, line in enumerate(file.read_text(encoding="utf-8").splitlines(), 1):
+        text = line.strip()
+        if not text or text.startswith(("--", "use ", "pub mod ", "mod ", "module ", "where", "unfolding ")):
+            continue
+        if record is not None and indent_of(line) <= record:
+            record = None
+        match = DECLARED.match(text) if record is None else None
+        if match and (not blocks or (match[1] or match[2]) != blocks[-1].name):
+            if re.match(r"(pub )?(record|data) ", text):
+                record = indent_of(line)
+            blocks.append(Block(match[1] or match[2], file, number))
+        if blocks:
+            blocks[-1].text.append(line)
+    return blocks
+
+
+def is_answer(file: Path) -> bool:
+    """A file of answers names goals, which the check asks for."""
+    return file.name in {"Answers.antt", "Invariants.antt", "Proof.antt", "Lib.antt"}
+
+
+def main() -> None:
+    words = [word for word in sys.argv[1:] if not word.startswith("--")]
+    shows = "--list" in sys.argv
+    files = {file: blocks_of(file) for file in sources(".antt")}
+    cited: Counter = Counter()
+    for file, blocks in files.items():
+        for block in blocks:
+            own = block.words()
+            own.pop(block.name, None)
+            cited.update(own.keys())
+        if not blocks:
+            cited.update(set(WORD.findall(file.read_text(encoding="utf-8"))))
+    for file in sources(".rt"):
+        cited.update(set(re.findall(r"[\w'-]+", file.read_text(encoding="utf-8"))))
+    dead = [b for f, bs in files.items() if not is_answer(f) for b in bs if not cited[b.name]]
+    home = {b.name: crate_of(f) for f, bs in files.items() if "specs" in f.parts for b in bs}
+    breaches: Counter = Counter()
+    for file in files:
+        for line in file.read_text(encoding="utf-8").splitlines():
+            match = UNFOLDS.match(line)
+            for name in match[1].split() if match else []:
+                if home.get(name, crate_of(file)) != crate_of(file):
+                    breaches[crate_of(file)] += 1
+    twins = defaultdict(list)
+    for f, bs in files.items():
+        for b in bs:
+            if not is_answer(f) and "proofs" in f.parts and len(b.statement()) > 40:
+                twins[b.statement()].append(b)
+    twice = [b for same in twins.values() if len(same) > 1 for b in same[1:]]
+    for title, found in (("cited by nothing", dead), ("stated again", twice)):
+        by_crate = Counter(crate_of(b.file) for b in found)
+        lines = sum(len(b.text) for b in found)
+        print(f"{title}: {len(found)} of {lines} lines: " + ", ".join(f"{c} {n}" for c, n in sorted(by_crate.items())))
+        for b in found if shows else []:
+            if not words or crate_of(b.file) in words:
+                print(f"  {b.file.relative_to(TOP)}:{b.line} {b.name} ({len(b.text)})")
+    print(f"unfolded in another crate: {sum(breaches.values())}: " + ", ".join(f"{c} {n}" for c, n in sorted(breaches.items())))
+
+
+if __name__ == "__main__":
+    main()
