@@ -16,3 +16,4 @@ pub mod TailReceived
 pub mod Ranges
 pub mod Framings
 pub mod Ready
+pub mod Readings

@@ -21,9 +21,11 @@ use Rattle.packet_assembly.specs.declared.note.Passed.{Passed}
 use Rattle.packet_assembly.specs.Assembling.{Assembling, Passes, unread_assembly}
 use Rattle.packet_assembly.specs.Notes.{note_of, note_in, PassesNext, ReadsNote}
 use Rattle.packet_assembly.specs.Passing.{whole_after}
+use Rattle.packet_assembly.specs.Readings.{HasRead}
+use Rattle.packet_assembly.proofs.Readings.{none_read, read_on, end_on, end_later}
 use Rattle.packet_assembly.proofs.OneStep.{AsksNone, OneOn, FailOn, one_on, fail_on, measure}
 use Rattle.packet_list.specs.Lines.{line_of, lines_of, listing}
-use Rattle.packet_list.specs.Progress.{AsksListed, HasRead, SawEnd, HasListed}
+use Rattle.packet_list.specs.Progress.{AsksListed, HasListed}
 use Rattle.packet_list.specs.Steps.{ListsOne}
 use Rattle.packet_list.proofs.LineLaws.{lines-none, lines-more}
 
@@ -31,68 +33,11 @@ use Rattle.packet_list.proofs.LineLaws.{lines-none, lines-more}
 abbrev pub Anywhere : FateState → Type 0
 Anywhere s = Unit {0}
 
--- ---- what was read
-
-pub read_on : {P : FateState → Type 0} {old new : Outside} {a b : Assembling} {took : List ℕ} {passed went : List (List ℕ)} (wish : DecodeWish) → HasRead wish a took passed → (q : Passes P old new a b went) →
-    HasRead wish b (took ++ q.took) (passed ++ went)
-read_on {a = a} {b = b} {took = took} {passed = passed} {went = went} wish read q = record {
-  apid = q.apid ∙ read.apid;
-  taken = omega (arith, q.taken, read.taken, length-append took q.took);
-  cap = q.cap ∙ read.cap;
-  capped = q.capped read.capped;
-  octets_are = ap (λ zs. zs ++ q.took) read.octets_are ∙ append_assoc (joined passed) a.intake.pending q.took ∙ ap (λ zs. joined passed ++ zs) q.octets_are
-      ∙ sym (append_assoc (joined passed) (joined went) b.intake.pending) ∙ ap (λ zs. zs ++ b.intake.pending) (sym (joined-append passed went));
-  packets_are = each_of_both IsPacket passed went read.packets_are q.packets_are;
-  state = q.state ∙ ap (λ n. after_all n a.state went) read.apid ∙ ap (λ s. after_all wish.apid s went) read.state ∙ sym (after_all-append wish.apid fresh passed went);
-  count = omega (arith, q.count, read.count, length-append passed went);
-}
-
--- ---- the end
-
-left_before : (o n : Option (List ℕ)) (took rest : List ℕ) → Loses o n took → n ≡ Some rest → o ≡ Some (took ++ rest)
-left_before None None took rest loses told = absurd cc
-left_before (Some before) (Some now) took rest loses told = let same : now ≡ rest = cc in ap Some (loses ∙ ap (λ zs. took ++ zs) same)
-left_before None (Some now) took rest loses told = absurd loses
-left_before (Some before) None took rest loses told = absurd loses
-
--- octets of which none are left
-nothing_more : (took rest : List ℕ) → length (took ++ rest) ≡ length took → rest ≡ []
-nothing_more took [] e = refl
-nothing_more took (x ∷ rest) e = absurd (omega (arith, e, length-append took (x ∷ rest)))
-
-all_nothing : (took rest : List ℕ) → took ++ rest ≡ [] → (rest ≡ []) × (length took ≡ 0)
-all_nothing [] rest e = (e, refl)
-all_nothing (x ∷ took) rest e = absurd (let long = ap length e in omega (arith, long))
-
 take_all : (k : ℕ) (xs : List ℕ) → length xs ≤ k → take k xs ≡ xs
 take_all zero [] le = refl
 take_all (suc k) [] le = refl
 take_all zero (x ∷ xs) le = absurd (omega arith)
 take_all (suc k) (x ∷ xs) le = ap (λ zs. x ∷ zs) (take_all k xs (omega (arith, le)))
-
--- where the end was seen, nothing is left
-pub end_stays : {P : FateState → Type 0} {old new : Outside} {a b : Assembling} {went : List (List ℕ)} → (q : Passes P old new a b went) → SawEnd old a → SawEnd new b
-end_stays {old = old} {new = new} {a = a} {b = b} {went = went} q before rest told ended = by a.intake.ended refl
-  where
-    less : (m k : ℕ) → nat_lt m k ≡ true → m < k
-    less m k e = grind (arith, nat_tests)
-
-    by : (c : Bool) → a.intake.ended ≡ c → (rest ≡ []) × (b.intake.taken < b.intake.cap)
-    by true e =
-        let early = before (q.took ++ rest) (left_before old.rest new.rest q.took rest q.since.rest told) e in
-        let none = all_nothing q.took rest early.0 in
-        (none.0, omega (arith, none.1, early.1, q.taken, q.cap))
-    by false e =
-        let n : ℕ = a.intake.cap - a.intake.taken in
-        let sees : nat_lt (length (q.took ++ rest)) n ≡ true = rw (e, ended) at (q.sees rest told) in
-        let fewer : length (q.took ++ rest) < n = less (length (q.took ++ rest)) n sees in
-        let comes : a.intake.pending ++ take n (q.took ++ rest) ≡ joined went ++ (b.intake.pending ++ []) = rw (e, ended) at (q.comes rest told) in
-        let all : take n (q.took ++ rest) ≡ q.took ++ rest = take_all n (q.took ++ rest) (omega (arith, fewer)) in
-        let long = ap length comes in
-        let short = ap length q.octets_are in (
-          nothing_more q.took rest (omega (arith, long, short, ap length all, length-append a.intake.pending (take n (q.took ++ rest)), length-append a.intake.pending q.took, length-append (joined went) (b.intake.pending ++ []), length-append (joined went) b.intake.pending, ap length (append-nil b.intake.pending))),
-          omega (arith, fewer, length-append q.took rest, q.taken, q.cap),
-        )
 
 -- ---- what was given
 
@@ -139,16 +84,7 @@ none_listed wish start a unread = subst (λ a. HasListed wish start start a 0) (
   took = [];
   passed = [];
   since = subst (λ gave. Since start start [] gave [] (AsksListed wish.apid [] gave)) (sym (lines-none wish.apid)) (since_start start _);
-  read = record {
-    apid = refl;
-    taken = refl;
-    cap = refl;
-    capped = omega arith;
-    octets_are = refl;
-    packets_are = tt;
-    state = refl;
-    count = refl;
-  };
+  read = none_read wish.apid wish.octets;
   at_end = λ rest told ended. absurd (false≢true ended);
   packets_are = refl;
 })
@@ -190,7 +126,7 @@ read_fault LongInput never x = absurd (never refl)
 read_fault Broken never x = absurd ((fail_note Broken x).fails.fails)
 
 -- the line of the next packet
-pub next_line : {old new : Outside} {a b : Assembling} {note : PacketNote} (wish : DecodeWish) (took : List ℕ) (passed : List (List ℕ)) → HasRead wish a took passed → (x : NoteOn old new a b note) →
+pub next_line : {old new : Outside} {a b : Assembling} {note : PacketNote} (wish : DecodeWish) (took : List ℕ) (passed : List (List ℕ)) → HasRead wish.apid wish.octets a took passed → (x : NoteOn old new a b note) →
     lines_of wish.apid (passed ++ x.one.packet ∷ []) ≡ lines_of wish.apid passed ++ line_of note
 next_line {a = a} {note = note} wish took passed read x =
     let packet = x.one.packet in
@@ -211,14 +147,10 @@ one_listed {wish = wish} {start = start} {new = new} {a = a} {b = b} {packets = 
       took = come.took ++ q.took;
       passed = come.passed ++ n.one.packet ∷ [];
       since = subst (λ gave. Since start new (come.took ++ q.took) gave [] (AsksListed wish.apid (come.took ++ q.took) gave)) (sym lines) since;
-      read = read_on wish come.read q;
-      at_end = later x.between.rest new.rest (end_stays q come.at_end) x.gives.rest;
+      read = read_on wish.apid wish.octets come.read q;
+      at_end = end_later b x.gives (end_on q come.at_end);
       packets_are = omega (arith, come.packets_are, length-append come.passed (n.one.packet ∷ []));
     }
-  where
-    later : (o k : Option (List ℕ)) → ((rest : List ℕ) → o ≡ Some rest → b.intake.ended ≡ true → (rest ≡ []) × (b.intake.taken < b.intake.cap)) → Loses o k [] →
-        (rest : List ℕ) → k ≡ Some rest → b.intake.ended ≡ true → (rest ≡ []) × (b.intake.taken < b.intake.cap)
-    later o k before loses rest told = before rest (left_before o k [] rest loses told)
 
 -- less is left to be read then
 pub less_left : {old new : Outside} {a b : Assembling} → ListsOne old new a b → measure b < measure a
