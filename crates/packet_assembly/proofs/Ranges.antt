@@ -72,6 +72,3 @@ ranged_past s flags a text found e fits image r = record { geometry = by found e
     by : (found : Option SegmentHead) → judged s flags a text ≡ Ok found → IfSome found IsHead → (g : Geometry) → (past_kept s flags a found).geometry ≡ Some g → IsGeometryInRange g
     by None e fits g made = r.geometry g made
     by (Some head) e fits g made = by_standing s.geometry head refl e fits g made
-
-pub ranged_fresh : IsRanged fresh
-ranged_fresh = record { geometry = λ g e. absurd (let no : None ≡ Some g = e in cc) }

@@ -27,7 +27,7 @@ use Rattle.packet_assembly.specs.Passing.{whole_after}
 use Rattle.packet_assembly.specs.Segments.{StandsEnded}
 use Rattle.packet_assembly.proofs.OneStep.{NoneOn, end_on}
 use Rattle.packet_assembly.specs.Readings.{HasRead}
-use Rattle.packet_assembly.proofs.Readings.{read_on, read_within, end_on, whole_so, ended_packets, ended_framing, ended_out, long_packets, long_good, long_full}
+use Rattle.packet_assembly.proofs.Readings.{read_on, read_within, end_on as seen_on, whole_so, ended_packets, ended_framing, ended_out, long_packets, long_good, long_full}
 use Rattle.packet_list.specs.declared.list.ListFault.{ListFault}
 use Rattle.packet_list.specs.declared.list.ListFault.TheVariants.{ReadFault, WriteFault, LongInput, Memory}
 use Rattle.packet_list.specs.Lines.{line_of, lines_of, listing}
@@ -49,7 +49,7 @@ stays_listed {wish = wish} {start = start} {new = new} {b = b} {packets = packet
       passed = come.passed;
       since = subst (λ gave. Since start new took gave [] (AsksListed wish.apid took gave)) same (gave_on come q none.asks [] (since_start new NoRead));
       read = subst (HasRead wish.apid wish.octets b took) (append-nil come.passed) (read_on wish.apid wish.octets come.read q);
-      at_end = end_on q come.at_end;
+      at_end = seen_on q come.at_end;
       packets_are = come.packets_are;
     }
 

@@ -158,9 +158,11 @@ passes_set {B = B} {C = C} (Err e) p q z a b same at f broken = record {
   out = broken.out;
   rose = broken.rose;
   given = λ numbers known.
-      let there = broken.given numbers (f numbers known) in
-      (there.0, subst (λ (x : PictureAt). rows_of p.geometry numbers x.next ++ broken.gave ≡ take there.0 (rows_of p.geometry numbers p.geometry.rows)) at
-      (subst (λ (g : Geometry). rows_of g numbers q.at.next ++ broken.gave ≡ take there.0 (rows_of g numbers g.rows)) same there.1));
+      let there = broken.given numbers (f numbers known) in (
+        there.0,
+        subst (λ (x : PictureAt). rows_of p.geometry numbers x.next ++ broken.gave ≡ take there.0 (rows_of p.geometry numbers p.geometry.rows)) at
+            (subst (λ (g : Geometry). rows_of g numbers q.at.next ++ broken.gave ≡ take there.0 (rows_of g numbers g.rows)) same there.1),
+      );
 }
 
 -- ---- a lost block

@@ -143,20 +143,6 @@ stands_on p t next columns numbers strip same stands = record {
 pub same_but : (p : Shown) (t : StripInverse) (next : ℕ) → SameBut p (stepped p t next)
 same_but p t next = record { geometry = refl; row = refl; column = refl }
 
--- the number of the next row, which is below that of rows
-pub next_low : (p : Shown) (t : StripInverse) → IsSized p → RowMade p.strip t → p.at.next < 8 * p.at.row
-next_low p t sized made =
-    let next = sized.next in
-    let taken = sized.taken in
-    ⊎_elim (λ (a : next_of p.strip + 21 < 8 * taken_of p.strip). omega (arith, a, next, taken)) (λ (b : (taken_of p.strip ≡ height_of p.strip) × (next_of p.strip < 8 * taken_of p.strip)). omega (arith, b.1, next, taken)) made.could.made
-
-pub next_few : (p : Shown) (t : StripInverse) → IsSized p → RowMade p.strip t → p.at.next + 1 < 2 ^ 32
-next_few p t sized made =
-    let low = next_low p t sized made in
-    let rows = sized.rows in
-    let few = block_count-rows p.geometry.rows sized.range.rows in
-    omega (arith, low, rows, few)
-
 module _ (p : Shown) (t : StripInverse) (sized : IsSized p) (made : RowMade p.strip t) where
   sized_next : IsSized (stepped p t (p.at.next + 1))
   sized_next = sized_on p t (p.at.next + 1) sized made.height made.width made.taken (made.next ∙ ap (λ n. n + 1) sized.next)

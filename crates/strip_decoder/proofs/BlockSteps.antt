@@ -90,13 +90,6 @@ lost_more g blocks m row =
 
 -- ---- one block
 
--- the columns of blocks as the code has them
-pub columns_are : (g : Geometry) (n k : ℕ) → n ≡ padded_size g.width → k < block_count g.width → (k + 1 ≡ n / 8 → ⊥) → k + 1 < block_count g.width
-columns_are g n k e lt other = elim (cases_lt (k + 1) (block_count g.width)) [
-  | inl less ↦ less
-  | inr ge ↦ absurd (other (omega (arith, e, lt, ge)))
-]
-
 module _ {S : Type 0} (k : SinkOf S) (v : Option (List ℤ)) (p z : Walking S) (t : S) (a b : Outside) (standing : IsStanding k p) (room : HasRoom 1 p) where
   abbrev c : ℕ
   c = block_count p.geometry.width

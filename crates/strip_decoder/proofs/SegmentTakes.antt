@@ -96,13 +96,6 @@ reached_at k (Ok x) w0 w1 a p q start n at n_is passed =
     }
 reached_at k (Err e) w0 w1 a p q start n at n_is broken = broken.rose
 
--- a write failed among its blocks
-pub segment_broken : {S T E : Type 0} (k : SinkOf S) (r : Result T E) (w0 w1 w2 w3 : Outside) (a b : Assembling) (head : SegmentHead) (p1 p3 : Walking S) (cells : List ℤ) (accepted : Bool) (values : ℕ → Option (List ℤ)) (n : ℕ) → IsErr r →
-    NoFewerFaults w0 w1 → ReadsText w1 w2 a b head cells (Ok accepted) → PassesBlocks k r values n w2 w3 p1 p3 → Rose w0.write_faults w3.write_faults
-segment_broken k (Ok x) w0 w1 w2 w3 a b head p1 p3 cells accepted values n is before reads broken = absurd (false≢true is)
-segment_broken k (Err e) w0 w1 w2 w3 a b head p1 p3 cells accepted values n is before reads broken =
-    rose_since before.writes (rose_since (text_goes w1 w2 a b head cells accepted reads).passes.since.faults.writes broken.rose)
-
 pub segment_taken : {S T E : Type 0} (k : SinkOf S) (r : Result T E) (w0 w1 w2 w3 : Outside) (a b : Assembling) (start : SegmentStart) (p0 p1 p3 : Walking S) (cells : List ℤ) (accepted : Bool) (values : ℕ → Option (List ℤ)) → IsOk r → IsAt a p0 start →
     HasReached k w0 w1 a p0 p1 start → ReadsText w1 w2 a b start.head cells (Ok accepted) → PassesBlocks k r values start.head.blocks w2 w3 p1 p3 → HasTaken k w0 w3 a b p0 p3
 segment_taken k (Err e) w0 w1 w2 w3 a b start p0 p1 p3 cells accepted values is at before reads past = absurd (false≢true is)
