@@ -15,7 +15,7 @@ use Rattle.std.specs.Option.{option_map}
 use Rattle.stream_defs.specs.declared.fate.FateState.{FateState}
 use Rattle.stream_defs.specs.declared.fate.Fate.TheVariants.{Foreign, Late, OutOfPlace, BadHead}
 use Rattle.stream_defs.specs.Agreement.{geometry_told, geometry_for}
-use Rattle.stream_defs.specs.Fates.{fresh, differs, is_foreign, is_late, is_out_of_place}
+use Rattle.stream_defs.specs.Fates.{differs, is_foreign, is_late, is_out_of_place}
 use Rattle.packet_assembly.specs.Judging.{unkept, refusal_told, head_told, judged, past_kept}
 use Rattle.packet_assembly.specs.Ranged.{IsRanged}
 use Rattle.packet_assembly.proofs.FateSteps.{judged_ok}

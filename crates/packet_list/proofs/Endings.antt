@@ -1,23 +1,18 @@
 -- How a list ends.
-use Rattle.std.proofs.Common.{◌≡◌, ◌≤◌, ◌+◌, ℕ, List, [], ◌∷◌, ◌++◌, length, take, refl, sym, ap, subst, ◌∙◌, inl, inr, arith, length-append}
-use Rattle.std.specs.Prelude.{Bool, true, false, ◌==◌, Option, None, Some, Result, Ok, Err}
-use Rattle.std.proofs.lemmas.Bool.{false≢true}
+use Rattle.std.proofs.Common.{◌≡◌, ◌≤◌, ◌+◌, ℕ, [], ◌∷◌, ◌++◌, length, take, sym, ap, subst, ◌∙◌, arith, length-append}
+use Rattle.std.specs.Prelude.{false, Option, None, Some, Result, Ok, Err}
 use Rattle.std.proofs.lemmas.List.{append-nil, take-append-le}
 use Rattle.std.proofs.Math.Seq.{take-append-add}
 use Rattle.base_122.specs.declared.wish.DecodeWish.{DecodeWish}
 use Rattle.bit_pipe.specs.declared.fault.InFault.{InFault}
 use Rattle.bit_pipe.specs.declared.fault.InFault.TheVariants as in_faults
-use Rattle.port_122.specs.Outside.{Outside, Since, NoRead, IsUsedUp}
+use Rattle.port_122.specs.Outside.{Outside, Since, NoRead}
 use Rattle.port_122.proofs.Stretches.{since_start, rose_since}
-use Rattle.packet_defs.specs.Packets.{joined}
-use Rattle.packet_defs.specs.Tests.{when, first_of}
 use Rattle.packet_defs.specs.declared.packet.Framing.{Framing}
-use Rattle.packet_defs.specs.declared.packet.Framing.TheVariants.{BadVersion}
 use Rattle.packet_defs.specs.declared.packet.PacketRead.{PacketRead}
 use Rattle.packet_defs.specs.declared.packet.PacketRead.TheVariants.{Mine, Skipped, Ended, Fault}
-use Rattle.packet_defs.specs.Streams.{Splits, has_bad_version, begins_packet, whole_packets, left_over, place_after, framing_at, framing}
-use Rattle.packet_defs.proofs.Splits.{splits_whole, splits_left}
-use Rattle.space_packets.specs.Intake.{Intake, verdict, fed, end_read, place_of}
+use Rattle.packet_defs.specs.Streams.{begins_packet, whole_packets}
+use Rattle.space_packets.specs.Intake.{Intake, fed}
 use Rattle.space_packets.specs.PacketReads.{ReadsPacket}
 use Rattle.space_packets.proofs.StreamReads.{undecided_none}
 use Rattle.packet_assembly.specs.declared.note.Passed.{Passed}

@@ -1,20 +1,19 @@
 -- Blocks that a walk passes, one after another.
-use Rattle.std.proofs.Common.{◌≡◌, ◌<◌, ◌≤◌, ◌+◌, ◌*◌, ◌/◌, ◌==◌, ℕ, ℤ, zero, suc, Bool, true, false, List, [], ◌++◌, refl, sym, ap, subst, ◌∙◌, inl, inr, arith, append_assoc}
+use Rattle.std.proofs.Common.{◌≡◌, ◌<◌, ◌≤◌, ◌+◌, ◌/◌, ◌==◌, ℕ, ℤ, zero, suc, Bool, true, false, List, [], ◌++◌, refl, sym, ap, subst, ◌∙◌, arith, append_assoc}
 use Rattle.std.specs.Prelude.{◌||◌, ◌&&◌, not, is_some, filter, Option, None, Some, Result, Ok, Err, IsErr}
 use Rattle.std.specs.List.{range_with_len, list_any}
-use Rattle.std.proofs.lemmas.Bool.{cases_lt, false≢true}
+use Rattle.std.proofs.lemmas.Bool.{false≢true}
 use Rattle.std.proofs.lemmas.Bool.Decides.{nat_tests}
 use Rattle.std.proofs.lemmas.List.{append-nil}
 use Rattle.std.proofs.lemmas.Nat.{div-mul-add}
 use Rattle.port_122.specs.Outside.{Outside, NoRead}
 use Rattle.port_122.proofs.Stretches.{since_start, since_out, rose_since}
-use Rattle.base_122.specs.Sizes.{block_count, padded_size}
+use Rattle.base_122.specs.Sizes.{block_count}
 use Rattle.base_122.specs.declared.geometry.Geometry.{Geometry}
-use Rattle.stream_defs.specs.Agreement.{blocks_of}
 use Rattle.stream_defs.specs.Marks.{Marks, marked, and_missing, most_block_rows}
 use Rattle.damage_rows.proofs.TableLaws.{any_there, any_none, filter_same}
 use Rattle.strip_decoder.specs.Sinks.{Blocks, SinkOf, Takes, Fails}
-use Rattle.strip_decoder.specs.Steps.{Walking, IsStanding, HasRoom, Follows, AreNext, HasPassed, BreaksOff, PassesBlocks, HasAdvanced, passed_in, total_in, is_marked, is_lost, IsListed}
+use Rattle.strip_decoder.specs.Steps.{Walking, IsStanding, HasRoom, Follows, AreNext, HasPassed, BreaksOff, PassesBlocks, HasAdvanced, passed_in, is_marked, is_lost, IsListed}
 
 -- ---- marks
 

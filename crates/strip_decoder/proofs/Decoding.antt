@@ -1,5 +1,5 @@
 -- How a whole walk ends.
-use Rattle.std.proofs.Common.{◌≡◌, ◌≤◌, ◌<◌, ◌*◌, ℕ, List, [], ◌∷◌, length, refl, sym, ap, subst, ◌∙◌, inl, inr, arith}
+use Rattle.std.proofs.Common.{◌≡◌, ◌≤◌, ◌<◌, ◌*◌, ℕ, List, [], ◌∷◌, refl, sym, ap, subst, ◌∙◌, inl, inr, arith}
 use Rattle.std.specs.Prelude.{Option, None, Some, Ok, Err}
 use Rattle.port_122.specs.Outside.{Outside, Since}
 use Rattle.port_122.proofs.Stretches.{rose_since, since_start, since_weaker}
@@ -7,8 +7,7 @@ use Rattle.base_122.specs.declared.geometry.Geometry.{Geometry}
 use Rattle.base_122.specs.declared.wish.DecodeWish.{DecodeWish}
 use Rattle.packet_defs.specs.declared.packet.Framing.{Framing}
 use Rattle.stream_defs.specs.declared.fate.FateState.{FateState}
-use Rattle.stream_defs.specs.Agreement.{blocks_of}
-use Rattle.stream_defs.specs.Fates.{fresh, after, after_all, geometry_in}
+use Rattle.stream_defs.specs.Fates.{fresh, after, after_all}
 use Rattle.stream_defs.proofs.ChosenLaws.{after_all-append}
 use Rattle.packet_assembly.specs.declared.note.SegmentStart.{SegmentStart}
 use Rattle.packet_assembly.specs.Assembling.{Assembling, last_index, unread_assembly}

@@ -1,17 +1,15 @@
 -- How a search for damage ends.
-use Rattle.std.proofs.Common.{◌≡◌, ◌≤◌, ℕ, List, [], ◌++◌, length, take, refl, ap, subst, inl, inr, arith}
-use Rattle.std.specs.Prelude.{false, Option, None, Some, Result, Ok, Err, IsOk, IsErr}
+use Rattle.std.proofs.Common.{◌≡◌, ℕ, List, [], length, take, refl, ap, subst, inl, inr, arith}
+use Rattle.std.specs.Prelude.{false, Result, Ok, Err, IsOk, IsErr}
 use Rattle.std.proofs.lemmas.Bool.{false≢true}
 use Rattle.port_122.specs.Outside.{Outside, Since, NoRead, WritesAll}
 use Rattle.port_122.proofs.Stretches.{since_out, since_weaker, rose_since}
 use Rattle.base_122.specs.declared.wish.DecodeWish.{DecodeWish}
 use Rattle.packet_assembly.proofs.Readings.{out_later}
 use Rattle.strip_decoder.specs.declared.engine.Walked.{Walked}
-use Rattle.strip_decoder.specs.declared.decode.DecodeDone.{DecodeDone}
 use Rattle.strip_decoder.specs.declared.decode.DecodeFault.{DecodeFault}
 use Rattle.strip_decoder.specs.declared.decode.DecodeFault.TheVariants.{ReadFault, WriteFault, NoSegment, TooManyPixels, LongInput, Memory}
 use Rattle.strip_decoder.specs.declared.find.NoPicture.{NoPicture}
-use Rattle.strip_decoder.specs.Runs.{PassedBy}
 use Rattle.strip_decoder.specs.Walks.{IsWalked, WalkAnswers, Walks}
 use Rattle.strip_decoder.specs.Answers.{PictureBy}
 use Rattle.strip_decoder.specs.Lines.{damage_lines}

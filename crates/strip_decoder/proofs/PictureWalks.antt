@@ -1,20 +1,19 @@
 -- What a walk with a picture gives.
-use Rattle.std.proofs.Common.{◌≡◌, ◌≤◌, ◌<◌, ◌+◌, ◌*◌, ◌/◌, ◌%◌, ◌==◌, ℕ, ℤ, pos, List, [], ◌++◌, length, take, get_or, refl, sym, ap, subst, ◌∙◌, inl, inr, arith}
-use Rattle.std.specs.Prelude.{Option, None, Some, Result, Ok, Err, MatchResult, IfOk, unwrap_or, if◌then◌else◌, true}
+use Rattle.std.proofs.Common.{◌≡◌, ◌≤◌, ◌<◌, ◌+◌, ◌*◌, ◌/◌, ◌%◌, ◌==◌, ℕ, ℤ, pos, List, [], ◌++◌, take, get_or, refl, sym, ap, subst, ◌∙◌, arith}
+use Rattle.std.specs.Prelude.{Option, None, Some, Result, Ok, Err, MatchResult, IfOk, unwrap_or, true}
 use Rattle.std.specs.Option.{option_map}
 use Rattle.std.proofs.lemmas.Bool.Decides.{nat_tests}
 use Rattle.std.proofs.lemmas.Nat.{div-mul-add}
-use Rattle.port_122.specs.Outside.{Outside, Since}
+use Rattle.port_122.specs.Outside.{Outside}
 use Rattle.port_122.proofs.Stretches.{since_weaker}
 use Rattle.base_122.specs.Sizes.{block_count}
 use Rattle.base_122.specs.declared.geometry.Geometry.{Geometry}
 use Rattle.base_122.specs.declared.wish.DecodeWish.{DecodeWish}
-use Rattle.raster_rows.specs.Pixels.{raster_octets}
 use Rattle.stream_defs.specs.declared.fate.FateState.{FateState}
 use Rattle.stream_defs.specs.declared.fate.LastPart.{LastPart}
 use Rattle.stream_defs.specs.Agreement.{blocks_of}
-use Rattle.stream_defs.specs.Fates.{geometry_in, state_after}
-use Rattle.stream_defs.specs.Picture.{number_at, picture_octets, picture_with}
+use Rattle.stream_defs.specs.Fates.{state_after}
+use Rattle.stream_defs.specs.Picture.{number_at, picture_octets}
 use Rattle.stream_defs.specs.Settled.{ready, rows_through, block_rows_before}
 use Rattle.picture_rows.specs.declared.picture.Picture.{Picture}
 use Rattle.picture_rows.specs.Fronts.{rows_of}
@@ -22,7 +21,6 @@ use Rattle.picture_rows.specs.Pictures.{shown, IsFresh}
 use Rattle.picture_rows.specs.Steps.{HasNextNumbers, PassesBlock}
 use Rattle.picture_rows.proofs.RowsOut.{all_rows, no_rows}
 use Rattle.strip_decoder.specs.declared.engine.Walked.{Walked}
-use Rattle.strip_decoder.specs.declared.decode.DecodeDone.{DecodeDone}
 use Rattle.strip_decoder.specs.declared.decode.DecodeFault.{DecodeFault}
 use Rattle.strip_decoder.specs.declared.decode.DecodeFault.TheVariants.{ReadFault, WriteFault, NoSegment, TooManyPixels, LongInput, Memory}
 use Rattle.strip_decoder.specs.Sinks.{Numbers, Blocks, Begins, Takes, Fails, blocks_with}

@@ -1,10 +1,8 @@
 -- A run ends.
-use Rattle.std.proofs.Common.{◌≡◌, ◌≤◌, ◌<◌, ◌+◌, ◌-◌, ◌*◌, ◌/◌, ℕ, ℤ, List, [], ◌++◌, length, take, refl, sym, ap, subst, ◌∙◌, arith}
-use Rattle.std.specs.Prelude.{Option, None, Some, Result, Ok, Err}
+use Rattle.std.proofs.Common.{◌≡◌, ◌≤◌, ◌<◌, ◌+◌, ◌*◌, ◌/◌, ℕ, List, ◌++◌, refl, sym, ap, subst, ◌∙◌, arith}
+use Rattle.std.specs.Prelude.{None, Some, Err}
 use Rattle.std.proofs.lemmas.Nat.{le-div}
 use Rattle.port_122.specs.Outside.{Outside}
-use Rattle.base_122.specs.Sizes.{first_block, segment_blocks}
-use Rattle.base_122.specs.declared.geometry.Geometry.{Geometry}
 use Rattle.packet_defs.specs.Streams.{whole_packets}
 use Rattle.stream_defs.specs.declared.fate.FateState.{FateState}
 use Rattle.stream_defs.specs.Agreement.{blocks_of}
@@ -16,9 +14,9 @@ use Rattle.packet_assembly.proofs.Readings.{read_within, out_later, ended_packet
 use Rattle.strip_decoder.specs.declared.decode.DecodeFault.{DecodeFault}
 use Rattle.strip_decoder.specs.declared.decode.DecodeFault.TheVariants.{ReadFault, WriteFault, NoSegment, TooManyPixels, LongInput, Memory}
 use Rattle.strip_decoder.specs.Sinks.{Numbers, SinkOf, blocks_with}
-use Rattle.strip_decoder.specs.Steps.{Walking, IsStanding, HasPassed, BreaksOff, AreNext, missing, passed_in, total_in}
+use Rattle.strip_decoder.specs.Steps.{Walking, IsStanding, HasPassed, BreaksOff, missing, passed_in, total_in}
 use Rattle.strip_decoder.specs.Segments.{IsBetween, FindsNext, TakesSegment}
-use Rattle.strip_decoder.specs.Runs.{Run, holds_after, AreOf, HasComeTo, ComesPast, ComesToEnd, HasBroken, HasLong, BreaksRun}
+use Rattle.strip_decoder.specs.Runs.{Run, holds_after, HasComeTo, ComesPast, ComesToEnd, HasBroken, HasLong, BreaksRun}
 use Rattle.strip_decoder.specs.Walks.{HasPassedAll, left_in}
 use Rattle.strip_decoder.proofs.TextReads.{left_after}
 use Rattle.strip_decoder.proofs.Between.{geometry_stays}

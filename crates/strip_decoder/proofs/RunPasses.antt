@@ -1,24 +1,23 @@
 -- A run past the blocks of a segment, or to a fault.
 use Rattle.std.proofs.Common.{◌≡◌, ◌≤◌, ◌<◌, ◌+◌, ◌-◌, ◌*◌, ◌/◌, ℕ, ℤ, List, [], ◌++◌, length, take, refl, sym, ap, subst, ◌∙◌, arith}
-use Rattle.std.specs.Prelude.{Bool, true, false, if◌then◌else◌, Option, None, Some, Result, Ok, Err, IsOk, IsErr}
+use Rattle.std.specs.Prelude.{Bool, true, false, if◌then◌else◌, Option, Some, Result, Ok, Err, IsOk, IsErr}
 use Rattle.std.proofs.lemmas.Bool.{false≢true}
 use Rattle.std.proofs.lemmas.List.{append-nil}
 use Rattle.std.proofs.lemmas.Nat.{div-mul-add}
-use Rattle.port_122.specs.Outside.{Outside, Since, NoRead}
+use Rattle.port_122.specs.Outside.{Outside}
 use Rattle.base_122.specs.Sizes.{first_block, segment_blocks}
 use Rattle.base_122.specs.declared.geometry.Geometry.{Geometry}
 use Rattle.packet_defs.specs.Streams.{whole_packets}
 use Rattle.stream_defs.specs.Agreement.{blocks_of}
-use Rattle.segment_defs.specs.declared.head.SegmentHead.{SegmentHead}
 use Rattle.packet_assembly.specs.declared.note.SegmentStart.{SegmentStart}
-use Rattle.packet_assembly.specs.Assembling.{Assembling, last_index}
+use Rattle.packet_assembly.specs.Assembling.{Assembling}
 use Rattle.packet_assembly.proofs.Readings.{read_within}
 use Rattle.strip_decoder.specs.declared.decode.DecodeFault.{DecodeFault}
 use Rattle.strip_decoder.specs.declared.decode.DecodeFault.TheVariants.{ReadFault, WriteFault, NoSegment, TooManyPixels, LongInput, Memory}
 use Rattle.strip_decoder.specs.Sinks.{Numbers, SinkOf, blocks_with}
-use Rattle.strip_decoder.specs.Steps.{Walking, IsStanding, HasPassed, BreaksOff, PassesBlocks, missing, passed_in, total_in}
-use Rattle.strip_decoder.specs.Segments.{FitsImage, IsAt, ReadsText, HasFailed, HasReached, segment_values}
-use Rattle.strip_decoder.specs.Runs.{Run, PartBy, Shows, HasComeTo, ComesTo, ComesPast, HasBroken, RunsReach, RunsSegment, future}
+use Rattle.strip_decoder.specs.Steps.{Walking, IsStanding, HasPassed, BreaksOff, PassesBlocks, missing, passed_in}
+use Rattle.strip_decoder.specs.Segments.{FitsImage, IsAt, ReadsText, HasFailed, segment_values}
+use Rattle.strip_decoder.specs.Runs.{Run, PartBy, HasComeTo, ComesTo, ComesPast, HasBroken, RunsReach, RunsSegment, future}
 use Rattle.strip_decoder.proofs.TextReads.{left_after}
 use Rattle.strip_decoder.proofs.Showing.{block_lost, block_held, shows_passed}
 use Rattle.strip_decoder.proofs.Asking.{small_read, front_packets, wrote_on, geometry_then, not_none, first_received, is_part}

@@ -1,6 +1,6 @@
 -- A run begins.
 use Rattle.std.proofs.Common.{◌≡◌, ◌≤◌, ◌<◌, ◌*◌, ℕ, zero, suc, List, [], ◌∷◌, ◌++◌, take, refl, sym, ap, subst, ◌∙◌, inl, inr, arith}
-use Rattle.std.specs.Prelude.{Bool, true, false, filter, None, Some, Ok}
+use Rattle.std.specs.Prelude.{true, false, filter, None, Some, Ok}
 use Rattle.std.specs.List.{range_with_len}
 use Rattle.std.proofs.lemmas.Bool.{false≢true}
 use Rattle.port_122.specs.Outside.{Outside, Since}

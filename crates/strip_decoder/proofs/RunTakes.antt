@@ -1,10 +1,10 @@
 -- A run through the text of a segment.
-use Rattle.std.proofs.Common.{◌≡◌, ◌≤◌, ◌+◌, ◌-◌, ◌*◌, ◌/◌, ◌==◌, ℕ, ℤ, List, [], ◌∷◌, ◌++◌, refl, sym, ap, subst, ◌∙◌, inl, inr, arith, append_assoc}
+use Rattle.std.proofs.Common.{◌≡◌, ◌≤◌, ◌+◌, ◌*◌, ◌/◌, ◌==◌, ℕ, ℤ, List, [], ◌∷◌, ◌++◌, refl, sym, ap, subst, ◌∙◌, inl, inr, arith, append_assoc}
 use Rattle.std.specs.Prelude.{Bool, true, false, if◌then◌else◌, Option, None, Some, is_some, MatchOption, Ok}
 use Rattle.std.proofs.lemmas.Bool.{cases_lt}
 use Rattle.std.proofs.lemmas.Bool.Decides.{nat_tests}
 use Rattle.std.proofs.lemmas.Nat.{div_below}
-use Rattle.port_122.specs.Outside.{Outside, Since, NoRead}
+use Rattle.port_122.specs.Outside.{Outside}
 use Rattle.base_122.specs.Sizes.{first_block, segment_blocks}
 use Rattle.wave_defs.specs.Held.{blocks_in}
 use Rattle.segment_defs.specs.declared.head.SegmentHead.{SegmentHead}

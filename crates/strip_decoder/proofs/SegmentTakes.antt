@@ -1,10 +1,9 @@
 -- A segment that is taken.
-use Rattle.std.proofs.Common.{◌≡◌, ◌≤◌, ◌<◌, ◌+◌, ◌-◌, ◌*◌, ◌/◌, ◌^◌, ◌*ℤ◌, ℕ, ℤ, pos, List, [], length, take, drop, get_or, sym, ap, subst, ◌∙◌, arith, length-drop}
-use Rattle.std.specs.Prelude.{Bool, true, false, Option, Some, Result, Ok, Err, IsOk, IsErr, unsigned_abs}
+use Rattle.std.proofs.Common.{◌≡◌, ◌≤◌, ◌<◌, ◌+◌, ◌-◌, ◌*◌, ◌^◌, ◌*ℤ◌, ℕ, ℤ, pos, List, length, drop, get_or, sym, ap, subst, ◌∙◌, arith, length-drop}
+use Rattle.std.specs.Prelude.{Bool, true, false, Option, Some, Result, Ok, Err, IsOk, unsigned_abs}
 use Rattle.std.proofs.lemmas.Bool.{false≢true}
 use Rattle.std.proofs.lemmas.List.{length-take-le}
-use Rattle.port_122.specs.Outside.{Outside, Rose, NoFewerFaults}
-use Rattle.port_122.proofs.Stretches.{rose_since}
+use Rattle.port_122.specs.Outside.{Outside, NoFewerFaults}
 use Rattle.base_122.specs.Sizes.{first_block}
 use Rattle.base_122.specs.declared.geometry.Geometry.{Geometry}
 use Rattle.wave_defs.specs.Line.{floor_div}

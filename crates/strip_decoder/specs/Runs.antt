@@ -18,7 +18,6 @@ use Rattle.packet_assembly.specs.declared.note.SegmentStart.{SegmentStart}
 use Rattle.packet_assembly.specs.Comings.{coming}
 use Rattle.packet_assembly.specs.Assembling.{Assembling, Starts, last_index, text_after}
 use Rattle.packet_assembly.specs.Readings.{HasRead, SawEnd}
-use Rattle.packet_assembly.specs.Readings as readings
 use Rattle.strip_decoder.specs.declared.decode.DecodeFault.{DecodeFault}
 use Rattle.strip_decoder.specs.declared.decode.DecodeFault.TheVariants.{LongInput}
 use Rattle.strip_decoder.specs.Sinks as sinks
@@ -33,9 +32,6 @@ holds_after head text numbers = Holds head (drop (head_length head) text) number
 
 abbrev pub Numbers : Type 0
 Numbers = sinks.Numbers
-
-abbrev pub IsReadOut : (cap : ℕ) → Outside → List ℕ → Type 0
-IsReadOut = readings.IsReadOut
 
 -- the blocks that octets settle which left this state: those before the last place, and those of its segment where that is received
 abbrev pub settled_blocks : FateState → Numbers → ℕ

@@ -1,8 +1,7 @@
 -- What a sink of blocks shows of those that it has taken. This project's own.
-use Rattle.std.specs.Prelude.{◌≡◌, ◌≤◌, ◌<◌, ◌+◌, ◌/◌, ◌%◌, ℕ, ℤ, List, [], ◌++◌, length, Option, None, Some, Result, MatchResult, slice_index_or}
+use Rattle.std.specs.Prelude.{◌≡◌, ◌<◌, ◌+◌, ◌/◌, ◌%◌, ℕ, ℤ, List, [], ◌++◌, length, Option, None, Some, Result, MatchResult, slice_index_or}
 use Rattle.std.specs.Option.{option_map}
 use Rattle.port_122.specs.Outside.{Outside, Since, NoRead, Rose}
-use Rattle.base_122.specs.Ranges.{IsGeometryInRange}
 use Rattle.base_122.specs.declared.geometry.Geometry.{Geometry}
 use Rattle.block_families.specs.Places.{AreWeighted}
 use Rattle.stream_defs.specs.Agreement.{blocks_of}

@@ -1,8 +1,8 @@
 -- What the steps of a walk leave. This project's own.
-use Rattle.std.specs.Prelude.{◌≡◌, ◌≤◌, ◌<◌, ◌+◌, ◌*◌, ◌/◌, ◌==◌, ◌&&◌, ℕ, ℤ, List, [], ◌++◌, Bool, not, is_some, Option, None, Some, Result, MatchResult, filter, vec_len, slice_index_or}
+use Rattle.std.specs.Prelude.{◌≡◌, ◌≤◌, ◌<◌, ◌+◌, ◌*◌, ◌/◌, ◌==◌, ◌&&◌, ℕ, ℤ, List, [], ◌++◌, Bool, not, is_some, Option, None, Some, Result, MatchResult, filter}
 use Rattle.std.specs.List.{list_any, range_with_len}
 use Rattle.port_122.specs.Outside.{Outside, Since, NoRead, Rose}
-use Rattle.base_122.specs.Sizes.{block_count, total_blocks}
+use Rattle.base_122.specs.Sizes.{block_count}
 use Rattle.base_122.specs.Ranges.{IsGeometryInRange}
 use Rattle.base_122.specs.declared.geometry.Geometry.{Geometry}
 use Rattle.wave_defs.specs.Held.{block_at}

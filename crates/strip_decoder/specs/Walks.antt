@@ -17,7 +17,7 @@ use Rattle.strip_decoder.specs.declared.engine.Walked.{Walked}
 use Rattle.strip_decoder.specs.declared.decode.DecodeFault.{DecodeFault}
 use Rattle.strip_decoder.specs.declared.decode.DecodeFault.TheVariants.{ReadFault, WriteFault, NoSegment, TooManyPixels, LongInput, Memory}
 use Rattle.strip_decoder.specs.Sinks.{SinkOf, Numbers, blocks_with}
-use Rattle.strip_decoder.specs.Steps.{Walking, IsStanding, PassesBlocks, missing, passed_in, total_in}
+use Rattle.strip_decoder.specs.Steps.{Walking, IsStanding, passed_in, total_in}
 use Rattle.strip_decoder.specs.Runs.{holds_after, AsksPassed, HasFew, PartBy, IsPartOfSome, Run, BreaksRun}
 
 -- ---- the steps

@@ -1,5 +1,4 @@
 use Rattle.std.proofs.Common.{arith, ap, subst, sym, ◌≡◌, ◌+◌, ◌-◌, ◌*◌}
-use Rattle.std.specs.Prelude.{Some}
 use Rattle.stream_defs.specs.Agreement.{blocks_of}
 use Rattle.strip_decoder.specs.Sinks.{IsBlock}
 use Rattle.strip_decoder.specs.Steps.{walking, held}

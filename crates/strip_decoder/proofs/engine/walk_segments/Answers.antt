@@ -1,4 +1,4 @@
-use Rattle.std.proofs.Common.{refl, sym, subst, ◌∙◌}
+use Rattle.std.proofs.Common.{refl, sym, ◌∙◌}
 use Rattle.strip_decoder.specs.Steps.{walking}
 use Rattle.strip_decoder.proofs.Between.{found_first, finds_faults}
 use Rattle.strip_decoder.proofs.RunStarts.{found_one, first_stands, first_comes}
