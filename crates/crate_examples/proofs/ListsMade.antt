@@ -11,7 +11,8 @@ use Rattle.packet_defs.proofs.Fronts.{version-append}
 use Rattle.packet_defs.proofs.Splits.{splits_whole, whole_splits}
 use Rattle.packet_list.specs.declared.list.ListDone.{ListDone}
 use Rattle.packet_list.specs.Lines.{lines_of, listing}
-use Rattle.packet_list.specs.Answers.{IsReadOut, Lists}
+use Rattle.packet_assembly.specs.Readings.{IsReadOut}
+use Rattle.packet_list.specs.Answers.{Lists}
 
 -- ---- octets that can't be read on
 

@@ -21,9 +21,6 @@ damaged_within rows missing row d = by (nat_lt row rows) refl d
     by true e d = grind (arith, nat_tests)
     by false e d = absurd (let no : false ≡ true = d in cc)
 
-pub undamaged_past : (rows : ℕ) (missing : List ℕ) (row : ℕ) → rows ≤ row → is_damaged rows missing row ≡ false
-undamaged_past rows missing row far = let t : nat_lt row rows ≡ false = grind (arith, nat_tests) in rw t refl
-
 -- what a missing block row reaches is damaged
 pub damaged_by : (rows : ℕ) (missing : List ℕ) (row r : ℕ) → row < rows → is_missing missing r ≡ true → 8 * r ≤ row + 21 → row ≤ 8 * r + 29 → is_damaged rows missing row ≡ true
 damaged_by rows missing row r within listed low high =
@@ -62,10 +59,6 @@ module _ (rows : ℕ) (missing : List ℕ) where
       let one : 1 + m ≡ suc m = omega arith in
       rw e (ap (λ k. length (take k (a ∷ rest))) one)
 
-  going_ends : (a n : ℕ) → is_damaged rows missing a ≡ false → going a (suc n) ≡ 0
-  unfolding going
-  going_ends a n e = rw e refl
-
   -- one more damaged row
   pub run_on : (a : ℕ) → is_damaged rows missing a ≡ true → run_length rows missing a ≡ suc (run_length rows missing (a + 1))
   unfolding going
@@ -73,14 +66,6 @@ module _ (rows : ℕ) (missing : List ℕ) where
       let within = damaged_within rows missing a e in
       let left : rows - a ≡ suc (rows - (a + 1)) = omega (arith, within) in
       ap (going a) left ∙ going_on a (rows - (a + 1)) e
-
-  -- the run ends before a row that isn't damaged
-  pub run_ends : (a : ℕ) → is_damaged rows missing a ≡ false → run_length rows missing a ≡ 0
-  unfolding going
-  run_ends a e = elim (cases_lt a rows) [
-    | inl within ↦ let left : rows - a ≡ suc (rows - (a + 1)) = omega (arith, within) in ap (going a) left ∙ going_ends a (rows - (a + 1)) e
-    | inr far ↦ let left : rows - a ≡ 0 = omega (arith, far) in ap (going a) left
-  ]
 
   -- ---- the first range
 

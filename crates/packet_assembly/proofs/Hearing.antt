@@ -1,10 +1,10 @@
 -- A text that goes on, packet by packet.
-use Rattle.std.proofs.Common.{◌≡◌, ◌<◌, [], ◌∷◌, length, refl, sym, ap, subst, ◌∙◌}
+use Rattle.std.proofs.Common.{◌≡◌, [], ◌∷◌, refl, sym, ap, subst, ◌∙◌}
 use Rattle.std.specs.Prelude.{true, false, is_some, Option, None, Some, Ok, Err}
 use Rattle.std.proofs.lemmas.Bool.{false≢true}
 use Rattle.bit_pipe.specs.declared.fault.InFault.{InFault}
 use Rattle.bit_pipe.specs.declared.fault.InFault.TheVariants.{ReadFault, LongInput, Broken}
-use Rattle.bit_pipe.specs.Sources.{Plainly, TooLong, InPieces}
+use Rattle.bit_pipe.specs.Sources.{TooLong, InPieces}
 use Rattle.port_122.specs.Outside.{Outside}
 use Rattle.port_122.proofs.Stretches.{since_start, rose_since, loses_start}
 use Rattle.packet_assembly.specs.declared.note.Passed.{Passed}
@@ -47,21 +47,6 @@ heard_held p a held = record {
   closed = λ e. absurd (let no : Err Broken ≡ Ok false = e in cc);
   ends = over_told p a InPieces (λ rest is. rw held refl);
 }
-
--- the text is over
-pub heard_over : {old new : Outside} {a b : Assembling} → Heard old new a b → b.text ≡ [] → is_closed b.state.last ≡ true → Hears old new a b (Ok false)
-heard_over {new = new} {b = b} x empty closed = record {
-  goes = x.goes;
-  silent = record { took = x.quiet.took; asks = x.quiet.asks };
-  comes = x.comes;
-  unheld = x.unheld;
-  closed = λ e. closed;
-  ends = over_told new b Plainly (λ rest is. rw (x.unheld, empty, closed) refl);
-}
-
--- octets wait
-pub heard_some : {old new : Outside} {a b : Assembling} → Heard old new a b → 0 < length b.text → Hears old new a b (Ok true)
-heard_some x some = record { goes = x.goes; silent = record { took = x.quiet.took; asks = x.quiet.asks }; comes = x.comes; unheld = x.unheld; closed = λ e. absurd (let no : Ok true ≡ Ok false = e in cc); ends = some }
 
 open_now : (b : Assembling) → b.held ≡ None → is_closed b.state.last ≡ false → StaysOpen b b.state
 open_now b unheld going = record { unheld = unheld; unclosed = going; same = refl }

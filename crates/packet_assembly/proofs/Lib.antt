@@ -12,7 +12,7 @@ pub mod Unhearing
 pub mod Hearing
 pub mod Giving
 pub mod TailParts
-pub mod TailReceived
 pub mod Ranges
 pub mod Framings
 pub mod Ready
+pub mod Readings

@@ -15,7 +15,7 @@ use Rattle.std.specs.Option.{option_map}
 use Rattle.stream_defs.specs.declared.fate.FateState.{FateState}
 use Rattle.stream_defs.specs.declared.fate.Fate.TheVariants.{Foreign, Late, OutOfPlace, BadHead}
 use Rattle.stream_defs.specs.Agreement.{geometry_told, geometry_for}
-use Rattle.stream_defs.specs.Fates.{fresh, differs, is_foreign, is_late, is_out_of_place}
+use Rattle.stream_defs.specs.Fates.{differs, is_foreign, is_late, is_out_of_place}
 use Rattle.packet_assembly.specs.Judging.{unkept, refusal_told, head_told, judged, past_kept}
 use Rattle.packet_assembly.specs.Ranged.{IsRanged}
 use Rattle.packet_assembly.proofs.FateSteps.{judged_ok}
@@ -72,6 +72,3 @@ ranged_past s flags a text found e fits image r = record { geometry = by found e
     by : (found : Option SegmentHead) → judged s flags a text ≡ Ok found → IfSome found IsHead → (g : Geometry) → (past_kept s flags a found).geometry ≡ Some g → IsGeometryInRange g
     by None e fits g made = r.geometry g made
     by (Some head) e fits g made = by_standing s.geometry head refl e fits g made
-
-pub ranged_fresh : IsRanged fresh
-ranged_fresh = record { geometry = λ g e. absurd (let no : None ≡ Some g = e in cc) }

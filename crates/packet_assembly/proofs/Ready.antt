@@ -1,5 +1,5 @@
 -- Octets of a text that were read and not given yet, passed at once.
-use Rattle.std.proofs.Common.{◌≡◌, ℕ, ◌+◌, ◌≤◌, List, [], length, take, drop, refl, sym, ap, subst, ◌∙◌, arith, append_assoc, length-drop, ◌++◌}
+use Rattle.std.proofs.Common.{◌≡◌, ℕ, ◌≤◌, List, [], length, take, drop, refl, sym, ap, ◌∙◌, arith, append_assoc, ◌++◌}
 use Rattle.std.specs.Prelude.{Option, None, Some}
 use Rattle.std.proofs.lemmas.List.{take-append-drop}
 use Rattle.std.specs.Option.{option_map}
@@ -11,18 +11,6 @@ use Rattle.packet_assembly.specs.Segments.{GoesOn}
 use Rattle.packet_assembly.specs.Tails.{text_tail, tail_after}
 use Rattle.packet_assembly.specs.TextSource.{text_ready}
 use Rattle.packet_assembly.specs.Passing.{passes_none}
-
--- they are all octets of the text, or none
-pub ready_fits : (a : Assembling) (count : ℕ) → count ≤ length (text_ready a) → count ≤ length a.text
-ready_fits a count le = by a.held refl
-  where
-    by : (o : Option SegmentStart) → a.held ≡ o → count ≤ length a.text
-    by None e = rw e at le
-    by (Some start) e = let none : count ≤ 0 = rw e at le in omega arith
-
--- past the place of a text's next octet
-pub ready_within : (a : Assembling) (next count : ℕ) (text : List ℕ) → a.text ≡ drop next text → next ≤ length text → count ≤ length (text_ready a) → next + count ≤ length text
-ready_within a next count text e place le = let fits : count ≤ length (drop next text) = subst (λ xs. count ≤ length xs) e (ready_fits a count le) in omega (arith, fits, length-drop next text)
 
 -- the assembly without them
 abbrev pub past : Assembling → ℕ → Assembling

@@ -39,10 +39,6 @@ unread_assembly apid cap =
 abbrev pub is_first : (apid : ℕ) → FateState → List ℕ → Bool
 is_first apid s packet = if is_kept (fate apid s packet) then (ancillary_in packet).part == 0 else false
 
--- what the first packet of a segment tells, and what follows its head
-abbrev pub start_with : List ℕ → SegmentHead → SegmentStart
-start_with packet head = record { ancillary = ancillary_in packet; head = head }
-
 abbrev pub text_after : List ℕ → SegmentHead → List ℕ
 text_after packet head = drop (head_length head) (text_in packet)
 

@@ -11,3 +11,4 @@ pub mod Texts
 pub mod TextSource
 pub mod Laws
 pub mod Wholes
+pub mod Readings

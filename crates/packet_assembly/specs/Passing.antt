@@ -65,7 +65,7 @@ passes_none p a = record {
 }
 
 -- what was left before octets were taken
-before_loses : (o n : Option (List ℕ)) (took rest : List ℕ) → Loses o n took → n ≡ Some rest → o ≡ Some (took ++ rest)
+pub before_loses : (o n : Option (List ℕ)) (took rest : List ℕ) → Loses o n took → n ≡ Some rest → o ≡ Some (took ++ rest)
 before_loses None None took rest loses told = absurd cc
 before_loses (Some before) (Some now) took rest loses told = let same : now ≡ rest = cc in ap Some (loses ∙ ap (λ zs. took ++ zs) same)
 before_loses None (Some now) took rest loses told = absurd loses

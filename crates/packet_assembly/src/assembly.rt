@@ -49,6 +49,7 @@ impl Assembly {
     ghost use Rattle.packet_assembly.specs.Assembling.{unread_assembly};
     ghost use Rattle.packet_assembly.specs.Held.{StandsAtFault, told_mine, after_mine, told_other, after_other};
     ghost use Rattle.packet_assembly.specs.Notes.{PassesNext, ReadsNote};
+    ghost use Rattle.packet_defs.specs.Streams.{begins_packet};
     ghost use Rattle.packet_assembly.specs.Assembling.{is_closed};
     ghost use Rattle.packet_assembly.specs.Segments.{FindsSegment};
     ghost use Rattle.packet_assembly.specs.TextSource.{text_ready};
@@ -89,6 +90,13 @@ impl Assembly {
         ensures met { IfSome result (StandsAtFault self.now.apid self.now.intake) }
     {
         self.framing
+    }
+
+    /// Whether the octets that were taken hold the whole next packet. Then `next_packet` answers its fate and reads nothing.
+    pub fn has_packet(&self) -> bool
+        ensures { result ≡ begins_packet self.now.intake.pending }
+    {
+        self.reader.has_packet()
     }
 
     /// The next packet's fate, or nothing at the end and at what can't be read on.

@@ -1,68 +1,36 @@
 -- A list goes on by one packet, or by none.
-use Rattle.std.proofs.Common.{◌≡◌, ◌≤◌, ◌<◌, ◌+◌, ◌-◌, ℕ, zero, suc, List, [], ◌∷◌, ◌++◌, length, take, refl, sym, ap, subst, ◌∙◌, arith, append_assoc, length-append}
-use Rattle.std.specs.Prelude.{Bool, true, false, nat_lt, Option, None, Some, Result, Ok, Err}
+use Rattle.std.proofs.Common.{◌≡◌, ◌≤◌, ◌<◌, ◌+◌, ℕ, zero, suc, List, [], ◌∷◌, ◌++◌, length, take, refl, sym, ap, subst, ◌∙◌, inl, inr, arith, append_assoc, length-append}
+use Rattle.std.specs.Prelude.{◌⊎◌, true, Option, None, Some, Result, Ok, Err}
 use Rattle.std.proofs.lemmas.Bool.{false≢true}
-use Rattle.std.proofs.lemmas.Bool.Decides.{nat_tests}
 use Rattle.std.proofs.lemmas.List.{append-nil, take-append-le}
 use Rattle.std.proofs.Math.Seq.{take-append-add}
 use Rattle.base_122.specs.declared.wish.DecodeWish.{DecodeWish}
 use Rattle.bit_pipe.specs.declared.fault.InFault.{InFault}
 use Rattle.bit_pipe.specs.declared.fault.InFault.TheVariants.{ReadFault, LongInput, Broken}
-use Rattle.port_122.specs.Outside.{Outside, Since, NoRead, Loses}
-use Rattle.port_122.proofs.Stretches.{since_start, since_then, since_out, since_weaker, each_of_both}
+use Rattle.port_122.specs.Outside.{Outside, Since, NoRead}
+use Rattle.port_122.proofs.Stretches.{since_start, since_then, since_out, since_weaker}
 use Rattle.packet_defs.specs.Packets.{joined}
-use Rattle.packet_defs.specs.Streams.{IsPacket, whole_packets}
-use Rattle.packet_defs.proofs.Joins.{joined-append}
+use Rattle.packet_defs.specs.Streams.{begins_packet, whole_packets, left_over}
+use Rattle.packet_defs.proofs.Fronts.{begins_so, so_begins, begins-append}
+use Rattle.packet_defs.proofs.Splits.{whole_splits}
 use Rattle.stream_defs.specs.declared.fate.FateState.{FateState}
 use Rattle.stream_defs.specs.Fates.{fresh, fate, after_all}
-use Rattle.stream_defs.proofs.ChosenLaws.{after_all-append}
 use Rattle.packet_assembly.specs.declared.note.PacketNote.{PacketNote}
 use Rattle.packet_assembly.specs.declared.note.Passed.{Passed}
 use Rattle.packet_assembly.specs.Assembling.{Assembling, Passes, unread_assembly}
 use Rattle.packet_assembly.specs.Notes.{note_of, note_in, PassesNext, ReadsNote}
 use Rattle.packet_assembly.specs.Passing.{whole_after}
+use Rattle.packet_assembly.specs.Readings.{HasRead}
+use Rattle.packet_assembly.proofs.Readings.{none_read, read_on, end_on, end_later}
 use Rattle.packet_assembly.proofs.OneStep.{AsksNone, OneOn, FailOn, one_on, fail_on, measure}
 use Rattle.packet_list.specs.Lines.{line_of, lines_of, listing}
-use Rattle.packet_list.specs.Progress.{AsksListed, HasRead, SawEnd, HasListed}
-use Rattle.packet_list.specs.Steps.{ListsOne}
+use Rattle.packet_list.specs.Progress.{AsksListed, HasListed}
+use Rattle.packet_list.specs.Steps.{GaveDue, ListsOne}
 use Rattle.packet_list.proofs.LineLaws.{lines-none, lines-more}
 
 -- of a state nothing is asked
 abbrev pub Anywhere : FateState → Type 0
 Anywhere s = Unit {0}
-
--- ---- what was read
-
-pub read_on : {P : FateState → Type 0} {old new : Outside} {a b : Assembling} {took : List ℕ} {passed went : List (List ℕ)} (wish : DecodeWish) → HasRead wish a took passed → (q : Passes P old new a b went) →
-    HasRead wish b (took ++ q.took) (passed ++ went)
-read_on {a = a} {b = b} {took = took} {passed = passed} {went = went} wish read q = record {
-  apid = q.apid ∙ read.apid;
-  taken = omega (arith, q.taken, read.taken, length-append took q.took);
-  cap = q.cap ∙ read.cap;
-  capped = q.capped read.capped;
-  octets_are = ap (λ zs. zs ++ q.took) read.octets_are ∙ append_assoc (joined passed) a.intake.pending q.took ∙ ap (λ zs. joined passed ++ zs) q.octets_are
-      ∙ sym (append_assoc (joined passed) (joined went) b.intake.pending) ∙ ap (λ zs. zs ++ b.intake.pending) (sym (joined-append passed went));
-  packets_are = each_of_both IsPacket passed went read.packets_are q.packets_are;
-  state = q.state ∙ ap (λ n. after_all n a.state went) read.apid ∙ ap (λ s. after_all wish.apid s went) read.state ∙ sym (after_all-append wish.apid fresh passed went);
-  count = omega (arith, q.count, read.count, length-append passed went);
-}
-
--- ---- the end
-
-left_before : (o n : Option (List ℕ)) (took rest : List ℕ) → Loses o n took → n ≡ Some rest → o ≡ Some (took ++ rest)
-left_before None None took rest loses told = absurd cc
-left_before (Some before) (Some now) took rest loses told = let same : now ≡ rest = cc in ap Some (loses ∙ ap (λ zs. took ++ zs) same)
-left_before None (Some now) took rest loses told = absurd loses
-left_before (Some before) None took rest loses told = absurd loses
-
--- octets of which none are left
-nothing_more : (took rest : List ℕ) → length (took ++ rest) ≡ length took → rest ≡ []
-nothing_more took [] e = refl
-nothing_more took (x ∷ rest) e = absurd (omega (arith, e, length-append took (x ∷ rest)))
-
-all_nothing : (took rest : List ℕ) → took ++ rest ≡ [] → (rest ≡ []) × (length took ≡ 0)
-all_nothing [] rest e = (e, refl)
-all_nothing (x ∷ took) rest e = absurd (let long = ap length e in omega (arith, long))
 
 take_all : (k : ℕ) (xs : List ℕ) → length xs ≤ k → take k xs ≡ xs
 take_all zero [] le = refl
@@ -70,40 +38,49 @@ take_all (suc k) [] le = refl
 take_all zero (x ∷ xs) le = absurd (omega arith)
 take_all (suc k) (x ∷ xs) le = ap (λ zs. x ∷ zs) (take_all k xs (omega (arith, le)))
 
--- where the end was seen, nothing is left
-pub end_stays : {P : FateState → Type 0} {old new : Outside} {a b : Assembling} {went : List (List ℕ)} → (q : Passes P old new a b went) → SawEnd old a → SawEnd new b
-end_stays {old = old} {new = new} {a = a} {b = b} {went = went} q before rest told ended = by a.intake.ended refl
-  where
-    less : (m k : ℕ) → nat_lt m k ≡ true → m < k
-    less m k e = grind (arith, nat_tests)
-
-    by : (c : Bool) → a.intake.ended ≡ c → (rest ≡ []) × (b.intake.taken < b.intake.cap)
-    by true e =
-        let early = before (q.took ++ rest) (left_before old.rest new.rest q.took rest q.since.rest told) e in
-        let none = all_nothing q.took rest early.0 in
-        (none.0, omega (arith, none.1, early.1, q.taken, q.cap))
-    by false e =
-        let n : ℕ = a.intake.cap - a.intake.taken in
-        let sees : nat_lt (length (q.took ++ rest)) n ≡ true = rw (e, ended) at (q.sees rest told) in
-        let fewer : length (q.took ++ rest) < n = less (length (q.took ++ rest)) n sees in
-        let comes : a.intake.pending ++ take n (q.took ++ rest) ≡ joined went ++ (b.intake.pending ++ []) = rw (e, ended) at (q.comes rest told) in
-        let all : take n (q.took ++ rest) ≡ q.took ++ rest = take_all n (q.took ++ rest) (omega (arith, fewer)) in
-        let long = ap length comes in
-        let short = ap length q.octets_are in (
-          nothing_more q.took rest (omega (arith, long, short, ap length all, length-append a.intake.pending (take n (q.took ++ rest)), length-append a.intake.pending q.took, length-append (joined went) (b.intake.pending ++ []), length-append (joined went) b.intake.pending, ap length (append-nil b.intake.pending))),
-          omega (arith, fewer, length-append q.took rest, q.taken, q.cap),
-        )
-
 -- ---- what was given
 
--- at a read call of earlier octets nothing has changed
-asks_more : (apid : ℕ) (took t gave g : List ℕ) (i j : ℕ) → i ≤ length took → AsksListed apid took gave i j → AsksListed apid (took ++ t) (gave ++ g) i j
-asks_more apid took t gave g i j le asks = (
-  omega (arith, asks.0, length-append gave g),
-  take-append-le j gave g asks.0 ∙ asks.1 ∙ ap (listing apid) (sym (take-append-le i took t le)),
-)
+-- at a read call of earlier octets nothing has changed, whatever is taken afterwards
+asks_took : (apid : ℕ) (took t gave : List ℕ) (i j : ℕ) → i ≤ length took → AsksListed apid took gave i j → AsksListed apid (took ++ t) gave i j
+asks_took apid took t gave i j le asks = (asks.0, asks.1 ∙ ap (listing apid) (sym (take-append-le i took t le)))
 
-module _ {wish : DecodeWish} {start now mid : Outside} {a b : Assembling} {packets : ℕ} {went : List (List ℕ)} (come : HasListed wish start now a packets) (q : Passes Anywhere now mid a b went) (asks : Since now mid q.took [] [] (AsksNone a q.took)) where
+-- and whatever is given
+asks_gave : (apid : ℕ) (took gave g : List ℕ) (i j : ℕ) → AsksListed apid took gave i j → AsksListed apid took (gave ++ g) i j
+asks_gave apid took gave g i j asks = (omega (arith, asks.0, length-append gave g), take-append-le j gave g asks.0 ∙ asks.1)
+
+-- some octets more were given
+pub gave_on : {wish : DecodeWish} {start now new : Outside} {a : Assembling} {packets : ℕ} {before g : List ℕ} → (come : HasListed wish start now a packets before) → Since now new [] g [] NoRead →
+    Since start new come.took (come.gave ++ g) [] (AsksListed wish.apid come.took (come.gave ++ g))
+gave_on {wish = wish} {g = g} come gives = since_out (since_weaker come.since (λ i j le r. asks_gave wish.apid come.took come.gave g i j r)) gives
+
+-- what was due was given
+pub given_on : {wish : DecodeWish} {start now new : Outside} {a : Assembling} {packets : ℕ} {before waiting : List ℕ} → HasListed wish start now a packets before → GaveDue now new a before waiting →
+    HasListed wish start new a packets waiting
+given_on {a = a} {waiting = waiting} come x = record {
+  took = come.took;
+  passed = come.passed;
+  gave = come.gave ++ x.gave;
+  lines_are = append_assoc come.gave x.gave waiting ∙ ap (λ zs. come.gave ++ zs) x.lines_are ∙ come.lines_are;
+  since = gave_on come x.gives;
+  read = come.read;
+  at_end = end_later a x.gives come.at_end;
+  packets_are = come.packets_are;
+}
+
+-- ---- a whole packet at hand
+
+-- octets that begin with a packet have one, whatever follows them
+pub begins_more : (octets more : List ℕ) → begins_packet octets ≡ true → begins_packet (octets ++ more) ≡ true
+begins_more octets more there = so_begins (octets ++ more) (begins-append more (begins_so octets there))
+
+some_whole : (octets more : List ℕ) → begins_packet octets ≡ true → whole_packets (octets ++ more) ≡ [] → ⊥
+some_whole octets more there none =
+    let s = whole_splits (octets ++ more) in
+    let same : octets ++ more ≡ left_over (octets ++ more) = s.octets_are ∙ ap (λ ps. joined ps ++ left_over (octets ++ more)) none in
+    false≢true (sym s.none_left ∙ ap begins_packet (sym same) ∙ begins_more octets more there)
+
+module _ {wish : DecodeWish} {start now new : Outside} {a b : Assembling} {packets : ℕ} {waiting : List ℕ} {went : List (List ℕ)} (come : HasListed wish start now a packets waiting)
+    (due : (waiting ≡ []) ⊎ (begins_packet a.intake.pending ≡ true)) (q : Passes Anywhere now new a b went) (asks : Since now new q.took [] [] (AsksNone a q.took)) where
   -- at a read call of the step no packet more is whole
   same_whole : (i : ℕ) → whole_packets (a.intake.pending ++ take i q.took) ≡ [] → whole_packets (take (length come.took + i) (come.took ++ q.took)) ≡ come.passed
   same_whole i none =
@@ -111,44 +88,39 @@ module _ {wish : DecodeWish} {start now mid : Outside} {a b : Assembling} {packe
       take-append-add come.took q.took i ∙ ap (λ zs. zs ++ take i q.took) come.read.octets_are ∙ append_assoc (joined come.passed) a.intake.pending (take i q.took) in
       ap whole_packets octets ∙ whole_after come.passed (a.intake.pending ++ take i q.took) come.read.packets_are ∙ ap (λ xs. come.passed ++ xs) none ∙ append-nil come.passed
 
-  asks_now : (g : List ℕ) (i j : ℕ) → AsksNone a q.took i j → AsksListed wish.apid (come.took ++ q.took) (lines_of wish.apid come.passed ++ g) (length come.took + i) (length (lines_of wish.apid come.passed) + j)
-  asks_now g i j r =
-      let gave : List ℕ = lines_of wish.apid come.passed in
-      let here : length gave + j ≡ length gave = omega (arith, r.1) in (
-        omega (arith, here, length-append gave g),
-        ap (λ n. take n (gave ++ g)) here ∙ take-append-le (length gave) gave g (omega arith) ∙ take_all (length gave) gave (omega arith) ∙ ap (lines_of wish.apid) (sym (same_whole i r.0)),
+  -- and no line waits
+  all_given : (i : ℕ) → whole_packets (a.intake.pending ++ take i q.took) ≡ [] → come.gave ≡ lines_of wish.apid come.passed
+  all_given i none = elim due [
+    | inl nothing ↦ sym (append-nil come.gave) ∙ ap (λ zs. come.gave ++ zs) (sym nothing) ∙ come.lines_are
+    | inr there ↦ absurd (some_whole a.intake.pending (take i q.took) there none)
+  ]
+
+  asks_now : (i j : ℕ) → AsksNone a q.took i j → AsksListed wish.apid (come.took ++ q.took) come.gave (length come.took + i) (length come.gave + j)
+  asks_now i j r =
+      let here : length come.gave + j ≡ length come.gave = omega (arith, r.1) in (
+        omega (arith, here),
+        ap (λ n. take n come.gave) here ∙ take_all (length come.gave) come.gave (omega arith) ∙ all_given i r.0 ∙ ap (lines_of wish.apid) (sym (same_whole i r.0)),
       )
 
-  -- some octets were given after it
-  pub gave_on : {new : Outside} (g : List ℕ) → Since mid new [] g [] NoRead →
-      Since start new (come.took ++ q.took) (lines_of wish.apid come.passed ++ g) [] (AsksListed wish.apid (come.took ++ q.took) (lines_of wish.apid come.passed ++ g))
-  gave_on {new = new} g out =
-      let gave : List ℕ = lines_of wish.apid come.passed in
+  pub read_since : Since start new (come.took ++ q.took) come.gave [] (AsksListed wish.apid (come.took ++ q.took) come.gave)
+  read_since =
       let took : List ℕ = come.took ++ q.took in
-      let Q : ℕ → ℕ → Type 0 = AsksListed wish.apid took (gave ++ g) in
-      let first : Since start now come.took gave [] Q = since_weaker come.since (λ i j le r. asks_more wish.apid come.took q.took gave g i j le r) in
-      let both : Since start mid took (gave ++ []) [] Q = since_then first asks (λ i j le r. asks_now g i j r) in
-      let all : Since start new took ((gave ++ []) ++ g) [] Q = since_out both out in
-      subst (λ zs. Since start new took (zs ++ g) [] Q) (append-nil gave) all
+      let Q : ℕ → ℕ → Type 0 = AsksListed wish.apid took come.gave in
+      let first : Since start now come.took come.gave [] Q = since_weaker come.since (λ i j le r. asks_took wish.apid come.took q.took come.gave i j le r) in
+      let both : Since start new took (come.gave ++ []) [] Q = since_then first asks (λ i j le r. asks_now i j r) in
+      subst (λ zs. Since start new took zs [] Q) (append-nil come.gave) both
 
 -- ---- the steps
 
 -- nothing was listed yet
-pub none_listed : (wish : DecodeWish) (start : Outside) (a : Assembling) → a ≡ unread_assembly wish.apid wish.octets → HasListed wish start start a 0
-none_listed wish start a unread = subst (λ a. HasListed wish start start a 0) (sym unread) (record {
+pub none_listed : (wish : DecodeWish) (start : Outside) (a : Assembling) → a ≡ unread_assembly wish.apid wish.octets → HasListed wish start start a 0 []
+none_listed wish start a unread = subst (λ a. HasListed wish start start a 0 []) (sym unread) (record {
   took = [];
   passed = [];
-  since = subst (λ gave. Since start start [] gave [] (AsksListed wish.apid [] gave)) (sym (lines-none wish.apid)) (since_start start _);
-  read = record {
-    apid = refl;
-    taken = refl;
-    cap = refl;
-    capped = omega arith;
-    octets_are = refl;
-    packets_are = tt;
-    state = refl;
-    count = refl;
-  };
+  gave = [];
+  lines_are = sym (lines-none wish.apid);
+  since = since_start start _;
+  read = none_read wish.apid wish.octets;
   at_end = λ rest told ended. absurd (false≢true ended);
   packets_are = refl;
 })
@@ -190,7 +162,7 @@ read_fault LongInput never x = absurd (never refl)
 read_fault Broken never x = absurd ((fail_note Broken x).fails.fails)
 
 -- the line of the next packet
-pub next_line : {old new : Outside} {a b : Assembling} {note : PacketNote} (wish : DecodeWish) (took : List ℕ) (passed : List (List ℕ)) → HasRead wish a took passed → (x : NoteOn old new a b note) →
+pub next_line : {old new : Outside} {a b : Assembling} {note : PacketNote} (wish : DecodeWish) (took : List ℕ) (passed : List (List ℕ)) → HasRead wish.apid wish.octets a took passed → (x : NoteOn old new a b note) →
     lines_of wish.apid (passed ++ x.one.packet ∷ []) ≡ lines_of wish.apid passed ++ line_of note
 next_line {a = a} {note = note} wish took passed read x =
     let packet = x.one.packet in
@@ -201,25 +173,25 @@ next_line {a = a} {note = note} wish took passed read x =
     lines-more wish.apid passed packet ∙ ap (λ n. lines_of wish.apid passed ++ line_of n) (sym here ∙ told)
 
 -- one packet more was listed
-pub one_listed : {wish : DecodeWish} {start now new : Outside} {a b : Assembling} {packets : ℕ} → HasListed wish start now a packets → ListsOne now new a b → HasListed wish start new b (packets + 1)
-one_listed {wish = wish} {start = start} {new = new} {a = a} {b = b} {packets = packets} come x =
-    let n = note_on x.reads in
+pub one_listed : {wish : DecodeWish} {start now new : Outside} {a b : Assembling} {packets : ℕ} {before waiting : List ℕ} → HasListed wish start now a packets before → ListsOne now new a b before waiting →
+    HasListed wish start new b (packets + 1) waiting
+one_listed {wish = wish} come x =
+    let given = x.lists.given in
+    let mid = given_on come given in
+    let n = note_on x.lists.reads in
     let q = n.one.passes in
-    let lines = next_line wish come.took come.passed come.read n in
-    let since = gave_on come q n.one.asks (line_of x.note) x.gives in
+    let lines = next_line wish mid.took mid.passed mid.read n in
     record {
-      took = come.took ++ q.took;
-      passed = come.passed ++ n.one.packet ∷ [];
-      since = subst (λ gave. Since start new (come.took ++ q.took) gave [] (AsksListed wish.apid (come.took ++ q.took) gave)) (sym lines) since;
-      read = read_on wish come.read q;
-      at_end = later x.between.rest new.rest (end_stays q come.at_end) x.gives.rest;
-      packets_are = omega (arith, come.packets_are, length-append come.passed (n.one.packet ∷ []));
+      took = mid.took ++ q.took;
+      passed = mid.passed ++ n.one.packet ∷ [];
+      gave = mid.gave;
+      lines_are = ap (λ zs. mid.gave ++ zs) x.lines_are ∙ sym (append_assoc mid.gave x.earlier (line_of x.note)) ∙ ap (λ zs. zs ++ line_of x.note) mid.lines_are ∙ sym lines;
+      since = read_since mid given.due q n.one.asks;
+      read = read_on wish.apid wish.octets mid.read q;
+      at_end = end_on q mid.at_end;
+      packets_are = omega (arith, come.packets_are, length-append mid.passed (n.one.packet ∷ []));
     }
-  where
-    later : (o k : Option (List ℕ)) → ((rest : List ℕ) → o ≡ Some rest → b.intake.ended ≡ true → (rest ≡ []) × (b.intake.taken < b.intake.cap)) → Loses o k [] →
-        (rest : List ℕ) → k ≡ Some rest → b.intake.ended ≡ true → (rest ≡ []) × (b.intake.taken < b.intake.cap)
-    later o k before loses rest told = before rest (left_before o k [] rest loses told)
 
 -- less is left to be read then
-pub less_left : {old new : Outside} {a b : Assembling} → ListsOne old new a b → measure b < measure a
-less_left x = (note_on x.reads).one.less
+pub less_left : {old new : Outside} {a b : Assembling} {before waiting : List ℕ} → ListsOne old new a b before waiting → measure b < measure a
+less_left x = (note_on x.lists.reads).one.less

@@ -1,17 +1,14 @@
 -- How a list of packets ends, by what it took and gave. This project's own.
-use Rattle.std.specs.Prelude.{◌≡◌, ◌⊎◌, ◌≤◌, ◌<◌, ℕ, List, [], length, take, true, false, Some, Result, Ok, Err}
-use Rattle.port_122.specs.Outside.{Outside, Since, AtEnd, Rose}
+use Rattle.std.specs.Prelude.{◌≡◌, ◌≤◌, ℕ, List, [], length, take, false, Result, Ok, Err}
+use Rattle.port_122.specs.Outside.{Outside, Since, Rose}
 use Rattle.base_122.specs.declared.wish.DecodeWish.{DecodeWish}
 use Rattle.packet_defs.specs.Streams.{whole_packets, left_over, has_bad_version, framing}
+use Rattle.packet_assembly.specs.Readings.{IsReadOut}
 use Rattle.packet_list.specs.declared.list.ListDone.{ListDone}
 use Rattle.packet_list.specs.declared.list.ListFault.{ListFault}
 use Rattle.packet_list.specs.declared.list.ListFault.TheVariants.{ReadFault, WriteFault, LongInput, Memory}
 use Rattle.packet_list.specs.Lines.{listing}
 use Rattle.packet_list.specs.Progress.{AsksListed}
-
--- The end was read, which takes that more octets may be taken, or what can't be read on.
-abbrev pub IsReadOut : (cap : ℕ) → Outside → List ℕ → Type 0
-IsReadOut cap now took = (has_bad_version (left_over took) ≡ true) ⊎ (AtEnd now × ((rest : List ℕ) → now.rest ≡ Some rest → length took < cap))
 
 -- What is given are the lines of all packets of the octets that were taken, and they were read to the end, or can't be read on for
 -- this reason.

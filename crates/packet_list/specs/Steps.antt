@@ -1,7 +1,9 @@
 -- What a step leaves that lists one packet. This project's own.
-use Rattle.std.specs.Prelude.{◌≤◌, ℕ, [], length, take, Bool, true, false, None, Some, Result, Ok, Err}
+use Rattle.std.specs.Prelude.{◌≡◌, ◌≤◌, ◌⊎◌, ℕ, List, [], ◌++◌, length, take, Bool, true, false, Option, None, Some, Result, Ok, Err, MatchResult}
+use Rattle.bit_pipe.specs.declared.fault.InFault.{InFault}
 use Rattle.bit_pipe.specs.declared.fault.InFault.TheVariants as in_faults
 use Rattle.port_122.specs.Outside.{Outside, Since, NoRead, Rose}
+use Rattle.packet_defs.specs.Streams.{begins_packet}
 use Rattle.packet_assembly.specs.declared.note.PacketNote.{PacketNote}
 use Rattle.packet_assembly.specs.Assembling.{Assembling}
 use Rattle.packet_assembly.specs.Notes.{ReadsNote}
@@ -9,27 +11,40 @@ use Rattle.packet_list.specs.declared.list.ListFault.{ListFault}
 use Rattle.packet_list.specs.declared.list.ListFault.TheVariants.{ReadFault, WriteFault, LongInput, Memory}
 use Rattle.packet_list.specs.Lines.{line_of}
 
--- a packet was read, and its line given
-pub record ListsOne (old new : Outside) (a b : Assembling) : Type 0 where
-  pub between : Outside
-  pub note : PacketNote
-  pub reads : ReadsNote old between a b (Ok (Some note))
-  pub gives : Since between new [] (line_of note) [] NoRead
+-- Of the lines that waited some were given and the others wait still: none, unless the next packet is at hand.
+pub record GaveDue (old new : Outside) (a : Assembling) (before waiting : List ℕ) : Type 0 where
+  pub gave : List ℕ
+  pub lines_are : gave ++ waiting ≡ before
+  pub gives : Since old new [] gave [] NoRead
+  pub due : (waiting ≡ []) ⊎ (begins_packet a.intake.pending ≡ true)
 
--- a packet was read, and a write of its line failed
-pub record ListsPart (old new : Outside) (a b : Assembling) : Type 0 where
-  pub between : Outside
-  pub note : PacketNote
-  pub reads : ReadsNote old between a b (Ok (Some note))
-  pub rose : Rose between.write_faults new.write_faults
+-- a write of the lines that waited failed
+pub record GavePart (old new : Outside) (before : List ℕ) : Type 0 where
+  pub rose : Rose old.write_faults new.write_faults
   pub some : ℕ
-  pub within : some ≤ length (line_of note)
-  pub gives : Since between new [] (take some (line_of note)) [] NoRead
+  pub within : some ≤ length before
+  pub gives : Since old new [] (take some before) [] NoRead
 
-abbrev pub ListsNext : (old new : Outside) (a b : Assembling) → Result Bool ListFault → Type 0
-ListsNext old new a b (Ok true) = ListsOne old new a b
-ListsNext old new a b (Ok false) = ReadsNote old new a b (Ok None)
-ListsNext old new a b (Err ReadFault) = ReadsNote old new a b (Err in_faults.ReadFault)
-ListsNext old new a b (Err LongInput) = ReadsNote old new a b (Err in_faults.LongInput)
-ListsNext old new a b (Err WriteFault) = ListsPart old new a b
-ListsNext old new a b (Err Memory) = ⊥
+abbrev pub GivesDue : {T E : Type 0} → (old new : Outside) → Assembling → (before waiting : List ℕ) → Result T E → Type 0
+GivesDue old new a before waiting result = MatchResult result (λ _. GaveDue old new a before waiting) (λ _. GavePart old new before)
+
+-- what was due was given, and then this read
+pub record ListsThen (old new : Outside) (a b : Assembling) (before waiting : List ℕ) (read : Result (Option PacketNote) InFault) : Type 0 where
+  pub between : Outside
+  pub given : GaveDue old between a before waiting
+  pub reads : ReadsNote between new a b read
+
+-- a packet was read, and its line waits
+pub record ListsOne (old new : Outside) (a b : Assembling) (before waiting : List ℕ) : Type 0 where
+  pub note : PacketNote
+  pub earlier : List ℕ
+  pub lists : ListsThen old new a b before earlier (Ok (Some note))
+  pub lines_are : waiting ≡ earlier ++ line_of note
+
+abbrev pub ListsNext : (old new : Outside) (a b : Assembling) (before waiting : List ℕ) → Result Bool ListFault → Type 0
+ListsNext old new a b before waiting (Ok true) = ListsOne old new a b before waiting
+ListsNext old new a b before waiting (Ok false) = ListsThen old new a b before waiting (Ok None)
+ListsNext old new a b before waiting (Err ReadFault) = ListsThen old new a b before waiting (Err in_faults.ReadFault)
+ListsNext old new a b before waiting (Err LongInput) = ListsThen old new a b before waiting (Err in_faults.LongInput)
+ListsNext old new a b before waiting (Err WriteFault) = GavePart old new before
+ListsNext old new a b before waiting (Err Memory) = ⊥

@@ -1,22 +1,27 @@
 // Packets in, lines out.
-ghost use Rattle.packet_list.specs.Steps.{ListsNext};
+ghost use Rattle.std.specs.Prelude.{◌≡◌, ◌≤◌, ◌+◌, length};
+ghost use Rattle.packet_list.specs.Steps.{GivesDue, ListsNext};
 ghost use Rattle.packet_list.specs.Answers.{Lists};
 
-use crate::lines::line_of;
+use crate::lines::{LINE, line_of};
 use crate::list::{ListDone, ListFault};
+use arrayvec::ArrayString;
 use base_122::DecodeWish;
 use bit_pipe::InFault;
 use packet_assembly::Assembly;
-use port_122::{Port, write_all};
+use port_122::{Failed, Port, write_all};
 use std::alloc::Global;
 
-/// Reads the packets of a stream and gives one line for each, as soon as its fate is known (docs/formats.md, "Packets" and
-/// "Fates"). It reads to the end, or to what can't be read on, and at most the octets that are wished. A line is the packet's
-/// number from 0, a space and its fate: `kept` with the segment's index, the part and the octets of the text, each after a space,
-/// or `idle`, `not-telemetry`, `other-apid`, `no-secondary`, `short-ancillary`, `other-mark`, `foreign`, `late`, `out-of-place`
-/// or `bad-head`. After `Memory` nothing was read or given, after `WriteFault` a front of the lines is given, and else those of
-/// all packets of the octets that were taken. `ReadFault` and `WriteFault` come only where the port's count rose. The most pixels
-/// that are wished don't matter.
+// Lines that wait to be given.
+type Lines = ArrayString<4096>;
+
+/// Reads the packets of a stream and gives one line for each, at the latest before the next read call (docs/formats.md,
+/// "Packets" and "Fates"). It reads to the end, or to what can't be read on, and at most the octets that are wished. A line is the
+/// packet's number from 0, a space and its fate: `kept` with the segment's index, the part and the octets of the text, each after
+/// a space, or `idle`, `not-telemetry`, `other-apid`, `no-secondary`, `short-ancillary`, `other-mark`, `foreign`, `late`,
+/// `out-of-place` or `bad-head`. After `Memory` nothing was read or given, after `WriteFault` a prefix of the lines is given, and
+/// else those of all packets of the octets that were taken. `ReadFault` and `WriteFault` come only where the port's count rose. The
+/// most pixels that are wished don't matter.
 pub fn list_packets<X: Port>(
     alloc: Global,
     port: &mut X,
@@ -27,9 +32,10 @@ pub fn list_packets<X: Port>(
     let Ok(mut assembly) = Assembly::new(alloc, wish.apid, wish.octets) else {
         return Err(ListFault::Memory);
     };
+    let mut lines = Lines::new();
     let mut packets = 0;
     'packets: loop {
-        match list_next(port, &mut assembly) {
+        match list_next(port, &mut assembly, &mut lines) {
             Ok(true) => packets += 1,
             Ok(false) => {
                 return Ok(ListDone {
@@ -42,18 +48,37 @@ pub fn list_packets<X: Port>(
     }
 }
 
-// Reads the next packet and gives its line; answers false at the end and at what can't be read on.
-fn list_next<X: Port>(port: &mut X, assembly: &mut Assembly) -> Result<bool, ListFault>
-    ensures { ListsNext (X.outside port.old) (X.outside port.new) assembly.old assembly.new result }
+// Reads the next packet, and adds its line to those that wait. They are given first where the packet isn't at hand or there is no room
+// for its line. Answers false at the end and at what can't be read on; then no line waits.
+fn list_next<X: Port>(
+    port: &mut X,
+    assembly: &mut Assembly,
+    lines: &mut Lines,
+) -> Result<bool, ListFault>
+    ensures { ListsNext (X.outside port.old) (X.outside port.new) assembly.old assembly.new lines.old.bytes lines.new.bytes result }
 {
+    let Ok(()) = give_due(port, assembly, lines) else {
+        return Err(ListFault::WriteFault);
+    };
     let note = match assembly.next_packet(port) {
         Ok(Some(note)) => note,
         Ok(None) => return Ok(false),
         Err(InFault::LongInput) => return Err(ListFault::LongInput),
         Err(_) => return Err(ListFault::ReadFault),
     };
-    match write_all(port, line_of(&note).as_str().as_bytes()) {
-        Ok(()) => Ok(true),
-        Err(_) => Err(ListFault::WriteFault),
+    lines.push_str(line_of(&note).as_str());
+    Ok(true)
+}
+
+// Gives the lines that wait, if a read may follow or there is no room for another line.
+fn give_due<X: Port>(port: &mut X, assembly: &Assembly, lines: &mut Lines) -> Result<(), Failed>
+    ensures given { GivesDue (X.outside port.old) (X.outside port.new) assembly.now lines.old.bytes lines.new.bytes result }
+    ensures room { length lines.new.bytes + 64 ≤ 4096 }
+{
+    if assembly.has_packet() && lines.remaining_capacity() >= LINE {
+        return Ok(());
     }
+    let given = write_all(port, lines.as_str().as_bytes());
+    lines.clear();
+    given
 }

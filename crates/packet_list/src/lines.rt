@@ -7,8 +7,11 @@ use arrayvec::ArrayString;
 use itoa::Buffer;
 use packet_assembly::{Fate, PacketNote, Skip};
 
+/// The most octets of a line.
+pub const LINE: usize = 64;
+
 /// A line, which has at most 59 octets.
-pub type Line = ArrayString<64>;
+pub type Line = ArrayString<LINE>;
 
 fn skip_name(skip: Skip) -> &'static str
     ensures text { result.now ≡ skip_text skip }

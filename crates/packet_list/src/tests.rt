@@ -57,3 +57,18 @@ fn a_line_is_out_before_the_next_packet_is_read(rt: HostRuntime) -> Result<(), F
     assert_eq!(rt; port.given(), b"0 kept 0 0 22\n".as_slice());
     Ok(())
 }
+
+#[test]
+fn lines_of_one_read_are_one_write(rt: HostRuntime) -> Result<(), Fail> {
+    for (fail, fault, lines) in [
+        (1, ListFault::WriteFault, ""),
+        (2, ListFault::ReadFault, "0 kept 0 0 22\n1 late\n"),
+    ] {
+        let mut input = BLACK.to_vec(rt.alloc())?;
+        input.extend_from_slice(&BLACK)?;
+        let mut port = MemoryPort::new(rt.alloc(), input, [fail].to_vec(rt.alloc())?, 1000)?;
+        assert_eq!(rt; list_packets(rt.alloc(), &mut port, &WISH), Err(fault));
+        assert_eq!(rt; port.given(), lines.as_bytes());
+    }
+    Ok(())
+}

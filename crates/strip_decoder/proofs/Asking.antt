@@ -1,38 +1,34 @@
 -- What is given at each read call.
-use Rattle.std.proofs.Common.{◌≡◌, ◌≤◌, ◌<◌, ◌+◌, ◌-◌, ◌*◌, ◌/◌, ◌==◌, ℕ, ℤ, List, [], ◌∷◌, ◌++◌, length, take, drop, refl, sym, ap, subst, ◌∙◌, inl, inr, arith, append_assoc, length-append}
-use Rattle.std.specs.Prelude.{Bool, true, false, min, if◌then◌else◌, Option, None, Some, is_some, MatchOption}
+use Rattle.std.proofs.Common.{◌≡◌, ◌≤◌, ◌<◌, ◌+◌, ◌*◌, ◌/◌, ℕ, ℤ, List, [], ◌∷◌, ◌++◌, length, take, drop, refl, sym, ap, subst, ◌∙◌, inl, inr, arith, append_assoc, length-append}
+use Rattle.std.specs.Prelude.{if◌then◌else◌, Option, None, Some, is_some, MatchOption}
 use Rattle.std.proofs.lemmas.Bool.{cases_lt}
-use Rattle.std.proofs.lemmas.Bool.Decides.{nat_tests}
 use Rattle.std.proofs.lemmas.List.{append-nil, take-append-le, take-append-drop}
 use Rattle.std.proofs.lemmas.Nat.{div_below}
 use Rattle.std.proofs.Math.Seq.{take-append-add}
 use Rattle.port_122.specs.Outside.{Outside, Since, NoRead}
-use Rattle.port_122.proofs.Stretches.{since_then, since_out, since_weaker, each_of_both}
-use Rattle.base_122.specs.Sizes.{block_count, first_block, segment_blocks}
-use Rattle.raster_rows.specs.Pixels.{raster_octets}
-use Rattle.stream_defs.specs.Agreement.{blocks_of}
+use Rattle.port_122.proofs.Stretches.{since_then, since_out, since_weaker}
+use Rattle.base_122.specs.Sizes.{first_block, segment_blocks}
 use Rattle.base_122.specs.declared.geometry.Geometry.{Geometry}
 use Rattle.packet_defs.specs.Packets.{joined}
-use Rattle.packet_defs.specs.Streams.{IsPacket, whole_packets, left_over}
-use Rattle.packet_defs.proofs.Joins.{joined-append}
+use Rattle.packet_defs.specs.Streams.{whole_packets, left_over}
 use Rattle.packet_defs.proofs.Splits.{whole_splits}
 use Rattle.stream_defs.specs.declared.fate.FateState.{FateState}
 use Rattle.stream_defs.specs.declared.fate.LastPart.{LastPart}
+use Rattle.stream_defs.specs.Agreement.{blocks_of}
 use Rattle.stream_defs.specs.Fates.{fresh, after_all, kept, kept_in, state_after, geometry_in}
 use Rattle.stream_defs.specs.Received.{IsReceived, ReceivedIn}
-use Rattle.stream_defs.specs.Picture.{number_at, picture_with}
-use Rattle.stream_defs.specs.Settled.{ready, rows_through, blocks_through, block_rows_before}
+use Rattle.stream_defs.specs.Settled.{blocks_through}
 use Rattle.stream_defs.proofs.ChosenLaws.{after_all-append}
 use Rattle.packet_assembly.specs.Comings.{coming}
 use Rattle.packet_assembly.specs.Assembling.{Assembling, Passes, state_with}
 use Rattle.packet_assembly.specs.Passing.{whole_after}
-use Rattle.strip_decoder.specs.Fronts.{rows_of, wanted_of}
-use Rattle.strip_decoder.specs.Pictures.{Shown, IsSized, IsStanding, passed_in}
-use Rattle.strip_decoder.specs.Runs.{Run, HasRead, holds_after, Numbers, PromptBy, AsksBy, HasFew, FrontBy, Knows, AreOf, Shows, future}
-use Rattle.strip_decoder.proofs.RowGives.{front-begins}
+use Rattle.packet_assembly.specs.Readings.{HasRead}
+use Rattle.strip_decoder.specs.Sinks.{Numbers, SinkOf, blocks_with}
+use Rattle.strip_decoder.specs.Steps.{Walking, IsStanding, passed_in}
+use Rattle.strip_decoder.specs.Runs.{Run, holds_after, PassedBy, AsksPassed, HasFew, PartBy, Knows, AreOf, Shows, settled_blocks, future}
 use Rattle.strip_decoder.proofs.Between.{geometry_stays}
 use Rattle.strip_decoder.proofs.Receiving.{one_received}
-use Rattle.strip_decoder.proofs.Showing.{number_by}
+use Rattle.strip_decoder.proofs.Showing.{block_by}
 
 -- ---- packets of more octets
 
@@ -47,22 +43,18 @@ front_packets xs ys =
     )
 
 -- the packets of the octets that an assembly took, and of some more
-pub packets_then : (w : Run) (a : Assembling) (took octets : List ℕ) (passed : List (List ℕ)) → HasRead w a took passed → whole_packets (took ++ octets) ≡ passed ++ whole_packets (a.intake.pending ++ octets)
+pub packets_then : (w : Run) (a : Assembling) (took octets : List ℕ) (passed : List (List ℕ)) → HasRead w.apid w.cap a took passed → whole_packets (took ++ octets) ≡ passed ++ whole_packets (a.intake.pending ++ octets)
 packets_then w a took octets passed read =
     ap (λ zs. whole_packets (zs ++ octets)) read.octets_are ∙ ap whole_packets (append_assoc (joined passed) a.intake.pending octets) ∙ whole_after passed (a.intake.pending ++ octets) read.packets_are
 
-pub state_then : (w : Run) (a : Assembling) (took octets : List ℕ) (passed : List (List ℕ)) → HasRead w a took passed → state_after w.apid (took ++ octets) ≡ state_with a octets
+pub state_then : (w : Run) (a : Assembling) (took octets : List ℕ) (passed : List (List ℕ)) → HasRead w.apid w.cap a took passed → state_after w.apid (took ++ octets) ≡ state_with a octets
 state_then w a took octets passed read =
     let more = whole_packets (a.intake.pending ++ octets) in
     ap (after_all w.apid fresh) (packets_then w a took octets passed read) ∙ after_all-append w.apid fresh passed more
     ∙ ap (λ s. after_all w.apid s more) (sym read.state) ∙ ap (λ n. after_all n a.state more) (sym read.apid)
 
--- no more octets were taken than the cap lets
-pub read_within : (w : Run) (a : Assembling) (took : List ℕ) (passed : List (List ℕ)) → HasRead w a took passed → length took ≤ w.cap
-read_within w a took passed read = omega (arith, read.taken, read.cap, read.capped)
-
 -- the geometry that its octets tell
-pub geometry_read : (w : Run) (a : Assembling) (took : List ℕ) (passed : List (List ℕ)) (g : Geometry) → HasRead w a took passed → a.state.geometry ≡ Some g → geometry_in w.apid took ≡ Some g
+pub geometry_read : (w : Run) (a : Assembling) (took : List ℕ) (passed : List (List ℕ)) (g : Geometry) → HasRead w.apid w.cap a took passed → a.state.geometry ≡ Some g → geometry_in w.apid took ≡ Some g
 geometry_read w a took passed g read told =
     ap (λ zs. geometry_in w.apid zs) (sym (append-nil took)) ∙ ap (λ (s : FateState). s.geometry) (state_then w a took [] passed read) ∙ geometry_stays a.apid a.state (whole_packets (a.intake.pending ++ [])) g told
 
@@ -72,8 +64,8 @@ geometry_small pixels apid octets g told small h there =
     let same : g ≡ h = (let both : Some g ≡ Some h = sym told ∙ there in cc) in
     subst (λ (g : Geometry). g.width * g.rows ≤ pixels) same small
 
-pub small_read : (w : Run) (a : Assembling) (p : Shown) (took : List ℕ) (passed : List (List ℕ)) → HasRead w a took passed → a.state.geometry ≡ Some p.geometry → p.geometry.width * p.geometry.rows ≤ w.pixels → HasFew w.pixels w.apid took
-small_read w a p took passed read told small = geometry_small w.pixels w.apid took p.geometry (geometry_read w a took passed p.geometry read told) small
+pub small_read : (w : Run) (a : Assembling) (g : Geometry) (took : List ℕ) (passed : List (List ℕ)) → HasRead w.apid w.cap a took passed → a.state.geometry ≡ Some g → g.width * g.rows ≤ w.pixels → HasFew w.pixels w.apid took
+small_read w a g took passed read told small = geometry_small w.pixels w.apid took g (geometry_read w a took passed g read told) small
 
 -- and so they are in the first octets
 pub few_before : (pixels apid : ℕ) (took : List ℕ) (i : ℕ) → HasFew pixels apid took → HasFew pixels apid (take i took)
@@ -105,18 +97,6 @@ future_part {a = a} {b = b} {went = went} q rest octets more told parts =
 
 -- ---- a run goes on
 
-pub read_on : {P : FateState → Type 0} {old new : Outside} (w : Run) (a b : Assembling) (took : List ℕ) (passed went : List (List ℕ)) → HasRead w a took passed → (q : Passes P old new a b went) → HasRead w b (took ++ q.took) (passed ++ went)
-read_on w a b took passed went read q = record {
-  apid = q.apid ∙ read.apid;
-  taken = omega (arith, q.taken, read.taken, length-append took q.took);
-  cap = q.cap ∙ read.cap;
-  capped = q.capped read.capped;
-  octets_are = ap (λ zs. zs ++ q.took) read.octets_are ∙ append_assoc (joined passed) a.intake.pending q.took ∙ ap (λ zs. joined passed ++ zs) q.octets_are
-      ∙ sym (append_assoc (joined passed) (joined went) b.intake.pending) ∙ ap (λ zs. zs ++ b.intake.pending) (sym (joined-append passed went));
-  packets_are = each_of_both IsPacket passed went read.packets_are q.packets_are;
-  state = q.state ∙ ap (λ n. after_all n a.state went) read.apid ∙ ap (λ s. after_all w.apid s went) read.state ∙ sym (after_all-append w.apid fresh passed went);
-}
-
 pub knows_on : (apid : ℕ) (passed went later : List (List ℕ)) (bound : ℕ) (sofar : Numbers) → Knows apid passed (went ++ later) bound sofar → Knows apid (passed ++ went) later bound sofar
 knows_on apid passed went later bound sofar knows = record {
   at = λ next more are index lt.
@@ -124,72 +104,39 @@ knows_on apid passed went later bound sofar knows = record {
       subst (λ xs. MatchOption (sofar index) ((numbers : List (List ℤ)) → IsReceived holds_after (kept apid fresh xs) index numbers → ⊥) (IsReceived holds_after (kept apid fresh xs) index)) (sym (append_assoc passed went next)) here;
 }
 
-asks_more : (gives : Bool) (apid : ℕ) (start : Outside) (took t gave g : List ℕ) (i j : ℕ) → i ≤ length took → AsksBy gives apid start took gave i j → AsksBy gives apid start (took ++ t) (gave ++ g) i j
-asks_more gives apid start took t gave g i j le asks = (
+asks_more : {S : Type 0} (k : SinkOf S) (apid : ℕ) (start : Outside) (took t gave g : List ℕ) (i j : ℕ) → i ≤ length took → AsksPassed k apid start took gave i j → AsksPassed k apid start (took ++ t) (gave ++ g) i j
+asks_more k apid start took t gave g i j le asks = (
   omega (arith, asks.0, length-append gave g),
-  λ all told. subst (λ zs. PromptBy gives apid zs (take j (gave ++ g))) (sym (take-append-le i took t le)) (subst (PromptBy gives apid (take i took)) (sym (take-append-le j gave g asks.0)) (asks.1 all told)),
+  λ all told. subst (λ zs. PassedBy k apid zs (take j (gave ++ g))) (sym (take-append-le i took t le)) (subst (PassedBy k apid (take i took)) (sym (take-append-le j gave g asks.0)) (asks.1 all told)),
 )
 
 -- by what was given
-pub wrote_on : {start old new : Outside} (gives : Bool) (apid : ℕ) (took gave g : List ℕ) → Since start old took gave [] (AsksBy gives apid start took gave) → Since old new [] g [] NoRead → Since start new took (gave ++ g) [] (AsksBy gives apid start took (gave ++ g))
-wrote_on {start = start} gives apid took gave g since out =
-    since_out (since_weaker since (λ i j le asks. subst (λ zs. AsksBy gives apid start zs (gave ++ g) i j) (append-nil took) (asks_more gives apid start took [] gave g i j le asks))) out
+pub wrote_on : {S : Type 0} {start old new : Outside} (k : SinkOf S) (apid : ℕ) (took gave g : List ℕ) → Since start old took gave [] (AsksPassed k apid start took gave) → Since old new [] g [] NoRead → Since start new took (gave ++ g) [] (AsksPassed k apid start took (gave ++ g))
+wrote_on {start = start} k apid took gave g since out =
+    since_out (since_weaker since (λ i j le asks. subst (λ zs. AsksPassed k apid start zs (gave ++ g) i j) (append-nil took) (asks_more k apid start took [] gave g i j le asks))) out
 
 -- by what was taken, where at each read call what is given is right
-pub took_on : {P : FateState → Type 0} {start old new : Outside} {a b : Assembling} {went : List (List ℕ)} (gives : Bool) (apid : ℕ) (took gave : List ℕ) → Since start old took gave [] (AsksBy gives apid start took gave) → (q : Passes P old new a b went) →
-    ((octets more all : List ℕ) → q.took ≡ octets ++ more → P (state_with a octets) → start.rest ≡ Some all → PromptBy gives apid (took ++ octets) gave) →
-    Since start new (took ++ q.took) gave [] (AsksBy gives apid start (took ++ q.took) gave)
-took_on {P = P} {start = start} {new = new} {a = a} gives apid took gave since q right =
+pub took_on : {S : Type 0} {P : FateState → Type 0} {start old new : Outside} {a b : Assembling} {went : List (List ℕ)} (k : SinkOf S) (apid : ℕ) (took gave : List ℕ) → Since start old took gave [] (AsksPassed k apid start took gave) → (q : Passes P old new a b went) →
+    ((octets more all : List ℕ) → q.took ≡ octets ++ more → P (state_with a octets) → start.rest ≡ Some all → PassedBy k apid (took ++ octets) gave) →
+    Since start new (took ++ q.took) gave [] (AsksPassed k apid start (took ++ q.took) gave)
+took_on {P = P} {start = start} {new = new} {a = a} k apid took gave since q right =
     let all = took ++ q.took in
-    let first : Since start _ took gave [] (AsksBy gives apid start all gave) =
-    since_weaker since (λ i j le asks. subst (λ zs. AsksBy gives apid start all zs i j) (append-nil gave) (asks_more gives apid start took q.took gave [] i j le asks)) in
-    let both : Since start new (took ++ q.took) (gave ++ []) [] (AsksBy gives apid start all gave) =
+    let first : Since start _ took gave [] (AsksPassed k apid start all gave) =
+    since_weaker since (λ i j le asks. subst (λ zs. AsksPassed k apid start all zs i j) (append-nil gave) (asks_more k apid start took q.took gave [] i j le asks)) in
+    let both : Since start new (took ++ q.took) (gave ++ []) [] (AsksPassed k apid start all gave) =
     since_then first q.since (λ i j le asks. (
       omega (arith, asks.1),
       λ every told.
           let none : length gave + j ≡ length gave = omega (arith, asks.1) in
           let whole : take (length gave + j) gave ≡ gave = ap (λ n. take n gave) none ∙ take_whole gave in
-          subst (λ zs. PromptBy gives apid zs (take (length gave + j) gave)) (sym (take-append-add took q.took i)) (subst (PromptBy gives apid (took ++ take i q.took)) (sym whole)
+          subst (λ zs. PassedBy k apid zs (take (length gave + j) gave)) (sym (take-append-add took q.took i)) (subst (PassedBy k apid (took ++ take i q.took)) (sym whole)
           (right (take i q.took) (drop i q.took) every (sym (take-append-drop i q.took)) asks.0 told)),
     )) in
-    subst (λ zs. Since start new all zs [] (AsksBy gives apid start all gave)) (append-nil gave) both
+    subst (λ zs. Since start new all zs [] (AsksPassed k apid start all gave)) (append-nil gave) both
   where
     take_whole : (xs : List ℕ) → take (length xs) xs ≡ xs
     take_whole [] = refl
     take_whole (x ∷ xs) = ap (λ zs. x ∷ zs) (take_whole xs)
-
--- ---- the rows that may go out
-
--- so many rows are given
-pub rows_out : (p : Shown) (block : ℕ) → IsStanding p → block ≤ passed_in p → rows_through p.geometry (block_rows_before p.geometry block) ≤ min p.at.next p.geometry.rows
-rows_out p block standing le = by (block / block_count p.geometry.width == block_count p.geometry.rows) refl
-  where
-    low : block / block_count p.geometry.width < p.at.row + 1
-    low =
-        let sized = standing.sized in
-        let more : (p.at.row + 1) * block_count p.geometry.width ≡ p.at.row * block_count p.geometry.width + block_count p.geometry.width = grind arith in
-        div_below block (block_count p.geometry.width) (p.at.row + 1) (omega (arith, sized.column)) (omega (arith, le, more, sized.column))
-
-    given : (p.at.row < block_count p.geometry.rows → 8 * p.at.row ≤ p.at.next + 21) × (p.at.row ≡ block_count p.geometry.rows → p.at.next ≡ 8 * p.at.row)
-    given =
-        let sized = standing.sized in
-        let idle = standing.idle in (
-          (λ lt. omega (arith, idle.next_waits (omega (arith, lt, sized.taken, sized.height)), sized.taken, sized.next)),
-          (λ e. omega (arith, idle.all_given (sized.taken ∙ e ∙ sym sized.height), sized.taken, sized.next)),
-        )
-
-    by : (b : Bool) → (block / block_count p.geometry.width == block_count p.geometry.rows) ≡ b → (if b then p.geometry.rows else 8 * (block / block_count p.geometry.width) - 21) ≤ min p.at.next p.geometry.rows
-    by true e =
-        let same : block / block_count p.geometry.width ≡ block_count p.geometry.rows = grind (arith, nat_tests) in
-        let all : p.at.row ≡ block_count p.geometry.rows = omega (arith, same, low, standing.sized.rows) in
-        let next = given.1 all in
-        omega (arith, next, all)
-    by false e =
-        let other : block / block_count p.geometry.width ≡ block_count p.geometry.rows → ⊥ = λ same. (let hit : (block / block_count p.geometry.width == block_count p.geometry.rows) ≡ true = grind (arith, nat_tests) in absurd (let both : true ≡ false = sym hit ∙ e in cc)) in
-        elim (cases_lt p.at.row (block_count p.geometry.rows)) [
-          | inl lt ↦ let waits = given.0 lt in omega (arith, waits, low, lt)
-          | inr ge ↦ let all : p.at.row ≡ block_count p.geometry.rows = omega (arith, ge, standing.sized.rows) in let next = given.1 all in omega (arith, next, all, low, other)
-        ]
 
 -- ---- the segments that are received
 
@@ -201,51 +148,36 @@ both_tell packets index (Some v) (Some w) x y = ap Some (one_received packets in
 both_tell packets index None (Some w) x y = absurd (x w y)
 both_tell packets index (Some v) None x y = absurd (y v x)
 
--- the first blocks have the numbers of the segments that are received
-pub of_received : (g : Geometry) (sofar received : Numbers) (n bound : ℕ) → 0 < g.segment → n ≤ first_block g.segment bound → ((index : ℕ) → index < bound → received index ≡ sofar index) → AreOf g sofar n (number_at g received)
+-- the first blocks are those of the segments that are received
+pub of_received : (g : Geometry) (sofar received : Numbers) (n bound : ℕ) → 0 < g.segment → n ≤ first_block g.segment bound → ((index : ℕ) → index < bound → received index ≡ sofar index) → AreOf g sofar n (blocks_with g received)
 of_received g sofar received n bound some few same = record {
-  at = λ block i lt small. number_by g received sofar block i (same (block / g.segment) (div_below block g.segment bound some (omega (arith, lt, few))));
+  at = λ block lt. block_by g received sofar block (same (block / g.segment) (div_below block g.segment bound some (omega (arith, lt, few))));
 }
 
-front_few : (wanted : ℕ) (g : Geometry) (numbers : ℕ → ℕ → ℤ) (n : ℕ) → wanted ≤ g.rows → rows_of wanted g numbers n ≡ rows_of wanted g numbers (min n g.rows)
-unfolding rows_of
-front_few wanted g numbers n few = let e : min n wanted ≡ min (min n g.rows) wanted = omega (arith, few) in ap (λ k. raster_octets g.depth k g.width (picture_with g numbers)) e
-
--- no more rows are wanted than there are
-pub wanted_few : (gives : Bool) (g : Geometry) → wanted_of gives g ≤ g.rows
-wanted_few true g = omega arith
-wanted_few false g = omega arith
-
--- the rows that a state lets out
-ready_is : (s : FateState) (received : Numbers) (g : Geometry) (l : LastPart) → s.geometry ≡ Some g → s.last ≡ Some l → ready s received ≡ rows_through g (block_rows_before g (blocks_through g received l.index))
-ready_is s received g l geometry last =
+-- the blocks that a state settles
+settled_is : (s : FateState) (received : Numbers) (g : Geometry) (l : LastPart) → s.geometry ≡ Some g → s.last ≡ Some l → settled_blocks s received ≡ blocks_through g received l.index
+settled_is s received g l geometry last =
     let known : FateState = record { geometry = Some g; last = Some l } in
     let same : s ≡ known = λ i. record { geometry = geometry i; last = last i } in
-    ap (λ s. ready s received) same
+    ap (λ s. settled_blocks s received) same
 
 -- ---- what is given is right
 
-module _ (w : Run) (a : Assembling) (p : Shown) (took gave octets : List ℕ) (passed : List (List ℕ)) (bound : ℕ) (sofar : Numbers) (read : HasRead w a took passed) (geometry : a.state.geometry ≡ Some p.geometry) (shows : Shows p sofar gave)
-    (sized : IsSized p) (wanted : p.wanted ≡ wanted_of w.gives p.geometry) (few : passed_in p ≤ first_block p.geometry.segment bound) (later beyond : List (List ℕ)) (parts : later ≡ whole_packets (a.intake.pending ++ octets) ++ beyond) (knows : Knows w.apid passed later bound sofar) where
+module _ {S : Type 0} (k : SinkOf S) (w : Run) (a : Assembling) (p : Walking S) (took gave octets : List ℕ) (passed : List (List ℕ)) (bound : ℕ) (sofar : Numbers) (read : HasRead w.apid w.cap a took passed) (geometry : a.state.geometry ≡ Some p.geometry)
+    (standing : IsStanding k p) (few : passed_in p ≤ first_block p.geometry.segment bound) (later beyond : List (List ℕ)) (parts : later ≡ whole_packets (a.intake.pending ++ octets) ++ beyond) (knows : Knows w.apid passed later bound sofar) where
   abbrev next : List (List ℕ)
   next = whole_packets (a.intake.pending ++ octets)
 
+  there : geometry_in w.apid (took ++ octets) ≡ Some p.geometry
+  there = ap (λ (s : FateState). s.geometry) (state_then w a took octets passed read) ∙ geometry_stays a.apid a.state next p.geometry geometry
+
   pub geometry_then : (g : Geometry) → geometry_in w.apid (took ++ octets) ≡ Some g → p.geometry ≡ g
-  geometry_then g told =
-      let here : geometry_in w.apid (took ++ octets) ≡ Some p.geometry =
-      ap (λ (s : FateState). s.geometry) (state_then w a took octets passed read) ∙ geometry_stays a.apid a.state next p.geometry geometry in
-      let same : Some p.geometry ≡ Some g = sym here ∙ told in cc
+  geometry_then g told = let same : Some p.geometry ≡ Some g = sym there ∙ told in cc
 
   pub not_none : geometry_in w.apid (took ++ octets) ≡ None → ⊥
-  not_none none =
-      let here : geometry_in w.apid (took ++ octets) ≡ Some p.geometry =
-      ap (λ (s : FateState). s.geometry) (state_then w a took octets passed read) ∙ geometry_stays a.apid a.state next p.geometry geometry in
-      absurd (let both : None ≡ Some p.geometry = sym none ∙ here in cc)
+  not_none none = let both : None ≡ Some p.geometry = sym none ∙ there in cc
 
-  pub some_then : geometry_in w.apid (took ++ octets) ≡ None → gave ≡ []
-  some_then none = absurd (not_none none)
-
-  pub kept_are : kept_in w.apid (took ++ octets) ≡ kept w.apid fresh (passed ++ next)
+  kept_are : kept_in w.apid (took ++ octets) ≡ kept w.apid fresh (passed ++ next)
   kept_are = ap (kept w.apid fresh) (packets_then w a took octets passed read)
 
   pub known_same : (received : Numbers) → ReceivedIn holds_after w.apid (took ++ octets) received → (index : ℕ) → index < bound → received index ≡ sofar index
@@ -254,43 +186,36 @@ module _ (w : Run) (a : Assembling) (p : Shown) (took gave octets : List ℕ) (p
       (subst (λ packets. MatchOption (received index) ((v : List (List ℤ)) → IsReceived holds_after packets index v → ⊥) (IsReceived holds_after packets index)) kept_are (are.at index))
       (knows.at next beyond parts index lt)
 
-  pub given_then : (received : Numbers) → ReceivedIn holds_after w.apid (took ++ octets) received → gave ≡ rows_of p.wanted p.geometry (number_at p.geometry received) p.at.next
-  given_then received are =
-      shows.given (number_at p.geometry received) (of_received p.geometry sofar received (passed_in p) bound (omega (arith, sized.range.segment.0)) few (known_same received are))
+  -- the first blocks are those of the segments that are received
+  pub first_received : (n : ℕ) → n ≤ first_block p.geometry.segment bound → (received : Numbers) → ReceivedIn holds_after w.apid (took ++ octets) received → AreOf p.geometry sofar n (blocks_with p.geometry received)
+  first_received n le received are = of_received p.geometry sofar received n bound (omega (arith, standing.range.segment.0)) le (known_same received are)
 
-  -- a front of the picture
-  pub is_front : FrontBy w.gives w.apid (took ++ octets) gave
-  is_front = record {
-    none = some_then;
+  pub given_then : Shows k p sofar gave → (received : Numbers) → ReceivedIn holds_after w.apid (took ++ octets) received → k.Given p.geometry (blocks_with p.geometry received) (passed_in p) gave
+  given_then shows received are =
+      let blocks = blocks_with p.geometry received in
+      k.given_of p.sink p.geometry blocks (passed_in p) gave standing.stands (shows blocks (first_received (passed_in p) few received are)).sink
+
+  -- a part of what the sink gives
+  pub is_part : Shows k p sofar gave → PartBy k w.apid (took ++ octets) gave
+  is_part shows = record {
+    none = λ none. absurd (not_none none);
     some = λ g received told are.
-        subst (λ g. (n : ℕ) × (gave ≡ take n (rows_of (wanted_of w.gives g) g (number_at g received) (wanted_of w.gives g)))) (geometry_then g told)
-        (subst (λ k. (n : ℕ) × (gave ≡ take n (rows_of k p.geometry (number_at p.geometry received) k))) wanted
-        (let numbers = number_at p.geometry received in
-        let begins = front-begins p.wanted p.geometry numbers p.at.next in
-        let here = rows_of p.wanted p.geometry numbers p.at.next in
-        (length here, given_then received are ∙ sym (ap (take (length here)) begins.1 ∙ take-append-le (length here) here begins.0 (omega arith) ∙ take_all here))));
+        subst (λ g. k.Part g (blocks_with g received) gave) (geometry_then g told) (k.part_of p.geometry (blocks_with p.geometry received) (passed_in p) gave (given_then shows received are));
   }
-    where
-      take_all : (xs : List ℕ) → take (length xs) xs ≡ xs
-      take_all [] = refl
-      take_all (x ∷ xs) = ap (λ zs. x ∷ zs) (take_all xs)
 
-  -- and at least the rows that may go out
-  pub is_prompt : IsStanding p → ((index : ℕ) → bound ≤ index → sofar index ≡ None) → ((index : ℕ) (v : List (List ℤ)) → bound ≤ index → IsReceived holds_after (kept w.apid fresh (passed ++ next)) index v → ⊥) →
-      (l : LastPart) → (state_with a octets).last ≡ Some l → blocks_through p.geometry sofar l.index ≤ passed_in p → PromptBy w.gives w.apid (took ++ octets) gave
-  is_prompt standing above beyond_none l last_is reached = record {
-    none = some_then;
+  -- and at least past the blocks that are settled
+  pub is_prompt : Shows k p sofar gave → ((index : ℕ) → bound ≤ index → sofar index ≡ None) → ((index : ℕ) (v : List (List ℤ)) → bound ≤ index → IsReceived holds_after (kept w.apid fresh (passed ++ next)) index v → ⊥) →
+      (l : LastPart) → (state_with a octets).last ≡ Some l → blocks_through p.geometry sofar l.index ≤ passed_in p → PassedBy k w.apid (took ++ octets) gave
+  is_prompt shows above beyond_none l last_is reached = record {
+    none = λ none. absurd (not_none none);
     some = λ g received told are.
-        subst (λ g. (n : ℕ) × (n ≤ g.rows) × (ready (state_after w.apid (took ++ octets)) received ≤ n) × (gave ≡ rows_of (wanted_of w.gives g) g (number_at g received) n)) (geometry_then g told)
-        (subst (λ k. (n : ℕ) × (n ≤ p.geometry.rows) × (ready (state_after w.apid (took ++ octets)) received ≤ n) × (gave ≡ rows_of k p.geometry (number_at p.geometry received) n)) wanted
-        (let all = all_same received are in
-        let state = state_then w a took octets passed read in
+        subst (λ g. (n : ℕ) × (n ≤ blocks_of g) × (settled_blocks (state_after w.apid (took ++ octets)) received ≤ n) × k.Given g (blocks_with g received) n gave) (geometry_then g told)
+        (let state = state_then w a took octets passed read in
         let stands : (state_with a octets).geometry ≡ Some p.geometry = geometry_stays a.apid a.state next p.geometry geometry in
-        let rows : ready (state_after w.apid (took ++ octets)) received ≡ rows_through p.geometry (block_rows_before p.geometry (blocks_through p.geometry sofar l.index)) =
-        ap (λ s. ready s received) state ∙ ready_is (state_with a octets) received p.geometry l stands last_is
-        ∙ ap (λ o. rows_through p.geometry (block_rows_before p.geometry (first_block p.geometry.segment l.index + (if is_some o then segment_blocks (blocks_of p.geometry) p.geometry.segment l.index else 0)))) (all l.index) in
-        let out = rows_out p (blocks_through p.geometry sofar l.index) standing reached in
-        (min p.at.next p.geometry.rows, omega arith, omega (arith, rows, out), given_then received are ∙ front_few p.wanted p.geometry (number_at p.geometry received) p.at.next (omega (arith, wanted, wanted_few w.gives p.geometry)))));
+        let settled : settled_blocks (state_after w.apid (took ++ octets)) received ≡ blocks_through p.geometry sofar l.index =
+        ap (λ s. settled_blocks s received) state ∙ settled_is (state_with a octets) received p.geometry l stands last_is
+        ∙ ap (λ o. first_block p.geometry.segment l.index + (if is_some o then segment_blocks (blocks_of p.geometry) p.geometry.segment l.index else 0)) (all_same received are l.index) in
+        (passed_in p, standing.few, omega (arith, settled, reached), given_then shows received are));
   }
     where
       all_same : (received : Numbers) → ReceivedIn holds_after w.apid (took ++ octets) received → (index : ℕ) → received index ≡ sofar index

@@ -1,4 +1,4 @@
--- Where an assembly stands between the segments of a picture.
+-- Where an assembly stands between the segments of an image.
 use Rattle.std.proofs.Common.{◌≡◌, ◌≤◌, ◌<◌, ◌+◌, ◌*◌, ℕ, List, [], ◌∷◌, ◌++◌, refl, sym, ap, subst, ◌∙◌, inl, inr, arith}
 use Rattle.std.specs.Prelude.{Bool, true, false, ◌==◌, if◌then◌else◌, Option, None, Some, Result, Ok, Err}
 use Rattle.std.proofs.Math.Nat.{mul-le-mul_right}
@@ -21,7 +21,8 @@ use Rattle.packet_assembly.specs.declared.note.SegmentStart.{SegmentStart}
 use Rattle.packet_assembly.specs.Assembling.{Assembling, Starts, BeginsNone, last_index, unread_assembly}
 use Rattle.packet_assembly.specs.Segments.{GoesOn, FindsSegment}
 use Rattle.packet_assembly.proofs.KeptPackets.{stays}
-use Rattle.strip_decoder.specs.Pictures.{Shown, IsFresh, passed_in}
+use Rattle.strip_decoder.specs.Sinks.{SinkOf}
+use Rattle.strip_decoder.specs.Steps.{Walking, IsFresh, passed_in}
 use Rattle.strip_decoder.specs.Segments.{FitsImage, FitsNext, IsAt, IsBetween}
 use Rattle.strip_decoder.proofs.Fits.{geometry_at, begun_by}
 
@@ -88,7 +89,7 @@ comes_next apid s front packet start g index geometry last none starts =
     }
 
 -- its first block isn't before the end of the segment of that index
-reached_next : (p : Shown) (index : ℕ) (s : FateState) (start : SegmentStart) → passed_in p ≤ first_block p.geometry.segment (index + 1) → ComesNext p.geometry index s start → FitsNext p start
+reached_next : {S : Type 0} (p : Walking S) (index : ℕ) (s : FateState) (start : SegmentStart) → passed_in p ≤ first_block p.geometry.segment (index + 1) → ComesNext p.geometry index s start → FitsNext p start
 reached_next p index s start le next =
     let more : (index + 1) * p.geometry.segment ≤ start.ancillary.index * p.geometry.segment = mul-le-mul_right p.geometry.segment (omega (arith, next.later)) in
     record { fits = next.fits; reached = omega (arith, le, more, next.fits.first) }
@@ -96,7 +97,7 @@ reached_next p index s start le next =
 -- ---- from one segment to the next
 
 -- a segment was answered
-pub found_at : {old new : Outside} (a b : Assembling) (p : Shown) (start : SegmentStart) → IsBetween a p → FindsSegment old new a b (Ok (Some start)) → IsAt b p start
+pub found_at : {S : Type 0} {old new : Outside} (a b : Assembling) (p : Walking S) (start : SegmentStart) → IsBetween a p → FindsSegment old new a b (Ok (Some start)) → IsAt b p start
 found_at {old = old} {new = new} a b p start between finds = elim finds.ends [
   | inl held ↦
       let h = between.held start held.held in
@@ -114,7 +115,7 @@ found_at {old = old} {new = new} a b p start between finds = elim finds.ends [
 ]
 
 -- past the blocks of a segment, its text was gone through
-pub past_at : {old new : Outside} (a b : Assembling) (p q : Shown) (start : SegmentStart) → IsAt a p start → GoesOn old new a b → q.geometry ≡ p.geometry → passed_in q ≤ first_block p.geometry.segment (start.ancillary.index + 1) →
+pub past_at : {S : Type 0} {old new : Outside} (a b : Assembling) (p q : Walking S) (start : SegmentStart) → IsAt a p start → GoesOn old new a b → q.geometry ≡ p.geometry → passed_in q ≤ first_block p.geometry.segment (start.ancillary.index + 1) →
     IsBetween b q
 past_at a b p q start at goes same le = record {
   geometry = ap (λ (s : FateState). s.geometry) goes.passes.state ∙ geometry_stays a.apid a.state goes.passed p.geometry at.geometry ∙ ap Some (sym same);
@@ -143,9 +144,9 @@ some_geometry : {x y : Geometry} → Some x ≡ Some y → x ≡ y
 some_geometry e = cc
 
 -- the first segment was answered
-pub found_first : {wanted : ℕ} {old new : Outside} (apid cap : ℕ) (a b : Assembling) (p : Shown) (start : SegmentStart) (g : Geometry) → a ≡ unread_assembly apid cap → FindsSegment old new a b (Ok (Some start)) → b.state.geometry ≡ Some g →
-    IsFresh g wanted p → IsAt b p start
-found_first {old = old} {new = new} apid cap a b p start g unread finds geometry fresh_picture =
+pub found_first : {S : Type 0} {old new : Outside} (k : SinkOf S) (apid cap : ℕ) (a b : Assembling) (p : Walking S) (start : SegmentStart) (g : Geometry) → a ≡ unread_assembly apid cap → FindsSegment old new a b (Ok (Some start)) → b.state.geometry ≡ Some g →
+    IsFresh k g p → IsAt b p start
+found_first {old = old} {new = new} k apid cap a b p start g unread finds geometry fresh_walk =
     let here : FindsSegment old new (unread_assembly apid cap) b (Ok (Some start)) = subst (λ a. FindsSegment old new a b (Ok (Some start))) unread finds in
     elim here.ends [
       | inl held ↦ absurd (let no : None ≡ Some start = held.held in cc)
@@ -155,12 +156,12 @@ found_first {old = old} {new = new} apid cap a b p start g unread finds geometry
           let state = found.passed.state ∙ after_more apid fresh found.front found.packet in
           let made : geometry_at there start ≡ g = some_geometry (sym b'.geometry ∙ sym (ap (λ (s : FateState). s.geometry) state) ∙ geometry) in
           record {
-            geometry = geometry ∙ ap Some (sym fresh_picture.geometry);
+            geometry = geometry ∙ ap Some (sym fresh_walk.geometry);
             unheld = found.none_after;
             last = ap (λ (s : FateState). last_index s.last) state ∙ ap last_index b'.last ∙ ap Some b'.index;
             next = record {
-              fits = subst (λ g. FitsImage g start) (made ∙ sym fresh_picture.geometry) b'.fits;
-              reached = let none : passed_in p ≡ 0 = rw (fresh_picture.row, fresh_picture.column) (omega arith) in omega (arith, none);
+              fits = subst (λ g. FitsImage g start) (made ∙ sym fresh_walk.geometry) b'.fits;
+              reached = let none : passed_in p ≡ 0 = rw (fresh_walk.row, fresh_walk.column) (omega arith) in omega (arith, none);
             };
           }
     ]

@@ -19,10 +19,10 @@ use Rattle.stream_defs.specs.Damage.{is_missing, missing_rows, is_damaged, damag
 use Rattle.stream_defs.specs.Picture.{number_at, picture, picture_with}
 use Rattle.stream_defs.proofs.DamageLaws.{whole_damage}
 use Rattle.damage_rows.proofs.TableLaws.{any_there}
-use Rattle.strip_decoder.specs.Fronts.{bands_of}
+use Rattle.picture_rows.specs.Fronts.{bands_of}
 use Rattle.strip_decoder.specs.Runs.{Numbers}
 use Rattle.strip_decoder.specs.Containment.{AreWith, SameOutside}
-use Rattle.strip_decoder.proofs.BandBlocks.{coefficient_with}
+use Rattle.picture_rows.proofs.BandBlocks.{coefficient_with}
 use Rattle.strip_decoder.proofs.RunEnds.{any_at}
 
 module _ (g : Geometry) (received : Numbers) (numbers : ℕ → ℕ → ℤ) (range : IsGeometryInRange g) (are : AreWith g received numbers) where

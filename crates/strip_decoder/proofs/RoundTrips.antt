@@ -34,7 +34,7 @@ use Rattle.strip_decoder.specs.Answers.{IsPicture}
 use Rattle.strip_decoder.specs.Containment.{IsImageFor}
 use Rattle.strip_decoder.specs.Runs.{Numbers, holds_after}
 use Rattle.strip_decoder.specs.RoundTrip.{SendsAll, ComesSame, GivesBack}
-use Rattle.strip_decoder.proofs.BandBlocks.{coefficient_with, part_is}
+use Rattle.picture_rows.proofs.BandBlocks.{coefficient_with, part_is}
 use Rattle.strip_decoder.proofs.Showing.{number_in}
 use Rattle.strip_decoder.proofs.SpelledImages.{head_fits, spells}
 use Rattle.strip_decoder.proofs.SublistPictures.{some_geometry}

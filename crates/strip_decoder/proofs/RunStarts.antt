@@ -1,29 +1,29 @@
 -- A run begins.
-use Rattle.std.proofs.Common.{◌≡◌, ◌≤◌, ◌*◌, ℕ, zero, suc, List, [], ◌∷◌, ◌++◌, take, refl, sym, ap, subst, ◌∙◌, inl, inr, arith}
-use Rattle.std.specs.Prelude.{Bool, true, false, min, filter, None, Some, Ok}
+use Rattle.std.proofs.Common.{◌≡◌, ◌≤◌, ◌<◌, ◌*◌, ℕ, zero, suc, List, [], ◌∷◌, ◌++◌, take, refl, sym, ap, subst, ◌∙◌, inl, inr, arith}
+use Rattle.std.specs.Prelude.{true, false, filter, None, Some, Ok}
 use Rattle.std.specs.List.{range_with_len}
 use Rattle.std.proofs.lemmas.Bool.{false≢true}
 use Rattle.port_122.specs.Outside.{Outside, Since}
 use Rattle.port_122.proofs.Stretches.{since_weaker}
+use Rattle.base_122.specs.Sizes.{block_count}
+use Rattle.base_122.specs.Ranges.{IsGeometryInRange}
 use Rattle.base_122.specs.declared.geometry.Geometry.{Geometry}
-use Rattle.raster_rows.specs.Pixels.{raster_octets}
 use Rattle.packet_defs.specs.Streams.{whole_packets}
 use Rattle.stream_defs.specs.declared.fate.FateState.{FateState}
 use Rattle.stream_defs.specs.Fates.{fresh, after, after_all, kept, state_after, geometry_in, part_in}
 use Rattle.stream_defs.specs.Marks.{Marks, most_block_rows}
-use Rattle.stream_defs.specs.Picture.{picture_with}
 use Rattle.stream_defs.proofs.KeptOrder.{does, reached_on}
 use Rattle.damage_rows.proofs.TableLaws.{filter_none_from}
 use Rattle.packet_assembly.specs.declared.note.SegmentStart.{SegmentStart}
 use Rattle.packet_assembly.specs.Assembling.{Assembling, Passes, StaysAt, Starts, BeginsNone, last_index, state_with, unread_assembly}
 use Rattle.packet_assembly.specs.Segments.{WasFound, FindsSegment}
-use Rattle.strip_decoder.specs.Fronts.{rows_of, wanted_of}
-use Rattle.strip_decoder.specs.Pictures.{Shown, IsFresh, passed_in}
-use Rattle.strip_decoder.specs.Steps.{is_marked}
-use Rattle.strip_decoder.specs.Runs.{Run, HasRead, AsksBy, HasFew, FrontBy, is_lost, Shows, SawEnd, IsBegun, ComesTo}
+use Rattle.packet_assembly.specs.Readings.{HasRead, SawEnd}
+use Rattle.packet_assembly.proofs.Readings.{none_read, read_on, end_on}
+use Rattle.strip_decoder.specs.Sinks.{SinkOf, blocks_with}
+use Rattle.strip_decoder.specs.Steps.{Walking, IsStanding, IsFresh, passed_in, is_marked, is_lost}
+use Rattle.strip_decoder.specs.Runs.{Run, AsksPassed, HasFew, PartBy, Shows, IsBegun, ComesTo}
 use Rattle.strip_decoder.proofs.Between.{index_stays}
 use Rattle.strip_decoder.proofs.Receiving.{none_received, between_none}
-use Rattle.strip_decoder.proofs.RunFinds.{end_on}
 
 -- ---- before the first segment
 
@@ -41,18 +41,8 @@ none_kept apid (x ∷ xs) none = elim (does apid fresh x) [
 ]
 
 -- an assembly that has read some of a stream's octets
-pub first_read : {P : FateState → Type 0} (w : Run) (new : Outside) (a b : Assembling) (went : List (List ℕ)) → a ≡ unread_assembly w.apid w.cap → (q : Passes P w.start new a b went) → HasRead w b q.took went
-first_read w new a b went unread q =
-    let none : a.intake.taken ≡ 0 = ap (λ (a : Assembling). a.intake.taken) unread in
-    record {
-      apid = q.apid ∙ ap (λ (a : Assembling). a.apid) unread;
-      taken = omega (arith, q.taken, none);
-      cap = q.cap ∙ ap (λ (a : Assembling). a.intake.cap) unread;
-      capped = q.capped (omega (arith, none));
-      octets_are = sym (ap (λ (a : Assembling). a.intake.pending ++ q.took) unread) ∙ q.octets_are;
-      packets_are = q.packets_are;
-      state = q.state ∙ ap (λ (a : Assembling). after_all a.apid a.state went) unread;
-    }
+pub first_read : {P : FateState → Type 0} (w : Run) (new : Outside) (a b : Assembling) (went : List (List ℕ)) → a ≡ unread_assembly w.apid w.cap → (q : Passes P w.start new a b went) → HasRead w.apid w.cap b q.took went
+first_read w new a b went unread q = read_on w.apid w.cap (subst (λ a. HasRead w.apid w.cap a [] []) (sym unread) (none_read w.apid w.cap)) q
 
 -- there is no geometry where the last place stays as it was
 none_yet : (w : Run) (a : Assembling) (octets : List ℕ) → a ≡ unread_assembly w.apid w.cap → StaysAt a (state_with a octets) → geometry_in w.apid octets ≡ None
@@ -66,9 +56,9 @@ pub none_few : (pixels apid : ℕ) (octets : List ℕ) → geometry_in apid octe
 none_few pixels apid octets none g there = absurd (let both : None ≡ Some g = sym none ∙ there in cc)
 
 -- at each read call nothing is given, and there is no geometry
-pub first_asks : (w : Run) (new : Outside) (a b : Assembling) (went : List (List ℕ)) → a ≡ unread_assembly w.apid w.cap → (q : Passes (StaysAt a) w.start new a b went) →
-    Since w.start new q.took [] [] (λ i j. AsksBy w.gives w.apid w.start q.took [] i j × HasFew w.pixels w.apid (take i q.took))
-first_asks w new a b went unread q =
+pub first_asks : {S : Type 0} (k : SinkOf S) (w : Run) (new : Outside) (a b : Assembling) (went : List (List ℕ)) → a ≡ unread_assembly w.apid w.cap → (q : Passes (StaysAt a) w.start new a b went) →
+    Since w.start new q.took [] [] (λ i j. AsksPassed k w.apid w.start q.took [] i j × HasFew w.pixels w.apid (take i q.took))
+first_asks k w new a b went unread q =
     since_weaker q.since (λ i j le asks.
     let none = none_yet w a (take i q.took) unread asks.0 in (
       (
@@ -85,30 +75,30 @@ first_asks w new a b went unread q =
     nothing zero = refl
     nothing (suc j) = refl
 
--- a front is nothing
-pub first_front : (gives : Bool) (apid : ℕ) (took : List ℕ) → FrontBy gives apid took []
-first_front gives apid took = record { none = λ e. refl; some = λ g received there are. (0, refl) }
+-- nothing is a part
+pub first_part : {S : Type 0} (k : SinkOf S) (apid : ℕ) (took : List ℕ) → PartBy k apid took []
+first_part k apid took = record { none = λ e. refl; some = λ g received there are. k.part_none g (blocks_with g received) }
 
 -- where the end was seen, nothing is left
 pub first_end : {P : FateState → Type 0} (w : Run) (new : Outside) (a b : Assembling) (went : List (List ℕ)) → a ≡ unread_assembly w.apid w.cap → Passes P w.start new a b went → SawEnd new b
 first_end w new a b went unread q =
-    end_on w.start new a b went q (λ rest told ended. absurd (let both : false ≡ true = sym (ap (λ (a : Assembling). a.intake.ended) unread) ∙ ended in false≢true both))
+    end_on q (λ rest told ended. absurd (let both : false ≡ true = sym (ap (λ (a : Assembling). a.intake.ended) unread) ∙ ended in false≢true both))
 
 -- ---- the first segment
 
-pub record HasFound (w : Run) (new : Outside) (b : Assembling) (start : SegmentStart) : Type 0 where
+pub record HasFound {S : Type 0} (k : SinkOf S) (w : Run) (new : Outside) (b : Assembling) (start : SegmentStart) : Type 0 where
   pub took : List ℕ
   pub went : List (List ℕ)
-  pub since : Since w.start new took [] [] (λ i j. AsksBy w.gives w.apid w.start took [] i j × HasFew w.pixels w.apid (take i took))
-  pub read : HasRead w b took went
+  pub since : Since w.start new took [] [] (λ i j. AsksPassed k w.apid w.start took [] i j × HasFew w.pixels w.apid (take i took))
+  pub read : HasRead w.apid w.cap b took went
   pub begun : IsBegun w.apid went b.text start 0
   pub at_end : SawEnd new b
 
-first_found : (w : Run) (new : Outside) (a b : Assembling) (start : SegmentStart) → a ≡ unread_assembly w.apid w.cap → WasFound w.start new a b start → HasFound w new b start
-first_found w new a b start unread found = record {
+first_found : {S : Type 0} (k : SinkOf S) (w : Run) (new : Outside) (a b : Assembling) (start : SegmentStart) → a ≡ unread_assembly w.apid w.cap → WasFound w.start new a b start → HasFound k w new b start
+first_found k w new a b start unread found = record {
   took = found.passed.took;
   went = found.front ++ found.packet ∷ [];
-  since = first_asks w new a b (found.front ++ found.packet ∷ []) unread found.passed;
+  since = first_asks k w new a b (found.front ++ found.packet ∷ []) unread found.passed;
   read = first_read w new a b (found.front ++ found.packet ∷ []) unread found.passed;
   at_end = first_end w new a b (found.front ++ found.packet ∷ []) unread found.passed;
   begun = record {
@@ -124,45 +114,57 @@ first_found w new a b start unread found = record {
   };
 }
 
-pub found_one : (w : Run) (new : Outside) (a b : Assembling) (start : SegmentStart) → a ≡ unread_assembly w.apid w.cap → FindsSegment w.start new a b (Ok (Some start)) → HasFound w new b start
-found_one w new a b start unread finds = elim finds.ends [
+pub found_one : {S : Type 0} (k : SinkOf S) (w : Run) (new : Outside) (a b : Assembling) (start : SegmentStart) → a ≡ unread_assembly w.apid w.cap → FindsSegment w.start new a b (Ok (Some start)) → HasFound k w new b start
+found_one k w new a b start unread finds = elim finds.ends [
   | inl held ↦ absurd (let both : None ≡ Some start = sym (ap (λ (a : Assembling). a.held) unread) ∙ held.held in cc)
-  | inr found ↦ first_found w new a b start unread found
+  | inr found ↦ first_found k w new a b start unread found
 ]
 
--- a picture of which nothing was taken shows nothing
-shows_nothing : (g : Geometry) (wanted : ℕ) (p : Shown) → IsFresh g wanted p → Shows p (λ index. None) []
-unfolding rows_of
-shows_nothing g wanted p fresh_picture =
-    let none : passed_in p ≡ 0 = rw (fresh_picture.row, fresh_picture.column) (omega arith) in
-    let missing : p.damage.missing ≡ [] = ap (λ (m : Marks). m.missing) fresh_picture.damage in
+-- no block was passed yet
+shows_nothing : {S : Type 0} (k : SinkOf S) (g : Geometry) (p : Walking S) → IsFresh k g p → Shows k p (λ index. None) []
+shows_nothing k g p fresh_walk blocks of =
+    let none : passed_in p ≡ 0 = rw (fresh_walk.row, fresh_walk.column) (omega arith) in
+    let missing : p.damage.missing ≡ [] = ap (λ (m : Marks). m.missing) fresh_walk.damage in
     record {
-      stands = λ numbers of. fresh_picture.stands numbers;
-      given = λ numbers of. let zero_rows : min p.at.next p.wanted ≡ 0 = omega (arith, fresh_picture.next) in sym (ap (λ n. raster_octets p.geometry.depth n p.geometry.width (picture_with p.geometry numbers)) zero_rows);
-      marked = λ row low. ap (λ xs. is_marked xs row) missing ∙ sym (ap (λ n. is_lost p.geometry (λ index. None) n row) none);
+      sink = subst (λ n. k.Follows p.sink p.geometry blocks n []) (sym none) (subst (λ g. k.Follows p.sink g blocks 0 []) (sym fresh_walk.geometry) (fresh_walk.begins.follows blocks));
+      marked = λ row low. ap (λ xs. is_marked xs row) missing ∙ sym (ap (λ n. is_lost p.geometry blocks n row) none);
       listed = missing ∙ sym (ap (λ xs. filter (is_marked xs) (range_with_len 0 most_block_rows)) missing ∙ filter_none_from (is_marked []) most_block_rows 0 (λ i far. refl));
     }
 
-pub first_comes : (w : Run) (new : Outside) (b : Assembling) (p : Shown) (start : SegmentStart) (g : Geometry) → HasFound w new b start → IsFresh g (wanted_of w.gives g) p → g.width * g.rows ≤ w.pixels → ComesTo w new b p start
-first_comes w new b p start g found fresh_picture small =
-    let none : passed_in p ≡ 0 = rw (fresh_picture.row, fresh_picture.column) (omega arith) in
+-- a walk that begins stands
+pub first_stands : {S : Type 0} (k : SinkOf S) (g : Geometry) (p : Walking S) → IsGeometryInRange g → IsFresh k g p → IsStanding k p
+first_stands k g p range fresh_walk =
+    let none : passed_in p ≡ 0 = rw (fresh_walk.row, fresh_walk.column) (omega arith) in
+    let wide = range.width in
+    record {
+      range = subst IsGeometryInRange (sym fresh_walk.geometry) range;
+      column = subst (λ (g : Geometry). p.at.column < block_count g.width) (sym fresh_walk.geometry) (omega (arith, fresh_walk.column, wide));
+      few = omega (arith, none);
+      damage = ap (λ (m : Marks). m.rows) fresh_walk.damage ∙ ap (λ (g : Geometry). g.rows) (sym fresh_walk.geometry);
+      stands = subst (λ n. k.Stands p.sink p.geometry n) (sym none) (subst (λ g. k.Stands p.sink g 0) (sym fresh_walk.geometry) fresh_walk.begins.stands);
+    }
+
+pub first_comes : {S : Type 0} (k : SinkOf S) (w : Run) (new : Outside) (b : Assembling) (p : Walking S) (start : SegmentStart) (g : Geometry) → HasFound k w new b start → IsFresh k g p → g.width * g.rows ≤ w.pixels → ComesTo k w new b p start
+first_comes k w new b p start g found fresh_walk small =
+    let none : passed_in p ≡ 0 = rw (fresh_walk.row, fresh_walk.column) (omega arith) in
     record {
       come = record {
         took = found.took;
         gave = [];
-        passed = found.went;
-        sofar = λ index. None;
         since = since_weaker found.since (λ i j le asks. asks.0);
-        read = found.read;
-        knows = λ rest told. record {
-          at = λ next more are index lt v x. none_received (kept w.apid fresh (found.went ++ next)) index v (between_none w.apid found.went b.text start 0 index next found.begun (omega arith) lt) x;
+        known = record {
+          passed = found.went;
+          sofar = λ index. None;
+          read = found.read;
+          knows = λ rest told. record {
+            at = λ next more are index lt v x. none_received (kept w.apid fresh (found.went ++ next)) index v (between_none w.apid found.went b.text start 0 index next found.begun (omega arith) lt) x;
+          };
+          above = λ index le. refl;
+          at_end = found.at_end;
         };
-        above = λ index le. refl;
-        shows = shows_nothing g (wanted_of w.gives g) p fresh_picture;
+        shows = shows_nothing k g p fresh_walk;
         few = omega (arith, none);
-        at_end = found.at_end;
-        wanted = fresh_picture.wanted ∙ ap (wanted_of w.gives) (sym fresh_picture.geometry);
-        small = subst (λ (g : Geometry). g.width * g.rows ≤ w.pixels) (sym fresh_picture.geometry) small;
+        small = subst (λ (g : Geometry). g.width * g.rows ≤ w.pixels) (sym fresh_walk.geometry) small;
       };
       begun = record {
         before = found.begun.before;

@@ -8,7 +8,8 @@ use Rattle.stream_defs.specs.Fates.{geometry_in}
 use Rattle.strip_decoder.specs.declared.decode.DecodeDone.{DecodeDone}
 use Rattle.strip_decoder.specs.declared.decode.DecodeFault.{DecodeFault}
 use Rattle.strip_decoder.specs.declared.decode.DecodeFault.TheVariants.{ReadFault, WriteFault, NoSegment, TooManyPixels, LongInput, Memory}
-use Rattle.strip_decoder.specs.Runs.{HasFew, IsReadOut}
+use Rattle.packet_assembly.specs.Readings.{IsReadOut}
+use Rattle.strip_decoder.specs.Runs.{HasFew}
 use Rattle.strip_decoder.specs.Answers.{PictureBy}
 use Rattle.strip_decoder.specs.Lines.{damage_lines}
 

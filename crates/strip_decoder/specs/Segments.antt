@@ -1,5 +1,5 @@
 -- What the steps from segment to segment leave. This project's own.
-use Rattle.std.specs.Prelude.{◌≡◌, ◌≤◌, ◌<◌, ◌+◌, ◌-◌, ◌*◌, ℕ, ℤ, List, [], take, min, Bool, true, false, Option, None, Some, Result, Ok, Err}
+use Rattle.std.specs.Prelude.{◌≡◌, ◌≤◌, ◌<◌, ◌+◌, ◌-◌, ◌*◌, ℕ, ℤ, List, [], take, min, Bool, true, false, Option, None, Some, Result, Ok, Err, MatchResult}
 use Rattle.port_122.specs.Outside.{Outside, Rose, NoFewerFaults}
 use Rattle.base_122.specs.Sizes.{first_block}
 use Rattle.base_122.specs.declared.geometry.Geometry.{Geometry}
@@ -16,8 +16,8 @@ use Rattle.packet_assembly.specs.Tails.{text_tail}
 use Rattle.stream_defs.specs.Agreement.{blocks_of}
 use Rattle.strip_decoder.specs.declared.decode.DecodeFault.{DecodeFault}
 use Rattle.strip_decoder.specs.declared.decode.DecodeFault.TheVariants.{ReadFault, WriteFault, LongInput}
-use Rattle.strip_decoder.specs.Pictures.{Shown, IsStanding, passed_in}
-use Rattle.strip_decoder.specs.Steps.{PassesBlocks, Unmarked, MarksRows, AreHeld, AreLost}
+use Rattle.strip_decoder.specs.Sinks.{SinkOf}
+use Rattle.strip_decoder.specs.Steps.{Walking, IsStanding, passed_in, missing, held}
 
 -- ---- where a segment is
 
@@ -29,20 +29,20 @@ pub record FitsImage (g : Geometry) (start : SegmentStart) : Type 0 where
   pub head : IsHead start.head
   pub weights : start.head.image.weights.shifts ≡ g.weights.shifts
 
--- and the picture hasn't come past its first block
-pub record FitsNext (p : Shown) (start : SegmentStart) : Type 0 where
+-- and the walk hasn't come past its first block
+pub record FitsNext {S : Type 0} (p : Walking S) (start : SegmentStart) : Type 0 where
   pub fits : FitsImage p.geometry start
   pub reached : passed_in p ≤ start.ancillary.first
 
 -- an assembly answered this segment last
-pub record IsAt (a : Assembling) (p : Shown) (start : SegmentStart) : Type 0 where
+pub record IsAt {S : Type 0} (a : Assembling) (p : Walking S) (start : SegmentStart) : Type 0 where
   pub geometry : a.state.geometry ≡ Some p.geometry
   pub unheld : a.held ≡ None
   pub last : last_index a.state.last ≡ Some start.ancillary.index
   pub next : FitsNext p start
 
--- The last place is in a segment that the picture has passed; or the segment that comes next was begun.
-pub record IsBetween (a : Assembling) (p : Shown) : Type 0 where
+-- The last place is in a segment that was passed; or the segment that comes next was begun.
+pub record IsBetween {S : Type 0} (a : Assembling) (p : Walking S) : Type 0 where
   pub geometry : a.state.geometry ≡ Some p.geometry
   pub unheld : a.held ≡ None → (index : ℕ) × (last_index a.state.last ≡ Some index) × (passed_in p ≤ first_block p.geometry.segment (index + 1))
   pub held : (start : SegmentStart) → a.held ≡ Some start → (last_index a.state.last ≡ Some start.ancillary.index) × FitsNext p start
@@ -102,20 +102,31 @@ ReadsText old new a b head cells (Err ReadFault) = HasFailed old new a b
 ReadsText old new a b head cells (Err other) = ⊥
 
 -- the n blocks of a segment were passed: put where it was accepted, else lost
-abbrev pub PassesSegment : {T E : Type 0} → Result T E → Bool → (n : ℕ) (p q : Outside) (old new : Shown) → Type 0
-PassesSegment result true n p q old new = PassesBlocks result Unmarked (AreHeld 0 n old) n p q old new
-PassesSegment result false n p q old new = PassesBlocks result (MarksRows old n) (AreLost n old) n p q old new
+abbrev pub segment_values : Bool → List ℤ → ℕ → Option (List ℤ)
+segment_values true cells = held cells
+segment_values false cells = missing
 
 -- a segment was taken
-pub record HasTaken (p q : Outside) (a b : Assembling) (old new : Shown) : Type 0 where
-  pub standing : IsStanding new
+pub record HasTaken {S : Type 0} (k : SinkOf S) (p q : Outside) (a b : Assembling) (old new : Walking S) : Type 0 where
+  pub standing : IsStanding k new
   pub geometry : new.geometry ≡ old.geometry
   pub between : IsBetween b new
   pub more : passed_in old < passed_in new
   pub faults : NoFewerFaults p q
 
-abbrev pub TakesSegment : (p q : Outside) (a b : Assembling) (old new : Shown) → Result (Unit {0}) DecodeFault → Type 0
-TakesSegment p q a b old new (Ok done) = HasTaken p q a b old new
-TakesSegment p q a b old new (Err ReadFault) = Rose p.read_faults q.read_faults
-TakesSegment p q a b old new (Err WriteFault) = Rose p.write_faults q.write_faults
-TakesSegment p q a b old new (Err other) = ⊥
+abbrev pub TakesSegment : {S : Type 0} → SinkOf S → (p q : Outside) (a b : Assembling) (old new : Walking S) → Result (Unit {0}) DecodeFault → Type 0
+TakesSegment k p q a b old new (Ok done) = HasTaken k p q a b old new
+TakesSegment k p q a b old new (Err ReadFault) = Rose p.read_faults q.read_faults
+TakesSegment k p q a b old new (Err WriteFault) = Rose p.write_faults q.write_faults
+TakesSegment k p q a b old new (Err other) = ⊥
+
+-- the blocks before a segment were lost
+pub record HasReached {S : Type 0} (k : SinkOf S) (p q : Outside) (a : Assembling) (old new : Walking S) (start : SegmentStart) : Type 0 where
+  pub standing : IsStanding k new
+  pub geometry : new.geometry ≡ old.geometry
+  pub at : IsAt a new start
+  pub there : passed_in new ≡ start.ancillary.first
+  pub faults : NoFewerFaults p q
+
+abbrev pub ReachesSegment : {S T E : Type 0} → SinkOf S → (p q : Outside) (a : Assembling) (old new : Walking S) → SegmentStart → Result T E → Type 0
+ReachesSegment k p q a old new start result = MatchResult result (λ _. HasReached k p q a old new start) (λ _. Rose p.write_faults q.write_faults)

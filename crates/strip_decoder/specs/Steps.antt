@@ -1,107 +1,55 @@
--- What the steps of a picture leave. This project's own.
-use Rattle.std.specs.Prelude.{◌≡◌, ◌<◌, ◌+◌, ◌==◌, ◌/◌, ℕ, ℤ, pos, List, ◌++◌, [], Bool, true, false, ◌||◌, Result, Ok, Err, MatchResult, slice_index_or, take, filter}
+-- What the steps of a walk leave. This project's own.
+use Rattle.std.specs.Prelude.{◌≡◌, ◌≤◌, ◌<◌, ◌+◌, ◌*◌, ◌/◌, ◌==◌, ◌&&◌, ℕ, ℤ, List, [], ◌++◌, Bool, not, is_some, Option, None, Some, Result, MatchResult, filter}
 use Rattle.std.specs.List.{list_any, range_with_len}
 use Rattle.port_122.specs.Outside.{Outside, Since, NoRead, Rose}
 use Rattle.base_122.specs.Sizes.{block_count}
-use Rattle.strip_decoder.specs.Fronts.{rows_of}
+use Rattle.base_122.specs.Ranges.{IsGeometryInRange}
+use Rattle.base_122.specs.declared.geometry.Geometry.{Geometry}
 use Rattle.wave_defs.specs.Held.{block_at}
-use Rattle.inverse_strip.specs.Kept.{HasNext}
-use Rattle.stream_defs.specs.Marks.{Marks, most_block_rows}
-use Rattle.strip_decoder.specs.Pictures.{Shown, IsSized, IsStanding, StandsTo, StandsFor, passed_in}
+use Rattle.stream_defs.specs.Agreement.{blocks_of}
+use Rattle.stream_defs.specs.Marks.{Marks, most_block_rows, unmarked}
+use Rattle.strip_decoder.specs.declared.walk.Walk.{Walk}
+use Rattle.strip_decoder.specs.declared.walk.BlockAt.{BlockAt}
+use Rattle.strip_decoder.specs.Sinks.{Blocks, SinkOf, IsBlock, Begins}
 
--- ---- rows
+-- its parts
+pub record Walking (S : Type 0) : Type 0 where
+  pub geometry : Geometry
+  pub at : BlockAt
+  pub damage : Marks
+  pub sink : S
 
--- Some rows were given: for all blocks such that this was so before, the picture stands for them, and what was given goes on from
--- the first rows of their picture to more of them, as far as they are wanted.
-pub record GoesOn (Before : (ℕ → ℕ → ℤ) → Type 0) (p q : Outside) (old new : Shown) : Type 0 where
-  pub gave : List ℕ
-  pub out : Since p q [] gave [] NoRead
-  pub follows : (numbers : ℕ → ℕ → ℤ) → Before numbers → StandsFor numbers new
-  pub given : (numbers : ℕ → ℕ → ℤ) → Before numbers → rows_of old.wanted old.geometry numbers old.at.next ++ gave ≡ rows_of old.wanted old.geometry numbers new.at.next
+abbrev pub walking : {S : Type 0} → Walk S → Walking S
+walking p = record { geometry = p.geometry; at = p.at; damage = p.damage; sink = p.sink }
 
--- a write failed meanwhile, and a part of the picture is given
-pub record BreaksOff (Before : (ℕ → ℕ → ℤ) → Type 0) (p q : Outside) (old : Shown) : Type 0 where
-  pub gave : List ℕ
-  pub out : Since p q [] gave [] NoRead
-  pub rose : Rose p.write_faults q.write_faults
-  pub given : (numbers : ℕ → ℕ → ℤ) → Before numbers →
-      (some : ℕ) × (rows_of old.wanted old.geometry numbers old.at.next ++ gave ≡ take some (rows_of old.wanted old.geometry numbers old.wanted))
+-- the blocks of its geometry, and those before the next one
+abbrev pub total_in : {S : Type 0} → Walking S → ℕ
+total_in p = blocks_of p.geometry
 
-abbrev pub StoodFor : Shown → (ℕ → ℕ → ℤ) → Type 0
-StoodFor p numbers = StandsFor numbers p
+abbrev pub passed_in : {S : Type 0} → Walking S → ℕ
+passed_in p = p.at.row * block_count p.geometry.width + p.at.column
 
--- all but the strip and the next row is as before
-pub record SameBut (old new : Shown) : Type 0 where
-  pub geometry : new.geometry ≡ old.geometry
-  pub wanted : new.wanted ≡ old.wanted
-  pub cells : new.cells ≡ old.cells
-  pub room : new.room ≡ old.room
-  pub marks : new.marks ≡ old.marks
-  pub damage : new.damage ≡ old.damage
-  pub row : new.at.row ≡ old.at.row
-  pub column : new.at.column ≡ old.at.column
+-- so many blocks are still to come
+abbrev pub HasRoom : {S : Type 0} → ℕ → Walking S → Type 0
+HasRoom n p = passed_in p + n ≤ total_in p
 
--- the next row was made
-pub record HasGiven (p q : Outside) (old new : Shown) : Type 0 where
-  pub sized : IsSized new
-  pub same : SameBut old new
-  pub could : HasNext old.at.row old.at.next (block_count old.geometry.rows)
-  pub next : new.at.next ≡ old.at.next + 1
-  pub goes : GoesOn (StoodFor old) p q old new
+-- its parts are those of its geometry, and stand at the place that it has come to
+pub record IsStanding {S : Type 0} (k : SinkOf S) (p : Walking S) : Type 0 where
+  pub range : IsGeometryInRange p.geometry
+  pub column : p.at.column < block_count p.geometry.width
+  pub few : passed_in p ≤ total_in p
+  pub damage : p.damage.rows ≡ p.geometry.rows
+  pub stands : k.Stands p.sink p.geometry (passed_in p)
 
--- none can be made before the next block row
-pub record HasNone (p q : Outside) (old new : Shown) : Type 0 where
-  pub standing : IsStanding new
-  pub same : SameBut old new
-  pub goes : GoesOn (StoodFor old) p q old new
+-- no block was passed yet
+pub record IsFresh {S : Type 0} (k : SinkOf S) (g : Geometry) (p : Walking S) : Type 0 where
+  pub geometry : p.geometry ≡ g
+  pub row : p.at.row ≡ 0
+  pub column : p.at.column ≡ 0
+  pub damage : p.damage ≡ unmarked g.rows
+  pub begins : Begins k g p.sink
 
-abbrev pub GivesRow : {E : Type 0} → Result Bool E → (p q : Outside) (old new : Shown) → Type 0
-GivesRow (Ok true) p q old new = HasGiven p q old new
-GivesRow (Ok false) p q old new = HasNone p q old new
-GivesRow (Err e) p q old new = BreaksOff (StoodFor old) p q old
-
--- some were made
-pub record HasGivenSome (p q : Outside) (old new : Shown) : Type 0 where
-  pub sized : IsSized new
-  pub same : SameBut old new
-  pub goes : GoesOn (StoodFor old) p q old new
-
-abbrev pub GivesRows : {T E : Type 0} → Result T E → (p q : Outside) (old new : Shown) → Type 0
-GivesRows result p q old new = MatchResult result (λ _. HasNone p q old new) (λ _. BreaksOff (StoodFor old) p q old)
-
--- ---- blocks
-
--- the next block of the block row that is set next is set
-abbrev pub HasNextSet : Shown → (ℕ → ℕ → ℤ) → Type 0
-HasNextSet p numbers = StandsTo (p.at.column + 1) numbers p
-
--- the next n blocks are those that stand from a place on among the segment's
-pub record AreHeld (place n : ℕ) (p : Shown) (numbers : ℕ → ℕ → ℤ) : Type 0 where
-  pub stands : StandsFor numbers p
-  pub next : (k i : ℕ) → k < n → i < 64 → numbers (passed_in p + k) i ≡ slice_index_or (block_at p.cells (place + k)) i (pos 0)
-
--- the next n blocks are zeros
-pub record AreLost (n : ℕ) (p : Shown) (numbers : ℕ → ℕ → ℤ) : Type 0 where
-  pub stands : StandsFor numbers p
-  pub next : (k i : ℕ) → k < n → i < 64 → numbers (passed_in p + k) i ≡ pos 0
-
--- the next n blocks were passed, and the rows that come with them given
-pub record HasPassed (Marked : Marks → Marks → Type 0) (Before : (ℕ → ℕ → ℤ) → Type 0) (n : ℕ) (p q : Outside) (old new : Shown) : Type 0 where
-  pub standing : IsStanding new
-  pub geometry : new.geometry ≡ old.geometry
-  pub wanted : new.wanted ≡ old.wanted
-  pub cells : new.cells ≡ old.cells
-  pub room : new.room ≡ old.room
-  pub marks : new.marks ≡ old.marks
-  pub count : passed_in new ≡ passed_in old + n
-  pub marked : Marked old.damage new.damage
-  pub goes : GoesOn Before p q old new
-
-abbrev pub PassesBlocks : {T E : Type 0} → Result T E → (Marks → Marks → Type 0) → ((ℕ → ℕ → ℤ) → Type 0) → ℕ → (p q : Outside) (old new : Shown) → Type 0
-PassesBlocks result Marked Before n p q old new = MatchResult result (λ _. HasPassed Marked Before n p q old new) (λ _. BreaksOff Before p q old)
-
-abbrev pub Unmarked : Marks → Marks → Type 0
-Unmarked old new = new ≡ old
+-- ---- which blocks
 
 -- a block row is among those that are missing
 abbrev pub is_marked : List ℕ → (row : ℕ) → Bool
@@ -111,13 +59,55 @@ is_marked missing row = list_any (λ k. k == row) missing
 abbrev pub IsListed : Marks → Type 0
 IsListed m = m.missing ≡ filter (is_marked m.missing) (range_with_len 0 most_block_rows)
 
--- one of n blocks from a first one on is in this block row of so many columns
-abbrev pub is_touched : (columns first n row : ℕ) → Bool
-is_touched columns first n row = list_any (λ k. (first + k) / columns == row) (range_with_len 0 n)
+-- one of the first n blocks is in this block row, and missing
+abbrev pub is_lost : Geometry → Blocks → (n row : ℕ) → Bool
+is_lost g blocks n row = list_any (λ block. not (is_some (blocks block)) && (block / block_count g.width == row)) (range_with_len 0 n)
 
--- the block rows of the next n blocks are missing besides
-pub record MarksRows (p : Shown) (n : ℕ) (old new : Marks) : Type 0 where
-  pub rows : new.rows ≡ old.rows
-  pub at : (row : ℕ) → row < most_block_rows →
-      is_marked new.missing row ≡ (is_marked old.missing row || is_touched (block_count p.geometry.width) (passed_in p) n row)
-  pub listed : IsListed old → IsListed new
+-- It has passed the first of these blocks: the sink has taken them and given these octets for them, and the block rows with a missing
+-- one are marked.
+pub record Follows {S : Type 0} (k : SinkOf S) (p : Walking S) (blocks : Blocks) (gave : List ℕ) : Type 0 where
+  pub sink : k.Follows p.sink p.geometry blocks (passed_in p) gave
+  pub marked : (row : ℕ) → row < most_block_rows → is_marked p.damage.missing row ≡ is_lost p.geometry blocks (passed_in p) row
+  pub listed : IsListed p.damage
+
+-- ---- the steps
+
+-- the next n of these blocks are such
+pub record AreNext {S : Type 0} (values : ℕ → Option (List ℤ)) (n : ℕ) (p : Walking S) (blocks : Blocks) : Type 0 where
+  pub at : (i : ℕ) → i < n → blocks (passed_in p + i) ≡ values i
+
+-- a missing block, and the blocks of a segment's numbers
+abbrev pub missing : ℕ → Option (List ℤ)
+missing i = None
+
+abbrev pub held : List ℤ → ℕ → Option (List ℤ)
+held cells i = Some (block_at cells i)
+
+-- the next n blocks were passed, which are such
+pub record HasPassed {S : Type 0} (k : SinkOf S) (values : ℕ → Option (List ℤ)) (n : ℕ) (p q : Outside) (old new : Walking S) : Type 0 where
+  pub standing : IsStanding k new
+  pub geometry : new.geometry ≡ old.geometry
+  pub count : passed_in new ≡ passed_in old + n
+  pub gave : List ℕ
+  pub out : Since p q [] gave [] NoRead
+  pub follows : (blocks : Blocks) (before : List ℕ) → Follows k old blocks before → AreNext values n old blocks → Follows k new blocks (before ++ gave)
+
+-- a write failed meanwhile
+pub record BreaksOff {S : Type 0} (k : SinkOf S) (values : ℕ → Option (List ℤ)) (n : ℕ) (p q : Outside) (old : Walking S) : Type 0 where
+  pub gave : List ℕ
+  pub out : Since p q [] gave [] NoRead
+  pub rose : Rose p.write_faults q.write_faults
+  pub part : (blocks : Blocks) (before : List ℕ) → Follows k old blocks before → AreNext values n old blocks → k.Part old.geometry blocks (before ++ gave)
+
+abbrev pub PassesBlocks : {S T E : Type 0} → SinkOf S → Result T E → (ℕ → Option (List ℤ)) → ℕ → (p q : Outside) (old new : Walking S) → Type 0
+PassesBlocks k result values n p q old new = MatchResult result (λ _. HasPassed k values n p q old new) (λ _. BreaksOff k values n p q old)
+
+-- the first n blocks of a segment's numbers are such as its image can have
+pub record AreBlocks (n : ℕ) (g : Geometry) (cells : List ℤ) : Type 0 where
+  pub at : (i : ℕ) → i < n → IsBlock g (Some (block_at cells i))
+
+-- it stands at the next block, and nothing else has changed
+pub record HasAdvanced {S : Type 0} (old new : Walking S) : Type 0 where
+  pub same : new ≡ record old { at = new.at }
+  pub column : new.at.column < block_count old.geometry.width
+  pub count : new.at.row * block_count old.geometry.width + new.at.column ≡ passed_in old + 1

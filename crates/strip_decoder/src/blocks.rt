@@ -1,80 +1,87 @@
-// The blocks of a picture, one after another in raster order, and the rows that come with each whole block row.
-ghost use Rattle.std.specs.Prelude.{◌≡◌, ◌≤◌, ◌<◌, ◌+◌, ◌*◌, vec_len};
-ghost use Rattle.strip_decoder.specs.Pictures.{shown, IsStanding, HasRoom, AreParts};
-ghost use Rattle.strip_decoder.specs.Steps.{PassesBlocks, HasNextSet, AreHeld, AreLost, Unmarked, MarksRows};
+// The blocks of an image, passed to a sink one after another in raster order.
+ghost use Rattle.std.specs.Prelude.{◌≡◌, ◌≤◌, ◌<◌, ◌*◌, Some, length};
+ghost use Rattle.base_122.specs.Sizes.{block_count};
+ghost use Rattle.base_122.specs.Ranges.{IsGeometryInRange};
+ghost use Rattle.strip_decoder.specs.Sinks.{IsBlock};
+ghost use Rattle.strip_decoder.specs.Steps.{walking, IsStanding, HasRoom, PassesBlocks, HasAdvanced, AreBlocks, missing, held};
 
-use crate::picture::Picture;
-use crate::rows::give_rows;
-use base_122::Weights;
-use block_families::scatter;
-use inverse_strip::StripInverse;
+use crate::sink::BlockSink;
+use crate::walk::Walk;
 use port_122::{Failed, Port};
 
-// Goes on past the next block, whose numbers are set, and gives the rows that come where its block row is whole.
-fn pass_block<X: Port>(port: &mut X, picture: &mut Picture) -> Result<(), Failed>
-    requires standing { IsStanding (shown picture.old) }
-    requires room { HasRoom 1 (shown picture.old) }
-    ensures { PassesBlocks result Unmarked (HasNextSet (shown picture.old)) 1 (X.outside port.old) (X.outside port.new) (shown picture.old) (shown picture.new) }
+// The place of the next block.
+fn advance<S: BlockSink>(walk: &mut Walk<S>)
+    requires range { IsGeometryInRange walk.old.geometry }
+    requires column { walk.old.at.column < block_count walk.old.geometry.width }
+    requires room { HasRoom 1 (walking walk.old) }
+    ensures { HasAdvanced (walking walk.old) (walking walk.new) }
 {
-    picture.at.column += 1;
-    if picture.at.column < picture.geometry.padded_width() / 8 {
-        return Ok(());
+    walk.at.column += 1;
+    if walk.at.column == walk.geometry.padded_width() / 8 {
+        walk.at.column = 0;
+        walk.at.row += 1;
     }
-    picture.at.column = 0;
-    picture.at.row += 1;
-    picture.strip.push_block_row();
-    give_rows(port, picture)
 }
 
-// The next block is lost: its numbers stay 0, and its block row is missing.
-fn lose_block<X: Port>(port: &mut X, picture: &mut Picture) -> Result<(), Failed>
-    requires standing { IsStanding (shown picture.old) }
-    requires room { HasRoom 1 (shown picture.old) }
-    ensures { PassesBlocks result (MarksRows (shown picture.old) 1) (AreLost 1 (shown picture.old)) 1 (X.outside port.old) (X.outside port.new) (shown picture.old) (shown picture.new) }
+// The next block is missing, and so is its block row.
+fn lose_block<S: BlockSink, X: Port>(walk: &mut Walk<S>, port: &mut X) -> Result<(), Failed>
+    requires standing { IsStanding S.sink (walking walk.old) }
+    requires room { HasRoom 1 (walking walk.old) }
+    ensures { PassesBlocks S.sink result missing 1 (X.outside port.old) (X.outside port.new) (walking walk.old) (walking walk.new) }
 {
-    picture.damage.miss(picture.at.row);
-    pass_block(port, picture)
+    walk.damage.miss(walk.at.row);
+    walk.sink.lose(port)?;
+    advance(walk);
+    Ok(())
 }
 
-/// The next blocks are lost.
-pub fn lose_blocks<X: Port>(port: &mut X, picture: &mut Picture, count: u64) -> Result<(), Failed>
-    requires standing { IsStanding (shown picture.old) }
-    requires room { HasRoom count (shown picture.old) }
-    ensures { PassesBlocks result (MarksRows (shown picture.old) count) (AreLost count (shown picture.old)) count (X.outside port.old) (X.outside port.new) (shown picture.old) (shown picture.new) }
+/// The next blocks are missing.
+pub fn lose_blocks<S: BlockSink, X: Port>(
+    walk: &mut Walk<S>,
+    port: &mut X,
+    count: u64,
+) -> Result<(), Failed>
+    requires standing { IsStanding S.sink (walking walk.old) }
+    requires room { HasRoom count (walking walk.old) }
+    ensures { PassesBlocks S.sink result missing count (X.outside port.old) (X.outside port.new) (walking walk.old) (walking walk.new) }
 {
     for _ in 0..count {
-        lose_block(port, picture)?;
+        lose_block(walk, port)?;
     }
     Ok(())
 }
 
-// The next block has the numbers that stand at a place of a segment's blocks.
-fn put_block<X: Port>(port: &mut X, picture: &mut Picture, place: usize) -> Result<(), Failed>
-    requires standing { IsStanding (shown picture.old) }
-    requires room { HasRoom 1 (shown picture.old) }
-    requires place { 64 * place + 64 ≤ vec_len picture.old.blocks }
-    requires parts { AreParts (place + 1) (shown picture.old) }
-    ensures { PassesBlocks result Unmarked (AreHeld place 1 (shown picture.old)) 1 (X.outside port.old) (X.outside port.new) (shown picture.old) (shown picture.new) }
+// The next block has these numbers.
+fn put_block<S: BlockSink, X: Port>(
+    walk: &mut Walk<S>,
+    port: &mut X,
+    numbers: &[i32],
+) -> Result<(), Failed>
+    requires standing { IsStanding S.sink (walking walk.old) }
+    requires room { HasRoom 1 (walking walk.old) }
+    requires fits { IsBlock walk.old.geometry (Some numbers.now) }
+    ensures { PassesBlocks S.sink result (λ _. Some numbers.now) 1 (X.outside port.old) (X.outside port.new) (walking walk.old) (walking walk.new) }
 {
-    scatter(
-        &mut picture.strip,
-        picture.at.column,
-        &picture.geometry.weights,
-        &picture.blocks[64 * place..64 * place + 64],
-    );
-    pass_block(port, picture)
+    walk.sink.put(port, numbers)?;
+    advance(walk);
+    Ok(())
 }
 
-/// The next blocks have the numbers that stand first of a segment's blocks.
-pub fn put_blocks<X: Port>(port: &mut X, picture: &mut Picture, count: usize) -> Result<(), Failed>
-    requires standing { IsStanding (shown picture.old) }
-    requires room { HasRoom count (shown picture.old) }
-    requires held { 64 * count ≤ vec_len picture.old.blocks }
-    requires parts { AreParts count (shown picture.old) }
-    ensures { PassesBlocks result Unmarked (AreHeld 0 count (shown picture.old)) count (X.outside port.old) (X.outside port.new) (shown picture.old) (shown picture.new) }
+/// The next blocks have these numbers, 64 each.
+pub fn put_blocks<S: BlockSink, X: Port>(
+    walk: &mut Walk<S>,
+    port: &mut X,
+    blocks: &[i32],
+    count: usize,
+) -> Result<(), Failed>
+    requires standing { IsStanding S.sink (walking walk.old) }
+    requires room { HasRoom count (walking walk.old) }
+    requires whole { 64 * count ≤ length blocks.now }
+    requires parts { AreBlocks count walk.old.geometry blocks.now }
+    ensures { PassesBlocks S.sink result (held blocks.now) count (X.outside port.old) (X.outside port.new) (walking walk.old) (walking walk.new) }
 {
     for place in 0..count {
-        put_block(port, picture, place)?;
+        put_block(walk, port, &blocks[64 * place..64 * place + 64])?;
     }
     Ok(())
 }

@@ -1,8 +1,13 @@
-// How a decoder ends.
+// Packets in, a picture out.
+ghost use Rattle.strip_decoder.specs.Answers.{Decodes};
 
-use base_122::Geometry;
+use crate::engine::walk_segments;
+use base_122::{DecodeWish, Geometry};
 use damage_rows::Damage;
 use packet_defs::Framing;
+use picture_rows::Picture;
+use port_122::Port;
+use std::alloc::Global;
 use thiserror::Error;
 
 /// What was read: the picture's geometry, its missing block rows, and why the stream can't be read on, where that was found.
@@ -31,7 +36,25 @@ pub enum DecodeFault {
     /// The input has more octets than are read.
     #[error("input too long")]
     LongInput,
-    /// There is no memory for a strip of the picture.
+    /// There is no memory for a segment's blocks, or for a strip of the picture.
     #[error("out of memory")]
     Memory,
+}
+
+/// Takes the packets of an APID and gives the picture of the segments that are received, each row as soon as the packets so far
+/// determine it (docs/formats.md, "Packets", "Fates" and "Picture and damage"; docs/architecture.md, "The decoder"). It reads to
+/// the end, or to what can't be read on, at most the octets that are wished, and no more once the geometry has too many pixels.
+/// After `NoSegment`, `TooManyPixels` and `Memory` nothing is given, and after the other faults a front of the picture.
+/// `ReadFault` and `WriteFault` come only where the port's count rose.
+pub fn decode_packets<X: Port>(
+    alloc: Global,
+    port: &mut X,
+    wish: &DecodeWish,
+) -> Result<DecodeDone, DecodeFault>
+    ensures { Decodes wish.now (X.outside port.old) (X.outside port.new) result }
+{
+    match walk_segments::<Picture, X>(alloc, port, wish) {
+        Ok(walked) => Ok(walked.done),
+        Err(fault) => Err(fault),
+    }
 }

@@ -5,14 +5,37 @@ ghost use Rattle.strip_decoder.specs.Lines.{range_line, damage_lines};
 ghost use Rattle.strip_decoder.specs.Finding.{Finds};
 
 use crate::decode::{DecodeDone, DecodeFault};
-use crate::engine::decode;
+use crate::engine::walk_segments;
+use crate::sink::BlockSink;
 use arrayvec::ArrayString;
-use base_122::DecodeWish;
+use base_122::{DecodeWish, Geometry};
 use damage_rows::Damage;
 use itoa::Buffer;
 use port_122::{Failed, Port, write_all};
-use std::alloc::Global;
+use std::alloc::{AllocError, Global};
 use stream_defs::RowRange;
+
+/// A sink that makes nothing of the blocks: what it is asked for are the missing block rows, which each walk marks.
+#[derive(Clone, Copy, Debug, Drop, PartialEq, Eq)]
+pub struct NoPicture;
+
+impl BlockSink for NoPicture {
+    ghost use Rattle.strip_decoder.specs.PictureSinks.{no_picture};
+
+    ghost sink = { no_picture };
+
+    fn begin(_alloc: Global, _geometry: &Geometry) -> Result<NoPicture, AllocError> {
+        Ok(NoPicture)
+    }
+
+    fn put<X: Port>(&mut self, _port: &mut X, _numbers: &[i32]) -> Result<(), Failed> {
+        Ok(())
+    }
+
+    fn lose<X: Port>(&mut self, _port: &mut X) -> Result<(), Failed> {
+        Ok(())
+    }
+}
 
 /// Takes the packets of an APID as `decode_packets` does, and answers as it does, but gives no row: after all is read it gives a line
 /// `first-last` for each range of damaged rows (docs/formats.md, "Picture and damage"). A front of the lines is given after
@@ -24,8 +47,8 @@ pub fn find_damage<X: Port>(
 ) -> Result<DecodeDone, DecodeFault>
     ensures { Finds wish.now (X.outside port.old) (X.outside port.new) result }
 {
-    let done = match decode(alloc, port, wish, false) {
-        Ok(done) => done,
+    let done = match walk_segments::<NoPicture, X>(alloc, port, wish) {
+        Ok(walked) => walked.done,
         Err(fault) => return Err(fault),
     };
     match give_lines(port, &done.damage) {

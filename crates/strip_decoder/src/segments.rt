@@ -1,13 +1,16 @@
-// The segments of a picture, one after another.
-ghost use Rattle.std.specs.Prelude.{◌≡◌, ◌≤◌, ◌*◌, true, length};
+// The segments of an image, one after another.
+ghost use Rattle.std.specs.Prelude.{◌≡◌, ◌≤◌, ◌*◌, true, length, vec_len};
 ghost use Rattle.segment_defs.specs.Head.{IsHead};
-ghost use Rattle.strip_decoder.specs.Pictures.{shown, IsStanding, HasRoom, AreParts};
-ghost use Rattle.strip_decoder.specs.Runs.{Run, ComesTo, RunsSegment};
-ghost use Rattle.strip_decoder.specs.Segments.{IsAt, FindsNext, ReadsText, EndsText, PassesSegment, TakesSegment};
+ghost use Rattle.packet_assembly.specs.Assembling.{Assembling};
+ghost use Rattle.strip_decoder.specs.Steps.{walking, IsStanding, HasRoom, PassesBlocks, AreBlocks};
+ghost use Rattle.strip_decoder.specs.Rooms.{IsRoom};
+ghost use Rattle.strip_decoder.specs.Runs.{Run, ComesTo, RunsReach, RunsSegment};
+ghost use Rattle.strip_decoder.specs.Segments.{FitsNext, IsAt, FindsNext, ReadsText, EndsText, ReachesSegment, TakesSegment, segment_values};
 
 use crate::blocks::{lose_blocks, put_blocks};
 use crate::decode::DecodeFault;
-use crate::picture::Picture;
+use crate::sink::BlockSink;
+use crate::walk::{SegmentRoom, Walk, passed};
 use bit_pipe::InFault;
 use packet_assembly::{Assembly, SegmentStart};
 use port_122::{Failed, Port};
@@ -71,50 +74,68 @@ fn read_text<X: Port>(
 }
 
 // Passes the blocks of a segment, which are lost where its text wasn't accepted.
-fn pass_segment<X: Port>(
+fn pass_segment<S: BlockSink, X: Port>(
+    walk: &mut Walk<S>,
     port: &mut X,
-    picture: &mut Picture,
+    blocks: &[i32],
     count: u32,
     accepted: bool,
 ) -> Result<(), Failed>
-    requires standing { IsStanding (shown picture.old) }
-    requires room { HasRoom count (shown picture.old) }
-    requires held { 64 * count ≤ (shown picture.old).room }
-    requires parts { accepted ≡ true → AreParts count (shown picture.old) }
-    ensures { PassesSegment result accepted count (X.outside port.old) (X.outside port.new) (shown picture.old) (shown picture.new) }
+    requires standing { IsStanding S.sink (walking walk.old) }
+    requires room { HasRoom count (walking walk.old) }
+    requires held { 64 * count ≤ length blocks.now }
+    requires parts { accepted ≡ true → AreBlocks count walk.old.geometry blocks.now }
+    ensures { PassesBlocks S.sink result (segment_values accepted blocks.now) count (X.outside port.old) (X.outside port.new) (walking walk.old) (walking walk.new) }
 {
     if accepted {
-        return put_blocks(port, picture, count as usize);
+        return put_blocks(walk, port, blocks, count as usize);
     }
-    lose_blocks(port, picture, u64::from(count))
+    lose_blocks(walk, port, u64::from(count))
+}
+
+/// Goes on to the first block of a segment whose head was read: the blocks before it are lost.
+pub fn reach_segment<S: BlockSink, X: Port>(
+    walk: &mut Walk<S>,
+    port: &mut X,
+    start: &SegmentStart,
+) -> Result<(), Failed>
+    requires standing { IsStanding S.sink (walking walk.old) }
+    requires next { FitsNext (walking walk.old) start.now }
+    ensures reaches { (a : Assembling) → IsAt a (walking walk.old) start.now → ReachesSegment S.sink (X.outside port.old) (X.outside port.new) a (walking walk.old) (walking walk.new) start.now result }
+    ensures runs { (w : Run) (a : Assembling) → IsAt a (walking walk.old) start.now → ComesTo S.sink w (X.outside port.old) a (walking walk.old) start.now → RunsReach S.sink w (X.outside port.new) a (walking walk.new) start.now result }
+{
+    let lost = u64::from(start.ancillary.first) - passed(walk);
+    lose_blocks(walk, port, lost)
 }
 
 /// Takes the segment that the assembly answered last: the blocks before it are lost, and its own where its text isn't accepted.
-pub fn take_segment<X: Port>(
+pub fn take_segment<S: BlockSink, X: Port>(
+    walk: &mut Walk<S>,
     port: &mut X,
     assembly: &mut Assembly,
-    picture: &mut Picture,
-    reader: &SegmentReader,
+    room: &mut SegmentRoom,
     start: &SegmentStart,
 ) -> Result<(), DecodeFault>
-    requires standing { IsStanding (shown picture.old) }
-    requires at { IsAt assembly.old (shown picture.old) start.now }
-    ensures takes { TakesSegment (X.outside port.old) (X.outside port.new) assembly.old assembly.new (shown picture.old) (shown picture.new) result }
-    ensures runs { (w : Run) → ComesTo w (X.outside port.old) assembly.old (shown picture.old) start.now → RunsSegment w (X.outside port.new) assembly.new (shown picture.new) result }
+    requires standing { IsStanding S.sink (walking walk.old) }
+    requires at { IsAt assembly.old (walking walk.old) start.now }
+    requires room { IsRoom walk.old.geometry (vec_len room.old.blocks) (vec_len room.old.marks) }
+    ensures blocks { vec_len room.new.blocks ≡ vec_len room.old.blocks }
+    ensures marks { vec_len room.new.marks ≡ vec_len room.old.marks }
+    ensures takes { TakesSegment S.sink (X.outside port.old) (X.outside port.new) assembly.old assembly.new (walking walk.old) (walking walk.new) result }
+    ensures runs { (w : Run) → ComesTo S.sink w (X.outside port.old) assembly.old (walking walk.old) start.now → RunsSegment S.sink w (X.outside port.new) assembly.new (walking walk.new) result }
 {
-    let lost = u64::from(start.ancillary.first) - picture.passed();
-    let Ok(()) = lose_blocks(port, picture, lost) else {
+    let Ok(()) = reach_segment(walk, port, start) else {
         return Err(DecodeFault::WriteFault);
     };
     let accepted = read_text(
         port,
         assembly,
-        reader,
+        &room.reader,
         &start.head,
-        &mut picture.blocks,
-        &mut picture.marks,
+        &mut room.blocks,
+        &mut room.marks,
     )?;
-    let Ok(()) = pass_segment(port, picture, start.head.blocks, accepted) else {
+    let Ok(()) = pass_segment(walk, port, &room.blocks, start.head.blocks, accepted) else {
         return Err(DecodeFault::WriteFault);
     };
     Ok(())

@@ -23,7 +23,7 @@ use Rattle.damage_rows.proofs.RangeLaws.{damaged_by}
 use Rattle.strip_decoder.specs.declared.decode.DecodeDone.{DecodeDone}
 use Rattle.strip_decoder.specs.declared.decode.DecodeFault.{DecodeFault}
 use Rattle.strip_decoder.specs.declared.decode.DecodeFault.TheVariants.{ReadFault, WriteFault, NoSegment, TooManyPixels, LongInput, Memory}
-use Rattle.strip_decoder.specs.Runs.{IsReadOut}
+use Rattle.packet_assembly.specs.Readings.{IsReadOut}
 use Rattle.strip_decoder.specs.Answers.{PictureBy, Answers, Asks, Decodes as DecodesOver}
 use Rattle.strip_decoder.specs.Finding.{IsPart, GivesSome, FindAnswers, AsksSilent, Finds}
 use Rattle.top_122.specs.Notes.{IsNoted, Notes, decoder_fault_status, decoder_fault_line}

@@ -13,7 +13,7 @@ use Rattle.stream_defs.proofs.ChosenLaws.{after_all-append}
 use Rattle.strip_decoder.specs.declared.decode.DecodeDone.{DecodeDone}
 use Rattle.strip_decoder.specs.declared.decode.DecodeFault.{DecodeFault}
 use Rattle.strip_decoder.specs.declared.decode.DecodeFault.TheVariants.{ReadFault, WriteFault, NoSegment, TooManyPixels, LongInput, Memory}
-use Rattle.strip_decoder.specs.Runs.{IsReadOut}
+use Rattle.packet_assembly.specs.Readings.{IsReadOut}
 use Rattle.packet_list.specs.declared.list.ListDone.{ListDone}
 use Rattle.packet_list.specs.declared.list.ListFault.{ListFault}
 use Rattle.packet_list.specs.declared.list.ListFault.TheVariants as list_faults

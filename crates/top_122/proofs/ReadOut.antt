@@ -10,7 +10,7 @@ use Rattle.packet_defs.specs.Packets.{joined}
 use Rattle.packet_defs.specs.Streams.{Splits, begins_packet, has_bad_version, left_over, whole_packets}
 use Rattle.packet_defs.proofs.Fronts.{version-append}
 use Rattle.packet_defs.proofs.Splits.{splits_left, splits_whole, whole_splits}
-use Rattle.strip_decoder.specs.Runs.{IsReadOut}
+use Rattle.packet_assembly.specs.Readings.{IsReadOut}
 use Rattle.strip_decoder.proofs.TextReads.{left_after}
 
 -- what was taken of an input, and the rest of it

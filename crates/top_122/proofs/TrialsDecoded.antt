@@ -18,7 +18,7 @@ use Rattle.stream_defs.specs.Output.{image_blocks, image_packets, output, packet
 use Rattle.stream_defs.specs.Places.{parts_of, AreCoded}
 use Rattle.stream_defs.proofs.SublistLaws.{all_rise}
 use Rattle.stream_defs.proofs.WholeStreams.{sublist_kept}
-use Rattle.strip_decoder.specs.Runs.{IsReadOut}
+use Rattle.packet_assembly.specs.Readings.{IsReadOut}
 use Rattle.strip_decoder.proofs.SublistPictures.{chosen_whole}
 use Rattle.top_122.proofs.ReadOut.{took_front, some_octets, left_stays}
 

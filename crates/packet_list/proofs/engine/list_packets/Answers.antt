@@ -1,9 +1,13 @@
+use Rattle.std.proofs.Common.{sym, subst}
+use Rattle.packet_list.specs.Progress.{HasListed}
 use Rattle.packet_list.proofs.Readings.{none_listed, less_left, one_listed}
 use Rattle.packet_list.proofs.Endings.{all_listed, lists_failed}
 use Rattle.packet_list.proofs.engine.list_packets.Goals as goal
 
 pub packets-init : goal.packets-init
-packets-init g c = none_listed c.args.wish.now (g.X.Port.outside c.args.port.now) c.in-Ok.assembly c.in-Ok.ensures
+packets-init g c =
+    subst (HasListed c.args.wish.now (g.X.Port.outside c.args.port.now) (g.X.Port.outside c.args.port.now) c.in-Ok.assembly 0) (sym c.new-lines.ensures)
+    (none_listed c.args.wish.now (g.X.Port.outside c.args.port.now) c.in-Ok.assembly c.in-Ok.ensures)
 
 pub packets-smaller : goal.packets-smaller
 packets-smaller g c = less_left (rw c.in-Ok-true.field-0-test at c.in-Ok-true.ensures)
@@ -15,4 +19,4 @@ pub returns-in-Ok-false : goal.returns-in-Ok-false
 returns-in-Ok-false g c = all_listed c.framing.result c.packets.invariant (rw c.in-Ok-false.field-0-test at c.in-Ok-false.ensures) c.framing.ensures.found
 
 pub returns-in-Err : goal.returns-in-Err
-returns-in-Err g c = lists_failed (g.X.Port.outside c.list_next.new.port) c.list_next.new.assembly c.in-Err.fault c.packets.invariant c.in-Err.ensures
+returns-in-Err g c = lists_failed (g.X.Port.outside c.list_next.new.port) c.list_next.new.assembly c.list_next.new.lines.bytes c.in-Err.fault c.packets.invariant c.in-Err.ensures

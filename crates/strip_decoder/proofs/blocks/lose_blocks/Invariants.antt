@@ -1,8 +1,5 @@
-use Rattle.strip_decoder.specs.Pictures.{shown}
-use Rattle.strip_decoder.specs.Steps.{HasPassed, MarksRows, AreLost}
+use Rattle.strip_decoder.specs.Steps.{walking, HasPassed, missing}
 use Rattle.strip_decoder.proofs.blocks.lose_blocks.Given as goal
 
 abbrev pub invariant-loop : goal.invariant-loop
-invariant-loop g l =
-    let p = shown l.initial.picture in
-    HasPassed (MarksRows p l.counter) (AreLost l.count p) l.counter (g.X.Port.outside l.initial.port) (g.X.Port.outside l.port) p (shown l.picture)
+invariant-loop g l = HasPassed g.S.BlockSink.sink missing l.counter (g.X.Port.outside l.initial.port) (g.X.Port.outside l.port) (walking l.initial.walk) (walking l.walk)

@@ -1,0 +1,176 @@
+-- How a stream is read on, and to its end.
+use Rattle.std.proofs.Common.{◌≡◌, ◌≤◌, ◌<◌, ◌-◌, ℕ, zero, suc, List, [], ◌∷◌, ◌++◌, length, take, refl, sym, ap, ◌∙◌, inl, inr, arith, append_assoc, length-append}
+use Rattle.std.specs.Prelude.{Bool, true, false, nat_lt, ◌==◌, Option, None, Some, Result, Ok, Err}
+use Rattle.std.proofs.lemmas.Bool.{false≢true}
+use Rattle.std.proofs.lemmas.Bool.Decides.{nat_tests}
+use Rattle.std.proofs.lemmas.List.{append-nil}
+use Rattle.bit_pipe.specs.declared.fault.InFault.{InFault}
+use Rattle.bit_pipe.specs.declared.fault.InFault.TheVariants as in_faults
+use Rattle.port_122.specs.Outside.{Outside, Since, IsUsedUp}
+use Rattle.port_122.proofs.Stretches.{each_of_both, at_end_later}
+use Rattle.packet_defs.specs.Packets.{joined}
+use Rattle.packet_defs.specs.Tests.{when, first_of}
+use Rattle.packet_defs.specs.declared.packet.Framing.{Framing}
+use Rattle.packet_defs.specs.declared.packet.Framing.TheVariants.{BadVersion}
+use Rattle.packet_defs.specs.declared.packet.PacketRead.{PacketRead}
+use Rattle.packet_defs.specs.declared.packet.PacketRead.TheVariants.{Fault}
+use Rattle.packet_defs.specs.Streams.{IsPacket, Splits, has_bad_version, begins_packet, whole_packets, left_over, place_after, framing_at, framing}
+use Rattle.packet_defs.proofs.Joins.{joined-append}
+use Rattle.packet_defs.proofs.Splits.{splits_whole, splits_left}
+use Rattle.stream_defs.specs.declared.fate.FateState.{FateState}
+use Rattle.stream_defs.specs.Fates.{fresh, after_all}
+use Rattle.stream_defs.proofs.ChosenLaws.{after_all-append}
+use Rattle.space_packets.specs.Intake.{verdict, end_read, place_of}
+use Rattle.packet_assembly.specs.Assembling.{Assembling, Passes, unread_assembly}
+use Rattle.packet_assembly.specs.Segments.{StandsEnded, StandsLong}
+use Rattle.packet_assembly.specs.Passing.{before_loses}
+use Rattle.packet_assembly.specs.Readings.{HasRead, SawEnd, IsReadOut}
+use Rattle.packet_assembly.proofs.Verdicts.{is_over, over_read, long_read}
+
+-- ---- further
+
+-- nothing was read yet
+pub none_read : (apid cap : ℕ) → HasRead apid cap (unread_assembly apid cap) [] []
+none_read apid cap = record { apid = refl; taken = refl; cap = refl; capped = omega arith; octets_are = refl; packets_are = tt; state = refl; count = refl }
+
+pub read_on : {P : FateState → Type 0} {old new : Outside} {a b : Assembling} {took : List ℕ} {passed went : List (List ℕ)} (apid cap : ℕ) → HasRead apid cap a took passed → (q : Passes P old new a b went) →
+    HasRead apid cap b (took ++ q.took) (passed ++ went)
+read_on {a = a} {b = b} {took = took} {passed = passed} {went = went} apid cap read q = record {
+  apid = q.apid ∙ read.apid;
+  taken = omega (arith, q.taken, read.taken, length-append took q.took);
+  cap = q.cap ∙ read.cap;
+  capped = q.capped read.capped;
+  octets_are = ap (λ zs. zs ++ q.took) read.octets_are ∙ append_assoc (joined passed) a.intake.pending q.took ∙ ap (λ zs. joined passed ++ zs) q.octets_are
+      ∙ sym (append_assoc (joined passed) (joined went) b.intake.pending) ∙ ap (λ zs. zs ++ b.intake.pending) (sym (joined-append passed went));
+  packets_are = each_of_both IsPacket passed went read.packets_are q.packets_are;
+  state = q.state ∙ ap (λ n. after_all n a.state went) read.apid ∙ ap (λ s. after_all apid s went) read.state ∙ sym (after_all-append apid fresh passed went);
+  count = omega (arith, q.count, read.count, length-append passed went);
+}
+
+-- no more octets were taken than the cap lets
+pub read_within : {apid cap : ℕ} {a : Assembling} {took : List ℕ} {passed : List (List ℕ)} → HasRead apid cap a took passed → length took ≤ cap
+read_within read = omega (arith, read.taken, read.cap, read.capped)
+
+-- ---- the end
+
+-- octets of which none are left
+nothing_more : (took rest : List ℕ) → length (took ++ rest) ≡ length took → rest ≡ []
+nothing_more took [] e = refl
+nothing_more took (x ∷ rest) e = absurd (omega (arith, e, length-append took (x ∷ rest)))
+
+all_nothing : (took rest : List ℕ) → took ++ rest ≡ [] → (rest ≡ []) × (length took ≡ 0)
+all_nothing [] rest e = (e, refl)
+all_nothing (x ∷ took) rest e = absurd (let long = ap length e in omega (arith, long))
+
+take_all : (k : ℕ) (xs : List ℕ) → length xs ≤ k → take k xs ≡ xs
+take_all zero [] le = refl
+take_all (suc k) [] le = refl
+take_all zero (x ∷ xs) le = absurd (omega arith)
+take_all (suc k) (x ∷ xs) le = ap (λ zs. x ∷ zs) (take_all k xs (omega (arith, le)))
+
+-- where the end was seen, nothing is left
+pub end_on : {P : FateState → Type 0} {old new : Outside} {a b : Assembling} {went : List (List ℕ)} → (q : Passes P old new a b went) → SawEnd old a → SawEnd new b
+end_on {old = old} {new = new} {a = a} {b = b} {went = went} q before rest told ended = by a.intake.ended refl
+  where
+    less : (m k : ℕ) → nat_lt m k ≡ true → m < k
+    less m k e = grind (arith, nat_tests)
+
+    by : (c : Bool) → a.intake.ended ≡ c → (rest ≡ []) × (b.intake.taken < b.intake.cap)
+    by true e =
+        let early = before (q.took ++ rest) (before_loses old.rest new.rest q.took rest q.since.rest told) e in
+        let none = all_nothing q.took rest early.0 in
+        (none.0, omega (arith, none.1, early.1, q.taken, q.cap))
+    by false e =
+        let n : ℕ = a.intake.cap - a.intake.taken in
+        let sees : nat_lt (length (q.took ++ rest)) n ≡ true = rw (e, ended) at (q.sees rest told) in
+        let fewer : length (q.took ++ rest) < n = less (length (q.took ++ rest)) n sees in
+        let comes : a.intake.pending ++ take n (q.took ++ rest) ≡ joined went ++ (b.intake.pending ++ []) = rw (e, ended) at (q.comes rest told) in
+        let all : take n (q.took ++ rest) ≡ q.took ++ rest = take_all n (q.took ++ rest) (omega (arith, fewer)) in
+        let long = ap length comes in
+        let short = ap length q.octets_are in (
+          nothing_more q.took rest (omega (arith, long, short, ap length all, length-append a.intake.pending (take n (q.took ++ rest)), length-append a.intake.pending q.took, length-append (joined went) (b.intake.pending ++ []), length-append (joined went) b.intake.pending, ap length (append-nil b.intake.pending))),
+          omega (arith, fewer, length-append q.took rest, q.taken, q.cap),
+        )
+
+-- what stood after octets were written stands so
+pub end_later : {Q : ℕ → ℕ → Type 0} {now new : Outside} {g : List ℕ} (a : Assembling) → Since now new [] g [] Q → SawEnd now a → SawEnd new a
+end_later {now = now} {new = new} a out before rest told = before rest (before_loses now.rest new.rest [] rest out.rest told)
+
+pub out_later : {Q : ℕ → ℕ → Type 0} {g : List ℕ} (cap : ℕ) (now new : Outside) (took : List ℕ) → Since now new [] g [] Q → IsReadOut cap now took → IsReadOut cap new took
+out_later cap now new took since (inl bad) = inl bad
+out_later cap now new took since (inr over) = inr (at_end_later since over.0, λ rest told. over.1 rest (before_loses now.rest new.rest [] rest since.rest told))
+
+-- ---- the packets of the octets that were taken
+
+end_is_over : (o : Option Framing) → is_over (end_read o) ≡ true
+end_is_over None = refl
+end_is_over (Some fault) = refl
+
+-- what is answered at the end
+abbrev end_answer : Option Framing → Option (Result PacketRead InFault)
+end_answer found = Some (Ok (end_read found))
+
+same_end : (a b : Option Framing) → end_answer a ≡ end_answer b → a ≡ b
+same_end None None e = refl
+same_end (Some x) (Some y) e = cc
+same_end None (Some y) e = absurd cc
+same_end (Some x) None e = absurd cc
+
+abbrev answer_by : (bad begins ended full : Bool) (place : ℕ) (left : List ℕ) (read : PacketRead) → Option (Result PacketRead InFault)
+answer_by bad begins ended full place left read =
+    first_of (when bad (Ok (Fault (BadVersion place))) ∷ when begins (Ok read) ∷ when ended (Ok (end_read (framing_at place left))) ∷ when full (Err in_faults.LongInput) ∷ [])
+
+-- why it ended
+by_tests : (bad begins ended full : Bool) (place : ℕ) (left : List ℕ) (read : PacketRead) (found : Option Framing) → has_bad_version left ≡ bad → begins ≡ false → answer_by bad begins ended full place left read ≡ end_answer found → found ≡ framing_at place left
+unfolding framing_at
+by_tests true begins ended full place left read found bad none e = sym (same_end (Some (BadVersion place)) found e) ∙ rw bad refl
+by_tests false true ended full place left read found bad none e = absurd (false≢true (sym none))
+by_tests false false true full place left read found bad none e = sym (same_end (framing_at place left) found e)
+by_tests false false false true place left read found bad none e = absurd cc
+by_tests false false false false place left read found bad none e = absurd cc
+
+module _ {apid cap : ℕ} {b : Assembling} {took : List ℕ} {passed : List (List ℕ)} (read : HasRead apid cap b took passed) where
+  -- where no whole packet waits
+  splits_so : begins_packet b.intake.pending ≡ false → Splits took passed b.intake.pending
+  splits_so none = record { octets_are = read.octets_are; packets_are = read.packets_are; none_left = none }
+
+  pub whole_so : begins_packet b.intake.pending ≡ false → whole_packets took ≡ passed
+  whole_so none = splits_whole (splits_so none)
+
+  -- none waits at the end
+  pub ended_none : StandsEnded b → begins_packet b.intake.pending ≡ false
+  ended_none ended = (over_read b.apid b.intake (end_read b.framing) (end_is_over b.framing) ended).0
+
+  -- so the packets of the octets that were taken are those that were passed
+  pub ended_packets : StandsEnded b → whole_packets took ≡ passed
+  ended_packets ended = whole_so (ended_none ended)
+
+  pub ended_framing : StandsEnded b → b.framing ≡ framing took
+  unfolding verdict
+  ended_framing ended =
+      let v = b.intake in
+      let splits = splits_so (ended_none ended) in
+      let place : place_after took ≡ place_of v = ap (λ xs. length (joined xs)) (splits_whole splits) ∙ (let size = ap length read.octets_are in omega (arith, size, length-append (joined passed) v.pending, read.taken)) in
+      by_tests (has_bad_version v.pending) (begins_packet v.pending) v.ended (v.taken == v.cap) (place_of v) v.pending _ b.framing refl (ended_none ended) ended
+      ∙ ap (λ n. framing_at n v.pending) (sym place) ∙ ap (framing_at (place_after took)) (sym (splits_left splits))
+
+  -- the end was read, or what can't be read on
+  pub ended_out : (now : Outside) → StandsEnded b → SawEnd now b → IsReadOut cap now took
+  ended_out now ended at_end = elim (over_read b.apid b.intake (end_read b.framing) (end_is_over b.framing) ended).1 [
+    | inl bad ↦ inl (ap has_bad_version (splits_left (splits_so (ended_none ended))) ∙ bad)
+    | inr seen ↦ inr (used_up now.rest (λ rest told. (at_end rest told seen).0), λ rest told. let fewer = (at_end rest told seen).1 in omega (arith, fewer, read.taken, read.cap))
+  ]
+    where
+      used_up : (o : Option (List ℕ)) → ((rest : List ℕ) → o ≡ Some rest → rest ≡ []) → IsUsedUp o
+      used_up None none = tt
+      used_up (Some rest) none = none rest refl
+
+  -- so it is where all octets that the cap lets were taken; then they can be read on
+  pub long_packets : StandsLong b → whole_packets took ≡ passed
+  long_packets long = whole_so (long_read b.apid b.intake in_faults.LongInput long).none
+
+  pub long_good : StandsLong b → has_bad_version (left_over took) ≡ false
+  long_good long = let at = long_read b.apid b.intake in_faults.LongInput long in ap has_bad_version (splits_left (splits_so at.none)) ∙ at.good
+
+  pub long_full : StandsLong b → length took ≡ cap
+  long_full long = let full = (long_read b.apid b.intake in_faults.LongInput long).full in omega (arith, full, read.taken, read.cap)

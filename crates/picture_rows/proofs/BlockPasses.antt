@@ -1,0 +1,242 @@
+-- A block of a picture that is passed.
+use Rattle.std.proofs.Common.{◌≡◌, ◌<◌, ◌≤◌, ◌+◌, ◌*◌, ◌/◌, ◌*ℤ◌, ℕ, ℤ, pos, List, [], ◌++◌, take, get_or, refl, sym, ap, subst, ◌∙◌, arith, inl, inr}
+use Rattle.std.specs.Prelude.{Result, Ok, Err}
+use Rattle.std.proofs.lemmas.Bool.{cases_lt}
+use Rattle.std.proofs.lemmas.List.{append-nil}
+use Rattle.std.proofs.lemmas.Nat.{div-mul-add}
+use Rattle.port_122.specs.Outside.{Outside, NoRead}
+use Rattle.port_122.proofs.Stretches.{since_start}
+use Rattle.base_122.specs.Sizes.{block_count, padded_size}
+use Rattle.base_122.specs.declared.geometry.Geometry.{Geometry}
+use Rattle.wave_defs.specs.Pyramid.{Pyramid}
+use Rattle.wave_defs.specs.Blocks.{Place, place_of, block_side, weight_at}
+use Rattle.wave_defs.proofs.BlockLaws.{place_of-is_place}
+use Rattle.block_families.specs.Places.{place_in, Scatters}
+use Rattle.inverse_strip.specs.declared.strip.StripInverse.{StripInverse}
+use Rattle.inverse_strip.specs.Strip.{columns_of, height_of, taken_of, next_of, numbers_of, FollowStrip, IsNext, Keeps}
+use Rattle.inverse_strip.proofs.NextLemmas.{IsNext-blocks}
+use Rattle.picture_rows.specs.declared.picture.PictureAt.{PictureAt}
+use Rattle.picture_rows.specs.Fronts.{bands_of, rows_of}
+use Rattle.picture_rows.specs.Pictures.{Shown, IsSized, IsStanding, StandsFor, HasRoom, passed_in}
+use Rattle.picture_rows.specs.Steps.{GoesOn, BreaksOff, StoodFor, HasNone, HasNextSet, HasNextNumbers, HasPassed, PassesBlock, GivesRows}
+use Rattle.picture_rows.proofs.BandBlocks.{coefficient_with, part_is, zero_is}
+use Rattle.picture_rows.proofs.RowGives.{goes_then, breaks_then}
+
+-- ---- past one block
+
+-- the next block is in a block row of the picture
+pub row_there : (p : Shown) → IsSized p → HasRoom p → p.at.row < block_count p.geometry.rows
+row_there p sized room = elim (cases_lt p.at.row (block_count p.geometry.rows)) [
+  | inl lt ↦ lt
+  | inr ge ↦ absurd (
+      let all : p.at.row ≡ block_count p.geometry.rows = omega (arith, ge, sized.rows) in
+      let none = sized.none all in
+      let most : block_count p.geometry.width * block_count p.geometry.rows ≡ p.at.row * block_count p.geometry.width = rw all grind arith in
+      omega (arith, most, room, none))
+]
+
+-- the picture at another column
+abbrev pub at_column : Shown → ℕ → Shown
+at_column p column = record p { at = record p.at { column = column } }
+
+-- the columns of blocks as the code has them
+pub columns_are : (g : Geometry) (n : ℕ) → n ≡ padded_size g.width → {k : ℕ} → k < n / 8 → k < block_count g.width
+columns_are g n e lt = omega (arith, e, lt)
+
+pub columns_end : (g : Geometry) (n : ℕ) → n ≡ padded_size g.width → {k : ℕ} → n / 8 ≤ k → block_count g.width ≤ k
+columns_end g n e le = omega (arith, e, le)
+
+-- within its block row
+pub column_passed : (p : Shown) (a : Outside) → IsStanding p → HasRoom p → p.at.column + 1 < block_count p.geometry.width →
+    HasPassed (HasNextSet p) a a p (at_column p (p.at.column + 1))
+column_passed p a standing room lt =
+    let sized = standing.sized in
+    let inside = row_there p sized room in
+    record {
+      standing = record {
+        sized = record {
+          range = sized.range;
+          columns = sized.columns;
+          height = sized.height;
+          taken = sized.taken;
+          next = sized.next;
+          rows = sized.rows;
+          column = lt;
+          none = λ e. absurd (omega (arith, e, inside));
+        };
+        idle = standing.idle;
+      };
+      geometry = refl;
+      count = omega arith;
+      goes = record {
+        gave = [];
+        out = since_start a NoRead;
+        follows = λ numbers set. record { strip = set.strip; set = set.set; unset = set.unset };
+        given = λ numbers set. append-nil (rows_of p.geometry numbers p.at.next);
+      };
+    }
+
+-- ---- a whole block row
+
+-- a strip took the block row that was set next
+pub record RowTaken (s t : StripInverse) : Type 0 where
+  pub height : height_of t ≡ height_of s
+  pub width : columns_of t ≡ columns_of s
+  pub taken : taken_of t ≡ taken_of s + 1
+  pub next : next_of t ≡ next_of s
+  pub zero : (q : Place) → numbers_of t q ≡ pos 0
+  pub follows : (p : Pyramid) (r : ℕ) → FollowStrip p r s → IsNext p (taken_of s) s → FollowStrip p r t
+
+-- the picture past its block row
+abbrev pub past_row : Shown → StripInverse → Shown
+past_row p strip = record p { strip = strip; at = record p.at { column = 0; row = p.at.row + 1 } }
+
+module _ (p : Shown) (t : StripInverse) (standing : IsStanding p) (room : HasRoom p) (last : block_count p.geometry.width ≤ p.at.column + 1) (pushed : RowTaken p.strip t) where
+  full : p.at.column + 1 ≡ block_count p.geometry.width
+  full = let column = standing.sized.column in omega (arith, column, last)
+
+  row_stands : (numbers : ℕ → ℕ → ℤ) → HasNextSet p numbers → StandsFor numbers (past_row p t)
+  row_stands numbers set =
+      let sized = standing.sized in
+      let bands = bands_of p.geometry numbers in
+      let next : IsNext bands p.at.row p.strip = IsNext-blocks bands p.at.row p.strip (λ column i lt small. set.set column i (omega (arith, lt, p.strip.next_wide, sized.columns, full)) small) in
+      record {
+        strip = pushed.follows bands (block_count p.geometry.rows) set.strip (subst (λ n. IsNext bands n p.strip) (sym sized.taken) next);
+        set = λ column i lt small. absurd (omega (arith, lt));
+        unset = λ column i le lt small. pushed.zero _;
+      }
+
+  row_goes : (a : Outside) → GoesOn (HasNextSet p) a a p (past_row p t)
+  row_goes a = record {
+    gave = [];
+    out = since_start a NoRead;
+    follows = row_stands;
+    given = λ numbers set. append-nil (rows_of p.geometry numbers p.at.next);
+  }
+
+  -- and the rows were given that come with it
+  pub row_passed : (a b : Outside) (z : Shown) → HasNone a b (past_row p t) z → HasPassed (HasNextSet p) a b p z
+  row_passed a b z rows =
+      let same = rows.same in
+      let geometry = same.geometry in
+      let passed : passed_in z ≡ (p.at.row + 1) * block_count p.geometry.width + 0 =
+      ap (λ (g : Geometry). z.at.row * block_count g.width + z.at.column) geometry ∙ ap (λ n. n * block_count p.geometry.width + z.at.column) same.row ∙ ap (λ n. (p.at.row + 1) * block_count p.geometry.width + n) same.column in
+      let more : (p.at.row + 1) * block_count p.geometry.width ≡ p.at.row * block_count p.geometry.width + block_count p.geometry.width = grind arith in
+      record {
+        standing = rows.standing;
+        geometry = geometry;
+        count = omega (arith, passed, more, full);
+        goes = goes_then refl (λ numbers before stands. stands) (row_goes a) rows.goes;
+      }
+
+  pub row_broke : (a b : Outside) → BreaksOff (StoodFor (past_row p t)) a b (past_row p t) → BreaksOff (HasNextSet p) a b p
+  row_broke a b broken = breaks_then refl (λ numbers before stands. stands) (row_goes a) broken
+
+  pub rows_passed : {T E : Type 0} (r : Result T E) (a b : Outside) (z : Shown) → GivesRows r a b (past_row p t) z → PassesBlock r (HasNextSet p) a b p z
+  rows_passed (Ok x) a b z rows = row_passed a b z rows
+  rows_passed (Err e) a b z broken = row_broke a b broken
+
+-- ---- a block whose numbers are known
+
+-- so they are set
+passes_set : {T E : Type 0} {B C : (ℕ → ℕ → ℤ) → Type 0} (r : Result T E) (p q z : Shown) (a b : Outside) → q.geometry ≡ p.geometry → q.at ≡ p.at → ((numbers : ℕ → ℕ → ℤ) → B numbers → C numbers) → PassesBlock r C a b q z → PassesBlock r B a b p z
+passes_set {B = B} {C = C} (Ok x) p q z a b same at f passed = record {
+  standing = passed.standing;
+  geometry = passed.geometry ∙ same;
+  count = passed.count ∙ ap (λ (h : Geometry). q.at.row * block_count h.width + q.at.column + 1) same ∙ ap (λ (x : PictureAt). x.row * block_count p.geometry.width + x.column + 1) at;
+  goes = record {
+    gave = passed.goes.gave;
+    out = passed.goes.out;
+    follows = λ numbers known. passed.goes.follows numbers (f numbers known);
+    given = λ numbers known.
+        subst (λ (x : PictureAt). rows_of p.geometry numbers x.next ++ passed.goes.gave ≡ rows_of p.geometry numbers z.at.next) at
+        (subst (λ g. rows_of g numbers q.at.next ++ passed.goes.gave ≡ rows_of g numbers z.at.next) same (passed.goes.given numbers (f numbers known)));
+  };
+}
+passes_set {B = B} {C = C} (Err e) p q z a b same at f broken = record {
+  gave = broken.gave;
+  out = broken.out;
+  rose = broken.rose;
+  given = λ numbers known.
+      let there = broken.given numbers (f numbers known) in (
+        there.0,
+        subst (λ (x : PictureAt). rows_of p.geometry numbers x.next ++ broken.gave ≡ take there.0 (rows_of p.geometry numbers p.geometry.rows)) at
+            (subst (λ (g : Geometry). rows_of g numbers q.at.next ++ broken.gave ≡ take there.0 (rows_of g numbers g.rows)) same there.1),
+      );
+}
+
+-- ---- a lost block
+
+-- a block whose numbers are 0 was set
+pub zero_set : (p : Shown) → IsStanding p → (numbers : ℕ → ℕ → ℤ) → HasNextNumbers [] p numbers → HasNextSet p numbers
+zero_set p standing numbers lost =
+    let g = p.geometry in
+    let stands = lost.stands in
+    let column_in = standing.sized.column in
+    record {
+      strip = stands.strip;
+      set = λ column i lt small. elim (cases_lt column p.at.column) [
+        | inl before ↦ stands.set column i before small
+        | inr from ↦
+            let here : column ≡ p.at.column = omega (arith, lt, from) in
+            let none : numbers (p.at.row * block_count g.width + column) i ≡ pos 0 = ap (λ n. numbers n i) (omega (arith, here)) ∙ lost.next i small in
+            stands.unset column i from (omega (arith, here, column_in)) small
+            ∙ zero_is g.weights.shifts i (numbers (p.at.row * block_count g.width + column) i) standing.sized.range.weights none
+            ∙ sym (coefficient_with numbers (block_count g.width) g.weights.shifts p.at.row column i small)
+      ];
+      unset = λ column i le lt small. stands.unset column i (omega (arith, le)) lt small;
+    }
+
+pub block_loses : {T E : Type 0} (r : Result T E) (p z : Shown) (a b : Outside) → IsStanding p → PassesBlock r (HasNextSet p) a b p z → PassesBlock r (HasNextNumbers [] p) a b p z
+block_loses r p z a b standing passed = passes_set r p p z a b refl refl (zero_set p standing) passed
+
+-- ---- a block that was put
+
+-- two blocks of a block row have no place in common
+apart : (c d i j : ℕ) → i < 64 → j < 64 → place_in c i ≡ place_in d j → c ≡ d
+apart c d i j hi hj same =
+    let p = place_of i in
+    let q = place_of j in
+    let band : p.band ≡ q.band = ap (λ (x : Place). x.band) same in
+    let side : block_side p.band ≡ block_side q.band = ap block_side band in
+    let columns : block_side p.band * c + p.column ≡ block_side q.band * d + q.column = ap (λ (x : Place). x.column) same in
+    let across : (n k : ℕ) → n * k ≡ k * n = λ n k. grind arith in
+    let first : c ≡ (block_side p.band * c + p.column) / block_side p.band =
+    sym (ap (λ n. (n + p.column) / block_side p.band) (across (block_side p.band) c) ∙ div-mul-add c (block_side p.band) p.column (place_of-is_place i hi).column) in
+    let second : (block_side q.band * d + q.column) / block_side q.band ≡ d =
+    ap (λ n. (n + q.column) / block_side q.band) (across (block_side q.band) d) ∙ div-mul-add d (block_side q.band) q.column (place_of-is_place j hj).column in
+    first ∙ ap (λ n. n / block_side p.band) columns ∙ ap (λ n. (block_side q.band * d + q.column) / n) side ∙ second
+
+-- the picture with another strip
+abbrev pub with_strip : Shown → StripInverse → Shown
+with_strip p strip = record p { strip = strip }
+
+module _ (p : Shown) (t : StripInverse) (xs : List ℤ) (standing : IsStanding p) (room : HasRoom p) (keeps : Keeps p.strip t)
+    (scattered : Scatters (numbers_of p.strip) (numbers_of t) p.geometry.weights.shifts p.at.column xs) where
+  -- another block has the numbers that it had
+  stays : (column i : ℕ) → i < 64 → (column ≡ p.at.column → ⊥) → numbers_of t (place_in column i) ≡ numbers_of p.strip (place_in column i)
+  stays column i small other = scattered.others (place_in column i) (λ j lt same. other (apart column p.at.column i j small lt same))
+
+  pub block_set : (numbers : ℕ → ℕ → ℤ) → HasNextNumbers xs p numbers → HasNextSet (with_strip p t) numbers
+  block_set numbers held =
+      let g = p.geometry in
+      let stands = held.stands in
+      record {
+        strip = keeps.follows _ _ stands.strip;
+        set = λ column i lt small. elim (cases_lt column p.at.column) [
+          | inl before ↦ stays column i small (λ e. absurd (omega (arith, e, before))) ∙ stands.set column i before small
+          | inr from ↦
+              let here : column ≡ p.at.column = omega (arith, lt, from) in
+              let at : p.at.row * block_count g.width + column ≡ passed_in p = omega (arith, here) in
+              let value : numbers (p.at.row * block_count g.width + column) i ≡ get_or xs i (pos 0) =
+              ap (λ n. numbers n i) at ∙ held.next i small in
+              let whole : numbers_of t (place_in column i) *ℤ weight_at g.weights.shifts i ≡ numbers (p.at.row * block_count g.width + column) i =
+              ap (λ n. numbers_of t (place_in n i) *ℤ weight_at g.weights.shifts i) here ∙ scattered.block i small ∙ sym value in
+              part_is g.weights.shifts i (numbers_of t (place_in column i)) (numbers (p.at.row * block_count g.width + column) i) standing.sized.range.weights whole
+              ∙ sym (coefficient_with numbers (block_count g.width) g.weights.shifts p.at.row column i small)
+        ];
+        unset = λ column i le lt small. stays column i small (λ e. absurd (omega (arith, e, le))) ∙ stands.unset column i (omega (arith, le)) lt small;
+      }
+
+  pub block_puts : {T E : Type 0} (r : Result T E) (a b : Outside) (z : Shown) → PassesBlock r (HasNextSet (with_strip p t)) a b (with_strip p t) z → PassesBlock r (HasNextNumbers xs p) a b p z
+  block_puts r a b z passed = passes_set r p (with_strip p t) z a b refl refl block_set passed

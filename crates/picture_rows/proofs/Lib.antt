@@ -1,0 +1,4 @@
+pub mod BandBlocks
+pub mod RowGives
+pub mod BlockPasses
+pub mod RowsOut

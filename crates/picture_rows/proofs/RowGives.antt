@@ -1,0 +1,294 @@
+-- A row of a picture that is made and given.
+use Rattle.std.proofs.Common.{◌≡◌, ◌<◌, ◌≤◌, ◌+◌, ◌-◌, ◌*◌, ℕ, ℤ, Bool, List, [], ◌∷◌, ◌++◌, length, take, map, refl, sym, ap, subst, ◌∙◌, arith, ⊎_elim, append_assoc}
+use Rattle.std.specs.Prelude.{min, Result, Ok, Err, IsErr}
+use Rattle.std.proofs.lemmas.Bool.{false≢true}
+use Rattle.std.specs.List.{range_with_len}
+use Rattle.std.proofs.lemmas.List.{append-nil, take-append-le}
+use Rattle.std.proofs.Math.Seq.{take-append-add}
+use Rattle.std.proofs.lemmas.List.FromFn.{take-map-range_with_len}
+use Rattle.port_122.specs.Outside.{Outside, Since, NoRead, Rose}
+use Rattle.port_122.proofs.Stretches.{since_start, since_out, rose_since}
+use Rattle.base_122.specs.Sizes.{block_count}
+use Rattle.base_122.specs.declared.geometry.Geometry.{Geometry}
+use Rattle.wave_defs.specs.Held.{Agrees, signal}
+use Rattle.wave_defs.specs.Pyramid.{Pyramid, rebuilt}
+use Rattle.wave_defs.specs.Blocks.{Place}
+use Rattle.wave_defs.proofs.BlockLaws.{table_of}
+use Rattle.raster_rows.specs.Pixels.{pixel_octets, clamped, raster_octets}
+use Rattle.raster_rows.proofs.RasterLaws.{row_pixels, rows_from}
+use Rattle.raster_rows.proofs.MadeLaws.{raster_octets-more, rows_from-append}
+use Rattle.stream_defs.specs.Picture.{picture_with}
+use Rattle.inverse_strip.specs.declared.strip.StripInverse.{StripInverse}
+use Rattle.inverse_strip.specs.Strip.{columns_of, height_of, taken_of, next_of, numbers_of, row_of, FollowStrip}
+use Rattle.inverse_strip.specs.Kept.{IsCompletion, HasNext, IsIdle}
+use Rattle.picture_rows.specs.Fronts.{bands_of, rows_of}
+use Rattle.picture_rows.specs.Pictures.{Shown, IsSized, StandsTo, StandsFor}
+use Rattle.picture_rows.specs.Steps.{GoesOn, BreaksOff, StoodFor, SameBut, HasGiven, HasNone, HasGivenSome, GivesRow, GivesRows}
+
+-- ---- the first rows as octets
+
+module _ (g : Geometry) (numbers : ℕ → ℕ → ℤ) (n : ℕ) where
+  abbrev row_octets : List ℕ
+  row_octets = pixel_octets g.depth (row_pixels g.width (picture_with g numbers n))
+
+  -- one row more
+  pub front-more : n < g.rows → rows_of g numbers (n + 1) ≡ rows_of g numbers n ++ row_octets
+  unfolding rows_of
+  front-more lt =
+      let now : min n g.rows ≡ n = omega arith in
+      let next : min (n + 1) g.rows ≡ n + 1 = omega arith in
+      ap (λ k. raster_octets g.depth k g.width (picture_with g numbers)) next
+      ∙ raster_octets-more g.depth n g.width (picture_with g numbers)
+      ∙ ap (λ k. raster_octets g.depth k g.width (picture_with g numbers) ++ row_octets) (sym now)
+
+  -- rows that pad the picture aren't given
+  pub front-same : g.rows ≤ n → rows_of g numbers (n + 1) ≡ rows_of g numbers n
+  unfolding rows_of
+  front-same le =
+      let e : min (n + 1) g.rows ≡ min n g.rows = omega arith in
+      ap (λ k. raster_octets g.depth k g.width (picture_with g numbers)) e
+
+-- the first rows begin the picture
+pub front-begins : (g : Geometry) (numbers : ℕ → ℕ → ℤ) (n : ℕ) → (more : List ℕ) × (rows_of g numbers g.rows ≡ rows_of g numbers n ++ more)
+unfolding rows_of
+front-begins g numbers n =
+    let k = min n g.rows in
+    let image = picture_with g numbers in
+    let all : min g.rows g.rows ≡ k + (g.rows - k) = omega arith in
+    (rows_from g.depth g.width image (0 + k) (g.rows - k), ap (λ m. raster_octets g.depth m g.width image) all ∙ rows_from-append g.depth g.width image 0 k (g.rows - k))
+
+-- a part of what comes after the first rows
+pub front-part : (g : Geometry) (numbers : ℕ → ℕ → ℤ) (n m : ℕ) (octets more : List ℕ) → rows_of g numbers g.rows ≡ rows_of g numbers n ++ (octets ++ more) → m ≤ length octets →
+    (some : ℕ) × (rows_of g numbers n ++ take m octets ≡ take some (rows_of g numbers g.rows))
+front-part g numbers n m octets more whole le =
+    let before = rows_of g numbers n in
+    (length before + m, sym (ap (take (length before + m)) whole ∙ take-append-add before (octets ++ more) m ∙ ap (λ zs. before ++ zs) (take-append-le m octets more le)))
+
+-- ---- a row's octets
+
+-- the octets of the row that was made are those of the picture
+made_octets : (g : Geometry) (numbers : ℕ → ℕ → ℤ) (n columns : ℕ) (row : List ℤ) → columns ≡ block_count g.width → length row ≡ 8 * columns →
+    Agrees (8 * columns) (signal row) (rebuilt (bands_of g numbers) (block_count g.rows) columns n) →
+    pixel_octets g.depth (map (clamped g.depth g.signed) (take g.width row)) ≡ pixel_octets g.depth (row_pixels g.width (picture_with g numbers n))
+unfolding picture_with
+made_octets g numbers n columns row wide long made =
+    let c = block_count g.width in
+    let f = rebuilt (bands_of g numbers) (block_count g.rows) columns n in
+    let table : row ≡ map f (range_with_len 0 (length row)) = table_of row f (subst (λ k. Agrees k (signal row) f) (sym long) made) in
+    let within : g.width ≤ length row = omega (arith, long, wide) in
+    let first : take g.width row ≡ map f (range_with_len 0 g.width) = ap (take g.width) table ∙ take-map-range_with_len f 0 (length row) g.width within in
+    ap (λ xs. pixel_octets g.depth (map (clamped g.depth g.signed) xs)) first
+    ∙ ap (pixel_octets g.depth) (both (clamped g.depth g.signed) f (range_with_len 0 g.width))
+    ∙ ap (λ k. pixel_octets g.depth (map (λ j. clamped g.depth g.signed (rebuilt (bands_of g numbers) (block_count g.rows) k n j)) (range_with_len 0 g.width))) wide
+  where
+    both : (h : ℤ → ℤ) (f : ℕ → ℤ) (xs : List ℕ) → map h (map f xs) ≡ map (λ j. h (f j)) xs
+    both h f [] = refl
+    both h f (x ∷ xs) = ap (λ ys. h (f x) ∷ ys) (both h f xs)
+
+-- ---- steps of the strip
+
+-- one row more was made
+pub record RowMade (s t : StripInverse) : Type 0 where
+  pub height : height_of t ≡ height_of s
+  pub width : columns_of t ≡ columns_of s
+  pub taken : taken_of t ≡ taken_of s
+  pub next : next_of t ≡ next_of s + 1
+  pub could : HasNext (taken_of s) (next_of s) (height_of s)
+  pub numbers : (q : Place) → numbers_of t q ≡ numbers_of s q
+  pub follows : (p : Pyramid) (r : ℕ) → IsCompletion (taken_of s) (height_of s) r → FollowStrip p r s → FollowStrip p r t
+  pub value : (p : Pyramid) (r : ℕ) → IsCompletion (taken_of s) (height_of s) r → FollowStrip p r s →
+      Agrees (8 * columns_of s) (signal (row_of t)) (rebuilt p r (columns_of s) (next_of s))
+
+-- none was left to make
+pub record NoneMade (s t : StripInverse) : Type 0 where
+  pub height : height_of t ≡ height_of s
+  pub width : columns_of t ≡ columns_of s
+  pub taken : taken_of t ≡ taken_of s
+  pub next : next_of t ≡ next_of s
+  pub idle : IsIdle (taken_of t) (next_of t) (height_of t)
+  pub numbers : (q : Place) → numbers_of t q ≡ numbers_of s q
+  pub follows : (p : Pyramid) (r : ℕ) → IsCompletion (taken_of s) (height_of s) r → FollowStrip p r s → FollowStrip p r t
+
+-- the picture with another strip and next row
+abbrev pub stepped : Shown → StripInverse → ℕ → Shown
+stepped p strip next = record p { strip = strip; at = record p.at { next = next } }
+
+completes : (p : Shown) → IsSized p → IsCompletion (taken_of p.strip) (height_of p.strip) (block_count p.geometry.rows)
+completes p sized =
+    let rows = sized.rows in
+    let taken = sized.taken in
+    record { more = omega (arith, rows, taken); whole = λ _. sym sized.height }
+
+sized_on : (p : Shown) (t : StripInverse) (next : ℕ) → IsSized p → height_of t ≡ height_of p.strip → columns_of t ≡ columns_of p.strip → taken_of t ≡ taken_of p.strip → next_of t ≡ next → IsSized (stepped p t next)
+sized_on p t next sized height width taken given = record {
+  range = sized.range;
+  columns = width ∙ sized.columns;
+  height = height ∙ sized.height;
+  taken = taken ∙ sized.taken;
+  next = given;
+  rows = sized.rows;
+  column = sized.column;
+  none = sized.none;
+}
+
+stands_on : (p : Shown) (t : StripInverse) (next columns : ℕ) (numbers : ℕ → ℕ → ℤ) → FollowStrip (bands_of p.geometry numbers) (block_count p.geometry.rows) t →
+    ((q : Place) → numbers_of t q ≡ numbers_of p.strip q) → StandsTo columns numbers p → StandsTo columns numbers (stepped p t next)
+stands_on p t next columns numbers strip same stands = record {
+  strip = strip;
+  set = λ column i lt small. same _ ∙ stands.set column i lt small;
+  unset = λ column i le lt small. same _ ∙ stands.unset column i le lt small;
+}
+
+pub same_but : (p : Shown) (t : StripInverse) (next : ℕ) → SameBut p (stepped p t next)
+same_but p t next = record { geometry = refl; row = refl; column = refl }
+
+module _ (p : Shown) (t : StripInverse) (sized : IsSized p) (made : RowMade p.strip t) where
+  sized_next : IsSized (stepped p t (p.at.next + 1))
+  sized_next = sized_on p t (p.at.next + 1) sized made.height made.width made.taken (made.next ∙ ap (λ n. n + 1) sized.next)
+
+  follows_next : (numbers : ℕ → ℕ → ℤ) → StandsFor numbers p → StandsFor numbers (stepped p t (p.at.next + 1))
+  follows_next numbers stands =
+      stands_on p t (p.at.next + 1) p.at.column numbers (made.follows _ _ (completes p sized) stands.strip) made.numbers stands
+
+  could_next : HasNext p.at.row p.at.next (block_count p.geometry.rows)
+  could_next = subst (λ h. HasNext p.at.row p.at.next h) sized.height (subst (λ n. HasNext p.at.row n (height_of p.strip)) sized.next (subst (λ k. HasNext k (next_of p.strip) (height_of p.strip)) sized.taken made.could))
+
+  -- the octets of the row
+  octets_next : length (row_of t) ≡ 8 * columns_of t → (numbers : ℕ → ℕ → ℤ) → StandsFor numbers p →
+      pixel_octets p.geometry.depth (map (clamped p.geometry.depth p.geometry.signed) (take p.geometry.width (row_of t)))
+      ≡ pixel_octets p.geometry.depth (row_pixels p.geometry.width (picture_with p.geometry numbers p.at.next))
+  octets_next long numbers stands =
+      let value = made.value _ _ (completes p sized) stands.strip in
+      let at : Agrees (8 * columns_of p.strip) (signal (row_of t)) (rebuilt (bands_of p.geometry numbers) (block_count p.geometry.rows) (columns_of p.strip) p.at.next) =
+      subst (λ n. Agrees (8 * columns_of p.strip) (signal (row_of t)) (rebuilt (bands_of p.geometry numbers) (block_count p.geometry.rows) (columns_of p.strip) n)) sized.next value in
+      made_octets p.geometry numbers p.at.next (columns_of p.strip) (row_of t) sized.columns (long ∙ ap (λ n. 8 * n) made.width) at
+
+  -- a row of the picture was given
+  pub row_given : length (row_of t) ≡ 8 * columns_of t → (a b : Outside) → p.at.next < p.geometry.rows →
+      Since a b [] (pixel_octets p.geometry.depth (map (clamped p.geometry.depth p.geometry.signed) (take p.geometry.width (row_of t)))) [] NoRead → HasGiven a b p (stepped p t (p.at.next + 1))
+  row_given long a b lt out = record {
+    sized = sized_next;
+    same = same_but p t (p.at.next + 1);
+    could = could_next;
+    next = refl;
+    goes = record {
+      gave = _;
+      out = out;
+      follows = follows_next;
+      given = λ numbers stands. ap (λ zs. rows_of p.geometry numbers p.at.next ++ zs) (octets_next long numbers stands) ∙ sym (front-more p.geometry numbers p.at.next lt);
+    };
+  }
+
+  -- a row that pads the picture wasn't
+  pub row_made : (a : Outside) → p.geometry.rows ≤ p.at.next → HasGiven a a p (stepped p t (p.at.next + 1))
+  row_made a le = record {
+    sized = sized_next;
+    same = same_but p t (p.at.next + 1);
+    could = could_next;
+    next = refl;
+    goes = record {
+      gave = [];
+      out = since_start a NoRead;
+      follows = follows_next;
+      given = λ numbers stands. append-nil (rows_of p.geometry numbers p.at.next) ∙ sym (front-same p.geometry numbers p.at.next le);
+    };
+  }
+
+  -- a part of a row of the picture was given
+  pub row_broken : length (row_of t) ≡ 8 * columns_of t → (a b : Outside) (m : ℕ) → p.at.next < p.geometry.rows → Rose a.write_faults b.write_faults →
+      let octets = pixel_octets p.geometry.depth (map (clamped p.geometry.depth p.geometry.signed) (take p.geometry.width (row_of t))) in
+      m ≤ length octets → Since a b [] (take m octets) [] NoRead → BreaksOff (StoodFor p) a b p
+  row_broken long a b m lt rose le out = record {
+    gave = _;
+    out = out;
+    rose = rose;
+    given = λ numbers stands.
+        let g = p.geometry in
+        let octets = pixel_octets g.depth (map (clamped g.depth g.signed) (take g.width (row_of t))) in
+        let later = front-begins g numbers (p.at.next + 1) in
+        let whole : rows_of g numbers g.rows ≡ rows_of g numbers p.at.next ++ (octets ++ later.0) =
+        later.1 ∙ ap (λ zs. zs ++ later.0) (front-more g numbers p.at.next lt) ∙ append_assoc (rows_of g numbers p.at.next) (row_octets g numbers p.at.next) later.0
+        ∙ ap (λ zs. rows_of g numbers p.at.next ++ (zs ++ later.0)) (sym (octets_next long numbers stands)) in
+        front-part g numbers p.at.next m octets later.0 whole le;
+  }
+
+pub row_failed : {E : Type 0} {a b : Outside} {p : Shown} (q : Shown) (r : Result Bool E) → IsErr r → BreaksOff (StoodFor p) a b p → GivesRow r a b p q
+row_failed q (Ok x) is broken = absurd (false≢true is)
+row_failed q (Err e) is broken = broken
+
+pub rows_failed : {T E : Type 0} {a b : Outside} {p : Shown} (q : Shown) (r : Result T E) → IsErr r → BreaksOff (StoodFor p) a b p → GivesRows r a b p q
+rows_failed q (Ok x) is broken = absurd (false≢true is)
+rows_failed q (Err e) is broken = broken
+
+-- none was left
+pub row_none : (p : Shown) (t : StripInverse) (a : Outside) → IsSized p → NoneMade p.strip t → HasNone a a p (stepped p t p.at.next)
+row_none p t a sized none = record {
+  standing = record { sized = sized_on p t p.at.next sized none.height none.width none.taken (none.next ∙ sized.next); idle = none.idle };
+  same = same_but p t p.at.next;
+  goes = record {
+    gave = [];
+    out = since_start a NoRead;
+    follows = λ numbers stands. stands_on p t p.at.next p.at.column numbers (none.follows _ _ (completes p sized) stands.strip) none.numbers stands;
+    given = λ numbers stands. append-nil (rows_of p.geometry numbers p.at.next);
+  };
+}
+
+-- ---- one stretch after another
+
+-- rows go on, and then more of them
+pub goes_then : {B C : (ℕ → ℕ → ℤ) → Type 0} {a b c : Outside} {x y z : Shown} → y.geometry ≡ x.geometry → ((numbers : ℕ → ℕ → ℤ) → B numbers → StandsFor numbers y → C numbers) →
+    GoesOn B a b x y → GoesOn C b c y z → GoesOn B a c x z
+goes_then {B = B} {C = C} {a = a} {b = b} {c = c} {x = x} {y = y} {z = z} same f u v = record {
+  gave = u.gave ++ v.gave;
+  out = since_out u.out v.out;
+  follows = λ numbers before. v.follows numbers (f numbers before (u.follows numbers before));
+  given = λ numbers before.
+      let later = v.given numbers (f numbers before (u.follows numbers before)) in
+      let there : rows_of x.geometry numbers y.at.next ++ v.gave ≡ rows_of x.geometry numbers z.at.next =
+      subst (λ g. rows_of g numbers y.at.next ++ v.gave ≡ rows_of g numbers z.at.next) same later in
+      sym (append_assoc (rows_of x.geometry numbers x.at.next) u.gave v.gave) ∙ ap (λ zs. zs ++ v.gave) (u.given numbers before) ∙ there;
+}
+
+-- rows go on, and then a write fails
+pub breaks_then : {B C : (ℕ → ℕ → ℤ) → Type 0} {a b c : Outside} {x y : Shown} → y.geometry ≡ x.geometry → ((numbers : ℕ → ℕ → ℤ) → B numbers → StandsFor numbers y → C numbers) →
+    GoesOn B a b x y → BreaksOff C b c y → BreaksOff B a c x
+breaks_then {B = B} {C = C} {a = a} {b = b} {c = c} {x = x} {y = y} same f u v = record {
+  gave = u.gave ++ v.gave;
+  out = since_out u.out v.out;
+  rose = rose_since u.out.faults.writes v.rose;
+  given = λ numbers before.
+      let later = v.given numbers (f numbers before (u.follows numbers before)) in
+      let there : rows_of x.geometry numbers y.at.next ++ v.gave ≡ take later.0 (rows_of x.geometry numbers x.geometry.rows) =
+      subst (λ (g : Geometry). rows_of g numbers y.at.next ++ v.gave ≡ take later.0 (rows_of g numbers g.rows)) same later.1 in
+      (later.0, sym (append_assoc (rows_of x.geometry numbers x.at.next) u.gave v.gave) ∙ ap (λ zs. zs ++ v.gave) (u.given numbers before) ∙ there);
+}
+
+pub same_then : {x y z : Shown} → SameBut x y → SameBut y z → SameBut x z
+same_then a b = record {
+  geometry = b.geometry ∙ a.geometry;
+  row = b.row ∙ a.row;
+  column = b.column ∙ a.column;
+}
+
+-- each row leaves fewer
+pub row_less : {a b : Outside} {x y : Shown} → HasGiven a b x y → 8 * y.at.row - y.at.next < 8 * x.at.row - x.at.next
+row_less given =
+    let next = given.next in
+    let row = given.same.row in
+    ⊎_elim (λ (l : _). omega (arith, l, next, row)) (λ (r : _). omega (arith, r.1, next, row)) given.could.made
+
+pub given_nothing : (a : Outside) (p : Shown) → IsSized p → HasGivenSome a a p p
+given_nothing a p sized = record {
+  sized = sized;
+  same = record { geometry = refl; row = refl; column = refl };
+  goes = record { gave = []; out = since_start a NoRead; follows = λ numbers stands. stands; given = λ numbers stands. append-nil (rows_of p.geometry numbers p.at.next) };
+}
+
+pub given_then : {a b c : Outside} {x y z : Shown} → HasGivenSome a b x y → HasGiven b c y z → HasGivenSome a c x z
+given_then u v = record { sized = v.sized; same = same_then u.same v.same; goes = goes_then u.same.geometry (λ numbers before stands. stands) u.goes v.goes }
+
+pub given_all : {a b c : Outside} {x y z : Shown} → HasGivenSome a b x y → HasNone b c y z → HasNone a c x z
+given_all u v = record { standing = v.standing; same = same_then u.same v.same; goes = goes_then u.same.geometry (λ numbers before stands. stands) u.goes v.goes }
+
+pub given_broken : {a b c : Outside} {x y : Shown} → HasGivenSome a b x y → BreaksOff (StoodFor y) b c y → BreaksOff (StoodFor x) a c x
+given_broken u v = breaks_then u.same.geometry (λ numbers before stands. stands) u.goes v

@@ -1,0 +1,3 @@
+pub mod Pictures
+pub mod Fronts
+pub mod Steps

@@ -1,0 +1,78 @@
+-- What a picture holds, and for which blocks. This project's own.
+use Rattle.std.specs.Prelude.{◌≡◌, ◌≤◌, ◌<◌, ◌+◌, ◌*◌, ℕ, ℤ, pos}
+use Rattle.base_122.specs.Sizes.{block_count, total_blocks}
+use Rattle.base_122.specs.Ranges.{IsGeometryInRange}
+use Rattle.base_122.specs.declared.geometry.Geometry.{Geometry}
+use Rattle.wave_defs.specs.Blocks.{coefficient}
+use Rattle.block_families.specs.Places.{place_in}
+use Rattle.inverse_strip.specs.Kept.{IsIdle}
+use Rattle.inverse_strip.specs.Samples.{strip_samples}
+use Rattle.inverse_strip.specs.Strip.{columns_of, height_of, taken_of, next_of, numbers_of, FollowStrip}
+use Rattle.inverse_strip.specs.declared.strip.StripInverse.{StripInverse}
+use Rattle.picture_rows.specs.declared.picture.Picture.{Picture}
+use Rattle.picture_rows.specs.declared.picture.PictureAt.{PictureAt}
+use Rattle.picture_rows.specs.Fronts.{bands_of}
+
+-- its parts
+pub record Shown : Type 0 where
+  pub geometry : Geometry
+  pub at : PictureAt
+  pub strip : StripInverse
+
+abbrev pub shown : Picture → Shown
+shown p = record { geometry = p.geometry; at = p.at; strip = p.strip }
+
+-- the samples of all its lists
+abbrev pub samples_of : Shown → ℕ
+samples_of p = strip_samples p.strip
+
+-- the blocks of its geometry, and those before the next one
+abbrev pub total_in : Shown → ℕ
+total_in p = total_blocks p.geometry.width p.geometry.rows
+
+abbrev pub passed_in : Shown → ℕ
+passed_in p = p.at.row * block_count p.geometry.width + p.at.column
+
+-- a block is still to come
+abbrev pub HasRoom : Shown → Type 0
+HasRoom p = passed_in p < total_in p
+
+-- its parts are those of its geometry, and stand at the place that it has come to
+pub record IsSized (p : Shown) : Type 0 where
+  pub range : IsGeometryInRange p.geometry
+  pub columns : columns_of p.strip ≡ block_count p.geometry.width
+  pub height : height_of p.strip ≡ block_count p.geometry.rows
+  pub taken : taken_of p.strip ≡ p.at.row
+  pub next : next_of p.strip ≡ p.at.next
+  pub rows : p.at.row ≤ block_count p.geometry.rows
+  pub column : p.at.column < block_count p.geometry.width
+  pub none : p.at.row ≡ block_count p.geometry.rows → p.at.column ≡ 0
+
+-- and no row is left to be given before the next block row
+pub record IsStanding (p : Shown) : Type 0 where
+  pub sized : IsSized p
+  pub idle : IsIdle (taken_of p.strip) (next_of p.strip) (height_of p.strip)
+
+-- ---- for which blocks
+
+-- Blocks with these numbers, counted in raster order, whatever those are that come later: the strip took the whole block rows of
+-- them, and the next block row has the numbers of the blocks in its first columns, and else zeros.
+pub record StandsTo (columns : ℕ) (numbers : ℕ → ℕ → ℤ) (p : Shown) : Type 0 where
+  pub strip : FollowStrip (bands_of p.geometry numbers) (block_count p.geometry.rows) p.strip
+  pub set : (column i : ℕ) → column < columns → i < 64 →
+      numbers_of p.strip (place_in column i) ≡ coefficient (bands_of p.geometry numbers) p.at.row column i
+  pub unset : (column i : ℕ) → columns ≤ column → column < block_count p.geometry.width → i < 64 →
+      numbers_of p.strip (place_in column i) ≡ pos 0
+
+-- those are the blocks before the next one
+abbrev pub StandsFor : (ℕ → ℕ → ℤ) → Shown → Type 0
+StandsFor numbers p = StandsTo p.at.column numbers p
+
+-- nothing was taken yet of a picture of this geometry
+pub record IsFresh (g : Geometry) (p : Shown) : Type 0 where
+  pub geometry : p.geometry ≡ g
+  pub standing : IsStanding p
+  pub row : p.at.row ≡ 0
+  pub column : p.at.column ≡ 0
+  pub next : p.at.next ≡ 0
+  pub stands : (numbers : ℕ → ℕ → ℤ) → StandsFor numbers p

@@ -1,0 +1,58 @@
+// The blocks of a picture, one after another in raster order, and the rows that come with each whole block row.
+ghost use Rattle.std.specs.Prelude.{◌≡◌, [], length};
+ghost use Rattle.block_families.specs.Places.{AreWeighted};
+ghost use Rattle.picture_rows.specs.Pictures.{shown, IsStanding, HasRoom};
+ghost use Rattle.picture_rows.specs.Steps.{PassesBlock, HasNextSet, HasNextNumbers};
+
+use crate::picture::Picture;
+use crate::rows::give_rows;
+use base_122::Weights;
+use block_families::scatter;
+use inverse_strip::StripInverse;
+use port_122::{Failed, Port};
+
+// Goes on past the next block, whose numbers are set, and gives the rows that come where its block row is whole.
+fn pass_block<X: Port>(port: &mut X, picture: &mut Picture) -> Result<(), Failed>
+    requires standing { IsStanding (shown picture.old) }
+    requires room { HasRoom (shown picture.old) }
+    ensures { PassesBlock result (HasNextSet (shown picture.old)) (X.outside port.old) (X.outside port.new) (shown picture.old) (shown picture.new) }
+{
+    picture.at.column += 1;
+    if picture.at.column < picture.geometry.padded_width() / 8 {
+        return Ok(());
+    }
+    picture.at.column = 0;
+    picture.at.row += 1;
+    picture.strip.push_block_row();
+    give_rows(port, picture)
+}
+
+/// The next block is lost: its numbers are 0.
+pub fn lose_block<X: Port>(port: &mut X, picture: &mut Picture) -> Result<(), Failed>
+    requires standing { IsStanding (shown picture.old) }
+    requires room { HasRoom (shown picture.old) }
+    ensures { PassesBlock result (HasNextNumbers [] (shown picture.old)) (X.outside port.old) (X.outside port.new) (shown picture.old) (shown picture.new) }
+{
+    pass_block(port, picture)
+}
+
+/// The next block has these 64 numbers.
+pub fn put_block<X: Port>(
+    port: &mut X,
+    picture: &mut Picture,
+    numbers: &[i32],
+) -> Result<(), Failed>
+    requires standing { IsStanding (shown picture.old) }
+    requires room { HasRoom (shown picture.old) }
+    requires whole { length numbers.now ≡ 64 }
+    requires parts { AreWeighted numbers.now picture.old.geometry.weights.shifts }
+    ensures { PassesBlock result (HasNextNumbers numbers.now (shown picture.old)) (X.outside port.old) (X.outside port.new) (shown picture.old) (shown picture.new) }
+{
+    scatter(
+        &mut picture.strip,
+        picture.at.column,
+        &picture.geometry.weights,
+        numbers,
+    );
+    pass_block(port, picture)
+}

@@ -1,0 +1,10 @@
+//! A picture that is made of its blocks, one after another, in the memory of a strip: each row is given as soon as the blocks so far
+//! determine it.
+#![tactic(auto)]
+
+mod blocks;
+mod picture;
+mod rows;
+
+pub use blocks::{lose_block, put_block};
+pub use picture::{Picture, PictureAt};

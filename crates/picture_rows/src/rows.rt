@@ -1,0 +1,40 @@
+// The rows of a picture that can be made.
+ghost use Rattle.picture_rows.specs.Pictures.{shown, IsSized};
+ghost use Rattle.picture_rows.specs.Steps.{GivesRow, GivesRows};
+
+use crate::picture::Picture;
+use port_122::{Failed, Port};
+use raster_rows::write_row;
+
+// Makes the next row and gives it, where it isn't one that pads the picture; answers false where none can be made before the next
+// block row.
+fn give_row<X: Port>(port: &mut X, picture: &mut Picture) -> Result<bool, Failed>
+    requires sized { IsSized (shown picture.old) }
+    ensures { GivesRow result (X.outside port.old) (X.outside port.new) (shown picture.old) (shown picture.new) }
+{
+    if !picture.strip.make_row() {
+        return Ok(false);
+    }
+    let row = picture.at.next;
+    picture.at.next = row + 1;
+    let geometry = picture.geometry;
+    if row < geometry.rows {
+        write_row(
+            port,
+            geometry.depth,
+            geometry.signed,
+            geometry.width,
+            picture.strip.row(),
+        )?;
+    }
+    Ok(true)
+}
+
+/// Gives all rows that can be made before the next block row.
+pub fn give_rows<X: Port>(port: &mut X, picture: &mut Picture) -> Result<(), Failed>
+    requires sized { IsSized (shown picture.old) }
+    ensures { GivesRows result (X.outside port.old) (X.outside port.new) (shown picture.old) (shown picture.new) }
+{
+    while give_row(port, picture)? {}
+    Ok(())
+}

@@ -1,0 +1,67 @@
+-- What a sink of blocks shows of those that it has taken. This project's own.
+use Rattle.std.specs.Prelude.{◌≡◌, ◌<◌, ◌+◌, ◌/◌, ◌%◌, ℕ, ℤ, List, [], ◌++◌, length, Option, None, Some, Result, MatchResult, slice_index_or}
+use Rattle.std.specs.Option.{option_map}
+use Rattle.port_122.specs.Outside.{Outside, Since, NoRead, Rose}
+use Rattle.base_122.specs.declared.geometry.Geometry.{Geometry}
+use Rattle.block_families.specs.Places.{AreWeighted}
+use Rattle.stream_defs.specs.Agreement.{blocks_of}
+
+-- the segments that are received, by their index, each with the numbers of its blocks
+abbrev pub Numbers : Type 0
+Numbers = ℕ → Option (List (List ℤ))
+
+-- the blocks of an image in raster order: the 64 numbers of each, or none where it is missing
+abbrev pub Blocks : Type 0
+Blocks = ℕ → Option (List ℤ)
+
+-- those that these segments have
+abbrev pub blocks_with : Geometry → Numbers → Blocks
+blocks_with g received block = option_map (λ numbers. slice_index_or numbers (block % g.segment) []) (received (block / g.segment))
+
+-- The meaning of a sink with these states. Stands: it has taken the first n blocks of an image, so the next can follow. Follows: they
+-- were the first n of these blocks, and these octets were given for them. Given: these octets are given once the first n blocks were
+-- taken, whatever the sink's state. Part: these octets may be given of all blocks where a fault ended it.
+pub record SinkOf (S : Type 0) : Type 1 where
+  pub Stands : S → Geometry → ℕ → Type 0
+  pub Follows : S → Geometry → Blocks → ℕ → List ℕ → Type 0
+  pub Given : Geometry → Blocks → ℕ → List ℕ → Type 0
+  pub Part : Geometry → Blocks → List ℕ → Type 0
+  pub given_of : (s : S) (g : Geometry) (blocks : Blocks) (n : ℕ) (gave : List ℕ) → Stands s g n → Follows s g blocks n gave → Given g blocks n gave
+  pub part_of : (g : Geometry) (blocks : Blocks) (n : ℕ) (gave : List ℕ) → Given g blocks n gave → Part g blocks gave
+  pub part_none : (g : Geometry) (blocks : Blocks) → Part g blocks []
+
+-- no block was taken, of whatever image of this geometry
+pub record Begins {S : Type 0} (k : SinkOf S) (g : Geometry) (s : S) : Type 0 where
+  pub stands : k.Stands s g 0
+  pub follows : (blocks : Blocks) → k.Follows s g blocks 0 []
+
+-- numbers that a block of this geometry can have
+abbrev pub IsBlock : Geometry → Option (List ℤ) → Type 0
+IsBlock g None = Unit {0}
+IsBlock g (Some numbers) = (length numbers ≡ 64) × AreWeighted numbers g.weights.shifts
+
+-- a block is still to come, and it may be this one
+pub record IsNext {S : Type 0} (k : SinkOf S) (block : Option (List ℤ)) (s : S) : Type 0 where
+  pub geometry : Geometry
+  pub place : ℕ
+  pub stands : k.Stands s geometry place
+  pub within : place < blocks_of geometry
+  pub fits : IsBlock geometry block
+
+-- it was taken as the n-th one
+pub record Takes {S : Type 0} (k : SinkOf S) (g : Geometry) (n : ℕ) (block : Option (List ℤ)) (p q : Outside) (old new : S) : Type 0 where
+  pub gave : List ℕ
+  pub out : Since p q [] gave [] NoRead
+  pub stands : k.Stands new g (n + 1)
+  pub follows : (blocks : Blocks) (before : List ℕ) → k.Follows old g blocks n before → blocks n ≡ block → k.Follows new g blocks (n + 1) (before ++ gave)
+
+-- a write failed meanwhile
+pub record Fails {S : Type 0} (k : SinkOf S) (g : Geometry) (n : ℕ) (block : Option (List ℤ)) (p q : Outside) (old : S) : Type 0 where
+  pub gave : List ℕ
+  pub out : Since p q [] gave [] NoRead
+  pub rose : Rose p.write_faults q.write_faults
+  pub part : (blocks : Blocks) (before : List ℕ) → k.Follows old g blocks n before → blocks n ≡ block → k.Part g blocks (before ++ gave)
+
+-- the call for a block, wherever the sink stands
+abbrev pub TakesBlock : {S T E : Type 0} → SinkOf S → Result T E → Option (List ℤ) → (p q : Outside) (old new : S) → Type 0
+TakesBlock k result block p q old new = (g : Geometry) (n : ℕ) → k.Stands old g n → n < blocks_of g → MatchResult result (λ _. Takes k g n block p q old new) (λ _. Fails k g n block p q old)

@@ -1,0 +1,80 @@
+// What a walk over segments holds.
+ghost use Rattle.std.specs.Prelude.{◌≡◌, ◌≤◌, ◌+◌, ◌*◌, IfOk, vec_len};
+ghost use Rattle.base_122.specs.Ranges.{IsGeometryInRange};
+ghost use Rattle.strip_decoder.specs.Steps.{walking, passed_in, IsStanding, IsFresh};
+ghost use Rattle.strip_decoder.specs.Rooms.{IsRoom};
+
+use crate::sink::BlockSink;
+use base_122::Geometry;
+use damage_rows::Damage;
+use segment_code::SegmentReader;
+use std::alloc::{AllocError, Global};
+
+/// The block row and the column of the next block.
+#[derive(Clone, Copy, Debug, PartialEq, Eq)]
+pub struct BlockAt {
+    pub row: u32,
+    pub column: u32,
+}
+
+/// How far a walk has come in its image, the missing block rows, and the sink of its blocks.
+#[derive(Drop)]
+pub struct Walk<S> {
+    pub geometry: Geometry,
+    pub at: BlockAt,
+    pub damage: Damage,
+    pub sink: S,
+}
+
+/// A walk that begins. The one error is want of memory for the sink.
+pub fn begin_walk<S: BlockSink>(alloc: Global, geometry: &Geometry) -> Result<Walk<S>, AllocError>
+    requires { IsGeometryInRange geometry.now }
+    ensures { IfOk result (λ p. IsFresh S.sink geometry.now (walking p)) }
+{
+    let sink = S::begin(alloc, geometry)?;
+    Ok(Walk {
+        geometry: *geometry,
+        at: BlockAt { row: 0, column: 0 },
+        damage: Damage::new(geometry.rows),
+        sink,
+    })
+}
+
+/// The blocks before the next one.
+pub fn passed<S: BlockSink>(walk: &Walk<S>) -> u64
+    requires { IsStanding S.sink (walking walk.now) }
+    ensures { result ≡ passed_in (walking walk.now) }
+{
+    let columns = walk.geometry.padded_width() / 8;
+    u64::from(walk.at.row) * u64::from(columns) + u64::from(walk.at.column)
+}
+
+/// What the texts of segments are read with: the blocks of one segment, and a mark for each.
+/// It holds at most 65 samples for each block of a segment.
+#[derive(Drop)]
+pub struct SegmentRoom {
+    pub reader: SegmentReader,
+    pub blocks: Vec<i32>,
+    pub marks: Vec<i32>,
+}
+
+impl SegmentRoom {
+    ghost use Rattle.std.specs.Prelude.{◌≤◌, ◌+◌, ◌*◌, IfOk, vec_len};
+    ghost use Rattle.base_122.specs.Ranges.{IsGeometryInRange};
+    ghost use Rattle.strip_decoder.specs.Rooms.{IsRoom};
+
+    /// Takes the memory for the segments of an image. The one error is want of memory.
+    pub fn new(alloc: Global, geometry: &Geometry) -> Result<SegmentRoom, AllocError>
+        requires { IsGeometryInRange geometry.now }
+        ensures { IfOk result (λ room. IsRoom geometry.now (vec_len room.blocks) (vec_len room.marks)) }
+    {
+        let count = geometry.blocks_of(0) as usize;
+        let blocks = vec![in alloc; 0; 64 * count]?;
+        let marks = vec![in alloc; 0; count]?;
+        Ok(SegmentRoom {
+            reader: SegmentReader::new(),
+            blocks,
+            marks,
+        })
+    }
+}
