@@ -1,4 +1,4 @@
-pub mod Keys
+pub mod Tables
 pub mod Values
 pub mod Entries
 pub mod Commands

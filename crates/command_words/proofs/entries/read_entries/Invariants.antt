@@ -8,7 +8,7 @@ use Rattle.command_words.proofs.entries.read_entries.Given as goal
 
 abbrev pub invariant-loop-rest : goal.invariant-loop-rest
 invariant-loop-rest l = record {
-  says : (said : Result Finds WordFault) → EntriesSay l.name (finds_of l.given) l.place (texts l.rest) said → EntriesSay l.name nothing 1 (texts l.words) said;
+  says : (said : Result Finds WordFault) → EntriesSay l.keys (finds_of l.given) l.place (texts l.rest) said → EntriesSay l.keys nothing 1 (texts l.words) said;
   size : l.place + length l.rest ≡ length l.words + 1;
 }
 
