@@ -8,8 +8,10 @@ mod reading;
 mod tables;
 #[cfg(test)]
 mod tests;
+mod usage;
 mod values;
 
 pub use command::{Command, WordFault};
 pub use reading::read_words;
 pub use tables::Reading;
+pub use usage::keys_usage;

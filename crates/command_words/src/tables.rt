@@ -84,6 +84,14 @@ pub enum Group {
     Reading,
 }
 
+/// The groups in their order, with their titles.
+pub const GROUPS: [(Group, &str); 4] = [
+    (Group::What, "what\n"),
+    (Group::HowMuch, "how much to keep\n"),
+    (Group::Packets, "packets\n"),
+    (Group::Reading, "reading\n"),
+];
+
 /// A row of the table of keys.
 #[derive(Clone, Copy)]
 pub struct KeyRow {
@@ -297,11 +305,11 @@ const KEYS: [(&str, KeyRow); 17] = [
     ),
 ];
 
-// A command's name, what it does, and its keys.
-type CommandRow = (&'static str, Task, &'static [Key]);
+/// A command's name, what it does, and its keys.
+pub type CommandRow = (&'static str, Task, &'static [Key]);
 
-// The table of commands.
-const COMMANDS: [CommandRow; 6] = [
+/// The table of commands.
+pub const COMMANDS: [CommandRow; 6] = [
     (
         "encode",
         Task::Encode,

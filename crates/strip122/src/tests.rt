@@ -1,33 +1,93 @@
 // What the program answers by itself.
-use crate::answer;
+use crate::{Answer, answer, answer_text};
 use std::test::Fail;
 
-// The first line of the answer to these words, if the program answers them.
-fn first_line(rt: &impl AllocGlobal, text: &str) -> Result<Option<&'static str>, Fail> {
+// The first words of each line of the text by itself.
+const HELP: &str = "\
+usage: strip122 encode width=N rows=N [KEY=VALUE ..]
+       strip122 decode|damage|list [KEY=VALUE ..]
+       strip122 make|trial width=N rows=N [KEY=VALUE ..]
+       strip122 help | version
+
+encode  raster in, space packets out, each as soon as the rows determine it
+decode  packets in, raster out, each row as soon as the packets determine it
+damage  packets in, a line FIRST-LAST out for rows that what is lost may reach
+list    packets in, a line out for each: its number, and what became of it
+make    a made raster out; nothing is read
+trial   a made image there and back in memory, and a line of what was counted
+
+A raster has its rows from the top; a pixel has one octet where depth is at most
+8, else two, the greater first. A trial has at most 2^24 pixels.
+
+Each key is given at most once. Its default is in parentheses; the commands that
+have it follow.
+
+what
+  width=17..1048575 (required)                  encode make trial
+  rows=17..262144 (required)                    encode make trial
+  depth=1..16 (8)                               encode make trial
+  signed=0|1 (0)                                encode make trial
+  seed=0..4294967295 (0)                        make trial
+how much to keep
+  limit=0|32..134217724, a multiple of word (0) encode trial
+  fill=0|1, 1 with a limit (0)                  encode trial
+  stop=dc|P.S, P 0..27, S 0..3 (0.3)            encode trial
+  weights=ten digits 0..3 (0111222333)          encode trial
+  select=heuristic|optimal (optimal)            encode trial
+packets
+  segment=16..1048575 (64)                      encode trial
+  word=1..4 (1)                                 encode trial
+  apid=0..2046 (100)                            encode decode damage list trial
+  image=0..65535 (0)                            encode trial
+  packet=64..65536 (1024)                       encode trial
+reading
+  pixels=0..1099511627776 (4294967296)          decode damage
+  octets=1..1099511627776 (1099511627776)       decode damage list
+
+status  0 done, 1 rows are missing or the packets can't be read on, 2 bad words,
+        3 bad input, 4 read fault, 5 write fault, 6 no memory
+";
+
+// What the program answers to the words of a text, with a space between each two.
+fn answer_to(rt: &impl AllocGlobal, text: &str) -> Result<Option<Answer>, Fail> {
     let mut words = Vec::new(rt.alloc());
     for word in text.split(' ') {
         words.push(String::from_str(rt.alloc(), word)?)?;
     }
-    Ok(answer(words.as_slice()).and_then(|text| text.lines().next()))
+    Ok(answer(words.as_slice()))
 }
 
 #[test]
-fn help_tells_the_usage(rt: HostRuntime) -> Result<(), Fail> {
-    let usage = "usage: strip122 encode width=N rows=N [KEY=VALUE ..]";
-    assert_eq!(rt; first_line(&rt, "--help")?, Some(usage));
+fn help_has_the_usage(rt: HostRuntime) -> Result<(), Fail> {
+    assert_eq!(rt; answer_text(rt.alloc(), Answer::Help)?.as_str(), HELP);
+    for line in HELP.lines() {
+        assert!(rt; line.len() <= 80, "{line}");
+    }
     Ok(())
 }
 
 #[test]
-fn version_is_told(rt: HostRuntime) -> Result<(), Fail> {
-    let version = "strip122 0.1.0 (CCSDS 122.0-B-2 in CCSDS 133.0-B-2 packets)";
-    assert_eq!(rt; first_line(&rt, "--version")?, Some(version));
+fn version_has_one_line(rt: HostRuntime) -> Result<(), Fail> {
+    let version = "strip122 0.1.0 (CCSDS 122.0-B-2 in CCSDS 133.0-B-2 packets)\n";
+    assert_eq!(rt; answer_text(rt.alloc(), Answer::Version)?.as_str(), version);
     Ok(())
 }
 
 #[test]
-fn other_words_are_left_to_the_run(rt: HostRuntime) -> Result<(), Fail> {
-    assert_eq!(rt; first_line(&rt, "encode")?, None);
-    assert_eq!(rt; first_line(&rt, "--help --version")?, None);
+fn words_are_answered_alone(rt: HostRuntime) -> Result<(), Fail> {
+    for (text, expected) in [
+        ("--help", Some(Answer::Help)),
+        ("-h", Some(Answer::Help)),
+        ("help", Some(Answer::Help)),
+        ("--version", Some(Answer::Version)),
+        ("-V", Some(Answer::Version)),
+        ("version", Some(Answer::Version)),
+        ("-v", None),
+        ("encode", None),
+        ("--help --version", None),
+        ("help encode", None),
+    ] {
+        assert_eq!(rt; answer_to(&rt, text)?, expected, "{text}");
+    }
     Ok(())
 }
