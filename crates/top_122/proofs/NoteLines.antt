@@ -3,7 +3,7 @@ use Rattle.std.proofs.Common.{◌≡◌, ◌<◌, ◌≤◌, ◌+◌, ℕ, zero,
 use Rattle.std.specs.Prelude.{Result, Ok, Err, String, string_bytes}
 use Rattle.std.specs.declared.alloc.Global.{Global}
 use Rattle.std.proofs.lemmas.List.{take-append-le}
-use Rattle.std.proofs.Math.Seq.{take-append-add}
+use Rattle.std.proofs.Math.Seq.{take-append-add, take-nil}
 use Rattle.port_122.specs.Outside.{Outside, Since, NoRead, Rose, NotesAll}
 use Rattle.port_122.proofs.Stretches.{since_out, rose_since}
 use Rattle.command_words.specs.Words.{texts}
@@ -43,6 +43,11 @@ notes_as {p = p} {q = q} same n is = subst (Notes p q) is n
 pub noted_since : (a b c : Outside) (wrote line : List ℕ) → a.note_faults ≤ b.note_faults → IsNoted b c wrote line → IsNoted a c wrote line
 noted_since a b c wrote line le (inl same) = inl same
 noted_since a b c wrote line le (inr failed) = inr (rose_since le failed.0, failed.1)
+
+-- of an empty line nothing was noted
+pub nothing_noted : (old new : Outside) (wrote line : List ℕ) → line ≡ [] → IsNoted old new wrote line → wrote ≡ []
+nothing_noted old new wrote line none (inl same) = same ∙ none
+nothing_noted old new wrote line none (inr failed) = failed.1.2 ∙ ap (take failed.1.0) none ∙ take-nil failed.1.0
 
 -- the word at a place
 pub word_is : (words : List (String Global)) (place : ℕ) (word : String Global) → place < length words → word ≡ get_or words place word →
