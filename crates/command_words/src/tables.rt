@@ -131,242 +131,54 @@ const USUAL: Weights = Weights {
     shifts: [0, 1, 1, 1, 2, 2, 2, 3, 3, 3],
 };
 
+// A row of the table of keys: the name; the default, of a required key after that word; the field; the range; and the group.
+macro_rules! key_row {
+    ($text:literal: required $default:expr, $field:expr, $range:expr, $group:ident) => {
+        ($text, KeyRow { default: $default, required: true, field: $field, range: $range, group: Group::$group })
+    };
+    ($text:literal: $default:expr, $field:expr, $range:expr, $group:ident) => {
+        ($text, KeyRow { default: $default, required: false, field: $field, range: $range, group: Group::$group })
+    };
+}
+
 // The table of keys: of each its name and its row, in the order of `Key`.
 const KEYS: [(&str, KeyRow); 17] = [
-    (
-        "width",
-        KeyRow {
-            default: Value::Number(17),
-            required: true,
-            field: Some(Field::Width),
-            range: Range::Number(FieldRange::WIDTH),
-            group: Group::What,
-        },
-    ),
-    (
-        "rows",
-        KeyRow {
-            default: Value::Number(17),
-            required: true,
-            field: Some(Field::Rows),
-            range: Range::Rows(FieldRange::ROWS),
-            group: Group::What,
-        },
-    ),
-    (
-        "depth",
-        KeyRow {
-            default: Value::Number(8),
-            required: false,
-            field: Some(Field::Depth),
-            range: Range::Number(FieldRange::DEPTH),
-            group: Group::What,
-        },
-    ),
-    (
-        "signed",
-        KeyRow {
-            default: Value::Flag(false),
-            required: false,
-            field: None,
-            range: Range::All,
-            group: Group::What,
-        },
-    ),
-    (
-        "segment",
-        KeyRow {
-            default: Value::Number(64),
-            required: false,
-            field: Some(Field::Segment),
-            range: Range::Number(FieldRange::SEGMENT),
-            group: Group::Packets,
-        },
-    ),
-    (
-        "limit",
-        KeyRow {
-            default: Value::Number(0),
-            required: false,
-            field: Some(Field::Limit),
-            range: Range::Limit,
-            group: Group::HowMuch,
-        },
-    ),
-    (
-        "fill",
-        KeyRow {
-            default: Value::Flag(false),
-            required: false,
-            field: Some(Field::Fill),
-            range: Range::Fill,
-            group: Group::HowMuch,
-        },
-    ),
-    (
-        "word",
-        KeyRow {
-            default: Value::Number(1),
-            required: false,
-            field: Some(Field::Word),
-            range: Range::Number(FieldRange::WORD),
-            group: Group::Packets,
-        },
-    ),
-    (
-        "stop",
-        KeyRow {
-            default: Value::StopAt { plane: 0, stage: 3 },
-            required: false,
-            field: Some(Field::Stop),
-            range: Range::Stop,
-            group: Group::HowMuch,
-        },
-    ),
-    (
-        "weights",
-        KeyRow {
-            default: Value::Weights(USUAL),
-            required: false,
-            field: Some(Field::Weights),
-            range: Range::Weights,
-            group: Group::HowMuch,
-        },
-    ),
-    (
-        "select",
-        KeyRow {
-            default: Value::Select(Select::Optimal),
-            required: false,
-            field: None,
-            range: Range::All,
-            group: Group::HowMuch,
-        },
-    ),
-    (
-        "apid",
-        KeyRow {
-            default: Value::Number(100),
-            required: false,
-            field: Some(Field::Apid),
-            range: Range::Number(FieldRange::APID),
-            group: Group::Packets,
-        },
-    ),
-    (
-        "image",
-        KeyRow {
-            default: Value::Number(0),
-            required: false,
-            field: Some(Field::Image),
-            range: Range::Number(FieldRange::IMAGE),
-            group: Group::Packets,
-        },
-    ),
-    (
-        "packet",
-        KeyRow {
-            default: Value::Number(1024),
-            required: false,
-            field: Some(Field::Packet),
-            range: Range::Number(FieldRange::PACKET),
-            group: Group::Packets,
-        },
-    ),
-    (
-        "pixels",
-        KeyRow {
-            default: Value::Cap(1 << 32),
-            required: false,
-            field: Some(Field::Pixels),
-            range: Range::Cap(FieldRange::PIXELS),
-            group: Group::Reading,
-        },
-    ),
-    (
-        "octets",
-        KeyRow {
-            default: Value::Cap(1 << 40),
-            required: false,
-            field: Some(Field::Octets),
-            range: Range::Cap(FieldRange::OCTETS),
-            group: Group::Reading,
-        },
-    ),
-    (
-        "seed",
-        KeyRow {
-            default: Value::Number(0),
-            required: false,
-            field: None,
-            range: Range::All,
-            group: Group::What,
-        },
-    ),
+    key_row! { "width": required Value::Number(17), Some(Field::Width), Range::Number(FieldRange::WIDTH), What },
+    key_row! { "rows": required Value::Number(17), Some(Field::Rows), Range::Rows(FieldRange::ROWS), What },
+    key_row! { "depth": Value::Number(8), Some(Field::Depth), Range::Number(FieldRange::DEPTH), What },
+    key_row! { "signed": Value::Flag(false), None, Range::All, What },
+    key_row! { "segment": Value::Number(64), Some(Field::Segment), Range::Number(FieldRange::SEGMENT), Packets },
+    key_row! { "limit": Value::Number(0), Some(Field::Limit), Range::Limit, HowMuch },
+    key_row! { "fill": Value::Flag(false), Some(Field::Fill), Range::Fill, HowMuch },
+    key_row! { "word": Value::Number(1), Some(Field::Word), Range::Number(FieldRange::WORD), Packets },
+    key_row! { "stop": Value::StopAt { plane: 0, stage: 3 }, Some(Field::Stop), Range::Stop, HowMuch },
+    key_row! { "weights": Value::Weights(USUAL), Some(Field::Weights), Range::Weights, HowMuch },
+    key_row! { "select": Value::Select(Select::Optimal), None, Range::All, HowMuch },
+    key_row! { "apid": Value::Number(100), Some(Field::Apid), Range::Number(FieldRange::APID), Packets },
+    key_row! { "image": Value::Number(0), Some(Field::Image), Range::Number(FieldRange::IMAGE), Packets },
+    key_row! { "packet": Value::Number(1024), Some(Field::Packet), Range::Number(FieldRange::PACKET), Packets },
+    key_row! { "pixels": Value::Cap(1 << 32), Some(Field::Pixels), Range::Cap(FieldRange::PIXELS), Reading },
+    key_row! { "octets": Value::Cap(1 << 40), Some(Field::Octets), Range::Cap(FieldRange::OCTETS), Reading },
+    key_row! { "seed": Value::Number(0), None, Range::All, What },
 ];
 
 /// A command's name, what it does, and its keys.
 pub type CommandRow = (&'static str, Task, &'static [Key]);
 
+macro_rules! command_row {
+    ($text:literal: $task:expr, $($key:ident)+) => { ($text, $task, &[$(Key::$key),+]) };
+}
+
 /// The table of commands.
 pub const COMMANDS: [CommandRow; 6] = [
-    (
-        "encode",
-        Task::Encode,
-        &[
-            Key::Width,
-            Key::Rows,
-            Key::Depth,
-            Key::Signed,
-            Key::Segment,
-            Key::Limit,
-            Key::Fill,
-            Key::Word,
-            Key::Stop,
-            Key::Weights,
-            Key::Select,
-            Key::Apid,
-            Key::Image,
-            Key::Packet,
-        ],
-    ),
-    (
-        "decode",
-        Task::Read(Reading::Decode),
-        &[Key::Apid, Key::Pixels, Key::Octets],
-    ),
-    (
-        "damage",
-        Task::Read(Reading::Damage),
-        &[Key::Apid, Key::Pixels, Key::Octets],
-    ),
-    ("list", Task::Read(Reading::List), &[Key::Apid, Key::Octets]),
-    (
-        "make",
-        Task::Make,
-        &[Key::Width, Key::Rows, Key::Depth, Key::Signed, Key::Seed],
-    ),
-    (
-        "trial",
-        Task::Trial,
-        &[
-            Key::Width,
-            Key::Rows,
-            Key::Depth,
-            Key::Signed,
-            Key::Segment,
-            Key::Limit,
-            Key::Fill,
-            Key::Word,
-            Key::Stop,
-            Key::Weights,
-            Key::Select,
-            Key::Apid,
-            Key::Image,
-            Key::Packet,
-            Key::Seed,
-        ],
-    ),
+    command_row! { "encode": Task::Encode,
+        Width Rows Depth Signed Segment Limit Fill Word Stop Weights Select Apid Image Packet },
+    command_row! { "decode": Task::Read(Reading::Decode), Apid Pixels Octets },
+    command_row! { "damage": Task::Read(Reading::Damage), Apid Pixels Octets },
+    command_row! { "list": Task::Read(Reading::List), Apid Octets },
+    command_row! { "make": Task::Make, Width Rows Depth Signed Seed },
+    command_row! { "trial": Task::Trial,
+        Width Rows Depth Signed Segment Limit Fill Word Stop Weights Select Apid Image Packet Seed },
 ];
 
 /// What the command with this name does, and its keys.

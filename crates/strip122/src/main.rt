@@ -66,9 +66,9 @@ enum Answer {
 }
 
 // What the program itself answers to these words, if it does: to one word alone.
-fn answer(words: &[String]) -> Option<Answer>
+fn answer_to(words: &[String]) -> Option<Answer>
     ensures { MatchOption result
-        ((answer : Answer) → IsAnswer (texts words.now) answer → ⊥)
+        ((own : Answer) → IsAnswer (texts words.now) own → ⊥)
         (IsAnswer (texts words.now)) }
 {
     let [word] = words else {
@@ -141,7 +141,7 @@ fn main(rt: HostRuntime) -> ExitCode {
     let Ok(words) = words.collect::<Vec<String>>(rt.alloc()) else {
         return ExitCode::from(NO_MEMORY);
     };
-    if let Some(answer) = answer(words.as_slice()) {
+    if let Some(answer) = answer_to(words.as_slice()) {
         return ExitCode::from(print(&rt, answer));
     }
     let mut port = StdPort::new(rt.stdin(), rt.stdout(), rt.stderr());

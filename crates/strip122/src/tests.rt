@@ -1,27 +1,9 @@
 // What the program answers by itself.
-use crate::{Answer, answer, answer_text};
+use crate::{Answer, STATUSES, USAGE, answer_text, answer_to};
 use std::test::Fail;
 
-// The first words of each line of the text by itself.
-const HELP: &str = "\
-usage: strip122 encode width=N rows=N [KEY=VALUE ..]
-       strip122 decode|damage|list [KEY=VALUE ..]
-       strip122 make|trial width=N rows=N [KEY=VALUE ..]
-       strip122 help | version
-
-encode  raster in, space packets out, each as soon as the rows determine it
-decode  packets in, raster out, each row as soon as the packets determine it
-damage  packets in, a line FIRST-LAST out for rows that what is lost may reach
-list    packets in, a line out for each: its number, and what became of it
-make    a made raster out; nothing is read
-trial   a made image there and back in memory, and a line of what was counted
-
-A raster has its rows from the top; a pixel has one octet where depth is at most
-8, else two, the greater first. A trial has at most 2^24 pixels.
-
-Each key is given at most once. Its default is in parentheses; the commands that
-have it follow.
-
+// What is said of the keys.
+const KEYS: &str = "\
 what
   width=17..1048575 (required)                  encode make trial
   rows=17..262144 (required)                    encode make trial
@@ -43,24 +25,27 @@ packets
 reading
   pixels=0..1099511627776 (4294967296)          decode damage
   octets=1..1099511627776 (1099511627776)       decode damage list
-
-status  0 done, 1 rows are missing or the packets can't be read on, 2 bad words,
-        3 bad input, 4 read fault, 5 write fault, 6 no memory
 ";
 
 // What the program answers to the words of a text, with a space between each two.
-fn answer_to(rt: &impl AllocGlobal, text: &str) -> Result<Option<Answer>, Fail> {
+fn answer_to_text(rt: &impl AllocGlobal, text: &str) -> Result<Option<Answer>, Fail> {
     let mut words = Vec::new(rt.alloc());
     for word in text.split(' ') {
         words.push(String::from_str(rt.alloc(), word)?)?;
     }
-    Ok(answer(words.as_slice()))
+    Ok(answer_to(words.as_slice()))
 }
 
 #[test]
 fn help_has_the_usage(rt: HostRuntime) -> Result<(), Fail> {
-    assert_eq!(rt; answer_text(rt.alloc(), Answer::Help)?.as_str(), HELP);
-    for line in HELP.lines() {
+    let text = answer_text(rt.alloc(), Answer::Help)?;
+    assert_eq!(rt;
+        text.as_str()
+            .strip_prefix(USAGE)
+            .and_then(|rest| rest.strip_suffix(STATUSES)),
+        Some(KEYS)
+    );
+    for line in text.as_str().lines() {
         assert!(rt; line.len() <= 80, "{line}");
     }
     Ok(())
@@ -87,7 +72,7 @@ fn words_are_answered_alone(rt: HostRuntime) -> Result<(), Fail> {
         ("--help --version", None),
         ("help encode", None),
     ] {
-        assert_eq!(rt; answer_to(&rt, text)?, expected, "{text}");
+        assert_eq!(rt; answer_to_text(&rt, text)?, expected, "{text}");
     }
     Ok(())
 }
