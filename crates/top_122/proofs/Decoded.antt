@@ -6,7 +6,7 @@ use Rattle.std.proofs.lemmas.Bool.{false≢true, eq-eqb}
 use Rattle.std.proofs.lemmas.List.Elements.{All-filter, All-get_or, All-from_get_or}
 use Rattle.std.proofs.lemmas.List.FromFn.{length-range_with_len, get_or-range_with_len}
 use Rattle.port_122.specs.Outside.{Outside, Since, NoRead, Rose, Loses}
-use Rattle.port_122.proofs.Stretches.{since_start, since_note, at_end_later}
+use Rattle.port_122.proofs.Stretches.{since_start, at_end_later}
 use Rattle.base_122.specs.Sizes.{block_count}
 use Rattle.base_122.specs.declared.geometry.Geometry.{Geometry}
 use Rattle.base_122.specs.declared.wish.DecodeWish.{DecodeWish}
@@ -29,7 +29,7 @@ use Rattle.top_122.specs.Notes.{IsNoted, Notes, decoder_fault_status, decoder_fa
 use Rattle.top_122.specs.DamageNotes.{damaged, damage_line, done_status, done_line}
 use Rattle.top_122.specs.Ran.{CausedWithin}
 use Rattle.top_122.specs.Decoding.{Causes, Asking, decode_status, decode_line, RunsDecoder, Decodes, FindsDamage, TellsDone, reads_picture}
-use Rattle.top_122.proofs.NoteLines.{noted_since, nothing_noted}
+use Rattle.top_122.proofs.NoteLines.{ran_on, nothing_noted}
 use Rattle.top_122.proofs.Behaviours.{AtStatus}
 
 -- ---- after the note
@@ -89,55 +89,23 @@ find_later wish a b c took gave wrote (Err Memory) n k = k
 
 pub decoded : (wish : DecodeWish) (a b c : Outside) (done : DecodeDone) (status : ℕ) → DecodesOver wish a b (Ok done) →
     TellsDone (damaged done.damage) done.framing b c status → Decodes wish a c status
-decoded wish a b c done status run n = record {
-  answer = Ok done;
-  took = run.took;
-  gave = run.gave;
-  wrote = n.wrote;
-  since = since_note run.since n.since;
-  cause = record { within = run.within; cause = decode_later wish a b c run.took run.gave n.wrote (Ok done) n.since run.answer };
-  status_is = n.status_is;
-  noted = noted_since a b c n.wrote _ run.since.faults.notes n.noted;
-}
+decoded wish a b c done status run n =
+    ran_on a b c (Ok done) run.took run.gave n.wrote status run.since (record { within = run.within; cause = decode_later wish a b c run.took run.gave n.wrote (Ok done) n.since run.answer }) n.since n.status_is n.noted
 
 pub decode_failed : (wish : DecodeWish) (a b c : Outside) (fault : DecodeFault) (status : ℕ) → DecodesOver wish a b (Err fault) → Notes b c (decoder_fault_line fault) →
     status ≡ decoder_fault_status fault → Decodes wish a c status
-decode_failed wish a b c fault status run n is = record {
-  answer = Err fault;
-  took = run.took;
-  gave = run.gave;
-  wrote = n.0;
-  since = since_note run.since n.1;
-  cause = record { within = run.within; cause = decode_later wish a b c run.took run.gave n.0 (Err fault) n.1 run.answer };
-  status_is = is;
-  noted = noted_since a b c n.0 (decoder_fault_line fault) run.since.faults.notes n.2;
-}
+decode_failed wish a b c fault status run n is =
+    ran_on a b c (Err fault) run.took run.gave n.0 status run.since (record { within = run.within; cause = decode_later wish a b c run.took run.gave n.0 (Err fault) n.1 run.answer }) n.1 is n.2
 
 pub found : (wish : DecodeWish) (a b c : Outside) (done : DecodeDone) (status : ℕ) → Finds wish a b (Ok done) →
     TellsDone (damaged done.damage) done.framing b c status → FindsDamage wish a c status
-found wish a b c done status run n = record {
-  answer = Ok done;
-  took = run.took;
-  gave = run.gave;
-  wrote = n.wrote;
-  since = since_note run.since n.since;
-  cause = record { within = run.within; cause = find_later wish a b c run.took run.gave n.wrote (Ok done) n.since run.answer };
-  status_is = n.status_is;
-  noted = noted_since a b c n.wrote _ run.since.faults.notes n.noted;
-}
+found wish a b c done status run n =
+    ran_on a b c (Ok done) run.took run.gave n.wrote status run.since (record { within = run.within; cause = find_later wish a b c run.took run.gave n.wrote (Ok done) n.since run.answer }) n.since n.status_is n.noted
 
 pub find_failed : (wish : DecodeWish) (a b c : Outside) (fault : DecodeFault) (status : ℕ) → Finds wish a b (Err fault) → Notes b c (decoder_fault_line fault) →
     status ≡ decoder_fault_status fault → FindsDamage wish a c status
-find_failed wish a b c fault status run n is = record {
-  answer = Err fault;
-  took = run.took;
-  gave = run.gave;
-  wrote = n.0;
-  since = since_note run.since n.1;
-  cause = record { within = run.within; cause = find_later wish a b c run.took run.gave n.0 (Err fault) n.1 run.answer };
-  status_is = is;
-  noted = noted_since a b c n.0 (decoder_fault_line fault) run.since.faults.notes n.2;
-}
+find_failed wish a b c fault status run n is =
+    ran_on a b c (Err fault) run.took run.gave n.0 status run.since (record { within = run.within; cause = find_later wish a b c run.took run.gave n.0 (Err fault) n.1 run.answer }) n.1 is n.2
 
 -- ---- what the note says
 

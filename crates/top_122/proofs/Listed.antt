@@ -2,7 +2,6 @@
 use Rattle.std.proofs.Common.{◌≡◌, ℕ, [], refl, sym, subst, arith, inl, inr}
 use Rattle.std.specs.Prelude.{Result, Ok, Err}
 use Rattle.port_122.specs.Outside.{Outside, Since, NoRead}
-use Rattle.port_122.proofs.Stretches.{since_note}
 use Rattle.base_122.specs.declared.wish.DecodeWish.{DecodeWish}
 use Rattle.packet_list.specs.declared.list.ListDone.{ListDone}
 use Rattle.packet_list.specs.declared.list.ListFault.{ListFault}
@@ -10,9 +9,8 @@ use Rattle.packet_list.specs.declared.list.ListFault.TheVariants.{ReadFault, Wri
 use Rattle.packet_list.specs.Answers.{IsListing, Lists}
 use Rattle.top_122.specs.Notes.{IsNoted, Notes, list_fault_status, list_fault_line, memory_line}
 use Rattle.top_122.specs.DamageNotes.{done_status, done_line}
-use Rattle.top_122.specs.Ran.{Ran, CausedWithin}
 use Rattle.top_122.specs.Decoding.{AsksLines, ListCauses, list_status, list_line, ListsPackets, TellsDone, reads_packets}
-use Rattle.top_122.proofs.NoteLines.{noted_since, nothing_noted}
+use Rattle.top_122.proofs.NoteLines.{ran_on, nothing_noted}
 use Rattle.top_122.proofs.Behaviours.{AtStatus, Law}
 use Rattle.top_122.proofs.ReadOut.{not_read_out}
 use Rattle.top_122.proofs.PacketInputs.{not_full}
@@ -21,38 +19,21 @@ use Rattle.top_122.proofs.Decoded.{out_later, undamaged_status, damaged_status, 
 -- ---- after the note
 
 pub listed : (wish : DecodeWish) (a b c : Outside) (done : ListDone) (status : ℕ) → Lists wish a b (Ok done) → TellsDone [] done.framing b c status → ListsPackets wish a c status
-listed wish a b c done status run n = inr record {
-  answer = Ok done;
-  took = run.took;
-  gave = run.gave;
-  wrote = n.wrote;
-  since = since_note run.since n.since;
-  cause = record {
-    within = run.within;
-    cause = record { lines = run.answer.lines; packets = run.answer.packets; framing_is = run.answer.framing_is; out = out_later wish.octets b c run.took n.wrote n.since run.answer.out };
-  };
-  status_is = n.status_is;
-  noted = noted_since a b c n.wrote _ run.since.faults.notes n.noted;
-}
+listed wish a b c done status run n =
+    let out = out_later wish.octets b c run.took n.wrote n.since run.answer.out in
+    let listing : IsListing wish c run.took run.gave done = record { lines = run.answer.lines; packets = run.answer.packets; framing_is = run.answer.framing_is; out = out } in
+    inr (ran_on a b c (Ok done) run.took run.gave n.wrote status run.since (record { within = run.within; cause = listing }) n.since n.status_is n.noted)
 
-ran_on : (wish : DecodeWish) (a b c : Outside) (fault : ListFault) (status : ℕ) → (run : Lists wish a b (Err fault)) → (n : Notes b c (list_fault_line fault)) →
-    ListCauses wish a c run.took run.gave (Err fault) → status ≡ list_fault_status fault → Ran (CausedWithin wish.octets (ListCauses wish)) (AsksLines wish) list_status list_line a c status
-ran_on wish a b c fault status run n cause is = record {
-  answer = Err fault;
-  took = run.took;
-  gave = run.gave;
-  wrote = n.0;
-  since = since_note run.since n.1;
-  cause = record { within = run.within; cause = cause };
-  status_is = is;
-  noted = noted_since a b c n.0 (list_fault_line fault) run.since.faults.notes n.2;
-}
+list_on : (wish : DecodeWish) (a b c : Outside) (fault : ListFault) (status : ℕ) → (run : Lists wish a b (Err fault)) → (n : Notes b c (list_fault_line fault)) →
+    ListCauses wish a c run.took run.gave (Err fault) → status ≡ list_fault_status fault → ListsPackets wish a c status
+list_on wish a b c fault status run n cause is =
+    inr (ran_on a b c (Err fault) run.took run.gave n.0 status run.since (record { within = run.within; cause = cause }) n.1 is n.2)
 
 pub list_failed : (wish : DecodeWish) (a b c : Outside) (fault : ListFault) (status : ℕ) → Lists wish a b (Err fault) → Notes b c (list_fault_line fault) →
     status ≡ list_fault_status fault → ListsPackets wish a c status
-list_failed wish a b c LongInput status run n is = inr (ran_on wish a b c LongInput status run n run.answer is)
-list_failed wish a b c ReadFault status run n is = inr (ran_on wish a b c ReadFault status run n (omega (arith, run.answer.0, n.1.faults.reads), run.answer.1) is)
-list_failed wish a b c WriteFault status run n is = inr (ran_on wish a b c WriteFault status run n (omega (arith, run.answer.0, n.1.faults.writes), run.answer.1) is)
+list_failed wish a b c LongInput status run n is = list_on wish a b c LongInput status run n run.answer is
+list_failed wish a b c ReadFault status run n is = list_on wish a b c ReadFault status run n (omega (arith, run.answer.0, n.1.faults.reads), run.answer.1) is
+list_failed wish a b c WriteFault status run n is = list_on wish a b c WriteFault status run n (omega (arith, run.answer.0, n.1.faults.writes), run.answer.1) is
 list_failed wish a b c Memory status run n is =
     let same : b ≡ a = sym run.answer.0 in
     inl record {

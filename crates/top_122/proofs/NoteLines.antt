@@ -5,9 +5,10 @@ use Rattle.std.specs.declared.alloc.Global.{Global}
 use Rattle.std.proofs.lemmas.List.{take-append-le}
 use Rattle.std.proofs.Math.Seq.{take-append-add, take-nil}
 use Rattle.port_122.specs.Outside.{Outside, Since, NoRead, Rose, NotesAll}
-use Rattle.port_122.proofs.Stretches.{since_out, rose_since}
+use Rattle.port_122.proofs.Stretches.{since_out, since_note, rose_since}
 use Rattle.command_words.specs.Words.{texts}
 use Rattle.top_122.specs.Notes.{IsNoted, Notes, word_at}
+use Rattle.top_122.specs.Ran.{Ran}
 
 -- a part, and then the rest of the line
 pub notes_then : (p q r : Outside) (part rest : List ℕ) → Since p q [] [] part NoRead → Notes q r rest → Notes p r (part ++ rest)
@@ -55,3 +56,18 @@ pub word_is : (words : List (String Global)) (place : ℕ) (word : String Global
 word_is [] place word lt is = absurd (omega arith)
 word_is (w ∷ words) zero word lt is = ap string_bytes is
 word_is (w ∷ words) (suc place) word lt is = word_is words place word (omega arith) is
+
+-- a run of an engine, and then its note
+pub ran_on : {R : Type 0} {causes : Outside → Outside → List ℕ → List ℕ → R → Type 0} {asks : Outside → List ℕ → List ℕ → ℕ → ℕ → Type 0} {status_of : R → ℕ} {line_of : R → List ℕ} →
+    (a b c : Outside) (answer : R) (took gave wrote : List ℕ) (status : ℕ) → Since a b took gave [] (asks a took gave) → causes a c took gave answer → Since b c [] [] wrote NoRead →
+    status ≡ status_of answer → IsNoted b c wrote (line_of answer) → Ran causes asks status_of line_of a c status
+ran_on a b c answer took gave wrote status run cause note is noted = record {
+  answer = answer;
+  took = took;
+  gave = gave;
+  wrote = wrote;
+  since = since_note run note;
+  cause = cause;
+  status_is = is;
+  noted = noted_since a b c wrote _ run.faults.notes noted;
+}

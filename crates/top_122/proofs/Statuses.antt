@@ -2,7 +2,7 @@
 use Rattle.std.proofs.Common.{◌≡◌, ◌≤◌, ℕ, List, [], length, refl, sym, subst, arith, take, inl, inr}
 use Rattle.std.specs.Prelude.{Result, Ok, Err, codes}
 use Rattle.port_122.specs.Outside.{Outside, Since, NoRead, Rose, GivenBy}
-use Rattle.port_122.proofs.Stretches.{since_note, at_end_later}
+use Rattle.port_122.proofs.Stretches.{since_start, since_note, at_end_later}
 use Rattle.base_122.specs.declared.setting.Setting.{Setting}
 use Rattle.strip_coder.specs.declared.encode.EncodeDone.{EncodeDone}
 use Rattle.strip_coder.specs.declared.encode.EncodeFault.{EncodeFault}
@@ -18,7 +18,7 @@ use Rattle.top_122.specs.Notes.{IsNoted, Notes, word_line, fault_status, fault_l
 use Rattle.top_122.specs.Trials.{made_with, trial_line, IsTried}
 use Rattle.top_122.specs.Behaviours.{Behaviour}
 use Rattle.top_122.specs.Run.{Refuses, encode_status, encode_line, Encodes, Gives, Tries, EncoderRefuses, encodes, makes, tries}
-use Rattle.top_122.proofs.NoteLines.{noted_since, nothing_noted}
+use Rattle.top_122.proofs.NoteLines.{ran_on, noted_since, nothing_noted}
 use Rattle.top_122.proofs.Behaviours.{AtStatus, Law}
 use Rattle.top_122.proofs.Inputs.{right_raster, wrong_raster}
 
@@ -43,30 +43,13 @@ lacks_memory s a b n = inl (record { wrote = n.0; since = n.1; status_is = refl;
 
 -- the encoder's run, and nothing to note
 pub encoded : (s : Setting) (a b : Outside) (done : EncodeDone) → EncodesImage s a b (Ok done) → Encodes s a b 0
-encoded s a b done run = inr (record {
-  answer = Ok done;
-  took = run.took;
-  gave = run.gave;
-  wrote = [];
-  since = run.since;
-  cause = run.answer;
-  status_is = refl;
-  noted = inl refl;
-})
+encoded s a b done run = inr (ran_on a b b (Ok done) run.took run.gave [] 0 run.since run.answer (since_start b NoRead) refl (inl refl))
 
 -- the encoder's run, and then its note
 pub encode_failed : (s : Setting) (a b c : Outside) (fault : EncodeFault) (status : ℕ) → EncodesImage s a b (Err fault) → Notes b c (fault_line fault) →
     status ≡ fault_status fault → Encodes s a c status
-encode_failed s a b c fault status run n is = inr (record {
-  answer = Err fault;
-  took = run.took;
-  gave = run.gave;
-  wrote = n.0;
-  since = since_note run.since n.1;
-  cause = causes_later s a b c run.took run.gave n.0 (Err fault) n.1 run.answer;
-  status_is = is;
-  noted = noted_since a b c n.0 (fault_line fault) run.since.faults.notes n.2;
-})
+encode_failed s a b c fault status run n is =
+    inr (ran_on a b c (Err fault) run.took run.gave n.0 status run.since (causes_later s a b c run.took run.gave n.0 (Err fault) n.1 run.answer) n.1 is n.2)
 
 pub given_whole : (octets : List ℕ) (a b : Outside) → Since a b [] octets [] NoRead → Gives octets a b 0
 given_whole octets a b s = record {
