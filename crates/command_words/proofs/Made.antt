@@ -14,9 +14,8 @@ use Rattle.command_words.specs.declared.tables.Key.TheVariants as key
 use Rattle.command_words.specs.declared.command.Command.{Command}
 use Rattle.command_words.specs.declared.command.WordFault.{WordFault}
 use Rattle.command_words.specs.declared.command.WordFault.TheVariants.{MissingKey, OutOfRange}
-use Rattle.command_words.specs.Tables.{row_of}
-use Rattle.command_words.specs.Entries.{Finds}
-use Rattle.command_words.specs.Commands.{setting_of, wish_of, made_image_of, number_at, is_small, passes, command_of, after, first_missing, first_refused, field_of, made, IsMadeInRange, IsInRange}
+use Rattle.command_words.specs.Tables.{command_of, row_of, Finds, setting_of, wish_of, made_image_of, number_at}
+use Rattle.command_words.specs.Commands.{is_small, passes, after, first_missing, first_refused, field_of, made, IsMadeInRange, IsInRange}
 
 -- the first key passes, and so do those after it
 passed : (b : Bool) (key : Key) (field : Field) (rest : Option Key) → (row_of key).field ≡ Some field →

@@ -15,9 +15,9 @@ use Rattle.command_words.specs.declared.entries.Entry.{Entry}
 use Rattle.command_words.specs.declared.command.Command.{Command}
 use Rattle.command_words.specs.declared.command.WordFault.{WordFault}
 use Rattle.command_words.specs.declared.command.WordFault.TheVariants.{MissingCommand, BadWord, MissingKey, OutOfRange}
-use Rattle.command_words.specs.Tables.{row_of, command_named}
+use Rattle.command_words.specs.Tables.{row_of, command_named, Finds}
 use Rattle.command_words.specs.Values.{value_text, form_of, HasForm}
-use Rattle.command_words.specs.Entries.{Finds, nothing, with_entry, IsKeyed, IsEntry, WordSays, EntriesSay}
+use Rattle.command_words.specs.Entries.{nothing, with_entry, IsKeyed, IsEntry, WordSays, EntriesSay}
 use Rattle.command_words.specs.Words.{named_or_fault, name_said, made_of, RestSays, Says}
 use Rattle.command_words.proofs.Separators.{split_one}
 use Rattle.command_words.proofs.ValueTexts.{no_dot, digit}

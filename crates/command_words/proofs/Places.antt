@@ -9,9 +9,9 @@ use Rattle.command_words.specs.declared.tables.Key.{Key}
 use Rattle.command_words.specs.declared.command.Command.{Command}
 use Rattle.command_words.specs.declared.command.WordFault.{WordFault}
 use Rattle.command_words.specs.declared.command.WordFault.TheVariants.{MissingCommand, BadWord, MissingKey, OutOfRange}
-use Rattle.command_words.specs.Tables.{command_named}
-use Rattle.command_words.specs.Entries.{Finds, nothing, with_entry, WordSays, EntriesSay}
-use Rattle.command_words.specs.Commands.{command_of, after, first_missing, first_refused, field_of}
+use Rattle.command_words.specs.Tables.{command_of, command_named, Finds}
+use Rattle.command_words.specs.Entries.{nothing, with_entry, WordSays, EntriesSay}
+use Rattle.command_words.specs.Commands.{after, first_missing, first_refused, field_of}
 use Rattle.command_words.specs.Words.{texts, named_or_fault, name_said, made_of, RestSays, Says, IsPlaced}
 
 word_placed : (keys : List Key) (finds : Finds) (place count : ℕ) (word : List ℕ) (fault : WordFault) → place < count →

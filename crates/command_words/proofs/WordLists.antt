@@ -3,11 +3,12 @@ use Rattle.std.proofs.Common.{◌≡◌, ◌≤◌, ◌-◌, ◌+◌, ℕ, List,
 use Rattle.std.specs.Prelude.{String, string_bytes, Result, Err}
 use Rattle.std.specs.declared.alloc.Global.{Global}
 use Rattle.std.proofs.lemmas.List.{take_rest}
+use Rattle.command_words.specs.Tables.{Finds}
 use Rattle.command_words.specs.declared.tables.Key.{Key}
 use Rattle.command_words.specs.declared.entries.Entry.{Entry}
 use Rattle.command_words.specs.declared.command.WordFault.{WordFault}
 use Rattle.command_words.specs.Words.{texts}
-use Rattle.command_words.specs.Entries.{Finds, IsEntry, WordSays, EntriesSay, with_entry}
+use Rattle.command_words.specs.Entries.{IsEntry, WordSays, EntriesSay, with_entry}
 
 -- the first word and those after it
 pub first_word : (words : List (String Global)) (word : String Global) → 1 ≤ length words → word ≡ get_or words 0 word →

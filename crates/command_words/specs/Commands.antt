@@ -1,77 +1,23 @@
 -- What the values make: a command, or the first thing that is wrong with them. This project's own.
-use Rattle.std.specs.Prelude.{◌≤◌, ◌*◌, ◌&&◌, ◌||◌, ◌==◌, nat_le, ℕ, Bool, true, not, List, find, is_some, unwrap_or, option_and_then, Option, Some, None, Result, Ok, Err}
+use Rattle.std.specs.Prelude.{◌≤◌, ◌*◌, ◌&&◌, ◌||◌, ◌==◌, nat_le, Bool, true, not, List, find, is_some, option_and_then, Option, Some, None, Result, Ok, Err}
 use Rattle.std.specs.List.{list_all}
 use Rattle.base_122.specs.Weights.{is_shift}
 use Rattle.base_122.specs.Ranges.{IsWithin, is_within, width_range, rows_range, depth_range, plane_range, stage_range, limit_test, IsInRange as IsSettingInRange, IsWishInRange}
 use Rattle.base_122.specs.declared.field.Field.{Field}
-use Rattle.base_122.specs.declared.setting.Setting.{Setting}
-use Rattle.base_122.specs.declared.wish.DecodeWish.{DecodeWish}
 use Rattle.raster_rows.specs.declared.made.MadeImage.{MadeImage}
 use Rattle.command_words.specs.declared.tables.Task.{Task}
-use Rattle.command_words.specs.declared.tables.Task.TheVariants.{Encode as to_encode, Read as to_read, Make as to_make, Trial as to_try}
+use Rattle.command_words.specs.declared.tables.Task.TheVariants.{Trial as to_try}
 use Rattle.command_words.specs.declared.tables.Key.{Key}
-use Rattle.command_words.specs.declared.tables.Key.TheVariants.{Width, Rows, Depth, Signed, Segment, Limit, Fill, Word, Stop, Weights, Select, Apid, Image, Packet, Pixels, Octets, Seed}
+use Rattle.command_words.specs.declared.tables.Key.TheVariants.{Width, Rows, Limit, Word}
 use Rattle.command_words.specs.declared.tables.Range.{Range}
 use Rattle.command_words.specs.declared.tables.Range.TheVariants.{All as any_value, Number as number_range, Cap as cap_range, Rows as few_rows, Limit as limit_range, Fill as fill_range, Stop as stop_range, Weights as weights_range}
 use Rattle.command_words.specs.declared.tables.TheConstants.{ALL}
-use Rattle.command_words.specs.declared.values.Value.{Value}
 use Rattle.command_words.specs.declared.command.Command.{Command}
 use Rattle.command_words.specs.declared.command.Command.TheVariants.{Encode, Read, Make, Trial}
 use Rattle.command_words.specs.declared.command.WordFault.{WordFault}
 use Rattle.command_words.specs.declared.command.WordFault.TheVariants.{MissingKey, OutOfRange}
-use Rattle.command_words.specs.Tables.{row_of}
-use Rattle.command_words.specs.Values.{number_of, cap_of, flag_of, stop_of, weights_of, select_of}
-use Rattle.command_words.specs.Entries.{Finds}
-
--- ---- the values
-
--- a key's value, or its default
-abbrev pub value_at : Finds → Key → Value
-value_at finds key = unwrap_or (finds key) (row_of key).default
-
-abbrev pub number_at : Finds → Key → ℕ
-number_at finds key = number_of (value_at finds key)
-
--- the setting of the values; its numbers may be out of range
-abbrev pub setting_of : Finds → Setting
-setting_of finds = record {
-  width = number_at finds Width;
-  rows = number_at finds Rows;
-  depth = number_at finds Depth;
-  signed = flag_of (value_at finds Signed);
-  segment = number_at finds Segment;
-  limit = number_at finds Limit;
-  fill = flag_of (value_at finds Fill);
-  word = number_at finds Word;
-  stop = stop_of (value_at finds Stop);
-  weights = weights_of (value_at finds Weights);
-  select = select_of (value_at finds Select);
-  apid = number_at finds Apid;
-  image = number_at finds Image;
-  packet = number_at finds Packet;
-}
-
--- what is asked of a decoder
-abbrev pub wish_of : Finds → DecodeWish
-wish_of finds = record { apid = number_at finds Apid; pixels = cap_of (value_at finds Pixels); octets = cap_of (value_at finds Octets) }
-
--- the made image of the values
-abbrev pub made_image_of : Finds → MadeImage
-made_image_of finds = record {
-  width = number_at finds Width;
-  rows = number_at finds Rows;
-  depth = number_at finds Depth;
-  signed = flag_of (value_at finds Signed);
-  seed = number_at finds Seed;
-}
-
-abbrev pub command_of : Task → Finds → Command
-command_of to_encode finds = Encode (setting_of finds)
-command_of (to_read reading) finds = Read reading (wish_of finds)
-command_of to_make finds = Make (made_image_of finds)
-command_of to_try finds = Trial (setting_of finds) (number_at finds Seed)
-
--- ---- their tests
+use Rattle.command_words.specs.Values.{cap_of, flag_of, stop_of, weights_of}
+use Rattle.command_words.specs.Tables.{Finds, row_of, value_at, number_at, command_of}
 
 -- an image that isn't too great for a trial has at most 2^24 pixels
 abbrev pub is_small : Task → Finds → Bool

@@ -1,16 +1,11 @@
 -- The words after the command, one by one. This project's own.
-use Rattle.std.specs.Prelude.{◌≡◌, ◌⊎◌, ◌+◌, ◌==◌, ℕ, List, [], ◌∷◌, ◌++◌, codes, true, if◌then◌else◌, Option, Some, None, Result, Ok, Err}
+use Rattle.std.specs.Prelude.{◌≡◌, ◌⊎◌, ◌+◌, ◌==◌, ℕ, List, [], ◌∷◌, ◌++◌, codes, true, if◌then◌else◌, Some, None, Result, Ok, Err}
 use Rattle.command_words.specs.declared.tables.Key.{Key}
-use Rattle.command_words.specs.declared.values.Value.{Value}
 use Rattle.command_words.specs.declared.entries.Entry.{Entry}
 use Rattle.command_words.specs.declared.command.WordFault.{WordFault}
 use Rattle.command_words.specs.declared.command.WordFault.TheVariants.{MissingCommand, BadWord, MissingKey, OutOfRange}
-use Rattle.command_words.specs.Tables.{key_text, key_place, row_of, contains_key}
+use Rattle.command_words.specs.Tables.{Finds, key_text, key_place, row_of, contains_key}
 use Rattle.command_words.specs.Values.{value_text, form_of, HasForm}
-
--- the value that was found at each key
-abbrev pub Finds : Type 0
-Finds = Key → Option Value
 
 -- no key yet
 abbrev pub nothing : Finds

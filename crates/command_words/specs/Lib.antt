@@ -1,5 +1,5 @@
-pub mod Tables
 pub mod Values
+pub mod Tables
 pub mod Entries
 pub mod Commands
 pub mod Words

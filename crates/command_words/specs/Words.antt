@@ -6,8 +6,8 @@ use Rattle.command_words.specs.declared.tables.Key.{Key}
 use Rattle.command_words.specs.declared.command.Command.{Command}
 use Rattle.command_words.specs.declared.command.WordFault.{WordFault}
 use Rattle.command_words.specs.declared.command.WordFault.TheVariants.{MissingCommand, BadWord, MissingKey, OutOfRange}
-use Rattle.command_words.specs.Tables.{command_named}
-use Rattle.command_words.specs.Entries.{Finds, nothing, EntriesSay}
+use Rattle.command_words.specs.Tables.{command_named, Finds}
+use Rattle.command_words.specs.Entries.{nothing, EntriesSay}
 use Rattle.command_words.specs.Commands.{made}
 
 -- the octets of each word

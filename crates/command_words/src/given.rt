@@ -17,9 +17,10 @@ pub struct Given {
 impl Given {
     ghost use Rattle.std.specs.Prelude.{◌≡◌, ◌<◌, ◌^◌, is_some};
     ghost use Rattle.base_122.specs.Ranges.{IsInRange, IsWishInRange};
+    ghost use Rattle.command_words.specs.Tables.{value_at, number_at, setting_of, wish_of, made_image_of};
     ghost use Rattle.command_words.specs.Entries.{nothing, with_entry};
     ghost use Rattle.command_words.specs.Values.{cap_of, flag_of, stop_of, weights_of, select_of};
-    ghost use Rattle.command_words.specs.Commands.{value_at, number_at, setting_of, wish_of, made_image_of, passes, range_test, is_missing, is_small, IsMadeInRange};
+    ghost use Rattle.command_words.specs.Commands.{passes, range_test, is_missing, is_small, IsMadeInRange};
     ghost use Rattle.command_words.specs.Given.{finds_of};
 
     /// No key yet.

@@ -3,7 +3,8 @@ ghost use Rattle.std.specs.Prelude.{◌≡◌, Result, IfOk, IfErr, length};
 ghost use Rattle.command_words.specs.declared.command.Command.{Command};
 ghost use Rattle.command_words.specs.declared.command.WordFault.{WordFault};
 ghost use Rattle.command_words.specs.Words.{texts, Says, IsPlaced};
-ghost use Rattle.command_words.specs.Commands.{made, command_of, first_missing, first_refused, field_of, IsInRange};
+ghost use Rattle.command_words.specs.Tables.{command_of};
+ghost use Rattle.command_words.specs.Commands.{made, first_missing, first_refused, field_of, IsInRange};
 ghost use Rattle.command_words.specs.Given.{finds_of};
 
 use crate::command::{Command, WordFault};

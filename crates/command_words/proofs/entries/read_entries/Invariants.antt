@@ -1,8 +1,9 @@
 use Rattle.std.proofs.Common.{◌≡◌, ◌+◌, length}
 use Rattle.std.specs.Prelude.{Result}
+use Rattle.command_words.specs.Tables.{Finds}
 use Rattle.command_words.specs.declared.command.WordFault.{WordFault}
 use Rattle.command_words.specs.Words.{texts}
-use Rattle.command_words.specs.Entries.{Finds, nothing, EntriesSay}
+use Rattle.command_words.specs.Entries.{nothing, EntriesSay}
 use Rattle.command_words.specs.Given.{finds_of}
 use Rattle.command_words.proofs.entries.read_entries.Given as goal
 
