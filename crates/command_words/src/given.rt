@@ -1,6 +1,6 @@
 // What was found at the keys.
 use crate::entries::Entry;
-use crate::tables::{Key, Range, Task};
+use crate::tables::{COUNT, Key, Range, Task};
 use crate::values::Value;
 use base_122::{DecodeWish, FieldRange, Select, Setting, Stop, Weights, is_limit_in_range};
 use raster_rows::MadeImage;
@@ -11,7 +11,7 @@ const TRIAL: u64 = 1 << 24;
 /// The value that was found at each key.
 #[derive(Clone, Copy)]
 pub struct Given {
-    found: [Option<Value>; 17],
+    found: [Option<Value>; COUNT],
 }
 
 impl Given {
@@ -27,7 +27,9 @@ impl Given {
     pub fn new() -> Given
         ensures { finds_of result ≡ nothing }
     {
-        Given { found: [None; 17] }
+        Given {
+            found: [None; COUNT],
+        }
     }
 
     /// Whether the key was found.

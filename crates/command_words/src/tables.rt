@@ -6,7 +6,7 @@ use crate::values::Value;
 use base_122::{Field, FieldRange, Select, Weights};
 
 /// What a command does.
-#[derive(Clone, Copy, Debug, PartialEq, Eq)]
+#[derive(Clone, Copy)]
 pub enum Task {
     Encode,
     Read(Reading),
@@ -105,8 +105,11 @@ pub struct KeyRow {
     pub group: Group,
 }
 
+/// How many keys there are.
+pub const COUNT: usize = 17;
+
 /// All keys in the order in which their ranges are tested, which is that of `Field`.
-pub const ALL: [Key; 17] = [
+pub const ALL: [Key; COUNT] = [
     Key::Width,
     Key::Rows,
     Key::Depth,
@@ -142,7 +145,7 @@ macro_rules! key_row {
 }
 
 // The table of keys: of each its name and its row, in the order of `Key`.
-const KEYS: [(&str, KeyRow); 17] = [
+const KEYS: [(&str, KeyRow); COUNT] = [
     key_row! { "width": required Value::Number(17), Some(Field::Width), Range::Number(FieldRange::WIDTH), What },
     key_row! { "rows": required Value::Number(17), Some(Field::Rows), Range::Rows(FieldRange::ROWS), What },
     key_row! { "depth": Value::Number(8), Some(Field::Depth), Range::Number(FieldRange::DEPTH), What },
