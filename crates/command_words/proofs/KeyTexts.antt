@@ -8,9 +8,10 @@ use Rattle.std.proofs.lemmas.Bool.{false≢true, and_parts, eq-eqb}
 use Rattle.std.proofs.lemmas.Slice.Eq.{bytes_eq-Decides}
 use Rattle.std.proofs.lemmas.Str.Pattern.{split_after, IsSplitOnceResult}
 use Rattle.command_words.proofs.Separators.{split_one}
-use Rattle.command_words.specs.declared.keys.Key.{Key}
-use Rattle.command_words.specs.declared.keys.Key.TheVariants.{Width, Rows, Depth, Signed, Segment, Limit, Fill, Word, Stop, Weights, Select, Apid, Image, Packet, Pixels, Octets, Seed}
-use Rattle.command_words.specs.Keys.{key_text, key_named, all_keys}
+use Rattle.command_words.specs.declared.tables.Key.{Key}
+use Rattle.command_words.specs.declared.tables.Key.TheVariants.{Width}
+use Rattle.command_words.specs.Tables.{key_text, key_named}
+use Rattle.command_words.specs.declared.tables.TheConstants.{ALL}
 use Rattle.command_words.specs.Entries.{IsKeyed}
 
 -- no octet is an equals sign
@@ -26,42 +27,12 @@ plain_at (b ∷ bs) plain (suc i) below e = plain_at bs (and_parts (not (b == 61
 
 plain_key : (key : Key) → is_plain (key_text key) ≡ true
 plain_key Width = refl
-plain_key Rows = refl
-plain_key Depth = refl
-plain_key Signed = refl
-plain_key Segment = refl
-plain_key Limit = refl
-plain_key Fill = refl
-plain_key Word = refl
-plain_key Stop = refl
-plain_key Weights = refl
-plain_key Select = refl
-plain_key Apid = refl
-plain_key Image = refl
-plain_key Packet = refl
-plain_key Pixels = refl
-plain_key Octets = refl
-plain_key Seed = refl
+plain_key key = refl
 
 -- each key has the name by which it is found
 pub named_text : (key : Key) → key_named (key_text key) ≡ Some key
 named_text Width = refl
-named_text Rows = refl
-named_text Depth = refl
-named_text Signed = refl
-named_text Segment = refl
-named_text Limit = refl
-named_text Fill = refl
-named_text Word = refl
-named_text Stop = refl
-named_text Weights = refl
-named_text Select = refl
-named_text Apid = refl
-named_text Image = refl
-named_text Packet = refl
-named_text Pixels = refl
-named_text Octets = refl
-named_text Seed = refl
+named_text key = refl
 
 passes_here : (p : Key → Bool) (key other : Key) (rest : Option Key) (b : Bool) → p other ≡ b → cond b (Some other) rest ≡ Some key →
     (rest ≡ Some key → p key ≡ true) → p key ≡ true
@@ -73,7 +44,7 @@ found_passes p [] key e = absurd (cc)
 found_passes p (other ∷ keys) key e = passes_here p key other (find p keys) (p other) refl e (found_passes p keys key)
 
 pub text_of_named : (text : List ℕ) (key : Key) → key_named text ≡ Some key → key_text key ≡ text
-text_of_named text key e = (bytes_eq-Decides (key_text key) text).0 (found_passes (λ own. bytes_eq (key_text own) text) all_keys key e)
+text_of_named text key e = (bytes_eq-Decides (key_text key) text).0 (found_passes (λ own. bytes_eq (key_text own) text) ALL key e)
 
 -- what stands before and after the first equals sign of a word with a key
 pub keyed_parts : (word text : List ℕ) (key : Key) (r : Option (Bor (List ℕ) × Bor (List ℕ))) → IsSplitOnceResult 61 word r → IsKeyed word key text →

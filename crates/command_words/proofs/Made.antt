@@ -1,69 +1,98 @@
 -- What the values make is in range.
-use Rattle.std.proofs.Common.{◌≡◌, ◌≤◌, ◌*◌, refl, arith, true, false}
-use Rattle.std.specs.Prelude.{Result, Ok, Option, Some, None, IfOk, Bool, not, cond, ◌&&◌}
+use Rattle.std.proofs.Common.{◌≡◌, ◌*◌, List, [], ◌∷◌, refl, arith, true, false}
+use Rattle.std.specs.Prelude.{Option, Some, None, Result, Ok, IfOk, Bool, not, cond, find, nat_le}
 use Rattle.std.proofs.lemmas.Bool.{and_parts}
 use Rattle.std.proofs.lemmas.Bool.Decides.{nat_tests}
-use Rattle.base_122.specs.Ranges.{width_range, rows_range, depth_range, apid_range, pixels_range, octets_range, field_test, IsInRange as IsSettingInRange, IsWishInRange}
+use Rattle.base_122.specs.Ranges.{width_range, rows_range, depth_range, apid_range, pixels_range, octets_range, is_within, field_test, fields, IsInRange as IsSettingInRange, IsWishInRange}
 use Rattle.base_122.specs.declared.field.Field.{Field}
-use Rattle.base_122.specs.declared.field.Field.TheVariants.{Width, Rows, Depth, Apid, Pixels, Octets}
-use Rattle.base_122.proofs.RangeChecks.{within, passed, in_range-from_none}
-use Rattle.command_words.specs.declared.keys.CommandName.{CommandName}
-use Rattle.command_words.specs.declared.keys.CommandName.TheVariants.{Encode, Decode, Damage, List as ListName, Make, Trial}
+use Rattle.base_122.specs.declared.field.Field.TheVariants as field
+use Rattle.base_122.proofs.RangeChecks.{within, in_range-from_none}
+use Rattle.command_words.specs.declared.tables.Task.{Task}
+use Rattle.command_words.specs.declared.tables.Task.TheVariants.{Encode, Read, Make, Trial}
+use Rattle.command_words.specs.declared.tables.Key.{Key}
+use Rattle.command_words.specs.declared.tables.Key.TheVariants as key
 use Rattle.command_words.specs.declared.command.Command.{Command}
 use Rattle.command_words.specs.declared.command.WordFault.{WordFault}
-use Rattle.command_words.specs.Entries.{Finds}
-use Rattle.command_words.specs.Commands.{setting_of, wish_of, field_passes, is_small, command_of, after, out_of_range, missing_key, first_refused, made, IsInRange}
+use Rattle.command_words.specs.declared.command.WordFault.TheVariants.{MissingKey, OutOfRange}
+use Rattle.command_words.specs.Tables.{command_of, row_of, Finds, setting_of, wish_of, made_image_of, number_at}
+use Rattle.command_words.specs.Commands.{is_small, passes, after, first_missing, first_refused, field_of, made, IsMadeInRange, IsInRange}
 
-wish_in_range : (finds : Finds) → first_refused Decode finds ≡ None → IsWishInRange (wish_of finds)
-wish_in_range finds e =
+-- the first key passes, and so do those after it
+passed : (b : Bool) (key : Key) (field : Field) (rest : Option Key) → (row_of key).field ≡ Some field →
+    field_of (cond (not b) (Some key) rest) ≡ None → (b ≡ true) × (field_of rest ≡ None)
+passed true key field rest has e = (refl, e)
+passed false key field rest has e = absurd (cc)
+
+-- fields that all pass have no first that doesn't
+AllPass : (Field → Bool) → List Field → Type 0
+AllPass p [] = Unit {0}
+AllPass p (field ∷ fields) = (p field ≡ true) × AllPass p fields
+
+skipped : (b : Bool) (field : Field) (rest : Option Field) → b ≡ true → rest ≡ None → cond (not b) (Some field) rest ≡ None
+skipped true field rest passes e = e
+skipped false field rest passes e = absurd (let h : false ≡ true = passes in cc)
+
+none_fails : (p : Field → Bool) (fields : List Field) → AllPass p fields → find (λ field. not (p field)) fields ≡ None
+unfolding AllPass
+none_fails p [] all = refl
+none_fails p (field ∷ fields) all = skipped (p field) field (find (λ field. not (p field)) fields) all.0 (none_fails p fields all.1)
+
+-- All that is made of values in range.
+record AllInRange (task : Task) (finds : Finds) : Type 0 where
+  setting : IsSettingInRange (setting_of finds)
+  wish : IsWishInRange (wish_of finds)
+  made_image : IsMadeInRange (made_image_of finds)
+  small : is_small task finds ≡ true
+
+all_in_range : (task : Task) (finds : Finds) → field_of (first_refused task finds) ≡ None → AllInRange task finds
+unfolding AllPass
+all_in_range task finds e =
+    let s = setting_of finds in
     let wish = wish_of finds in
-    let a = passed (field_passes finds Apid) Apid _ e in
-    let p = passed (field_passes finds Pixels) Pixels _ a.1 in
-    let o = passed (field_passes finds Octets) Octets _ p.1 in
+    let w = passed (passes task finds key.Width) key.Width field.Width _ refl e in
+    let r = passed (passes task finds key.Rows) key.Rows field.Rows _ refl w.1 in
+    let d = passed (passes task finds key.Depth) key.Depth field.Depth _ refl r.1 in
+    let g = passed (passes task finds key.Segment) key.Segment field.Segment _ refl d.1 in
+    let l = passed (passes task finds key.Limit) key.Limit field.Limit _ refl g.1 in
+    let f = passed (passes task finds key.Fill) key.Fill field.Fill _ refl l.1 in
+    let o = passed (passes task finds key.Word) key.Word field.Word _ refl f.1 in
+    let p = passed (passes task finds key.Stop) key.Stop field.Stop _ refl o.1 in
+    let h = passed (passes task finds key.Weights) key.Weights field.Weights _ refl p.1 in
+    let a = passed (passes task finds key.Apid) key.Apid field.Apid _ refl h.1 in
+    let i = passed (passes task finds key.Image) key.Image field.Image _ refl a.1 in
+    let k = passed (passes task finds key.Packet) key.Packet field.Packet _ refl i.1 in
+    let x = passed (passes task finds key.Pixels) key.Pixels field.Pixels _ refl k.1 in
+    let y = passed (passes task finds key.Octets) key.Octets field.Octets _ refl x.1 in
+    let rows = and_parts (is_within rows_range s.rows) (is_small task finds) r.0 in
     record {
-      apid = (within apid_range wish.apid).0 a.0;
-      pixels = (within pixels_range wish.pixels).0 p.0;
-      octets = (within octets_range wish.octets).0 o.0;
+      setting = in_range-from_none s (none_fails (field_test s) fields (w.0, (rows.0, (d.0, (g.0, (l.0, (f.0, (o.0, (p.0, (h.0, (a.0, (i.0, (k.0, tt)))))))))))));
+      wish = record {
+        apid = (within apid_range wish.apid).0 a.0;
+        pixels = (within pixels_range wish.pixels).0 x.0;
+        octets = (within octets_range wish.octets).0 y.0;
+      };
+      made_image = record {
+        width = (within width_range s.width).0 w.0;
+        rows = (within rows_range s.rows).0 rows.0;
+        depth = (within depth_range s.depth).0 d.0;
+      };
+      small = rows.1;
     }
 
-pass : (b : Bool) (field : Field) (rest : Option Field) → b ≡ true → rest ≡ None → cond (not b) (Some field) rest ≡ None
-pass true field rest passes e = e
-pass false field rest passes e = absurd (let h : false ≡ true = passes in cc)
+-- no key that is tested is out of range
+pub command_in_range : (task : Task) (finds : Finds) → field_of (first_refused task finds) ≡ None → IsInRange (command_of task finds)
+command_in_range Encode finds e = (all_in_range Encode finds e).setting
+command_in_range (Read reading) finds e = (all_in_range (Read reading) finds e).wish
+command_in_range Make finds e = (all_in_range Make finds e).made_image
+command_in_range Trial finds e =
+    let all = all_in_range Trial finds e in
+    let small : nat_le (number_at finds key.Width * number_at finds key.Rows) 16777216 ≡ true = all.small in
+    (all.setting, grind (arith, nat_tests, small))
 
-trial_in_range : (finds : Finds) → first_refused Trial finds ≡ None → IsSettingInRange (setting_of finds) × ((setting_of finds).width * (setting_of finds).rows ≤ 16777216)
-trial_in_range finds e =
-    let s = setting_of finds in
-    let w = passed (field_test s Width) Width _ e in
-    let r = passed (field_test s Rows && is_small s) Rows _ w.1 in
-    let both = and_parts (field_test s Rows) (is_small s) r.0 in
-    (in_range-from_none s (pass (field_test s Width) Width _ w.0 (pass (field_test s Rows) Rows _ both.0 r.1)), grind (arith, nat_tests, both.1))
+ok_after : (fault : Field → WordFault) (first : Option Field) (result : Result Command WordFault) → (first ≡ None → IfOk result IsInRange) → IfOk (after fault first result) IsInRange
+ok_after fault None result ok = ok refl
+ok_after fault (Some field) result ok = tt
 
--- no field that is tested is out of range
-pub command_in_range : (name : CommandName) (finds : Finds) → first_refused name finds ≡ None → IsInRange (command_of name finds)
-command_in_range Encode finds e = in_range-from_none (setting_of finds) e
-command_in_range Decode finds e = wish_in_range finds e
-command_in_range Damage finds e = wish_in_range finds e
-command_in_range ListName finds e = wish_in_range finds e
-command_in_range Trial finds e = trial_in_range finds e
-command_in_range Make finds e =
-    let s = setting_of finds in
-    let w = passed (field_test s Width) Width _ e in
-    let r = passed (field_test s Rows) Rows _ w.1 in
-    let d = passed (field_test s Depth) Depth _ r.1 in
-    record {
-      width = (within width_range s.width).0 w.0;
-      rows = (within rows_range s.rows).0 r.0;
-      depth = (within depth_range s.depth).0 d.0;
-    }
-
-ok_after : (test : Option WordFault) (result : Result Command WordFault) → IfOk result IsInRange → IfOk (after test result) IsInRange
-ok_after None result ok = ok
-ok_after (Some fault) result ok = tt
-
-range_after : (name : CommandName) (finds : Finds) (first : Option Field) → first_refused name finds ≡ first →
-    IfOk (after (out_of_range first) (Ok (command_of name finds))) IsInRange
-range_after name finds None e = command_in_range name finds e
-range_after name finds (Some field) e = tt
-
-pub made_in_range : (name : CommandName) (finds : Finds) → IfOk (made name finds) IsInRange
-made_in_range name finds = ok_after (missing_key name finds) _ (range_after name finds (first_refused name finds) refl)
+pub made_in_range : (task : Task) (keys : List Key) (finds : Finds) → IfOk (made task keys finds) IsInRange
+made_in_range task keys finds =
+    ok_after MissingKey (field_of (first_missing keys finds)) _ (λ _. ok_after OutOfRange (field_of (first_refused task finds)) (Ok (command_of task finds)) (command_in_range task finds))

@@ -1,24 +1,24 @@
 -- Words say one thing at most.
 use Rattle.std.proofs.Common.{◌≡◌, ◌<◌, ◌≤◌, ◌+◌, ◌^◌, ℕ, List, [], ◌∷◌, ◌++◌, map, decimal, get_or, refl, sym, ◌∙◌, ap, subst, inl, inr, arith, append_assoc, true, false}
-use Rattle.std.specs.Prelude.{codes, Result, Ok, Err}
+use Rattle.std.specs.Prelude.{codes, Some, None, Result, Ok, Err}
 use Rattle.std.proofs.lemmas.Fmt.{decimal_injective, decimal_nonempty}
 use Rattle.std.proofs.lemmas.List.{get_or_append_left}
 use Rattle.base_122.specs.declared.weights.Weights.{Weights as TenWeights}
 use Rattle.base_122.specs.declared.setting.Select.TheVariants.{Heuristic, Optimal}
-use Rattle.command_words.specs.declared.keys.CommandName.{CommandName}
-use Rattle.command_words.specs.declared.keys.Key.{Key}
-use Rattle.command_words.specs.declared.keys.Form.{Form}
-use Rattle.command_words.specs.declared.keys.Form.TheVariants.{Number, Cap, Flag, Stop, Weights, Select}
+use Rattle.command_words.specs.declared.tables.Task.{Task}
+use Rattle.command_words.specs.declared.tables.Key.{Key}
+use Rattle.command_words.specs.declared.tables.Form.{Form}
+use Rattle.command_words.specs.declared.tables.Form.TheVariants.{Number, Cap, Flag, Stop, Weights, Select}
 use Rattle.command_words.specs.declared.values.Value.{Value}
 use Rattle.command_words.specs.declared.values.Value.TheVariants.{Number as NumberValue, Cap as CapValue, Flag as FlagValue, StopDc, StopAt, Weights as WeightsValue, Select as SelectValue}
 use Rattle.command_words.specs.declared.entries.Entry.{Entry}
 use Rattle.command_words.specs.declared.command.Command.{Command}
 use Rattle.command_words.specs.declared.command.WordFault.{WordFault}
 use Rattle.command_words.specs.declared.command.WordFault.TheVariants.{MissingCommand, BadWord, MissingKey, OutOfRange}
-use Rattle.command_words.specs.Keys.{form_of}
-use Rattle.command_words.specs.Values.{value_text, HasForm}
-use Rattle.command_words.specs.Entries.{Finds, nothing, with_entry, IsKeyed, IsEntry, WordSays, EntriesSay}
-use Rattle.command_words.specs.Words.{name_said, made_of, RestSays, Says}
+use Rattle.command_words.specs.Tables.{row_of, command_named, Finds}
+use Rattle.command_words.specs.Values.{value_text, form_of, HasForm}
+use Rattle.command_words.specs.Entries.{nothing, with_entry, IsKeyed, IsEntry, WordSays, EntriesSay}
+use Rattle.command_words.specs.Words.{named_or_fault, name_said, made_of, RestSays, Says}
 use Rattle.command_words.proofs.Separators.{split_one}
 use Rattle.command_words.proofs.ValueTexts.{no_dot, digit}
 use Rattle.command_words.proofs.KeyTexts.{keyed_one}
@@ -79,58 +79,59 @@ value_one Select (SelectValue Optimal) (SelectValue Optimal) p q e = refl
 value_one form v w p q e = absurd assumption
 
 same_value : (word : List ℕ) (key key' : Key) (v w : Value) → IsKeyed word key (value_text v) → IsKeyed word key' (value_text w) →
-    HasForm (form_of key) v → HasForm (form_of key') w → v ≡ w
+    HasForm (form_of (row_of key).default) v → HasForm (form_of (row_of key').default) w → v ≡ w
 same_value word key key' v w is is' p q =
     let same = keyed_one word (value_text v) (value_text w) key key' is is' in
-    value_one (form_of key) v w p (subst (λ k. HasForm (form_of k) w) (sym same.0) q) same.1
+    value_one (form_of (row_of key).default) v w p (subst (λ k. HasForm (form_of (row_of k).default) w) (sym same.0) q) same.1
 
-entry_one : (name : CommandName) (finds : Finds) (word : List ℕ) (a b : Entry) → IsEntry name finds word a → IsEntry name finds word b → a ≡ b
-entry_one name finds word a b p q =
+entry_one : (keys : List Key) (finds : Finds) (word : List ℕ) (a b : Entry) → IsEntry keys finds word a → IsEntry keys finds word b → a ≡ b
+entry_one keys finds word a b p q =
     let key : a.key ≡ b.key = (keyed_one word (value_text a.value) (value_text b.value) a.key b.key p.keyed q.keyed).0 in
     let value : a.value ≡ b.value = same_value word a.key b.key a.value b.value p.keyed q.keyed p.form q.form in
     let make : Key → Value → Entry = λ k v. record { key = k; value = v } in
     ap (λ k. make k a.value) key ∙ ap (make b.key) value
 
-fault_not_entry : (name : CommandName) (finds : Finds) (place : ℕ) (word : List ℕ) (fault : WordFault) (a : Entry) →
-    WordSays name finds place word (Err fault) → IsEntry name finds word a → ⊥
-fault_not_entry name finds place word (BadWord m) a p q = p.1 a q
-fault_not_entry name finds place word MissingCommand a p q = p
-fault_not_entry name finds place word (MissingKey f) a p q = p
-fault_not_entry name finds place word (OutOfRange f) a p q = p
+fault_not_entry : (keys : List Key) (finds : Finds) (place : ℕ) (word : List ℕ) (fault : WordFault) (a : Entry) →
+    WordSays keys finds place word (Err fault) → IsEntry keys finds word a → ⊥
+fault_not_entry keys finds place word (BadWord m) a p q = p.1 a q
+fault_not_entry keys finds place word MissingCommand a p q = p
+fault_not_entry keys finds place word (MissingKey f) a p q = p
+fault_not_entry keys finds place word (OutOfRange f) a p q = p
 
-fault_one : (name : CommandName) (finds : Finds) (place : ℕ) (word : List ℕ) (f g : WordFault) →
-    WordSays name finds place word (Err f) → WordSays name finds place word (Err g) → f ≡ g
-fault_one name finds place word (BadWord m) (BadWord n) p q = ap BadWord (p.0 ∙ sym q.0)
-fault_one name finds place word (BadWord m) MissingCommand p q = absurd q
-fault_one name finds place word (BadWord m) (MissingKey g) p q = absurd q
-fault_one name finds place word (BadWord m) (OutOfRange g) p q = absurd q
-fault_one name finds place word MissingCommand g p q = absurd p
-fault_one name finds place word (MissingKey f) g p q = absurd p
-fault_one name finds place word (OutOfRange f) g p q = absurd p
+fault_one : (keys : List Key) (finds : Finds) (place : ℕ) (word : List ℕ) (f g : WordFault) →
+    WordSays keys finds place word (Err f) → WordSays keys finds place word (Err g) → f ≡ g
+fault_one keys finds place word (BadWord m) (BadWord n) p q = ap BadWord (p.0 ∙ sym q.0)
+fault_one keys finds place word (BadWord m) MissingCommand p q = absurd q
+fault_one keys finds place word (BadWord m) (MissingKey g) p q = absurd q
+fault_one keys finds place word (BadWord m) (OutOfRange g) p q = absurd q
+fault_one keys finds place word MissingCommand g p q = absurd p
+fault_one keys finds place word (MissingKey f) g p q = absurd p
+fault_one keys finds place word (OutOfRange f) g p q = absurd p
 
-entries_say_one : (name : CommandName) (words : List (List ℕ)) (finds : Finds) (place : ℕ) (a b : Result Finds WordFault) →
-    EntriesSay name finds place words a → EntriesSay name finds place words b → a ≡ b
-entries_say_one name [] finds place a b p q = p ∙ sym q
-entries_say_one name (word ∷ words) finds place a b (inl p) (inl q) = p.2 ∙ ap Err (fault_one name finds place word p.0 q.0 p.1 q.1) ∙ sym q.2
-entries_say_one name (word ∷ words) finds place a b (inl p) (inr q) = absurd (fault_not_entry name finds place word p.0 q.0 p.1 q.1)
-entries_say_one name (word ∷ words) finds place a b (inr p) (inl q) = absurd (fault_not_entry name finds place word q.0 p.0 q.1 p.1)
-entries_say_one name (word ∷ words) finds place a b (inr p) (inr q) =
-    let same : p.0 ≡ q.0 = entry_one name finds word p.0 q.0 p.1 q.1 in
-    entries_say_one name words (with_entry finds q.0) (place + 1) a b
-    (subst (λ e. EntriesSay name (with_entry finds e) (place + 1) words a) same p.2) q.2
+entries_say_one : (keys : List Key) (words : List (List ℕ)) (finds : Finds) (place : ℕ) (a b : Result Finds WordFault) →
+    EntriesSay keys finds place words a → EntriesSay keys finds place words b → a ≡ b
+entries_say_one keys [] finds place a b p q = p ∙ sym q
+entries_say_one keys (word ∷ words) finds place a b (inl p) (inl q) = p.2 ∙ ap Err (fault_one keys finds place word p.0 q.0 p.1 q.1) ∙ sym q.2
+entries_say_one keys (word ∷ words) finds place a b (inl p) (inr q) = absurd (fault_not_entry keys finds place word p.0 q.0 p.1 q.1)
+entries_say_one keys (word ∷ words) finds place a b (inr p) (inl q) = absurd (fault_not_entry keys finds place word q.0 p.0 q.1 p.1)
+entries_say_one keys (word ∷ words) finds place a b (inr p) (inr q) =
+    let same : p.0 ≡ q.0 = entry_one keys finds word p.0 q.0 p.1 q.1 in
+    entries_say_one keys words (with_entry finds q.0) (place + 1) a b
+    (subst (λ e. EntriesSay keys (with_entry finds e) (place + 1) words a) same p.2) q.2
 
-rest_says_one : (said : Result CommandName WordFault) (rest : List (List ℕ)) (a b : Result Command WordFault) → RestSays said rest a → RestSays said rest b → a ≡ b
+rest_says_one : (said : Result (Task × List Key) WordFault) (rest : List (List ℕ)) (a b : Result Command WordFault) → RestSays said rest a → RestSays said rest b → a ≡ b
 rest_says_one (Err fault) rest a b p q = p ∙ sym q
-rest_says_one (Ok name) rest a b p q = p.2 ∙ ap (made_of name) (entries_say_one name rest nothing 1 p.0 q.0 p.1 q.1) ∙ sym q.2
+rest_says_one (Ok named) rest a b p q = p.2 ∙ ap (made_of named) (entries_say_one named.1 rest nothing 1 p.0 q.0 p.1 q.1) ∙ sym q.2
 
 pub says_one : (words : List (List ℕ)) (a b : Result Command WordFault) → Says words a → Says words b → a ≡ b
 says_one [] a b p q = p ∙ sym q
 says_one (first ∷ rest) a b p q = rest_says_one (name_said first) rest a b p q
 
-pub says_rest : (words rest : List (List ℕ)) (first : List ℕ) (name : CommandName) (said : Result Finds WordFault) → words ≡ first ∷ rest →
-    Ok name ≡ name_said first → EntriesSay name nothing 1 rest said → Says words (made_of name said)
-says_rest words rest first name said is named entries =
-    subst (λ ws. Says ws (made_of name said)) (sym is) (subst (λ n. RestSays n rest (made_of name said)) named (said, entries, refl))
+pub says_rest : (words rest : List (List ℕ)) (first : List ℕ) (named : Task × List Key) (said : Result Finds WordFault) → words ≡ first ∷ rest →
+    command_named first ≡ Some named → EntriesSay named.1 nothing 1 rest said → Says words (made_of named said)
+says_rest words rest first named said is is_named entries =
+    subst (λ ws. Says ws (made_of named said)) (sym is) (subst (λ n. RestSays (named_or_fault n) rest (made_of named said)) (sym is_named) (said, entries, refl))
 
-pub says_first : (words rest : List (List ℕ)) (first : List ℕ) (fault : WordFault) → words ≡ first ∷ rest → Err fault ≡ name_said first → Says words (Err fault)
-says_first words rest first fault is named = subst (λ ws. Says ws (Err fault)) (sym is) (subst (λ n. RestSays n rest (Err fault)) named refl)
+pub says_first : (words rest : List (List ℕ)) (first : List ℕ) → words ≡ first ∷ rest → command_named first ≡ None → Says words (Err (BadWord 0))
+says_first words rest first is not_named =
+    subst (λ ws. Says ws (Err (BadWord 0))) (sym is) (subst (λ n. RestSays (named_or_fault n) rest (Err (BadWord 0))) (sym not_named) refl)

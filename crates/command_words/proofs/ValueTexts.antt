@@ -6,7 +6,7 @@ use Rattle.std.proofs.lemmas.Fmt.{decimal_by_steps}
 use Rattle.std.proofs.lemmas.List.{length-map, get_or-map, ext_get_or}
 use Rattle.std.proofs.lemmas.List.Elements.{All-map, All-weaker, All-get_or, All-from_get_or}
 use Rattle.base_122.specs.Weights.{IsShift}
-use Rattle.command_words.specs.declared.keys.Form.TheVariants.{Stop, Weights}
+use Rattle.command_words.specs.declared.tables.Form.TheVariants.{Stop, Weights}
 use Rattle.command_words.specs.declared.values.Value.{Value}
 use Rattle.command_words.specs.declared.values.Value.TheVariants.{Number as NumberValue, Cap as CapValue, Flag as FlagValue, StopDc, StopAt, Weights as WeightsValue, Select as SelectValue}
 use Rattle.command_words.specs.Values.{IsWeightDigit, IsValueText}

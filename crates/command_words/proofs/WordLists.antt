@@ -3,11 +3,12 @@ use Rattle.std.proofs.Common.{◌≡◌, ◌≤◌, ◌-◌, ◌+◌, ℕ, List,
 use Rattle.std.specs.Prelude.{String, string_bytes, Result, Err}
 use Rattle.std.specs.declared.alloc.Global.{Global}
 use Rattle.std.proofs.lemmas.List.{take_rest}
-use Rattle.command_words.specs.declared.keys.CommandName.{CommandName}
+use Rattle.command_words.specs.Tables.{Finds}
+use Rattle.command_words.specs.declared.tables.Key.{Key}
 use Rattle.command_words.specs.declared.entries.Entry.{Entry}
 use Rattle.command_words.specs.declared.command.WordFault.{WordFault}
 use Rattle.command_words.specs.Words.{texts}
-use Rattle.command_words.specs.Entries.{Finds, IsEntry, WordSays, EntriesSay, with_entry}
+use Rattle.command_words.specs.Entries.{IsEntry, WordSays, EntriesSay, with_entry}
 
 -- the first word and those after it
 pub first_word : (words : List (String Global)) (word : String Global) → 1 ≤ length words → word ≡ get_or words 0 word →
@@ -17,10 +18,10 @@ first_word (w ∷ ws) word some is =
     let rest : take (length (w ∷ ws) - 1) (drop 1 (w ∷ ws)) ≡ ws = take_rest (w ∷ ws) 1 in
     ap (λ v. string_bytes v ∷ texts ws) (sym is) ∙ ap (λ vs. string_bytes word ∷ texts vs) (sym rest)
 
-pub entry_first : (name : CommandName) (finds : Finds) (place : ℕ) (word : List ℕ) (words after : List (List ℕ)) (entry : Entry) (said : Result Finds WordFault) →
-    words ≡ word ∷ after → IsEntry name finds word entry → EntriesSay name (with_entry finds entry) (place + 1) after said → EntriesSay name finds place words said
-entry_first name finds place word words after entry said is spells more = rw is (inr (entry, spells, more))
+pub entry_first : (keys : List Key) (finds : Finds) (place : ℕ) (word : List ℕ) (words after : List (List ℕ)) (entry : Entry) (said : Result Finds WordFault) →
+    words ≡ word ∷ after → IsEntry keys finds word entry → EntriesSay keys (with_entry finds entry) (place + 1) after said → EntriesSay keys finds place words said
+entry_first keys finds place word words after entry said is spells more = rw is (inr (entry, spells, more))
 
-pub fault_first : (name : CommandName) (finds : Finds) (place : ℕ) (word : List ℕ) (words after : List (List ℕ)) (fault : WordFault) →
-    words ≡ word ∷ after → WordSays name finds place word (Err fault) → EntriesSay name finds place words (Err fault)
-fault_first name finds place word words after fault is says = rw is (inl (fault, says, refl))
+pub fault_first : (keys : List Key) (finds : Finds) (place : ℕ) (word : List ℕ) (words after : List (List ℕ)) (fault : WordFault) →
+    words ≡ word ∷ after → WordSays keys finds place word (Err fault) → EntriesSay keys finds place words (Err fault)
+fault_first keys finds place word words after fault is says = rw is (inl (fault, says, refl))

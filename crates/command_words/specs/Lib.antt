@@ -1,5 +1,5 @@
-pub mod Keys
 pub mod Values
+pub mod Tables
 pub mod Entries
 pub mod Commands
 pub mod Words

@@ -1,9 +1,12 @@
 -- How values are written. This project's own.
-use Rattle.std.specs.Prelude.{◌≡◌, ◌<◌, ◌≤◌, ◌+◌, ◌^◌, ℕ, List, ◌++◌, length, map, decimal, codes, All, true, false}
-use Rattle.base_122.specs.Weights.{IsShift}
+use Rattle.std.specs.Prelude.{◌≡◌, ◌<◌, ◌≤◌, ◌+◌, ◌^◌, ℕ, List, ◌++◌, length, map, decimal, codes, All, Bool, true, false}
+use Rattle.base_122.specs.Weights.{IsShift, usual_shifts}
+use Rattle.base_122.specs.declared.setting.Stop.{Stop as StopPlace}
+use Rattle.base_122.specs.declared.setting.Select.{Select as Selection}
+use Rattle.base_122.specs.declared.weights.Weights.{Weights as TenWeights}
 use Rattle.base_122.specs.declared.setting.Select.TheVariants.{Heuristic, Optimal}
-use Rattle.command_words.specs.declared.keys.Form.{Form}
-use Rattle.command_words.specs.declared.keys.Form.TheVariants.{Number, Cap, Flag, Stop, Weights, Select}
+use Rattle.command_words.specs.declared.tables.Form.{Form}
+use Rattle.command_words.specs.declared.tables.Form.TheVariants.{Number, Cap, Flag, Stop, Weights, Select}
 use Rattle.command_words.specs.declared.values.Value.{Value}
 use Rattle.command_words.specs.declared.values.Value.TheVariants.{Number as NumberValue, Cap as CapValue, Flag as FlagValue, StopDc, StopAt, Weights as WeightsValue, Select as SelectValue}
 
@@ -37,3 +40,41 @@ HasForm form value = ⊥
 -- the text is that of a value of this form
 abbrev pub IsValueText : Form → List ℕ → Value → Type 0
 IsValueText form text value = HasForm form value × (text ≡ value_text value)
+
+-- the form of a value
+abbrev pub form_of : Value → Form
+form_of (NumberValue n) = Number
+form_of (CapValue n) = Cap
+form_of (FlagValue b) = Flag
+form_of StopDc = Stop
+form_of (StopAt plane stage) = Stop
+form_of (WeightsValue weights) = Weights
+form_of (SelectValue select) = Select
+
+-- ---- what a value of each form is
+
+abbrev pub number_of : Value → ℕ
+number_of (NumberValue n) = n
+number_of value = 0
+
+abbrev pub cap_of : Value → ℕ
+cap_of (CapValue n) = n
+cap_of value = 0
+
+abbrev pub flag_of : Value → Bool
+flag_of (FlagValue flag) = flag
+flag_of value = false
+
+-- a stop at DC is at plane 0 and stage 3
+abbrev pub stop_of : Value → StopPlace
+stop_of (StopAt plane stage) = record { dc = false; plane = plane; stage = stage }
+stop_of StopDc = record { dc = true; plane = 0; stage = 3 }
+stop_of value = record { dc = false; plane = 0; stage = 3 }
+
+abbrev pub weights_of : Value → TenWeights
+weights_of (WeightsValue weights) = weights
+weights_of value = record { shifts = usual_shifts }
+
+abbrev pub select_of : Value → Selection
+select_of (SelectValue select) = select
+select_of value = Optimal

@@ -1,3 +1,4 @@
+use crate::tables::Reading;
 use base_122::{DecodeWish, Field, Setting};
 use raster_rows::MadeImage;
 
@@ -5,9 +6,7 @@ use raster_rows::MadeImage;
 #[derive(Clone, Copy, Debug, PartialEq, Eq)]
 pub enum Command {
     Encode(Setting),
-    Decode(DecodeWish),
-    Damage(DecodeWish),
-    List(DecodeWish),
+    Read(Reading, DecodeWish),
     Make(MadeImage),
     /// A setting, and the seed of the made image.
     Trial(Setting, u32),

@@ -6,7 +6,7 @@ ghost use Rattle.command_words.specs.Given.{finds_of};
 
 use crate::command::WordFault;
 use crate::given::Given;
-use crate::keys::{CommandName, Key};
+use crate::tables::Key;
 use crate::values::{Value, read_value};
 
 /// A key with its value.
@@ -17,13 +17,8 @@ pub struct Entry {
 }
 
 // The entry in the word at this place.
-fn read_entry(
-    name: CommandName,
-    given: &Given,
-    place: usize,
-    word: &str,
-) -> Result<Entry, WordFault>
-    ensures { WordSays name (finds_of given.now) place word.now result }
+fn read_entry(keys: &[Key], given: &Given, place: usize, word: &str) -> Result<Entry, WordFault>
+    ensures { WordSays keys.now (finds_of given.now) place word.now result }
 {
     let Some((key, text)) = word.split_once('=') else {
         return Err(WordFault::BadWord { place });
@@ -31,26 +26,26 @@ fn read_entry(
     let Some(key) = Key::named(key) else {
         return Err(WordFault::BadWord { place });
     };
-    if !key.is_among(name.keys()) || given.has(key) {
+    if !key.is_among(keys) || given.has(key) {
         return Err(WordFault::BadWord { place });
     }
-    let Some(value) = read_value(key.form(), text) else {
+    let Some(value) = read_value(key.row().default.form(), text) else {
         return Err(WordFault::BadWord { place });
     };
     Ok(Entry { key, value })
 }
 
 /// The entries in the words after the command, of which the first has place 1.
-pub fn read_entries(name: CommandName, words: &[String]) -> Result<Given, WordFault>
+pub fn read_entries(keys: &[Key], words: &[String]) -> Result<Given, WordFault>
     ensures { MatchResult result
-        (λ given. EntriesSay name nothing 1 (texts words.now) (Ok (finds_of given)))
-        (λ fault. EntriesSay name nothing 1 (texts words.now) (Err fault)) }
+        (λ given. EntriesSay keys.now nothing 1 (texts words.now) (Ok (finds_of given)))
+        (λ fault. EntriesSay keys.now nothing 1 (texts words.now) (Err fault)) }
 {
     let mut given = Given::new();
     let mut place = 1;
     let mut rest = words;
     while let [word, after @ ..] = rest {
-        match read_entry(name, &given, place, word.as_str()) {
+        match read_entry(keys, &given, place, word.as_str()) {
             Ok(entry) => given.put(entry),
             Err(fault) => return Err(fault),
         }

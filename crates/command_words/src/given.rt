@@ -1,14 +1,9 @@
 // What was found at the keys.
 use crate::entries::Entry;
-use crate::keys::{CommandName, Key};
+use crate::tables::{COUNT, Key, Range, Task};
 use crate::values::Value;
-use base_122::{DecodeWish, Field, FieldRange, Select, Setting, Stop, Weights, is_limit_in_range};
+use base_122::{DecodeWish, FieldRange, Select, Setting, Stop, Weights, is_limit_in_range};
 use raster_rows::MadeImage;
-
-// The most pixels and octets where nothing is said.
-const PIXELS: u64 = 1 << 32;
-
-const OCTETS: u64 = 1 << 40;
 
 // The most pixels of a trial.
 const TRIAL: u64 = 1 << 24;
@@ -16,33 +11,39 @@ const TRIAL: u64 = 1 << 24;
 /// The value that was found at each key.
 #[derive(Clone, Copy)]
 pub struct Given {
-    found: [Option<Value>; 17],
+    found: [Option<Value>; COUNT],
 }
 
 impl Given {
-    ghost use Rattle.std.specs.Prelude.{◌≡◌, is_some};
-    ghost use Rattle.base_122.specs.Ranges.{field_test, is_within, IsInRange, IsWishInRange};
+    ghost use Rattle.std.specs.Prelude.{◌≡◌, ◌<◌, ◌^◌, is_some};
+    ghost use Rattle.base_122.specs.Ranges.{IsInRange, IsWishInRange};
+    ghost use Rattle.command_words.specs.Tables.{value_at, number_at, setting_of, wish_of, made_image_of};
     ghost use Rattle.command_words.specs.Entries.{nothing, with_entry};
-    ghost use Rattle.command_words.specs.Commands.{number_or, cap_or, flag_or, stop_or, weights_or, select_or, setting_of, wish_of, made_image_of, passes, field_passes, is_small, IsMadeInRange};
+    ghost use Rattle.command_words.specs.Values.{cap_of, flag_of, stop_of, weights_of, select_of};
+    ghost use Rattle.command_words.specs.Commands.{passes, range_test, is_missing, is_small, IsMadeInRange};
     ghost use Rattle.command_words.specs.Given.{finds_of};
 
     /// No key yet.
     pub fn new() -> Given
         ensures { finds_of result ≡ nothing }
     {
-        Given { found: [None; 17] }
+        Given {
+            found: [None; COUNT],
+        }
     }
 
-    fn value(&self, key: Key) -> Option<Value>
-        ensures { result ≡ finds_of self.now key }
-    {
-        self.found[key.place()]
-    }
-
+    /// Whether the key was found.
     pub fn has(&self, key: Key) -> bool
         ensures { result ≡ is_some (finds_of self.now key) }
     {
-        self.value(key).is_some()
+        self.found[key.place()].is_some()
+    }
+
+    /// Whether the key is required and wasn't found.
+    pub fn lacks(&self, key: Key) -> bool
+        ensures { result ≡ is_missing (finds_of self.now) key }
+    {
+        key.row().required && !self.has(key)
     }
 
     /// Puts in the entry's value at its key.
@@ -52,136 +53,116 @@ impl Given {
         self.found[entry.key.place()] = Some(entry.value);
     }
 
-    fn number(&self, key: Key, default: u32) -> u32
-        ensures { result ≡ number_or (finds_of self.now key) default }
+    // The key's value, or its default.
+    fn value(&self, key: Key) -> Value
+        ensures { result ≡ value_at (finds_of self.now) key }
+    {
+        self.found[key.place()].unwrap_or(key.row().default)
+    }
+
+    /// The number at a key.
+    pub fn number(&self, key: Key) -> u32
+        ensures { result ≡ number_at (finds_of self.now) key }
     {
         match self.value(key) {
-            Some(Value::Number(number)) => number,
-            _ => default,
+            Value::Number(number) => number,
+            _ => 0,
         }
     }
 
-    // Whether the number at the key is in the range.
-    fn is_within(&self, key: Key, default: u32, range: FieldRange) -> bool
-        ensures { result ≡ is_within range (number_or (finds_of self.now key) default) }
-    {
-        range.contains(u64::from(self.number(key, default)))
-    }
-
-    fn cap(&self, key: Key, default: u64) -> u64
-        ensures { result ≡ cap_or (finds_of self.now key) default }
+    fn cap(&self, key: Key) -> u64
+        ensures { result ≡ cap_of (value_at (finds_of self.now) key) }
     {
         match self.value(key) {
-            Some(Value::Cap(cap)) => cap,
-            _ => default,
+            Value::Cap(cap) => cap,
+            _ => 0,
         }
-    }
-
-    fn pixels(&self) -> u64
-        ensures { result ≡ (wish_of (finds_of self.now)).pixels }
-    {
-        self.cap(Key::Pixels, PIXELS)
-    }
-
-    fn octets(&self) -> u64
-        ensures { result ≡ (wish_of (finds_of self.now)).octets }
-    {
-        self.cap(Key::Octets, OCTETS)
     }
 
     fn flag(&self, key: Key) -> bool
-        ensures { result ≡ flag_or (finds_of self.now key) }
+        ensures { result ≡ flag_of (value_at (finds_of self.now) key) }
     {
         match self.value(key) {
-            Some(Value::Flag(flag)) => flag,
+            Value::Flag(flag) => flag,
             _ => false,
         }
     }
 
     fn stops_at_dc(&self) -> bool
-        ensures { result ≡ (stop_or (finds_of self.now Key.Stop)).dc }
+        ensures { result ≡ (stop_of (value_at (finds_of self.now) Key.Stop)).dc }
     {
         match self.value(Key::Stop) {
-            Some(Value::StopDc) => true,
+            Value::StopDc => true,
             _ => false,
         }
     }
 
     // The stop's plane and stage.
-    fn stop_place(&self) -> (u32, u32)
-        ensures plane { result.0 ≡ (stop_or (finds_of self.now Key.Stop)).plane }
-        ensures stage { result.1 ≡ (stop_or (finds_of self.now Key.Stop)).stage }
+    fn stop_place(&self, key: Key) -> (u32, u32)
+        ensures plane { result.0 ≡ (stop_of (value_at (finds_of self.now) key)).plane }
+        ensures stage { result.1 ≡ (stop_of (value_at (finds_of self.now) key)).stage }
     {
-        match self.value(Key::Stop) {
-            Some(Value::StopAt { plane, stage }) => (plane, stage),
+        match self.value(key) {
+            Value::StopAt { plane, stage } => (plane, stage),
             _ => (0, 3),
         }
     }
 
-    fn is_stop_in_range(&self) -> bool
-        ensures { result ≡ field_test (setting_of (finds_of self.now)) Field.Stop }
+    fn is_stop_in_range(&self, key: Key, task: Task) -> bool
+        ensures { result ≡ range_test Range.Stop task (finds_of self.now) key }
     {
-        let (plane, stage) = self.stop_place();
+        let (plane, stage) = self.stop_place(key);
         FieldRange::PLANE.contains(u64::from(plane)) && FieldRange::STAGE.contains(u64::from(stage))
     }
 
-    fn weights(&self) -> Weights
-        ensures { result ≡ weights_or (finds_of self.now Key.Weights) }
+    fn weights(&self, key: Key) -> Weights
+        ensures { result ≡ weights_of (value_at (finds_of self.now) key) }
     {
-        match self.value(Key::Weights) {
-            Some(Value::Weights(weights)) => weights,
+        match self.value(key) {
+            Value::Weights(weights) => weights,
             _ => Weights::usual(),
         }
     }
 
     fn select(&self) -> Select
-        ensures { result ≡ select_or (finds_of self.now Key.Select) }
+        ensures { result ≡ select_of (value_at (finds_of self.now) Key.Select) }
     {
         match self.value(Key::Select) {
-            Some(Value::Select(select)) => select,
+            Value::Select(select) => select,
             _ => Select::Optimal,
         }
     }
 
-    // Whether an image is small enough for a trial.
-    fn is_small(&self) -> bool
-        ensures { result ≡ is_small (setting_of (finds_of self.now)) }
+    // Whether an image is small enough for what is done with it: a trial has no more than 2^24 pixels.
+    fn is_small(&self, task: Task) -> bool
+        ensures { result ≡ is_small task (finds_of self.now) }
     {
-        u64::from(self.number(Key::Width, 0)) * u64::from(self.number(Key::Rows, 0)) <= TRIAL
-    }
-
-    /// Whether the field's value, or its default, is in its range for the command: a trial has no more than 2^24 pixels.
-    pub fn is_in_range(&self, name: CommandName, field: Field) -> bool
-        ensures { result ≡ passes name (finds_of self.now) field }
-    {
-        let in_range = self.is_field_in_range(field);
-        match (name, field) {
-            (CommandName::Trial, Field::Rows) => in_range && self.is_small(),
-            _ => in_range,
+        match task {
+            Task::Trial => {
+                u64::from(self.number(Key::Width)) * u64::from(self.number(Key::Rows)) <= TRIAL
+            }
+            _ => true,
         }
     }
 
-    fn is_field_in_range(&self, field: Field) -> bool
-        ensures { result ≡ field_passes (finds_of self.now) field }
+    /// Whether the key's value, or its default, is in its range.
+    pub fn is_in_range(&self, task: Task, key: Key) -> bool
+        ensures { result ≡ passes task (finds_of self.now) key }
     {
-        match field {
-            Field::Width => self.is_within(Key::Width, 0, FieldRange::WIDTH),
-            Field::Rows => self.is_within(Key::Rows, 0, FieldRange::ROWS),
-            Field::Depth => self.is_within(Key::Depth, 8, FieldRange::DEPTH),
-            Field::Segment => self.is_within(Key::Segment, 64, FieldRange::SEGMENT),
-            Field::Limit => is_limit_in_range(
-                u64::from(self.number(Key::Limit, 0)),
-                u64::from(self.number(Key::Word, 1)),
+        match key.row().range {
+            Range::All => true,
+            Range::Number(range) => range.contains(u64::from(self.number(key))),
+            Range::Cap(range) => range.contains(self.cap(key)),
+            Range::Rows(range) => {
+                range.contains(u64::from(self.number(key))) && self.is_small(task)
+            }
+            Range::Limit => is_limit_in_range(
+                u64::from(self.number(key)),
+                u64::from(self.number(Key::Word)),
             ),
-            Field::Fill => !self.flag(Key::Fill) || self.number(Key::Limit, 0) != 0,
-            Field::Word => self.is_within(Key::Word, 1, FieldRange::WORD),
-            Field::Stop => self.is_stop_in_range(),
-            Field::Weights => self.weights().are_in_range(),
-            Field::Apid => self.is_within(Key::Apid, 100, FieldRange::APID),
-            Field::Image => self.is_within(Key::Image, 0, FieldRange::IMAGE),
-            Field::Packet => self.is_within(Key::Packet, 1024, FieldRange::PACKET),
-            Field::Pixels => FieldRange::PIXELS.contains(self.pixels()),
-            Field::Octets => FieldRange::OCTETS.contains(self.octets()),
+            Range::Fill => !self.flag(key) || self.number(Key::Limit) != 0,
+            Range::Stop => self.is_stop_in_range(key, task),
+            Range::Weights => self.weights(key).are_in_range(),
         }
     }
 
@@ -190,26 +171,26 @@ impl Given {
         requires { IsInRange (setting_of (finds_of self.now)) }
         ensures { result ≡ setting_of (finds_of self.now) }
     {
-        let (plane, stage) = self.stop_place();
+        let (plane, stage) = self.stop_place(Key::Stop);
         Setting {
-            width: self.number(Key::Width, 0),
-            rows: self.number(Key::Rows, 0),
-            depth: self.number(Key::Depth, 8) as u8,
+            width: self.number(Key::Width),
+            rows: self.number(Key::Rows),
+            depth: self.number(Key::Depth) as u8,
             signed: self.flag(Key::Signed),
-            segment: self.number(Key::Segment, 64),
-            limit: self.number(Key::Limit, 0),
+            segment: self.number(Key::Segment),
+            limit: self.number(Key::Limit),
             fill: self.flag(Key::Fill),
-            word: self.number(Key::Word, 1) as u8,
+            word: self.number(Key::Word) as u8,
             stop: Stop {
                 dc: self.stops_at_dc(),
                 plane: plane as u8,
                 stage: stage as u8,
             },
-            weights: self.weights(),
+            weights: self.weights(Key::Weights),
             select: self.select(),
-            apid: self.number(Key::Apid, 100) as u16,
-            image: self.number(Key::Image, 0) as u16,
-            packet: self.number(Key::Packet, 1024),
+            apid: self.number(Key::Apid) as u16,
+            image: self.number(Key::Image) as u16,
+            packet: self.number(Key::Packet),
         }
     }
 
@@ -219,17 +200,10 @@ impl Given {
         ensures { result ≡ wish_of (finds_of self.now) }
     {
         DecodeWish {
-            apid: self.number(Key::Apid, 100) as u16,
-            pixels: self.pixels(),
-            octets: self.octets(),
+            apid: self.number(Key::Apid) as u16,
+            pixels: self.cap(Key::Pixels),
+            octets: self.cap(Key::Octets),
         }
-    }
-
-    /// The seed of a made image.
-    pub fn seed(&self) -> u32
-        ensures { result ≡ number_or (finds_of self.now Key.Seed) 0 }
-    {
-        self.number(Key::Seed, 0)
     }
 
     /// The made image, whose numbers are all in range.
@@ -238,11 +212,11 @@ impl Given {
         ensures { result ≡ made_image_of (finds_of self.now) }
     {
         MadeImage {
-            width: self.number(Key::Width, 0),
-            rows: self.number(Key::Rows, 0),
-            depth: self.number(Key::Depth, 8) as u8,
+            width: self.number(Key::Width),
+            rows: self.number(Key::Rows),
+            depth: self.number(Key::Depth) as u8,
             signed: self.flag(Key::Signed),
-            seed: self.number(Key::Seed, 0),
+            seed: self.number(Key::Seed),
         }
     }
 }

@@ -4,11 +4,14 @@
 mod command;
 mod entries;
 mod given;
-mod keys;
 mod reading;
+mod tables;
 #[cfg(test)]
 mod tests;
+mod usage;
 mod values;
 
 pub use command::{Command, WordFault};
 pub use reading::read_words;
+pub use tables::Reading;
+pub use usage::keys_usage;

@@ -2,71 +2,64 @@
 ghost use Rattle.std.specs.Prelude.{◌≡◌, Result, IfOk, IfErr, length};
 ghost use Rattle.command_words.specs.declared.command.Command.{Command};
 ghost use Rattle.command_words.specs.declared.command.WordFault.{WordFault};
-ghost use Rattle.command_words.specs.Words.{texts, name_said, Says, IsPlaced};
-ghost use Rattle.command_words.specs.Commands.{missing, missing_key, first_refused, made, IsInRange};
+ghost use Rattle.command_words.specs.Words.{texts, Says, IsPlaced};
+ghost use Rattle.command_words.specs.Tables.{command_of};
+ghost use Rattle.command_words.specs.Commands.{made, first_missing, first_refused, field_of, IsInRange};
 ghost use Rattle.command_words.specs.Given.{finds_of};
 
 use crate::command::{Command, WordFault};
 use crate::entries::read_entries;
 use crate::given::Given;
-use crate::keys::{CommandName, Key};
+use crate::tables::{ALL, Key, Task, command_named};
 use base_122::Field;
 
-// The command that the first word names.
-fn read_name(word: &str) -> Result<CommandName, WordFault>
-    ensures { result ≡ name_said word.now }
+// The first of the command's keys that is required and isn't there.
+fn first_missing(keys: &[Key], given: &Given) -> Option<Key>
+    ensures { result ≡ first_missing keys.now (finds_of given.now) }
 {
-    CommandName::named(word).ok_or(WordFault::BadWord { place: 0 })
+    keys.iter().copied().find(|key| given.lacks(*key))
 }
 
-fn missing(given: &Given, key: Key, field: Field) -> Option<WordFault>
-    ensures { result ≡ missing (finds_of given.now) key field }
+// The first key out of range.
+fn first_refused(task: Task, given: &Given) -> Option<Key>
+    ensures { result ≡ first_refused task (finds_of given.now) }
 {
-    if given.has(key) {
-        None
-    } else {
-        Some(WordFault::MissingKey(field))
-    }
-}
-
-// A key that the command needs and that isn't there.
-fn missing_key(name: CommandName, given: &Given) -> Option<WordFault>
-    ensures { result ≡ missing_key name (finds_of given.now) }
-{
-    if !name.needs_size() {
-        return None;
-    }
-    missing(given, Key::Width, Field::Width).or(missing(given, Key::Rows, Field::Rows))
-}
-
-// The first of the command's fields that is out of range.
-fn first_refused(name: CommandName, given: &Given) -> Option<Field>
-    ensures { result ≡ first_refused name (finds_of given.now) }
-{
-    name.fields()
-        .iter()
+    ALL.iter()
         .copied()
-        .find(|field| !given.is_in_range(name, *field))
+        .find(|key| !given.is_in_range(task, *key))
+}
+
+// The field that is named for a key.
+fn field_of(key: Option<Key>) -> Option<Field>
+    ensures { result ≡ field_of key }
+{
+    key?.row().field
+}
+
+// The command of these values, which are all in range.
+fn command_of(task: Task, given: &Given) -> Command
+    requires { IsInRange (command_of task (finds_of given.now)) }
+    ensures { result ≡ command_of task (finds_of given.now) }
+{
+    match task {
+        Task::Encode => Command::Encode(given.setting()),
+        Task::Read(reading) => Command::Read(reading, given.wish()),
+        Task::Make => Command::Make(given.made_image()),
+        Task::Trial => Command::Trial(given.setting(), given.number(Key::Seed)),
+    }
 }
 
 // The command of these values, where they make one.
-fn make_command(name: CommandName, given: &Given) -> Result<Command, WordFault>
-    ensures { result ≡ made name (finds_of given.now) }
+fn make_command(task: Task, keys: &[Key], given: &Given) -> Result<Command, WordFault>
+    ensures { result ≡ made task keys.now (finds_of given.now) }
 {
-    if let Some(fault) = missing_key(name, given) {
-        return Err(fault);
+    if let Some(field) = field_of(first_missing(keys, given)) {
+        return Err(WordFault::MissingKey(field));
     }
-    if let Some(field) = first_refused(name, given) {
+    if let Some(field) = field_of(first_refused(task, given)) {
         return Err(WordFault::OutOfRange(field));
     }
-    match name {
-        CommandName::Encode => Ok(Command::Encode(given.setting())),
-        CommandName::Decode => Ok(Command::Decode(given.wish())),
-        CommandName::Damage => Ok(Command::Damage(given.wish())),
-        CommandName::List => Ok(Command::List(given.wish())),
-        CommandName::Make => Ok(Command::Make(given.made_image())),
-        CommandName::Trial => Ok(Command::Trial(given.setting(), given.seed())),
-    }
+    Ok(command_of(task, given))
 }
 
 /// Reads the words of the command line, without the program's own name (docs/DECISIONS.md, "Words").
@@ -84,12 +77,11 @@ pub fn read_words(words: &[String]) -> Result<Command, WordFault>
     let [first, rest @ ..] = words else {
         return Err(WordFault::MissingCommand);
     };
-    let name = match read_name(first.as_str()) {
-        Ok(name) => name,
-        Err(fault) => return Err(fault),
+    let Some((task, keys)) = command_named(first.as_str()) else {
+        return Err(WordFault::BadWord { place: 0 });
     };
-    match read_entries(name, rest) {
-        Ok(given) => make_command(name, &given),
+    match read_entries(keys, rest) {
+        Ok(given) => make_command(task, keys, &given),
         Err(fault) => Err(fault),
     }
 }

@@ -1,5 +1,5 @@
 // What words say, and which fault of theirs comes first.
-use crate::{Command, WordFault, read_words};
+use crate::{Command, Reading, WordFault, read_words};
 use base_122::{DecodeWish, Field, Select, Setting, Stop, Weights};
 use raster_rows::MadeImage;
 use std::test::Fail;
@@ -83,6 +83,9 @@ fn a_made_image_has_a_seed(rt: HostRuntime) -> Result<(), Fail> {
     };
     let text = "make width=1024 rows=262144 seed=4294967295";
     assert_eq!(rt; said(&rt, text)?, Ok(Command::Make(made)));
+    let text = "make width=1024 rows=262144";
+    let usual = MadeImage { seed: 0, ..made };
+    assert_eq!(rt; said(&rt, text)?, Ok(Command::Make(usual)));
     Ok(())
 }
 
@@ -93,23 +96,26 @@ fn a_decoder_has_caps(rt: HostRuntime) -> Result<(), Fail> {
         pixels: 4_294_967_296,
         octets: 1_099_511_627_776,
     };
-    assert_eq!(rt; said(&rt, "decode")?, Ok(Command::Decode(usual)));
+    assert_eq!(rt;
+        said(&rt, "decode")?,
+        Ok(Command::Read(Reading::Decode, usual))
+    );
     let wish = DecodeWish {
         apid: 7,
         pixels: 1_099_511_627_776,
         octets: 1,
     };
     let text = "decode octets=1 pixels=1099511627776 apid=7";
-    assert_eq!(rt; said(&rt, text)?, Ok(Command::Decode(wish)));
+    assert_eq!(rt; said(&rt, text)?, Ok(Command::Read(Reading::Decode, wish)));
     let text = "damage octets=1 pixels=1099511627776 apid=7";
-    assert_eq!(rt; said(&rt, text)?, Ok(Command::Damage(wish)));
+    assert_eq!(rt; said(&rt, text)?, Ok(Command::Read(Reading::Damage, wish)));
     let listed = DecodeWish {
         pixels: 4_294_967_296,
         ..wish
     };
     assert_eq!(rt;
         said(&rt, "list octets=1 apid=7")?,
-        Ok(Command::List(listed))
+        Ok(Command::Read(Reading::List, listed))
     );
     Ok(())
 }

@@ -3,7 +3,7 @@ ghost use Rattle.std.specs.Prelude.{◌≡◌, ◌≢◌, ◌<◌, ◌≤◌, �
 ghost use Rattle.command_words.specs.declared.values.Value.{Value};
 ghost use Rattle.command_words.specs.Values.{IsValueText, IsWeightDigit};
 
-use crate::keys::Form;
+use crate::tables::Form;
 use base_122::{Select, Weights};
 use itoa::Buffer;
 
@@ -17,6 +17,24 @@ pub enum Value {
     StopAt { plane: u32, stage: u32 },
     Weights(Weights),
     Select(Select),
+}
+
+impl Value {
+    ghost use Rattle.command_words.specs.Values.{form_of};
+
+    /// How it is written.
+    pub fn form(self) -> Form
+        ensures { result ≡ form_of self }
+    {
+        match self {
+            Value::Number(_) => Form::Number,
+            Value::Cap(_) => Form::Cap,
+            Value::Flag(_) => Form::Flag,
+            Value::StopDc | Value::StopAt { .. } => Form::Stop,
+            Value::Weights(_) => Form::Weights,
+            Value::Select(_) => Form::Select,
+        }
+    }
 }
 
 // The greatest cap.

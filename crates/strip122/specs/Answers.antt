@@ -1,7 +1,20 @@
--- What the program answers to one word alone, on standard output. This project's own.
+-- What the program answers by itself. This project's own.
 use Rattle.std.specs.Prelude.{◌≡◌, ◌⊎◌, ℕ, List, [], ◌∷◌, codes}
-use Rattle.strip122.specs.declared.TheConstants.{USAGE, VERSION}
+use Rattle.std.specs.declared.io.ErrorKind.{ErrorKind}
+use Rattle.std.specs.declared.io.ErrorKind.TheVariants.{OutOfMemory}
+use Rattle.strip122.specs.declared.Answer.{Answer}
+use Rattle.strip122.specs.declared.Answer.TheVariants.{Help, Version}
 
-abbrev pub IsAnswer : List (List ℕ) → List ℕ → Type 0
-IsAnswer words text =
-    ((words ≡ codes "--help" ∷ []) × (text ≡ USAGE.now)) ⊎ ((words ≡ codes "--version" ∷ []) × (text ≡ VERSION.now))
+-- the words are this one alone
+abbrev pub IsOne : List (List ℕ) → List ℕ → Type 0
+IsOne words word = words ≡ word ∷ []
+
+-- to one word alone: in three spellings each
+abbrev pub IsAnswer : List (List ℕ) → Answer → Type 0
+IsAnswer words Help = IsOne words (codes "--help") ⊎ (IsOne words (codes "-h") ⊎ IsOne words (codes "help"))
+IsAnswer words Version = IsOne words (codes "--version") ⊎ (IsOne words (codes "-V") ⊎ IsOne words (codes "version"))
+
+-- the status where the words can't be had: for want of memory, or since they are no text
+abbrev pub words_fault : ErrorKind → ℕ
+words_fault OutOfMemory = 6
+words_fault kind = 2

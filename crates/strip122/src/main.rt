@@ -1,18 +1,21 @@
 //! The program: standard input, output and error, the words of the command line and the status.
 #![tactic(auto)]
 
-ghost use Rattle.std.specs.Prelude.{◌≡◌, ℕ, List, Result, MatchOption};
+ghost use Rattle.std.specs.Prelude.{◌≡◌, Result, MatchOption, MatchResult};
 ghost use Rattle.std.specs.Process.{exit_status};
+ghost use Rattle.std.specs.declared.io.ErrorKind.{ErrorKind};
 ghost use Rattle.command_words.specs.declared.command.Command.{Command};
 ghost use Rattle.command_words.specs.declared.command.WordFault.{WordFault};
 ghost use Rattle.command_words.specs.Words.{texts, Says};
 ghost use Rattle.top_122.specs.Run.{Runs};
-ghost use Rattle.strip122.specs.Answers.{IsAnswer};
+ghost use Rattle.strip122.specs.declared.Answer.{Answer};
+ghost use Rattle.strip122.specs.Answers.{IsAnswer, words_fault};
 
+use command_words::keys_usage;
 use port_122::{Port, StdPort};
-use std::alloc::Global;
+use std::alloc::{AllocError, Global};
 use std::env;
-use std::io::ErrorKind;
+use std::io::{self, ErrorKind};
 use std::process::ExitCode;
 use top_122::run;
 
@@ -25,11 +28,12 @@ const WRITE_FAULT: u8 = 5;
 // The status where there is no memory for the words.
 const NO_MEMORY: u8 = 6;
 
+// The usage text as far as the keys.
 const USAGE: &str = "\
 usage: strip122 encode width=N rows=N [KEY=VALUE ..]
        strip122 decode|damage|list [KEY=VALUE ..]
        strip122 make|trial width=N rows=N [KEY=VALUE ..]
-       strip122 --help | --version
+       strip122 help | version
 
 encode  raster in, space packets out, each as soon as the rows determine it
 decode  packets in, raster out, each row as soon as the packets determine it
@@ -39,48 +43,84 @@ make    a made raster out; nothing is read
 trial   a made image there and back in memory, and a line of what was counted
 
 A raster has its rows from the top; a pixel has one octet where depth is at most
-8, else two, the greater first.
+8, else two, the greater first. A trial has at most 2^24 pixels.
 
-keys, each at most once, with their defaults in parentheses
-encode, make, trial   width=17..1048575 rows=17..262144, both required
-                      depth=1..16 (8) signed=0|1 (0)
-encode, trial         segment=16..1048575 (64) word=1..4 (1) fill=0|1 (0)
-                      limit=0|32..134217724 (0), a multiple of word
-                      stop=dc|PLANE.STAGE (0.3), 0..27 and 0..3
-                      weights=ten of 0..3 (0111222333)
-                      select=heuristic|optimal (optimal)
-                      image=0..65535 (0) packet=64..65536 (1024)
-make, trial           seed=0..4294967295 (0); a trial has at most 2^24 pixels
-all but make          apid=0..2046 (100)
-decode, damage        pixels=0..1099511627776 (4294967296), of a picture at most
-decode, damage, list  octets=1..1099511627776 (1099511627776), read at most
+Each key is given at most once. Its default is in parentheses; the commands that
+have it follow.
 
+";
+
+// The usage text after the keys.
+const STATUSES: &str = "
 status  0 done, 1 rows are missing or the packets can't be read on, 2 bad words,
         3 bad input, 4 read fault, 5 write fault, 6 no memory
 ";
 
 const VERSION: &str = "strip122 0.1.0 (CCSDS 122.0-B-2 in CCSDS 133.0-B-2 packets)\n";
 
-// What the program itself answers, to one word alone.
-fn answer(words: &[String]) -> Option<&'static str>
+// What the program itself answers.
+#[derive(Clone, Copy, Debug, PartialEq, Eq)]
+enum Answer {
+    Help,
+    Version,
+}
+
+// What the program itself answers to these words, if it does: to one word alone.
+fn answer_to(words: &[String]) -> Option<Answer>
     ensures { MatchOption result
-        ((text : List ℕ) → IsAnswer (texts words.now) text → ⊥)
-        (λ text. IsAnswer (texts words.now) text.now) }
+        ((own : Answer) → IsAnswer (texts words.now) own → ⊥)
+        (IsAnswer (texts words.now)) }
 {
     let [word] = words else {
         return None;
     };
     match word.as_str() {
-        "--help" => Some(USAGE),
-        "--version" => Some(VERSION),
+        "--help" | "-h" | "help" => Some(Answer::Help),
+        "--version" | "-V" | "version" => Some(Answer::Version),
         _ => None,
     }
 }
 
-fn print(rt: &impl Print, text: &str) -> u8 {
-    match rt.print(text) {
+// The text of an answer. The usage text has a line for each key, made from the table of keys.
+fn answer_text(alloc: Global, answer: Answer) -> Result<String, AllocError> {
+    match answer {
+        Answer::Help => usage(alloc),
+        Answer::Version => String::from_str(alloc, VERSION),
+    }
+}
+
+fn usage(alloc: Global) -> Result<String, AllocError> {
+    let mut text = String::from_str(alloc, USAGE)?;
+    text.push_str(keys_usage(alloc)?.as_str())?;
+    text.push_str(STATUSES)?;
+    Ok(text)
+}
+
+// The status for what a write answered.
+fn write_status(written: Result<(), io::Error>) -> u8
+    ensures { MatchResult written (λ _. result ≡ 0) (λ _. result ≡ 5) }
+{
+    match written {
         Ok(()) => 0,
         Err(_) => WRITE_FAULT,
+    }
+}
+
+// The status where the words can't be had.
+fn words_status(kind: ErrorKind) -> u8
+    ensures { result ≡ words_fault kind }
+{
+    match kind {
+        ErrorKind::OutOfMemory => NO_MEMORY,
+        _ => REFUSED,
+    }
+}
+
+// Prints an answer of the program itself, and ends with the status of that.
+fn print(rt: &(impl Print + AllocGlobal), answer: Answer) -> u8 {
+    match answer_text(rt.alloc(), answer) {
+        Ok(text) => write_status(rt.print(text.as_str())),
+        Err(_) => NO_MEMORY,
     }
 }
 
@@ -95,15 +135,14 @@ fn run_words<X: Port>(alloc: Global, words: &[String], port: &mut X) -> ExitCode
 fn main(rt: HostRuntime) -> ExitCode {
     let mut words = match env::args(&rt) {
         Ok(words) => words,
-        Err(error) if error.kind() == ErrorKind::OutOfMemory => return ExitCode::from(NO_MEMORY),
-        Err(_) => return ExitCode::from(REFUSED),
+        Err(error) => return ExitCode::from(words_status(error.kind())),
     };
     let _ = words.next();
     let Ok(words) = words.collect::<Vec<String>>(rt.alloc()) else {
         return ExitCode::from(NO_MEMORY);
     };
-    if let Some(text) = answer(words.as_slice()) {
-        return ExitCode::from(print(&rt, text));
+    if let Some(answer) = answer_to(words.as_slice()) {
+        return ExitCode::from(print(&rt, answer));
     }
     let mut port = StdPort::new(rt.stdin(), rt.stdout(), rt.stderr());
     run_words(rt.alloc(), words.as_slice(), &mut port)

@@ -1,33 +1,78 @@
 // What the program answers by itself.
-use crate::answer;
+use crate::{Answer, STATUSES, USAGE, answer_text, answer_to};
 use std::test::Fail;
 
-// The first line of the answer to these words, if the program answers them.
-fn first_line(rt: &impl AllocGlobal, text: &str) -> Result<Option<&'static str>, Fail> {
+// What is said of the keys.
+const KEYS: &str = "\
+what
+  width=17..1048575 (required)                  encode make trial
+  rows=17..262144 (required)                    encode make trial
+  depth=1..16 (8)                               encode make trial
+  signed=0|1 (0)                                encode make trial
+  seed=0..4294967295 (0)                        make trial
+how much to keep
+  limit=0|32..134217724, a multiple of word (0) encode trial
+  fill=0|1, 1 with a limit (0)                  encode trial
+  stop=dc|P.S, P 0..27, S 0..3 (0.3)            encode trial
+  weights=ten digits 0..3 (0111222333)          encode trial
+  select=heuristic|optimal (optimal)            encode trial
+packets
+  segment=16..1048575 (64)                      encode trial
+  word=1..4 (1)                                 encode trial
+  apid=0..2046 (100)                            encode decode damage list trial
+  image=0..65535 (0)                            encode trial
+  packet=64..65536 (1024)                       encode trial
+reading
+  pixels=0..1099511627776 (4294967296)          decode damage
+  octets=1..1099511627776 (1099511627776)       decode damage list
+";
+
+// What the program answers to the words of a text, with a space between each two.
+fn answer_to_text(rt: &impl AllocGlobal, text: &str) -> Result<Option<Answer>, Fail> {
     let mut words = Vec::new(rt.alloc());
     for word in text.split(' ') {
         words.push(String::from_str(rt.alloc(), word)?)?;
     }
-    Ok(answer(words.as_slice()).and_then(|text| text.lines().next()))
+    Ok(answer_to(words.as_slice()))
 }
 
 #[test]
-fn help_tells_the_usage(rt: HostRuntime) -> Result<(), Fail> {
-    let usage = "usage: strip122 encode width=N rows=N [KEY=VALUE ..]";
-    assert_eq!(rt; first_line(&rt, "--help")?, Some(usage));
+fn help_has_the_usage(rt: HostRuntime) -> Result<(), Fail> {
+    let text = answer_text(rt.alloc(), Answer::Help)?;
+    assert_eq!(rt;
+        text.as_str()
+            .strip_prefix(USAGE)
+            .and_then(|rest| rest.strip_suffix(STATUSES)),
+        Some(KEYS)
+    );
+    for line in text.as_str().lines() {
+        assert!(rt; line.len() <= 80, "{line}");
+    }
     Ok(())
 }
 
 #[test]
-fn version_is_told(rt: HostRuntime) -> Result<(), Fail> {
-    let version = "strip122 0.1.0 (CCSDS 122.0-B-2 in CCSDS 133.0-B-2 packets)";
-    assert_eq!(rt; first_line(&rt, "--version")?, Some(version));
+fn version_has_one_line(rt: HostRuntime) -> Result<(), Fail> {
+    let version = "strip122 0.1.0 (CCSDS 122.0-B-2 in CCSDS 133.0-B-2 packets)\n";
+    assert_eq!(rt; answer_text(rt.alloc(), Answer::Version)?.as_str(), version);
     Ok(())
 }
 
 #[test]
-fn other_words_are_left_to_the_run(rt: HostRuntime) -> Result<(), Fail> {
-    assert_eq!(rt; first_line(&rt, "encode")?, None);
-    assert_eq!(rt; first_line(&rt, "--help --version")?, None);
+fn words_are_answered_alone(rt: HostRuntime) -> Result<(), Fail> {
+    for (text, expected) in [
+        ("--help", Some(Answer::Help)),
+        ("-h", Some(Answer::Help)),
+        ("help", Some(Answer::Help)),
+        ("--version", Some(Answer::Version)),
+        ("-V", Some(Answer::Version)),
+        ("version", Some(Answer::Version)),
+        ("-v", None),
+        ("encode", None),
+        ("--help --version", None),
+        ("help encode", None),
+    ] {
+        assert_eq!(rt; answer_to_text(&rt, text)?, expected, "{text}");
+    }
     Ok(())
 }

@@ -1,5 +1,5 @@
 -- The note on damaged rows, range by range.
-use Rattle.std.proofs.Common.{◌≡◌, ◌≤◌, ◌+◌, ℕ, List, [], ◌∷◌, ◌++◌, length, take, refl, sym, ◌∙◌, ap, subst, arith, length-append, append_assoc}
+use Rattle.std.proofs.Common.{◌≡◌, ◌≤◌, ◌+◌, ℕ, List, [], ◌∷◌, ◌++◌, length, take, sym, ◌∙◌, ap, subst, arith, length-append, append_assoc}
 use Rattle.std.specs.Prelude.{Option, None, Some, Result, Ok, Err, IsErr, codes}
 use Rattle.std.specs.List.{flat_map}
 use Rattle.std.proofs.lemmas.Bool.{false≢true}
@@ -11,7 +11,7 @@ use Rattle.port_122.proofs.Stretches.{since_start, since_out, rose_since}
 use Rattle.stream_defs.specs.declared.range.RowRange.{RowRange}
 use Rattle.stream_defs.specs.Marks.{Marks, next_range}
 use Rattle.packet_defs.specs.declared.packet.Framing.{Framing}
-use Rattle.damage_rows.proofs.RangeWalk.{Walk, StandsNext, walk_start, stands_next, walk_on, walk_ends}
+use Rattle.damage_rows.proofs.RangeWalk.{Walk, walk_start, stands_next, walk_on, walk_ends}
 use Rattle.top_122.specs.Notes.{Notes}
 use Rattle.top_122.proofs.NoteLines.{notes_then, notes_failed, notes_as}
 use Rattle.top_122.specs.DamageNotes.{damaged, range_text, ranges_text, framing_text, damage_line}

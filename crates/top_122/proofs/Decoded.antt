@@ -1,13 +1,12 @@
 -- What a run of `decode`, `damage` and `list` leaves after its note, and what follows for each status.
-use Rattle.std.proofs.Math.Seq.{take-nil}
-use Rattle.std.proofs.Common.{◌≡◌, ◌≤◌, ◌<◌, ◌+◌, ◌*◌, ◌/◌, ℕ, List, [], ◌∷◌, ◌++◌, length, refl, sym, ◌∙◌, ap, subst, arith, take, inl, inr, true, false}
-use Rattle.std.specs.Prelude.{◌⊎◌, ◌==◌, ◌||◌, Bool, Option, None, Some, Result, Ok, Err, filter, All}
+use Rattle.std.proofs.Common.{◌≡◌, ◌≤◌, ◌<◌, ◌*◌, ℕ, List, [], ◌∷◌, length, refl, sym, ◌∙◌, ap, subst, arith, inl, inr, true, false}
+use Rattle.std.specs.Prelude.{◌⊎◌, ◌==◌, Bool, Option, None, Some, Result, Ok, Err, filter, All}
 use Rattle.std.specs.List.{range_with_len}
 use Rattle.std.proofs.lemmas.Bool.{false≢true, eq-eqb}
 use Rattle.std.proofs.lemmas.List.Elements.{All-filter, All-get_or, All-from_get_or}
 use Rattle.std.proofs.lemmas.List.FromFn.{length-range_with_len, get_or-range_with_len}
-use Rattle.port_122.specs.Outside.{Outside, Since, NoRead, Rose, Loses, AtEnd}
-use Rattle.port_122.proofs.Stretches.{since_start, since_note, at_end_later}
+use Rattle.port_122.specs.Outside.{Outside, Since, NoRead, Rose, Loses}
+use Rattle.port_122.proofs.Stretches.{since_start, at_end_later}
 use Rattle.base_122.specs.Sizes.{block_count}
 use Rattle.base_122.specs.declared.geometry.Geometry.{Geometry}
 use Rattle.base_122.specs.declared.wish.DecodeWish.{DecodeWish}
@@ -24,13 +23,14 @@ use Rattle.strip_decoder.specs.declared.decode.DecodeDone.{DecodeDone}
 use Rattle.strip_decoder.specs.declared.decode.DecodeFault.{DecodeFault}
 use Rattle.strip_decoder.specs.declared.decode.DecodeFault.TheVariants.{ReadFault, WriteFault, NoSegment, TooManyPixels, LongInput, Memory}
 use Rattle.packet_assembly.specs.Readings.{IsReadOut}
-use Rattle.strip_decoder.specs.Answers.{PictureBy, Answers, Asks, Decodes as DecodesOver}
-use Rattle.strip_decoder.specs.Finding.{IsPart, GivesSome, FindAnswers, AsksSilent, Finds}
+use Rattle.strip_decoder.specs.Answers.{PictureBy, Answers, Decodes as DecodesOver}
+use Rattle.strip_decoder.specs.Finding.{GivesSome, FindAnswers, Finds}
 use Rattle.top_122.specs.Notes.{IsNoted, Notes, decoder_fault_status, decoder_fault_line}
 use Rattle.top_122.specs.DamageNotes.{damaged, damage_line, done_status, done_line}
-use Rattle.top_122.specs.Ran.{Ran, CausedWithin}
-use Rattle.top_122.specs.Decoding.{Causes, Asking, AsksFound, decode_status, decode_line, RunsDecoder, Decodes, FindsDamage, TellsDone, DecodedWhole, DecodedPart, DecoderRefuses, DecoderLacksMemory}
-use Rattle.top_122.proofs.NoteLines.{noted_since}
+use Rattle.top_122.specs.Ran.{CausedWithin}
+use Rattle.top_122.specs.Decoding.{Causes, Asking, decode_status, decode_line, RunsDecoder, Decodes, FindsDamage, TellsDone, reads_picture}
+use Rattle.top_122.proofs.NoteLines.{ran_on, nothing_noted}
+use Rattle.top_122.proofs.Behaviours.{AtStatus}
 
 -- ---- after the note
 
@@ -89,55 +89,23 @@ find_later wish a b c took gave wrote (Err Memory) n k = k
 
 pub decoded : (wish : DecodeWish) (a b c : Outside) (done : DecodeDone) (status : ℕ) → DecodesOver wish a b (Ok done) →
     TellsDone (damaged done.damage) done.framing b c status → Decodes wish a c status
-decoded wish a b c done status run n = record {
-  answer = Ok done;
-  took = run.took;
-  gave = run.gave;
-  wrote = n.wrote;
-  since = since_note run.since n.since;
-  cause = record { within = run.within; cause = decode_later wish a b c run.took run.gave n.wrote (Ok done) n.since run.answer };
-  status_is = n.status_is;
-  noted = noted_since a b c n.wrote _ run.since.faults.notes n.noted;
-}
+decoded wish a b c done status run n =
+    ran_on a b c (Ok done) run.took run.gave n.wrote status run.since (record { within = run.within; cause = decode_later wish a b c run.took run.gave n.wrote (Ok done) n.since run.answer }) n.since n.status_is n.noted
 
 pub decode_failed : (wish : DecodeWish) (a b c : Outside) (fault : DecodeFault) (status : ℕ) → DecodesOver wish a b (Err fault) → Notes b c (decoder_fault_line fault) →
     status ≡ decoder_fault_status fault → Decodes wish a c status
-decode_failed wish a b c fault status run n is = record {
-  answer = Err fault;
-  took = run.took;
-  gave = run.gave;
-  wrote = n.0;
-  since = since_note run.since n.1;
-  cause = record { within = run.within; cause = decode_later wish a b c run.took run.gave n.0 (Err fault) n.1 run.answer };
-  status_is = is;
-  noted = noted_since a b c n.0 (decoder_fault_line fault) run.since.faults.notes n.2;
-}
+decode_failed wish a b c fault status run n is =
+    ran_on a b c (Err fault) run.took run.gave n.0 status run.since (record { within = run.within; cause = decode_later wish a b c run.took run.gave n.0 (Err fault) n.1 run.answer }) n.1 is n.2
 
 pub found : (wish : DecodeWish) (a b c : Outside) (done : DecodeDone) (status : ℕ) → Finds wish a b (Ok done) →
     TellsDone (damaged done.damage) done.framing b c status → FindsDamage wish a c status
-found wish a b c done status run n = record {
-  answer = Ok done;
-  took = run.took;
-  gave = run.gave;
-  wrote = n.wrote;
-  since = since_note run.since n.since;
-  cause = record { within = run.within; cause = find_later wish a b c run.took run.gave n.wrote (Ok done) n.since run.answer };
-  status_is = n.status_is;
-  noted = noted_since a b c n.wrote _ run.since.faults.notes n.noted;
-}
+found wish a b c done status run n =
+    ran_on a b c (Ok done) run.took run.gave n.wrote status run.since (record { within = run.within; cause = find_later wish a b c run.took run.gave n.wrote (Ok done) n.since run.answer }) n.since n.status_is n.noted
 
 pub find_failed : (wish : DecodeWish) (a b c : Outside) (fault : DecodeFault) (status : ℕ) → Finds wish a b (Err fault) → Notes b c (decoder_fault_line fault) →
     status ≡ decoder_fault_status fault → FindsDamage wish a c status
-find_failed wish a b c fault status run n is = record {
-  answer = Err fault;
-  took = run.took;
-  gave = run.gave;
-  wrote = n.0;
-  since = since_note run.since n.1;
-  cause = record { within = run.within; cause = find_later wish a b c run.took run.gave n.0 (Err fault) n.1 run.answer };
-  status_is = is;
-  noted = noted_since a b c n.0 (decoder_fault_line fault) run.since.faults.notes n.2;
-}
+find_failed wish a b c fault status run n is =
+    ran_on a b c (Err fault) run.took run.gave n.0 status run.since (record { within = run.within; cause = find_later wish a b c run.took run.gave n.0 (Err fault) n.1 run.answer }) n.1 is n.2
 
 -- ---- what the note says
 
@@ -256,12 +224,6 @@ status_small [] None = inl refl
 status_small [] (Some f) = inr refl
 status_small (r ∷ rs) framing = inr refl
 
-pub not_higher : (ranges : List RowRange) (framing : Option Framing) (n : ℕ) → 2 ≤ n → done_status ranges framing ≡ n → ⊥
-not_higher ranges framing n high e = elim (status_small ranges framing) [
-  | inl none ↦ omega (arith, none, e, high)
-  | inr some ↦ omega (arith, some, e, high)
-]
-
 pub fault_statuses : (fault : DecodeFault) → 3 ≤ decoder_fault_status fault
 fault_statuses NoSegment = omega arith
 fault_statuses (TooManyPixels pixels) = omega arith
@@ -270,32 +232,20 @@ fault_statuses ReadFault = omega arith
 fault_statuses WriteFault = omega arith
 fault_statuses Memory = omega arith
 
-not_two : (r : Result DecodeDone DecodeFault) → decode_status r ≡ 2 → ⊥
-not_two (Ok done) e = not_higher (damaged done.damage) done.framing 2 (omega arith) e
-not_two (Err fault) e = omega (arith, e, fault_statuses fault)
-
-pub nothing_noted : (old new : Outside) (wrote line : List ℕ) → line ≡ [] → IsNoted old new wrote line → wrote ≡ []
-nothing_noted old new wrote line none (inl same) = same ∙ none
-nothing_noted old new wrote line none (inr failed) = failed.1.2 ∙ ap (take failed.1.0) none ∙ take-nil failed.1.0
-
 pub whole_line : (ranges : List RowRange) (framing : Option Framing) → ranges ≡ [] → framing ≡ None → done_line ranges framing ≡ []
 whole_line ranges framing none good = rw (none, good) refl
 
-pub decode_not_two : {causes : Causes} {asks : Asking} (old new : Outside) (status : ℕ) → RunsDecoder causes asks old new status → status ≡ 2 → ⊥
-decode_not_two old new status run two = not_two run.answer (sym run.status_is ∙ two)
-
-module _ (wish : DecodeWish) (answers : Causes) (asks : Asking) (say : AllSay wish answers) (old new : Outside) (status : ℕ) (run : RunsDecoder (CausedWithin wish.octets answers) asks old new status) where
-  abbrev causes : Causes
-  causes = CausedWithin wish.octets answers
-
-  pub decode_done : status ≡ 0 → DecodedWhole causes asks old new
-  decode_done zero = by run.answer run.cause run.noted (sym run.status_is ∙ zero)
-    where
-      by : (r : Result DecodeDone DecodeFault) → causes old new run.took run.gave r → IsNoted old new run.wrote (decode_line r) → decode_status r ≡ 0 → DecodedWhole causes asks old new
-      by (Ok done) k noted e =
-          let fine = undamaged_status (damaged done.damage) done.framing e in
+-- a run of an engine, and what follows for its status
+pub picture_ends : (wish : DecodeWish) (answers : Causes) (asks : Asking) → AllSay wish answers → (old new : Outside) (status : ℕ) →
+    RunsDecoder (CausedWithin wish.octets answers) asks old new status → AtStatus (reads_picture wish answers asks) old new status
+picture_ends wish answers asks say old new status run = subst (AtStatus (reads_picture wish answers asks) old new) (sym run.status_is) (by run.answer run.noted run.cause)
+  where
+    done_ends : (done : DecodeDone) → IsNoted old new run.wrote (done_line (damaged done.damage) done.framing) → CausedWithin wish.octets answers old new run.took run.gave (Ok done) → AtStatus (reads_picture wish answers asks) old new (done_status (damaged done.damage) done.framing)
+    done_ends done noted k = elim (status_small (damaged done.damage) done.framing) [
+      | inl none ↦
+          let fine = undamaged_status (damaged done.damage) done.framing none in
           let silent = nothing_noted old new run.wrote _ (whole_line (damaged done.damage) done.framing fine.0 fine.1) noted in
-          record {
+          subst (AtStatus (reads_picture wish answers asks) old new) (sym none) record {
             done = done;
             took = run.took;
             gave = run.gave;
@@ -305,15 +255,9 @@ module _ (wish : DecodeWish) (answers : Causes) (asks : Asking) (say : AllSay wi
             none_damaged = fine.0;
             none_missing = (say old new run.took run.gave (Ok done) k.cause).none_missing fine.0;
           }
-      by (Err fault) k noted e = absurd (omega (arith, e, fault_statuses fault))
-
-  pub decode_part : status ≡ 1 → DecodedPart causes asks old new
-  decode_part one = by run.answer run.cause run.noted (sym run.status_is ∙ one)
-    where
-      by : (r : Result DecodeDone DecodeFault) → causes old new run.took run.gave r → IsNoted old new run.wrote (decode_line r) → decode_status r ≡ 1 → DecodedPart causes asks old new
-      by (Ok done) k noted e =
-          let lacks = damaged_status (damaged done.damage) done.framing e in
-          record {
+      | inr some ↦
+          let lacks = damaged_status (damaged done.damage) done.framing some in
+          subst (AtStatus (reads_picture wish answers asks) old new) (sym some) record {
             done = done;
             took = run.took;
             gave = run.gave;
@@ -323,47 +267,19 @@ module _ (wish : DecodeWish) (answers : Causes) (asks : Asking) (say : AllSay wi
             lacks = lacks;
             noted = subst (IsNoted old new run.wrote) (lacking_line (damaged done.damage) done.framing lacks) noted;
           }
-      by (Err fault) k noted e = absurd (omega (arith, e, fault_statuses fault))
+    ]
 
-  pub decode_refused : status ≡ 3 → DecoderRefuses causes asks old new
-  decode_refused three = by run.answer run.cause run.noted (sym run.status_is ∙ three)
-    where
-      by : (r : Result DecodeDone DecodeFault) → causes old new run.took run.gave r → IsNoted old new run.wrote (decode_line r) → decode_status r ≡ 3 → DecoderRefuses causes asks old new
-      by (Ok done) k noted e = absurd (not_higher (damaged done.damage) done.framing 3 (omega arith) e)
-      by (Err fault) k noted e = record { fault = fault; took = run.took; gave = run.gave; wrote = run.wrote; since = run.since; input = e; cause = k; noted = noted }
+    refuses : (fault : DecodeFault) → decoder_fault_status fault ≡ 3 → IsNoted old new run.wrote (decoder_fault_line fault) → CausedWithin wish.octets answers old new run.took run.gave (Err fault) → AtStatus (reads_picture wish answers asks) old new 3
+    refuses fault three noted k =
+        record { fault = fault; took = run.took; gave = run.gave; wrote = run.wrote; since = run.since; input = three; cause = k; noted = noted }
 
-  pub decode_read_fault : status ≡ 4 → Rose old.read_faults new.read_faults
-  decode_read_fault four = by run.answer (say old new run.took run.gave run.answer run.cause.cause) (sym run.status_is ∙ four)
-    where
-      by : (r : Result DecodeDone DecodeFault) → Says wish old new run.took run.gave r → decode_status r ≡ 4 → Rose old.read_faults new.read_faults
-      by (Ok done) k e = absurd (not_higher (damaged done.damage) done.framing 4 (omega arith) e)
-      by (Err ReadFault) k e = k
-      by (Err NoSegment) k e = absurd (omega (arith, e))
-      by (Err (TooManyPixels pixels)) k e = absurd (omega (arith, e))
-      by (Err LongInput) k e = absurd (omega (arith, e))
-      by (Err WriteFault) k e = absurd (omega (arith, e))
-      by (Err Memory) k e = absurd (omega (arith, e))
-
-  pub decode_write_fault : status ≡ 5 → Rose old.write_faults new.write_faults
-  decode_write_fault five = by run.answer (say old new run.took run.gave run.answer run.cause.cause) (sym run.status_is ∙ five)
-    where
-      by : (r : Result DecodeDone DecodeFault) → Says wish old new run.took run.gave r → decode_status r ≡ 5 → Rose old.write_faults new.write_faults
-      by (Ok done) k e = absurd (not_higher (damaged done.damage) done.framing 5 (omega arith) e)
-      by (Err WriteFault) k e = k
-      by (Err NoSegment) k e = absurd (omega (arith, e))
-      by (Err (TooManyPixels pixels)) k e = absurd (omega (arith, e))
-      by (Err LongInput) k e = absurd (omega (arith, e))
-      by (Err ReadFault) k e = absurd (omega (arith, e))
-      by (Err Memory) k e = absurd (omega (arith, e))
-
-  pub decode_no_memory : status ≡ 6 → DecoderLacksMemory wish asks old new
-  decode_no_memory six = by run.answer (say old new run.took run.gave run.answer run.cause.cause) (sym run.status_is ∙ six)
-    where
-      by : (r : Result DecodeDone DecodeFault) → Says wish old new run.took run.gave r → decode_status r ≡ 6 → DecoderLacksMemory wish asks old new
-      by (Ok done) k e = absurd (not_higher (damaged done.damage) done.framing 6 (omega arith) e)
-      by (Err Memory) k e = record { took = run.took; wrote = run.wrote; since = subst (λ g. Since old new run.took g run.wrote (asks old run.took g)) k run.since; within = run.cause.within }
-      by (Err NoSegment) k e = absurd (omega (arith, e))
-      by (Err (TooManyPixels pixels)) k e = absurd (omega (arith, e))
-      by (Err LongInput) k e = absurd (omega (arith, e))
-      by (Err ReadFault) k e = absurd (omega (arith, e))
-      by (Err WriteFault) k e = absurd (omega (arith, e))
+    by : (r : Result DecodeDone DecodeFault) → IsNoted old new run.wrote (decode_line r) → CausedWithin wish.octets answers old new run.took run.gave r → AtStatus (reads_picture wish answers asks) old new (decode_status r)
+    by (Ok done) noted k = done_ends done noted k
+    by (Err NoSegment) noted k = refuses NoSegment refl noted k
+    by (Err (TooManyPixels pixels)) noted k = refuses (TooManyPixels pixels) refl noted k
+    by (Err LongInput) noted k = refuses LongInput refl noted k
+    by (Err ReadFault) noted k = say old new run.took run.gave (Err ReadFault) k.cause
+    by (Err WriteFault) noted k = say old new run.took run.gave (Err WriteFault) k.cause
+    by (Err Memory) noted k =
+        let none = say old new run.took run.gave (Err Memory) k.cause in
+        record { took = run.took; wrote = run.wrote; since = subst (λ g. Since old new run.took g run.wrote (asks old run.took g)) none run.since; within = k.within }

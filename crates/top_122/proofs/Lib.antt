@@ -11,3 +11,5 @@ pub mod PacketInputs
 pub mod DamageParts
 pub mod Statuses
 pub mod Inputs
+pub mod Behaviours
+pub mod Laws

@@ -3,11 +3,12 @@ use Rattle.std.proofs.Common.{◌≡◌, ◌<◌, ◌≤◌, ◌+◌, ℕ, zero,
 use Rattle.std.specs.Prelude.{Result, Ok, Err, String, string_bytes}
 use Rattle.std.specs.declared.alloc.Global.{Global}
 use Rattle.std.proofs.lemmas.List.{take-append-le}
-use Rattle.std.proofs.Math.Seq.{take-append-add}
+use Rattle.std.proofs.Math.Seq.{take-append-add, take-nil}
 use Rattle.port_122.specs.Outside.{Outside, Since, NoRead, Rose, NotesAll}
-use Rattle.port_122.proofs.Stretches.{since_out, rose_since}
+use Rattle.port_122.proofs.Stretches.{since_out, since_note, rose_since}
 use Rattle.command_words.specs.Words.{texts}
 use Rattle.top_122.specs.Notes.{IsNoted, Notes, word_at}
+use Rattle.top_122.specs.Ran.{Ran}
 
 -- a part, and then the rest of the line
 pub notes_then : (p q r : Outside) (part rest : List ℕ) → Since p q [] [] part NoRead → Notes q r rest → Notes p r (part ++ rest)
@@ -44,9 +45,29 @@ pub noted_since : (a b c : Outside) (wrote line : List ℕ) → a.note_faults �
 noted_since a b c wrote line le (inl same) = inl same
 noted_since a b c wrote line le (inr failed) = inr (rose_since le failed.0, failed.1)
 
+-- of an empty line nothing was noted
+pub nothing_noted : (old new : Outside) (wrote line : List ℕ) → line ≡ [] → IsNoted old new wrote line → wrote ≡ []
+nothing_noted old new wrote line none (inl same) = same ∙ none
+nothing_noted old new wrote line none (inr failed) = failed.1.2 ∙ ap (take failed.1.0) none ∙ take-nil failed.1.0
+
 -- the word at a place
 pub word_is : (words : List (String Global)) (place : ℕ) (word : String Global) → place < length words → word ≡ get_or words place word →
     string_bytes word ≡ word_at (texts words) place
 word_is [] place word lt is = absurd (omega arith)
 word_is (w ∷ words) zero word lt is = ap string_bytes is
 word_is (w ∷ words) (suc place) word lt is = word_is words place word (omega arith) is
+
+-- a run of an engine, and then its note
+pub ran_on : {R : Type 0} {causes : Outside → Outside → List ℕ → List ℕ → R → Type 0} {asks : Outside → List ℕ → List ℕ → ℕ → ℕ → Type 0} {status_of : R → ℕ} {line_of : R → List ℕ} →
+    (a b c : Outside) (answer : R) (took gave wrote : List ℕ) (status : ℕ) → Since a b took gave [] (asks a took gave) → causes a c took gave answer → Since b c [] [] wrote NoRead →
+    status ≡ status_of answer → IsNoted b c wrote (line_of answer) → Ran causes asks status_of line_of a c status
+ran_on a b c answer took gave wrote status run cause note is noted = record {
+  answer = answer;
+  took = took;
+  gave = gave;
+  wrote = wrote;
+  since = since_note run note;
+  cause = cause;
+  status_is = is;
+  noted = noted_since a b c wrote _ run.faults.notes noted;
+}

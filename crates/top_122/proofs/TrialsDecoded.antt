@@ -1,6 +1,6 @@
 -- What a decoder reads of all packets of an image.
-use Rattle.std.proofs.Common.{◌≡◌, ◌≤◌, ◌<◌, ◌+◌, ◌-◌, ◌*◌, ◌∙◌, inl, inr, ℕ, zero, suc, ℤ, true, false, List, [], ◌∷◌, ◌++◌, length, refl, sym, ap, arith, append_assoc, length-append}
-use Rattle.std.specs.Prelude.{Option, None, Some}
+use Rattle.std.proofs.Common.{◌≡◌, ◌≤◌, ◌<◌, ◌+◌, ◌-◌, ◌*◌, ◌∙◌, inl, inr, ℕ, zero, suc, ℤ, true, List, [], ◌∷◌, ◌++◌, length, refl, sym, ap, arith, length-append}
+use Rattle.std.specs.Prelude.{Some}
 use Rattle.std.specs.List.{range_with_len}
 use Rattle.std.proofs.Math.Nat.{le-div_iff_mul-le}
 use Rattle.port_122.specs.Outside.{Outside, Since}

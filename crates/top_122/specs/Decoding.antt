@@ -19,6 +19,9 @@ use Rattle.packet_list.specs.Progress.{AsksListed}
 use Rattle.top_122.specs.Notes.{IsNoted, decoder_fault_status, decoder_fault_line, list_fault_status, list_fault_line}
 use Rattle.top_122.specs.DamageNotes.{damaged, damage_line, done_status, done_line}
 use Rattle.top_122.specs.Ran.{Ran, CausedWithin, LacksMemory}
+use Rattle.top_122.specs.Behaviours.{Behaviour, OnlyNotes}
+use Rattle.command_words.specs.declared.tables.Reading.{Reading}
+use Rattle.command_words.specs.declared.tables.Reading.TheVariants.{Decode, Damage, List as ListPackets}
 
 -- ---- the status and the note for each answer
 
@@ -201,3 +204,34 @@ TellsMany wish input = (g : Geometry) × (geometry_in wish.apid input ≡ Some g
 pub record HasNoPicture (wish : DecodeWish) (old : Outside) : Type 0 where
   pub packets : HasPackets wish old
   pub no_picture : TellsNone wish packets.input ⊎ TellsMany wish packets.input
+
+-- ---- the behaviour of each command
+
+-- `decode` and `damage` take packets of a picture
+abbrev pub reads_picture : DecodeWish → Causes → Asking → Behaviour
+reads_picture wish answers asks = record {
+  performs = RunsDecoder (CausedWithin wish.octets answers) asks;
+  whole = DecodedWhole (CausedWithin wish.octets answers) asks;
+  part = DecodedPart (CausedWithin wish.octets answers) asks;
+  refuses = DecoderRefuses (CausedWithin wish.octets answers) asks;
+  nothing = DecoderLacksMemory wish asks;
+  right = HasPicture wish;
+  wrong = λ old. HasNoPicture wish old ⊎ HasTooMany wish old;
+}
+
+-- `list` takes any packets
+abbrev pub reads_packets : DecodeWish → Behaviour
+reads_packets wish = record {
+  performs = ListsPackets wish;
+  whole = ListedWhole wish;
+  part = ListedPart wish;
+  refuses = ListRefuses wish;
+  nothing = OnlyNotes;
+  right = HasPackets wish;
+  wrong = HasTooMany wish;
+}
+
+abbrev pub reads : Reading → DecodeWish → Behaviour
+reads Decode wish = reads_picture wish (Answers wish) (Asks wish)
+reads Damage wish = reads_picture wish (FindAnswers wish) (AsksFound wish)
+reads ListPackets wish = reads_packets wish

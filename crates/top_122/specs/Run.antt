@@ -8,18 +8,17 @@ use Rattle.strip_coder.specs.declared.encode.EncodeDone.{EncodeDone}
 use Rattle.strip_coder.specs.declared.encode.EncodeFault.{EncodeFault}
 use Rattle.strip_coder.specs.Rasters.{image_of, given_for}
 use Rattle.strip_coder.specs.Answers.{Answers, TookRaster}
-use Rattle.base_122.specs.declared.wish.DecodeWish.{DecodeWish}
-use Rattle.strip_decoder.specs.Answers.{Asks}
 use Rattle.command_words.specs.declared.command.Command.{Command}
-use Rattle.command_words.specs.declared.command.Command.TheVariants.{Encode, Decode, Damage, List as ListCommand, Make, Trial}
+use Rattle.command_words.specs.declared.command.Command.TheVariants.{Encode, Read, Make, Trial}
 use Rattle.command_words.specs.declared.command.WordFault.{WordFault}
 use Rattle.raster_rows.specs.Made.{made_value}
 use Rattle.top_122.specs.declared.trial.TrialDone.{TrialDone}
 use Rattle.top_122.specs.MadeRasters.{made_raster}
 use Rattle.top_122.specs.Trials.{made_with, trial_line, IsTried}
 use Rattle.top_122.specs.Ran.{Ran, LacksMemory}
-use Rattle.top_122.specs.Decoding.{DecodeCauses, FindCauses, Decodes, FindsDamage, ListsPackets, AsksFound, DecodedWhole, DecodedPart, DecoderRefuses, DecoderLacksMemory, ListedWhole, ListedPart, ListRefuses, HasPackets, HasTooMany, HasPicture, HasNoPicture}
-use Rattle.top_122.specs.Notes.{IsNoted, word_line, fault_status, fault_line, memory_line}
+use Rattle.top_122.specs.Behaviours.{Behaviour, Never, OnlyNotes}
+use Rattle.top_122.specs.Decoding.{reads}
+use Rattle.top_122.specs.Notes.{IsNoted, word_line, fault_status, fault_line}
 
 -- ---- all that a run leaves
 
@@ -85,20 +84,6 @@ pub record TriedImage (setting : Setting) (seed : ℕ) (old new : Outside) (stat
 abbrev pub Tries : Setting → ℕ → Outside → Outside → ℕ → Type 0
 Tries setting seed old new status = LacksMemory old new status ⊎ TriedImage setting seed old new status
 
--- what a command leaves
-abbrev pub Performs : Command → Outside → Outside → ℕ → Type 0
-Performs (Encode setting) old new status = Encodes setting old new status
-Performs (Decode wish) old new status = Decodes wish old new status
-Performs (Damage wish) old new status = FindsDamage wish old new status
-Performs (ListCommand wish) old new status = ListsPackets wish old new status
-Performs (Make made) old new status = Makes made old new status
-Performs (Trial setting seed) old new status = Tries setting seed old new status
-
--- what a run leaves, for what the words say
-abbrev pub Runs : List (List ℕ) → Result Command WordFault → Outside → Outside → ℕ → Type 0
-Runs words (Ok command) old new status = Performs command old new status
-Runs words (Err fault) old new status = Refuses words fault old new status
-
 -- ---- what follows for one status
 
 -- The whole raster was taken and the end read, and the packets of its image are given.
@@ -114,15 +99,6 @@ pub record TriedWhole (setting : Setting) (seed : ℕ) (old new : Outside) : Typ
   pub tried : IsTried setting (made_value (made_with setting seed)) done
   pub since : Since old new [] (trial_line setting done) [] NoRead
 
--- the whole output is given and nothing noted
-abbrev pub GivesWhole : Command → Outside → Outside → Type 0
-GivesWhole (Encode setting) old new = EncodedWhole setting old new
-GivesWhole (Decode wish) old new = DecodedWhole (DecodeCauses wish) (Asks wish) old new
-GivesWhole (Damage wish) old new = DecodedWhole (FindCauses wish) (AsksFound wish) old new
-GivesWhole (ListCommand wish) old new = ListedWhole wish old new
-GivesWhole (Make made) old new = Since old new [] (made_raster made) [] NoRead
-GivesWhole (Trial setting seed) old new = TriedWhole setting seed old new
-
 -- The encoder refused its input: the cause and the note name the same fault.
 pub record EncoderRefuses (setting : Setting) (old new : Outside) : Type 0 where
   pub fault : EncodeFault
@@ -134,67 +110,51 @@ pub record EncoderRefuses (setting : Setting) (old new : Outside) : Type 0 where
   pub cause : Answers setting old new took gave (Err fault)
   pub noted : IsNoted old new wrote (fault_line fault)
 
--- a command refused its input; `make` and `trial` take none
-abbrev pub RefusesInput : Command → Outside → Outside → Type 0
-RefusesInput (Encode setting) old new = EncoderRefuses setting old new
-RefusesInput (Decode wish) old new = DecoderRefuses (DecodeCauses wish) (Asks wish) old new
-RefusesInput (Damage wish) old new = DecoderRefuses (FindCauses wish) (AsksFound wish) old new
-RefusesInput (ListCommand wish) old new = ListRefuses wish old new
-RefusesInput (Make made) old new = ⊥
-RefusesInput (Trial setting seed) old new = ⊥
+-- ---- the behaviour of each command
 
--- What a command leaves that had no memory: `encode`, `list` and `trial` have read and given nothing, `decode` and `damage` have given
--- nothing, and `make` takes none.
-abbrev pub GivesNothing : Command → Outside → Outside → Type 0
-GivesNothing (Encode setting) old new = (wrote : List ℕ) × Since old new [] [] wrote NoRead
-GivesNothing (Decode wish) old new = DecoderLacksMemory wish (Asks wish) old new
-GivesNothing (Damage wish) old new = DecoderLacksMemory wish (AsksFound wish) old new
-GivesNothing (ListCommand wish) old new = (wrote : List ℕ) × Since old new [] [] wrote NoRead
-GivesNothing (Make made) old new = ⊥
-GivesNothing (Trial setting seed) old new = (wrote : List ℕ) × Since old new [] [] wrote NoRead
+-- `encode` takes a raster of all its rows with all values in range
+abbrev pub encodes : Setting → Behaviour
+encodes setting = record {
+  performs = Encodes setting;
+  whole = EncodedWhole setting;
+  part = Never;
+  refuses = EncoderRefuses setting;
+  nothing = OnlyNotes;
+  right = λ old. (input : List ℕ) × (old.rest ≡ Some input) × TookRaster setting input;
+  wrong = λ old. (input : List ℕ) × (old.rest ≡ Some input) × (TookRaster setting input → ⊥);
+}
 
--- what a command leaves whose input was not whole
-abbrev pub GivesPart : Command → Outside → Outside → Type 0
-GivesPart (Encode setting) old new = ⊥
-GivesPart (Decode wish) old new = DecodedPart (DecodeCauses wish) (Asks wish) old new
-GivesPart (Damage wish) old new = DecodedPart (FindCauses wish) (AsksFound wish) old new
-GivesPart (ListCommand wish) old new = ListedPart wish old new
-GivesPart (Make made) old new = ⊥
-GivesPart (Trial setting seed) old new = ⊥
+-- `make` takes no input and no memory
+abbrev pub makes : MadeImage → Behaviour
+makes made = record {
+  performs = Makes made;
+  whole = λ old new. Since old new [] (made_raster made) [] NoRead;
+  part = Never;
+  refuses = Never;
+  nothing = Never;
+  right = λ old. Unit {0};
+  wrong = λ old. ⊥;
+}
 
--- no read and no write has failed since
-pub record IsSteady (old new : Outside) : Type 0 where
-  pub reads : Rose old.read_faults new.read_faults → ⊥
-  pub writes : Rose old.write_faults new.write_faults → ⊥
+-- `trial` takes no input
+abbrev pub tries : Setting → ℕ → Behaviour
+tries setting seed = record {
+  performs = Tries setting seed;
+  whole = TriedWhole setting seed;
+  part = Never;
+  refuses = Never;
+  nothing = OnlyNotes;
+  right = λ old. Unit {0};
+  wrong = λ old. ⊥;
+}
 
--- The input that is left is what the command takes: a raster of all its rows with all values in range, packets of a picture, or any
--- packets, where they aren't too many.
-abbrev pub HasInput : Command → Outside → Type 0
-HasInput (Encode setting) old = (input : List ℕ) × (old.rest ≡ Some input) × TookRaster setting input
-HasInput (Decode wish) old = HasPicture wish old
-HasInput (Damage wish) old = HasPicture wish old
-HasInput (ListCommand wish) old = HasPackets wish old
-HasInput (Make made) old = Unit {0}
-HasInput (Trial setting seed) old = Unit {0}
+abbrev pub behaviour : Command → Behaviour
+behaviour (Encode setting) = encodes setting
+behaviour (Read reading wish) = reads reading wish
+behaviour (Make made) = makes made
+behaviour (Trial setting seed) = tries setting seed
 
--- the input that is left is something else
-abbrev pub HasWrongInput : Command → Outside → Type 0
-HasWrongInput (Encode setting) old = (input : List ℕ) × (old.rest ≡ Some input) × (TookRaster setting input → ⊥)
-HasWrongInput (Decode wish) old = HasNoPicture wish old ⊎ HasTooMany wish old
-HasWrongInput (Damage wish) old = HasNoPicture wish old ⊎ HasTooMany wish old
-HasWrongInput (ListCommand wish) old = HasTooMany wish old
-HasWrongInput (Make made) old = ⊥
-HasWrongInput (Trial setting seed) old = ⊥
-
--- packets were read to their end or as far as can be, or there was no memory
-abbrev pub IsRead : ℕ → Type 0
-IsRead status = (status ≡ 0) ⊎ ((status ≡ 1) ⊎ (status ≡ 6))
-
--- the command is done, or it had no memory
-abbrev pub IsDone : Command → ℕ → Type 0
-IsDone (Encode setting) status = (status ≡ 0) ⊎ (status ≡ 6)
-IsDone (Decode wish) status = IsRead status
-IsDone (Damage wish) status = IsRead status
-IsDone (ListCommand wish) status = IsRead status
-IsDone (Make made) status = status ≡ 0
-IsDone (Trial setting seed) status = (status ≡ 0) ⊎ (status ≡ 6)
+-- what a run leaves, for what the words say
+abbrev pub Runs : List (List ℕ) → Result Command WordFault → Outside → Outside → ℕ → Type 0
+Runs words (Ok command) old new status = (behaviour command).performs old new status
+Runs words (Err fault) old new status = Refuses words fault old new status

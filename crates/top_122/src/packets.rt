@@ -2,11 +2,12 @@
 ghost use Rattle.std.specs.Prelude.{◌≡◌, ◌≤◌, []};
 ghost use Rattle.top_122.specs.Notes.{decoder_fault_status, list_fault_status};
 ghost use Rattle.top_122.specs.DamageNotes.{damaged};
-ghost use Rattle.top_122.specs.Decoding.{Decodes, FindsDamage, ListsPackets, TellsDone};
+ghost use Rattle.top_122.specs.Decoding.{Decodes, FindsDamage, ListsPackets, TellsDone, reads};
 
 use crate::damage_notes::{note_damage, note_framing};
 use crate::notes::{note_decoder_fault, note_list_fault};
 use base_122::DecodeWish;
+use command_words::Reading;
 use packet_defs::Framing;
 use packet_list::{ListFault, list_packets};
 use port_122::Port;
@@ -58,8 +59,8 @@ fn tell_framing<X: Port>(port: &mut X, framing: Option<Framing>) -> u8
     1
 }
 
-/// The command `decode`: packets in, the picture out. Where there is no memory nothing is given.
-pub fn decode<X: Port>(alloc: Global, wish: &DecodeWish, port: &mut X) -> u8
+// The command `decode`: packets in, the picture out. Where there is no memory nothing is given.
+fn decode<X: Port>(alloc: Global, wish: &DecodeWish, port: &mut X) -> u8
     ensures { Decodes wish.now (X.outside port.old) (X.outside port.new) result }
 {
     match decode_packets(alloc, port, wish) {
@@ -71,8 +72,8 @@ pub fn decode<X: Port>(alloc: Global, wish: &DecodeWish, port: &mut X) -> u8
     }
 }
 
-/// The command `damage`: packets in, a line for each range of damaged rows out. Where there is no memory nothing is given.
-pub fn damage<X: Port>(alloc: Global, wish: &DecodeWish, port: &mut X) -> u8
+// The command `damage`: packets in, a line for each range of damaged rows out. Where there is no memory nothing is given.
+fn damage<X: Port>(alloc: Global, wish: &DecodeWish, port: &mut X) -> u8
     ensures { FindsDamage wish.now (X.outside port.old) (X.outside port.new) result }
 {
     match find_damage(alloc, port, wish) {
@@ -84,8 +85,8 @@ pub fn damage<X: Port>(alloc: Global, wish: &DecodeWish, port: &mut X) -> u8
     }
 }
 
-/// The command `list`: packets in, a line for each out. Where there is no memory nothing is read.
-pub fn list<X: Port>(alloc: Global, wish: &DecodeWish, port: &mut X) -> u8
+// The command `list`: packets in, a line for each out. Where there is no memory nothing is read.
+fn list<X: Port>(alloc: Global, wish: &DecodeWish, port: &mut X) -> u8
     ensures { ListsPackets wish.now (X.outside port.old) (X.outside port.new) result }
 {
     match list_packets(alloc, port, wish) {
@@ -94,5 +95,16 @@ pub fn list<X: Port>(alloc: Global, wish: &DecodeWish, port: &mut X) -> u8
             note_list_fault(port, fault);
             list_fault_status(fault)
         }
+    }
+}
+
+/// A command that reads packets.
+pub fn read<X: Port>(alloc: Global, reading: Reading, wish: &DecodeWish, port: &mut X) -> u8
+    ensures { (reads reading wish.now).performs (X.outside port.old) (X.outside port.new) result }
+{
+    match reading {
+        Reading::Decode => decode(alloc, wish, port),
+        Reading::Damage => damage(alloc, wish, port),
+        Reading::List => list(alloc, wish, port),
     }
 }

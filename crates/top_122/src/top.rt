@@ -6,16 +6,18 @@ ghost use Rattle.base_122.specs.declared.setting.Setting.{Setting};
 ghost use Rattle.raster_rows.specs.Pixels.{IsDepth};
 ghost use Rattle.command_words.specs.declared.command.WordFault.{WordFault};
 ghost use Rattle.command_words.specs.declared.command.Command.{Command};
+ghost use Rattle.command_words.specs.declared.tables.Reading.{Reading};
 ghost use Rattle.command_words.specs.Words.{texts, Says, IsPlaced};
 ghost use Rattle.command_words.specs.Commands.{IsInRange};
 ghost use Rattle.base_122.specs.declared.wish.DecodeWish.{DecodeWish};
 ghost use Rattle.top_122.specs.Notes.{fault_status};
 ghost use Rattle.top_122.specs.Pictures.{GavePicture};
-ghost use Rattle.top_122.specs.Run.{Refuses, Encodes, Makes, Tries, Performs, Runs, GivesWhole, GivesPart, RefusesInput, GivesNothing, IsSteady, HasInput, HasWrongInput, IsDone};
+ghost use Rattle.top_122.specs.Behaviours.{IsSteady, Completes};
+ghost use Rattle.top_122.specs.Run.{Refuses, Encodes, Makes, Tries, Runs, behaviour};
 
 use crate::make::write_made;
 use crate::notes::{note_fault, note_line, note_refusal};
-use crate::packets::{damage, decode, list};
+use crate::packets::read;
 use crate::trial::{give_trial, run_trial};
 use base_122::Setting;
 use command_words::{Command, WordFault, read_words};
@@ -98,13 +100,11 @@ fn trial<X: Port>(alloc: Global, setting: &Setting, seed: u32, port: &mut X) -> 
 // One command.
 fn perform<X: Port>(alloc: Global, command: &Command, port: &mut X) -> u8
     requires { IsInRange command.now }
-    ensures { Performs command.now (X.outside port.old) (X.outside port.new) result }
+    ensures { (behaviour command.now).performs (X.outside port.old) (X.outside port.new) result }
 {
     match command {
         Command::Encode(setting) => encode(alloc, setting, port),
-        Command::Decode(wish) => decode(alloc, wish, port),
-        Command::Damage(wish) => damage(alloc, wish, port),
-        Command::List(wish) => list(alloc, wish, port),
+        Command::Read(reading, wish) => read(alloc, *reading, wish, port),
         Command::Make(made) => make(made, port),
         Command::Trial(setting, seed) => trial(alloc, setting, *seed, port),
     }
@@ -121,25 +121,25 @@ pub fn run<X: Port>(alloc: Global, words: &[String], port: &mut X) -> u8
 
     // What follows for each status.
     ensures done { result ≡ 0 → (command : Command) × Says (texts words.now) (Ok command)
-        × GivesWhole command (X.outside port.old) (X.outside port.new) }
+        × (behaviour command).whole (X.outside port.old) (X.outside port.new) }
     ensures refused { (result ≡ 2) ↔ ((fault : WordFault) × Says (texts words.now) (Err fault)) }
     ensures part { result ≡ 1 → (command : Command) × Says (texts words.now) (Ok command)
-        × GivesPart command (X.outside port.old) (X.outside port.new) }
+        × (behaviour command).part (X.outside port.old) (X.outside port.new) }
     ensures input_refused { result ≡ 3 → (command : Command) × Says (texts words.now) (Ok command)
-        × RefusesInput command (X.outside port.old) (X.outside port.new) }
+        × (behaviour command).refuses (X.outside port.old) (X.outside port.new) }
     ensures read_fault { result ≡ 4 → Rose (X.outside port.old).read_faults (X.outside port.new).read_faults }
     ensures write_fault { result ≡ 5 → Rose (X.outside port.old).write_faults (X.outside port.new).write_faults }
     ensures no_memory { result ≡ 6 → (command : Command) × Says (texts words.now) (Ok command)
-        × GivesNothing command (X.outside port.old) (X.outside port.new) }
+        × (behaviour command).nothing (X.outside port.old) (X.outside port.new) }
 
     // Valid words and no fault: with the right input the command is done, and with another one that is refused.
-    ensures complete { (command : Command) → Says (texts words.now) (Ok command) → HasInput command (X.outside port.old) →
-        IsSteady (X.outside port.old) (X.outside port.new) → IsDone command result }
-    ensures wrong_input { (command : Command) → Says (texts words.now) (Ok command) → HasWrongInput command (X.outside port.old) →
+    ensures complete { (command : Command) → Says (texts words.now) (Ok command) → (behaviour command).right (X.outside port.old) →
+        IsSteady (X.outside port.old) (X.outside port.new) → Completes (behaviour command) (X.outside port.old) (X.outside port.new) result }
+    ensures wrong_input { (command : Command) → Says (texts words.now) (Ok command) → (behaviour command).wrong (X.outside port.old) →
         IsSteady (X.outside port.old) (X.outside port.new) → (result ≡ 3) ⊎ (result ≡ 6) }
 
     // No pixel of a picture outside the damaged rows hangs on what was lost, and all packets of an image give it back.
-    ensures picture { (wish : DecodeWish) → Says (texts words.now) (Ok (Command.Decode wish)) → (result ≡ 0) ⊎ (result ≡ 1) →
+    ensures picture { (wish : DecodeWish) → Says (texts words.now) (Ok (Command.Read Reading.Decode wish)) → (result ≡ 0) ⊎ (result ≡ 1) →
         GavePicture wish (X.outside port.old) (X.outside port.new) result }
 {
     decoding_contains();

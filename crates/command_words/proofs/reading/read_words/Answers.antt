@@ -1,6 +1,8 @@
-use Rattle.std.proofs.Common.{◌≡◌, sym, ◌∙◌, subst, ap}
+use Rattle.std.proofs.Common.{sym, ◌∙◌, subst, ap}
 use Rattle.std.specs.Prelude.{string_bytes, length, IfOk, IfErr, Ok, Err}
-use Rattle.command_words.specs.Words.{texts, name_said, IsPlaced}
+use Rattle.command_words.specs.declared.command.WordFault.TheVariants.{BadWord}
+use Rattle.command_words.specs.Tables.{command_named}
+use Rattle.command_words.specs.Words.{texts, IsPlaced}
 use Rattle.command_words.specs.Commands.{IsInRange}
 use Rattle.command_words.specs.Given.{finds_of}
 use Rattle.command_words.proofs.WordLists.{first_word}
@@ -9,42 +11,42 @@ use Rattle.command_words.proofs.Places.{words_placed}
 use Rattle.command_words.proofs.Made.{made_in_range}
 use Rattle.command_words.proofs.reading.read_words.Goals as goal
 
-pub returns-in-Ok-read_entries-clause-only : goal.returns-in-Ok-read_entries-clause-only
-returns-in-Ok-read_entries-clause-only c said says =
+pub returns-in_default-command_named-clause-only : goal.returns-in_default-command_named-clause-only
+returns-in_default-command_named-clause-only c said says =
     let first = first_word c.args.words.now c.first-item.result c.in-len1-up.len_at_least c.first-item.is in
-    let named : Ok c.in-Ok.name ≡ name_said (string_bytes c.first-item.result) = c.in-Ok.ensures ∙ ap name_said c.as_str.ensures.value in
+    says_one (texts c.args.words.now) said (Err (BadWord 0)) says
+    (says_first (texts c.args.words.now) _ (string_bytes c.first-item.result) first (ap command_named (sym c.as_str.ensures.value) ∙ c.in_default-command_named.ensures))
+
+pub returns-in-Ok-clause-only : goal.returns-in-Ok-clause-only
+returns-in-Ok-clause-only c said says =
+    let first = first_word c.args.words.now c.first-item.result c.in-len1-up.len_at_least c.first-item.is in
+    let named = ap command_named (sym c.as_str.ensures.value) ∙ c.in-Some.ensures in
     says_one (texts c.args.words.now) said _ says
-    (says_rest (texts c.args.words.now) _ (string_bytes c.first-item.result) c.in-Ok.name (Ok (finds_of c.in-Ok-read_entries.given)) first named c.in-Ok-read_entries.ensures)
+    (says_rest (texts c.args.words.now) _ (string_bytes c.first-item.result) (c.in-Some.task, c.in-Some.keys.now) (Ok (finds_of c.in-Ok.given)) first named c.in-Ok.ensures)
     ∙ sym c.make_command.ensures
 
-pub returns-in-Ok-read_entries-clause-range : goal.returns-in-Ok-read_entries-clause-range
-returns-in-Ok-read_entries-clause-range c =
-    subst (λ made. IfOk made IsInRange) (sym c.make_command.ensures) (made_in_range c.in-Ok.name (finds_of c.in-Ok-read_entries.given))
+pub returns-in-Ok-clause-range : goal.returns-in-Ok-clause-range
+returns-in-Ok-clause-range c =
+    subst (λ made. IfOk made IsInRange) (sym c.make_command.ensures) (made_in_range c.in-Some.task c.in-Some.keys.now (finds_of c.in-Ok.given))
 
-pub returns-in-Err-read_entries-clause-only : goal.returns-in-Err-read_entries-clause-only
-returns-in-Err-read_entries-clause-only c said says =
+pub returns-in-Ok-clause-place : goal.returns-in-Ok-clause-place
+returns-in-Ok-clause-place c =
     let first = first_word c.args.words.now c.first-item.result c.in-len1-up.len_at_least c.first-item.is in
-    let named : Ok c.in-Ok.name ≡ name_said (string_bytes c.first-item.result) = c.in-Ok.ensures ∙ ap name_said c.as_str.ensures.value in
+    let named = ap command_named (sym c.as_str.ensures.value) ∙ c.in-Some.ensures in
+    subst (λ made. IfErr made (IsPlaced (length c.args.words.now))) (sym c.make_command.ensures)
+    (words_placed c.args.words.now _
+    (says_rest (texts c.args.words.now) _ (string_bytes c.first-item.result) (c.in-Some.task, c.in-Some.keys.now) (Ok (finds_of c.in-Ok.given)) first named c.in-Ok.ensures))
+
+pub returns-in-Err-clause-only : goal.returns-in-Err-clause-only
+returns-in-Err-clause-only c said says =
+    let first = first_word c.args.words.now c.first-item.result c.in-len1-up.len_at_least c.first-item.is in
+    let named = ap command_named (sym c.as_str.ensures.value) ∙ c.in-Some.ensures in
     says_one (texts c.args.words.now) said _ says
-    (says_rest (texts c.args.words.now) _ (string_bytes c.first-item.result) c.in-Ok.name (Err c.in-Err-read_entries.fault) first named c.in-Err-read_entries.ensures)
+    (says_rest (texts c.args.words.now) _ (string_bytes c.first-item.result) (c.in-Some.task, c.in-Some.keys.now) (Err c.in-Err.fault) first named c.in-Err.ensures)
 
 pub returns-in-Err-clause-place : goal.returns-in-Err-clause-place
 returns-in-Err-clause-place c =
     let first = first_word c.args.words.now c.first-item.result c.in-len1-up.len_at_least c.first-item.is in
+    let named = ap command_named (sym c.as_str.ensures.value) ∙ c.in-Some.ensures in
     words_placed c.args.words.now (Err c.in-Err.fault)
-    (says_first (texts c.args.words.now) _ (string_bytes c.first-item.result) c.in-Err.fault first (c.in-Err.ensures ∙ ap name_said c.as_str.ensures.value))
-
-pub returns-in-Ok-read_entries-clause-place : goal.returns-in-Ok-read_entries-clause-place
-returns-in-Ok-read_entries-clause-place c =
-    let first = first_word c.args.words.now c.first-item.result c.in-len1-up.len_at_least c.first-item.is in
-    let named : Ok c.in-Ok.name ≡ name_said (string_bytes c.first-item.result) = c.in-Ok.ensures ∙ ap name_said c.as_str.ensures.value in
-    subst (λ made. IfErr made (IsPlaced (length c.args.words.now))) (sym c.make_command.ensures)
-    (words_placed c.args.words.now _
-    (says_rest (texts c.args.words.now) _ (string_bytes c.first-item.result) c.in-Ok.name (Ok (finds_of c.in-Ok-read_entries.given)) first named c.in-Ok-read_entries.ensures))
-
-pub returns-in-Err-read_entries-clause-place : goal.returns-in-Err-read_entries-clause-place
-returns-in-Err-read_entries-clause-place c =
-    let first = first_word c.args.words.now c.first-item.result c.in-len1-up.len_at_least c.first-item.is in
-    let named : Ok c.in-Ok.name ≡ name_said (string_bytes c.first-item.result) = c.in-Ok.ensures ∙ ap name_said c.as_str.ensures.value in
-    words_placed c.args.words.now (Err c.in-Err-read_entries.fault)
-    (says_rest (texts c.args.words.now) _ (string_bytes c.first-item.result) c.in-Ok.name (Err c.in-Err-read_entries.fault) first named c.in-Err-read_entries.ensures)
+    (says_rest (texts c.args.words.now) _ (string_bytes c.first-item.result) (c.in-Some.task, c.in-Some.keys.now) (Err c.in-Err.fault) first named c.in-Err.ensures)

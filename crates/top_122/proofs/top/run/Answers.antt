@@ -1,52 +1,57 @@
 use Rattle.std.proofs.Common.{◌≡◌, sym, subst}
 use Rattle.std.specs.Prelude.{Ok}
+use Rattle.command_words.specs.declared.command.Command.TheVariants.{Read}
+use Rattle.command_words.specs.declared.tables.Reading.TheVariants.{Decode}
 use Rattle.command_words.specs.Words.{texts, Says}
-use Rattle.top_122.specs.Run.{Performs}
-use Rattle.top_122.proofs.Statuses.{performs_not_two, performs_done, performs_part, performs_refused, performs_read_fault, performs_write_fault, performs_no_memory}
-use Rattle.top_122.proofs.Inputs.{performs_complete, performs_wrong}
-use Rattle.command_words.specs.declared.command.Command.TheVariants.{Decode}
+use Rattle.top_122.specs.Run.{behaviour}
+use Rattle.top_122.proofs.Behaviours.{completes, refused}
 use Rattle.top_122.proofs.GavePictures.{gave_picture}
+use Rattle.top_122.proofs.Laws.{law, ends_at}
 use Rattle.top_122.proofs.top.run.Goals as goal
 
 pub returns-in-Ok-clause-done : goal.returns-in-Ok-clause-done
 returns-in-Ok-clause-done g c zero =
-    (c.in-Ok.command, subst (Says (texts c.args.words.now)) c.in-Ok.is c.read_words.ensures.says, performs_done c.in-Ok.command _ _ c.perform.result c.perform.ensures zero)
+    (c.in-Ok.command, subst (Says (texts c.args.words.now)) c.in-Ok.is c.read_words.ensures.says, ends_at c.in-Ok.command _ _ c.perform.result 0 c.perform.ensures zero)
 
 pub returns-in-Ok-clause-refused : goal.returns-in-Ok-clause-refused
 returns-in-Ok-clause-refused g c = (
-  λ two. absurd (performs_not_two c.in-Ok.command _ _ c.perform.result c.perform.ensures two),
+  λ two. absurd (ends_at c.in-Ok.command _ _ c.perform.result 2 c.perform.ensures two),
   λ (fault, says). absurd (let e = c.read_words.ensures.only _ says in let f = c.in-Ok.is in cc),
 )
 
 pub returns-in-Ok-clause-part : goal.returns-in-Ok-clause-part
 returns-in-Ok-clause-part g c one =
-    (c.in-Ok.command, subst (Says (texts c.args.words.now)) c.in-Ok.is c.read_words.ensures.says, performs_part c.in-Ok.command _ _ c.perform.result c.perform.ensures one)
+    (c.in-Ok.command, subst (Says (texts c.args.words.now)) c.in-Ok.is c.read_words.ensures.says, ends_at c.in-Ok.command _ _ c.perform.result 1 c.perform.ensures one)
 
 pub returns-in-Ok-clause-input_refused : goal.returns-in-Ok-clause-input_refused
 returns-in-Ok-clause-input_refused g c three =
-    (c.in-Ok.command, subst (Says (texts c.args.words.now)) c.in-Ok.is c.read_words.ensures.says, performs_refused c.in-Ok.command _ _ c.perform.result c.perform.ensures three)
+    (c.in-Ok.command, subst (Says (texts c.args.words.now)) c.in-Ok.is c.read_words.ensures.says, ends_at c.in-Ok.command _ _ c.perform.result 3 c.perform.ensures three)
 
 pub returns-in-Ok-clause-read_fault : goal.returns-in-Ok-clause-read_fault
-returns-in-Ok-clause-read_fault g c four = performs_read_fault c.in-Ok.command _ _ c.perform.result c.perform.ensures four
+returns-in-Ok-clause-read_fault g c four = ends_at c.in-Ok.command _ _ c.perform.result 4 c.perform.ensures four
 
 pub returns-in-Ok-clause-write_fault : goal.returns-in-Ok-clause-write_fault
-returns-in-Ok-clause-write_fault g c five = performs_write_fault c.in-Ok.command _ _ c.perform.result c.perform.ensures five
+returns-in-Ok-clause-write_fault g c five = ends_at c.in-Ok.command _ _ c.perform.result 5 c.perform.ensures five
 
 pub returns-in-Ok-clause-no_memory : goal.returns-in-Ok-clause-no_memory
 returns-in-Ok-clause-no_memory g c six =
-    (c.in-Ok.command, subst (Says (texts c.args.words.now)) c.in-Ok.is c.read_words.ensures.says, performs_no_memory c.in-Ok.command _ _ c.perform.result c.perform.ensures six)
+    (c.in-Ok.command, subst (Says (texts c.args.words.now)) c.in-Ok.is c.read_words.ensures.says, ends_at c.in-Ok.command _ _ c.perform.result 6 c.perform.ensures six)
 
 pub returns-in-Ok-clause-complete : goal.returns-in-Ok-clause-complete
 returns-in-Ok-clause-complete g c command says input steady =
     let same : command ≡ c.in-Ok.command = let e = c.read_words.ensures.only (Ok command) says in let f = c.in-Ok.is in cc in
-    performs_complete command _ _ c.perform.result
-    (subst (λ k. Performs k (g.X.Port.outside c.args.port.now) (g.X.Port.outside c.perform.new.port) c.perform.result) (sym same) c.perform.ensures) input steady
+    completes (behaviour command) _ _ c.perform.result
+    ((law command).ends _ _ c.perform.result
+    (subst (λ k. (behaviour k).performs (g.X.Port.outside c.args.port.now) (g.X.Port.outside c.perform.new.port) c.perform.result) (sym same) c.perform.ensures))
+    ((law command).right _ _ input) steady
 
 pub returns-in-Ok-clause-wrong_input : goal.returns-in-Ok-clause-wrong_input
 returns-in-Ok-clause-wrong_input g c command says input steady =
     let same : command ≡ c.in-Ok.command = let e = c.read_words.ensures.only (Ok command) says in let f = c.in-Ok.is in cc in
-    performs_wrong command _ _ c.perform.result
-    (subst (λ k. Performs k (g.X.Port.outside c.args.port.now) (g.X.Port.outside c.perform.new.port) c.perform.result) (sym same) c.perform.ensures) input steady
+    refused (behaviour command) _ _ c.perform.result
+    ((law command).ends _ _ c.perform.result
+    (subst (λ k. (behaviour k).performs (g.X.Port.outside c.args.port.now) (g.X.Port.outside c.perform.new.port) c.perform.result) (sym same) c.perform.ensures))
+    ((law command).wrong_whole _ _ input) ((law command).wrong_part _ _ input) steady
 
 pub returns-in-Err-clause-complete : goal.returns-in-Err-clause-complete
 returns-in-Err-clause-complete g c command says input steady =
@@ -58,10 +63,10 @@ returns-in-Err-clause-wrong_input g c command says input steady =
 
 pub returns-in-Ok-clause-picture : goal.returns-in-Ok-clause-picture
 returns-in-Ok-clause-picture g c wish says given =
-    let same : Decode wish ≡ c.in-Ok.command = let e = c.read_words.ensures.only (Ok (Decode wish)) says in let f = c.in-Ok.is in cc in
+    let same : Read Decode wish ≡ c.in-Ok.command = let e = c.read_words.ensures.only (Ok (Read Decode wish)) says in let f = c.in-Ok.is in cc in
     gave_picture c.decoding_contains.ensures c.round_trip.ensures wish _ _ c.perform.result
-    (subst (λ k. Performs k (g.X.Port.outside c.args.port.now) (g.X.Port.outside c.perform.new.port) c.perform.result) (sym same) c.perform.ensures) given
+    (subst (λ k. (behaviour k).performs (g.X.Port.outside c.args.port.now) (g.X.Port.outside c.perform.new.port) c.perform.result) (sym same) c.perform.ensures) given
 
 pub returns-in-Err-clause-picture : goal.returns-in-Err-clause-picture
 returns-in-Err-clause-picture g c wish says given =
-    absurd (let e = c.read_words.ensures.only (Ok (Decode wish)) says in let f = c.in-Err.is in cc)
+    absurd (let e = c.read_words.ensures.only (Ok (Read Decode wish)) says in let f = c.in-Err.is in cc)

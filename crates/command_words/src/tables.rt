@@ -1,0 +1,244 @@
+// The table of keys and the table of commands.
+ghost use Rattle.std.specs.Prelude.{◌≡◌, Some, None, MatchOption, map};
+ghost use Rattle.command_words.specs.Tables.{command_in, command_named};
+
+use crate::values::Value;
+use base_122::{Field, FieldRange, Select, Weights};
+
+/// What a command does.
+#[derive(Clone, Copy)]
+pub enum Task {
+    Encode,
+    Read(Reading),
+    Make,
+    Trial,
+}
+
+/// What is done with packets that are read.
+#[derive(Clone, Copy, Debug, PartialEq, Eq)]
+pub enum Reading {
+    /// The picture is given.
+    Decode,
+    /// A line for each range of damaged rows is given.
+    Damage,
+    /// A line for each packet is given.
+    List,
+}
+
+/// The keys of all commands.
+#[derive(Clone, Copy)]
+pub enum Key {
+    Width,
+    Rows,
+    Depth,
+    Signed,
+    Segment,
+    Limit,
+    Fill,
+    Word,
+    Stop,
+    Weights,
+    Select,
+    Apid,
+    Image,
+    Packet,
+    Pixels,
+    Octets,
+    Seed,
+}
+
+/// How the value of a key is written.
+#[derive(Clone, Copy)]
+pub enum Form {
+    Number,
+    Cap,
+    Flag,
+    Stop,
+    Weights,
+    Select,
+}
+
+/// Which values of a key are in range.
+#[derive(Clone, Copy)]
+pub enum Range {
+    /// All that its form has.
+    All,
+    Number(FieldRange),
+    Cap(FieldRange),
+    /// The rows of an image, which a trial must also have few enough of for its width.
+    Rows(FieldRange),
+    /// A limit: 0, or a multiple of the word in its range.
+    Limit,
+    /// Whether texts are filled up to the limit, so there must be one.
+    Fill,
+    Stop,
+    Weights,
+}
+
+/// The part of the usage text in which a key is listed.
+#[derive(Clone, Copy, PartialEq, Eq)]
+pub enum Group {
+    What,
+    HowMuch,
+    Packets,
+    Reading,
+}
+
+/// The groups in their order, with their titles.
+pub const GROUPS: [(Group, &str); 4] = [
+    (Group::What, "what\n"),
+    (Group::HowMuch, "how much to keep\n"),
+    (Group::Packets, "packets\n"),
+    (Group::Reading, "reading\n"),
+];
+
+/// A row of the table of keys.
+#[derive(Clone, Copy)]
+pub struct KeyRow {
+    /// The value where the words have none, which also says how a value of the key is written.
+    pub default: Value,
+    /// A command that has the key can't do without it, so the default is only that of the other commands.
+    pub required: bool,
+    /// The field that is named where the key is missing or out of range.
+    pub field: Option<Field>,
+    pub range: Range,
+    pub group: Group,
+}
+
+/// How many keys there are.
+pub const COUNT: usize = 17;
+
+/// All keys in the order in which their ranges are tested, which is that of `Field`.
+pub const ALL: [Key; COUNT] = [
+    Key::Width,
+    Key::Rows,
+    Key::Depth,
+    Key::Signed,
+    Key::Segment,
+    Key::Limit,
+    Key::Fill,
+    Key::Word,
+    Key::Stop,
+    Key::Weights,
+    Key::Select,
+    Key::Apid,
+    Key::Image,
+    Key::Packet,
+    Key::Pixels,
+    Key::Octets,
+    Key::Seed,
+];
+
+// The usual weights.
+const USUAL: Weights = Weights {
+    shifts: [0, 1, 1, 1, 2, 2, 2, 3, 3, 3],
+};
+
+// A row of the table of keys: the name; the default, of a required key after that word; the field; the range; and the group.
+macro_rules! key_row {
+    ($text:literal: required $default:expr, $field:expr, $range:expr, $group:ident) => {
+        ($text, KeyRow { default: $default, required: true, field: $field, range: $range, group: Group::$group })
+    };
+    ($text:literal: $default:expr, $field:expr, $range:expr, $group:ident) => {
+        ($text, KeyRow { default: $default, required: false, field: $field, range: $range, group: Group::$group })
+    };
+}
+
+// The table of keys: of each its name and its row, in the order of `Key`.
+const KEYS: [(&str, KeyRow); COUNT] = [
+    key_row! { "width": required Value::Number(17), Some(Field::Width), Range::Number(FieldRange::WIDTH), What },
+    key_row! { "rows": required Value::Number(17), Some(Field::Rows), Range::Rows(FieldRange::ROWS), What },
+    key_row! { "depth": Value::Number(8), Some(Field::Depth), Range::Number(FieldRange::DEPTH), What },
+    key_row! { "signed": Value::Flag(false), None, Range::All, What },
+    key_row! { "segment": Value::Number(64), Some(Field::Segment), Range::Number(FieldRange::SEGMENT), Packets },
+    key_row! { "limit": Value::Number(0), Some(Field::Limit), Range::Limit, HowMuch },
+    key_row! { "fill": Value::Flag(false), Some(Field::Fill), Range::Fill, HowMuch },
+    key_row! { "word": Value::Number(1), Some(Field::Word), Range::Number(FieldRange::WORD), Packets },
+    key_row! { "stop": Value::StopAt { plane: 0, stage: 3 }, Some(Field::Stop), Range::Stop, HowMuch },
+    key_row! { "weights": Value::Weights(USUAL), Some(Field::Weights), Range::Weights, HowMuch },
+    key_row! { "select": Value::Select(Select::Optimal), None, Range::All, HowMuch },
+    key_row! { "apid": Value::Number(100), Some(Field::Apid), Range::Number(FieldRange::APID), Packets },
+    key_row! { "image": Value::Number(0), Some(Field::Image), Range::Number(FieldRange::IMAGE), Packets },
+    key_row! { "packet": Value::Number(1024), Some(Field::Packet), Range::Number(FieldRange::PACKET), Packets },
+    key_row! { "pixels": Value::Cap(1 << 32), Some(Field::Pixels), Range::Cap(FieldRange::PIXELS), Reading },
+    key_row! { "octets": Value::Cap(1 << 40), Some(Field::Octets), Range::Cap(FieldRange::OCTETS), Reading },
+    key_row! { "seed": Value::Number(0), None, Range::All, What },
+];
+
+/// A command's name, what it does, and its keys.
+pub type CommandRow = (&'static str, Task, &'static [Key]);
+
+macro_rules! command_row {
+    ($text:literal: $task:expr, $($key:ident)+) => { ($text, $task, &[$(Key::$key),+]) };
+}
+
+/// The table of commands.
+pub const COMMANDS: [CommandRow; 6] = [
+    command_row! { "encode": Task::Encode,
+        Width Rows Depth Signed Segment Limit Fill Word Stop Weights Select Apid Image Packet },
+    command_row! { "decode": Task::Read(Reading::Decode), Apid Pixels Octets },
+    command_row! { "damage": Task::Read(Reading::Damage), Apid Pixels Octets },
+    command_row! { "list": Task::Read(Reading::List), Apid Octets },
+    command_row! { "make": Task::Make, Width Rows Depth Signed Seed },
+    command_row! { "trial": Task::Trial,
+        Width Rows Depth Signed Segment Limit Fill Word Stop Weights Select Apid Image Packet Seed },
+];
+
+/// What the command with this name does, and its keys.
+pub fn command_named(text: &str) -> Option<(Task, &'static [Key])>
+    ensures { MatchOption result (command_named text.now ≡ None) (λ found. command_named text.now ≡ Some (found.0, found.1.now)) }
+{
+    command_in(&COMMANDS, text)
+}
+
+fn command_in(mut table: &[CommandRow], text: &str) -> Option<(Task, &'static [Key])>
+    ensures { MatchOption result (command_in (map (λ row. (row.0.now, row.1, row.2.now)) table.entry.now) text.now ≡ None)
+        (λ found. command_in (map (λ row. (row.0.now, row.1, row.2.now)) table.entry.now) text.now ≡ Some (found.0, found.1.now)) }
+{
+    while let [row, rest @ ..] = table {
+        if row.0 == text {
+            return Some((row.1, row.2));
+        }
+        table = rest;
+    }
+    None
+}
+
+impl Key {
+    ghost use Rattle.command_words.specs.Tables.{key_text, key_named, key_place, row_of, contains_key};
+
+    /// The name of the key.
+    pub fn text(self) -> &'static str
+        ensures { result.now ≡ key_text self }
+    {
+        KEYS[self.place()].0
+    }
+
+    /// Its row in the table.
+    pub fn row(self) -> KeyRow
+        ensures { result ≡ row_of self }
+    {
+        KEYS[self.place()].1
+    }
+
+    /// The key with this name.
+    pub fn named(text: &str) -> Option<Key>
+        ensures { result ≡ key_named text.now }
+    {
+        ALL.iter().copied().find(|key| key.text() == text)
+    }
+
+    /// The place of the key in the table.
+    pub fn place(self) -> usize
+        ensures { result ≡ key_place self }
+    {
+        self as usize
+    }
+
+    /// Whether the key is among these.
+    pub fn is_among(self, keys: &[Key]) -> bool
+        ensures { result ≡ contains_key keys.now self }
+    {
+        keys.iter().any(|key| key.place() == self.place())
+    }
+}

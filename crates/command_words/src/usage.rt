@@ -1,0 +1,126 @@
+// The usage text's part on keys.
+use crate::tables::{ALL, COMMANDS, Form, GROUPS, Key, KeyRow, Range};
+use crate::values::Value;
+use base_122::{FieldRange, Select};
+use itoa::Buffer;
+use std::alloc::{AllocError, Global};
+
+// The column at which the commands of a key are listed, and that at which a line ends at the latest.
+const COMMANDS_AT: usize = 47;
+
+const LINE_END: usize = 80;
+
+/// What a user is told of all keys, by groups: of each key its range, its default and the commands that have it.
+pub fn keys_usage(alloc: Global) -> Result<String, AllocError> {
+    let mut text = String::new(alloc);
+    for (group, title) in GROUPS {
+        text.push_str(title)?;
+        for key in ALL {
+            if key.row().group == group {
+                push_key(&mut text, key)?;
+            }
+        }
+    }
+    Ok(text)
+}
+
+fn push_key(text: &mut String, key: Key) -> Result<(), AllocError> {
+    let start = text.len();
+    text.push_str("  ")?;
+    text.push_str(key.text())?;
+    text.push_str("=")?;
+    push_range(text, key.row())?;
+    text.push_str(" (")?;
+    push_default(text, key.row())?;
+    text.push_str(")")?;
+    push_commands(text, key, start)?;
+    text.push_str("\n")
+}
+
+// The commands that have a key, in a column of their own. The key's line begins at `start`.
+fn push_commands(text: &mut String, key: Key, start: usize) -> Result<(), AllocError> {
+    let mut start = start;
+    push_spaces(text, start)?;
+    for (name, _, keys) in COMMANDS {
+        if key.is_among(keys) {
+            if text.len().saturating_sub(start) + name.len() >= LINE_END {
+                text.push_str("\n")?;
+                start = text.len();
+                push_spaces(text, start)?;
+            }
+            text.push_str(" ")?;
+            text.push_str(name)?;
+        }
+    }
+    Ok(())
+}
+
+fn push_spaces(text: &mut String, start: usize) -> Result<(), AllocError> {
+    for _ in text.len().saturating_sub(start)..COMMANDS_AT {
+        text.push_str(" ")?;
+    }
+    Ok(())
+}
+
+fn push_range(text: &mut String, row: KeyRow) -> Result<(), AllocError> {
+    match row.range {
+        Range::All => push_form(text, row.default.form()),
+        Range::Number(range) | Range::Cap(range) | Range::Rows(range) => push_numbers(text, range),
+        Range::Limit => {
+            text.push_str("0|")?;
+            push_numbers(text, FieldRange::LIMIT)?;
+            text.push_str(", a multiple of word")
+        }
+        Range::Fill => text.push_str("0|1, 1 with a limit"),
+        Range::Stop => {
+            text.push_str("dc|P.S, P ")?;
+            push_numbers(text, FieldRange::PLANE)?;
+            text.push_str(", S ")?;
+            push_numbers(text, FieldRange::STAGE)
+        }
+        Range::Weights => push_form(text, Form::Weights),
+    }
+}
+
+// All that a form has.
+fn push_form(text: &mut String, form: Form) -> Result<(), AllocError> {
+    match form {
+        Form::Number => text.push_str("0..4294967295"),
+        Form::Cap => text.push_str("0..1099511627776"),
+        Form::Flag => text.push_str("0|1"),
+        Form::Stop => text.push_str("dc|P.S"),
+        Form::Weights => text.push_str("ten digits 0..3"),
+        Form::Select => text.push_str("heuristic|optimal"),
+    }
+}
+
+fn push_numbers(text: &mut String, range: FieldRange) -> Result<(), AllocError> {
+    text.push_str(Buffer::new().format(range.least))?;
+    text.push_str("..")?;
+    text.push_str(Buffer::new().format(range.most))
+}
+
+fn push_default(text: &mut String, row: KeyRow) -> Result<(), AllocError> {
+    if row.required {
+        return text.push_str("required");
+    }
+    match row.default {
+        Value::Number(number) => text.push_str(Buffer::new().format(number)),
+        Value::Cap(cap) => text.push_str(Buffer::new().format(cap)),
+        Value::Flag(flag) => text.push_str(if flag { "1" } else { "0" }),
+        Value::StopDc => text.push_str("dc"),
+        Value::StopAt { plane, stage } => {
+            text.push_str(Buffer::new().format(plane))?;
+            text.push_str(".")?;
+            text.push_str(Buffer::new().format(stage))
+        }
+        Value::Weights(weights) => {
+            for shift in weights.shifts {
+                text.push_str(Buffer::new().format(shift))?;
+            }
+            Ok(())
+        }
+        Value::Select(Select::Heuristic) => text.push_str("heuristic"),
+        Value::Select(Select::Optimal) => text.push_str("optimal"),
+    }
+}

@@ -1,0 +1,31 @@
+-- What a command does is one record. This project's own.
+use Rattle.std.specs.Prelude.{◌≡◌, ◌⊎◌, ℕ, List, []}
+use Rattle.port_122.specs.Outside.{Outside, Since, NoRead, Rose}
+
+-- All that is said of a command, of the outside before it and after it: what it leaves with a status; at status 0 its whole output is
+-- given, at 1 a part, at 3 it refuses its input, and at 6 it had no memory; and the right and the wrong input.
+pub record Behaviour : Type 1 where
+  pub performs : Outside → Outside → ℕ → Type 0
+  pub whole : Outside → Outside → Type 0
+  pub part : Outside → Outside → Type 0
+  pub refuses : Outside → Outside → Type 0
+  pub nothing : Outside → Outside → Type 0
+  pub right : Outside → Type 0
+  pub wrong : Outside → Type 0
+
+-- no run of the command leaves that
+abbrev pub Never : Outside → Outside → Type 0
+Never old new = ⊥
+
+-- nothing is read or given
+abbrev pub OnlyNotes : Outside → Outside → Type 0
+OnlyNotes old new = (wrote : List ℕ) × Since old new [] [] wrote NoRead
+
+-- no read and no write has failed since
+pub record IsSteady (old new : Outside) : Type 0 where
+  pub reads : Rose old.read_faults new.read_faults → ⊥
+  pub writes : Rose old.write_faults new.write_faults → ⊥
+
+-- the command is done, wholly or in part, or it had no memory
+abbrev pub Completes : Behaviour → Outside → Outside → ℕ → Type 0
+Completes b old new status = ((status ≡ 0) × b.whole old new) ⊎ (((status ≡ 1) × b.part old new) ⊎ ((status ≡ 6) × b.nothing old new))

@@ -1,0 +1,85 @@
+#!/bin/sh
+# Runs the program and looks at all that a run leaves: what is on standard output, what is on standard error, and the status.
+# Output goes to the one and notes to the other. The program is that of this repository, or the one that STRIP122 names.
+. "$(dirname "$0")/common.sh"
+find_program
+make_folder
+cd "$kept" || exit
+count=0
+wrong=0
+
+# STATUS NOTE WORDS ..: a run on the file `in`, with the octets of the file `output` and this line as its note, or none.
+expect() {
+    status=$1
+    note=$2
+    shift 2
+    "$program" "$@" <in >given 2>noted
+    got=$?
+    printf '%s' "${note:+$note
+}" >note
+    count=$((count + 1))
+    [ "$got" = "$status" ] && cmp -s given output && cmp -s noted note || {
+        echo "WRONG: '$*': status $got, $(wc -c <given) octets, note '$(cat noted)'"
+        wrong=1
+    }
+}
+
+# The same where standard output is full.
+expect_full() {
+    status=$1
+    note=$2
+    shift 2
+    "$program" "$@" <in >/dev/full 2>noted
+    got=$?
+    printf '%s' "${note:+$note
+}" >note
+    count=$((count + 1))
+    [ "$got" = "$status" ] && cmp -s noted note || {
+        echo "WRONG: '$*' on a full device: status $got, note '$(cat noted)'"
+        wrong=1
+    }
+}
+
+: >nothing
+head -c 289 /dev/zero >black
+cp black in
+
+# What the program answers by itself, each in three spellings, and alone.
+echo "strip122 0.1.0 (CCSDS 122.0-B-2 in CCSDS 133.0-B-2 packets)" >output
+for word in version --version -V; do
+    expect 0 "" $word
+    expect_full 5 "" $word
+done
+"$program" help >output
+head -n 1 output | grep -q '^usage: strip122 encode ' || wrong=1
+for word in help --help -h; do
+    expect 0 "" $word
+    expect_full 5 "" $word
+done
+
+cp nothing output
+expect 2 "strip122: missing command"
+expect 2 "strip122: bad word: -v" -v
+expect 2 "strip122: bad word: help" help encode
+expect 2 "strip122: bad word: rows=017" encode width=17 rows=017
+expect 2 "strip122: missing: rows" encode width=17
+expect 2 "strip122: out of range: width" make width=16 rows=17
+expect 3 "strip122: input short, 289 octets taken" encode width=17 rows=18
+expect 2 "strip122: out of range: apid" list apid=2047
+expect_full 5 "strip122: write fault" make width=17 rows=17
+
+# There and back, whole and with a packet that is cut.
+"$program" encode width=17 rows=17 <black >packets 2>noted
+[ "$(wc -c <packets)" = 52 ] && [ ! -s noted ] || wrong=1
+cp packets output
+expect 0 "" encode width=17 rows=17
+cp packets in
+cp black output
+expect 0 "" decode
+{ cat packets; head -c 10 packets; } >in
+expect 1 "strip122: damaged rows none; packet cut, 42 octets missing" decode
+echo "0 kept 0 0 22" >output
+expect 1 "strip122: damaged rows none; packet cut, 42 octets missing" list
+
+[ $wrong = 0 ] && echo "$count runs: output, note and status are as they should be"
+exit $wrong
