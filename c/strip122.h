@@ -1,0 +1,113 @@
+/* strip122 as a library for C (docs/c.md). Written by hand after crates/strip122_c, whose contracts say what each call does. */
+#ifndef STRIP122_H
+#define STRIP122_H
+
+#include <stddef.h>
+#include <stdint.h>
+
+#ifdef __cplusplus
+extern "C" {
+#endif
+
+/* What a call answers. */
+enum strip122_answer {
+    STRIP122_DONE = 0,
+    STRIP122_DAMAGED = 1,      /* decode: all is given, but rows are damaged or the packets can't be read to their end */
+    STRIP122_OUT_OF_RANGE = 2, /* encode: a field of the setting is out of range */
+    STRIP122_SHORT = 3,        /* encode: the raster has fewer octets than the setting tells */
+    STRIP122_LONG = 4,         /* encode: the raster has more octets than the setting tells */
+    STRIP122_BAD_PIXEL = 5,    /* encode: a value is out of the range of its bits */
+    STRIP122_NO_SEGMENT = 6,   /* decode: no packet that was kept begins a segment */
+    STRIP122_SMALL_ROOM = 7,   /* the room has fewer octets than `octets` tells */
+    STRIP122_NO_MEMORY = 8
+};
+
+/* The fields of a setting, in the order in which they are tested. */
+enum strip122_field {
+    STRIP122_WIDTH = 1,
+    STRIP122_ROWS,
+    STRIP122_DEPTH,
+    STRIP122_SEGMENT,
+    STRIP122_LIMIT,
+    STRIP122_FILL,
+    STRIP122_WORD,
+    STRIP122_STOP,
+    STRIP122_WEIGHTS,
+    STRIP122_APID,
+    STRIP122_IMAGE,
+    STRIP122_PACKET
+};
+
+/* What an encoder is told (docs/formats.md, "Bounds", has the range of each field). Of a flag each number except 0 is yes. */
+typedef struct strip122_setting {
+    uint32_t width;     /* pixels of a row */
+    uint32_t rows;
+    uint32_t segment;   /* blocks of a segment */
+    uint32_t limit;     /* octets of a segment's text, with its head; 0 is no limit */
+    uint32_t packet;    /* greatest length of a packet data field, in octets */
+    uint16_t apid;
+    uint16_t image;     /* number of the image */
+    uint8_t depth;      /* bits of a pixel */
+    uint8_t is_signed;
+    uint8_t fill;       /* each text is filled up to the limit */
+    uint8_t word;       /* octets of a code word */
+    uint8_t stop_dc;    /* only the DC numbers are sent */
+    uint8_t stop_plane; /* the last bit plane that is sent */
+    uint8_t stop_stage; /* its last stage, less one */
+    uint8_t optimal;    /* code options are the best ones; 0 takes them by the rule of thumb */
+    uint8_t weights[10];
+} strip122_setting;
+
+/* What was done, or why it was not. What the answer doesn't speak of is 0. */
+typedef struct strip122_encoded {
+    uint64_t octets;  /* of the packets, at the front of the room; where the room is too small, those that it takes */
+    uint64_t packets;
+    uint32_t segments;
+    uint32_t field;   /* the first field out of range, of enum strip122_field */
+    uint32_t row;     /* place and value of the first pixel out of range */
+    uint32_t column;
+    int32_t value;
+} strip122_encoded;
+
+/* What was found, or what room it takes. What the answer doesn't speak of is 0. */
+typedef struct strip122_decoded {
+    uint64_t octets;       /* of the picture, at the front of the room; where the room is too small, those that it takes */
+    uint64_t ranges;       /* ranges of damaged rows, also those for which there was no place */
+    uint64_t fault_octets; /* the octet at which a packet has another version, or the octets that the last packet lacks */
+    uint32_t width;
+    uint32_t rows;
+    uint32_t segment;
+    uint16_t image;
+    uint8_t depth;
+    uint8_t is_signed;
+    uint8_t word;
+    uint8_t fault;         /* 1 where a packet has another version, 2 where the last one is cut */
+    uint8_t weights[10];
+} strip122_decoded;
+
+/* The rows from one to another, both among them. */
+typedef struct strip122_range {
+    uint32_t first;
+    uint32_t last;
+} strip122_range;
+
+/* No pointer may be null, also of a length of 0, and what is written may overlap nothing else. */
+
+/* Encodes a raster of so many octets into a room of `size` octets. */
+uint32_t strip122_encode(const strip122_setting *setting, const uint8_t *raster, size_t octets, uint8_t *room, size_t size,
+                         strip122_encoded *encoded);
+
+/* Decodes the packets of an APID into a room of `size` octets, and puts the first ranges of damaged rows into `places` places. */
+uint32_t strip122_decode(uint16_t apid, const uint8_t *packets, size_t octets, uint8_t *room, size_t size,
+                         strip122_range *ranges, size_t places, strip122_decoded *decoded);
+
+/* The setting for an image of this size that is usual in all else. */
+static inline strip122_setting strip122_usual(uint32_t width, uint32_t rows) {
+    strip122_setting s = {width, rows, 64, 0, 1024, 100, 0, 8, 0, 0, 1, 0, 0, 3, 1, {0, 1, 1, 1, 2, 2, 2, 3, 3, 3}};
+    return s;
+}
+
+#ifdef __cplusplus
+}
+#endif
+#endif

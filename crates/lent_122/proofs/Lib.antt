@@ -1,0 +1,5 @@
+pub mod Fronts
+pub mod Encoded
+pub mod ReadOut
+pub mod Found
+pub mod Decoded
