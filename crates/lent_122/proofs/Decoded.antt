@@ -23,7 +23,7 @@ use Rattle.strip_decoder.specs.RoundTrip.{RoundTrip, GivesBack}
 use Rattle.strip_decoder.specs.Runs.{Numbers, holds_after}
 use Rattle.lent_122.specs.declared.decode.DecodeRefusal.{DecodeRefusal}
 use Rattle.lent_122.specs.declared.decode.DecodeRefusal.TheVariants.{NoSegment, SmallRoom, Memory}
-use Rattle.lent_122.specs.Decoding.{picture_length, HasGeometry, wish_for, IsShown, HasPicture, Decodes, BringsImage, BringsBack}
+use Rattle.lent_122.specs.Decoding.{picture_length, HasGeometry, wish_for, HasRun, IsShown, HasPicture, Decodes, BringsImage, BringsBack}
 use Rattle.lent_122.proofs.Fronts.{took_front}
 use Rattle.lent_122.proofs.ReadOut.{ReadsAll, reads_all}
 
@@ -58,21 +58,15 @@ has_geometry apid packets old new done rest run =
     let same = reads_all (length packets + 1) run.took packets old new run.since rest is.out in
     record { geometry = sym (tells_same apid run.took packets same) ∙ is.geometry; range = is.range }
 
-pub no_segment : (apid : ℕ) (packets : List ℕ) (old new : Outside) → old.rest ≡ Some packets → RunsDecoder (wish_for apid packets) old new (Err faults.NoSegment) → geometry_in apid packets ≡ None
+no_segment : (apid : ℕ) (packets : List ℕ) (old new : Outside) → old.rest ≡ Some packets → RunsDecoder (wish_for apid packets) old new (Err faults.NoSegment) → geometry_in apid packets ≡ None
 no_segment apid packets old new rest run =
     let answer = run.answer in
     sym (tells_same apid run.took packets (reads_all (length packets + 1) run.took packets old new run.since rest answer.1)) ∙ answer.0
 
--- ---- what can't be
-
-pub never_many : (apid : ℕ) (packets : List ℕ) (old new : Outside) (pixels : ℕ) → pixels < 2 ^ 64 → RunsDecoder (wish_for apid packets) old new (Err (faults.TooManyPixels pixels)) → ⊥
-never_many apid packets old new pixels within run = let answer = run.answer in omega (arith, within, answer.1)
-
-pub never_long : (apid : ℕ) (packets : List ℕ) (old new : Outside) → old.rest ≡ Some packets → RunsDecoder (wish_for apid packets) old new (Err faults.LongInput) → ⊥
-never_long apid packets old new rest run =
-    let answer = run.answer in
-    let front = took_front old.rest new.rest packets run.took rest run.since.rest in
-    omega (arith, answer.0, ap length front.1, length-append run.took front.0)
+pub refused : (apid : ℕ) (packets room : List ℕ) (old new : Outside) (refusal : DecodeRefusal) → old.rest ≡ Some packets → HasRun apid packets old new (Err refusal) → Decodes apid packets room room (Err refusal)
+refused apid packets room old new NoSegment rest run = (refl, no_segment apid packets old new rest run)
+refused apid packets room old new (SmallRoom g) rest run = absurd run
+refused apid packets room old new Memory rest run = (refl, tt)
 
 -- ---- the round trip
 

@@ -1,5 +1,5 @@
 -- What a run of the encoder says of the whole raster.
-use Rattle.std.proofs.Common.{◌≡◌, ◌≤◌, ◌<◌, ◌+◌, ◌*◌, ◌∙◌, ℕ, ℤ, Bool, List, [], ◌++◌, length, take, drop, sym, ap, subst, arith, inl, inr, length-append}
+use Rattle.std.proofs.Common.{◌≡◌, ◌≤◌, ◌<◌, ◌+◌, ◌*◌, ◌∙◌, ℕ, ℤ, Bool, List, [], ◌++◌, length, take, drop, refl, sym, ap, subst, arith, inl, inr, length-append}
 use Rattle.std.specs.Prelude.{Option, Some, None, Result, Ok, Err, IsErr}
 use Rattle.std.proofs.lemmas.Bool.{cases_lt}
 use Rattle.std.proofs.lemmas.List.{take-append-le}
@@ -23,7 +23,7 @@ use Rattle.strip_coder.specs.Rasters.{image_of, raster_length}
 use Rattle.strip_decoder.specs.Containment.{IsImageFor, ArePixels}
 use Rattle.lent_122.specs.declared.encode.EncodeRefusal.{EncodeRefusal}
 use Rattle.lent_122.specs.declared.encode.EncodeRefusal.TheVariants.{OutOfRange as Refused, Short, Long, BadPixel, SmallRoom, Memory}
-use Rattle.lent_122.specs.Encoding.{HasBadPixel, Encodes, Accepts}
+use Rattle.lent_122.specs.Encoding.{HasRun, HasBadPixel, Encodes, Accepts}
 use Rattle.lent_122.proofs.Fronts.{took_front}
 
 -- ---- the setting
@@ -35,14 +35,14 @@ field_named (Some field) out e = let same : Err (record { field = field }) ≡ E
 
 -- ---- the raster
 
-pub short_raster : (s : Setting) (raster : List ℕ) (old new : Outside) (octets : ℕ) → old.rest ≡ Some raster → EncodesImage s old new (Err (faults.Short octets)) →
+short_raster : (s : Setting) (raster : List ℕ) (old new : Outside) (octets : ℕ) → old.rest ≡ Some raster → EncodesImage s old new (Err (faults.Short octets)) →
     (length raster < raster_length s) × AllInRange s raster
 short_raster s raster old new octets rest run =
     let answer = run.answer in
     let took : run.took ≡ raster = end_told raster run.since rest answer.2 in
     (omega (arith, ap length took, answer.1), subst (AllInRange s) took answer.3)
 
-pub long_raster : (s : Setting) (raster : List ℕ) (old new : Outside) → old.rest ≡ Some raster → EncodesImage s old new (Err faults.Long) →
+long_raster : (s : Setting) (raster : List ℕ) (old new : Outside) → old.rest ≡ Some raster → EncodesImage s old new (Err faults.Long) →
     (raster_length s < length raster) × TookRaster s (take (raster_length s) raster)
 long_raster s raster old new rest run =
     let answer = run.answer in
@@ -84,7 +84,7 @@ in_rows rows width size row column some le = elim (cases_lt row rows) [
     flat : (rows width size : ℕ) → (rows * width + 1) * size ≡ rows * (width * size) + size
     flat rows width size = grind arith
 
-pub bad_pixel : (s : Setting) (raster : List ℕ) (old new : Outside) (row column : ℕ) (value : ℤ) → IsInRange s → old.rest ≡ Some raster →
+bad_pixel : (s : Setting) (raster : List ℕ) (old new : Outside) (row column : ℕ) (value : ℤ) → IsInRange s → old.rest ≡ Some raster →
     EncodesImage s old new (Err (faults.BadPixel row column value)) → HasBadPixel s raster row column value
 bad_pixel s raster old new row column value range rest run =
     let answer = run.answer in
@@ -134,6 +134,14 @@ has_encoded s raster old new done range ten rest none run =
       done_for = subst (λ octets. DoneFor s (image_of s octets) done) took answer.3;
       gave = λ packets gives. given_told [] packets run.since none gives ∙ answer.2 ∙ ap (λ octets. output s (image_of s octets)) took;
     }
+
+pub refused : (s : Setting) (raster room : List ℕ) (old new : Outside) (refusal : EncodeRefusal) → IsInRange s → old.rest ≡ Some raster → HasRun s old new (Err refusal) → Encodes s raster room room (Err refusal)
+refused s raster room old new (Refused field) range rest run = absurd run
+refused s raster room old new Short range rest run = let short = short_raster s raster old new run.0 rest run.1 in (refl, (range, short.0, short.1))
+refused s raster room old new Long range rest run = let long = long_raster s raster old new rest run in (refl, (range, long.0, long.1))
+refused s raster room old new (BadPixel row column value) range rest run = (refl, bad_pixel s raster old new row column value range rest run)
+refused s raster room old new (SmallRoom octets) range rest run = absurd run
+refused s raster room old new Memory range rest run = (refl, tt)
 
 -- ---- what is right
 

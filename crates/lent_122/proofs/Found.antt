@@ -1,7 +1,8 @@
 -- The geometry that an assembly finds is that of the whole stream.
 use Rattle.std.proofs.Common.{◌≡◌, ◌∙◌, ℕ, List, [], ◌∷◌, ◌++◌, refl, sym, ap, inl, inr, append_assoc}
-use Rattle.std.specs.Prelude.{Bool, true, false, ◌==◌, if◌then◌else◌, Option, Some, None, Result, Ok, Err}
+use Rattle.std.specs.Prelude.{Bool, true, false, ◌==◌, if◌then◌else◌, Option, Some, None, IfSome, Result, Ok, Err}
 use Rattle.port_122.specs.Outside.{Outside}
+use Rattle.base_122.specs.Ranges.{IsGeometryInRange}
 use Rattle.base_122.specs.declared.geometry.Geometry.{Geometry}
 use Rattle.segment_defs.specs.declared.head.SegmentHead.{SegmentHead}
 use Rattle.segment_defs.specs.declared.fault.HeadFault.{HeadFault}
@@ -20,6 +21,7 @@ use Rattle.packet_assembly.specs.declared.note.SegmentStart.{SegmentStart}
 use Rattle.packet_assembly.specs.Assembling.{Assembling, Passes, unread_assembly}
 use Rattle.packet_assembly.specs.Passing.{whole_after}
 use Rattle.packet_assembly.specs.Segments.{FindsSegment}
+use Rattle.lent_122.specs.Decoding.{HasGeometry}
 use Rattle.lent_122.proofs.Fronts.{took_front}
 
 -- ---- a geometry stays
@@ -60,7 +62,7 @@ passed_tells apid cap packets old new a b passed g unread told p found =
 none_held : (apid cap : ℕ) (a : Assembling) (start : SegmentStart) → a ≡ unread_assembly apid cap → a.held ≡ Some start → ⊥
 none_held apid cap a start unread held = let none = ap (λ (a : Assembling). a.held) unread in let both : None ≡ Some start = sym none ∙ held in cc
 
-pub found_geometry : (apid cap : ℕ) (packets : List ℕ) (old new : Outside) (a b : Assembling) (found : Option SegmentStart) (g : Geometry) → a ≡ unread_assembly apid cap → old.rest ≡ Some packets →
+found_geometry : (apid cap : ℕ) (packets : List ℕ) (old new : Outside) (a b : Assembling) (found : Option SegmentStart) (g : Geometry) → a ≡ unread_assembly apid cap → old.rest ≡ Some packets →
     FindsSegment old new a b (Ok found) → b.state.geometry ≡ Some g → geometry_in apid packets ≡ Some g
 found_geometry apid cap packets old new a b None g unread told finds geometry =
     let none = finds.ends.0 in passed_tells apid cap packets old new a b none.passed g unread told none.passes geometry
@@ -68,3 +70,9 @@ found_geometry apid cap packets old new a b (Some start) g unread told finds geo
   | inl held ↦ absurd (none_held apid cap a start unread held.held)
   | inr found ↦ passed_tells apid cap packets old new a b (found.front ++ found.packet ∷ []) g unread told found.passed geometry
 ]
+
+pub tells_geometry : (apid cap : ℕ) (packets : List ℕ) (old new : Outside) (a b : Assembling) (found : Option SegmentStart) (o : Option Geometry) → a ≡ unread_assembly apid cap → old.rest ≡ Some packets →
+    FindsSegment old new a b (Ok found) → o ≡ b.state.geometry → IfSome o IsGeometryInRange → IfSome o (HasGeometry apid packets)
+tells_geometry apid cap packets old new a b found None unread told finds standing range = tt
+tells_geometry apid cap packets old new a b found (Some g) unread told finds standing range =
+    record { geometry = found_geometry apid cap packets old new a b found g unread told finds (sym standing); range = range }

@@ -34,6 +34,18 @@ pub fn decode_whole(
 {
     round_trip();
     received_is_told();
+    put_picture(alloc, apid, packets, room)
+}
+
+// Decodes packets, and puts their picture at the front of the room.
+fn put_picture(
+    alloc: Global,
+    apid: u16,
+    packets: &[u8],
+    room: &mut [u8],
+) -> Result<DecodeDone, DecodeRefusal>
+    ensures { Decodes apid packets.now room.old room.new result }
+{
     let mut kept = 0;
     match find_geometry(alloc, apid, packets) {
         Ok(Some(geometry)) => {
@@ -48,8 +60,12 @@ pub fn decode_whole(
     let Ok(mut port) = LentPort::new(alloc, packets, kept) else {
         return Err(DecodeRefusal::Memory);
     };
-    let done = decode(alloc, apid, packets, &mut port)?;
-    if picture_length(&done.geometry) > room.len() {
+    let done = match decode(alloc, apid, packets, &mut port) {
+        Ok(done) => done,
+        Err(refusal) => return Err(refusal),
+    };
+    let length = picture_length(&done.geometry);
+    if length > room.len() {
         return Err(DecodeRefusal::SmallRoom {
             geometry: done.geometry,
         });
@@ -58,7 +74,7 @@ pub fn decode_whole(
     let Some(picture) = port.given() else {
         return Err(DecodeRefusal::Memory);
     };
-    room[..picture.len()].copy_from_slice(picture);
+    room[..length].copy_from_slice(picture);
     Ok(done)
 }
 

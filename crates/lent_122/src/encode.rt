@@ -1,5 +1,5 @@
 // Whole rasters in, packets out.
-ghost use Rattle.std.specs.Prelude.{◌≡◌};
+ghost use Rattle.std.specs.Prelude.{◌≡◌, length};
 ghost use Rattle.base_122.specs.Ranges.{IsInRange};
 ghost use Rattle.lent_122.specs.Lent.{outside_of};
 ghost use Rattle.lent_122.specs.Encoding.{HasRun, Encodes, Accepts};
@@ -38,6 +38,18 @@ pub fn encode_whole(
     ensures encodes { Encodes setting.now raster.now room.old room.new result }
     ensures accepts { IsInRange setting.now → TookRaster setting.now raster.now → Accepts result }
 {
+    put_packets(alloc, setting, raster, room)
+}
+
+// Encodes a raster, and puts its packets at the front of the room.
+fn put_packets(
+    alloc: Global,
+    setting: &Setting,
+    raster: &[u8],
+    room: &mut [u8],
+) -> Result<EncodeDone, EncodeRefusal>
+    ensures { Encodes setting.now raster.now room.old room.new result }
+{
     ten_weights(&setting.weights.shifts);
     if let Err(out) = setting.check() {
         return Err(EncodeRefusal::OutOfRange(out.field));
@@ -45,7 +57,10 @@ pub fn encode_whole(
     let Ok(mut port) = LentPort::new(alloc, raster, room.len()) else {
         return Err(EncodeRefusal::Memory);
     };
-    let done = encode(alloc, setting, &mut port)?;
+    let done = match encode(alloc, setting, &mut port) {
+        Ok(done) => done,
+        Err(refusal) => return Err(refusal),
+    };
     if done.octets > room.len() as u64 {
         return Err(EncodeRefusal::SmallRoom {
             octets: done.octets,
@@ -55,7 +70,7 @@ pub fn encode_whole(
     let Some(packets) = port.given() else {
         return Err(EncodeRefusal::Memory);
     };
-    room[..packets.len()].copy_from_slice(packets);
+    room[..done.octets as usize].copy_from_slice(packets);
     Ok(done)
 }
 

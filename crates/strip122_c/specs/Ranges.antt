@@ -20,5 +20,5 @@ ranges_of (Ok done) = ranges_in done.damage
 ranges_of (Err refusal) = []
 
 -- these at the front of some places, as far as there are places
-abbrev pub put_over : List Strip122Range → List Strip122Range → List Strip122Range
-put_over ranges places = take (length places) ranges ++ drop (length ranges) places
+abbrev pub put_over : {A : Type 0} → List A → List A → List A
+put_over items places = take (length places) items ++ drop (length items) places
