@@ -1,5 +1,5 @@
 -- The ranges of damaged rows that are put into places so far.
-use Rattle.std.proofs.Common.{◌≡◌, ◌≤◌, ◌<◌, ◌+◌, ◌∙◌, ℕ, List, [], ◌∷◌, ◌++◌, length, map, sym, ap, arith, length-append}
+use Rattle.std.proofs.Common.{◌≡◌, ◌≤◌, ◌<◌, ◌+◌, ◌∙◌, ℕ, List, [], ◌∷◌, ◌++◌, length, map, refl, sym, ap, arith, length-append}
 use Rattle.std.specs.Prelude.{None, Some, nat_lt, if◌then◌else◌, slice_set}
 use Rattle.std.proofs.lemmas.List.{append-nil}
 use Rattle.stream_defs.specs.declared.range.RowRange.{RowRange}
@@ -23,7 +23,7 @@ none_put m places = record { walk = walk_start m; places = sym (put_none places)
     refl_zero = omega arith
 
 map-more : (before : List RowRange) (range : RowRange) → map range_of (before ++ range ∷ []) ≡ map range_of before ++ range_of range ∷ []
-map-more [] range = let one : map range_of (range ∷ []) ≡ range_of range ∷ [] = simp (map) in one
+map-more [] range = refl
 map-more (x ∷ before) range = ap (λ rs. range_of x ∷ rs) (map-more before range)
 
 length-ranges : (rs : List RowRange) → length (map range_of rs) ≡ length rs

@@ -1,5 +1,5 @@
 // What C is told of a picture.
-ghost use Rattle.std.specs.Prelude.{◌≡◌, ◌≤◌, IfOk, MatchResult, ForOk};
+ghost use Rattle.std.specs.Prelude.{◌≡◌};
 ghost use Rattle.base_122.specs.Ranges.{IsGeometryInRange};
 ghost use Rattle.strip122_c.specs.Decoding.{geometry_told, framing_told, told_with, answer_with, TellsGeometry};
 

@@ -22,6 +22,12 @@ pub use setting::Strip122Setting;
 use lent_122::{decode_whole, encode_whole};
 use std::alloc::Global;
 
+// The sizes that c/strip122.h and python/strip122.py count on.
+const _: () = prove!(size_of::<Strip122Setting>() == 44);
+const _: () = prove!(size_of::<Strip122Encoded>() == 40);
+const _: () = prove!(size_of::<Strip122Decoded>() == 56);
+const _: () = prove!(size_of::<Strip122Range>() == 8);
+
 /// Encodes a raster. All of its packets are at the front of the room where the answer is 0; what was done, or why it was not, is told
 /// in `encoded`.
 #[unsafe(no_mangle)]

@@ -1,6 +1,6 @@
 // A setting as C has it.
 ghost use Rattle.std.specs.Prelude.{◌≡◌};
-ghost use Rattle.strip122_c.specs.Settings.{setting_of};
+ghost use Rattle.strip122_c.specs.Settings.{select_of, setting_of};
 
 use base_122::{Select, Setting, Stop, Weights};
 

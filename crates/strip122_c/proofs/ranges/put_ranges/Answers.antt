@@ -31,3 +31,11 @@ loop-range-smaller c =
 pub loop-range-preserved : goal.loop-range-preserved
 loop-range-preserved c =
     more_put c.args.damage.now c.args.places.now c.loop-range.places c.put_range.new.places c.loop-range.count c.loop-range.from c.in-Some.range c.loop-range.invariant c.in-Some.ensures c.put_range.ensures
+
+pub returns-clause-places : goal.returns-clause-places
+returns-clause-places c =
+    (all_put c.args.damage.now c.args.places.now c.loop-range.places c.loop-range.count c.loop-range.from c.loop-range.invariant (sym c.in_default.is ∙ c.next_range.ensures)).places
+
+pub returns-clause-count : goal.returns-clause-count
+returns-clause-count c =
+    (all_put c.args.damage.now c.args.places.now c.loop-range.places c.loop-range.count c.loop-range.from c.loop-range.invariant (sym c.in_default.is ∙ c.next_range.ensures)).counted
