@@ -10,7 +10,7 @@ settings=${1:-300}
 seed=${2:-1}
 
 compilers=
-for compiler in ${CC:-gcc clang cc}; do
+for compiler in ${CC:-gcc clang}; do
     if command -v "$compiler" >/dev/null; then
         compilers="$compilers $compiler"
     fi
@@ -31,8 +31,8 @@ make_folder
 example() {
     name=$1
     shift
-    "$@" 200 100 <"$kept/raster" >"$kept/$name" 2>"$kept/$name.note" && cmp "$kept/$name" "$kept/packets" || {
-        cat "$kept/$name.note" >&2
+    "$@" 200 100 <"$kept/raster" >"$kept/$name.packets" 2>"$kept/note" && cmp "$kept/$name.packets" "$kept/packets" || {
+        cat "$kept/note" >&2
         echo "$0: $name differs from the program" >&2
         exit 1
     }

@@ -3,3 +3,4 @@ pub mod Encoded
 pub mod ReadOut
 pub mod Found
 pub mod Decoded
+pub mod RasterBack

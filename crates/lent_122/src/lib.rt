@@ -4,6 +4,7 @@
 mod decode;
 mod encode;
 mod geometry;
+mod laws;
 mod port;
 #[cfg(test)]
 mod tests;
@@ -11,4 +12,5 @@ mod tests;
 pub use decode::{DecodeRefusal, decode_whole};
 pub use encode::{EncodeRefusal, encode_whole};
 pub use geometry::picture_length;
+pub use laws::rasters_come_back;
 pub use port::LentPort;

@@ -16,16 +16,18 @@ ghost use Rattle.strip122_c.specs.Decoding.{TellsDecoded};
 
 pub use decoded::Strip122Decoded;
 pub use encoded::Strip122Encoded;
+use lent_122::{decode_whole, encode_whole};
 pub use ranges::Strip122Range;
 pub use setting::Strip122Setting;
-
-use lent_122::{decode_whole, encode_whole};
 use std::alloc::Global;
 
 // The sizes that c/strip122.h and python/strip122.py count on.
 const _: () = prove!(size_of::<Strip122Setting>() == 44);
+
 const _: () = prove!(size_of::<Strip122Encoded>() == 40);
+
 const _: () = prove!(size_of::<Strip122Decoded>() == 56);
+
 const _: () = prove!(size_of::<Strip122Range>() == 8);
 
 /// Encodes a raster. All of its packets are at the front of the room where the answer is 0; what was done, or why it was not, is told

@@ -15,10 +15,7 @@ pub struct Strip122Range {
 }
 
 /// Puts the ranges of a picture's damaged rows into as many places as there are, and answers how many ranges it has.
-pub fn put_damage(
-    ended: &Result<DecodeDone, DecodeRefusal>,
-    places: &mut [Strip122Range],
-) -> u64
+pub fn put_damage(ended: &Result<DecodeDone, DecodeRefusal>, places: &mut [Strip122Range]) -> u64
     requires { IfOk ended.now (λ done. done.damage.rows ≤ 262144) }
     ensures places { places.new ≡ put_over (ranges_of ended.now) places.old }
     ensures count { result ≡ length (ranges_of ended.now) }

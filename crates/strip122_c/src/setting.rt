@@ -59,5 +59,9 @@ pub fn setting_of(setting: &Strip122Setting) -> Setting
 fn select_of(optimal: u8) -> Select
     ensures { result ≡ select_of optimal }
 {
-    if optimal == 0 { Select::Heuristic } else { Select::Optimal }
+    if optimal == 0 {
+        Select::Heuristic
+    } else {
+        Select::Optimal
+    }
 }

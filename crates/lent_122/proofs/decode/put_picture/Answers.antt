@@ -12,14 +12,13 @@ returns-in-Err-decode c =
     (ap (λ (o : Outside). o.rest) c.in-Ok.ensures.outside) c.in-Err-decode.ensures
 
 pub returns-then-length-room : goal.returns-then-length-room
-returns-then-length-room c =
-    (
-      refl,
-      (
-        has_geometry c.args.apid c.args.packets.now (outside_of c.in-Ok.port) (outside_of c.decode.new.port) c.in-Ok-decode.done (ap (λ (o : Outside). o.rest) c.in-Ok.ensures.outside) c.in-Ok-decode.ensures,
-        subst (λ n. length c.args.room.now < n) c.picture_length-length.ensures c.if-length-room.true,
-      ),
-    )
+returns-then-length-room c = (
+  refl,
+  (
+    has_geometry c.args.apid c.args.packets.now (outside_of c.in-Ok.port) (outside_of c.decode.new.port) c.in-Ok-decode.done (ap (λ (o : Outside). o.rest) c.in-Ok.ensures.outside) c.in-Ok-decode.ensures,
+    subst (λ n. length c.args.room.now < n) c.picture_length-length.ensures c.if-length-room.true,
+  ),
+)
 
 pub copy_from_slice-requires : goal.copy_from_slice-requires
 copy_from_slice-requires c =
