@@ -1,8 +1,8 @@
 -- What a run of the decoder says of all packets.
-use Rattle.std.proofs.Common.{◌≡◌, ◌≤◌, ◌<◌, ◌+◌, ◌-◌, ◌*◌, ◌^◌, ◌∙◌, ℕ, ℤ, List, [], ◌++◌, length, take, drop, refl, sym, ap, subst, arith, length-append}
-use Rattle.std.specs.Prelude.{Option, Some, None, Result, Ok, Err, min}
+use Rattle.std.proofs.Common.{◌≡◌, ◌+◌, ◌∙◌, ℕ, ℤ, List, [], length, take, drop, refl, sym, ap, subst}
+use Rattle.std.specs.Prelude.{Some, None, Result, Ok, Err}
 use Rattle.std.proofs.Math.Seq.{take-append_seam}
-use Rattle.port_122.specs.Outside.{Outside, Rose}
+use Rattle.port_122.specs.Outside.{Outside}
 use Rattle.port_122.proofs.Told.{given_told}
 use Rattle.base_122.specs.Setting.{geometry_of}
 use Rattle.base_122.specs.declared.geometry.Geometry.{Geometry}
@@ -19,12 +19,11 @@ use Rattle.strip_decoder.specs.declared.decode.DecodeFault.TheVariants as faults
 use Rattle.strip_decoder.specs.Answers.{Decodes as RunsDecoder}
 use Rattle.strip_decoder.specs.Containment.{IsImageFor}
 use Rattle.strip_decoder.specs.Laws.{ReceivedIsTold}
-use Rattle.strip_decoder.specs.RoundTrip.{RoundTrip, GivesBack}
-use Rattle.strip_decoder.specs.Runs.{Numbers, holds_after}
+use Rattle.strip_decoder.specs.RoundTrip.{RoundTrip}
+use Rattle.strip_decoder.specs.Runs.{holds_after}
 use Rattle.lent_122.specs.declared.decode.DecodeRefusal.{DecodeRefusal}
 use Rattle.lent_122.specs.declared.decode.DecodeRefusal.TheVariants.{NoSegment, SmallRoom, Memory}
-use Rattle.lent_122.specs.Decoding.{picture_length, HasGeometry, wish_for, HasRun, IsShown, HasPicture, Decodes, BringsImage, BringsBack}
-use Rattle.lent_122.proofs.Fronts.{took_front}
+use Rattle.lent_122.specs.Decoding.{picture_length, HasGeometry, wish_for, HasRun, IsShown, Decodes, BringsImage, BringsBack}
 use Rattle.lent_122.proofs.ReadOut.{ReadsAll, reads_all}
 
 -- ---- what a run gives

@@ -1,6 +1,6 @@
 -- What a run of the encoder says of the whole raster.
-use Rattle.std.proofs.Common.{◌≡◌, ◌≤◌, ◌<◌, ◌+◌, ◌*◌, ◌∙◌, ℕ, ℤ, Bool, List, [], ◌++◌, length, take, drop, refl, sym, ap, subst, arith, inl, inr, length-append}
-use Rattle.std.specs.Prelude.{Option, Some, None, Result, Ok, Err, IsErr}
+use Rattle.std.proofs.Common.{◌≡◌, ◌≤◌, ◌<◌, ◌+◌, ◌*◌, ◌∙◌, ℕ, ℤ, Bool, List, [], ◌++◌, length, take, refl, sym, ap, subst, arith, inl, inr, length-append}
+use Rattle.std.specs.Prelude.{Option, Some, None, Result, Ok, Err}
 use Rattle.std.proofs.lemmas.Bool.{cases_lt}
 use Rattle.std.proofs.lemmas.List.{take-append-le}
 use Rattle.std.proofs.Math.Nat.{div-mul-le_self, mul-le-mul_right}

@@ -1,5 +1,5 @@
 -- A raster that is encoded and decoded again.
-use Rattle.std.proofs.Common.{◌≡◌, ◌≤◌, ◌<◌, ◌+◌, ◌*◌, ◌^◌, ◌∙◌, ℕ, zero, suc, ℤ, Bool, List, [], ◌∷◌, ◌++◌, length, get_or, map, take, drop, refl, sym, ap, arith, inl, inr}
+use Rattle.std.proofs.Common.{◌≡◌, ◌≤◌, ◌<◌, ◌+◌, ◌*◌, ◌∙◌, ℕ, zero, suc, ℤ, Bool, List, [], ◌∷◌, ◌++◌, length, get_or, map, take, drop, refl, sym, ap, arith, inl, inr}
 use Rattle.std.specs.Prelude.{Result, Ok, Err}
 use Rattle.std.specs.List.{flat_map, range_with_len}
 use Rattle.std.proofs.Math.Seq.{take-append_seam, take-length}
@@ -79,8 +79,7 @@ pub comes_back : (s : Setting) (raster old new room : List ℕ) (done : EncodeDo
     BringsBack s.apid (take done.octets new) room result → BringsRaster s raster room result
 comes_back s raster old new room done (Ok found) are has back =
     let brings = back s (image_of s raster) refl (packets_are s raster old new done has) has.image in
-    let size : length raster ≡ picture_length found.geometry = has.took.whole ∙ ap picture_length (sym brings.geometry) in
-    (
+    let size : length raster ≡ picture_length found.geometry = has.took.whole ∙ ap picture_length (sym brings.geometry) in (
       brings.missing,
       brings.framing_is,
       λ all. ap (λ n. take n room) size ∙ brings.same all ∙ raster-same s.depth s.signed s.rows s.width raster are has.took.whole,

@@ -1,8 +1,7 @@
-use Rattle.std.proofs.Common.{rules, ◌≡◌, ◌≤◌, ◌<◌, ◌∙◌, ◌++◌, length, drop, refl, sym, ap, subst, arith}
+use Rattle.std.proofs.Common.{rules, ◌≡◌, ◌<◌, ◌∙◌, ◌++◌, length, drop, refl, sym, ap, subst}
 use Rattle.std.proofs.lemmas.List.{length-take-le}
 use Rattle.port_122.specs.Outside.{Outside}
 use Rattle.lent_122.specs.Lent.{outside_of}
-use Rattle.lent_122.specs.Decoding.{picture_length}
 use Rattle.lent_122.proofs.Decoded.{has_geometry, is_shown, picture_size, refused}
 use Rattle.lent_122.proofs.decode.put_picture.Goals as goal
 

@@ -1,4 +1,4 @@
-use Rattle.std.proofs.Common.{rules, ◌≡◌, ◌∙◌, ◌++◌, List, length, drop, refl, sym, ap}
+use Rattle.std.proofs.Common.{rules, ◌≡◌, ◌∙◌, ◌++◌, drop, refl, sym, ap}
 use Rattle.port_122.specs.Outside.{Outside}
 use Rattle.base_122.specs.Ranges.{IsInRange, first_out_of_range}
 use Rattle.lent_122.specs.Lent.{outside_of}
