@@ -1,5 +1,5 @@
 /* The three allocation functions of the library, over a buffer that the caller hands in. Nothing here calls another function, except
-   memmove. Blocks lie one behind another. The last ones that are free are given back at once, others once those behind them are. */
+   memmove. Blocks follow one another. A free block can be used again when all blocks behind it are free. */
 #include "arena.h"
 
 #include <stdbool.h>
@@ -12,7 +12,7 @@ typedef struct {
     void *at;
 } rattle_block;
 
-/* What lies before a block: where the block before it has its own, and whether it is free. */
+/* The head of a block: where the block before it has its head, and whether the block is free. */
 typedef struct {
     _Alignas(16) size_t before;
     bool is_free;
@@ -45,7 +45,7 @@ static rattle_block no_block(void) {
     return block;
 }
 
-/* The last block has so many octets from now on, where there is room for them. */
+/* Sets the size of the last block, if there is room for it. */
 static bool set_size(size_t size) {
     size_t start = last + sizeof(head);
     if (size > SIZE_MAX - 15 || (size + 15) / 16 * 16 > room - start) {

@@ -8,14 +8,14 @@
 extern "C" {
 #endif
 
-/* Hands in the memory from which the following calls of the library take theirs, in one thread. No call is running. Each call gives
-   all of it back before it returns, so one buffer serves for one call after another. */
+/* Hands in the buffer from which later calls of the library, in one thread, take their memory. No call may be running. Each call gives
+   all of it back before it returns, so one buffer serves call after call. */
 void strip122_arena(void *memory, size_t octets);
 
 /* The most octets that were in use at once since it was handed in. */
 size_t strip122_arena_most(void);
 
-/* What lies around the blocks, and what is small. */
+/* For the heads of the blocks, and for all that is small. */
 #define STRIP122_ARENA_MORE 8192u
 
 /* The blocks of a segment, in an image of this size. */
@@ -24,15 +24,15 @@ static inline uint64_t strip122_segment_blocks(uint32_t width, uint32_t rows, ui
     return segment < blocks ? segment : blocks;
 }
 
-/* So many octets are enough for strip122_encode, where the setting is in range and the room has `size` octets. */
+/* Octets that are enough for strip122_encode, if the setting is in range and the room has `size` octets. */
 static inline uint64_t strip122_encode_memory(const strip122_setting *s, uint64_t size) {
     uint64_t columns = ((uint64_t)s->width + 7) / 8 * 8;
     uint64_t blocks = strip122_segment_blocks(s->width, s->rows, s->segment);
     return size + 4 * (64 * columns + 65 * blocks) + s->packet + STRIP122_ARENA_MORE;
 }
 
-/* So many octets are enough for strip122_decode, where the packets tell an image of this size, in segments of so many blocks and with
-   so many octets. */
+/* Octets that are enough for strip122_decode, if the packets are those of an image of this size, with `segment` blocks in a segment, and
+   its picture has `octets` octets. */
 static inline uint64_t strip122_decode_memory(uint32_t width, uint32_t rows, uint32_t segment, uint64_t octets) {
     uint64_t columns = ((uint64_t)width + 7) / 8 * 8;
     uint64_t blocks = strip122_segment_blocks(width, rows, segment);

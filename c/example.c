@@ -1,5 +1,5 @@
-/* Encodes a raster of one octet a pixel and decodes its packets again, with memory from a fixed buffer alone:
-   example WIDTH ROWS < raster > packets. It ends with 0 where the raster came back. */
+/* Encodes a raster of one octet a pixel and decodes its packets again, with memory from a fixed buffer only:
+   example WIDTH ROWS < raster > packets. The status is 0 if the picture is the raster. */
 #include "arena.h"
 #include "strip122.h"
 

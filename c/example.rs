@@ -1,5 +1,5 @@
-// Encodes a raster of one octet a pixel and decodes its packets again: example WIDTH ROWS < raster > packets. It ends with 0 where the
-// raster came back.
+// Encodes a raster of one octet a pixel and decodes its packets again: example WIDTH ROWS < raster > packets. The status is 0 if
+// the picture is the raster.
 use std::io::{Read, Write};
 
 #[repr(C)]
@@ -79,24 +79,24 @@ unsafe extern "C" {
     ) -> u32;
 }
 
-// The answer, the packets, and the octets that they take.
+// The answer, the packets and the report.
 fn encode(setting: &Setting, raster: &[u8], size: usize) -> (u32, Vec<u8>, Encoded) {
     let mut room = vec![0; size];
-    let mut told = Encoded::default();
+    let mut report = Encoded::default();
     let answer = unsafe {
-        strip122_encode(setting, raster.as_ptr(), raster.len(), room.as_mut_ptr(), size, &mut told)
+        strip122_encode(setting, raster.as_ptr(), raster.len(), room.as_mut_ptr(), size, &mut report)
     };
     if answer == 0 {
-        room.truncate(told.octets as usize);
+        room.truncate(report.octets as usize);
     }
-    (answer, room, told)
+    (answer, room, report)
 }
 
-// The answer and the picture; a first call with no room tells how many octets it takes.
+// The answer and the picture. The first call has no room, and reports how many octets are needed.
 fn decode(apid: u16, packets: &[u8]) -> (u32, Vec<u8>) {
     let mut room = Vec::new();
     let mut ranges = vec![Range::default(); 16];
-    let mut told = Decoded::default();
+    let mut report = Decoded::default();
     loop {
         let answer = unsafe {
             strip122_decode(
@@ -107,13 +107,13 @@ fn decode(apid: u16, packets: &[u8]) -> (u32, Vec<u8>) {
                 room.len(),
                 ranges.as_mut_ptr(),
                 ranges.len(),
-                &mut told,
+                &mut report,
             )
         };
         if answer != 7 {
             return (answer, room);
         }
-        room = vec![0; told.octets as usize];
+        room = vec![0; report.octets as usize];
     }
 }
 

@@ -12,13 +12,13 @@ extern "C" {
 /* What a call answers. */
 enum strip122_answer {
     STRIP122_DONE = 0,
-    STRIP122_DAMAGED = 1,      /* decode: all is given, but rows are damaged or the packets can't be read to their end */
+    STRIP122_DAMAGED = 1,      /* decode: the picture is given, but rows are damaged or the packets can't be read to their end */
     STRIP122_OUT_OF_RANGE = 2, /* encode: a field of the setting is out of range */
-    STRIP122_SHORT = 3,        /* encode: the raster has fewer octets than the setting tells */
-    STRIP122_LONG = 4,         /* encode: the raster has more octets than the setting tells */
+    STRIP122_SHORT = 3,        /* encode: the raster has fewer octets than the setting needs */
+    STRIP122_LONG = 4,         /* encode: the raster has more octets than the setting needs */
     STRIP122_BAD_PIXEL = 5,    /* encode: a value is out of the range of its bits */
-    STRIP122_NO_SEGMENT = 6,   /* decode: no packet that was kept begins a segment */
-    STRIP122_SMALL_ROOM = 7,   /* the room has fewer octets than `octets` tells */
+    STRIP122_NO_SEGMENT = 6,   /* decode: no packet that is kept begins a segment */
+    STRIP122_SMALL_ROOM = 7,   /* the room has fewer octets than `octets` of the report */
     STRIP122_NO_MEMORY = 8
 };
 
@@ -38,7 +38,7 @@ enum strip122_field {
     STRIP122_PACKET
 };
 
-/* What an encoder is told (docs/formats.md, "Bounds", has the range of each field). Of a flag each number except 0 is yes. */
+/* A setting of the encoder (crates/base_122/src/range.rt has the range of each field). A flag is set by each number except 0. */
 typedef struct strip122_setting {
     uint32_t width;     /* pixels of a row */
     uint32_t rows;
@@ -54,13 +54,13 @@ typedef struct strip122_setting {
     uint8_t stop_dc;    /* only the DC numbers are sent */
     uint8_t stop_plane; /* the last bit plane that is sent */
     uint8_t stop_stage; /* its last stage, less one */
-    uint8_t optimal;    /* code options are the best ones; 0 takes them by the rule of thumb */
+    uint8_t optimal;    /* code options are chosen by length; 0: by the heuristic */
     uint8_t weights[10];
 } strip122_setting;
 
-/* What was done, or why it was not. What the answer doesn't speak of is 0. */
+/* What was done, or why it was not. A field that the answer does not need is 0. */
 typedef struct strip122_encoded {
-    uint64_t octets;  /* of the packets, at the front of the room; where the room is too small, those that it takes */
+    uint64_t octets;  /* of the packets, which the room needs */
     uint64_t packets;
     uint32_t segments;
     uint32_t field;   /* the first field out of range, of enum strip122_field */
@@ -69,11 +69,11 @@ typedef struct strip122_encoded {
     int32_t value;
 } strip122_encoded;
 
-/* What was found, or what room it takes. What the answer doesn't speak of is 0. */
+/* What was found, or what room is needed. A field that the answer does not need is 0. */
 typedef struct strip122_decoded {
-    uint64_t octets;       /* of the picture, at the front of the room; where the room is too small, those that it takes */
-    uint64_t ranges;       /* ranges of damaged rows, also those for which there was no place */
-    uint64_t fault_octets; /* the octet at which a packet has another version, or the octets that the last packet lacks */
+    uint64_t octets;       /* of the picture, which the room needs */
+    uint64_t ranges;       /* ranges of damaged rows, including those for which there was no place */
+    uint64_t fault_octets; /* the octet at which a packet has another version, or the octets missing from the last packet */
     uint32_t width;
     uint32_t rows;
     uint32_t segment;
@@ -81,7 +81,7 @@ typedef struct strip122_decoded {
     uint8_t depth;
     uint8_t is_signed;
     uint8_t word;
-    uint8_t fault;         /* 1 where a packet has another version, 2 where the last one is cut */
+    uint8_t fault;         /* why the packets can't be read on: 1 if a packet has another version, 2 if the last one is cut */
     uint8_t weights[10];
 } strip122_decoded;
 
@@ -91,17 +91,18 @@ typedef struct strip122_range {
     uint32_t last;
 } strip122_range;
 
-/* No pointer may be null, also of a length of 0, and what is written may overlap nothing else. */
+/* No pointer may be null, not even with a length of 0. What is written may not overlap anything else. */
 
-/* Encodes a raster of so many octets into a room of `size` octets. */
+/* Encodes a raster of `octets` octets. After answer 0 a room of `size` octets begins with the packets. */
 uint32_t strip122_encode(const strip122_setting *setting, const uint8_t *raster, size_t octets, uint8_t *room, size_t size,
                          strip122_encoded *encoded);
 
-/* Decodes the packets of an APID into a room of `size` octets, and puts the first ranges of damaged rows into `places` places. */
+/* Decodes the packets of an APID. After answers 0 and 1 a room of `size` octets begins with the picture, and the first of `places` places
+   have the ranges of damaged rows. */
 uint32_t strip122_decode(uint16_t apid, const uint8_t *packets, size_t octets, uint8_t *room, size_t size,
                          strip122_range *ranges, size_t places, strip122_decoded *decoded);
 
-/* The setting for an image of this size that is usual in all else. */
+/* The setting for an image of this size, with the usual value of each other field. */
 static inline strip122_setting strip122_usual(uint32_t width, uint32_t rows) {
     strip122_setting s = {width, rows, 64, 0, 1024, 100, 0, 8, 0, 0, 1, 0, 0, 3, 1, {0, 1, 1, 1, 2, 2, 2, 3, 3, 3}};
     return s;

@@ -10,7 +10,7 @@ def fields(kind, names):
 
 
 class Setting(ctypes.Structure):
-    """What an encoder is told; `usual` gives each field that is not named its usual value."""
+    """A setting of the encoder; `usual` makes one with the usual value of each field that is not named."""
 
     _fields_ = (
         fields(ctypes.c_uint32, "width rows segment limit packet")
@@ -43,7 +43,7 @@ class Range(ctypes.Structure):
 
 
 def usual(width, rows, **others):
-    """A setting for an image of this size, usual in all that is not named."""
+    """A setting for an image of this size, with the usual value of each field that is not named."""
     weights = others.pop("weights", (0, 1, 1, 1, 2, 2, 2, 3, 3, 3))
     named = dict(segment=64, packet=1024, apid=100, depth=8, word=1, stop_stage=3, optimal=1)
     return Setting(width=width, rows=rows, weights=(ctypes.c_uint8 * 10)(*weights), **{**named, **others})
@@ -61,14 +61,14 @@ class Library:
         self._decode.argtypes = [ctypes.c_uint16, octets, size, octets, size, octets, size, ctypes.POINTER(Decoded)]
 
     def encode(self, setting, raster, size):
-        """Encodes a raster into a room of `size` octets: the answer, what is told, and the room."""
-        room, told = (ctypes.c_uint8 * max(size, 1))(), Encoded()
-        answer = self._encode(setting, bytes(raster) or b"\0", len(raster), room, size, told)
-        return answer, told, bytes(room[:size])
+        """Encodes a raster into a room of `size` octets: the answer, the report and the room."""
+        room, report = (ctypes.c_uint8 * max(size, 1))(), Encoded()
+        answer = self._encode(setting, bytes(raster) or b"\0", len(raster), room, size, report)
+        return answer, report, bytes(room[:size])
 
     def decode(self, apid, packets, size, places):
-        """Decodes packets into a room of `size` octets: the answer, what is told, the room, and the ranges of damaged rows."""
-        room, told, ranges = (ctypes.c_uint8 * max(size, 1))(), Decoded(), (Range * max(places, 1))()
-        answer = self._decode(apid, bytes(packets) or b"\0", len(packets), room, size, ranges, places, told)
-        found = min(told.ranges, places)
-        return answer, told, bytes(room[:size]), [(ranges[i].first, ranges[i].last) for i in range(found)]
+        """Decodes packets into a room of `size` octets: the answer, the report, the room, and the ranges of damaged rows."""
+        room, report, ranges = (ctypes.c_uint8 * max(size, 1))(), Decoded(), (Range * max(places, 1))()
+        answer = self._decode(apid, bytes(packets) or b"\0", len(packets), room, size, ranges, places, report)
+        found = min(report.ranges, places)
+        return answer, report, bytes(room[:size]), [(ranges[i].first, ranges[i].last) for i in range(found)]

@@ -124,7 +124,7 @@ class Tries:
         self.counts[what] = self.counts.get(what, 0) + 1
 
     def hand_in(self, octets):
-        """Hands in a buffer of so many octets."""
+        """Hands in a buffer of this many octets."""
         self.memory = (ctypes.c_uint8 * octets)()
         self.arena_calls.strip122_arena(self.memory, ctypes.c_size_t(octets))
 
@@ -134,21 +134,21 @@ class Tries:
         ran = run("encode", words_of(chosen), raster)
         wanted = wanted_answer(ran)
         need = len(ran.stdout) if wanted == 0 else 0
-        answer, told, room = self.heap.encode(setting, raster, need + 3)
+        answer, report, room = self.heap.encode(setting, raster, need + 3)
         assert answer == wanted, (answer, ran, words_of(chosen))
         if wanted == strip122.OUT_OF_RANGE:
-            assert ran.stderr.decode().endswith(f"out of range: {strip122.FIELDS[told.field]}\n"), (told.field, ran)
+            assert ran.stderr.decode().endswith(f"out of range: {strip122.FIELDS[report.field]}\n"), (report.field, ran)
         if wanted == strip122.BAD_PIXEL:
-            assert f"bad pixel {told.value} at row {told.row} column {told.column}\n" in ran.stderr.decode(), ran
+            assert f"bad pixel {report.value} at row {report.row} column {report.column}\n" in ran.stderr.decode(), ran
         if wanted != 0:
             self.count(f"refused, answer {wanted}")
             return None
-        assert told.octets == need and room == ran.stdout + b"\0\0\0", words_of(chosen)
-        small, told, room = self.heap.encode(setting, raster, need - 1)
-        assert (small, told.octets, room) == (strip122.SMALL_ROOM, need, bytes(need - 1))
+        assert report.octets == need and room == ran.stdout + b"\0\0\0", words_of(chosen)
+        small, report, room = self.heap.encode(setting, raster, need - 1)
+        assert (small, report.octets, room) == (strip122.SMALL_ROOM, need, bytes(need - 1))
         size = chosen["width"], chosen["rows"], chosen["segment"]
         self.hand_in(need + 256 * padded(size[0]) + 260 * blocks(*size) + chosen["packet"] + 8192)
-        answer, told, room = self.arena.encode(setting, raster, need)
+        answer, report, room = self.arena.encode(setting, raster, need)
         assert (answer, room) == (0, ran.stdout), ("arena", answer, words_of(chosen))
         self.hand_in(self.arena_calls.strip122_arena_most() - 16)
         assert self.arena.encode(setting, raster, need)[0] == strip122.NO_MEMORY
@@ -168,17 +168,17 @@ class Tries:
             self.count("no segment")
             return
         need = len(ran.stdout)
-        answer, told, room, got = self.heap.decode(chosen["apid"], packets, need + 3, len(ranges) + 1)
+        answer, report, room, got = self.heap.decode(chosen["apid"], packets, need + 3, len(ranges) + 1)
         assert (answer, room) == (wanted, ran.stdout + b"\0\0\0"), (answer, ran.returncode)
-        assert (told.octets, told.ranges, got) == (need, len(ranges), ranges), (told.ranges, got, ranges)
+        assert (report.octets, report.ranges, got) == (need, len(ranges), ranges), (report.ranges, got, ranges)
         if all_there:
             for name in ("width", "rows", "depth", "is_signed", "segment", "image", "word"):
-                assert getattr(told, name) == chosen[name], name
-        size = told.width, told.rows, told.segment
-        small, told, room, got = self.heap.decode(chosen["apid"], packets, need - 1, 1)
-        assert (small, told.octets, room) == (strip122.SMALL_ROOM, need, bytes(need - 1))
+                assert getattr(report, name) == chosen[name], name
+        size = report.width, report.rows, report.segment
+        small, report, room, got = self.heap.decode(chosen["apid"], packets, need - 1, 1)
+        assert (small, report.octets, room) == (strip122.SMALL_ROOM, need, bytes(need - 1))
         self.hand_in(need + 640 * padded(size[0]) + 260 * blocks(*size) + 131084 + 8192)
-        answer, told, room, got = self.arena.decode(chosen["apid"], packets, need, 0)
+        answer, report, room, got = self.arena.decode(chosen["apid"], packets, need, 0)
         assert (answer, room) == (wanted, ran.stdout), ("arena", answer)
         self.count("decoded alike, whole" if wanted == 0 else "decoded alike, damaged")
 

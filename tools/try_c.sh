@@ -1,6 +1,6 @@
 #!/bin/sh
-# Builds the library for C, links it, and compares what it answers with the program: an example in C whose memory is a fixed buffer,
-# one in Rust where rustc is there, and random settings by Python's ctypes.
+# Builds the library for C, links it, and compares its answers with those of the program: an example in C with fixed memory, one in
+# Rust if rustc is there, and random settings by Python's ctypes.
 #
 #   tools/try_c.sh [SETTINGS] [SEED]
 #
@@ -27,7 +27,7 @@ fi
 library=${STRIP122_C:-$top/crates/strip122_c/out/libstrip122_c.a}
 make_folder
 
-# NAME COMMAND ..: an example gives the program's packets, and the raster comes back.
+# NAME COMMAND ..: an example gives the packets that the program gives, and its picture is the raster.
 example() {
     name=$1
     shift

@@ -14,7 +14,7 @@ use Rattle.lent_122.specs.declared.encode.EncodeRefusal.TheVariants.{OutOfRange,
 
 -- ---- a run over a port
 
--- the encoder's own answer, of which a port that never fails leaves these
+-- the encoder's own answer: one of these, on a port that never fails
 abbrev pub HasRun : Setting → (old new : Outside) → Result EncodeDone EncodeRefusal → Type 0
 HasRun s old new (Ok done) = EncodesImage s old new (Ok done)
 HasRun s old new (Err Short) = (octets : ℕ) × EncodesImage s old new (Err (faults.Short octets))
@@ -25,7 +25,7 @@ HasRun s old new (Err other) = ⊥
 
 -- ---- the whole raster
 
--- The raster was whole and in range. All packets of its image are at the front of the room, and the rest of the room is as before.
+-- The raster was whole and in range. The room begins with all packets of its image, and the rest of the room is unchanged.
 pub record HasPackets (s : Setting) (raster old new : List ℕ) (done : EncodeDone) : Type 0 where
   pub took : TookRaster s raster
   pub image : IsImageFor s (image_of s raster)
@@ -38,7 +38,7 @@ pub record HasBadPixel (s : Setting) (raster : List ℕ) (row column : ℕ) (val
   pub inside : row < s.rows
   pub bad : FirstBad s raster row column value
 
--- the cause of a refusal, where the room has so many octets
+-- the cause of a refusal, by the number of octets of the room
 abbrev pub IsRefused : Setting → (raster : List ℕ) → (room : ℕ) → EncodeRefusal → Type 0
 IsRefused s raster room (OutOfRange field) = first_out_of_range s ≡ Some field
 IsRefused s raster room Short = IsInRange s × (length raster < raster_length s) × AllInRange s raster
@@ -47,12 +47,12 @@ IsRefused s raster room (BadPixel row column value) = HasBadPixel s raster row c
 IsRefused s raster room (SmallRoom octets) = IsInRange s × TookRaster s raster × (octets ≡ length (output s (image_of s raster))) × (room < octets)
 IsRefused s raster room Memory = ⊤
 
--- The answer and its cause. A refusal leaves the room as it was.
+-- The answer and its cause. A refusal leaves the room unchanged.
 abbrev pub Encodes : Setting → (raster old new : List ℕ) → Result EncodeDone EncodeRefusal → Type 0
 Encodes s raster old new (Ok done) = HasPackets s raster old new done
 Encodes s raster old new (Err refusal) = (new ≡ old) × IsRefused s raster (length old) refusal
 
--- it was encoded, or there was no room or no memory
+-- the raster was encoded, or the room is too small, or there is no memory
 abbrev pub Accepts : Result EncodeDone EncodeRefusal → Type 0
 Accepts (Ok done) = ⊤
 Accepts (Err (SmallRoom octets)) = ⊤

@@ -12,7 +12,7 @@ use strip_decoder::{DecodeDone, DecodeFault, decode_packets, received_is_told, r
 /// Why no picture of packets is given.
 #[derive(Clone, Copy, Debug, PartialEq, Eq)]
 pub enum DecodeRefusal {
-    /// No packet that was kept begins a segment.
+    /// No packet that is kept begins a segment.
     NoSegment,
     /// The room has fewer octets than a picture of this geometry.
     SmallRoom { geometry: Geometry },
@@ -20,9 +20,9 @@ pub enum DecodeRefusal {
     Memory,
 }
 
-/// Decodes the packets of an APID, and puts their picture at the front of the room; what is behind it stays. A refusal leaves the
-/// room as it was. The causes of the answers exclude each other, so each comes exactly where its cause holds, except `Memory`.
-/// Where the room is too small, the packets are read no further than to the first one that is kept.
+/// Decodes the packets of an APID, and puts their picture at the start of the room; the rest of the room is unchanged, and so is all of
+/// it after a refusal. The causes of the answers exclude each other, so each answer except `Memory` is given exactly if its cause holds.
+/// If the room is too small, the packets are read no further than to the first one that is kept.
 pub fn decode_whole(
     alloc: Global,
     apid: u16,
@@ -37,7 +37,7 @@ pub fn decode_whole(
     put_picture(alloc, apid, packets, room)
 }
 
-// Decodes packets, and puts their picture at the front of the room.
+// Decodes packets, and puts their picture at the start of the room.
 fn put_picture(
     alloc: Global,
     apid: u16,

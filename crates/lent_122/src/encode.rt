@@ -15,20 +15,20 @@ use strip_coder::{EncodeDone, EncodeFault, Work, encode_rows};
 pub enum EncodeRefusal {
     /// This is the first field of the setting that is out of range.
     OutOfRange(Field),
-    /// The raster has fewer octets than the setting tells.
+    /// The raster has fewer octets than the setting's width, rows and depth need.
     Short,
-    /// The raster has more octets than the setting tells.
+    /// The raster has more octets than the setting's width, rows and depth need.
     Long,
     /// The first value out of range.
     BadPixel { row: u32, column: u32, value: i32 },
-    /// The packets have so many octets, and the room has fewer.
+    /// The room has fewer octets than the packets.
     SmallRoom { octets: u64 },
     /// There is no memory.
     Memory,
 }
 
-/// Encodes a raster, and puts all of its packets at the front of the room; what is behind them stays. A refusal leaves the room
-/// as it was. The causes of the answers exclude each other, so each comes exactly where its cause holds, except `Memory`.
+/// Encodes a raster, and puts all of its packets at the start of the room; the rest of the room is unchanged, and so is all of it
+/// after a refusal. The causes of the answers exclude each other, so each answer except `Memory` is given exactly if its cause holds.
 pub fn encode_whole(
     alloc: Global,
     setting: &Setting,
@@ -41,7 +41,7 @@ pub fn encode_whole(
     put_packets(alloc, setting, raster, room)
 }
 
-// Encodes a raster, and puts its packets at the front of the room.
+// Encodes a raster, and puts its packets at the start of the room.
 fn put_packets(
     alloc: Global,
     setting: &Setting,

@@ -17,7 +17,7 @@ pub fn picture_length(geometry: &Geometry) -> usize
     geometry.rows as usize * (geometry.width as usize * size)
 }
 
-/// The geometry that packets tell. They are read no further than to the first one that is kept.
+/// The geometry in these packets. They are read no further than to the first one that is kept.
 pub(crate) fn find_geometry(
     alloc: Global,
     apid: u16,

@@ -1,4 +1,4 @@
--- What C is told of a picture. This project's own.
+-- The report on a picture. This project's own.
 use Rattle.std.specs.Prelude.{◌≡◌, ℕ, ◌==◌, ◌&&◌, Bool, true, false, if◌then◌else◌, List, [], ◌∷◌, length, Option, None, Some, is_none, Result, Ok, Err, ⊤}
 use Rattle.base_122.specs.Ranges.{IsGeometryInRange}
 use Rattle.base_122.specs.declared.geometry.Geometry.{Geometry}
@@ -28,9 +28,9 @@ nothing = record {
   weights = 0 ∷ 0 ∷ 0 ∷ 0 ∷ 0 ∷ 0 ∷ 0 ∷ 0 ∷ 0 ∷ 0 ∷ [];
 }
 
--- a geometry, and the octets of its picture
-abbrev pub geometry_told : Geometry → Strip122Decoded
-geometry_told g = record {
+-- the report on a geometry: its fields, and the octets of its picture
+abbrev pub geometry_report : Geometry → Strip122Decoded
+geometry_report g = record {
   octets = picture_length g;
   ranges = 0;
   fault_octets = 0;
@@ -45,37 +45,38 @@ geometry_told g = record {
   weights = g.weights.shifts;
 }
 
--- and why the packets can't be read on
-abbrev pub framing_told : Strip122Decoded → Option Framing → Strip122Decoded
-framing_told told None = told
-framing_told told (Some (BadVersion octet)) = record told { fault = 1; fault_octets = octet }
-framing_told told (Some (CutPacket missing)) = record told { fault = 2; fault_octets = missing }
+-- the same, with the reason why the packets can't be read on
+abbrev pub framing_report : Strip122Decoded → Option Framing → Strip122Decoded
+framing_report report None = report
+framing_report report (Some (BadVersion octet)) = record report { fault = 1; fault_octets = octet }
+framing_report report (Some (CutPacket missing)) = record report { fault = 2; fault_octets = missing }
 
--- what is told of a decoding that ended so, with so many ranges of damaged rows
-abbrev pub told_with : Result DecodeDone DecodeRefusal → (ranges : ℕ) → Strip122Decoded
-told_with (Ok done) ranges = record (framing_told (geometry_told done.geometry) done.framing) { ranges = ranges }
-told_with (Err NoSegment) ranges = nothing
-told_with (Err (SmallRoom g)) ranges = geometry_told g
-told_with (Err Memory) ranges = nothing
+-- the report on a decoding that ended so, with this number of ranges of damaged rows
+abbrev pub report_with : Result DecodeDone DecodeRefusal → (ranges : ℕ) → Strip122Decoded
+report_with (Ok done) ranges = record (framing_report (geometry_report done.geometry) done.framing) { ranges = ranges }
+report_with (Err NoSegment) ranges = nothing
+report_with (Err (SmallRoom g)) ranges = geometry_report g
+report_with (Err Memory) ranges = nothing
 
--- its number: 0 where no row is damaged and the packets were read to their end
+-- the answer to it: 0 if no row is damaged and the packets were read to their end
 abbrev pub answer_with : Result DecodeDone DecodeRefusal → (ranges : ℕ) → ℕ
 answer_with (Ok done) ranges = if (ranges == 0) && is_none done.framing then 0 else 1
 answer_with (Err NoSegment) ranges = 6
 answer_with (Err (SmallRoom g)) ranges = 7
 answer_with (Err Memory) ranges = 8
 
--- a geometry that is told is in range
-abbrev pub TellsGeometry : Result DecodeDone DecodeRefusal → Type 0
-TellsGeometry (Ok done) = IsGeometryInRange done.geometry
-TellsGeometry (Err (SmallRoom g)) = IsGeometryInRange g
-TellsGeometry (Err other) = ⊤
+-- the geometry of the report is in range
+abbrev pub HasGeometryInRange : Result DecodeDone DecodeRefusal → Type 0
+HasGeometryInRange (Ok done) = IsGeometryInRange done.geometry
+HasGeometryInRange (Err (SmallRoom g)) = IsGeometryInRange g
+HasGeometryInRange (Err other) = ⊤
 
--- Packets were decoded into a room that was `old`, or refused; C is told how it ended, and the ranges of damaged rows.
-pub record TellsDecoded (apid : ℕ) (packets old new : List ℕ) (places ranges : List Strip122Range) (told : Strip122Decoded) (answer : ℕ) : Type 0 where
+-- Packets were decoded into a room that was `old`, or refused. The answer and the report say how it ended, and `ranges` begins with the
+-- ranges of damaged rows, as far as there are places.
+pub record ReportsDecoding (apid : ℕ) (packets old new : List ℕ) (places ranges : List Strip122Range) (report : Strip122Decoded) (answer : ℕ) : Type 0 where
   pub ended : Result DecodeDone DecodeRefusal
   pub decodes : Decodes apid packets old new ended
   pub back : BringsBack apid packets new ended
   pub answer_is : answer ≡ answer_with ended (length (ranges_of ended))
-  pub told_is : told ≡ told_with ended (length (ranges_of ended))
+  pub report_is : report ≡ report_with ended (length (ranges_of ended))
   pub ranges_are : ranges ≡ put_over (ranges_of ended) places

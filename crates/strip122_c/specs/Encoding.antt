@@ -1,4 +1,4 @@
--- What C is told of an encoding. This project's own.
+-- The report on an encoding. This project's own.
 use Rattle.std.specs.Prelude.{◌≡◌, ◌⊎◌, ℕ, pos, List, Result, Ok, Err}
 use Rattle.base_122.specs.declared.field.Field.{Field}
 use Rattle.base_122.specs.declared.field.Field.TheVariants.{Width, Rows, Depth, Segment, Limit, Fill, Word, Stop, Weights, Apid, Image, Packet, Pixels, Octets}
@@ -29,17 +29,17 @@ field_number Octets = 14
 abbrev pub nothing : Strip122Encoded
 nothing = record { octets = 0; packets = 0; segments = 0; field = 0; row = 0; column = 0; value = pos 0 }
 
--- what is told of an encoding that ended so
-abbrev pub told_of : Result EncodeDone EncodeRefusal → Strip122Encoded
-told_of (Ok done) = record nothing { octets = done.octets; packets = done.packets; segments = done.segments }
-told_of (Err (OutOfRange field)) = record nothing { field = field_number field }
-told_of (Err Short) = nothing
-told_of (Err Long) = nothing
-told_of (Err (BadPixel row column value)) = record nothing { row = row; column = column; value = value }
-told_of (Err (SmallRoom octets)) = record nothing { octets = octets }
-told_of (Err Memory) = nothing
+-- the report on an encoding that ended so
+abbrev pub report_of : Result EncodeDone EncodeRefusal → Strip122Encoded
+report_of (Ok done) = record nothing { octets = done.octets; packets = done.packets; segments = done.segments }
+report_of (Err (OutOfRange field)) = record nothing { field = field_number field }
+report_of (Err Short) = nothing
+report_of (Err Long) = nothing
+report_of (Err (BadPixel row column value)) = record nothing { row = row; column = column; value = value }
+report_of (Err (SmallRoom octets)) = record nothing { octets = octets }
+report_of (Err Memory) = nothing
 
--- its number
+-- the answer to it
 abbrev pub answer_of : Result EncodeDone EncodeRefusal → ℕ
 answer_of (Ok done) = 0
 answer_of (Err (OutOfRange field)) = 2
@@ -49,13 +49,13 @@ answer_of (Err (BadPixel row column value)) = 5
 answer_of (Err (SmallRoom octets)) = 7
 answer_of (Err Memory) = 8
 
--- A raster was encoded into a room that was `old`, or refused; C is told how it ended.
-pub record TellsEncoded (s : Setting) (raster old new : List ℕ) (told : Strip122Encoded) (answer : ℕ) : Type 0 where
+-- A raster was encoded into a room that was `old`, or refused. The answer and the report say how it ended.
+pub record ReportsEncoding (s : Setting) (raster old new : List ℕ) (report : Strip122Encoded) (answer : ℕ) : Type 0 where
   pub ended : Result EncodeDone EncodeRefusal
   pub encodes : Encodes s raster old new ended
   pub answer_is : answer ≡ answer_of ended
-  pub told_is : told ≡ told_of ended
+  pub report_is : report ≡ report_of ended
 
--- it was encoded, or there was no room or no memory
+-- the raster was encoded, or the room is too small, or there is no memory
 abbrev pub IsAccepted : (answer : ℕ) → Type 0
 IsAccepted answer = (answer ≡ 0) ⊎ ((answer ≡ 7) ⊎ (answer ≡ 8))

@@ -19,6 +19,6 @@ abbrev pub ranges_of : Result DecodeDone DecodeRefusal → List Strip122Range
 ranges_of (Ok done) = ranges_in done.damage
 ranges_of (Err refusal) = []
 
--- these at the front of some places, as far as there are places
+-- these in the first of some places, as far as there are places
 abbrev pub put_over : {A : Type 0} → List A → List A → List A
 put_over items places = take (length places) items ++ drop (length items) places

@@ -5,9 +5,9 @@ use Rattle.base_122.specs.declared.setting.Select.TheVariants.{Heuristic, Optima
 use Rattle.base_122.specs.declared.setting.Setting.{Setting}
 use Rattle.strip122_c.specs.declared.setting.Strip122Setting.{Strip122Setting}
 
--- each number except 0 is yes
-abbrev pub is_yes : ℕ → Bool
-is_yes flag = not (flag == 0)
+-- a flag is set by each number except 0
+abbrev pub is_set : ℕ → Bool
+is_set flag = not (flag == 0)
 
 abbrev pub select_of : (optimal : ℕ) → Select
 select_of optimal = if optimal == 0 then Heuristic else Optimal
@@ -17,12 +17,12 @@ setting_of c = record {
   width = c.width;
   rows = c.rows;
   depth = c.depth;
-  signed = is_yes c.is_signed;
+  signed = is_set c.is_signed;
   segment = c.segment;
   limit = c.limit;
-  fill = is_yes c.fill;
+  fill = is_set c.fill;
   word = c.word;
-  stop = record { dc = is_yes c.stop_dc; plane = c.stop_plane; stage = c.stop_stage };
+  stop = record { dc = is_set c.stop_dc; plane = c.stop_plane; stage = c.stop_stage };
   weights = record { shifts = c.weights };
   select = select_of c.optimal;
   apid = c.apid;

@@ -1,22 +1,22 @@
-// What C is told of a picture.
+// The report on a picture.
 ghost use Rattle.std.specs.Prelude.{◌≡◌};
 ghost use Rattle.base_122.specs.Ranges.{IsGeometryInRange};
-ghost use Rattle.strip122_c.specs.Decoding.{geometry_told, framing_told, told_with, answer_with, TellsGeometry};
+ghost use Rattle.strip122_c.specs.Decoding.{geometry_report, framing_report, report_with, answer_with, HasGeometryInRange};
 
 use base_122::Geometry;
 use lent_122::{DecodeRefusal, picture_length};
 use packet_defs::Framing;
 use strip_decoder::DecodeDone;
 
-/// What was found, or what room it takes. What the answer doesn't speak of is 0.
+/// What was found, or what room is needed. A field that the answer does not need is 0.
 #[repr(C)]
 #[derive(Clone, Copy, Debug, PartialEq, Eq)]
 pub struct Strip122Decoded {
-    /// Octets of the picture; where the room is too small, those that it takes.
+    /// Octets of the picture, which the room needs.
     pub octets: u64,
-    /// Ranges of damaged rows, also those for which there was no place.
+    /// Ranges of damaged rows, including those for which there was no place.
     pub ranges: u64,
-    /// Why the packets can't be read on: the octet at which a packet has another version, or the octets that the last packet lacks.
+    /// The octet at which a packet has another version, or the octets that are missing from the last packet.
     pub fault_octets: u64,
     pub width: u32,
     pub rows: u32,
@@ -25,12 +25,12 @@ pub struct Strip122Decoded {
     pub depth: u8,
     pub is_signed: u8,
     pub word: u8,
-    /// 1 where a packet has another version, and 2 where the last one is cut.
+    /// Why the packets can't be read on: 1 if a packet has another version, 2 if the last one is cut.
     pub fault: u8,
     pub weights: [u8; 10],
 }
 
-// Nothing is told.
+// Nothing is reported.
 const NOTHING: Strip122Decoded = Strip122Decoded {
     octets: 0,
     ranges: 0,
@@ -46,43 +46,43 @@ const NOTHING: Strip122Decoded = Strip122Decoded {
     weights: [0; 10],
 };
 
-/// What is told of a decoding that ended so, with so many ranges of damaged rows.
-pub fn told_of(ended: &Result<DecodeDone, DecodeRefusal>, ranges: u64) -> Strip122Decoded
-    requires { TellsGeometry ended.now }
-    ensures { result ≡ told_with ended.now ranges }
+/// The report on a decoding that ended so, with this number of ranges of damaged rows.
+pub fn report_of(ended: &Result<DecodeDone, DecodeRefusal>, ranges: u64) -> Strip122Decoded
+    requires { HasGeometryInRange ended.now }
+    ensures { result ≡ report_with ended.now ranges }
 {
     match ended {
-        Ok(done) => picture_told(done, ranges),
-        Err(DecodeRefusal::SmallRoom { geometry }) => geometry_told(geometry),
+        Ok(done) => picture_report(done, ranges),
+        Err(DecodeRefusal::SmallRoom { geometry }) => geometry_report(geometry),
         Err(_) => NOTHING,
     }
 }
 
-// What is told of a picture.
-fn picture_told(done: &DecodeDone, ranges: u64) -> Strip122Decoded
+// The report on a picture.
+fn picture_report(done: &DecodeDone, ranges: u64) -> Strip122Decoded
     requires { IsGeometryInRange done.now.geometry }
-    ensures { result ≡ record (framing_told (geometry_told done.now.geometry) done.now.framing) { ranges = ranges } }
+    ensures { result ≡ record (framing_report (geometry_report done.now.geometry) done.now.framing) { ranges = ranges } }
 {
-    let mut told = geometry_told(&done.geometry);
-    told.ranges = ranges;
+    let mut report = geometry_report(&done.geometry);
+    report.ranges = ranges;
     match done.framing {
         None => {}
         Some(Framing::BadVersion { octet }) => {
-            told.fault = 1;
-            told.fault_octets = octet;
+            report.fault = 1;
+            report.fault_octets = octet;
         }
         Some(Framing::CutPacket { missing }) => {
-            told.fault = 2;
-            told.fault_octets = u64::from(missing);
+            report.fault = 2;
+            report.fault_octets = u64::from(missing);
         }
     }
-    told
+    report
 }
 
-// The geometry of a picture, and its octets.
-fn geometry_told(geometry: &Geometry) -> Strip122Decoded
+// The report on a geometry: its fields, and the octets of its picture.
+fn geometry_report(geometry: &Geometry) -> Strip122Decoded
     requires { IsGeometryInRange geometry.now }
-    ensures { result ≡ geometry_told geometry.now }
+    ensures { result ≡ geometry_report geometry.now }
 {
     Strip122Decoded {
         octets: picture_length(geometry) as u64,
@@ -100,7 +100,7 @@ fn geometry_told(geometry: &Geometry) -> Strip122Decoded
     }
 }
 
-/// The answer to a decoding that ended so, with so many ranges of damaged rows.
+/// The answer to a decoding that ended so, with this number of ranges of damaged rows.
 pub fn answer_of(ended: &Result<DecodeDone, DecodeRefusal>, ranges: u64) -> u32
     ensures { result ≡ answer_with ended.now ranges }
 {

@@ -1,16 +1,16 @@
-// What C is told of an encoding.
+// The report on an encoding.
 ghost use Rattle.std.specs.Prelude.{◌≡◌};
-ghost use Rattle.strip122_c.specs.Encoding.{field_number, told_of, answer_of};
+ghost use Rattle.strip122_c.specs.Encoding.{field_number, report_of, answer_of};
 
 use base_122::Field;
 use lent_122::EncodeRefusal;
 use strip_coder::EncodeDone;
 
-/// What was done, or why it was not. What the answer doesn't speak of is 0.
+/// What was done, or why it was not. A field that the answer does not need is 0.
 #[repr(C)]
 #[derive(Clone, Copy, Debug, PartialEq, Eq)]
 pub struct Strip122Encoded {
-    /// Octets of the packets; where the room is too small, those that it takes.
+    /// Octets of the packets, which the room needs.
     pub octets: u64,
     pub packets: u64,
     pub segments: u32,
@@ -22,7 +22,7 @@ pub struct Strip122Encoded {
     pub value: i32,
 }
 
-// Nothing is told.
+// Nothing is reported.
 const NOTHING: Strip122Encoded = Strip122Encoded {
     octets: 0,
     packets: 0,
@@ -33,27 +33,27 @@ const NOTHING: Strip122Encoded = Strip122Encoded {
     value: 0,
 };
 
-/// What is told of an encoding that ended so.
-pub fn told_of(ended: &Result<EncodeDone, EncodeRefusal>) -> Strip122Encoded
-    ensures { result ≡ told_of ended.now }
+/// The report on an encoding that ended so.
+pub fn report_of(ended: &Result<EncodeDone, EncodeRefusal>) -> Strip122Encoded
+    ensures { result ≡ report_of ended.now }
 {
-    let mut told = NOTHING;
+    let mut report = NOTHING;
     match *ended {
         Ok(done) => {
-            told.octets = done.octets;
-            told.packets = done.packets;
-            told.segments = done.segments;
+            report.octets = done.octets;
+            report.packets = done.packets;
+            report.segments = done.segments;
         }
-        Err(EncodeRefusal::OutOfRange(field)) => told.field = field_number(field),
+        Err(EncodeRefusal::OutOfRange(field)) => report.field = field_number(field),
         Err(EncodeRefusal::BadPixel { row, column, value }) => {
-            told.row = row;
-            told.column = column;
-            told.value = value;
+            report.row = row;
+            report.column = column;
+            report.value = value;
         }
-        Err(EncodeRefusal::SmallRoom { octets }) => told.octets = octets,
+        Err(EncodeRefusal::SmallRoom { octets }) => report.octets = octets,
         Err(_) => {}
     }
-    told
+    report
 }
 
 fn field_number(field: Field) -> u32

@@ -11,8 +11,8 @@ mod tests;
 ghost use Rattle.base_122.specs.Ranges.{IsInRange};
 ghost use Rattle.strip_coder.specs.Answers.{TookRaster};
 ghost use Rattle.strip122_c.specs.Settings.{setting_of};
-ghost use Rattle.strip122_c.specs.Encoding.{TellsEncoded, IsAccepted};
-ghost use Rattle.strip122_c.specs.Decoding.{TellsDecoded};
+ghost use Rattle.strip122_c.specs.Encoding.{ReportsEncoding, IsAccepted};
+ghost use Rattle.strip122_c.specs.Decoding.{ReportsDecoding};
 
 pub use decoded::Strip122Decoded;
 pub use encoded::Strip122Encoded;
@@ -30,8 +30,7 @@ const _: () = prove!(size_of::<Strip122Decoded>() == 56);
 
 const _: () = prove!(size_of::<Strip122Range>() == 8);
 
-/// Encodes a raster. All of its packets are at the front of the room where the answer is 0; what was done, or why it was not, is told
-/// in `encoded`.
+/// Encodes a raster. If the answer is 0, the room begins with all of its packets; `encoded` reports what was done, or why it was not.
 #[unsafe(no_mangle)]
 pub extern "C" fn strip122_encode(
     alloc: Global,
@@ -40,16 +39,16 @@ pub extern "C" fn strip122_encode(
     room: &mut [u8],
     encoded: &mut Strip122Encoded,
 ) -> u32
-    ensures tells { TellsEncoded (setting_of setting.now) raster.now room.old room.new encoded.new result }
+    ensures reports { ReportsEncoding (setting_of setting.now) raster.now room.old room.new encoded.new result }
     ensures accepts { IsInRange (setting_of setting.now) → TookRaster (setting_of setting.now) raster.now → IsAccepted result }
 {
     let ended = encode_whole(alloc, &setting::setting_of(setting), raster, room);
-    *encoded = encoded::told_of(&ended);
+    *encoded = encoded::report_of(&ended);
     encoded::answer_of(&ended)
 }
 
-/// Decodes the packets of an APID. Their picture is at the front of the room where the answer is 0 or 1, and the first ranges of its
-/// damaged rows are in `ranges`, as many as it has places; what was found, or what room it takes, is told in `decoded`.
+/// Decodes the packets of an APID. If the answer is 0 or 1, the room begins with their picture, and `ranges` with the first ranges of
+/// damaged rows, one for each place; `decoded` reports what was found, or what room is needed.
 #[unsafe(no_mangle)]
 pub extern "C" fn strip122_decode(
     alloc: Global,
@@ -59,10 +58,10 @@ pub extern "C" fn strip122_decode(
     ranges: &mut [Strip122Range],
     decoded: &mut Strip122Decoded,
 ) -> u32
-    ensures { TellsDecoded apid packets.now room.old room.new ranges.old ranges.new decoded.new result }
+    ensures { ReportsDecoding apid packets.now room.old room.new ranges.old ranges.new decoded.new result }
 {
     let ended = decode_whole(alloc, apid, packets, room);
     let count = ranges::put_damage(&ended, ranges);
-    *decoded = decoded::told_of(&ended, count);
+    *decoded = decoded::report_of(&ended, count);
     decoded::answer_of(&ended, count)
 }

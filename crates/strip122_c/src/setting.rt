@@ -4,7 +4,7 @@ ghost use Rattle.strip122_c.specs.Settings.{select_of, setting_of};
 
 use base_122::{Select, Setting, Stop, Weights};
 
-/// What an encoder is told. Of a flag each number except 0 is yes.
+/// A setting of the encoder. A flag is set by each number except 0.
 #[repr(C)]
 #[derive(Clone, Copy, Debug, PartialEq, Eq)]
 pub struct Strip122Setting {

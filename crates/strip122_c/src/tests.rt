@@ -28,14 +28,14 @@ fn setting(rows: u32, depth: u8) -> Strip122Setting {
     }
 }
 
-// The answer, and what is told.
+// The answer, and what is report.
 fn encode(
     alloc: Global,
     setting: &Strip122Setting,
     raster: &[u8],
     room: &mut [u8],
 ) -> (u32, Strip122Encoded) {
-    let mut told = Strip122Encoded {
+    let mut report = Strip122Encoded {
         octets: 9,
         packets: 9,
         segments: 9,
@@ -44,8 +44,8 @@ fn encode(
         column: 9,
         value: 9,
     };
-    let answer = strip122_encode(alloc, setting, raster, room, &mut told);
-    (answer, told)
+    let answer = strip122_encode(alloc, setting, raster, room, &mut report);
+    (answer, report)
 }
 
 #[test]
@@ -64,30 +64,30 @@ fn rasters(rt: HostRuntime) -> Result<(), Fail> {
     ] {
         let octets = octets.min(raster.len());
         let size = size.min(room.len());
-        let (got, told) = encode(
+        let (got, report) = encode(
             alloc,
             &setting(17, depth),
             &raster[..octets],
             &mut room[..size],
         );
         assert_eq!(rt; got, answer);
-        assert_eq!(rt; told.octets > 3, answer == 0 || answer == 7);
-        assert_eq!(rt; told.field, if answer == 2 { 3 } else { 0 });
-        assert_eq!(rt; told.value, if answer == 5 { 77 } else { 0 });
+        assert_eq!(rt; report.octets > 3, answer == 0 || answer == 7);
+        assert_eq!(rt; report.field, if answer == 2 { 3 } else { 0 });
+        assert_eq!(rt; report.value, if answer == 5 { 77 } else { 0 });
     }
     Ok(())
 }
 
 const NO_RANGE: Strip122Range = Strip122Range { first: 9, last: 9 };
 
-// The answer, what is told, and two places for ranges.
+// The answer, what is report, and two places for ranges.
 fn decode(
     alloc: Global,
     packets: &[u8],
     room: &mut [u8],
 ) -> (u32, Strip122Decoded, [Strip122Range; 2]) {
     let mut ranges = [NO_RANGE; 2];
-    let mut told = Strip122Decoded {
+    let mut report = Strip122Decoded {
         octets: 9,
         ranges: 9,
         fault_octets: 9,
@@ -101,18 +101,18 @@ fn decode(
         fault: 9,
         weights: [9; 10],
     };
-    let answer = strip122_decode(alloc, 100, packets, room, &mut ranges, &mut told);
-    (answer, told, ranges)
+    let answer = strip122_decode(alloc, 100, packets, room, &mut ranges, &mut report);
+    (answer, report, ranges)
 }
 
 // The packets of a flat image of 64 rows, in two segments, which end at block 16 of 24 and at the last one.
 fn two_segments(rt: &impl Abort, alloc: Global) -> Result<Vec<u8>, Fail> {
     let raster = vec![in alloc; 77; 24 * 64]?;
     let mut packets = vec![in alloc; 0; 3000]?;
-    let (answer, told) = encode(alloc, &setting(64, 8), &raster, &mut packets);
+    let (answer, report) = encode(alloc, &setting(64, 8), &raster, &mut packets);
     assert_eq!(rt; answer, 0);
-    assert_eq!(rt; told.segments, 2);
-    packets.truncate(told.octets as usize);
+    assert_eq!(rt; report.segments, 2);
+    packets.truncate(report.octets as usize);
     Ok(packets)
 }
 
@@ -121,9 +121,9 @@ fn pictures(rt: HostRuntime) -> Result<(), Fail> {
     let alloc = rt.alloc();
     let packets = two_segments(&rt, alloc)?;
     let mut room = vec![in alloc; 0; 24 * 64]?;
-    let (answer, told, ranges) = decode(alloc, &packets, &mut room);
+    let (answer, report, ranges) = decode(alloc, &packets, &mut room);
     assert_eq!(rt; answer, 0);
-    assert_eq!(rt; (told.octets, told.ranges, told.image), (1536, 0, 5));
+    assert_eq!(rt; (report.octets, report.ranges, report.image), (1536, 0, 5));
     assert!(rt; ranges == [NO_RANGE; 2]);
     assert!(rt; room.iter().all(|octet| *octet == 77));
     Ok(())
@@ -135,9 +135,12 @@ fn losses(rt: HostRuntime) -> Result<(), Fail> {
     let mut packets = two_segments(&rt, alloc)?;
     let _last = packets.pop();
     let mut room = vec![in alloc; 0; 24 * 64]?;
-    let (answer, told, ranges) = decode(alloc, &packets, &mut room);
+    let (answer, report, ranges) = decode(alloc, &packets, &mut room);
     assert_eq!(rt; answer, 1);
-    assert_eq!(rt; (told.ranges, told.fault, told.fault_octets), (1, 2, 1));
+    assert_eq!(rt;
+        (report.ranges, report.fault, report.fault_octets),
+        (1, 2, 1)
+    );
     assert!(rt;
         ranges
             == [
@@ -155,14 +158,14 @@ fn losses(rt: HostRuntime) -> Result<(), Fail> {
 fn refusals(rt: HostRuntime) -> Result<(), Fail> {
     let alloc = rt.alloc();
     let packets = two_segments(&rt, alloc)?;
-    let (answer, told, _) = decode(alloc, &packets, &mut []);
+    let (answer, report, _) = decode(alloc, &packets, &mut []);
     assert_eq!(rt; answer, 7);
     assert_eq!(rt;
-        (told.octets, told.width, told.rows, told.depth),
+        (report.octets, report.width, report.rows, report.depth),
         (1536, 24, 64, 8)
     );
-    let (answer, told, _) = decode(alloc, b"no packets", &mut []);
+    let (answer, report, _) = decode(alloc, b"no packets", &mut []);
     assert_eq!(rt; answer, 6);
-    assert_eq!(rt; told.octets, 0);
+    assert_eq!(rt; report.octets, 0);
     Ok(())
 }
