@@ -1,0 +1,45 @@
+/* Memory of the library from a buffer that the caller hands in (docs/c.md, "Fixed memory"). */
+#ifndef STRIP122_ARENA_H
+#define STRIP122_ARENA_H
+
+#include "strip122.h"
+
+#ifdef __cplusplus
+extern "C" {
+#endif
+
+/* Hands in the buffer from which later calls of the library, in one thread, take their memory. No call may be running. Each call gives
+   all of it back before it returns, so one buffer serves call after call. */
+void strip122_arena(void *memory, size_t octets);
+
+/* The most octets that were in use at once since it was handed in. */
+size_t strip122_arena_most(void);
+
+/* For the heads of the blocks, and for all that is small. */
+#define STRIP122_ARENA_MORE 8192u
+
+/* The blocks of a segment, in an image of this size. */
+static inline uint64_t strip122_segment_blocks(uint32_t width, uint32_t rows, uint32_t segment) {
+    uint64_t blocks = (((uint64_t)width + 7) / 8) * (((uint64_t)rows + 7) / 8);
+    return segment < blocks ? segment : blocks;
+}
+
+/* Octets that are enough for strip122_encode, if the setting is in range and the room has `size` octets. */
+static inline uint64_t strip122_encode_memory(const strip122_setting *s, uint64_t size) {
+    uint64_t columns = ((uint64_t)s->width + 7) / 8 * 8;
+    uint64_t blocks = strip122_segment_blocks(s->width, s->rows, s->segment);
+    return size + 4 * (64 * columns + 65 * blocks) + s->packet + STRIP122_ARENA_MORE;
+}
+
+/* Octets that are enough for strip122_decode, if the packets are those of an image of this size, with `segment` blocks in a segment, and
+   its picture has `octets` octets. */
+static inline uint64_t strip122_decode_memory(uint32_t width, uint32_t rows, uint32_t segment, uint64_t octets) {
+    uint64_t columns = ((uint64_t)width + 7) / 8 * 8;
+    uint64_t blocks = strip122_segment_blocks(width, rows, segment);
+    return octets + 640 * columns + 260 * blocks + 131084 + STRIP122_ARENA_MORE;
+}
+
+#ifdef __cplusplus
+}
+#endif
+#endif

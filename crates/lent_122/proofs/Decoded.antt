@@ -1,0 +1,106 @@
+-- What a run of the decoder says of all packets.
+use Rattle.std.proofs.Common.{◌≡◌, ◌+◌, ◌∙◌, ℕ, ℤ, List, [], length, take, drop, refl, sym, ap, subst}
+use Rattle.std.specs.Prelude.{Some, None, Result, Ok, Err}
+use Rattle.std.proofs.Math.Seq.{take-append_seam}
+use Rattle.port_122.specs.Outside.{Outside}
+use Rattle.port_122.proofs.Told.{given_told}
+use Rattle.base_122.specs.Setting.{geometry_of}
+use Rattle.base_122.specs.declared.geometry.Geometry.{Geometry}
+use Rattle.base_122.specs.declared.setting.Setting.{Setting}
+use Rattle.packet_defs.specs.Streams.{framing}
+use Rattle.raster_rows.proofs.RasterLaws.{length-raster_octets}
+use Rattle.stream_defs.specs.Damage.{missing_rows}
+use Rattle.stream_defs.specs.Fates.{fresh, after_all, kept, geometry_in}
+use Rattle.stream_defs.specs.Output.{output}
+use Rattle.stream_defs.specs.Picture.{picture, picture_octets}
+use Rattle.stream_defs.specs.Received.{AreReceived, ReceivedIn}
+use Rattle.strip_decoder.specs.declared.decode.DecodeDone.{DecodeDone}
+use Rattle.strip_decoder.specs.declared.decode.DecodeFault.TheVariants as faults
+use Rattle.strip_decoder.specs.Answers.{Decodes as RunsDecoder}
+use Rattle.strip_decoder.specs.Containment.{IsImageFor}
+use Rattle.strip_decoder.specs.Laws.{ReceivedIsTold}
+use Rattle.strip_decoder.specs.RoundTrip.{RoundTrip}
+use Rattle.strip_decoder.specs.Runs.{holds_after}
+use Rattle.lent_122.specs.declared.decode.DecodeRefusal.{DecodeRefusal}
+use Rattle.lent_122.specs.declared.decode.DecodeRefusal.TheVariants.{NoSegment, SmallRoom, Memory}
+use Rattle.lent_122.specs.Decoding.{picture_length, HasGeometry, wish_for, HasRun, IsShown, Decodes, BringsImage, BringsBack}
+use Rattle.lent_122.proofs.ReadOut.{ReadsAll, reads_all}
+
+-- ---- what a run gives
+
+tells_same : (apid : ℕ) (took packets : List ℕ) → ReadsAll took packets → geometry_in apid took ≡ geometry_in apid packets
+tells_same apid took packets same = ap (λ all. (after_all apid fresh all).geometry) same.whole
+
+pub is_shown : (apid : ℕ) (packets given : List ℕ) (old new : Outside) (done : DecodeDone) → old.rest ≡ Some packets → old.given ≡ Some [] → new.given ≡ Some given →
+    RunsDecoder (wish_for apid packets) old new (Ok done) → IsShown apid packets given done
+is_shown apid packets given old new done rest none gives run =
+    let is = run.answer in
+    let same = reads_all (length packets + 1) run.took packets old new run.since rest is.out in
+    let told = is.told packets rest in
+    record {
+      tells = record { geometry = sym (tells_same apid run.took packets same) ∙ is.geometry; range = is.range };
+      framing_is = is.framing_is ∙ same.framing_is;
+      rows = is.rows;
+      received = told.0;
+      received_are = subst (λ all. AreReceived holds_after (kept apid fresh all) told.0) same.whole told.1;
+      picture_is = given_told [] given run.since none gives ∙ told.2;
+      missing = told.3;
+    }
+
+pub picture_size : (apid : ℕ) (packets picture : List ℕ) (done : DecodeDone) → IsShown apid packets picture done → length picture ≡ picture_length done.geometry
+picture_size apid packets picture_given done shown =
+    let g = done.geometry in ap length shown.picture_is ∙ length-raster_octets g.depth g.rows g.width (picture g shown.received)
+
+pub has_geometry : (apid : ℕ) (packets : List ℕ) (old new : Outside) (done : DecodeDone) → old.rest ≡ Some packets → RunsDecoder (wish_for apid packets) old new (Ok done) → HasGeometry apid packets done.geometry
+has_geometry apid packets old new done rest run =
+    let is = run.answer in
+    let same = reads_all (length packets + 1) run.took packets old new run.since rest is.out in
+    record { geometry = sym (tells_same apid run.took packets same) ∙ is.geometry; range = is.range }
+
+no_segment : (apid : ℕ) (packets : List ℕ) (old new : Outside) → old.rest ≡ Some packets → RunsDecoder (wish_for apid packets) old new (Err faults.NoSegment) → geometry_in apid packets ≡ None
+no_segment apid packets old new rest run =
+    let answer = run.answer in
+    sym (tells_same apid run.took packets (reads_all (length packets + 1) run.took packets old new run.since rest answer.1)) ∙ answer.0
+
+pub refused : (apid : ℕ) (packets room : List ℕ) (old new : Outside) (refusal : DecodeRefusal) → old.rest ≡ Some packets → HasRun apid packets old new (Err refusal) → Decodes apid packets room room (Err refusal)
+refused apid packets room old new NoSegment rest run = (refl, no_segment apid packets old new rest run)
+refused apid packets room old new (SmallRoom g) rest run = absurd run
+refused apid packets room old new Memory rest run = (refl, tt)
+
+-- ---- the round trip
+
+some_geometry : {x y : Geometry} → Some x ≡ Some y → x ≡ y
+some_geometry e = cc
+
+module _ (trip : RoundTrip) (told : ReceivedIsTold) (s : Setting) (x : ℕ → ℕ → ℤ) (image : IsImageFor s x) where
+  -- all packets of an image tell its geometry
+  tells_image : geometry_in s.apid (output s x) ≡ Some (geometry_of s)
+  tells_image =
+      let some = told.some s.apid (output s x) in
+      (trip.whole s x some.0 image some.1).geometry
+
+  of_image : (apid : ℕ) (packets : List ℕ) → apid ≡ s.apid → packets ≡ output s x → geometry_in apid packets ≡ Some (geometry_of s)
+  of_image apid packets mine are = ap (λ n. geometry_in n packets) mine ∙ ap (geometry_in s.apid) are ∙ tells_image
+
+  brings_image : (apid : ℕ) (packets old new : List ℕ) (result : Result DecodeDone DecodeRefusal) → Decodes apid packets old new result → apid ≡ s.apid → packets ≡ output s x → BringsImage s x new result
+  brings_image apid packets old new (Ok done) has mine are =
+      let shown = has.shown in
+      let got : ReceivedIn holds_after s.apid (output s x) shown.received =
+      subst (λ octets. ReceivedIn holds_after s.apid octets shown.received) are (subst (λ n. ReceivedIn holds_after n packets shown.received) mine shown.received_are) in
+      let whole = trip.whole s x shown.received image got in
+      let geometry : done.geometry ≡ geometry_of s = some_geometry (sym shown.tells.geometry ∙ of_image apid packets mine are) in
+      let front : take (picture_length done.geometry) new ≡ has.picture =
+      ap (λ n. take n new) (sym has.octets) ∙ ap (take (length has.picture)) has.room ∙ take-append_seam has.picture (drop (length has.picture) old) in
+      record {
+        geometry = geometry;
+        missing = shown.missing ∙ ap (λ g. missing_rows g shown.received) geometry ∙ whole.missing;
+        framing_is = shown.framing_is ∙ ap framing are ∙ whole.framing_is;
+        same = λ all. front ∙ shown.picture_is ∙ ap (λ g. picture_octets g shown.received) geometry ∙ (trip.same s x shown.received image all got).octets;
+      }
+  brings_image apid packets old new (Err NoSegment) refused mine are =
+      absurd (let both : None ≡ Some (geometry_of s) = sym refused.1 ∙ of_image apid packets mine are in cc)
+  brings_image apid packets old new (Err (SmallRoom g)) refused mine are = some_geometry (sym refused.1.0.geometry ∙ of_image apid packets mine are)
+  brings_image apid packets old new (Err Memory) refused mine are = tt
+
+pub brings_back : (apid : ℕ) (packets old new : List ℕ) (result : Result DecodeDone DecodeRefusal) → RoundTrip → ReceivedIsTold → Decodes apid packets old new result → BringsBack apid packets new result
+brings_back apid packets old new result trip told decodes s x mine are image = brings_image trip told s x image apid packets old new result decodes mine are

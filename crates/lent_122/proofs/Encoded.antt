@@ -1,0 +1,159 @@
+-- What a run of the encoder says of the whole raster.
+use Rattle.std.proofs.Common.{◌≡◌, ◌≤◌, ◌<◌, ◌+◌, ◌*◌, ◌∙◌, ℕ, ℤ, Bool, List, [], ◌++◌, length, take, refl, sym, ap, subst, arith, inl, inr, length-append}
+use Rattle.std.specs.Prelude.{Option, Some, None, Result, Ok, Err}
+use Rattle.std.proofs.lemmas.Bool.{cases_lt}
+use Rattle.std.proofs.lemmas.List.{take-append-le}
+use Rattle.std.proofs.Math.Nat.{div-mul-le_self, mul-le-mul_right}
+use Rattle.port_122.specs.Outside.{Outside}
+use Rattle.port_122.proofs.Told.{end_told, given_told}
+use Rattle.base_122.specs.Ranges.{IsInRange, first_out_of_range, refusal}
+use Rattle.base_122.specs.declared.field.Field.{Field}
+use Rattle.base_122.specs.declared.field.OutOfRange.{OutOfRange}
+use Rattle.base_122.specs.declared.setting.Setting.{Setting}
+use Rattle.base_122.proofs.RangeChecks.{none-from_in_range}
+use Rattle.raster_rows.specs.Pixels.{IsPixel, pixel_at, pixel_size, whole_pixels}
+use Rattle.raster_rows.specs.RowReads.{IsFirstBad}
+use Rattle.raster_rows.proofs.PixelPlaces.{size_some, pixel_at-append_left, whole_before, whole_pixels-is, whole_pixels-above}
+use Rattle.raster_rows.proofs.RowsTaken.{none_bad}
+use Rattle.stream_defs.specs.Output.{output}
+use Rattle.strip_coder.specs.declared.encode.EncodeDone.{EncodeDone}
+use Rattle.strip_coder.specs.declared.encode.EncodeFault.TheVariants as faults
+use Rattle.strip_coder.specs.Answers.{EncodesImage, AllInRange, DoneFor, TookRaster, FirstBad}
+use Rattle.strip_coder.specs.Rasters.{image_of, raster_length}
+use Rattle.strip_decoder.specs.Containment.{IsImageFor, ArePixels}
+use Rattle.lent_122.specs.declared.encode.EncodeRefusal.{EncodeRefusal}
+use Rattle.lent_122.specs.declared.encode.EncodeRefusal.TheVariants.{OutOfRange as Refused, Short, Long, BadPixel, SmallRoom, Memory}
+use Rattle.lent_122.specs.Encoding.{HasRun, HasBadPixel, Encodes, Accepts}
+use Rattle.lent_122.proofs.Fronts.{took_front}
+
+-- ---- the setting
+
+-- the field that a check names
+pub field_named : (o : Option Field) (out : OutOfRange) → refusal o ≡ Err out → o ≡ Some out.field
+field_named None out e = absurd cc
+field_named (Some field) out e = let same : Err (record { field = field }) ≡ Err out = e in ap Some (ap (λ (out : OutOfRange). out.field) (let within : record { field = field } ≡ out = cc in within))
+
+-- ---- the raster
+
+short_raster : (s : Setting) (raster : List ℕ) (old new : Outside) (octets : ℕ) → old.rest ≡ Some raster → EncodesImage s old new (Err (faults.Short octets)) →
+    (length raster < raster_length s) × AllInRange s raster
+short_raster s raster old new octets rest run =
+    let answer = run.answer in
+    let took : run.took ≡ raster = end_told raster run.since rest answer.2 in
+    (omega (arith, ap length took, answer.1), subst (AllInRange s) took answer.3)
+
+long_raster : (s : Setting) (raster : List ℕ) (old new : Outside) → old.rest ≡ Some raster → EncodesImage s old new (Err faults.Long) →
+    (raster_length s < length raster) × TookRaster s (take (raster_length s) raster)
+long_raster s raster old new rest run =
+    let answer = run.answer in
+    let front = took_front old.rest new.rest raster run.took rest run.since.rest in
+    let same : take (raster_length s) raster ≡ take (raster_length s) run.took =
+    ap (take (raster_length s)) front.1 ∙ take-append-le (raster_length s) run.took front.0 (omega (arith, answer.0)) in
+    (omega (arith, ap length front.1, length-append run.took front.0, answer.0), subst (TookRaster s) (sym same) answer.1)
+
+-- ---- a value out of range
+
+-- the octets of the pixels up to a place
+whole_octets : (depth : ℕ) (octets : List ℕ) (place : ℕ) → place < whole_pixels depth octets → (place + 1) * pixel_size depth ≤ length octets
+whole_octets depth octets place whole =
+    omega (arith, whole_before (pixel_size depth) place (whole_pixels depth octets) whole, div-mul-le_self (length octets) (pixel_size depth))
+
+-- the first value out of range of some octets is that of more octets
+bad_on : (depth : ℕ) (signed : Bool) (took rest : List ℕ) (place : ℕ) (value : ℤ) → IsFirstBad depth signed took place value → IsFirstBad depth signed (took ++ rest) place value
+bad_on depth signed took rest place value bad =
+    let whole = whole_octets depth took place bad.whole in
+    let same : (k : ℕ) → k < place + 1 → pixel_at depth signed (took ++ rest) k ≡ pixel_at depth signed took k =
+    λ k lt. pixel_at-append_left depth signed took rest k (omega (arith, whole_before (pixel_size depth) k (place + 1) lt, whole)) in
+    record {
+      whole = whole_pixels-above depth (took ++ rest) place (omega (arith, whole, length-append took rest));
+      value_is = bad.value_is ∙ sym (same place (omega arith));
+      bad = bad.bad;
+      earlier = record { each = λ k lt. subst (IsPixel depth signed) (sym (same k (omega (arith, lt)))) (bad.earlier.each k lt) };
+    }
+
+-- a place in a raster is in one of its rows
+in_rows : (rows width size row column : ℕ) → 0 < size → (row * width + column + 1) * size ≤ rows * (width * size) → row < rows
+in_rows rows width size row column some le = elim (cases_lt row rows) [
+  | inl lt ↦ lt
+  | inr over ↦
+      let above : rows * width + 1 ≤ row * width + column + 1 = omega (arith, mul-le-mul_right width over) in
+      let octets : (rows * width + 1) * size ≤ (row * width + column + 1) * size = mul-le-mul_right size above in
+      absurd (omega (arith, octets, le, some, flat rows width size))
+]
+  where
+    flat : (rows width size : ℕ) → (rows * width + 1) * size ≡ rows * (width * size) + size
+    flat rows width size = grind arith
+
+bad_pixel : (s : Setting) (raster : List ℕ) (old new : Outside) (row column : ℕ) (value : ℤ) → IsInRange s → old.rest ≡ Some raster →
+    EncodesImage s old new (Err (faults.BadPixel row column value)) → HasBadPixel s raster row column value
+bad_pixel s raster old new row column value range rest run =
+    let answer = run.answer in
+    let front = took_front old.rest new.rest raster run.took rest run.since.rest in
+    let bad = answer.1 in
+    let place = row * s.width + column in
+    let whole = whole_octets s.depth run.took place bad.first.whole in
+    record {
+      range = range;
+      inside = in_rows s.rows s.width (pixel_size s.depth) row column (size_some s.depth) (omega (arith, whole, answer.0));
+      bad = subst (λ octets. FirstBad s octets row column value) (sym front.1)
+          (record { in_row = bad.in_row; first = bad_on s.depth s.signed run.took front.0 place value bad.first });
+    }
+
+-- ---- the image
+
+-- the pixels of a raster that was taken are in range
+raster_pixels : (s : Setting) (raster : List ℕ) → TookRaster s raster → ArePixels s (image_of s raster)
+raster_pixels s raster whole = record {
+  at = λ i j row column.
+      let size = pixel_size s.depth in
+      let all : length raster ≡ s.rows * s.width * size + 0 = whole.whole ∙ flat s.rows s.width size in
+      let count : whole_pixels s.depth raster ≡ s.rows * s.width = whole_pixels-is s.depth raster (s.rows * s.width) 0 all (size_some s.depth) in
+      let rows : (i + 1) * s.width ≤ s.rows * s.width = whole_before s.width i s.rows row in
+      whole.in_range.each (i * s.width + j) (omega (arith, count, rows, column));
+}
+  where
+    flat : (rows width size : ℕ) → rows * (width * size) ≡ rows * width * size + 0
+    flat rows width size = grind arith
+
+-- the whole raster was taken, and its packets given
+pub record HasEncoded (s : Setting) (raster : List ℕ) (new : Outside) (done : EncodeDone) : Type 0 where
+  pub took : TookRaster s raster
+  pub image : IsImageFor s (image_of s raster)
+  pub done_for : DoneFor s (image_of s raster) done
+  pub gave : (packets : List ℕ) → new.given ≡ Some packets → packets ≡ output s (image_of s raster)
+
+pub has_encoded : (s : Setting) (raster : List ℕ) (old new : Outside) (done : EncodeDone) → IsInRange s → length s.weights.shifts ≡ 10 → old.rest ≡ Some raster → old.given ≡ Some [] →
+    EncodesImage s old new (Ok done) → HasEncoded s raster new done
+has_encoded s raster old new done range ten rest none run =
+    let answer = run.answer in
+    let took : run.took ≡ raster = end_told raster run.since rest answer.1 in
+    let whole : TookRaster s raster = subst (TookRaster s) took answer.0 in
+    record {
+      took = whole;
+      image = record { range = range; weights = ten; pixels = raster_pixels s raster whole };
+      done_for = subst (λ octets. DoneFor s (image_of s octets) done) took answer.3;
+      gave = λ packets gives. given_told [] packets run.since none gives ∙ answer.2 ∙ ap (λ octets. output s (image_of s octets)) took;
+    }
+
+pub refused : (s : Setting) (raster room : List ℕ) (old new : Outside) (refusal : EncodeRefusal) → IsInRange s → old.rest ≡ Some raster → HasRun s old new (Err refusal) → Encodes s raster room room (Err refusal)
+refused s raster room old new (Refused field) range rest run = absurd run
+refused s raster room old new Short range rest run = let short = short_raster s raster old new run.0 rest run.1 in (refl, (range, short.0, short.1))
+refused s raster room old new Long range rest run = let long = long_raster s raster old new rest run in (refl, (range, long.0, long.1))
+refused s raster room old new (BadPixel row column value) range rest run = (refl, bad_pixel s raster old new row column value range rest run)
+refused s raster room old new (SmallRoom octets) range rest run = absurd run
+refused s raster room old new Memory range rest run = (refl, tt)
+
+-- ---- what is right
+
+none_named : (s : Setting) (field : Field) → IsInRange s → first_out_of_range s ≡ Some field → ⊥
+none_named s field range named = let none = none-from_in_range s range in let both : None ≡ Some field = sym none ∙ named in cc
+
+-- a raster that is whole and in range isn't refused
+pub accepts : (s : Setting) (raster old new : List ℕ) (result : Result EncodeDone EncodeRefusal) → Encodes s raster old new result → IsInRange s → TookRaster s raster → Accepts result
+accepts s raster old new (Ok done) encodes range took = tt
+accepts s raster old new (Err (Refused field)) encodes range took = absurd (none_named s field range encodes.1)
+accepts s raster old new (Err Short) encodes range took = absurd (omega (arith, encodes.1.1, took.whole))
+accepts s raster old new (Err Long) encodes range took = absurd (omega (arith, encodes.1.1, took.whole))
+accepts s raster old new (Err (BadPixel row column value)) encodes range took = absurd (none_bad took.in_range encodes.1.bad.first)
+accepts s raster old new (Err (SmallRoom octets)) encodes range took = tt
+accepts s raster old new (Err Memory) encodes range took = tt

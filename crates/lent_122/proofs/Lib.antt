@@ -1,0 +1,6 @@
+pub mod Fronts
+pub mod Encoded
+pub mod ReadOut
+pub mod Found
+pub mod Decoded
+pub mod RasterBack

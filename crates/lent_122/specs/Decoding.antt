@@ -1,0 +1,91 @@
+-- What is answered where all packets are decoded at once. This project's own.
+use Rattle.std.specs.Prelude.{◌≡◌, ◌<◌, ◌+◌, ◌*◌, ◌^◌, ◌-◌, ◌++◌, ℕ, ℤ, List, length, take, drop, Some, None, Result, Ok, Err, ⊤}
+use Rattle.port_122.specs.Outside.{Outside}
+use Rattle.base_122.specs.Ranges.{IsGeometryInRange}
+use Rattle.base_122.specs.Setting.{geometry_of}
+use Rattle.base_122.specs.declared.geometry.Geometry.{Geometry}
+use Rattle.base_122.specs.declared.setting.Setting.{Setting}
+use Rattle.base_122.specs.declared.wish.DecodeWish.{DecodeWish}
+use Rattle.packet_defs.specs.Streams.{framing}
+use Rattle.raster_rows.specs.Pixels.{pixel_size}
+use Rattle.stream_defs.specs.Damage.{missing_rows}
+use Rattle.stream_defs.specs.Fates.{geometry_in}
+use Rattle.stream_defs.specs.Output.{output}
+use Rattle.stream_defs.specs.Picture.{picture_octets}
+use Rattle.stream_defs.specs.Received.{ReceivedIn}
+use Rattle.strip_decoder.specs.declared.decode.DecodeDone.{DecodeDone}
+use Rattle.strip_decoder.specs.declared.decode.DecodeFault.TheVariants as faults
+use Rattle.strip_decoder.specs.Answers.{Decodes as RunsDecoder}
+use Rattle.strip_decoder.specs.Containment.{IsImageFor}
+use Rattle.strip_decoder.specs.RoundTrip.{GivesBack}
+use Rattle.strip_decoder.specs.Runs.{Numbers, holds_after}
+use Rattle.lent_122.specs.declared.decode.DecodeRefusal.{DecodeRefusal}
+use Rattle.lent_122.specs.declared.decode.DecodeRefusal.TheVariants.{NoSegment, SmallRoom, Memory}
+
+-- octets of a picture
+abbrev pub picture_length : Geometry → ℕ
+picture_length g = g.rows * (g.width * pixel_size g.depth)
+
+-- the geometry in these packets
+pub record HasGeometry (apid : ℕ) (packets : List ℕ) (g : Geometry) : Type 0 where
+  pub geometry : geometry_in apid packets ≡ Some g
+  pub range : IsGeometryInRange g
+
+-- ---- a run over a port
+
+-- what a decoder is asked for if no number of pixels or octets is too many
+abbrev pub wish_for : (apid : ℕ) → List ℕ → DecodeWish
+wish_for apid packets = record { apid = apid; pixels = 2 ^ 64 - 1; octets = length packets + 1 }
+
+-- the decoder's own answer: one of these, on a port that never fails
+abbrev pub HasRun : (apid : ℕ) (packets : List ℕ) (old new : Outside) → Result DecodeDone DecodeRefusal → Type 0
+HasRun apid packets old new (Ok done) = RunsDecoder (wish_for apid packets) old new (Ok done)
+HasRun apid packets old new (Err NoSegment) = RunsDecoder (wish_for apid packets) old new (Err faults.NoSegment)
+HasRun apid packets old new (Err Memory) = ⊤
+HasRun apid packets old new (Err other) = ⊥
+
+-- ---- all packets
+
+-- The picture of the segments that are received in the packets, up to their end or what can't be read on. The missing block rows are
+-- those with a block in none of these segments.
+pub record IsShown (apid : ℕ) (packets picture : List ℕ) (done : DecodeDone) : Type 0 where
+  pub tells : HasGeometry apid packets done.geometry
+  pub framing_is : done.framing ≡ framing packets
+  pub rows : done.damage.rows ≡ done.geometry.rows
+  pub received : Numbers
+  pub received_are : ReceivedIn holds_after apid packets received
+  pub picture_is : picture ≡ picture_octets done.geometry received
+  pub missing : done.damage.missing ≡ missing_rows done.geometry received
+
+-- the room begins with it, and the rest of the room is unchanged
+pub record HasPicture (apid : ℕ) (packets old new : List ℕ) (done : DecodeDone) : Type 0 where
+  pub picture : List ℕ
+  pub shown : IsShown apid packets picture done
+  pub octets : length picture ≡ picture_length done.geometry
+  pub room : new ≡ picture ++ drop (length picture) old
+
+-- the cause of a refusal, by the number of octets of the room
+abbrev pub IsRefused : (apid : ℕ) (packets : List ℕ) → (room : ℕ) → DecodeRefusal → Type 0
+IsRefused apid packets room NoSegment = geometry_in apid packets ≡ None
+IsRefused apid packets room (SmallRoom g) = HasGeometry apid packets g × (room < picture_length g)
+IsRefused apid packets room Memory = ⊤
+
+-- The answer and its cause. A refusal leaves the room unchanged.
+abbrev pub Decodes : (apid : ℕ) (packets old new : List ℕ) → Result DecodeDone DecodeRefusal → Type 0
+Decodes apid packets old new (Ok done) = HasPicture apid packets old new done
+Decodes apid packets old new (Err refusal) = (new ≡ old) × IsRefused apid packets (length old) refusal
+
+-- ---- the round trip
+
+-- The answer to all packets of an image: no row of it is missing, and if nothing was left out, each pixel is the same. Otherwise the room
+-- is too small, or there is no memory.
+abbrev pub BringsImage : Setting → (ℕ → ℕ → ℤ) → (new : List ℕ) → Result DecodeDone DecodeRefusal → Type 0
+BringsImage s x new (Ok done) = GivesBack s x (take (picture_length done.geometry) new) done
+BringsImage s x new (Err (SmallRoom g)) = g ≡ geometry_of s
+BringsImage s x new (Err Memory) = ⊤
+BringsImage s x new (Err other) = ⊥
+
+-- the same for each image
+abbrev pub BringsBack : (apid : ℕ) (packets new : List ℕ) → Result DecodeDone DecodeRefusal → Type 0
+BringsBack apid packets new result =
+    (s : Setting) (x : ℕ → ℕ → ℤ) → apid ≡ s.apid → packets ≡ output s x → IsImageFor s x → BringsImage s x new result

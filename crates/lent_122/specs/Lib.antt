@@ -1,0 +1,4 @@
+pub mod Lent
+pub mod Encoding
+pub mod Decoding
+pub mod ComingBack

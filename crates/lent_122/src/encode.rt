@@ -1,0 +1,106 @@
+// Whole rasters in, packets out.
+ghost use Rattle.std.specs.Prelude.{◌≡◌, length};
+ghost use Rattle.base_122.specs.Ranges.{IsInRange};
+ghost use Rattle.lent_122.specs.Lent.{outside_of};
+ghost use Rattle.lent_122.specs.Encoding.{HasRun, Encodes, Accepts};
+ghost use Rattle.strip_coder.specs.Answers.{TookRaster};
+
+use crate::port::LentPort;
+use base_122::{Field, Setting};
+use std::alloc::Global;
+use strip_coder::{EncodeDone, EncodeFault, Work, encode_rows};
+
+/// Why no packets of a raster are given.
+#[derive(Clone, Copy, Debug, PartialEq, Eq)]
+pub enum EncodeRefusal {
+    /// This is the first field of the setting that is out of range.
+    OutOfRange(Field),
+    /// The raster has fewer octets than the setting's width, rows and depth need.
+    Short,
+    /// The raster has more octets than the setting's width, rows and depth need.
+    Long,
+    /// The first value out of range.
+    BadPixel { row: u32, column: u32, value: i32 },
+    /// The room has fewer octets than the packets.
+    SmallRoom { octets: u64 },
+    /// There is no memory.
+    Memory,
+}
+
+/// Encodes a raster, and puts all of its packets at the start of the room; the rest of the room is unchanged, and so is all of it
+/// after a refusal. The causes of the answers exclude each other, so each answer except `Memory` is given exactly if its cause holds.
+pub fn encode_whole(
+    alloc: Global,
+    setting: &Setting,
+    raster: &[u8],
+    room: &mut [u8],
+) -> Result<EncodeDone, EncodeRefusal>
+    ensures encodes { Encodes setting.now raster.now room.old room.new result }
+    ensures accepts { IsInRange setting.now → TookRaster setting.now raster.now → Accepts result }
+{
+    put_packets(alloc, setting, raster, room)
+}
+
+// Encodes a raster, and puts its packets at the start of the room.
+fn put_packets(
+    alloc: Global,
+    setting: &Setting,
+    raster: &[u8],
+    room: &mut [u8],
+) -> Result<EncodeDone, EncodeRefusal>
+    ensures { Encodes setting.now raster.now room.old room.new result }
+{
+    ten_weights(&setting.weights.shifts);
+    if let Err(out) = setting.check() {
+        return Err(EncodeRefusal::OutOfRange(out.field));
+    }
+    let Ok(mut port) = LentPort::new(alloc, raster, room.len()) else {
+        return Err(EncodeRefusal::Memory);
+    };
+    let done = match encode(alloc, setting, &mut port) {
+        Ok(done) => done,
+        Err(refusal) => return Err(refusal),
+    };
+    if done.octets > room.len() as u64 {
+        return Err(EncodeRefusal::SmallRoom {
+            octets: done.octets,
+        });
+    }
+    // The packets fit, so they were kept; but no clause of a port says that it keeps what fits.
+    let Some(packets) = port.given() else {
+        return Err(EncodeRefusal::Memory);
+    };
+    room[..done.octets as usize].copy_from_slice(packets);
+    Ok(done)
+}
+
+// Encodes the raster that a port has.
+fn encode(
+    alloc: Global,
+    setting: &Setting,
+    port: &mut LentPort,
+) -> Result<EncodeDone, EncodeRefusal>
+    requires { IsInRange setting.now }
+    ensures { HasRun setting.now (outside_of port.old) (outside_of port.new) result }
+{
+    let Ok(mut work) = Work::new(alloc, setting) else {
+        return Err(EncodeRefusal::Memory);
+    };
+    match encode_rows(port, setting, &mut work) {
+        Ok(done) => Ok(done),
+        Err(EncodeFault::Short { octets: _ }) => Err(EncodeRefusal::Short),
+        Err(EncodeFault::Long) => Err(EncodeRefusal::Long),
+        Err(EncodeFault::BadPixel { row, column, value }) => {
+            Err(EncodeRefusal::BadPixel { row, column, value })
+        }
+        Err(EncodeFault::ReadFault) => unreachable!(),
+        Err(EncodeFault::WriteFault) => unreachable!(),
+    }
+}
+
+// There are ten weights, which is known once they are read.
+fn ten_weights(shifts: &[u8; 10])
+    ensures { length shifts.now ≡ 10 }
+{
+    let _first = shifts[0];
+}

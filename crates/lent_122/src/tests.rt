@@ -1,0 +1,81 @@
+use crate::{DecodeRefusal, EncodeRefusal, decode_whole, encode_whole};
+use base_122::{Select, Setting, Stop, Weights};
+use std::alloc::Global;
+use std::test::Fail;
+
+// A setting for an image of 17 rows of 24 pixels, of so many bits.
+fn setting(depth: u8) -> Setting {
+    Setting {
+        width: 24,
+        rows: 17,
+        depth,
+        signed: false,
+        segment: 16,
+        limit: 0,
+        fill: false,
+        word: 1,
+        stop: Stop {
+            dc: false,
+            plane: 0,
+            stage: 3,
+        },
+        weights: Weights::usual(),
+        select: Select::Optimal,
+        apid: 100,
+        image: 0,
+        packet: 1024,
+    }
+}
+
+// A raster of this value, in so many octets a pixel.
+fn flat(alloc: Global, size: usize, value: u8) -> Result<Vec<u8>, Fail> {
+    let mut raster = Vec::new(alloc);
+    for _ in 0..408 {
+        if size == 2 {
+            raster.push(0)?;
+        }
+        raster.push(value)?;
+    }
+    Ok(raster)
+}
+
+#[test]
+fn there_and_back(rt: HostRuntime) -> Result<(), Fail> {
+    let alloc = rt.alloc();
+    for (depth, size) in [(8, 1), (12, 2)] {
+        let raster = flat(alloc, size, 77)?;
+        let mut packets = vec![in alloc; 9; 4000]?;
+        let done = encode_whole(alloc, &setting(depth), &raster, &mut packets)?;
+        assert!(rt; done.octets < 4000);
+        let octets = done.octets as usize;
+        let mut back = vec![in alloc; 7; 900]?;
+        let found = decode_whole(alloc, 100, &packets[..octets], &mut back);
+        assert!(rt; found.is_ok());
+        assert!(rt; raster.len() <= back.len());
+        let (picture, rest) = back.split_at(raster.len());
+        assert!(rt; picture == raster.as_slice());
+        assert!(rt; rest.iter().all(|octet| *octet == 7));
+    }
+    Ok(())
+}
+
+#[test]
+fn small_rooms(rt: HostRuntime) -> Result<(), Fail> {
+    let alloc = rt.alloc();
+    let raster = flat(alloc, 2, 77)?;
+    let mut packets = vec![in alloc; 9; 4000]?;
+    let done = encode_whole(alloc, &setting(12), &raster, &mut packets)?;
+    let Err(refusal) = encode_whole(alloc, &setting(12), &raster, &mut []) else {
+        return Err(Fail::from("not refused"));
+    };
+    let octets = done.octets;
+    assert_eq!(rt; refusal, EncodeRefusal::SmallRoom { octets });
+    assert!(rt; octets < 4000);
+    let mut back = vec![in alloc; 7; 815]?;
+    let Err(refusal) = decode_whole(alloc, 100, &packets[..octets as usize], &mut back) else {
+        return Err(Fail::from("not refused"));
+    };
+    let geometry = setting(12).geometry();
+    assert_eq!(rt; refusal, DecodeRefusal::SmallRoom { geometry });
+    Ok(())
+}

@@ -1,0 +1,82 @@
+-- The report on a picture. This project's own.
+use Rattle.std.specs.Prelude.{◌≡◌, ℕ, ◌==◌, ◌&&◌, Bool, true, false, if◌then◌else◌, List, [], ◌∷◌, length, Option, None, Some, is_none, Result, Ok, Err, ⊤}
+use Rattle.base_122.specs.Ranges.{IsGeometryInRange}
+use Rattle.base_122.specs.declared.geometry.Geometry.{Geometry}
+use Rattle.packet_defs.specs.declared.packet.Framing.{Framing}
+use Rattle.packet_defs.specs.declared.packet.Framing.TheVariants.{BadVersion, CutPacket}
+use Rattle.strip_decoder.specs.declared.decode.DecodeDone.{DecodeDone}
+use Rattle.lent_122.specs.declared.decode.DecodeRefusal.{DecodeRefusal}
+use Rattle.lent_122.specs.declared.decode.DecodeRefusal.TheVariants.{NoSegment, SmallRoom, Memory}
+use Rattle.lent_122.specs.Decoding.{picture_length, Decodes, BringsBack}
+use Rattle.strip122_c.specs.declared.decoded.Strip122Decoded.{Strip122Decoded}
+use Rattle.strip122_c.specs.declared.ranges.Strip122Range.{Strip122Range}
+use Rattle.strip122_c.specs.Ranges.{ranges_of, put_over}
+
+abbrev pub nothing : Strip122Decoded
+nothing = record {
+  octets = 0;
+  ranges = 0;
+  fault_octets = 0;
+  width = 0;
+  rows = 0;
+  segment = 0;
+  image = 0;
+  depth = 0;
+  is_signed = 0;
+  word = 0;
+  fault = 0;
+  weights = 0 ∷ 0 ∷ 0 ∷ 0 ∷ 0 ∷ 0 ∷ 0 ∷ 0 ∷ 0 ∷ 0 ∷ [];
+}
+
+-- the report on a geometry: its fields, and the octets of its picture
+abbrev pub geometry_report : Geometry → Strip122Decoded
+geometry_report g = record {
+  octets = picture_length g;
+  ranges = 0;
+  fault_octets = 0;
+  width = g.width;
+  rows = g.rows;
+  segment = g.segment;
+  image = g.image;
+  depth = g.depth;
+  is_signed = if g.signed then 1 else 0;
+  word = g.word;
+  fault = 0;
+  weights = g.weights.shifts;
+}
+
+-- the same, with the reason why the packets can't be read on
+abbrev pub framing_report : Strip122Decoded → Option Framing → Strip122Decoded
+framing_report report None = report
+framing_report report (Some (BadVersion octet)) = record report { fault = 1; fault_octets = octet }
+framing_report report (Some (CutPacket missing)) = record report { fault = 2; fault_octets = missing }
+
+-- the report on a decoding that ended so, with this number of ranges of damaged rows
+abbrev pub report_with : Result DecodeDone DecodeRefusal → (ranges : ℕ) → Strip122Decoded
+report_with (Ok done) ranges = record (framing_report (geometry_report done.geometry) done.framing) { ranges = ranges }
+report_with (Err NoSegment) ranges = nothing
+report_with (Err (SmallRoom g)) ranges = geometry_report g
+report_with (Err Memory) ranges = nothing
+
+-- the answer to it: 0 if no row is damaged and the packets were read to their end
+abbrev pub answer_with : Result DecodeDone DecodeRefusal → (ranges : ℕ) → ℕ
+answer_with (Ok done) ranges = if (ranges == 0) && is_none done.framing then 0 else 1
+answer_with (Err NoSegment) ranges = 6
+answer_with (Err (SmallRoom g)) ranges = 7
+answer_with (Err Memory) ranges = 8
+
+-- the geometry of the report is in range
+abbrev pub HasGeometryInRange : Result DecodeDone DecodeRefusal → Type 0
+HasGeometryInRange (Ok done) = IsGeometryInRange done.geometry
+HasGeometryInRange (Err (SmallRoom g)) = IsGeometryInRange g
+HasGeometryInRange (Err other) = ⊤
+
+-- Packets were decoded into a room that was `old`, or refused. The answer and the report say how it ended, and `ranges` begins with the
+-- ranges of damaged rows, as far as there are places.
+pub record ReportsDecoding (apid : ℕ) (packets old new : List ℕ) (places ranges : List Strip122Range) (report : Strip122Decoded) (answer : ℕ) : Type 0 where
+  pub ended : Result DecodeDone DecodeRefusal
+  pub decodes : Decodes apid packets old new ended
+  pub back : BringsBack apid packets new ended
+  pub answer_is : answer ≡ answer_with ended (length (ranges_of ended))
+  pub report_is : report ≡ report_with ended (length (ranges_of ended))
+  pub ranges_are : ranges ≡ put_over (ranges_of ended) places

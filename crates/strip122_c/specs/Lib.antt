@@ -1,0 +1,4 @@
+pub mod Settings
+pub mod Encoding
+pub mod Ranges
+pub mod Decoding

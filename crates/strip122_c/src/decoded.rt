@@ -1,0 +1,119 @@
+// The report on a picture.
+ghost use Rattle.std.specs.Prelude.{◌≡◌};
+ghost use Rattle.base_122.specs.Ranges.{IsGeometryInRange};
+ghost use Rattle.strip122_c.specs.Decoding.{geometry_report, framing_report, report_with, answer_with, HasGeometryInRange};
+
+use base_122::Geometry;
+use lent_122::{DecodeRefusal, picture_length};
+use packet_defs::Framing;
+use strip_decoder::DecodeDone;
+
+/// What was found, or what room is needed. A field that the answer does not need is 0.
+#[repr(C)]
+#[derive(Clone, Copy, Debug, PartialEq, Eq)]
+pub struct Strip122Decoded {
+    /// Octets of the picture, which the room needs.
+    pub octets: u64,
+    /// Ranges of damaged rows, including those for which there was no place.
+    pub ranges: u64,
+    /// The octet at which a packet has another version, or the octets that are missing from the last packet.
+    pub fault_octets: u64,
+    pub width: u32,
+    pub rows: u32,
+    pub segment: u32,
+    pub image: u16,
+    pub depth: u8,
+    pub is_signed: u8,
+    pub word: u8,
+    /// Why the packets can't be read on: 1 if a packet has another version, 2 if the last one is cut.
+    pub fault: u8,
+    pub weights: [u8; 10],
+}
+
+// Nothing is reported.
+const NOTHING: Strip122Decoded = Strip122Decoded {
+    octets: 0,
+    ranges: 0,
+    fault_octets: 0,
+    width: 0,
+    rows: 0,
+    segment: 0,
+    image: 0,
+    depth: 0,
+    is_signed: 0,
+    word: 0,
+    fault: 0,
+    weights: [0; 10],
+};
+
+/// The report on a decoding that ended so, with this number of ranges of damaged rows.
+pub fn report_of(ended: &Result<DecodeDone, DecodeRefusal>, ranges: u64) -> Strip122Decoded
+    requires { HasGeometryInRange ended.now }
+    ensures { result ≡ report_with ended.now ranges }
+{
+    match ended {
+        Ok(done) => picture_report(done, ranges),
+        Err(DecodeRefusal::SmallRoom { geometry }) => geometry_report(geometry),
+        Err(_) => NOTHING,
+    }
+}
+
+// The report on a picture.
+fn picture_report(done: &DecodeDone, ranges: u64) -> Strip122Decoded
+    requires { IsGeometryInRange done.now.geometry }
+    ensures { result ≡ record (framing_report (geometry_report done.now.geometry) done.now.framing) { ranges = ranges } }
+{
+    let mut report = geometry_report(&done.geometry);
+    report.ranges = ranges;
+    match done.framing {
+        None => {}
+        Some(Framing::BadVersion { octet }) => {
+            report.fault = 1;
+            report.fault_octets = octet;
+        }
+        Some(Framing::CutPacket { missing }) => {
+            report.fault = 2;
+            report.fault_octets = u64::from(missing);
+        }
+    }
+    report
+}
+
+// The report on a geometry: its fields, and the octets of its picture.
+fn geometry_report(geometry: &Geometry) -> Strip122Decoded
+    requires { IsGeometryInRange geometry.now }
+    ensures { result ≡ geometry_report geometry.now }
+{
+    Strip122Decoded {
+        octets: picture_length(geometry) as u64,
+        ranges: 0,
+        fault_octets: 0,
+        width: geometry.width,
+        rows: geometry.rows,
+        segment: geometry.segment,
+        image: geometry.image,
+        depth: geometry.depth,
+        is_signed: u8::from(geometry.signed),
+        word: geometry.word,
+        fault: 0,
+        weights: geometry.weights.shifts,
+    }
+}
+
+/// The answer to a decoding that ended so, with this number of ranges of damaged rows.
+pub fn answer_of(ended: &Result<DecodeDone, DecodeRefusal>, ranges: u64) -> u32
+    ensures { result ≡ answer_with ended.now ranges }
+{
+    match ended {
+        Ok(done) => {
+            if ranges == 0 && done.framing.is_none() {
+                0
+            } else {
+                1
+            }
+        }
+        Err(DecodeRefusal::NoSegment) => 6,
+        Err(DecodeRefusal::SmallRoom { .. }) => 7,
+        Err(DecodeRefusal::Memory) => 8,
+    }
+}

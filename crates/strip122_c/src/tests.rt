@@ -1,0 +1,171 @@
+use crate::{
+    Strip122Decoded, Strip122Encoded, Strip122Range, Strip122Setting, strip122_decode,
+    strip122_encode,
+};
+use std::alloc::Global;
+use std::process::Abort;
+use std::test::Fail;
+
+// A setting for an image of 24 columns, in segments of 16 blocks.
+fn setting(rows: u32, depth: u8) -> Strip122Setting {
+    Strip122Setting {
+        width: 24,
+        rows,
+        segment: 16,
+        limit: 0,
+        packet: 1024,
+        apid: 100,
+        image: 5,
+        depth,
+        is_signed: 0,
+        fill: 0,
+        word: 1,
+        stop_dc: 0,
+        stop_plane: 0,
+        stop_stage: 3,
+        optimal: 1,
+        weights: [0, 1, 1, 1, 2, 2, 2, 3, 3, 3],
+    }
+}
+
+// The answer, and what is report.
+fn encode(
+    alloc: Global,
+    setting: &Strip122Setting,
+    raster: &[u8],
+    room: &mut [u8],
+) -> (u32, Strip122Encoded) {
+    let mut report = Strip122Encoded {
+        octets: 9,
+        packets: 9,
+        segments: 9,
+        field: 9,
+        row: 9,
+        column: 9,
+        value: 9,
+    };
+    let answer = strip122_encode(alloc, setting, raster, room, &mut report);
+    (answer, report)
+}
+
+#[test]
+fn rasters(rt: HostRuntime) -> Result<(), Fail> {
+    let alloc = rt.alloc();
+    let mut raster = vec![in alloc; 77; 408]?;
+    raster.push(77)?;
+    let mut room = vec![in alloc; 0; 1000]?;
+    for (depth, octets, size, answer) in [
+        (8, 408, 1000, 0),
+        (17, 408, 1000, 2),
+        (8, 407, 1000, 3),
+        (8, 409, 1000, 4),
+        (6, 408, 1000, 5),
+        (8, 408, 3, 7),
+    ] {
+        let octets = octets.min(raster.len());
+        let size = size.min(room.len());
+        let (got, report) = encode(
+            alloc,
+            &setting(17, depth),
+            &raster[..octets],
+            &mut room[..size],
+        );
+        assert_eq!(rt; got, answer);
+        assert_eq!(rt; report.octets > 3, answer == 0 || answer == 7);
+        assert_eq!(rt; report.field, if answer == 2 { 3 } else { 0 });
+        assert_eq!(rt; report.value, if answer == 5 { 77 } else { 0 });
+    }
+    Ok(())
+}
+
+const NO_RANGE: Strip122Range = Strip122Range { first: 9, last: 9 };
+
+// The answer, what is report, and two places for ranges.
+fn decode(
+    alloc: Global,
+    packets: &[u8],
+    room: &mut [u8],
+) -> (u32, Strip122Decoded, [Strip122Range; 2]) {
+    let mut ranges = [NO_RANGE; 2];
+    let mut report = Strip122Decoded {
+        octets: 9,
+        ranges: 9,
+        fault_octets: 9,
+        width: 9,
+        rows: 9,
+        segment: 9,
+        image: 9,
+        depth: 9,
+        is_signed: 9,
+        word: 9,
+        fault: 9,
+        weights: [9; 10],
+    };
+    let answer = strip122_decode(alloc, 100, packets, room, &mut ranges, &mut report);
+    (answer, report, ranges)
+}
+
+// The packets of a flat image of 64 rows, in two segments, which end at block 16 of 24 and at the last one.
+fn two_segments(rt: &impl Abort, alloc: Global) -> Result<Vec<u8>, Fail> {
+    let raster = vec![in alloc; 77; 24 * 64]?;
+    let mut packets = vec![in alloc; 0; 3000]?;
+    let (answer, report) = encode(alloc, &setting(64, 8), &raster, &mut packets);
+    assert_eq!(rt; answer, 0);
+    assert_eq!(rt; report.segments, 2);
+    packets.truncate(report.octets as usize);
+    Ok(packets)
+}
+
+#[test]
+fn pictures(rt: HostRuntime) -> Result<(), Fail> {
+    let alloc = rt.alloc();
+    let packets = two_segments(&rt, alloc)?;
+    let mut room = vec![in alloc; 0; 24 * 64]?;
+    let (answer, report, ranges) = decode(alloc, &packets, &mut room);
+    assert_eq!(rt; answer, 0);
+    assert_eq!(rt; (report.octets, report.ranges, report.image), (1536, 0, 5));
+    assert!(rt; ranges == [NO_RANGE; 2]);
+    assert!(rt; room.iter().all(|octet| *octet == 77));
+    Ok(())
+}
+
+#[test]
+fn losses(rt: HostRuntime) -> Result<(), Fail> {
+    let alloc = rt.alloc();
+    let mut packets = two_segments(&rt, alloc)?;
+    let _last = packets.pop();
+    let mut room = vec![in alloc; 0; 24 * 64]?;
+    let (answer, report, ranges) = decode(alloc, &packets, &mut room);
+    assert_eq!(rt; answer, 1);
+    assert_eq!(rt;
+        (report.ranges, report.fault, report.fault_octets),
+        (1, 2, 1)
+    );
+    assert!(rt;
+        ranges
+            == [
+                Strip122Range {
+                    first: 19,
+                    last: 63
+                },
+                NO_RANGE
+            ]
+    );
+    Ok(())
+}
+
+#[test]
+fn refusals(rt: HostRuntime) -> Result<(), Fail> {
+    let alloc = rt.alloc();
+    let packets = two_segments(&rt, alloc)?;
+    let (answer, report, _) = decode(alloc, &packets, &mut []);
+    assert_eq!(rt; answer, 7);
+    assert_eq!(rt;
+        (report.octets, report.width, report.rows, report.depth),
+        (1536, 24, 64, 8)
+    );
+    let (answer, report, _) = decode(alloc, b"no packets", &mut []);
+    assert_eq!(rt; answer, 6);
+    assert_eq!(rt; report.octets, 0);
+    Ok(())
+}
