@@ -292,6 +292,8 @@ def gray_table(form: Format, most: int) -> List[int]:
 
 
 def looked_up(row: Numbers, table: List[int], code: str) -> Numbers:
+    if code == "B":
+        return Numbers("B", row.tobytes().translate(bytes(table)))
     return Numbers(code, map(table.__getitem__, row))
 
 
@@ -334,6 +336,14 @@ def png(array: Any, rows_damaged: Iterable[range] = (), depth: Optional[int] = N
     return png_of(raster, form, rows_damaged)
 
 
+def pixels_of(colours: List[Numbers]) -> Numbers:
+    """Returns a row of pixels of three colours; the last one that is given serves for those that are not."""
+    row = colours[0] * 3
+    for place in range(3):
+        row[place::3] = colours[min(place, len(colours) - 1)]
+    return row
+
+
 def png_of(raster: bytes, form: Format, rows_damaged: Iterable[range] = ()) -> bytes:
     damaged = {row for it in rows_damaged for row in it}
     bits, code = (8, "B") if form.depth <= 8 else (16, "H")
@@ -341,13 +351,11 @@ def png_of(raster: bytes, form: Format, rows_damaged: Iterable[range] = ()) -> b
     dim = [it // 2 for it in gray]
     red = [it + (1 << bits - 1) for it in dim]
     lines, rows = [], 0
-    for number, row in enumerate(raster_rows(raster, form)):
+    for row in raster_rows(raster, form):
+        tables = (red, dim) if rows in damaged else (gray,)
+        colours = [looked_up(row, it, code) for it in tables]
+        lines.append(b"\0" + swapped(pixels_of(colours) if damaged else colours[0]).tobytes())
         rows += 1
-        colours = (red, dim, dim) if number in damaged else (gray, gray, gray)
-        line = Numbers(code, bytes(row.itemsize * len(row) * 3)) if damaged else looked_up(row, gray, code)
-        for place, table in enumerate(colours if damaged else ()):
-            line[place::3] = looked_up(row, table, code)
-        lines.append(b"\0" + swapped(line).tobytes())
     size = struct.pack(">IIBBBBB", form.width, rows, bits, 2 if damaged else 0, 0, 0, 0)
     chunks = [(b"IHDR", size), (b"IDAT", zlib.compress(b"".join(lines))), (b"IEND", b"")]
     return b"\x89PNG\r\n\x1a\n" + b"".join(

@@ -68,10 +68,14 @@ def counted_on(packet, count):
     return packet[:2] + struct.pack(">H", packet[2] >> 6 << 14 | count % 16384) + packet[4:]
 
 
+def octets_by(chance, count):
+    return chance.getrandbits(8 * count).to_bytes(count, "big") if count else b""
+
+
 def of_others(chance):
     """A packet of no image: idle, a telecommand, of another source, or of another coder."""
     kind = chance.choice([0x0FFF, 0x1864, 0x0064, 0x0864])
-    data = b"\0\1" + chance.randbytes(chance.randint(1, 300))
+    data = b"\0\1" + octets_by(chance, chance.randint(1, 300))
     return struct.pack(">HHH", kind, 0xC000 | chance.randrange(16384), len(data) - 1) + data
 
 
@@ -132,10 +136,10 @@ class Tries:
         """Junk before, between and after the packets: random octets, zeros, fronts of headers and tails of packets."""
         packets, chance = self.all(), self.chance
         for kind in range(4):
-            octets = [chance.randbytes(5000)]
+            octets = [octets_by(chance, 5000)]
             for it in packets:
                 other = chance.choice(packets)
-                junk = [chance.randbytes(90), bytes(50), other[:29], other[chance.randrange(7, len(other)) :]][kind]
+                junk = [octets_by(chance, 90), bytes(50), other[:29], other[chance.randrange(7, len(other)) :]][kind]
                 octets += [it, junk]
             self.expect(b"".join(octets), packets, skipped=sum(map(len, octets)) - sum(map(len, packets)))
 
@@ -202,7 +206,7 @@ class Tries:
         streams[2].reverse()
         twice = streams[4][5:9] + streams[5][2:4]
         kept = [it for them in streams for it in them]
-        octets = kept[: len(kept) // 2] + [self.chance.randbytes(5000)] + kept[len(kept) // 2 :] + twice
+        octets = kept[: len(kept) // 2] + [octets_by(self.chance, 5000)] + kept[len(kept) // 2 :] + twice
         images, table = self.expect(b"".join(octets), kept, skipped=5000)
         assert len(images) == 6 and sum(it.duplicates for it in images) == len(twice)
         assert images[0].missing == [range(place_of(lost)[0], place_of(lost)[0] + 1)] and not table.is_whole
@@ -246,7 +250,7 @@ class Tries:
     def replaced_tail(self):
         """The tail of a packet is junk: no one can tell, but a second copy that leads on goes before it."""
         packets = self.packets[7, 1]
-        spoiled = packets[3][:60] + self.chance.randbytes(5000)
+        spoiled = packets[3][:60] + octets_by(self.chance, 5000)
         octets = b"".join(packets[:3]) + spoiled + b"".join(packets[4:])
         images, _ = ground.sort(octets)
         assert [it.place for it in images[0].packets if not it.leads_on] == [place_of(packets[3])]
@@ -276,7 +280,7 @@ class Tries:
         status, octets, _ = run(self.program, "encode", raster, width=WIDTH, rows=0, apid=7, image=1, segment=16, packet=65536)
         told = [it[:6] + b"\x12\x21" + it[8:10] + bytes(4) + it[14:] for it in packets]
         assert status != 0 or packets_of(octets) == told
-        images, table = ground.sort(self.chance.randbytes(99) + b"".join(told[::-1] + packets[::2]))
+        images, table = ground.sort(octets_by(self.chance, 99) + b"".join(told[::-1] + packets[::2]))
         assert [it.stream for it in images] == [b"".join(told), b"".join(packets[::2])]
         assert images[0].is_whole and images[0].rows == ROWS and not images[1].is_whole
         images, table = ground.sort(b"".join(told[:-1]))
@@ -297,7 +301,7 @@ class Tries:
                 if kind in ("before junk", "after another", "whole"):
                     octets.append(it)
                     kept.add(it)
-                octets.append(chance.randbytes(chance.randrange(400)) if kind == "before junk" else b"")
+                octets.append(octets_by(chance, chance.randrange(400)) if kind == "before junk" else b"")
             images, table = ground.sort(b"".join(octets), (), self.program)
             places = {(it.key[:2], place) for it in images for place in it.copies}
             assert all((key_of(it), place_of(it)) in places for it in kept), str(table)
@@ -389,7 +393,7 @@ class Tries:
 
         packets = self.all()
         (folder / "first").write_bytes(b"".join(packets[::2]))
-        (folder / "second").write_bytes(self.chance.randbytes(5000) + b"".join(packets[1::2]))
+        (folder / "second").write_bytes(octets_by(self.chance, 5000) + b"".join(packets[1::2]))
         table, _ = told(0, "sort", "--into", "sorted", "first", "second")
         assert "5000 skipped" in table
         for (apid, image), them in self.packets.items():
