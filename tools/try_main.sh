@@ -51,7 +51,7 @@ for word in version --version -V; do
     expect_full 5 "" $word
 done
 "$program" help >output
-head -n 1 output | grep -q '^usage: strip122 encode ' || wrong=1
+head -n 1 output | grep -q '^usage: strip122 COMMAND ' || wrong=1
 for word in help --help -h; do
     expect 0 "" $word
     expect_full 5 "" $word

@@ -14,4 +14,4 @@ mod values;
 pub use command::{Command, WordFault};
 pub use reading::read_words;
 pub use tables::Reading;
-pub use usage::keys_usage;
+pub use usage::{commands_usage, keys_usage};

@@ -165,22 +165,26 @@ const KEYS: [(&str, KeyRow); COUNT] = [
     key_row! { "seed": Value::Number(0), None, Range::All, What },
 ];
 
-/// A command's name, what it does, and its keys.
-pub type CommandRow = (&'static str, Task, &'static [Key]);
+/// A command's name, what it does, its keys, and what a user is told of it.
+pub type CommandRow = (&'static str, Task, &'static [Key], &'static str);
 
 macro_rules! command_row {
-    ($text:literal: $task:expr, $($key:ident)+) => { ($text, $task, &[$(Key::$key),+]) };
+    ($text:literal: $task:expr, $about:literal, $($key:ident)+) => { ($text, $task, &[$(Key::$key),+], $about) };
 }
 
 /// The table of commands.
 pub const COMMANDS: [CommandRow; 6] = [
-    command_row! { "encode": Task::Encode,
+    command_row! { "encode": Task::Encode, "raster in, space packets out, each as soon as the rows determine it",
         Width Rows Depth Signed Segment Limit Fill Word Stop Weights Select Apid Image Packet },
-    command_row! { "decode": Task::Read(Reading::Decode), Apid Pixels Octets },
-    command_row! { "damage": Task::Read(Reading::Damage), Apid Pixels Octets },
-    command_row! { "list": Task::Read(Reading::List), Apid Octets },
-    command_row! { "make": Task::Make, Width Rows Depth Signed Seed },
-    command_row! { "trial": Task::Trial,
+    command_row! { "decode": Task::Read(Reading::Decode), "packets in, raster out, each row as soon as the packets determine it",
+        Apid Pixels Octets },
+    command_row! { "damage": Task::Read(Reading::Damage), "packets in, a line FIRST-LAST out for rows that what is lost may reach",
+        Apid Pixels Octets },
+    command_row! { "list": Task::Read(Reading::List), "packets in, a line out for each: its number, and what became of it",
+        Apid Octets },
+    command_row! { "make": Task::Make, "a made raster out; nothing is read",
+        Width Rows Depth Signed Seed },
+    command_row! { "trial": Task::Trial, "a made image there and back in memory, and a line of what was counted",
         Width Rows Depth Signed Segment Limit Fill Word Stop Weights Select Apid Image Packet Seed },
 ];
 

@@ -1,4 +1,4 @@
-// The usage text's part on keys.
+// The usage text's parts on commands and keys.
 use crate::tables::{ALL, COMMANDS, Form, GROUPS, Key, KeyRow, Range};
 use crate::values::Value;
 use base_122::{FieldRange, Select};
@@ -9,6 +9,22 @@ use std::alloc::{AllocError, Global};
 const COMMANDS_AT: usize = 47;
 
 const LINE_END: usize = 80;
+
+// The column at which it is told what a command does.
+const ABOUT_AT: usize = 8;
+
+/// What a user is told of all commands: a line for each.
+pub fn commands_usage(alloc: Global) -> Result<String, AllocError> {
+    let mut text = String::new(alloc);
+    for (name, _, _, about) in COMMANDS {
+        let start = text.len();
+        text.push_str(name)?;
+        push_spaces(&mut text, start, ABOUT_AT)?;
+        text.push_str(about)?;
+        text.push_str("\n")?;
+    }
+    Ok(text)
+}
 
 /// What a user is told of all keys, by groups: of each key its range, its default and the commands that have it.
 pub fn keys_usage(alloc: Global) -> Result<String, AllocError> {
@@ -40,13 +56,13 @@ fn push_key(text: &mut String, key: Key) -> Result<(), AllocError> {
 // The commands that have a key, in a column of their own. The key's line begins at `start`.
 fn push_commands(text: &mut String, key: Key, start: usize) -> Result<(), AllocError> {
     let mut start = start;
-    push_spaces(text, start)?;
-    for (name, _, keys) in COMMANDS {
+    push_spaces(text, start, COMMANDS_AT)?;
+    for (name, _, keys, _) in COMMANDS {
         if key.is_among(keys) {
             if text.len().saturating_sub(start) + name.len() >= LINE_END {
                 text.push_str("\n")?;
                 start = text.len();
-                push_spaces(text, start)?;
+                push_spaces(text, start, COMMANDS_AT)?;
             }
             text.push_str(" ")?;
             text.push_str(name)?;
@@ -55,8 +71,8 @@ fn push_commands(text: &mut String, key: Key, start: usize) -> Result<(), AllocE
     Ok(())
 }
 
-fn push_spaces(text: &mut String, start: usize) -> Result<(), AllocError> {
-    for _ in text.len().saturating_sub(start)..COMMANDS_AT {
+fn push_spaces(text: &mut String, start: usize, column: usize) -> Result<(), AllocError> {
+    for _ in text.len().saturating_sub(start)..column {
         text.push_str(" ")?;
     }
     Ok(())

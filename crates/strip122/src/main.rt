@@ -11,7 +11,7 @@ ghost use Rattle.top_122.specs.Run.{Runs};
 ghost use Rattle.strip122.specs.declared.Answer.{Answer};
 ghost use Rattle.strip122.specs.Answers.{IsAnswer, words_fault};
 
-use command_words::keys_usage;
+use command_words::{commands_usage, keys_usage};
 use port_122::{Port, StdPort};
 use std::alloc::{AllocError, Global};
 use std::env;
@@ -28,20 +28,15 @@ const WRITE_FAULT: u8 = 5;
 // The status where there is no memory for the words.
 const NO_MEMORY: u8 = 6;
 
-// The usage text as far as the keys.
+// The usage text before the commands.
 const USAGE: &str = "\
-usage: strip122 encode width=N rows=N [KEY=VALUE ..]
-       strip122 decode|damage|list [KEY=VALUE ..]
-       strip122 make|trial width=N rows=N [KEY=VALUE ..]
+usage: strip122 COMMAND [KEY=VALUE ..]
        strip122 help | version
 
-encode  raster in, space packets out, each as soon as the rows determine it
-decode  packets in, raster out, each row as soon as the packets determine it
-damage  packets in, a line FIRST-LAST out for rows that what is lost may reach
-list    packets in, a line out for each: its number, and what became of it
-make    a made raster out; nothing is read
-trial   a made image there and back in memory, and a line of what was counted
+";
 
+// The usage text between the commands and the keys.
+const RASTERS: &str = "
 A raster has its rows from the top; a pixel has one octet where depth is at most
 8, else two, the greater first. A trial has at most 2^24 pixels.
 
@@ -81,7 +76,7 @@ fn answer_to(words: &[String]) -> Option<Answer>
     }
 }
 
-// The text of an answer. The usage text has a line for each key, made from the table of keys.
+// The text of an answer. The usage text has a line for each command and each key, made from their tables.
 fn answer_text(alloc: Global, answer: Answer) -> Result<String, AllocError> {
     match answer {
         Answer::Help => usage(alloc),
@@ -91,6 +86,8 @@ fn answer_text(alloc: Global, answer: Answer) -> Result<String, AllocError> {
 
 fn usage(alloc: Global) -> Result<String, AllocError> {
     let mut text = String::from_str(alloc, USAGE)?;
+    text.push_str(commands_usage(alloc)?.as_str())?;
+    text.push_str(RASTERS)?;
     text.push_str(keys_usage(alloc)?.as_str())?;
     text.push_str(STATUSES)?;
     Ok(text)
