@@ -28,7 +28,7 @@ fn setting(rows: u32, depth: u8) -> Strip122Setting {
     }
 }
 
-// The answer, and what is report.
+// The answer and the report.
 fn encode(
     alloc: Global,
     setting: &Strip122Setting,
@@ -48,39 +48,31 @@ fn encode(
     (answer, report)
 }
 
+// A flat raster gets this answer, and the report has what belongs to it.
+fn expect(rt: &impl Abort, alloc: Global, depth: u8, raster: &[u8], room: &mut [u8], answer: u32) {
+    let (got, report) = encode(alloc, &setting(17, depth), raster, room);
+    assert_eq!(rt; got, answer);
+    assert_eq!(rt; report.octets > 3, answer == 0 || answer == 7);
+    assert_eq!(rt; report.field, if answer == 2 { 3 } else { 0 });
+    assert_eq!(rt; report.value, if answer == 5 { 77 } else { 0 });
+}
+
 #[test]
-fn rasters(rt: HostRuntime) -> Result<(), Fail> {
+fn rasters(rt: HostRuntime) {
     let alloc = rt.alloc();
-    let mut raster = vec![in alloc; 77; 408]?;
-    raster.push(77)?;
-    let mut room = vec![in alloc; 0; 1000]?;
-    for (depth, octets, size, answer) in [
-        (8, 408, 1000, 0),
-        (17, 408, 1000, 2),
-        (8, 407, 1000, 3),
-        (8, 409, 1000, 4),
-        (6, 408, 1000, 5),
-        (8, 408, 3, 7),
-    ] {
-        let octets = octets.min(raster.len());
-        let size = size.min(room.len());
-        let (got, report) = encode(
-            alloc,
-            &setting(17, depth),
-            &raster[..octets],
-            &mut room[..size],
-        );
-        assert_eq!(rt; got, answer);
-        assert_eq!(rt; report.octets > 3, answer == 0 || answer == 7);
-        assert_eq!(rt; report.field, if answer == 2 { 3 } else { 0 });
-        assert_eq!(rt; report.value, if answer == 5 { 77 } else { 0 });
-    }
-    Ok(())
+    let raster = [77; 409];
+    let mut room = [0; 1000];
+    expect(&rt, alloc, 8, &raster[..408], &mut room, 0);
+    expect(&rt, alloc, 17, &raster[..408], &mut room, 2);
+    expect(&rt, alloc, 8, &raster[..407], &mut room, 3);
+    expect(&rt, alloc, 8, &raster, &mut room, 4);
+    expect(&rt, alloc, 6, &raster[..408], &mut room, 5);
+    expect(&rt, alloc, 8, &raster[..408], &mut room[..3], 7);
 }
 
 const NO_RANGE: Strip122Range = Strip122Range { first: 9, last: 9 };
 
-// The answer, what is report, and two places for ranges.
+// The answer, the report, and two places for ranges.
 fn decode(
     alloc: Global,
     packets: &[u8],
