@@ -150,7 +150,7 @@ class Picture(NamedTuple):
 
 
 def decode(source: Source, apid: Optional[int] = None, program: Optional[str] = None, **keys: object) -> Picture:
-    """Decodes a stream as it is. The identifier, if it is not given, is that of the first packet of this coder."""
+    """Returns what the program decodes of a stream. The identifier is by default that of the first packet of this coder."""
     stream = octets_of(source)
     if apid is None:
         first = next(iter(headers_in(stream)), None)
@@ -190,11 +190,11 @@ def mask(array: Any, rows_damaged: Iterable[range]) -> Any:
     """Returns an array of the same size that is 1 in damaged rows, and 0 in all others."""
     damaged = {row for it in rows_damaged for row in it}
     rows = [Numbers("B", bytes([number in damaged]) * len(row)) for number, row in enumerate(array)]
-    return numpy.array(rows, dtype="uint8") if numpy else rows
+    return numpy.array(rows, dtype="uint8").reshape(numpy.shape(array)) if numpy else rows
 
 
 def array_of(raster: bytes, form: Format) -> Any:
-    """The array of a raster, with the bytes of a number in this machine's order."""
+    """Returns the array of a raster."""
     code = type_code(form.depth, form.signed)
     if numpy:
         octets = numpy.dtype(code).newbyteorder(">")
@@ -209,7 +209,7 @@ def type_code(depth: int, signed: bool) -> str:
 
 
 def swapped(numbers: Numbers) -> Numbers:
-    """These numbers with their octets from this machine's order to the raster's, or back."""
+    """Turns the octets of numbers from this machine's order to that of a raster, or back, and returns the numbers."""
     if sys.byteorder == "little":
         numbers.byteswap()
     return numbers
@@ -221,10 +221,10 @@ def swapped(numbers: Numbers) -> Numbers:
 def write(
     array: Any, depth: Optional[int] = None, signed: Optional[bool] = None, program: Optional[str] = None, **keys: object
 ) -> bytes:
-    """The packets of an array of rows, by the program.
+    """Returns the packets that the program gives of an array of rows.
 
-    Depth and sign are those of the array's type where they are not given: 8 or 16 bits, or 1 for booleans. Other keys
-    are those of `strip122 encode`.
+    Depth and sign are by default those of the array's type: 8 or 16 bits, or 1 for booleans. Other keys are those of
+    `strip122 encode`.
     """
     raster, form = raster_of(array, depth, signed)
     size = {"width": form.width, "rows": len(array), "depth": form.depth, "signed": form.signed}
@@ -236,11 +236,13 @@ def words_of(keys: Dict[str, object]) -> List[str]:
 
 
 def raster_of(array: Any, depth: Optional[int] = None, signed: Optional[bool] = None) -> Tuple[bytes, Format]:
-    """The raster of an array of rows, and its format."""
+    """Returns the raster of an array of rows, and its format."""
     known_depth, known_sign = type_of(array)
-    depth, signed = depth or known_depth, known_sign if signed is None else bool(signed)
-    if depth is None or signed is None or not 1 <= depth <= 16:
-        raise GroundError(BAD_WORDS, "the array's type has no depth of 1 to 16 and no sign: name depth and signed")
+    depth, signed = known_depth if depth is None else depth, known_sign if signed is None else bool(signed)
+    if depth is None or signed is None:
+        raise GroundError(BAD_WORDS, "the array's type gives no depth and sign: name depth and signed")
+    if not 1 <= depth <= 16:
+        raise GroundError(BAD_WORDS, f"depth {depth} is not 1 to 16")
     least = -(1 << depth - 1) if signed else 0
     most = least + (1 << depth) - 1
     rows = numpy.asarray(array) if numpy else array
@@ -259,7 +261,7 @@ def raster_of(array: Any, depth: Optional[int] = None, signed: Optional[bool] = 
 
 
 def type_of(array: Any) -> Tuple[Optional[int], Optional[bool]]:
-    """Depth and sign of an array's type, None where it doesn't say them."""
+    """Returns the depth and sign of an array's type, or None if it gives none."""
     if numpy:
         kind = numpy.asarray(array).dtype
         if kind.kind not in "bui" or numpy.ndim(array) != 2:
@@ -280,7 +282,7 @@ def extremes(rows: Any) -> Tuple[int, int]:
 
 
 def gray_table(form: Format, most: int) -> List[int]:
-    """For each pattern of a pixel's octets the gray from 0 to `most`; signed values are moved up by half their range."""
+    """Returns a gray from 0 to `most` for each pattern of a pixel's octets. Signed values are moved up by half their range."""
     patterns = 1 << (8 if form.depth <= 8 else 16)
     top, half = (1 << form.depth) - 1, 1 << form.depth - 1
 
@@ -298,19 +300,25 @@ def looked_up(row: Numbers, table: List[int], code: str) -> Numbers:
 
 
 def raster_rows(raster: bytes, form: Format) -> Iterator[Numbers]:
-    """The rows of a raster, as patterns without a sign."""
+    """Yields the rows of a raster, as patterns without a sign."""
     size = form.width * (1 if form.depth <= 8 else 2)
     for at in range(0, len(raster), size):
         yield swapped(Numbers(type_code(form.depth, False), raster[at : at + size]))
 
 
+def need_rows(raster: bytes) -> None:
+    if not raster:
+        raise GroundError(BAD_INPUT, "the picture has no rows")
+
+
 def pgm(array: Any, depth: Optional[int] = None) -> bytes:
-    """A raw PGM of an array; signed values are moved up by half their range."""
+    """Returns a raw PGM of an array. Signed values are moved up by half their range."""
     raster, form = raster_of(array, depth)
     return pgm_of(raster, form)
 
 
 def pgm_of(raster: bytes, form: Format) -> bytes:
+    need_rows(raster)
     top, code = (1 << form.depth) - 1, type_code(form.depth, False)
     table = gray_table(form, top)
     rows = [swapped(looked_up(it, table, code)).tobytes() for it in raster_rows(raster, form)]
@@ -318,7 +326,7 @@ def pgm_of(raster: bytes, form: Format) -> bytes:
 
 
 def read_pgm(octets: bytes) -> Tuple[Any, int]:
-    """The array of a raw PGM, and the depth of its greatest value."""
+    """Returns the array of a raw PGM, and the depth of its greatest value."""
     found = re.match(rb"P5(?:\s+|#[^\n]*\n)+(\d+)(?:\s+|#[^\n]*\n)+(\d+)(?:\s+|#[^\n]*\n)+(\d+)\s", octets)
     if not found:
         raise GroundError(BAD_INPUT, "no raw PGM (P5)")
@@ -331,7 +339,7 @@ def read_pgm(octets: bytes) -> Tuple[Any, int]:
 
 
 def png(array: Any, rows_damaged: Iterable[range] = (), depth: Optional[int] = None) -> bytes:
-    """A PNG of an array, its grays stretched to 8 or 16 bits, and its damaged rows tinted red."""
+    """Returns a PNG of an array, its grays stretched to 8 or 16 bits, and its damaged rows tinted red."""
     raster, form = raster_of(array, depth)
     return png_of(raster, form, rows_damaged)
 
@@ -345,6 +353,7 @@ def pixels_of(colours: List[Numbers]) -> Numbers:
 
 
 def png_of(raster: bytes, form: Format, rows_damaged: Iterable[range] = ()) -> bytes:
+    need_rows(raster)
     damaged = {row for it in rows_damaged for row in it}
     bits, code = (8, "B") if form.depth <= 8 else (16, "H")
     gray = gray_table(form, (1 << bits) - 1)
@@ -367,7 +376,7 @@ def png_of(raster: bytes, form: Format, rows_damaged: Iterable[range] = ()) -> b
 
 
 def load(path: str) -> bytes:
-    """The octets of a file, or of standard input for `-`."""
+    """Returns the octets of a file, or of standard input for `-`."""
     try:
         return sys.stdin.buffer.read() if path == "-" else Path(path).read_bytes()
     except OSError as fault:
@@ -435,7 +444,7 @@ def load_npy(path: str) -> Any:
         return numpy.load(path)
     except OSError as fault:
         raise GroundError(READ_FAULT, f"{path}: {fault.strerror}") from fault
-    except ValueError as fault:
+    except (ValueError, EOFError) as fault:
         raise GroundError(BAD_INPUT, f"{path}: {fault}") from fault
 
 
@@ -445,10 +454,12 @@ def need_numpy() -> None:
 
 
 def keys_of(words: Sequence[str]) -> Dict[str, Any]:
+    """Returns the keys of `KEY=VALUE` words. The program tests all keys except depth and sign, which `write` needs."""
     keys: Dict[str, Any] = {}
     for word in words:
         key, equals, value = word.partition("=")
-        if not key or not equals or key in keys or key in ("depth", "signed") and not value.isdecimal():
+        is_bad = not equals or key in keys or key in ("", "array", "program")
+        if is_bad or key == "depth" and not value.isdecimal() or key == "signed" and value not in ("0", "1"):
             raise GroundError(BAD_WORDS, f"bad word: {word}")
         keys[key] = int(value) if key in ("depth", "signed") else value
     return keys

@@ -342,7 +342,7 @@ class Tries:
                 continue
             raise AssertionError((array, keys))
         array = ground.array_of(self.rasters[100, 0], ground.Format(WIDTH, 16, False))
-        for keys, status in (({"depth": 8}, 3), ({"depth": 17}, 2), ({"depth": 12, "segment": 1}, 2)):
+        for keys, status in (({"depth": 8}, 3), ({"depth": 17}, 2), ({"depth": 0}, 2), ({"depth": 12, "segment": 1}, 2)):
             try:
                 ground.write(array, program=self.program, **keys)
             except ground.GroundError as fault:
@@ -405,7 +405,7 @@ class Tries:
         told(5, "sort", "first", "--into", "none/x")
         told(2)
         told(2, "sort")
-        for word in ("depth=many", "depth", "=8"):
+        for word in ("depth=many", "depth", "=8", "signed=2", "program=true"):
             assert told(2, "write", "sorted/x.pgm", "y", word)[1] == f"ground.py: bad word: {word}\n"
         told(0, "--help")
         stream = "sorted/apid-100-image-0.packets"
