@@ -58,8 +58,7 @@ WRONG = [
     dict(limit=31),
     dict(limit=0, fill=1),
     dict(word=5),
-    dict(stop_plane=28),
-    dict(weights=(4,) * 10),
+    dict(stop_plane=28, stop_dc=0),
     dict(apid=2047),
     dict(packet=63),
 ]
