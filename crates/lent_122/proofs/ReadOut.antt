@@ -9,7 +9,7 @@ use Rattle.packet_defs.specs.Streams.{Splits, begins_packet, has_bad_version, le
 use Rattle.packet_defs.specs.declared.packet.Framing.TheVariants.{BadVersion}
 use Rattle.packet_defs.proofs.Fronts.{version-append}
 use Rattle.packet_defs.proofs.Splits.{splits_left, splits_whole, whole_splits}
-use Rattle.strip_decoder.specs.Runs.{IsReadOut}
+use Rattle.packet_assembly.specs.Readings.{IsReadOut}
 use Rattle.lent_122.proofs.Fronts.{took_front}
 
 some_octets : (xs : List ℕ) → has_bad_version xs ≡ true → 0 < length xs
