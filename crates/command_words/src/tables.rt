@@ -178,13 +178,13 @@ pub const COMMANDS: [CommandRow; 6] = [
         Width Rows Depth Signed Segment Limit Fill Word Stop Weights Select Apid Image Packet },
     command_row! { "decode": Task::Read(Reading::Decode), "packets in, raster out, each row as soon as the packets determine it",
         Apid Pixels Octets },
-    command_row! { "damage": Task::Read(Reading::Damage), "packets in, a line FIRST-LAST out for rows that what is lost may reach",
+    command_row! { "damage": Task::Read(Reading::Damage), "packets in, one line FIRST-LAST out for each range of damaged rows",
         Apid Pixels Octets },
-    command_row! { "list": Task::Read(Reading::List), "packets in, a line out for each: its number, and what became of it",
+    command_row! { "list": Task::Read(Reading::List), "packets in, one line out for each: its number and its fate",
         Apid Octets },
-    command_row! { "make": Task::Make, "a made raster out; nothing is read",
+    command_row! { "make": Task::Make, "a made raster out; it reads no input",
         Width Rows Depth Signed Seed },
-    command_row! { "trial": Task::Trial, "a made image there and back in memory, and a line of what was counted",
+    command_row! { "trial": Task::Trial, "encodes and decodes a made image in memory; one line out with the counts",
         Width Rows Depth Signed Segment Limit Fill Word Stop Weights Select Apid Image Packet Seed },
 ];
 

@@ -37,17 +37,17 @@ usage: strip122 COMMAND [KEY=VALUE ..]
 
 // The usage text between the commands and the keys.
 const RASTERS: &str = "
-A raster has its rows from the top; a pixel has one octet where depth is at most
-8, else two, the greater first. A trial has at most 2^24 pixels.
+A raster has its rows from the top. A pixel has one octet if depth is at most 8,
+else two, the higher first. A trial has at most 2^24 pixels.
 
-Each key is given at most once. Its default is in parentheses; the commands that
-have it follow.
+Each key is given at most once. Its default is in parentheses, and after it are
+the commands that have the key.
 
 ";
 
 // The usage text after the keys.
 const STATUSES: &str = "
-status  0 done, 1 rows are missing or the packets can't be read on, 2 bad words,
+status  0 done, 1 rows are damaged or the packets can't be read on, 2 bad words,
         3 bad input, 4 read fault, 5 write fault, 6 no memory
 ";
 

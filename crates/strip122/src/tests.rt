@@ -9,16 +9,16 @@ usage: strip122 COMMAND [KEY=VALUE ..]
 
 encode  raster in, space packets out, each as soon as the rows determine it
 decode  packets in, raster out, each row as soon as the packets determine it
-damage  packets in, a line FIRST-LAST out for rows that what is lost may reach
-list    packets in, a line out for each: its number, and what became of it
-make    a made raster out; nothing is read
-trial   a made image there and back in memory, and a line of what was counted
+damage  packets in, one line FIRST-LAST out for each range of damaged rows
+list    packets in, one line out for each: its number and its fate
+make    a made raster out; it reads no input
+trial   encodes and decodes a made image in memory; one line out with the counts
 
-A raster has its rows from the top; a pixel has one octet where depth is at most
-8, else two, the greater first. A trial has at most 2^24 pixels.
+A raster has its rows from the top. A pixel has one octet if depth is at most 8,
+else two, the higher first. A trial has at most 2^24 pixels.
 
-Each key is given at most once. Its default is in parentheses; the commands that
-have it follow.
+Each key is given at most once. Its default is in parentheses, and after it are
+the commands that have the key.
 
 what
   width=17..1048575 (required)                  encode make trial
@@ -42,7 +42,7 @@ reading
   pixels=0..1099511627776 (4294967296)          decode damage
   octets=1..1099511627776 (1099511627776)       decode damage list
 
-status  0 done, 1 rows are missing or the packets can't be read on, 2 bad words,
+status  0 done, 1 rows are damaged or the packets can't be read on, 2 bad words,
         3 bad input, 4 read fault, 5 write fault, 6 no memory
 ";
 
