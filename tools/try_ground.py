@@ -16,6 +16,7 @@ from pathlib import Path
 
 import ground
 import ground_packets
+from try_streams import packets_of
 
 WIDTH, ROWS = 64, 128
 NUMPY = ground.numpy
@@ -29,15 +30,6 @@ IMAGES = {
     (2046, 0): {"depth": 16, "segment": 24, "packet": 64, "limit": 400, "fill": 1},
     (2046, 65535): {"depth": 1, "segment": 16, "packet": 1024},
 }
-
-
-def packets_of(octets):
-    at, packets = 0, []
-    while at < len(octets):
-        length = 7 + int.from_bytes(octets[at + 4 : at + 6], "big")
-        packets.append(octets[at : at + length])
-        at += length
-    return packets
 
 
 def run(program, command, octets=b"", **keys):
