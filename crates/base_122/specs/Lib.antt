@@ -1,4 +1,4 @@
 pub mod Sizes
 pub mod Weights
-pub mod Setting
 pub mod Ranges
+pub mod Setting

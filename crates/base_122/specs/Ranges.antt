@@ -1,10 +1,11 @@
 -- The range of each field. The limits come from the fields' widths in CCSDS 122.0-B-2 and CCSDS 133.0-B-2 and from
 -- this project's own profile.
-use Rattle.std.specs.Prelude.{◌≡◌, ◌≢◌, ◌≤◌, ◌⊎◌, ◌%◌, ◌^◌, ℕ, List, [], ◌∷◌, All, Bool, true, not, nat_le, ◌==◌, ◌&&◌, ◌||◌, Option, Some, None, Result, Ok, Err, find}
+use Rattle.std.specs.Prelude.{◌≡◌, ◌≢◌, ◌≤◌, ◌⊎◌, ◌*◌, ◌%◌, ◌^◌, ℕ, List, [], ◌∷◌, All, Bool, true, not, nat_le, ◌==◌, ◌&&◌, ◌||◌, Option, Some, None, Result, Ok, Err, find}
 use Rattle.std.specs.List.{list_all}
+use Rattle.base_122.specs.Sizes.{total_blocks, segment_count}
 use Rattle.base_122.specs.Weights.{IsShift, is_shift}
 use Rattle.base_122.specs.declared.field.Field.{Field}
-use Rattle.base_122.specs.declared.field.Field.TheVariants.{Width, Rows, Depth, Segment, Limit, Fill, Word, Stop, Weights, Apid, Image, Packet, Pixels, Octets}
+use Rattle.base_122.specs.declared.field.Field.TheVariants.{Width, Rows, Depth, Segment, Limit, Fill, Word, Stop, Weights, Apid, Image, Packet, Pixels, Octets, Total, Cameras}
 use Rattle.base_122.specs.declared.field.OutOfRange.{OutOfRange}
 use Rattle.base_122.specs.declared.range.FieldRange.{FieldRange}
 use Rattle.base_122.specs.declared.setting.Setting.{Setting}
@@ -63,6 +64,10 @@ image_range = record { least = 0; most = 65535 }
 abbrev pub packet_range : FieldRange
 packet_range = record { least = 64; most = 65536 }
 
+-- octets of all texts of so many segments, where there is a bound: 36 for each at least
+abbrev pub total_range : (segments : ℕ) → FieldRange
+total_range segments = record { least = 36 * segments; most = 2 ^ 40 }
+
 -- the most pixels of a picture that is decoded
 abbrev pub pixels_range : FieldRange
 pixels_range = record { least = 0; most = 2 ^ 40 }
@@ -71,14 +76,24 @@ pixels_range = record { least = 0; most = 2 ^ 40 }
 abbrev pub octets_range : FieldRange
 octets_range = record { least = 1; most = 2 ^ 40 }
 
--- Each field is in its range, and fill has a limit.
+-- segments of an image of the setting's height
+abbrev pub segments_in : Setting → ℕ
+segments_in s = segment_count (total_blocks s.width s.rows) s.segment
+
+-- A bound on all texts together is in its range. It stands in the place of a limit, and needs the number of segments.
+pub record HasTotal (s : Setting) : Type 0 where
+  pub rows : s.rows ≢ 0
+  pub limit : s.limit ≡ 0
+  pub within : IsWithin (total_range (segments_in s)) s.total
+
+-- Each field is in its range. Rows may be left open; fill has something to fill to.
 pub record IsInRange (s : Setting) : Type 0 where
   pub width : IsWithin width_range s.width
-  pub rows : IsWithin rows_range s.rows
+  pub rows : (s.rows ≡ 0) ⊎ IsWithin rows_range s.rows
   pub depth : IsWithin depth_range s.depth
   pub segment : IsWithin segment_range s.segment
   pub limit : (s.limit ≡ 0) ⊎ (IsWithin limit_range s.limit × (s.limit % s.word ≡ 0))
-  pub fill : s.fill ≡ true → s.limit ≢ 0
+  pub fill : s.fill ≡ true → (s.limit ≢ 0) ⊎ (s.total ≢ 0)
   pub word : IsWithin word_range s.word
   pub plane : IsWithin plane_range s.stop.plane
   pub stage : IsWithin stage_range s.stop.stage
@@ -86,11 +101,12 @@ pub record IsInRange (s : Setting) : Type 0 where
   pub apid : IsWithin apid_range s.apid
   pub image : IsWithin image_range s.image
   pub packet : IsWithin packet_range s.packet
+  pub total : (s.total ≡ 0) ⊎ HasTotal s
 
--- Each field of a geometry is in its range.
+-- Each field of a geometry is in its range. Its rows are 0 while the height isn't told.
 pub record IsGeometryInRange (g : Geometry) : Type 0 where
   pub width : IsWithin width_range g.width
-  pub rows : IsWithin rows_range g.rows
+  pub rows : (g.rows ≡ 0) ⊎ IsWithin rows_range g.rows
   pub depth : IsWithin depth_range g.depth
   pub segment : IsWithin segment_range g.segment
   pub image : IsWithin image_range g.image
@@ -108,14 +124,20 @@ pub record IsWishInRange (wish : DecodeWish) : Type 0 where
 abbrev pub limit_test : (limit word : ℕ) → Bool
 limit_test limit word = (limit == 0) || (is_within limit_range limit && (not (is_within word_range word) || (limit % word == 0)))
 
+-- A bound on all texts together is 0, or in its range where it may stand. Without blocks of a segment it needn't be in its
+-- range, so that these are named.
+abbrev pub total_test : Setting → Bool
+total_test s =
+    (s.total == 0) || (not (s.rows == 0) && ((s.limit == 0) && ((s.segment == 0) || is_within (total_range (segments_in s)) s.total)))
+
 -- a field passes its test
 abbrev pub field_test : Setting → Field → Bool
 field_test s Width = is_within width_range s.width
-field_test s Rows = is_within rows_range s.rows
+field_test s Rows = (s.rows == 0) || is_within rows_range s.rows
 field_test s Depth = is_within depth_range s.depth
 field_test s Segment = is_within segment_range s.segment
 field_test s Limit = limit_test s.limit s.word
-field_test s Fill = not s.fill || not (s.limit == 0)
+field_test s Fill = not s.fill || (not (s.limit == 0) || not (s.total == 0))
 field_test s Word = is_within word_range s.word
 field_test s Stop = is_within plane_range s.stop.plane && is_within stage_range s.stop.stage
 field_test s Weights = list_all is_shift s.weights.shifts
@@ -124,10 +146,12 @@ field_test s Image = is_within image_range s.image
 field_test s Packet = is_within packet_range s.packet
 field_test s Pixels = true
 field_test s Octets = true
+field_test s Total = total_test s
+field_test s Cameras = true
 
 -- the fields of a setting, in the order in which they are tested
 abbrev pub fields : List Field
-fields = Width ∷ Rows ∷ Depth ∷ Segment ∷ Limit ∷ Fill ∷ Word ∷ Stop ∷ Weights ∷ Apid ∷ Image ∷ Packet ∷ []
+fields = Width ∷ Rows ∷ Depth ∷ Segment ∷ Limit ∷ Fill ∷ Word ∷ Stop ∷ Weights ∷ Apid ∷ Image ∷ Packet ∷ Total ∷ []
 
 -- the first field out of range, where there is one
 abbrev pub first_out_of_range : Setting → Option Field

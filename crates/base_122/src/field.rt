@@ -15,6 +15,8 @@ pub enum Field {
     Packet,
     Pixels,
     Octets,
+    Total,
+    Cameras,
 }
 
 /// The first field that is out of its range (docs/formats.md, "Bounds").

@@ -7,6 +7,7 @@ use crate::weights::Weights;
 #[derive(Clone, Copy, Debug, PartialEq, Eq)]
 pub struct Geometry {
     pub width: u32,
+    /// Rows of the image; 0 while its height isn't told.
     pub rows: u32,
     pub depth: u8,
     pub signed: bool,

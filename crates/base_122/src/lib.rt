@@ -1,6 +1,9 @@
-//! Settings of the coder, what is asked of a decoder, the geometry of an image and the weights of its bands.
+//! Settings of the coder, the wishes of a decoder, code books, the geometry of an image and the weights of its subbands.
 #![tactic(auto)]
 
+ghost use Rattle.std.specs.Prelude.{◌≡◌};
+
+mod book;
 mod field;
 mod geometry;
 mod range;
@@ -8,10 +11,11 @@ mod setting;
 mod weights;
 mod wish;
 
+pub use book::{Book, Code};
 pub use field::{Field, OutOfRange};
 pub use geometry::Geometry;
 pub use range::FieldRange;
-pub use setting::{Select, Setting, Stop, is_limit_in_range, need};
+pub use setting::{Select, Setting, Stop, is_limit_in_range, is_total_in_range, need};
 pub use weights::{Band, Weights};
 pub use wish::DecodeWish;
 
@@ -19,33 +23,9 @@ pub use wish::DecodeWish;
 mod tests {
     use super::*;
 
-    // A setting for an image of this size that is usual in all else.
-    fn setting(width: u32, rows: u32) -> Setting {
-        Setting {
-            width,
-            rows,
-            depth: 8,
-            signed: false,
-            segment: 64,
-            limit: 0,
-            fill: false,
-            word: 1,
-            stop: Stop {
-                dc: false,
-                plane: 0,
-                stage: 3,
-            },
-            weights: Weights::usual(),
-            select: Select::Optimal,
-            apid: 100,
-            image: 0,
-            packet: 1024,
-        }
-    }
-
     #[test]
     fn an_image_of_a_hundred_blocks_has_two_segments(rt: HostRuntime) {
-        let setting = setting(73, 80);
+        let setting = Setting::usual(73, 80);
         assert_eq!(rt; setting.check(), Ok(()));
         assert_eq!(rt; need(&setting), 64 * 80 + 65 * 64);
         let geometry = setting.geometry();
@@ -59,7 +39,7 @@ mod tests {
 
     #[test]
     fn the_first_field_out_of_range_is_named(rt: HostRuntime) {
-        let mut setting = setting(17, 17);
+        let mut setting = Setting::usual(17, 17);
         setting.packet = 63;
         assert_eq!(rt;
             setting.check(),
@@ -95,6 +75,32 @@ mod tests {
                 field: Field::Width
             })
         );
+    }
+
+    #[test]
+    fn a_total_needs_rows_and_no_limit(rt: HostRuntime) {
+        let refused = Err(OutOfRange {
+            field: Field::Total,
+        });
+        let mut setting = Setting::usual(73, 80);
+        setting.total = 72;
+        setting.fill = true;
+        assert_eq!(rt; setting.check(), Ok(()));
+        setting.total = 71;
+        assert_eq!(rt; setting.check(), refused);
+        setting.total = (1 << 40) + 1;
+        assert_eq!(rt; setting.check(), refused);
+        setting.total = 1 << 40;
+        assert_eq!(rt; setting.check(), Ok(()));
+        setting.limit = 40;
+        assert_eq!(rt; setting.check(), refused);
+        setting.limit = 0;
+        setting.rows = 0;
+        assert_eq!(rt; setting.check(), refused);
+        setting.total = 0;
+        setting.fill = false;
+        assert_eq!(rt; setting.check(), Ok(()));
+        assert_eq!(rt; setting.geometry_for(17).rows, 17);
     }
 
     #[test]

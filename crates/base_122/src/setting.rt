@@ -1,6 +1,6 @@
-ghost use Rattle.std.specs.Prelude.{◌≡◌, ◌↔◌, Ok};
+ghost use Rattle.std.specs.Prelude.{◌≡◌, ◌≢◌, ◌↔◌, Ok};
 ghost use Rattle.base_122.specs.Sizes.{sample_need};
-ghost use Rattle.base_122.specs.Ranges.{IsInRange, limit_test};
+ghost use Rattle.base_122.specs.Ranges.{IsInRange, is_within, limit_test, total_range};
 
 use crate::field::{Field, OutOfRange};
 use crate::geometry::Geometry;
@@ -12,6 +12,7 @@ use crate::weights::Weights;
 pub struct Setting {
     /// Pixels of a row.
     pub width: u32,
+    /// Rows of the image; 0 leaves them open until the input ends, and they are told last.
     pub rows: u32,
     /// Bits of a pixel.
     pub depth: u8,
@@ -20,7 +21,7 @@ pub struct Setting {
     pub segment: u32,
     /// Octets of a segment's text, with its head; 0 is no limit.
     pub limit: u32,
-    /// Each text is filled up to the limit.
+    /// Each text is filled up to its limit.
     pub fill: bool,
     /// Octets of a code word: a text's length is a multiple of it.
     pub word: u8,
@@ -33,6 +34,8 @@ pub struct Setting {
     pub image: u16,
     /// Greatest length of a packet data field, in octets.
     pub packet: u32,
+    /// Octets of all texts together, with their heads; 0 is no bound.
+    pub total: u64,
 }
 
 /// Where the coding of a segment stops (docs/formats.md, "Stops, cut and fill").
@@ -54,7 +57,7 @@ pub enum Select {
 }
 
 // The fields of a setting in the order in which they are tested.
-const FIELDS: [Field; 12] = [
+const FIELDS: [Field; 13] = [
     Field::Width,
     Field::Rows,
     Field::Depth,
@@ -67,17 +70,47 @@ const FIELDS: [Field; 12] = [
     Field::Apid,
     Field::Image,
     Field::Packet,
+    Field::Total,
 ];
 
 impl Setting {
-    ghost use Rattle.base_122.specs.Ranges.{field_test, first_out_of_range, range_check};
-    ghost use Rattle.base_122.specs.Setting.{geometry_of};
+    ghost use Rattle.base_122.specs.Ranges.{IsWithin, rows_range, field_test, first_out_of_range, range_check, total_test};
+    ghost use Rattle.base_122.specs.Setting.{geometry_of, image_geometry, usual_setting};
+
+    /// The usual setting for an image of this size: unsigned pixels of 8 bits, segments of 64 blocks without a limit or a stop,
+    /// code words of one octet, the usual weights, APID 100, image 0, and packet data fields of at most 1,024 octets.
+    pub fn usual(width: u32, rows: u32) -> Setting
+        ensures { result ≡ usual_setting width rows }
+    {
+        Setting {
+            width,
+            rows,
+            depth: 8,
+            signed: false,
+            segment: 64,
+            limit: 0,
+            fill: false,
+            word: 1,
+            stop: Stop {
+                dc: false,
+                plane: 0,
+                stage: 3,
+            },
+            weights: Weights::usual(),
+            select: Select::Optimal,
+            apid: 100,
+            image: 0,
+            packet: 1024,
+            total: 0,
+        }
+    }
 
     /// Answers `Ok` exactly where each field is in its range (docs/formats.md, "Bounds"), and else the first that
     /// isn't, in the order of `Field`.
     ///
     /// Whether the limit is a multiple of the word is tested only where the word is 1 to 4. `Fill` is refused
-    /// exactly where `fill` is set and there is no limit.
+    /// exactly where `fill` is set and there is neither a limit nor a total. `Total` is refused exactly where there is a total,
+    /// and the rows are left open, or there is a limit too, or it is below 36 octets for each segment or above 2^40.
     pub fn check(&self) -> Result<(), OutOfRange>
         ensures range { (result ≡ Ok tt) ↔ IsInRange self.now }
         ensures first { result ≡ range_check self.now }
@@ -102,11 +135,11 @@ impl Setting {
     {
         match field {
             Field::Width => FieldRange::WIDTH.contains(u64::from(self.width)),
-            Field::Rows => FieldRange::ROWS.contains(u64::from(self.rows)),
+            Field::Rows => self.rows == 0 || FieldRange::ROWS.contains(u64::from(self.rows)),
             Field::Depth => FieldRange::DEPTH.contains(u64::from(self.depth)),
             Field::Segment => FieldRange::SEGMENT.contains(u64::from(self.segment)),
             Field::Limit => is_limit_in_range(u64::from(self.limit), u64::from(self.word)),
-            Field::Fill => !self.fill || self.limit != 0,
+            Field::Fill => !self.fill || self.limit != 0 || self.total != 0,
             Field::Word => FieldRange::WORD.contains(u64::from(self.word)),
             Field::Stop => {
                 FieldRange::PLANE.contains(u64::from(self.stop.plane))
@@ -116,18 +149,51 @@ impl Setting {
             Field::Apid => FieldRange::APID.contains(u64::from(self.apid)),
             Field::Image => FieldRange::IMAGE.contains(u64::from(self.image)),
             Field::Packet => FieldRange::PACKET.contains(u64::from(self.packet)),
-            // A setting has neither cap.
-            Field::Pixels | Field::Octets => true,
+            Field::Total => self.keeps_total_range(),
+            // A setting has no caps, and no number of cameras.
+            Field::Pixels | Field::Octets | Field::Cameras => true,
         }
+    }
+
+    // Whether there is no bound on all texts together, or it is in its range and can be kept. Without blocks of a segment it
+    // needn't be in its range, so that these are refused.
+    fn keeps_total_range(&self) -> bool
+        ensures { result ≡ total_test self.now }
+    {
+        if self.total == 0 {
+            return true;
+        }
+        if self.rows == 0 || self.limit != 0 {
+            return false;
+        }
+        let blocks = u64::from(self.width.div_ceil(8)) * u64::from(self.rows.div_ceil(8));
+        let segment = u64::from(self.segment);
+        segment == 0 || is_total_in_range(self.total, blocks.div_ceil(segment))
     }
 
     /// The geometry of the image, with the setting's own fields.
     pub fn geometry(&self) -> Geometry
+        requires { self.now.rows ≢ 0 }
         ensures { result ≡ geometry_of self.now }
+    {
+        self.with_rows(self.rows)
+    }
+
+    /// The geometry of an image of so many rows, with the setting's other fields: that of a setting that leaves the rows open,
+    /// once they are known.
+    pub fn geometry_for(&self, rows: u32) -> Geometry
+        requires { IsWithin rows_range rows }
+        ensures { result ≡ image_geometry self.now rows }
+    {
+        self.with_rows(rows)
+    }
+
+    fn with_rows(&self, rows: u32) -> Geometry
+        ensures { result ≡ image_geometry self.now rows }
     {
         Geometry {
             width: self.width,
-            rows: self.rows,
+            rows,
             depth: self.depth,
             signed: self.signed,
             segment: self.segment,
@@ -152,11 +218,18 @@ pub fn is_limit_in_range(limit: u64, word: u64) -> bool
     !FieldRange::WORD.contains(word) || limit % word == 0
 }
 
+/// Whether a bound on all texts together is in its range for an image of so many segments.
+pub fn is_total_in_range(total: u64, segments: u64) -> bool
+    ensures { result ≡ is_within (total_range segments) total }
+{
+    36 * u128::from(segments) <= u128::from(total) && total <= 1 << 40
+}
+
 /// The greatest number of samples that the encoder holds (docs/formats.md, "Bounds"): 64 for each padded column
 /// and 65 for each block of a segment.
 pub fn need(setting: &Setting) -> u64
     requires { IsInRange setting.now }
     ensures { result ≡ sample_need setting.now.width setting.now.segment }
 {
-    64 * u64::from(setting.geometry().padded_width()) + 65 * u64::from(setting.segment)
+    64 * (8 * u64::from(setting.width.div_ceil(8))) + 65 * u64::from(setting.segment)
 }

@@ -1,0 +1,105 @@
+-- Two codes of which one begins the other, found one after another.
+use Rattle.std.proofs.Common.{◌≡◌, ◌≤◌, ◌<◌, ◌+◌, ◌-◌, ◌/◌, ◌^◌, ℕ, zero, suc, Bool, true, false, List, [], ◌∷◌, length, refl, sym, ap, subst, ◌∙◌, arith}
+use Rattle.std.specs.Prelude.{◌==◌, ◌||◌, not, if◌then◌else◌, Option, Some, None}
+use Rattle.std.specs.List.{list_all}
+use Rattle.std.proofs.lemmas.Bool.{false≢true}
+use Rattle.std.proofs.lemmas.Bool.Decides.{nat_tests}
+use Rattle.item_defs.specs.Bits.{bits_of}
+use Rattle.item_defs.proofs.NumberBits.{length-bits_of}
+use Rattle.base_122.specs.declared.book.Code.{Code}
+use Rattle.plane_defs.specs.Spans.{span}
+use Rattle.plane_defs.specs.Codes.{code_bits, is_prefix}
+use Rattle.plane_defs.proofs.Tables.{list_all-span-at, list_all-span-zero}
+use Rattle.code_book.specs.declared.fault.BookFault.{BookFault}
+use Rattle.code_book.specs.declared.fault.BookFault.TheVariants.{Clash}
+use Rattle.code_book.specs.Sound.{IsCode}
+use Rattle.code_book.specs.Tests.{clashes, clash_of, pair_with, clash_from}
+
+module _ (t : ℕ) (codes : List Code) (count : ℕ) where
+  step : (i n m : ℕ) → n ≡ suc m → clash_from t codes count i n ≡ pair_with t i (clash_of codes count i) (clash_from t codes count (i + 1) m)
+  step i n m e = ap (clash_from t codes count i) e
+
+  pub clash_found : (whole : Option BookFault) (i bound r : ℕ) → whole ≡ clash_from t codes count i (bound - i) → i < bound → clash_of codes count i ≡ Some r → whole ≡ Some (Clash t i r)
+  clash_found whole i bound r so_far lt e =
+      so_far ∙ step i (bound - i) (bound - (i + 1)) (omega (arith, lt)) ∙ ap (λ o. pair_with t i o (clash_from t codes count (i + 1) (bound - (i + 1)))) e
+
+  pub clash_past : (whole : Option BookFault) (i bound : ℕ) → whole ≡ clash_from t codes count i (bound - i) → i < bound → clash_of codes count i ≡ None →
+      whole ≡ clash_from t codes count (i + 1) (bound - (i + 1))
+  clash_past whole i bound so_far lt e =
+      so_far ∙ step i (bound - i) (bound - (i + 1)) (omega (arith, lt)) ∙ ap (λ o. pair_with t i o (clash_from t codes count (i + 1) (bound - (i + 1)))) e
+
+  pub clash_nowhere : (whole : Option BookFault) (i bound : ℕ) → whole ≡ clash_from t codes count i (bound - i) → bound ≤ i → whole ≡ None
+  clash_nowhere whole i bound so_far le = let e : bound - i ≡ 0 = omega (arith, le) in so_far ∙ ap (clash_from t codes count i) e
+
+-- ---- a code begins another one where its bits are the other's first ones: tested for all codes
+
+abbrev same : Bool → Bool → Bool
+same b c = if b then c else not c
+
+abbrev bits_agree : (n m : ℕ) → Bool
+bits_agree n m = list_all (λ x. list_all (λ y. same (is_prefix (bits_of n x) (bits_of m y)) (y / 2 ^ (m - n) == x)) (span 0 (2 ^ m))) (span 0 (2 ^ n))
+
+all_agree : list_all (λ m. list_all (λ n. bits_agree n m) (span 1 m)) (span 1 8) ≡ true
+unfolding span bits_of
+all_agree = refl
+
+same_so : (b c : Bool) → same b c ≡ true → b ≡ c
+same_so true true e = refl
+same_so true false e = absurd (false≢true e)
+same_so false true e = absurd (false≢true e)
+same_so false false e = refl
+
+begins_so : (a b : Code) → IsCode a → IsCode b → a.len ≤ b.len → is_prefix (code_bits a) (code_bits b) ≡ (b.bits / 2 ^ (b.len - a.len) == a.bits)
+begins_so a b is_a is_b le =
+    let some = is_a.some in
+    let most = is_b.few in
+    let m : 1 + (b.len - 1) ≡ b.len = omega (arith, some, le) in
+    let n : 1 + (a.len - 1) ≡ a.len = omega (arith, some) in
+    let outer : list_all (λ n. bits_agree n (1 + (b.len - 1))) (span 1 (1 + (b.len - 1))) ≡ true = list_all-span-at (λ m. list_all (λ n. bits_agree n m) (span 1 m)) 1 8 (b.len - 1) all_agree (omega (arith, most, some, le)) in
+    let wide : list_all (λ n. bits_agree n b.len) (span 1 b.len) ≡ true = subst (λ k. list_all (λ n. bits_agree n k) (span 1 k) ≡ true) m outer in
+    let inner : bits_agree (1 + (a.len - 1)) b.len ≡ true = list_all-span-at (λ n. bits_agree n b.len) 1 b.len (a.len - 1) wide (omega (arith, some, le)) in
+    let here : bits_agree a.len b.len ≡ true = subst (λ k. bits_agree k b.len ≡ true) n inner in
+    let row = list_all-span-zero (λ x. list_all (λ y. same (is_prefix (bits_of a.len x) (bits_of b.len y)) (y / 2 ^ (b.len - a.len) == x)) (span 0 (2 ^ b.len))) (2 ^ a.len) a.bits here is_a.fits in
+    same_so _ _ (list_all-span-zero (λ y. same (is_prefix (bits_of a.len a.bits) (bits_of b.len y)) (y / 2 ^ (b.len - a.len) == a.bits)) (2 ^ b.len) b.bits row is_b.fits)
+
+-- what begins another string is no longer
+no_longer : (xs ys : List Bool) → is_prefix xs ys ≡ true → length xs ≤ length ys
+no_longer [] ys e = omega arith
+no_longer (x ∷ xs) [] e = absurd (false≢true e)
+no_longer (true ∷ xs) (true ∷ ys) e = omega (arith, no_longer xs ys e)
+no_longer (true ∷ xs) (false ∷ ys) e = absurd (false≢true e)
+no_longer (false ∷ xs) (true ∷ ys) e = absurd (false≢true e)
+no_longer (false ∷ xs) (false ∷ ys) e = omega (arith, no_longer xs ys e)
+
+either_first : (a b : Bool) → (b ≡ true → a ≡ true) → (a || b) ≡ a
+either_first true b f = refl
+either_first false true f = absurd (false≢true (f refl))
+either_first false false f = refl
+
+swapped : (a b : Bool) → (a || b) ≡ (b || a)
+swapped true true = refl
+swapped true false = refl
+swapped false true = refl
+swapped false false = refl
+
+turn : (x y : ℕ) → (x / 2 ^ 0 == y) ≡ true → (y / 2 ^ 0 == x) ≡ true
+turn x y e =
+    let f : x / 1 ≡ y = grind (arith, nat_tests) in
+    let g : y / 1 ≡ x = omega (arith, f) in
+    grind (arith, nat_tests)
+
+pub clash_test : (a b : Code) → IsCode a → IsCode b → a.len ≤ b.len → clashes a b ≡ (b.bits / 2 ^ (b.len - a.len) == a.bits)
+clash_test a b is_a is_b le = either_first (is_prefix (code_bits a) (code_bits b)) (is_prefix (code_bits b) (code_bits a)) back ∙ begins_so a b is_a is_b le
+  where
+    back : is_prefix (code_bits b) (code_bits a) ≡ true → is_prefix (code_bits a) (code_bits b) ≡ true
+    back e =
+        let short : b.len ≤ a.len = omega (arith, no_longer (code_bits b) (code_bits a) e, length-bits_of b.len b.bits, length-bits_of a.len a.bits) in
+        let test : (a.bits / 2 ^ (a.len - b.len) == b.bits) ≡ true = sym (begins_so b a is_b is_a short) ∙ e in
+        let none : a.len - b.len ≡ 0 = omega (arith, le) in
+        let none' : b.len - a.len ≡ 0 = omega (arith, short) in
+        let at : (a.bits / 2 ^ 0 == b.bits) ≡ true = subst (λ k. (a.bits / 2 ^ k == b.bits) ≡ true) none test in
+        let turned : (b.bits / 2 ^ 0 == a.bits) ≡ true = turn a.bits b.bits at in
+        begins_so a b is_a is_b le ∙ subst (λ k. (b.bits / 2 ^ k == a.bits) ≡ true) (sym none') turned
+
+pub clash_test_back : (a b : Code) → IsCode a → IsCode b → b.len ≤ a.len → clashes a b ≡ (a.bits / 2 ^ (a.len - b.len) == b.bits)
+clash_test_back a b is_a is_b le = swapped (is_prefix (code_bits a) (code_bits b)) (is_prefix (code_bits b) (code_bits a)) ∙ clash_test b a is_b is_a le

@@ -1,0 +1,9 @@
+use Rattle.std.proofs.Common.{◌≡◌, ◌-◌}
+use Rattle.std.specs.Prelude.{not}
+use Rattle.plane_defs.specs.Codes.{entry}
+use Rattle.code_book.specs.Tests.{first_from, bad_bits, fits}
+use Rattle.code_book.proofs.check.bad_bits.Given as goal
+
+-- none so far
+abbrev pub invariant-loop-symbol : goal.invariant-loop-symbol
+invariant-loop-symbol l = bad_bits l.codes l.count ≡ first_from (λ s. not (fits (entry l.codes s))) l.symbol (l.count - l.symbol)
