@@ -22,10 +22,6 @@ pub copies_none : (b : Bool) → copies 0 b ≡ []
 unfolding copies
 copies_none b = refl
 
-pub copies_cons : (n : ℕ) (b : Bool) → copies (suc n) b ≡ b ∷ copies n b
-unfolding copies
-copies_cons n b = refl
-
 pub copies_then : (m n : ℕ) (b : Bool) → copies m b ++ copies n b ≡ copies (m + n) b
 unfolding copies
 copies_then zero n b = rw zero-add refl
@@ -36,21 +32,6 @@ copies_then (suc m) n b =
 pub copies_last : (n : ℕ) (b : Bool) → copies n b ++ b ∷ [] ≡ copies (n + 1) b
 unfolding copies
 copies_last n b = copies_then n 1 b
-
--- one more of them, and those after it
-pub copies_from : (n i : ℕ) (b : Bool) → i < n → copies i b ++ (b ∷ [] ++ copies (n - (i + 1)) b) ≡ copies n b
-copies_from n i b lt =
-    let e : (i + 1) + (n - (i + 1)) ≡ n = omega arith in
-    sym (append_assoc (copies i b) (b ∷ []) (copies (n - (i + 1)) b)) ∙ ap (λ r. r ++ copies (n - (i + 1)) b) (copies_last i b) ∙ copies_then (i + 1) (n - (i + 1)) b ∙ ap (λ k. copies k b) e
-
-pub copies_all : (n i : ℕ) (b : Bool) → i ≤ n → n ≤ i → copies i b ≡ copies n b
-copies_all n i b p q = let e : i ≡ n = omega arith in ap (λ k. copies k b) e
-
-pub take_copies : (m n : ℕ) (b : Bool) → m ≤ n → take m (copies n b) ≡ copies m b
-unfolding copies
-take_copies zero n b le = refl
-take_copies (suc m) zero b le = absurd (omega arith)
-take_copies (suc m) (suc n) b le = ap (λ r. b ∷ r) (take_copies m n b (omega arith))
 
 tail_of : List Bool → List Bool
 tail_of [] = []

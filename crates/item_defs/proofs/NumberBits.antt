@@ -172,13 +172,6 @@ unfolding bits_of copies
 bits_of_zero zero = refl
 bits_of_zero (suc w) = rw (zero_bit w) (ap (λ r. false ∷ r) (bits_of_zero w))
 
-pub bits_of_one : (n : ℕ) → bits_of (n + 1) 1 ≡ copies n false ++ true ∷ []
-unfolding bits_of
-bits_of_one n =
-    let e : n + 1 ≡ suc n = omega arith in
-    let f : bits_of (suc n) (2 * 0 + digit true) ≡ bits_of n 0 ++ true ∷ [] = bits_push n 0 true in
-    rw e (f ∙ ap (λ r. r ++ true ∷ []) (bits_of_zero n))
-
 -- the bits of a number from place b up, and those from place c to there
 pub bits_between : (a b c x : ℕ) → c ≤ b → b ≤ a → bits_of (a - b) (x / 2 ^ b) ++ bits_of (b - c) (x / 2 ^ c) ≡ bits_of (a - c) (x / 2 ^ c)
 bits_between a b c x p q =

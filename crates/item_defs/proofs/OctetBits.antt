@@ -24,9 +24,6 @@ pub octets_append : (xs ys : List ℕ) → bits_of_octets (xs ++ ys) ≡ bits_of
 unfolding bits_of_octets
 octets_append xs ys = flat_map-append (bits_of 8) xs ys
 
-pub octets_push : (octets : List ℕ) (octet : ℕ) → bits_of_octets (octets ++ octet ∷ []) ≡ bits_of_octets octets ++ bits_of 8 octet
-octets_push octets octet = octets_append octets (octet ∷ []) ∙ ap (λ r. bits_of_octets octets ++ r) (octets_one octet)
-
 pub length-bits_of_octets : (octets : List ℕ) → length (bits_of_octets octets) ≡ 8 * length octets
 length-bits_of_octets [] = ap length no_octets ∙ omega arith
 length-bits_of_octets (x ∷ xs) =

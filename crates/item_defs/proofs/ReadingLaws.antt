@@ -44,10 +44,6 @@ steps_each f same [] (w ∷ ws) e = absurd cc
 steps_each f same (v ∷ vs) [] e = absurd cc
 steps_each f same (v ∷ vs) (w ∷ ws) e = (same v w, λ s. steps_each f same vs ws (omega (arith, e)))
 
-pub steps_same : (is : List Item) → StepsAlike is is
-steps_same [] = tt
-steps_same (i ∷ is) = (refl, λ e. steps_same is)
-
 -- ---- one stop
 
 pub are_append : (is js : List Item) → AreItems is → AreItems js → AreItems (is ++ js)
@@ -55,10 +51,10 @@ are_append [] js p q = q
 are_append (i ∷ is) js p q = (p.0, are_append is js p.1 q)
 
 -- what isn't refused is no refused spelling
-not_refused : {name : Refusal} (o : Option Refusal) → o ≡ None → o ≡ Some name → ⊥
+pub not_refused : {name : Refusal} (o : Option Refusal) → o ≡ None → o ≡ Some name → ⊥
 not_refused o p q = absurd cc
 
-some_of : (o : Option Refusal) (a b : Refusal) → o ≡ Some a → o ≡ Some b → a ≡ b
+pub some_of : (o : Option Refusal) (a b : Refusal) → o ≡ Some a → o ≡ Some b → a ≡ b
 some_of o a b p q = cc
 
 pub stops_once : StopsOnce

@@ -9,10 +9,6 @@ use Rattle.item_defs.specs.Readings.{IsSound, Lacks}
 use Rattle.item_defs.proofs.NumberBits.{length-bits_of, same_number}
 use Rattle.item_defs.proofs.BitLists.{zeros_differ}
 
-head_of : List Bool → Bool
-head_of [] = true
-head_of (x ∷ xs) = x
-
 tail_of : List Bool → List Bool
 tail_of [] = []
 tail_of (x ∷ xs) = xs

@@ -1,11 +1,11 @@
--- A text is a list of items before it is bits. An item says a number in a form, and the form tells which
--- strings of bits may stand there. (CCSDS 122.0-B-2, sections 4.3 to 4.5, names these parts of the coded
+-- A text is a list of items before it is bits. An item says a number in a form, and the form decides which
+-- strings of bits are possible there. (CCSDS 122.0-B-2, sections 4.3 to 4.5, names these parts of the coded
 -- segment; taking them apart as items is this project's own.)
 use Rattle.std.specs.Prelude.{◌<◌, ◌≤◌, ℕ, ◌^◌, ◌==◌, List, [], ◌∷◌, ◌++◌, length, slice_index_or, Bool, true, false, not, if◌then◌else◌, Option, None, Some}
 use Rattle.std.specs.List.{flat_map}
 use Rattle.item_defs.specs.Bits.{bits_of, copies}
 
--- how the bits of an item may stand
+-- the shapes of an item's bits
 pub data Shape : Type 0 where
   fixed : ℕ → Shape  -- so many bits
   zeros_to : ℕ → Shape  -- fewer zeros than this and a one, or just so many zeros
@@ -60,7 +60,7 @@ any_number n = None
 abbrev pub refused_where : (ℕ → Bool) → Refusal → ℕ → Option Refusal
 refused_where test name n = if test n then Some name else None
 
--- so many bits, of which every string is taken
+-- a number of bits, of which every string is taken
 abbrev pub plain : ℕ → ℕ → Item
 plain width value = record { form = record { shape = fixed width; refusal = any_number }; said = value }
 
@@ -68,7 +68,7 @@ plain width value = record { form = record { shape = fixed width; refusal = any_
 abbrev pub raw : ℕ → Item
 raw b = plain 1 b
 
--- an option of so many bits; those that name no option are refused
+-- an option as a number of bits; those that name no option are refused
 abbrev pub identifier : ℕ → (ℕ → Bool) → ℕ → Item
 identifier width names option =
     record { form = record { shape = fixed width; refusal = refused_where (λ n. not (names n)) bad_option }; said = option }

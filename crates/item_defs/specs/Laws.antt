@@ -21,7 +21,7 @@ abbrev pub StopsOnce : Type 0
 StopsOnce = (is js : List Item) (bits : List Bool) (s t : Stop) → StepsAlike is js → AreItems is → AreItems js →
     Stops is bits s → Stops js bits t → s ≡ t
 
--- bits and numbers, and bits and octets, stand for each other
+-- bits and numbers, and bits and octets, represent each other
 pub record BitsUndo : Type 0 where
   pub number : (w n : ℕ) → value_of (bits_of w n) ≡ n % 2 ^ w
   pub bits : (bits : List Bool) → bits_of (length bits) (value_of bits) ≡ bits

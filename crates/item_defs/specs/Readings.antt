@@ -1,14 +1,14 @@
--- Readings of a text: items that stand one after another in it, up to a stop. What a form spells next is
+-- Readings of a text: items that follow one another in it, up to a stop. What a form spells next is
 -- fixed by what was said so far, so two readings of one text stop at one place, in one way. (this project's own)
 use Rattle.std.specs.Prelude.{◌≡◌, ◌⊎◌, ◌+◌, ℕ, List, [], ◌∷◌, ◌++◌, slice_index_or, Bool, None, Some}
 use Rattle.std.specs.List.{AllByRecursion}
 use Rattle.item_defs.specs.Items.{Shape, fixed, zeros_to, coded, Refusal, Item, IsSaid, spelling, item_bits, raw}
 
--- no spelling of this shape stands first in these bits
+-- no spelling of this shape is a prefix of these bits
 abbrev pub Lacks : Shape → List Bool → Type 0
 Lacks s bits = (n : ℕ) (more : List Bool) → IsSaid s n → bits ≡ spelling s n ++ more → ⊥
 
--- no code stands first in another
+-- no code is a prefix of another
 abbrev pub IsSound : Shape → Type 0
 IsSound (fixed w) = Unit {0}
 IsSound (zeros_to limit) = Unit {0}
@@ -32,20 +32,20 @@ StepsAlike [] (j ∷ js) = ⊥
 StepsAlike (i ∷ is) [] = ⊥
 StepsAlike (i ∷ is) (j ∷ js) = (i.form ≡ j.form) × (i.said ≡ j.said → StepsAlike is js)
 
--- how a reading stops: with all items; within the item after so many; at a spelling after so many that is
--- refused by this name
+-- the stop of a reading: with all items; within the item after a number of them; at a spelling after a number of items
+-- that is refused by this name
 pub data Stop : Type 0 where
   whole : Stop
   ended : ℕ → Stop
   refused : (after spelt : ℕ) → Refusal → Stop
 
--- the same stop, counted from so many items before
+-- the same stop, counted from a number of items before
 abbrev pub later : ℕ → Stop → Stop
 later n whole = whole
 later n (ended m) = ended (n + m)
 later n (refused m spelt name) = refused (n + m) spelt name
 
--- the first item stands in these bits, and the others stand in the rest up to a stop
+-- the first item is a prefix of these bits, and the others are in the rest up to a stop
 pub record GoesOn (item : Item) (bits : List Bool) (others : List Bool → Stop → Type 0) (stop : Stop) : Type 0 where
   pub more : List Bool
   pub then : Stop
@@ -53,7 +53,7 @@ pub record GoesOn (item : Item) (bits : List Bool) (others : List Bool → Stop 
   pub stops : stop ≡ later 1 then
   pub rest : others more then
 
--- a spelling of the item's shape stands first in these bits, and its form refuses it
+-- a spelling of the item's shape is a prefix of these bits, and its form refuses it
 pub record IsRefused (item : Item) (bits : List Bool) (stop : Stop) : Type 0 where
   pub spelt : ℕ
   pub name : Refusal

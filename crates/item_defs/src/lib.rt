@@ -4,7 +4,7 @@
 
 ghost use Rattle.item_defs.specs.Laws.{ReadsOnce, StopsOnce, BitsUndo};
 
-/// Two readings of one text say the same, item by item.
+/// Two readings of one text have the same items, one by one.
 pub const fn reads_once()
     ensures { ReadsOnce }
 {}
@@ -14,7 +14,7 @@ pub const fn stops_once()
     ensures { StopsOnce }
 {}
 
-/// Bits and numbers, and bits and octets, stand for each other.
+/// Bits and numbers, and bits and octets, represent each other.
 pub const fn bits_undo()
     ensures { BitsUndo }
 {}

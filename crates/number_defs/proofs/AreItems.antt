@@ -7,8 +7,7 @@ use Rattle.std.proofs.lemmas.Bool.{cases_lt}
 use Rattle.std.proofs.lemmas.Bool.Decides.{nat_tests}
 use Rattle.std.proofs.lemmas.List.{length-map, take_all}
 use Rattle.std.proofs.lemmas.List.FromFn.{length-range_with_len}
-use Rattle.std.proofs.lemmas.Nat.{shr_split, pow_pos, pow-add, mod_below}
-use Rattle.std.proofs.Math.Nat.{mul-le-mul_right}
+use Rattle.std.proofs.lemmas.Nat.{shr_split, pow_pos, mod_below}
 use Rattle.item_defs.specs.Items.{Item, Refusal, bad_delta, bad_depth, bad_option, raw}
 use Rattle.item_defs.specs.Readings.{IsItem, AreItems}
 use Rattle.item_defs.proofs.ReadingLaws.{are_append}
@@ -19,6 +18,7 @@ use Rattle.number_defs.specs.Gaggles.{Kind, identifier_bits, uncoded, is_option,
 use Rattle.number_defs.specs.DcPart.{dc_q, dc_bits, dc_kind, dc_bit, high_items, planes_before, dc_planes, dc_items}
 use Rattle.number_defs.specs.Depths.{depth_bits, depth_kind, depth_items}
 use Rattle.number_defs.specs.Laws.{AreFew, DcsFit}
+use Rattle.number_defs.proofs.CodedBits.{high_small}
 use Rattle.number_defs.proofs.MappingLaws.{mapped_below, mapped_back}
 use Rattle.number_defs.proofs.Heights.{complement_back}
 use Rattle.number_defs.proofs.DcBits.{few_bits}
@@ -52,20 +52,8 @@ complement_small w (negsuc a) = omega (arith, pow_pos w)
 identifier_small : (N option : ℕ) → N ≤ 10 → is_option N option ≡ true → option < 2 ^ identifier_bits N
 identifier_small N option few e = grind (arith, nat_tests)
 
-option_within : (N option : ℕ) → is_option N option ≡ true → eqb option (uncoded N) ≡ false → option ≤ N - 2
+pub option_within : (N option : ℕ) → is_option N option ≡ true → eqb option (uncoded N) ≡ false → option ≤ N - 2
 option_within N option e f = grind (arith, nat_tests)
-
-high_small : (N k v : ℕ) → k ≤ N → v < 2 ^ N → v / 2 ^ k < 2 ^ (N - k)
-high_small N k v le lt =
-    let whole : 2 ^ N ≡ 2 ^ (N - k) * 2 ^ k = (let e : N ≡ (N - k) + k = omega arith in ap (λ n. 2 ^ n) e) ∙ pow-add 2 (N - k) k in
-    below (v / 2 ^ k) (2 ^ (N - k)) (2 ^ k) (v % 2 ^ k) v (sym (shr_split v k)) (omega (arith, whole))
-  where
-    below : (d a b r v : ℕ) → v ≡ d * b + r → v < a * b → d < a
-    below d a b r v e lt =
-        elim (cases_lt d a) [
-          | inl less ↦ less
-          | inr more ↦ let m : a * b ≤ d * b = mul-le-mul_right b more in absurd (omega (arith, m))
-        ]
 
 module _ (kind : Kind) (xs : List ℕ) (few : (i : ℕ) → get_or xs i 0 < 2 ^ kind.bits) where
   -- a number isn't too great

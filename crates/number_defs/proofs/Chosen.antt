@@ -1,12 +1,13 @@
 -- A choice is an option.
-use Rattle.std.proofs.Common.{◌≡◌, ℕ, zero, suc, ◌*◌, ◌-◌, ◌^◌, ◌≤◌, List, [], ◌∷◌, length, Bool, true, false, cond, leb, ltb, refl, arith}
-use Rattle.std.specs.Prelude.{◌&&◌, Some, sum, find, unwrap_or}
+use Rattle.std.proofs.Common.{◌≡◌, ℕ, ◌*◌, ◌-◌, ◌^◌, ◌≤◌, List, [], ◌∷◌, length, Bool, true, false, cond, leb, ltb, arith}
+use Rattle.std.specs.Prelude.{Some, sum, find, unwrap_or}
 use Rattle.std.specs.List.{range_with_len, list_all}
 use Rattle.std.proofs.lemmas.Bool.Decides.{nat_tests}
+use Rattle.std.proofs.lemmas.Bool.{and_parts}
 use Rattle.number_defs.specs.Gaggles.{uncoded, is_option}
 use Rattle.number_defs.proofs.Searching.{all_of_range}
 use Rattle.number_defs.proofs.Suiting.{greatest_within}
-use Rattle.number_defs.specs.Choice.{suits, greatest_suiting, by_total, heuristic, candidates, is_least, optimal}
+use Rattle.number_defs.specs.Choice.{greatest_suiting, by_total, heuristic, candidates, is_least, optimal}
 
 uncoded_is : (N : ℕ) → is_option N (uncoded N) ≡ true
 uncoded_is N = grind (arith, nat_tests)
@@ -32,15 +33,11 @@ heuristic_is N values = total_is N (length values) (sum values)
 found_is : (q p : ℕ → Bool) (xs : List ℕ) (d : ℕ) → list_all q xs ≡ true → q d ≡ true → q (unwrap_or (find p xs) d) ≡ true
 found_is q p [] d all e = e
 found_is q p (x ∷ xs) d all e =
-    let both = both_are (q x) (list_all q xs) all in
+    let both = and_parts (q x) (list_all q xs) all in
     elim (p x) as (λ t. q (unwrap_or (cond t (Some x) (find p xs)) d) ≡ true) [
       | true ↦ both.0
       | false ↦ found_is q p xs d both.1 e
     ]
-  where
-    both_are : (a b : Bool) → (a && b) ≡ true → (a ≡ true) × (b ≡ true)
-    both_are true b h = (refl, h)
-    both_are false b h = absurd cc
 
 pub optimal_is : (N : ℕ) (values : List ℕ) → 2 ≤ N → is_option N (optimal N values) ≡ true
 unfolding optimal

@@ -40,8 +40,8 @@ sum_alike n (x ∷ xs) =
     let h = sum_alike n xs in
     omega (arith, p, h)
 
-fewer : (N k v : ℕ) → k ≤ N → v < 2 ^ N → v / 2 ^ k < 2 ^ (N - k)
-fewer N k v le lt =
+pub high_small : (N k v : ℕ) → k ≤ N → v < 2 ^ N → v / 2 ^ k < 2 ^ (N - k)
+high_small N k v le lt =
     let e : (N - k) + k ≡ N = omega arith in
     shr_below v (N - k) k (rw e lt)
 
@@ -54,7 +54,7 @@ module _ (kind : Kind) (heights : List ℕ) (fits : (i : ℕ) → value_at kind.
   unary_length : (k : ℕ) → k ≤ kind.bits → length (text (map (unary_part kind heights k) at)) ≡ sum_by (λ v. v / 2 ^ k + 1) (map (value_at kind.bits heights) at)
   unary_length k le =
       each_length (unary_part kind heights k) (value_at kind.bits heights) (λ v. v / 2 ^ k + 1)
-      (λ i. zeros_length (2 ^ (kind.bits - k)) (value_at kind.bits heights i / 2 ^ k) (fewer kind.bits k (value_at kind.bits heights i) le (fits i))) at
+      (λ i. zeros_length (2 ^ (kind.bits - k)) (value_at kind.bits heights i / 2 ^ k) (high_small kind.bits k (value_at kind.bits heights i) le (fits i))) at
 
   rests_length : (k : ℕ) → length (text (cond (eqb k 0) [] (map (rest_part kind heights k) at))) ≡ sum_by (λ v. k) (map (value_at kind.bits heights) at)
   rests_length zero = sym (sum_alike 0 (map (value_at kind.bits heights) at) ∙ omega arith)

@@ -1,4 +1,4 @@
--- Numbers that stand in a slice every so many cells. (This project's own.)
+-- Numbers in every `stride`-th cell of a slice. (This project's own.)
 use Rattle.std.specs.Prelude.{ℕ, ◌*◌, ◌<◌, ℤ, pos, List, length, map, slice_index_or, Bool}
 use Rattle.std.specs.List.{range_with_len}
 use Rattle.std.specs.Int.{int_shr, div_ceil}

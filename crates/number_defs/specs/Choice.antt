@@ -6,16 +6,16 @@ use Rattle.number_defs.specs.Gaggles.{uncoded, gaggle_values}
 
 -- ---- heuristic
 
--- rests of k bits suit so many values of this total
+-- rests of k bits suit this number of values of this total
 abbrev pub suits : ℕ → ℕ → ℕ → Bool
 suits count total k = nat_le (count * 2 ^ (k + 7)) (128 * total + 49 * count)
 
--- the greatest k up to this one that suits, or 0 where none does
+-- the greatest k up to this one that suits, or 0 if none does
 unfoldable pub greatest_suiting : ℕ → ℕ → ℕ → ℕ
 greatest_suiting count total most = unwrap_or (last_or None (filter (suits count total) (range_with_len 0 (most + 1)))) 0
 
--- By the number of values and their total: the first test that holds tells. N - 2 is the greatest k there is,
--- so its own test comes first among those for k.
+-- By the number of values and their total: the first test that holds decides. N - 2 is the greatest k that exists,
+-- so its own test is the first of those for k.
 abbrev pub by_total : ℕ → ℕ → ℕ → ℕ
 by_total N count total =
     if nat_le (23 * count * 2 ^ N) (64 * total)

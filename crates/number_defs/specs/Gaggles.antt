@@ -6,7 +6,7 @@ use Rattle.item_defs.specs.Items.{Item, Form, Refusal, bad_delta, bad_depth, fix
 use Rattle.number_defs.specs.Ranges.{negatives, number_at, complement}
 use Rattle.number_defs.specs.Mapping.{mapped, unmapped}
 
--- what a list of numbers is of: so many bits, signed or not; and the heights that are refused as too great
+-- the kind of a list of numbers: their number of bits, signed or not; and the heights that are refused as too great
 -- when they are read
 pub record Kind : Type 0 where
   pub signed : Bool
@@ -35,7 +35,7 @@ number_before heights i = slice_index heights (i - 1)
 abbrev pub value_at : ℕ → List ℕ → ℕ → ℕ
 value_at N heights i = mapped N (number_before heights i) (slice_index heights i)
 
--- the places of a gaggle of 16 numbers, of so many in all; the first number of all has no mapped value
+-- the places of a gaggle of 16 numbers; the first number of all has no mapped value
 abbrev pub first_place : ℕ → ℕ
 first_place g = max (16 * g) 1
 
@@ -45,16 +45,16 @@ places count g = range_with_len (first_place g) (min count (16 * g + 16) - first
 abbrev pub gaggle_values : ℕ → List ℕ → ℕ → List ℕ
 gaggle_values N heights g = map (value_at N heights) (places (length heights) g)
 
--- ---- forms: the number before is known where a mapped value is read
+-- ---- forms: the number before is known when a mapped value is read
 
--- a mapped value is refused where it makes its number too great
+-- a mapped value is refused if it makes its number too great
 abbrev pub depth_refusal : Kind → ℕ → ℕ → Option Refusal
 depth_refusal kind before value = refused_where (λ v. kind.too_great (unmapped kind.bits before v)) bad_depth value
 
 abbrev pub uncoded_form : Kind → ℕ → Form
 uncoded_form kind before = record { shape = fixed kind.bits; refusal = depth_refusal kind before }
 
--- too many zeros are refused, and where k is 0 fewer make the number whole
+-- too many zeros are refused, and if k is 0 fewer make the number whole
 abbrev pub zeros_refusal : Kind → ℕ → ℕ → ℕ → Option Refusal
 zeros_refusal kind k before zeros =
     if zeros == 2 ^ (kind.bits - k)
@@ -64,11 +64,11 @@ zeros_refusal kind k before zeros =
 abbrev pub unary_form : Kind → ℕ → ℕ → Form
 unary_form kind k before = record { shape = zeros_to (2 ^ (kind.bits - k)); refusal = zeros_refusal kind k before }
 
--- the rest makes the number whole, after so many zeros
+-- the rest makes the number whole, after a number of zeros
 abbrev pub rest_form : Kind → ℕ → ℕ → ℕ → Form
 rest_form kind k before zeros = record { shape = fixed k; refusal = λ rest. depth_refusal kind before (zeros * 2 ^ k + rest) }
 
--- the reference is in two's complement where signed
+-- the reference is in two's complement if signed
 abbrev pub reference_refusal : Kind → ℕ → Option Refusal
 reference_refusal kind value =
     refused_where (λ c. kind.too_great ((c + negatives kind.signed kind.bits) % 2 ^ kind.bits)) bad_depth value
@@ -118,7 +118,7 @@ unfoldable pub items_before : Kind → List ℕ → (ℕ → ℕ) → ℕ → Li
 items_before kind heights options zero = []
 items_before kind heights options (suc g) = items_before kind heights options g ++ gaggle_items kind heights (options g) g
 
--- so many gaggles have so many numbers
+-- the number of gaggles of `count` numbers
 abbrev pub gaggle_count : ℕ → ℕ
 gaggle_count count = (count + 15) / 16
 

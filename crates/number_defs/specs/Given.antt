@@ -1,4 +1,4 @@
--- How many items of numbers by differences make the number at a place whole, with all before it.
+-- The number of items of numbers by differences that make the number at a place whole, with all before it.
 -- (CCSDS 122.0-B-2, section 4.3.2; that a number counts from where it is whole is this project's own.)
 use Rattle.std.specs.Prelude.{ℕ, ◌+◌, ◌-◌, ◌/◌, ◌==◌, ◌||◌, if◌then◌else◌, List, length}
 use Rattle.number_defs.specs.Gaggles.{Kind, uncoded, first_place, places, lead_items, items_before}

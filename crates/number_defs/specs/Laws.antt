@@ -14,7 +14,7 @@ use Rattle.number_defs.specs.Depths.{depth_bits, depth_items}
 abbrev pub AreFew : ℕ → List ℕ → Type 0
 AreFew N xs = (i : ℕ) → i < length xs → slice_index xs i < 2 ^ N
 
--- each DC over 2 ^ q, rounded down, has so many bits
+-- each DC over 2 ^ q, rounded down, has this number of bits
 abbrev pub DcsFit : ℕ → ℕ → ℕ → List ℤ → Type 0
 DcsFit depth_dc depth_ac shift dcs = (i : ℕ) → i < length dcs →
     IsInRange true (dc_bits depth_dc depth_ac shift) (int_shr (slice_index_or dcs i (pos 0)) (dc_q depth_dc depth_ac shift))
@@ -46,7 +46,7 @@ pub record DcBitsAreFew : Type 0 where
   pub fit : (depth_dc depth_ac shift : ℕ) (dc : ℤ) → 1 ≤ depth_dc → IsInRange true depth_dc dc →
       IsInRange true (dc_bits depth_dc depth_ac shift) (int_shr dc (dc_q depth_dc depth_ac shift))
 
--- Lists of as many numbers, with any options, have items that step alike; so a text is read as such numbers
+-- Lists of the same number of numbers, with any options, have items that step alike; so a text is read as such numbers
 -- in one way at most. The numbers have no more bits than their range.
 pub record NumbersStepAlike : Type 0 where
   pub numbers : (kind : Kind) (xs ys : List ℕ) (o p : ℕ → ℕ) → length xs ≡ length ys →

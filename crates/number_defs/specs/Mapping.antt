@@ -1,8 +1,8 @@
--- A number after another one as a value from 0, by their difference; numbers are told by their heights.
+-- A number after another one as a value from 0, by their difference; numbers are given by their heights.
 -- (CCSDS 122.0-B-2, section 4.3.2.)
 use Rattle.std.specs.Prelude.{ℕ, ◌+◌, ◌-◌, ◌*◌, ◌/◌, ◌%◌, ◌^◌, ◌==◌, min, if◌then◌else◌, nat_le}
 
--- how far one may go both ways from a number p of N bits
+-- the distance that is in the range both below and above a number p of N bits
 abbrev pub theta : ℕ → ℕ → ℕ
 theta N p = min p (2 ^ N - 1 - p)
 

@@ -1,9 +1,9 @@
--- Numbers of N bits, signed or not. A number is told by its height: how far it is above the least of
+-- Numbers of N bits, signed or not. A number is given by its height: how far it is above the least of
 -- its range. (CCSDS 122.0-B-2, section 4.3.2.)
 use Rattle.std.specs.Prelude.{ℕ, ◌-◌, ◌%◌, ◌^◌, ℤ, pos, negsuc, ◌+ℤ◌, ◌-ℤ◌, neg_ℤ, nat_abs, ◌≤ℤ◌, ◌<ℤ◌, Bool, if◌then◌else◌}
 use Rattle.std.specs.Int.{int_shr}
 
--- how many numbers of the range are below 0
+-- the number of numbers of the range that are below 0
 abbrev pub negatives : Bool → ℕ → ℕ
 negatives signed N = if signed then 2 ^ (N - 1) else 0
 

@@ -24,7 +24,7 @@ pub const fn dc_bits_are_few()
     ensures { DcBitsAreFew }
 {}
 
-/// A text is read as numbers, as a DC part and as block depths in one way at most.
+/// A text is read as numbers, as a DC part and as block depths in at most one way.
 pub const fn numbers_step_alike()
     ensures { NumbersStepAlike }
 {}

@@ -117,20 +117,20 @@ refined_same : (u v : List ℤ) (weights : List ℕ) (plane p : ℕ) → SameAbo
 unfolding refined
 refined_same u v weights plane p above = ap (λ b. b && coded weights plane p) (above p)
 
-of_descendants : (u v : List ℤ) (plane : ℕ) → enclosing_significant u plane Descendants ≡ enclosing_significant v plane Descendants
+pub of_descendants : (u v : List ℤ) (plane : ℕ) → enclosing_significant u plane Descendants ≡ enclosing_significant v plane Descendants
 unfolding enclosing_significant
 of_descendants u v plane = refl
 
-of_family : (u v : List ℤ) (plane i : ℕ) → set_significant u plane Descendants ≡ set_significant v plane Descendants → enclosing_significant u plane (Family i) ≡ enclosing_significant v plane (Family i)
+pub of_family : (u v : List ℤ) (plane i : ℕ) → set_significant u plane Descendants ≡ set_significant v plane Descendants → enclosing_significant u plane (Family i) ≡ enclosing_significant v plane (Family i)
 unfolding enclosing_significant
 of_family u v plane i same = same
 
-of_grandchildren : (u v : List ℤ) (plane i : ℕ) → set_significant u plane (Family i) ≡ set_significant v plane (Family i) →
+pub of_grandchildren : (u v : List ℤ) (plane i : ℕ) → set_significant u plane (Family i) ≡ set_significant v plane (Family i) →
     enclosing_significant u plane (Grandchildren i) ≡ enclosing_significant v plane (Grandchildren i)
 unfolding enclosing_significant
 of_grandchildren u v plane i same = same
 
-of_quad : (u v : List ℤ) (plane i j : ℕ) → set_significant u plane (Grandchildren i) ≡ set_significant v plane (Grandchildren i) →
+pub of_quad : (u v : List ℤ) (plane i j : ℕ) → set_significant u plane (Grandchildren i) ≡ set_significant v plane (Grandchildren i) →
     enclosing_significant u plane (Quad i j) ≡ enclosing_significant v plane (Quad i j)
 unfolding enclosing_significant
 of_quad u v plane i j same = same

@@ -2,7 +2,7 @@
 use Rattle.std.proofs.Common.{◌≡◌, ℕ, zero, suc, ◌+◌, ◌-◌, ◌/◌, ◌%◌, ◌<◌, ◌≤◌, inl, inr, Bool, true, false, not, ◌&&◌, cond, List, [], ◌∷◌, ◌++◌, length, refl, ap, sym, ◌∙◌, subst, arith, ℤ, pos, get_or}
 use Rattle.std.specs.Prelude.{map, filter, nat_lt, ◌||◌}
 use Rattle.std.specs.List.{flat_map, list_any, AllByRecursion}
-use Rattle.std.proofs.lemmas.Bool.{cases_lt}
+use Rattle.std.proofs.lemmas.Bool.{cases_lt, or_parts}
 use Rattle.plane_defs.proofs.Determined.{enclosed}
 use Rattle.std.proofs.lemmas.List.Folds.{list_any-append}
 use Rattle.item_defs.specs.Bits.{bit}
@@ -16,7 +16,7 @@ use Rattle.plane_defs.specs.Steps.{Check, free, ones_at, some_one_where, Told, f
 use Rattle.plane_defs.specs.Laws.{SameSets, three_families}
 use Rattle.plane_defs.specs.StepLaws.{entry_of, entries_of, SameSteps, IsAc, SameAc, AcsAlike, value_of_entry}
 use Rattle.plane_defs.proofs.Settled.{head_same, tail_same}
-use Rattle.plane_defs.proofs.Alike.{all_filter, filter_same, same_bits, length_map_same, in_three, in_four, bits_inside}
+use Rattle.plane_defs.proofs.Alike.{all_filter, filter_same, same_bits, length_map_same, in_three, in_four, bits_inside, of_descendants, of_family, of_grandchildren, of_quad}
 use Rattle.plane_defs.proofs.ReadingTexts.{map_map}
 use Rattle.plane_defs.proofs.Above.{all_acs, all_zip, set_above, flags_settle, due_filter, types_settle, types_filter, newly_same, refined_same}
 
@@ -86,17 +86,9 @@ of_filter {X} P p (x ∷ xs) all = (λ h. chosen (p x) h all, of_filter P p xs (
     rest true all = all.1
     rest false all = all
 
-or_left : (a b : Bool) → (a || b) ≡ false → a ≡ false
-or_left true b h = h
-or_left false b h = refl
-
-or_right : (a b : Bool) → (a || b) ≡ false → b ≡ false
-or_right true b h = cc
-or_right false b h = h
-
 pub none_any : (p : ℕ → Bool) (xs : List ℕ) → list_any p xs ≡ false → AllByRecursion (λ x. p x ≡ false) xs
 none_any p [] h = tt
-none_any p (x ∷ xs) h = (or_left (p x) (list_any p xs) h, none_any p xs (or_right (p x) (list_any p xs) h))
+none_any p (x ∷ xs) h = ((or_parts (p x) (list_any p xs) h).0, none_any p xs (or_parts (p x) (list_any p xs) h).1)
 
 none_both : (p q : ℕ → Bool) (xs : List ℕ) → list_any p xs ≡ false → list_any q xs ≡ false → AllByRecursion (λ x. p x ≡ q x) xs
 none_both p q xs h k = all_zip {P = λ x. (p x ≡ false) × (q x ≡ false)} xs (λ x e. e.0 ∙ sym e.1) (all_both (λ x. p x ≡ false) (λ x. q x ≡ false) xs (none_any p xs h) (none_any q xs k))
@@ -105,7 +97,7 @@ any_equal : (p q : ℕ → Bool) (xs : List ℕ) → AllByRecursion (λ x. p x �
 any_equal p q [] same = refl
 any_equal p q (x ∷ xs) same = ap (λ b. b || list_any p xs) same.0 ∙ ap (λ b. q x || b) (any_equal p q xs same.1)
 
-map_equal : {X A : Type 0} (f g : X → A) (xs : List X) → AllByRecursion (λ x. f x ≡ g x) xs → map f xs ≡ map g xs
+pub map_equal : {X A : Type 0} (f g : X → A) (xs : List X) → AllByRecursion (λ x. f x ≡ g x) xs → map f xs ≡ map g xs
 map_equal f g [] same = refl
 map_equal f g (x ∷ xs) same = ap (λ a. a ∷ map f xs) same.0 ∙ ap (λ l. g x ∷ l) (map_equal f g xs same.1)
 
@@ -131,28 +123,10 @@ at_span P start (suc count) p all low high =
 
 -- ---- what each set goes by
 
-of_descendants : (u v : List ℤ) (plane : ℕ) → enclosing_significant u plane Descendants ≡ enclosing_significant v plane Descendants
-unfolding enclosing_significant
-of_descendants u v plane = refl
-
-of_family : (u v : List ℤ) (plane i : ℕ) → set_significant u plane Descendants ≡ set_significant v plane Descendants → enclosing_significant u plane (Family i) ≡ enclosing_significant v plane (Family i)
-unfolding enclosing_significant
-of_family u v plane i same = same
-
-of_grandchildren : (u v : List ℤ) (plane i : ℕ) → set_significant u plane (Family i) ≡ set_significant v plane (Family i) →
-    enclosing_significant u plane (Grandchildren i) ≡ enclosing_significant v plane (Grandchildren i)
-unfolding enclosing_significant
-of_grandchildren u v plane i same = same
-
-of_quad : (u v : List ℤ) (plane i j : ℕ) → set_significant u plane (Grandchildren i) ≡ set_significant v plane (Grandchildren i) →
-    enclosing_significant u plane (Quad i j) ≡ enclosing_significant v plane (Quad i j)
-unfolding enclosing_significant
-of_quad u v plane i j same = same
-
 -- a set that isn't significant has no significant member
 pub in_family : (w : List ℤ) (plane i : ℕ) → set_significant w plane (Family i) ≡ false → list_any (significant w plane) (span (children_of i) 4) ≡ false
 unfolding set_significant
-in_family w plane i h = or_left _ _ (sym (list_any-append (significant w plane) (span (children_of i) 4) (span (grandchildren_of i) 16)) ∙ h)
+in_family w plane i h = (or_parts _ _ (sym (list_any-append (significant w plane) (span (children_of i) 4) (span (grandchildren_of i) 16)) ∙ h)).0
 
 pub in_quad : (w : List ℤ) (plane i j : ℕ) → set_significant w plane (Quad i j) ≡ false → list_any (significant w plane) (span (quad_of i j) 4) ≡ false
 unfolding set_significant

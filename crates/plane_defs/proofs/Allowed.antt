@@ -2,7 +2,7 @@
 use Rattle.std.proofs.Common.{◌≡◌, ◌⊎◌, ℕ, zero, suc, ◌+◌, ◌-◌, ◌/◌, ◌<◌, ◌≤◌, inl, inr, Bool, true, false, not, ◌&&◌, cond, eqb, List, [], ◌∷◌, ◌++◌, length, refl, ap, sym, ◌∙◌, subst, arith, ℤ}
 use Rattle.std.specs.Prelude.{map, filter, nat_lt, ◌||◌}
 use Rattle.std.specs.List.{flat_map, list_any, AllByRecursion}
-use Rattle.std.proofs.lemmas.Bool.{cases_lt}
+use Rattle.std.proofs.lemmas.Bool.{cases_lt, and_parts}
 use Rattle.std.proofs.lemmas.Bool.Decides.{nat_tests}
 use Rattle.std.proofs.lemmas.List.{length-map}
 use Rattle.std.proofs.lemmas.List.Folds.{list_any-append}
@@ -56,14 +56,6 @@ any_none : (p : ℕ → Bool) (xs : List ℕ) → AllByRecursion (λ x. p x ≡ 
 any_none p [] all = refl
 any_none p (x ∷ xs) all = ap (λ b. b || list_any p xs) all.0 ∙ any_none p xs all.1
 
-and_left : (a b : Bool) → (a && b) ≡ true → a ≡ true
-and_left true b h = refl
-and_left false b h = h
-
-and_right : (a b : Bool) → (a && b) ≡ true → b ≡ true
-and_right true b h = h
-and_right false b h = cc
-
 not_false : (b : Bool) → not b ≡ true → b ≡ false
 not_false true h = cc
 not_false false h = refl
@@ -111,11 +103,11 @@ module _ (block : List ℤ) (weights : List ℕ) (plane : ℕ) (whole : IsMultip
 
   here_of_new : (s : Set) → is_new block plane s ≡ true → set_significant block plane s ≡ true
   unfolding is_new
-  here_of_new s h = and_left (set_significant block plane s) (not (set_significant block (plane + 1) s)) h
+  here_of_new s h = (and_parts (set_significant block plane s) (not (set_significant block (plane + 1) s)) h).0
 
   above_of_new : (s : Set) → is_new block plane s ≡ true → set_significant block (plane + 1) s ≡ false
   unfolding is_new
-  above_of_new s h = not_false (set_significant block (plane + 1) s) (and_right (set_significant block plane s) (not (set_significant block (plane + 1) s)) h)
+  above_of_new s h = not_false (set_significant block (plane + 1) s) (and_parts (set_significant block plane s) (not (set_significant block (plane + 1) s)) h).1
 
   -- ---- 1: a new set of all descendants has a family
 
@@ -180,8 +172,8 @@ module _ (block : List ℤ) (weights : List ℕ) (plane : ℕ) (whole : IsMultip
   children_allowed : (i : ℕ) → i < 3 → refuses (children_check block weights plane i) (value_of (types block weights plane (span (children_of i) 4))) ≡ false
   children_allowed i known =
       some_one_allowed (is_new block plane (Family i) && not (live weights plane (Grandchildren i))) (value_of (types block weights plane (span (children_of i) 4))) (λ h none.
-      let new : is_new block plane (Family i) ≡ true = and_left _ _ h in
-      let dead : live weights plane (Grandchildren i) ≡ false = not_false _ (and_right (is_new block plane (Family i)) _ h) in
+      let new : is_new block plane (Family i) ≡ true = (and_parts _ _ h).0 in
+      let dead : live weights plane (Grandchildren i) ≡ false = not_false _ (and_parts (is_new block plane (Family i)) _ h).1 in
       let above = above_of_new (Family i) new in
       let children = silent_numbers (span (children_of i) 4) (in_family block (plane + 1) i above) none in
       let grandchildren = undue block weights plane (Grandchildren i) known whole (dead_undue (Grandchildren i) dead) ∙ no_grandchild_above i known above in
@@ -190,8 +182,8 @@ module _ (block : List ℤ) (weights : List ℕ) (plane : ℕ) (whole : IsMultip
   hope_met : (i : ℕ) → is_last_hope block plane (Grandchildren i) ≡ true → set_significant block plane (Grandchildren i) ≡ true
   unfolding is_last_hope
   hope_met i h =
-      let new : is_new block plane (Family i) ≡ true = and_left _ _ h in
-      let children : list_any (significant block plane) (span (children_of i) 4) ≡ false = not_false _ (and_right (is_new block plane (Family i)) _ h) in
+      let new : is_new block plane (Family i) ≡ true = (and_parts _ _ h).0 in
+      let children : list_any (significant block plane) (span (children_of i) 4) ≡ false = not_false _ (and_parts (is_new block plane (Family i)) _ h).1 in
       by_grandchildren (set_significant block plane (Grandchildren i)) refl new children
     where
       by_grandchildren : (b : Bool) → set_significant block plane (Grandchildren i) ≡ b → is_new block plane (Family i) ≡ true → list_any (significant block plane) (span (children_of i) 4) ≡ false →

@@ -3,6 +3,7 @@ use Rattle.std.proofs.Common.{◌≡◌, ℕ, ◌+◌, ◌<◌, ◌≤◌, Bool,
 use Rattle.std.specs.Prelude.{◌||◌, ◌&&◌, ◌==◌}
 use Rattle.std.specs.List.{list_any, AllByRecursion}
 use Rattle.std.proofs.lemmas.Bool.Decides.{nat_tests}
+use Rattle.std.proofs.lemmas.Bool.{or_left, or_right}
 use Rattle.plane_defs.specs.declared.sets.Set.{Set}
 use Rattle.plane_defs.specs.declared.sets.Set.TheVariants.{Family, Grandchildren}
 use Rattle.plane_defs.specs.Spans.{span}
@@ -10,19 +11,11 @@ use Rattle.plane_defs.specs.Sets.{members, children_of, grandchildren_of}
 use Rattle.plane_defs.specs.Choosing.{family_of, sixteen_of, chosen_anew, AreApart, WordsChosen}
 use Rattle.plane_defs.proofs.Above.{all_append, all_span, all_zip}
 
-equal_from : (m n : ℕ) → (m == n) ≡ true → m ≡ n
+pub equal_from : (m n : ℕ) → (m == n) ≡ true → m ≡ n
 equal_from m n e = grind (arith, nat_tests)
 
 equal_self : (p : ℕ) → (p == p) ≡ true
 equal_self p = grind (arith, nat_tests)
-
-or_left : (a b : Bool) → a ≡ true → (a || b) ≡ true
-or_left true b e = refl
-or_left false b e = cc
-
-or_right : (a b : Bool) → b ≡ true → (a || b) ≡ true
-or_right true b e = refl
-or_right false b e = e
 
 -- each element of a list stands in it
 all_inside : (xs : List ℕ) → AllByRecursion (λ p. list_any (λ q. q == p) xs ≡ true) xs

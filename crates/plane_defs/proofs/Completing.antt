@@ -6,6 +6,7 @@ use Rattle.std.proofs.lemmas.Bool.Decides.{nat_tests}
 use Rattle.std.proofs.lemmas.List.{get_or_past}
 use Rattle.std.proofs.lemmas.Nat.{pow_pos, pow-add}
 use Rattle.std.proofs.Math.Pow.{pow_mono}
+use Rattle.std.proofs.lemmas.Bool.{or_left, or_right, and_parts}
 use Rattle.plane_defs.specs.declared.sets.Set.{Set}
 use Rattle.plane_defs.specs.Sets.{magnitude, significant, shift, coded, members, set_significant, live, type_due, IsKnown}
 use Rattle.plane_defs.specs.Laws.{IsMultiple}
@@ -23,14 +24,6 @@ lt_test a b h = grind (arith, nat_tests)
 from_test : (a b : ℕ) → nat_le a b ≡ true → a ≤ b
 from_test a b h = grind (arith, nat_tests)
 
-and_left : (a b : Bool) → (a && b) ≡ true → a ≡ true
-and_left true b h = refl
-and_left false b h = h
-
-and_right : (a b : Bool) → (a && b) ≡ true → b ≡ true
-and_right true b h = h
-and_right false b h = cc
-
 not_true : (b : Bool) → not b ≡ true → b ≡ false
 not_true true h = cc
 not_true false h = refl
@@ -45,11 +38,11 @@ or_false false = refl
 
 pub due_above : (block : List ℤ) (weights : List ℕ) (plane p : ℕ) → type_due block weights plane p ≡ true → significant block (plane + 1) p ≡ false
 unfolding type_due
-due_above block weights plane p h = not_true (significant block (plane + 1) p) (and_left _ _ h)
+due_above block weights plane p h = not_true (significant block (plane + 1) p) (and_parts _ _ h).0
 
 due_coded : (block : List ℤ) (weights : List ℕ) (plane p : ℕ) → type_due block weights plane p ≡ true → shift weights p ≤ plane
 unfolding type_due coded
-due_coded block weights plane p h = from_test (shift weights p) plane (and_right (not (significant block (plane + 1) p)) _ h)
+due_coded block weights plane p h = from_test (shift weights p) plane (and_parts (not (significant block (plane + 1) p)) _ h).1
 
 is_due : (block : List ℤ) (weights : List ℕ) (plane p : ℕ) → significant block (plane + 1) p ≡ false → coded weights plane p ≡ true → type_due block weights plane p ≡ true
 unfolding type_due
@@ -66,9 +59,6 @@ any_or f g h (x ∷ xs) acs same = ap (λ b. b || list_any f xs) (same x acs.0) 
     regroup false false c d = refl
 
 module _ (block : List ℤ) (weights : List ℕ) (plane : ℕ) (chosen minus : ℕ → Bool) (may : MayComplete block weights plane chosen) where
-  abbrev new : List ℤ
-  new = completed block plane chosen minus
-
   there : (p : ℕ) → p < 64 → get_or (completed block plane chosen minus) p (pos 0) ≡ completed_number block plane chosen minus p
   unfolding completed
   there p lt = get_or-map-span (completed_number block plane chosen minus) 64 p (pos 0) lt
@@ -170,14 +160,6 @@ some_member : (f g : ℕ → Bool) (xs : List ℕ) → AllByRecursion IsAc xs �
 some_member f g [] acs some none = cc
 some_member f g (x ∷ xs) acs some none = by_first (f x) refl some (g x) refl none (λ rest left. some_member f g xs acs.1 rest left)
   where
-    or_left : (a b : Bool) → a ≡ true → (a || b) ≡ true
-    or_left true b e = refl
-    or_left false b e = cc
-
-    or_right : (a b : Bool) → b ≡ true → (a || b) ≡ true
-    or_right a true e = or_true a
-    or_right a false e = cc
-
     by_first : (b : Bool) → f x ≡ b → (b || list_any f xs) ≡ true → (c : Bool) → g x ≡ c → ((c || list_any g xs) ≡ true → ⊥) →
         (list_any f xs ≡ true → (list_any g xs ≡ true → ⊥) → (p : ℕ) × IsAc p × (f p ≡ true) × (g p ≡ false) × (list_any (λ q. q == p) xs ≡ true)) →
         (p : ℕ) × IsAc p × (f p ≡ true) × (g p ≡ false) × (list_any (λ q. q == p) (x ∷ xs) ≡ true)

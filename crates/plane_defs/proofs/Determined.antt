@@ -6,24 +6,13 @@ use Rattle.std.proofs.lemmas.List.Folds.{list_any-append}
 use Rattle.std.proofs.Math.Nat.{mul-suc}
 use Rattle.std.proofs.lemmas.Nat.{pow_pos}
 use Rattle.std.proofs.Math.Pow.{pow_mono}
+use Rattle.std.proofs.lemmas.Bool.{or_left, or_right, or_cases, or_parts}
 use Rattle.plane_defs.specs.declared.sets.Set.{Set}
 use Rattle.plane_defs.specs.declared.sets.Set.TheVariants.{Descendants, Family, Grandchildren, Quad}
 use Rattle.plane_defs.specs.Spans.{span}
 use Rattle.plane_defs.specs.Sets.{magnitude, significant, shift, coded, members, set_significant, live, enclosing_significant, flag_due, IsKnown}
 use Rattle.plane_defs.specs.Laws.{IsMultiple}
 use Rattle.plane_defs.proofs.SpanLists.{list_any-span-suc, list_any-span-none}
-
-or_left : (a b : Bool) → a ≡ true → (a || b) ≡ true
-or_left true b h = refl
-or_left false b h = cc
-
-or_right : (a b : Bool) → b ≡ true → (a || b) ≡ true
-or_right true b h = refl
-or_right false b h = h
-
-or_cases : (a b : Bool) → (a || b) ≡ true → (a ≡ true) ⊎ (b ≡ true)
-or_cases true b h = inl refl
-or_cases false b h = inr h
 
 -- a test that some place of a span passes is passed by the span
 pub list_any-span-here : (p : ℕ → Bool) (start count k : ℕ) → k < count → p (start + k) ≡ true → list_any p (span start count) ≡ true
@@ -100,20 +89,12 @@ not_coded block weights plane p whole low = below_shift (magnitude block p) plan
     above : (a b : ℕ) → nat_le a b ≡ false → b < a
     above a b h = grind arith
 
-or_false_left : (a b : Bool) → (a || b) ≡ false → a ≡ false
-or_false_left true b h = h
-or_false_left false b h = refl
-
-or_false_right : (a b : Bool) → (a || b) ≡ false → b ≡ false
-or_false_right true b h = cc
-or_false_right false b h = h
-
 not_live : (block : List ℤ) (weights : List ℕ) (plane : ℕ) (xs : List ℕ) → IsMultiple block weights → list_any (coded weights plane) xs ≡ false →
     list_any (significant block plane) xs ≡ list_any (significant block (plane + 1)) xs
 not_live block weights plane [] whole h = refl
 not_live block weights plane (x ∷ xs) whole h =
-    ap (λ b. b || list_any (significant block plane) xs) (not_coded block weights plane x whole (or_false_left _ _ h)) ∙
-    ap (λ b. significant block (plane + 1) x || b) (not_live block weights plane xs whole (or_false_right _ _ h))
+    ap (λ b. b || list_any (significant block plane) xs) (not_coded block weights plane x whole (or_parts _ _ h).0) ∙
+    ap (λ b. significant block (plane + 1) x || b) (not_live block weights plane xs whole (or_parts _ _ h).1)
 
 pub still_significant : (block : List ℤ) (plane p : ℕ) → significant block (plane + 1) p ≡ true → significant block plane p ≡ true
 unfolding significant

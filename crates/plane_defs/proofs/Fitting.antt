@@ -1,5 +1,5 @@
 -- The words of a block have at most four bits.
-use Rattle.std.proofs.Common.{ℕ, zero, suc, ◌<◌, ◌≤◌, Bool, true, false, cond, List, [], ◌∷◌, ◌++◌, length, arith, ℤ, pos, get_or}
+use Rattle.std.proofs.Common.{ℕ, ◌≤◌, Bool, true, false, cond, List, [], ◌∷◌, ◌++◌, length, arith, ℤ, pos, get_or}
 use Rattle.std.specs.Prelude.{map, filter, nat_lt}
 use Rattle.std.specs.List.{AllByRecursion, flat_map}
 use Rattle.std.specs.Prelude.{◌&&◌}
@@ -78,12 +78,3 @@ fit_block stages.Parents block d weights plane q = fit_if (nat_lt plane d) (pare
 fit_block stages.Children block d weights plane q = fit_if (nat_lt plane d) (children block weights plane) (fit_children block weights plane)
 fit_block stages.Grandchildren block d weights plane q = fit_if (nat_lt plane d) (grandchildren block weights plane) (fit_grandchildren block weights plane)
 fit_block stages.Refinement block d weights plane q = fit_if (nat_lt plane d) (refinement block weights plane) (fit_refinement block weights plane)
-
-there : (xs : List Entry) (i : ℕ) (d : Entry) → Fit xs → i < length xs → IsEntry (get_or xs i d)
-there [] i d fit below = absurd (omega arith)
-there (x ∷ xs) zero d fit below = fit.0
-there (x ∷ xs) (suc i) d fit below = there xs i d fit.1 (omega arith)
-
-pub block_fits : (stage : Stage) (block : List ℤ) (d : ℕ) (weights : List ℕ) (plane q i : ℕ) (e : Entry) →
-    i < length (block_entries stage block d weights plane q) → IsEntry (get_or (block_entries stage block d weights plane q) i e)
-block_fits stage block d weights plane q i e below = there (block_entries stage block d weights plane q) i e (fit_block stage block d weights plane q) below

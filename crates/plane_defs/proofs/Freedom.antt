@@ -1,15 +1,15 @@
 -- The flags of free sets may be had in any way.
-use Rattle.std.proofs.Common.{◌≡◌, ℕ, ◌+◌, ◌<◌, Bool, true, false, cond, List, refl, ap, sym, ◌∙◌, subst, arith, ℤ}
+use Rattle.std.proofs.Common.{◌≡◌, ℕ, ◌+◌, ◌<◌, Bool, true, false, cond, List, refl, ap, sym, ◌∙◌, subst, ℤ}
 use Rattle.std.specs.Prelude.{◌||◌, ◌&&◌, ◌==◌}
 use Rattle.std.specs.List.{list_any}
-use Rattle.std.proofs.lemmas.Bool.Decides.{nat_tests}
+use Rattle.std.proofs.lemmas.Bool.{and_parts}
 use Rattle.plane_defs.specs.declared.sets.Set.{Set}
 use Rattle.plane_defs.specs.Sets.{significant, members, set_significant, type_due}
 use Rattle.plane_defs.specs.StepLaws.{IsAc}
 use Rattle.plane_defs.specs.Completed.{completed, MayComplete}
 use Rattle.plane_defs.specs.Choosing.{chosen_anew, AreApart, AreFree, ChosenAs, FlagsFree, typed_anew, TypesFree}
 use Rattle.plane_defs.proofs.Completing.{completes, live_member, due_above}
-use Rattle.plane_defs.proofs.Chosen.{before, as_asked}
+use Rattle.plane_defs.proofs.Chosen.{before, as_asked, equal_from}
 
 module _ (sets : ℕ → Set) (owner : ℕ → ℕ) (count : ℕ) (block : List ℤ) (weights : List ℕ) (plane : ℕ) (chosen minus free wanted : ℕ → Bool)
     (apart : AreApart sets owner count) (may : MayComplete block weights plane chosen) (are_free : AreFree sets count block weights plane free) where
@@ -36,19 +36,12 @@ module _ (sets : ℕ → Set) (owner : ℕ → ℕ) (count : ℕ) (block : List 
   abbrev other : ℕ → Bool
   other = chosen_anew owner free wanted pick chosen
 
-  and_right : (a b : Bool) → (a && b) ≡ true → b ≡ true
-  and_right true b h = h
-  and_right false b h = cc
-
-  equal_from : (m n : ℕ) → (m == n) ≡ true → m ≡ n
-  equal_from m n e = grind (arith, nat_tests)
-
   -- a number that is chosen anew is some pick, or was chosen before
   by_owner : (P : ℕ → Type 0) → ((j : ℕ) → free j ≡ true → P (pick j)) → ((p : ℕ) → chosen p ≡ true → P p) → (p : ℕ) → other p ≡ true → P p
   by_owner P picked kept p h = by_free (free (owner p)) refl h
     where
       by_free : (b : Bool) → free (owner p) ≡ b → cond b (wanted (owner p) && (p == pick (owner p))) (chosen p) ≡ true → P p
-      by_free true e h = subst P (sym (equal_from p (pick (owner p)) (and_right (wanted (owner p)) _ h))) (picked (owner p) e)
+      by_free true e h = subst P (sym (equal_from p (pick (owner p)) (and_parts (wanted (owner p)) _ h).1)) (picked (owner p) e)
       by_free false e h = kept p h
 
   may_other : MayComplete block weights plane other
@@ -87,15 +80,11 @@ flags_free sets owner count block weights plane chosen minus free wanted apart m
 pub types_free : TypesFree
 types_free block weights plane chosen minus inside wanted may acs = record { may = may_typed; wanted_types = typed; elsewhere = kept }
   where
-    and_first : (a b : Bool) → (a && b) ≡ true → a ≡ true
-    and_first true b h = refl
-    and_first false b h = h
-
     split : (P : ℕ → Type 0) → ((p : ℕ) → inside p ≡ true → type_due block weights plane p ≡ true → P p) → ((p : ℕ) → chosen p ≡ true → P p) → (p : ℕ) → typed_anew block weights plane inside wanted chosen p ≡ true → P p
     split P here before p h = by_place (inside p) refl h
       where
         by_place : (b : Bool) → inside p ≡ b → cond b (type_due block weights plane p && wanted p) (chosen p) ≡ true → P p
-        by_place true e h = here p e (and_first (type_due block weights plane p) (wanted p) h)
+        by_place true e h = here p e (and_parts (type_due block weights plane p) (wanted p) h).0
         by_place false e h = before p h
 
     may_typed : MayComplete block weights plane (typed_anew block weights plane inside wanted chosen)

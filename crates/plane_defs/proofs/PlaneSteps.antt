@@ -9,7 +9,7 @@ use Rattle.item_defs.specs.Items.{Item}
 use Rattle.item_defs.specs.Readings.{StepsAlike}
 use Rattle.item_defs.specs.Laws.{said_of}
 use Rattle.item_defs.proofs.ReadingLaws.{steps_append}
-use Rattle.plane_defs.specs.declared.codes.Book.{Book}
+use Rattle.base_122.specs.declared.book.Book.{Book}
 use Rattle.plane_defs.specs.declared.stages.Stage.{Stage}
 use Rattle.plane_defs.specs.declared.stages.Stage.TheVariants as stages
 use Rattle.plane_defs.specs.declared.entries.Entry.{Entry}
@@ -23,6 +23,7 @@ use Rattle.plane_defs.specs.StepLaws.{entries_of, SameSteps, IsAc, SameAc, AcsAl
 use Rattle.plane_defs.proofs.SpanLists.{flat_map-span-suc}
 use Rattle.plane_defs.proofs.Fitting.{Fit, fit_block}
 use Rattle.plane_defs.proofs.ReadingTexts.{steps_entries, gaggle_entries}
+use Rattle.plane_defs.proofs.Alike.{all_of}
 use Rattle.plane_defs.proofs.Above.{all_append, all_span, all_zip}
 use Rattle.plane_defs.proofs.AlikeSteps.{at_span, flat_steps, flat_parts, dcs_same, parents_same, children_same, grandchildren_same, refinement_same, plane_settles}
 use Rattle.plane_defs.proofs.StepItems.{said_split, flat_alike, AreOptionsOf, OptionsAgree, none_agree, Fits, after_alike}
@@ -112,11 +113,7 @@ module _ (book : Book) (o u : ℕ → List ℕ) (known : (g : ℕ) → AreOption
   pub plain_parts : (k g : ℕ) → k < 3 → GaggleSaid k g → AllByRecursion (BlockSaid k) (rows g)
   plain_parts k g below said =
       flat_parts (steps_of_block (plane_with xs) (stage_number k)) (steps_of_block (plane_with ys) (stage_number k)) (rows g)
-      (all_of (λ r. steps_same k r (omega arith) (λ e. absurd (omega arith))) (rows g)) said
-    where
-      all_of : {P : ℕ → Type 0} → ((r : ℕ) → P r) → (rs : List ℕ) → AllByRecursion P rs
-      all_of each [] = tt
-      all_of each (r ∷ rs) = (each r, all_of each rs)
+      (all_of (rows g) (λ r. steps_same k r (omega arith) (λ e. absurd (omega arith)))) said
 
   pub all_same : (k g : ℕ) → k < 5 → (k ≡ 3 → AllByRecursion (BlockSaid 2) (rows g)) →
       AllByRecursion (λ r. SameSteps (steps_of_block (plane_with xs) (stage_number k) r) (steps_of_block (plane_with ys) (stage_number k) r)) (rows g)

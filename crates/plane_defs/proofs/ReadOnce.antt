@@ -9,8 +9,8 @@ use Rattle.item_defs.proofs.BitLists.{length-copies}
 use Rattle.item_defs.proofs.NumberBits.{length-bits_of, bits_of-value_of, value_below}
 use Rattle.item_defs.specs.Items.{coded, IsSaid}
 use Rattle.item_defs.specs.Readings.{IsSound}
-use Rattle.plane_defs.specs.declared.codes.Code.{Code}
-use Rattle.plane_defs.specs.declared.codes.Book.{Book}
+use Rattle.base_122.specs.declared.book.Code.{Code}
+use Rattle.base_122.specs.declared.book.Book.{Book}
 use Rattle.plane_defs.specs.Spans.{span}
 use Rattle.plane_defs.specs.Codes.{entry, table, table_place, is_table_sound, is_book_sound, code_at, codes_of, code_bits, is_prefix}
 use Rattle.plane_defs.proofs.SpanLists.{span-suc, get_or-map-span, length-map-span}

@@ -2,8 +2,9 @@
 use Rattle.std.proofs.Common.{◌≡◌, ℕ, ◌+◌, ◌*◌, ◌<◌, Bool, true, false, ◌&&◌, cond, List, [], ◌∷◌, ◌++◌, refl, ap, sym, ◌∙◌, arith, ℤ, pos, get_or}
 use Rattle.std.specs.Prelude.{map, filter, nat_lt}
 use Rattle.std.specs.List.{flat_map, AllByRecursion}
+use Rattle.std.proofs.lemmas.Bool.{and_parts}
 use Rattle.item_defs.specs.Bits.{bit}
-use Rattle.plane_defs.specs.declared.codes.Book.{Book}
+use Rattle.base_122.specs.declared.book.Book.{Book}
 use Rattle.plane_defs.specs.declared.sets.Set.{Set}
 use Rattle.plane_defs.specs.declared.sets.Set.TheVariants.{Descendants, Family, Grandchildren, Quad}
 use Rattle.plane_defs.specs.declared.stages.Stage.{Stage}
@@ -19,14 +20,14 @@ use Rattle.plane_defs.specs.StepLaws.{entries_of, SameSteps, IsAc, SeenAlike, Pl
 use Rattle.plane_defs.specs.Planes.{Plane, gaggles, gaggle_size, of_block, of_gaggle, before_stage}
 use Rattle.plane_defs.specs.Reading.{steps_of_block, steps_of_gaggle, gaggle_reading, stage_reading, plane_reading, read_after}
 use Rattle.plane_defs.proofs.Settled.{head_same, tail_same}
-use Rattle.plane_defs.proofs.Alike.{all_filter, filter_same}
+use Rattle.plane_defs.proofs.Alike.{all_filter, filter_same, all_of}
 use Rattle.plane_defs.proofs.ReadingTexts.{steps_entries}
 use Rattle.plane_defs.proofs.Above.{all_acs, all_zip, all_span, members_acs, any_alike, due_filter, types_filter, newly_same, refined_same}
-use Rattle.plane_defs.proofs.AlikeSteps.{all_both}
+use Rattle.plane_defs.proofs.AlikeSteps.{all_both, map_equal}
 use Rattle.plane_defs.proofs.PlaneSteps.{block_same}
 
 -- steps that say the same are the same
-steps_equal : (ss ts : List Step) → SameSteps ss ts → entries_of ss ≡ entries_of ts → ss ≡ ts
+pub steps_equal : (ss ts : List Step) → SameSteps ss ts → entries_of ss ≡ entries_of ts → ss ≡ ts
 steps_equal [] [] same e = refl
 steps_equal [] (t ∷ ts) same e = absurd same
 steps_equal (s ∷ ss) [] same e = absurd same
@@ -38,11 +39,7 @@ steps_equal (s ∷ ss) (t ∷ ts) same e =
     ∙ ap (λ x. let step : Step = record { entry = t.entry; check = t.check; tells = x } in step ∷ ss) same.2
     ∙ ap (λ l. t ∷ l) rest
 
-map_equal : {X A : Type 0} (f g : X → A) (xs : List X) → AllByRecursion (λ x. f x ≡ g x) xs → map f xs ≡ map g xs
-map_equal f g [] same = refl
-map_equal f g (x ∷ xs) same = ap (λ a. a ∷ map f xs) same.0 ∙ ap (λ l. g x ∷ l) (map_equal f g xs same.1)
-
-flat_equal : {X A : Type 0} (f g : X → List A) (xs : List X) → AllByRecursion (λ x. f x ≡ g x) xs → flat_map f xs ≡ flat_map g xs
+pub flat_equal : {X A : Type 0} (f g : X → List A) (xs : List X) → AllByRecursion (λ x. f x ≡ g x) xs → flat_map f xs ≡ flat_map g xs
 flat_equal f g [] same = refl
 flat_equal f g (x ∷ xs) same = ap (λ a. a ++ flat_map f xs) same.0 ∙ ap (λ l. g x ++ l) (flat_equal f g xs same.1)
 
@@ -55,21 +52,13 @@ passed {X} p (x ∷ xs) = chosen (p x) refl (passed p xs)
     chosen true e rest = (e, rest)
     chosen false e rest = rest
 
-and_left : (a b : Bool) → (a && b) ≡ true → a ≡ true
-and_left true b h = refl
-and_left false b h = h
-
-and_right : (a b : Bool) → (a && b) ≡ true → b ≡ true
-and_right true b h = h
-and_right false b h = cc
-
 newly_here : (block : List ℤ) (weights : List ℕ) (plane p : ℕ) → newly_significant block weights plane p ≡ true → significant block plane p ≡ true
 unfolding newly_significant
-newly_here block weights plane p h = and_right (type_due block weights plane p) (significant block plane p) h
+newly_here block weights plane p h = (and_parts (type_due block weights plane p) (significant block plane p) h).1
 
 refined_above : (block : List ℤ) (weights : List ℕ) (plane p : ℕ) → refined block weights plane p ≡ true → significant block (plane + 1) p ≡ true
 unfolding refined
-refined_above block weights plane p h = and_left (significant block (plane + 1) p) (coded weights plane p) h
+refined_above block weights plane p h = (and_parts (significant block (plane + 1) p) (coded weights plane p) h).0
 
 enclosing_same : (u v : List ℤ) (plane : ℕ) (s : Set) → ((t : Set) → IsKnown t → set_significant u plane t ≡ set_significant v plane t) → IsKnown s → enclosing_significant u plane s ≡ enclosing_significant v plane s
 unfolding enclosing_significant
@@ -188,10 +177,6 @@ module _ (u v : List ℤ) (weights : List ℕ) (plane : ℕ) (seen : SeenAlike u
 
 -- ---- a plane
 
-all_of : {X : Type 0} {P : X → Type 0} → ((x : X) → P x) → (xs : List X) → AllByRecursion P xs
-all_of each [] = tt
-all_of each (x ∷ xs) = (each x, all_of each xs)
-
 module _ (book : Book) (options : ℕ → List ℕ) (xs ys : List (List ℤ)) (depths weights : List ℕ) (number q : ℕ)
     (seen : (r : ℕ) → SeenAlike (get_or xs r []) (get_or ys r []) weights number) where
   abbrev with_blocks : List (List ℤ) → Plane
@@ -203,16 +188,16 @@ module _ (book : Book) (options : ℕ → List ℕ) (xs ys : List (List ℤ)) (d
   sent_before : (k g : ℕ) → before_stage (with_blocks xs) k g ≡ before_stage (with_blocks ys) k g
   sent_before k g =
       flat_equal (λ j. of_gaggle (with_blocks xs) (stage_number j) g) (λ j. of_gaggle (with_blocks ys) (stage_number j) g) (span 0 k)
-      (all_of {P = λ j. of_gaggle (with_blocks xs) (stage_number j) g ≡ of_gaggle (with_blocks ys) (stage_number j) g} (λ j.
+      (all_of {P = λ j. of_gaggle (with_blocks xs) (stage_number j) g ≡ of_gaggle (with_blocks ys) (stage_number j) g} (span 0 k) (λ j.
       flat_equal (of_block (with_blocks xs) (stage_number j)) (of_block (with_blocks ys) (stage_number j)) (rows g)
-      (all_of {P = λ r. of_block (with_blocks xs) (stage_number j) r ≡ of_block (with_blocks ys) (stage_number j) r}
-      (λ r. entries_seen (get_or xs r []) (get_or ys r []) weights number (seen r) (stage_number j) (get_or depths r 0) q) (rows g))) (span 0 k))
+      (all_of {P = λ r. of_block (with_blocks xs) (stage_number j) r ≡ of_block (with_blocks ys) (stage_number j) r} (rows g)
+      (λ r. entries_seen (get_or xs r []) (get_or ys r []) weights number (seen r) (stage_number j) (get_or depths r 0) q))))
 
   steps_now : (stage : Stage) (g : ℕ) → steps_of_gaggle (with_blocks xs) stage g ≡ steps_of_gaggle (with_blocks ys) stage g
   steps_now stage g =
       flat_equal (steps_of_block (with_blocks xs) stage) (steps_of_block (with_blocks ys) stage) (rows g)
-      (all_of {P = λ r. steps_of_block (with_blocks xs) stage r ≡ steps_of_block (with_blocks ys) stage r}
-      (λ r. steps_seen (get_or xs r []) (get_or ys r []) weights number (seen r) stage (get_or depths r 0) q) (rows g))
+      (all_of {P = λ r. steps_of_block (with_blocks xs) stage r ≡ steps_of_block (with_blocks ys) stage r} (rows g)
+      (λ r. steps_seen (get_or xs r []) (get_or ys r []) weights number (seen r) stage (get_or depths r 0) q))
 
   gaggle_sees : (k g : ℕ) → gaggle_reading book options (with_blocks xs) k g ≡ gaggle_reading book options (with_blocks ys) k g
   gaggle_sees k g =
@@ -222,9 +207,9 @@ module _ (book : Book) (options : ℕ → List ℕ) (xs ys : List (List ℤ)) (d
   pub sees : (stages : ℕ) → plane_reading book options (with_blocks xs) stages ≡ plane_reading book options (with_blocks ys) stages
   sees stages =
       flat_equal (stage_reading book options (with_blocks xs)) (stage_reading book options (with_blocks ys)) (span 0 stages)
-      (all_of {P = λ k. stage_reading book options (with_blocks xs) k ≡ stage_reading book options (with_blocks ys) k} (λ k.
+      (all_of {P = λ k. stage_reading book options (with_blocks xs) k ≡ stage_reading book options (with_blocks ys) k} (span 0 stages) (λ k.
       flat_equal (gaggle_reading book options (with_blocks xs) k) (gaggle_reading book options (with_blocks ys) k) (span 0 (gaggles (with_blocks xs)))
-      (all_of {P = λ g. gaggle_reading book options (with_blocks xs) k g ≡ gaggle_reading book options (with_blocks ys) k g} (gaggle_sees k) (span 0 (gaggles (with_blocks xs))))) (span 0 stages))
+      (all_of {P = λ g. gaggle_reading book options (with_blocks xs) k g ≡ gaggle_reading book options (with_blocks ys) k g} (span 0 (gaggles (with_blocks xs))) (gaggle_sees k))))
 
 pub plane_sees : PlaneSees
 plane_sees book options xs ys depths weights number q stages seen = sees book options xs ys depths weights number q seen stages

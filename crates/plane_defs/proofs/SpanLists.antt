@@ -1,10 +1,10 @@
 -- A span grows by one position at its end.
-use Rattle.std.proofs.Common.{◌≡◌, ℕ, suc, ◌+◌, Bool, true, false, List, [], ◌∷◌, ◌++◌, refl, ap, add-one, arith, cond, length, length-append, ◌≤◌, ◌<◌, zero, take, get_or}
+use Rattle.std.proofs.Common.{◌≡◌, ℕ, suc, ◌+◌, Bool, true, false, List, [], ◌∷◌, ◌++◌, refl, ap, add-one, arith, cond, length, length-append, ◌≤◌, ◌<◌, zero, get_or}
 use Rattle.std.specs.Prelude.{◌||◌, map, filter}
 use Rattle.std.specs.List.{list_any, flat_map}
 use Rattle.std.proofs.lemmas.List.Folds.{list_any-append}
 use Rattle.std.proofs.lemmas.List.Elements.{filter-append}
-use Rattle.std.proofs.lemmas.List.{map-append, append-nil, take_more, length-take}
+use Rattle.std.proofs.lemmas.List.{map-append, append-nil}
 use Rattle.std.proofs.lemmas.Grind.{flat_map-append}
 use Rattle.std.proofs.Common.{◌⊎◌, inl, inr, ◌∙◌, sym, append_assoc}
 use Rattle.std.proofs.lemmas.Bool.{cases_lt}
@@ -53,11 +53,6 @@ map-filter-span-suc f p start count =
     map_one true x = refl
     map_one false x = refl
 
--- the same for a place that is chosen, and for one that is not
-pub map-filter-span-taken : {A : Type 0} (f : ℕ → A) (p : ℕ → Bool) (start count : ℕ) → p (start + count) ≡ true →
-    map f (filter p (span start (count + 1))) ≡ map f (filter p (span start count)) ++ f (start + count) ∷ []
-map-filter-span-taken f p start count h = rw (map-filter-span-suc f p start count, h)
-
 pub map-filter-span-passed : {A : Type 0} (f : ℕ → A) (p : ℕ → Bool) (start count : ℕ) → p (start + count) ≡ false →
     map f (filter p (span start (count + 1))) ≡ map f (filter p (span start count))
 map-filter-span-passed f p start count h = rw (map-filter-span-suc f p start count, h) (append-nil _)
@@ -78,33 +73,6 @@ length-chosen {A = A} f p start (suc count) =
     rw (map-filter-span-suc f p start count, length-append) (omega (arith, length-chosen f p start count, at_most_one (p (start + count)) (f (start + count)))) in
     rw (← add-one) more
 
-pub ruleset chosen = (map-filter-span-taken, map-filter-span-passed, map-filter-span-none, length-chosen)
-
--- what the chosen places of a span send, one place more
-pub flat_map-filter-span-taken : {A : Type 0} (f : ℕ → List A) (p : ℕ → Bool) (start count : ℕ) → p (start + count) ≡ true →
-    flat_map f (filter p (span start (count + 1))) ≡ flat_map f (filter p (span start count)) ++ f (start + count)
-flat_map-filter-span-taken f p start count h =
-    rw (filter-span-suc p start count, h, flat_map-append) (ap (λ b. flat_map f (filter p (span start count)) ++ b) (append-nil (f (start + count))))
-
-pub flat_map-filter-span-passed : {A : Type 0} (f : ℕ → List A) (p : ℕ → Bool) (start count : ℕ) → p (start + count) ≡ false →
-    flat_map f (filter p (span start (count + 1))) ≡ flat_map f (filter p (span start count))
-flat_map-filter-span-passed f p start count h = rw (filter-span-suc p start count, h) (ap (flat_map f) (append-nil _))
-
-pub flat_map-filter-span-none : {A : Type 0} (f : ℕ → List A) (p : ℕ → Bool) (start : ℕ) → flat_map f (filter p (span start 0)) ≡ []
-unfolding span
-flat_map-filter-span-none f p start = refl
-
-pub ruleset sent = (flat_map-filter-span-taken, flat_map-filter-span-passed, flat_map-filter-span-none)
-
--- the same for a list that is gone through from its start
-pub map-filter-take-taken : {X A : Type 0} (f : X → A) (p : X → Bool) (xs : List X) (i : ℕ) (d : X) → i < length xs → p (get_or xs i d) ≡ true →
-    map f (filter p (take (i + 1) xs)) ≡ map f (filter p (take i xs)) ++ f (get_or xs i d) ∷ []
-map-filter-take-taken f p xs i d within h = rw (take_more xs i d within, filter-append, h, map-append)
-
-pub map-filter-take-passed : {X A : Type 0} (f : X → A) (p : X → Bool) (xs : List X) (i : ℕ) (d : X) → i < length xs → p (get_or xs i d) ≡ false →
-    map f (filter p (take (i + 1) xs)) ≡ map f (filter p (take i xs))
-map-filter-take-passed f p xs i d within h = rw (take_more xs i d within, filter-append, h) (ap (map f) (append-nil _))
-
 one_more : {X A : Type 0} (f : X → A) (b : Bool) (x : X) (kept : List X) (n : ℕ) → length (map f kept) ≤ n → length (map f (cond b (x ∷ kept) kept)) ≤ n + 1
 one_more f true x kept n h = rw add-one (omega arith)
 one_more f false x kept n h = omega arith
@@ -112,15 +80,6 @@ one_more f false x kept n h = omega arith
 pub length-map-filter : {X A : Type 0} (f : X → A) (p : X → Bool) (xs : List X) → length (map f (filter p xs)) ≤ length xs
 length-map-filter f p [] = omega arith
 length-map-filter f p (x ∷ xs) = omega (arith, one_more f (p x) x (filter p xs) (length xs) (length-map-filter f p xs))
-
-pub length-map-filter-take : {X A : Type 0} (f : X → A) (p : X → Bool) (xs : List X) (i : ℕ) → length (map f (filter p (take i xs))) ≤ i
-length-map-filter-take f p xs i = omega (arith, length-map-filter f p (take i xs), length-take i xs)
-
-pub ruleset chosen_of_list = (map-filter-take-taken, map-filter-take-passed, length-map-filter-take)
-
-pub ruleset list_any_joined = (list_any-append)
-
-pub ruleset spans = (list_any-span-suc, filter-span-suc, flat_map-span-suc, list_any-span-none, flat_map-span-none, filter-span-none)
 
 -- what a function makes of each number of a span from 0
 pub length-map-span : {A : Type 0} (f : ℕ → A) (count : ℕ) → length (map f (span 0 count)) ≡ count

@@ -1,15 +1,16 @@
 -- The items of steps alike: for as long as they say the same, they have one form.
-use Rattle.std.proofs.Common.{◌≡◌, ◌⊎◌, ℕ, zero, suc, ◌^◌, ◌<◌, ◌≤◌, inl, inr, Bool, true, false, cond, eqb, List, [], ◌∷◌, ◌++◌, refl, ap, sym, ◌∙◌, subst, arith, append_assoc, append-nil}
+use Rattle.std.proofs.Common.{◌≡◌, ℕ, zero, suc, ◌^◌, ◌<◌, ◌≤◌, inl, inr, Bool, true, false, cond, eqb, List, [], ◌∷◌, ◌++◌, refl, ap, sym, ◌∙◌, subst, arith, append_assoc, append-nil}
 use Rattle.std.specs.Prelude.{◌||◌, ◌==◌}
 use Rattle.std.specs.List.{list_any, list_all, flat_map, AllByRecursion}
 use Rattle.std.proofs.lemmas.Bool.Decides.{nat_tests}
 use Rattle.std.proofs.lemmas.List.Folds.{list_any-append}
+use Rattle.std.proofs.lemmas.Bool.{or_cases}
 use Rattle.item_defs.specs.Bits.{digit}
 use Rattle.item_defs.specs.Items.{Item, Form, raw, plain, code, false_flag, refused_where}
 use Rattle.item_defs.specs.Readings.{StepsAlike}
 use Rattle.item_defs.specs.Laws.{said_of}
 use Rattle.item_defs.proofs.ReadingLaws.{steps_append}
-use Rattle.plane_defs.specs.declared.codes.Book.{Book}
+use Rattle.base_122.specs.declared.book.Book.{Book}
 use Rattle.plane_defs.specs.declared.entries.Entry.{Entry}
 use Rattle.plane_defs.specs.declared.entries.Entry.TheVariants.{Bit, Word}
 use Rattle.plane_defs.specs.Spans.{span}
@@ -80,10 +81,6 @@ none_agree o u = record { at = λ n low high sent. cc }
 
 one_option : (n o u : ℕ) → 2 ≤ n → n ≤ 4 → o < n → u < n → identifier_number n o ≡ identifier_number n u → o ≡ u
 one_option n o u low high p q e = grind (arith, nat_tests)
-
-or_cases : (a b : Bool) → (a || b) ≡ true → (a ≡ true) ⊎ (b ≡ true)
-or_cases true b h = inl refl
-or_cases false b h = inr h
 
 or_false : (b : Bool) → (b || false) ≡ b
 or_false true = refl

@@ -4,8 +4,8 @@ use Rattle.std.specs.Prelude.{◌==◌, ◌&&◌, nat_le, count_by}
 use Rattle.std.specs.List.{list_all}
 use Rattle.std.proofs.lemmas.List.Folds.{list_all-append}
 use Rattle.item_defs.specs.Bits.{bits_of}
-use Rattle.plane_defs.specs.declared.codes.Code.{Code}
-use Rattle.plane_defs.specs.declared.codes.Book.{Book}
+use Rattle.base_122.specs.declared.book.Code.{Code}
+use Rattle.base_122.specs.declared.book.Book.{Book}
 use Rattle.plane_defs.specs.Spans.{span}
 use Rattle.plane_defs.specs.Codes.{entry, table, table_place, is_table_sound, is_book_sound, code_at, code_bits, is_prefix}
 

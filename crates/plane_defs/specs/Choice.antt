@@ -2,7 +2,7 @@
 use Rattle.std.specs.Prelude.{ℕ, ◌*◌, ◌^◌, Bool, false, ◌&&◌, ◌==◌, if◌then◌else◌, List, nat_le, count_by, sum_by, filter, map}
 use Rattle.std.specs.List.{list_all}
 use lib.ListN.{get_or}
-use Rattle.plane_defs.specs.declared.codes.Book.{Book}
+use Rattle.base_122.specs.declared.book.Book.{Book}
 use Rattle.plane_defs.specs.declared.entries.Entry.{Entry}
 use Rattle.plane_defs.specs.declared.entries.Entry.TheVariants.{Bit, Word}
 use Rattle.plane_defs.specs.Spans.{span}
@@ -30,6 +30,6 @@ abbrev pub has_symbol : (length s : ℕ) → Entry → Bool
 has_symbol length s (Bit bit) = false
 has_symbol length s (Word bits) = bits.count == length && symbol length bits.value == s
 
--- how many words of a length have each symbol
+-- the number of words of a length that have each symbol
 abbrev pub symbol_counts : ℕ → List Entry → List ℕ
 symbol_counts length entries = map (λ s. count_by (has_symbol length s) entries) (span 0 16)

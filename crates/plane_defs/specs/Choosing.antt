@@ -19,7 +19,7 @@ abbrev pub chosen_anew : (owner : ℕ → ℕ) → (free wanted : ℕ → Bool) 
 chosen_anew owner free wanted pick chosen p =
     if free (owner p) then wanted (owner p) && (p == pick (owner p)) else chosen p
 
--- sets 0, 1, .. below count, told apart by their members' owner
+-- sets 0, 1, .. below count, which differ in their members' owner
 pub record AreApart (sets : ℕ → Set) (owner : ℕ → ℕ) (count : ℕ) : Type 0 where
   pub known : (j : ℕ) → j < count → IsKnown (sets j)
   pub owned : (j p : ℕ) → j < count → list_any (λ q. q == p) (members (sets j)) ≡ true → owner p ≡ j
@@ -63,7 +63,7 @@ FlagsFree = (sets : ℕ → Set) (owner : ℕ → ℕ) (count : ℕ) (block : Li
     AreApart sets owner count → MayComplete block weights plane chosen → AreFree sets count block weights plane free →
     ChosenAs sets owner count block weights plane chosen minus free wanted
 
--- The types of some positions may be had in any way where they are due.
+-- The types of some positions may have any values if they are due.
 abbrev pub typed_anew : List ℤ → List ℕ → ℕ → (inside wanted chosen : ℕ → Bool) → ℕ → Bool
 typed_anew block weights plane inside wanted chosen p =
     if inside p then type_due block weights plane p && wanted p else chosen p

@@ -5,15 +5,15 @@ use Rattle.std.specs.List.{list_all, list_any}
 use lib.ListN.{get_or}
 use Rattle.item_defs.specs.Bits.{bits_of}
 use Rattle.item_defs.specs.Items.{Item, plain, identifier, code}
-use Rattle.plane_defs.specs.declared.codes.Code.{Code}
-use Rattle.plane_defs.specs.declared.codes.Book.{Book}
+use Rattle.base_122.specs.declared.book.Code.{Code}
+use Rattle.base_122.specs.declared.book.Book.{Book}
 use Rattle.plane_defs.specs.Spans.{span}
 
--- v comes before w: it has fewer ones, or as many and is greater
+-- v is before w: it has fewer ones, or the same number of ones and is greater
 abbrev pub precedes : ℕ → ℕ → Bool
 precedes w v = nat_lt (count_ones v) (count_ones w) || (count_ones v == count_ones w && nat_lt w v)
 
--- the symbol of a word: how many words of its length come before it
+-- the symbol of a word: the number of words of its length that are before it
 unfoldable pub symbol : ℕ → ℕ → ℕ
 symbol length w = count_by (precedes w) (span 0 (2 ^ length))
 
@@ -49,11 +49,11 @@ is_book_sound book =
     (is_table_sound (table book 1) 8 && is_table_sound (table book 2) 8 &&
     (is_table_sound (table book 3) 16 && is_table_sound (table book 4) 16 && is_table_sound (table book 5) 16))
 
--- the option in which words stand as they are
+-- the option in which words are not coded
 abbrev pub uncoded : ℕ → ℕ
 uncoded length = length - 1
 
--- where the table of a length and option stands in the book
+-- the place of the table of a length and option in the book
 abbrev pub table_place : ℕ → ℕ → ℕ
 table_place length option = if nat_lt length 3 then 0 else if nat_lt length 4 then 1 + option else 3 + option
 
@@ -66,7 +66,7 @@ codes_of book length option = map (λ s. code_bits (code_at book length option s
 
 -- ---- items
 
--- what stands for a word: the code of its symbol, or its bits as they are
+-- what represents a word: the code of its symbol, or its bits as they are
 abbrev pub word_item : Book → (length option value : ℕ) → Item
 word_item book length option value =
     if option == uncoded length then plain length value else code (codes_of book length option) (symbol length value)

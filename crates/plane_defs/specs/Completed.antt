@@ -9,7 +9,7 @@ use Rattle.plane_defs.specs.Sets.{magnitude, significant, members, set_significa
 use Rattle.plane_defs.specs.Laws.{IsMultiple}
 use Rattle.plane_defs.specs.StepLaws.{IsAc, SameAc}
 
--- the number at a position: 2 ^ plane where it is chosen, with the sign that is asked for
+-- the number at a position: 2 ^ plane if it is chosen, with the wanted sign
 abbrev pub completed_number : List ℤ → ℕ → (chosen minus : ℕ → Bool) → ℕ → ℤ
 completed_number block plane chosen minus p =
     if chosen p then (if minus p then negsuc (2 ^ plane - 1) else pos (2 ^ plane)) else get_or block p (pos 0)

@@ -5,8 +5,8 @@ use Rattle.item_defs.specs.Bits.{bits_of}
 use Rattle.plane_defs.specs.declared.sets.Set.{Set}
 use Rattle.item_defs.specs.Items.{coded}
 use Rattle.item_defs.specs.Readings.{IsSound}
-use Rattle.plane_defs.specs.declared.codes.Code.{Code}
-use Rattle.plane_defs.specs.declared.codes.Book.{Book}
+use Rattle.base_122.specs.declared.book.Code.{Code}
+use Rattle.base_122.specs.declared.book.Book.{Book}
 use Rattle.plane_defs.specs.Sets.{magnitude, significant, shift, set_significant, enclosing_significant, flag_due, IsKnown}
 use Rattle.plane_defs.specs.declared.sets.Set.TheVariants.{Family}
 use Rattle.plane_defs.specs.declared.entries.Entry.{Entry}
@@ -31,7 +31,7 @@ pub record WordsSettle : Type 0 where
   -- a set lies in the set that encloses it
   pub enclosed : (block : List ℤ) (plane : ℕ) (s : Set) → IsKnown s → set_significant block plane s ≡ true →
       enclosing_significant block plane s ≡ true
-  -- a set whose flag isn't due is significant just where it was
+  -- a set whose flag isn't due is significant exactly if it was
   pub undue : (block : List ℤ) (weights : List ℕ) (plane : ℕ) (s : Set) → IsKnown s → IsMultiple block weights →
       flag_due block weights plane s ≡ false → set_significant block plane s ≡ set_significant block (plane + 1) s
   -- two blocks that send the same types have the same numbers significant
@@ -80,6 +80,6 @@ pub record TablesReadOnce : Type 0 where
   -- some code begins any eight bits
   pub begins : (table : List Code) (count v : ℕ) → is_table_sound table count ≡ true → v < 256 →
       (m : ℕ) × (m < count) × (is_prefix (code_bits (entry table m)) (bits_of 8 v) ≡ true)
-  -- so the codes of words in a sound book are told apart
+  -- so in a sound book no code of a word is a prefix of another
   pub words : (book : Book) (length option : ℕ) → is_book_sound book ≡ true → 2 ≤ length → length ≤ 4 → option + 1 < length →
       IsSound (coded (codes_of book length option))

@@ -2,11 +2,11 @@
 -- three and four bits as CCSDS 122.0-B-2, section 4.5.3.3, has them; the tables are this project's own.)
 use Rattle.std.specs.Prelude.{ℕ, ◌==◌, List, [], ◌∷◌, ◌++◌, map, length, replicate, codes}
 use Rattle.item_defs.specs.Bits.{value_of}
-use Rattle.plane_defs.specs.declared.codes.Code.{Code}
-use Rattle.plane_defs.specs.declared.codes.Book.{Book}
+use Rattle.base_122.specs.declared.book.Code.{Code}
+use Rattle.base_122.specs.declared.book.Book.{Book}
 use Rattle.plane_defs.specs.Codes.{no_code}
 
--- the code whose bits stand in a text of the digits 0 and 1, of which 1 is character 49
+-- the code whose bits are given as a string of the digits 0 and 1, of which 1 is character 49
 abbrev pub code_of_text : List ℕ → Code
 code_of_text text = record { bits = value_of (map (λ c. c == 49) text); len = length text }
 

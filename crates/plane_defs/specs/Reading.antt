@@ -5,7 +5,7 @@ use Rattle.std.specs.List.{flat_map}
 use lib.ListN.{get_or}
 use Rattle.item_defs.specs.Bits.{digit}
 use Rattle.item_defs.specs.Items.{Item, false_flag, refused_where, raw}
-use Rattle.plane_defs.specs.declared.codes.Book.{Book}
+use Rattle.base_122.specs.declared.book.Book.{Book}
 use Rattle.plane_defs.specs.declared.stages.Stage.{Stage}
 use Rattle.plane_defs.specs.declared.entries.Entry.{Entry}
 use Rattle.plane_defs.specs.declared.entries.Entry.TheVariants.{Bit, Word}
@@ -20,7 +20,7 @@ use Rattle.plane_defs.specs.Planes.{Plane, gaggles, gaggle_size, before_stage}
 unfoldable pub word_of : ℕ → ℕ → ℕ
 word_of length s = get_or (filter (λ w. symbol length w == s) (span 0 (2 ^ length))) 0 0
 
--- the word that the number of a word's item stands for
+-- the word that the number of a word's item represents
 abbrev pub word_said : (length option said : ℕ) → ℕ
 word_said length option said = if option == uncoded length then said else word_of length said
 

@@ -32,7 +32,7 @@ IsKnown (Family i) = i < 3
 IsKnown (Grandchildren i) = i < 3
 IsKnown (Quad i j) = (i < 3) × (j < 4)
 
--- where the grandchildren of a family begin, and those below one of its children
+-- the first position of the grandchildren of a family, and of those below one of its children
 abbrev pub children_of : ℕ → ℕ
 children_of i = 4 + 4 * i
 

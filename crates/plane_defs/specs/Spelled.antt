@@ -5,7 +5,7 @@ use Rattle.std.specs.List.{list_any}
 use lib.ListN.{get_or}
 use Rattle.item_defs.specs.Bits.{digit}
 use Rattle.item_defs.specs.Items.{Item, raw}
-use Rattle.plane_defs.specs.declared.codes.Book.{Book}
+use Rattle.base_122.specs.declared.book.Book.{Book}
 use Rattle.plane_defs.specs.declared.entries.Entry.{Entry}
 use Rattle.plane_defs.specs.declared.entries.Entry.TheVariants.{Bit, Word}
 use Rattle.plane_defs.specs.Codes.{word_item, option_item}
@@ -19,7 +19,7 @@ is_word_of n (Word bits) = bits.count == n
 abbrev pub option_of : List ℕ → ℕ → ℕ
 option_of options n = get_or options (n - 2) 0
 
--- the option's identifier stands before the first word of its length
+-- the option's identifier is before the first word of its length
 abbrev pub opening : List ℕ → List Entry → ℕ → List Item
 opening options before n = if list_any (is_word_of n) before then [] else option_item n (option_of options n) ∷ []
 

@@ -6,7 +6,7 @@ use Rattle.plane_defs.specs.declared.entries.Entry.{Entry}
 use Rattle.plane_defs.specs.declared.entries.Entry.TheVariants.{Bit, Word}
 use lib.ListN.{get_or}
 use Rattle.item_defs.specs.Bits.{bit}
-use Rattle.plane_defs.specs.declared.codes.Book.{Book}
+use Rattle.base_122.specs.declared.book.Book.{Book}
 use Rattle.plane_defs.specs.declared.sets.Set.TheVariants.{Family, Grandchildren}
 use Rattle.plane_defs.specs.Spans.{span}
 use Rattle.plane_defs.specs.Sets.{magnitude, significant, live, children_of}
@@ -76,7 +76,7 @@ pub record StepsSettle : Type 0 where
 pub record StepsAllowed : Type 0 where
   pub children : (block : List ℤ) (weights : List ℕ) (plane : ℕ) → IsMultiple block weights → AllByRecursion IsAllowed (children_steps block weights plane)
   pub grandchildren : (block : List ℤ) (weights : List ℕ) (plane : ℕ) → IsMultiple block weights → AllByRecursion IsAllowed (grandchildren_steps block weights plane)
-  -- and where the types of a new family's children must have a one, some are due
+  -- and if the types of a new family's children must have a one, some are due
   pub some_due : (block : List ℤ) (weights : List ℕ) (plane i : ℕ) → IsMultiple block weights → i < 3 →
       is_new block plane (Family i) ≡ true → live weights plane (Grandchildren i) ≡ false → types block weights plane (span (children_of i) 4) ≡ [] → ⊥
 

@@ -15,7 +15,7 @@ use Rattle.plane_defs.specs.Spans.{span}
 use Rattle.plane_defs.specs.Sets.{magnitude, significant, coded, set_significant, live, type_due, flag_due, newly_significant, refined, children_of, quad_of}
 use Rattle.plane_defs.specs.Entries.{twos_bit, negative, word, types, flags, significant_families}
 
--- which words are refused: none, the one of zeros alone, or those that lack one of these ones
+-- which words are refused: none, the one of zeros alone, or those in which one of these ones is missing
 pub data Check : Type 0 where
   free : Check
   some_one : Check
@@ -32,7 +32,7 @@ refuses free w = false
 refuses some_one w = w == 0
 refuses (ones_at wants) w = lacks_one wants (bits_of (length wants) w)
 
--- what a step tells: flags of sets alone, the types of numbers, a number's sign, or its bit of this plane
+-- what a step gives: flags of sets alone, the types of numbers, a number's sign, or its bit of this plane
 pub data Told : Type 0 where
   flags_alone : Told
   types_at : List ℕ → Told

@@ -2,13 +2,11 @@
 //! and the codes of words (docs/formats.md, "Bit planes" and "Words and codes").
 #![tactic(auto)]
 
-mod codes;
 mod entries;
 mod laws;
 mod sets;
 mod stages;
 
-pub use codes::{Book, Code};
 pub use entries::{Bits, Entry};
 pub use laws::{
     flags_are_free, planes_see, readings_complete, stages_step, steps_are_allowed, steps_settle,

@@ -7,23 +7,10 @@ use Rattle.plane_defs.specs.StepLaws.{entries_of, SameSteps, AcsAlike}
 use Rattle.plane_defs.proofs.Settled.{head_same, tail_same}
 use Rattle.plane_defs.proofs.ReadingTexts.{steps_entries}
 use Rattle.plane_defs.proofs.PlaneSteps.{block_same}
+use Rattle.plane_defs.proofs.Seen.{steps_equal}
 use Rattle.plane_texts.specs.Candidates.{AboveSame, IsCandidate, Replaces, EntriesChoose, step_at, BlockChosen}
 use Rattle.plane_texts.proofs.BlockChoice.{acs_above}
 use Rattle.plane_texts.proofs.BlocksChoose.{may_choose}
-
--- ---- lists of steps
-
--- steps that are alike and have the same entries are the same
-pub steps_equal : (ss ts : List Step) → SameSteps ss ts → entries_of ss ≡ entries_of ts → ss ≡ ts
-steps_equal [] [] same e = refl
-steps_equal [] (t ∷ ts) same e = absurd same
-steps_equal (s ∷ ss) [] same e = absurd same
-steps_equal (s ∷ ss) (t ∷ ts) same e =
-    let first : s.entry ≡ t.entry = head_same s.entry t.entry (entries_of ss) (entries_of ts) e in
-    ap (λ x. x ∷ ss) (one_equal s t first same.1 same.2) ∙ ap (λ l. t ∷ l) (steps_equal ss ts (same.3 first) (tail_same s.entry t.entry (entries_of ss) (entries_of ts) e))
-  where
-    one_equal : (s t : Step) → s.entry ≡ t.entry → s.check ≡ t.check → s.tells ≡ t.tells → s ≡ t
-    one_equal s t a b c = ap (λ e. step s.check s.tells e) a ∙ ap (λ k. step k s.tells t.entry) b ∙ ap (λ k. step t.check k t.entry) c
 
 -- the first steps, one with this entry in its place, and some that follow
 pub record GoesOn (done : List Step) (s : Step) (e : Entry) (ts : List Step) : Type 0 where
@@ -53,19 +40,12 @@ goes_on (d ∷ done) s more (t ∷ ts) e same c =
 -- ---- candidates
 
 module _ (weights : List ℕ) (b q d : ℕ) (u v w : List ℤ) (first : IsCandidate weights b q d u v) (second : IsCandidate weights b q d u w) where
-  abbrev pub steps_in : ℕ → List ℤ → List Step
-  steps_in i x = block_steps (stage_number i) x d weights b q
-
   pub candidates_alike : AcsAlike v w weights b
   candidates_alike = record {
     above = λ p ac. sym (acs_above u v b first.above (b + 1) (omega arith) p ac) ∙ acs_above u w b second.above (b + 1) (omega arith) p ac;
     first = first.multiple;
     second = second.multiple;
   }
-
-  -- what two candidates sent before settles the steps of a stage
-  pub needs : (k : ℕ) → k < 5 → ((i : ℕ) → i < k → steps_in i v ≡ steps_in i w) → SameSteps (steps_in k v) (steps_in k w)
-  needs k below early = block_same v w d weights b q candidates_alike k below (λ e. ap entries_of (early 2 (omega (arith, e))))
 
 -- a block of which a candidate is made is one itself
 above_both : (u v w : List ℤ) (b : ℕ) → AboveSame u v b → AboveSame v w b → AboveSame u w b

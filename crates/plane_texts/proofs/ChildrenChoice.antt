@@ -13,7 +13,7 @@ use Rattle.plane_defs.specs.Spans.{span}
 use Rattle.plane_defs.specs.Sets.{set_significant, enclosing_significant, flag_due, children_of}
 use Rattle.plane_defs.specs.Entries.{word, flags, typed, parents, children_types, children, stage_number, block_entries, significant_families}
 use Rattle.plane_defs.specs.Laws.{three_families}
-use Rattle.plane_defs.specs.Steps.{free, some_one, refuses, Step, step, flags_alone, some_one_where, typed_steps, descendants_check, children_check, children_types_steps, children_steps, block_steps}
+use Rattle.plane_defs.specs.Steps.{some_one, refuses, Step, some_one_where, typed_steps, descendants_check, children_check, children_types_steps, children_steps, block_steps}
 use Rattle.plane_defs.specs.StepLaws.{entry_of, entries_of}
 use Rattle.plane_defs.specs.Completed.{completed, MayComplete}
 use Rattle.plane_defs.specs.Choosing.{family_of, AreApart}
@@ -46,9 +46,6 @@ any_member f g (x ∷ xs) e h = by_first (x == g) refl e (λ later. any_member f
     by_first false s e more = or_right (f x) (list_any f xs) (more e)
 
 -- ---- the stage's parts
-
-abbrev raw_step : Bool → Step
-raw_step y = step free flags_alone (Bit y)
 
 families_listed : three_families ≡ map Family (span 0 3)
 unfolding span

@@ -103,7 +103,3 @@ module _ (w : List ℤ) (weights : List ℕ) (b : ℕ) (chosen minus chosen' min
   -- those of a range of positions
   pub range_same : (start count : ℕ) → ((p : ℕ) → start ≤ p → p < start + count → chosen p ≡ chosen' p) → list_any chosen (span start count) ≡ list_any chosen' (span start count)
   range_same start count same = any_alike chosen chosen' (span start count) (all_span (λ p. (start ≤ p) × (p < start + count)) start count (λ p low high. (low, high))) (λ p h. same p h.0 h.1)
-
-  -- a set that encloses a significant one is the same in both
-  pub both_true : (s : Set) → set_significant first b s ≡ true → set_significant second b s ≡ true → set_significant first b s ≡ set_significant second b s
-  both_true s e f = e ∙ sym f

@@ -3,6 +3,7 @@ use Rattle.std.proofs.Common.{◌≡◌, ℕ, ◌+◌, ◌^◌, ◌<◌, ◌≤�
 use Rattle.std.specs.Prelude.{nat_lt, ◌||◌, map, filter}
 use Rattle.std.specs.List.{list_any, AllByRecursion}
 use Rattle.std.proofs.lemmas.List.{length-map}
+use Rattle.std.proofs.lemmas.Bool.{and_parts}
 use Rattle.item_defs.specs.Bits.{bits_of}
 use Rattle.item_defs.proofs.NumberBits.{length-bits_of}
 use Rattle.plane_defs.specs.declared.sets.Set.{Set}
@@ -19,7 +20,8 @@ use Rattle.plane_defs.proofs.ReadingTexts.{map_map}
 use Rattle.plane_defs.proofs.Freedom.{flags_free}
 use Rattle.plane_texts.proofs.WordParts.{spread, spread_is, some_bit, any_of_map, wants_had}
 use Rattle.plane_texts.proofs.Completions as two
-use Rattle.plane_texts.proofs.SmallFacts.{map_equal, passed, lt_to, lt_from}
+use Rattle.plane_texts.proofs.SmallFacts.{passed, lt_to, lt_from}
+use Rattle.plane_defs.proofs.AlikeSteps.{map_equal}
 
 filter_map : {X A : Type 0} (f : X → A) (t : A → Bool) (xs : List X) → filter t (map f xs) ≡ map f (filter (λ x. t (f x)) xs)
 filter_map f t [] = refl
@@ -36,14 +38,6 @@ any_found {X} f P (x ∷ xs) all e = by_first (f x) refl e (any_found f P xs all
     by_first : (t : Bool) → f x ≡ t → (t || list_any f xs) ≡ true → (list_any f xs ≡ true → (x : X) × P x × (f x ≡ true)) → (x : X) × P x × (f x ≡ true)
     by_first true h e more = (x, all.0, h)
     by_first false h e more = more e
-
-and_left : (s t : Bool) → (s && t) ≡ true → s ≡ true
-and_left true t e = refl
-and_left false t e = e
-
-and_right : (s t : Bool) → (s && t) ≡ true → t ≡ true
-and_right true t e = e
-and_right false t e = cc
 
 not_false : (t : Bool) → not t ≡ true → t ≡ false
 not_false true e = cc
@@ -67,16 +61,16 @@ module _ (w : List ℤ) (weights : List ℕ) (b : ℕ) (chosen minus : ℕ → B
   due_parts : (i : ℕ) → i < count → due i ≡ true → (set_significant w (b + 1) (sets i) ≡ false) × (live weights b (sets i) ≡ true) × (enclosing_significant old b (sets i) ≡ true)
   unfolding flag_due
   due_parts i lt e =
-      let first = and_left (not (set_significant old (b + 1) (sets i)) && live weights b (sets i)) (enclosing_significant old b (sets i)) e in
-      let none = not_false (set_significant old (b + 1) (sets i)) (and_left (not (set_significant old (b + 1) (sets i))) (live weights b (sets i)) first) in (
+      let first = (and_parts (not (set_significant old (b + 1) (sets i)) && live weights b (sets i)) (enclosing_significant old b (sets i)) e).0 in
+      let none = not_false (set_significant old (b + 1) (sets i)) (and_parts (not (set_significant old (b + 1) (sets i))) (live weights b (sets i)) first).0 in (
         sym (two.set_above_is w weights b chosen minus may (sets i) (apart.known i lt)) ∙ none,
-        and_right (not (set_significant old (b + 1) (sets i))) (live weights b (sets i)) first,
-        and_right (not (set_significant old (b + 1) (sets i)) && live weights b (sets i)) (enclosing_significant old b (sets i)) e,
+        (and_parts (not (set_significant old (b + 1) (sets i))) (live weights b (sets i)) first).1,
+        (and_parts (not (set_significant old (b + 1) (sets i)) && live weights b (sets i)) (enclosing_significant old b (sets i)) e).1,
       )
 
   pub due_encloses : (i : ℕ) → due i ≡ true → enclosing_significant old b (sets i) ≡ true
   unfolding flag_due
-  due_encloses i e = and_right (not (set_significant old (b + 1) (sets i)) && live weights b (sets i)) (enclosing_significant old b (sets i)) e
+  due_encloses i e = (and_parts (not (set_significant old (b + 1) (sets i)) && live weights b (sets i)) (enclosing_significant old b (sets i)) e).1
 
   -- where a word of them has bits, one is due
   pub some_due : 1 ≤ length (flags old weights b listed) → (i : ℕ) × ((i < count) × (due i ≡ true))
@@ -114,9 +108,9 @@ module _ (w : List ℤ) (weights : List ℕ) (b : ℕ) (chosen minus : ℕ → B
     are_free : AreFree sets count w weights b free
     unfolding free
     are_free = record {
-      below = λ i e. lt_from i count (and_left (nat_lt i count) (due i) e);
-      is_live = λ i e. (due_parts i (lt_from i count (and_left (nat_lt i count) (due i) e)) (and_right (nat_lt i count) (due i) e)).1;
-      none_above = λ i e. (due_parts i (lt_from i count (and_left (nat_lt i count) (due i) e)) (and_right (nat_lt i count) (due i) e)).0;
+      below = λ i e. lt_from i count (and_parts (nat_lt i count) (due i) e).0;
+      is_live = λ i e. (due_parts i (lt_from i count (and_parts (nat_lt i count) (due i) e).0) (and_parts (nat_lt i count) (due i) e).1).1;
+      none_above = λ i e. (due_parts i (lt_from i count (and_parts (nat_lt i count) (due i) e).0) (and_parts (nat_lt i count) (due i) e).1).0;
     }
 
     anew : ChosenAs sets owner count w weights b chosen minus free wanted

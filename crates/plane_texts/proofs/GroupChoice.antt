@@ -25,7 +25,8 @@ use Rattle.plane_texts.proofs.EntryChoices.{entries_as, entries_right, StepLocat
 use Rattle.plane_texts.proofs.StageParts.{SeenAt, map_filter_flat, newly_here}
 use Rattle.plane_texts.proofs.WordParts.{spread, spread_is, word_is, some_bit, any_of_map, any_of_filter}
 use Rattle.plane_texts.proofs.Completions as two
-use Rattle.plane_texts.proofs.SmallFacts.{map_equal, passed, le_to, lt_to, le_from, lt_from, both, itself, unequal, not_equal}
+use Rattle.plane_texts.proofs.SmallFacts.{passed, le_to, lt_to, le_from, lt_from, both, itself, unequal, not_equal}
+use Rattle.plane_defs.proofs.AlikeSteps.{map_equal}
 
 -- the positions of a range
 inside : (start count : ℕ) → ℕ → Bool

@@ -1,6 +1,6 @@
 -- Tests on numbers, and lists under a test.
 use Rattle.std.proofs.Common.{◌≡◌, ℕ, ◌<◌, ◌≤◌, inl, inr, Bool, true, false, ◌&&◌, cond, List, [], ◌∷◌, length, set, get_or, refl, ap, sym, ◌∙◌, subst, arith}
-use Rattle.std.specs.Prelude.{nat_le, nat_lt, ◌==◌, ◌||◌, map, filter}
+use Rattle.std.specs.Prelude.{nat_le, nat_lt, ◌==◌, ◌||◌, filter}
 use Rattle.std.specs.List.{AllByRecursion}
 use Rattle.std.proofs.lemmas.Bool.{cases_lt}
 use Rattle.std.proofs.lemmas.Bool.Decides.{nat_tests}
@@ -70,10 +70,6 @@ neither_right true b e = cc
 neither_right false b e = e
 
 -- ---- lists
-
-pub map_equal : {X A : Type 0} (f g : X → A) (xs : List X) → AllByRecursion (λ x. f x ≡ g x) xs → map f xs ≡ map g xs
-map_equal f g [] same = refl
-map_equal f g (x ∷ xs) same = ap (λ a. a ∷ map f xs) same.0 ∙ ap (λ l. g x ∷ l) (map_equal f g xs same.1)
 
 -- what holds of a list's element, where one is another
 pub set_at : {A : Type 0} (xs : List A) (r i : ℕ) (v d : A) (P : A → Type 0) → r < length xs → (i ≡ r → P v) → P (get_or xs i d) → P (get_or (set xs r v) i d)

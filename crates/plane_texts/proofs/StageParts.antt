@@ -1,7 +1,9 @@
 -- Parts of a stage that two blocks send alike.
-use Rattle.std.proofs.Common.{◌≡◌, ℕ, ◌+◌, ◌<◌, ◌≤◌, Bool, true, false, ◌&&◌, cond, List, [], ◌∷◌, ◌++◌, refl, ap, sym, ◌∙◌, arith, ℤ, pos, get_or}
+use Rattle.std.proofs.Common.{◌≡◌, ℕ, ◌+◌, ◌<◌, ◌≤◌, Bool, true, false, cond, List, [], ◌∷◌, ◌++◌, refl, ap, sym, ◌∙◌, arith, ℤ, pos, get_or}
 use Rattle.std.specs.Prelude.{map, filter}
 use Rattle.std.specs.List.{flat_map, AllByRecursion}
+use Rattle.std.proofs.lemmas.Bool.{and_parts}
+use Rattle.plane_defs.proofs.Seen.{flat_equal}
 use Rattle.plane_defs.specs.declared.sets.Set.{Set}
 use Rattle.plane_defs.specs.declared.sets.Set.TheVariants.{Descendants, Family, Grandchildren, Quad}
 use Rattle.plane_defs.specs.declared.entries.Entry.{Entry}
@@ -16,7 +18,8 @@ use Rattle.plane_defs.proofs.Alike.{all_filter, filter_same}
 use Rattle.plane_defs.proofs.ReadingTexts.{map_map}
 use Rattle.plane_defs.proofs.Above.{all_zip, all_span, members_acs, any_alike, due_filter, types_filter, newly_same}
 use Rattle.plane_defs.proofs.AlikeSteps.{all_both}
-use Rattle.plane_texts.proofs.SmallFacts.{map_equal, passed}
+use Rattle.plane_texts.proofs.SmallFacts.{passed}
+use Rattle.plane_defs.proofs.AlikeSteps.{map_equal}
 
 -- ---- chosen parts of a list
 
@@ -35,17 +38,9 @@ map_flat_one f (x ∷ xs) = ap (λ l. f x ∷ l) (map_flat_one f xs)
 pub map_filter_flat : {X A : Type 0} (f : X → A) (t : X → Bool) (xs : List X) → map f (filter t xs) ≡ flat_map (λ x. cond (t x) (f x ∷ []) []) xs
 map_filter_flat f t xs = map_flat_one f (filter t xs) ∙ filter_flat (λ x. f x ∷ []) t xs
 
-flat_equal : {X A : Type 0} (f g : X → List A) (xs : List X) → AllByRecursion (λ x. f x ≡ g x) xs → flat_map f xs ≡ flat_map g xs
-flat_equal f g [] same = refl
-flat_equal f g (x ∷ xs) same = ap (λ a. a ++ flat_map f xs) same.0 ∙ ap (λ l. g x ++ l) (flat_equal f g xs same.1)
-
-and_right : (a b : Bool) → (a && b) ≡ true → b ≡ true
-and_right true b h = h
-and_right false b h = cc
-
 pub newly_here : (block : List ℤ) (weights : List ℕ) (plane p : ℕ) → newly_significant block weights plane p ≡ true → significant block plane p ≡ true
 unfolding newly_significant
-newly_here block weights plane p h = and_right (type_due block weights plane p) (significant block plane p) h
+newly_here block weights plane p h = (and_parts (type_due block weights plane p) (significant block plane p) h).1
 
 pub typed_entries : (block : List ℤ) (weights : List ℕ) (plane : ℕ) (check : Check) (ps : List ℕ) → entries_of (typed_steps block weights plane check ps) ≡ typed block weights plane ps
 typed_entries block weights plane check ps = ap (λ l. word (types block weights plane ps) ∷ l) (map_map entry_of _ _)

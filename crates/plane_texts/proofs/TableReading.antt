@@ -2,7 +2,7 @@
 -- alike up to there.
 use Rattle.std.proofs.Common.{◌≡◌, ℕ, ◌+◌, ◌-◌, ◌*◌, ◌/◌, ◌<◌, ◌≤◌, min, List, [], ◌∷◌, ◌++◌, length, refl, ap, sym, ◌∙◌, arith, get_or}
 use Rattle.std.specs.List.{flat_map, AllByRecursion}
-use Rattle.plane_defs.specs.declared.codes.Book.{Book}
+use Rattle.base_122.specs.declared.book.Book.{Book}
 use Rattle.plane_defs.specs.Spans.{span}
 use Rattle.plane_defs.specs.Entries.{stage_number}
 use Rattle.plane_defs.specs.StepLaws.{entries_of}
@@ -10,7 +10,6 @@ use Rattle.plane_defs.specs.Planes.{Plane, gaggles, gaggle_size, of_block, of_ga
 use Rattle.plane_defs.specs.Reading.{read_after, steps_of_block, steps_of_gaggle, gaggle_reading, stage_reading, plane_reading}
 use Rattle.plane_defs.proofs.Above.{all_span}
 use Rattle.plane_defs.proofs.ReadingTexts.{steps_entries}
-use Rattle.plane_texts.specs.Given.{entries_before, count_before}
 
 pub flat_same : {X : Type 0} (f g : ℕ → List X) (xs : List ℕ) → AllByRecursion (λ x. f x ≡ g x) xs → flat_map f xs ≡ flat_map g xs
 flat_same f g [] all = refl
@@ -52,10 +51,6 @@ module _ (p p' : Plane) (k n : ℕ) (same : SendSame p p' k n) where
       flat_map (steps_of_block p (stage_number k)) (span start count) ≡ flat_map (steps_of_block p' (stage_number k)) (span start count)
   rows_same start count within = span_same (steps_of_block p (stage_number k)) (steps_of_block p' (stage_number k)) start count (λ r low high. same.here r (within r low high))
 
-  row_entries_same : (start count : ℕ) → start + count ≤ n → flat_map (of_block p (stage_number k)) (span start count) ≡ flat_map (of_block p' (stage_number k)) (span start count)
-  row_entries_same start count le =
-      span_same (of_block p (stage_number k)) (of_block p' (stage_number k)) start count (λ r low high. entries_same p p' k r (same.here r (omega (arith, le, high))))
-
   -- what stands before the stage in a gaggle
   stage_entries_same : (j g : ℕ) → j < k → of_gaggle p (stage_number j) g ≡ of_gaggle p' (stage_number j) g
   stage_entries_same j g lt =
@@ -65,12 +60,6 @@ module _ (p p' : Plane) (k n : ℕ) (same : SendSame p p' k n) where
 
   pub before_same : (g : ℕ) → before_stage p k g ≡ before_stage p' k g
   before_same g = span_same (λ j. of_gaggle p (stage_number j) g) (λ j. of_gaggle p' (stage_number j) g) 0 k (λ j low high. stage_entries_same j g (omega (arith, high)))
-
-  -- what stands before a block
-  pub entries_before_same : (r : ℕ) → r ≤ n → entries_before p k r ≡ entries_before p' k r
-  entries_before_same r le =
-      ap (λ l. l ++ flat_map (of_block p (stage_number k)) (span (16 * (r / 16)) (r - 16 * (r / 16)))) (before_same (r / 16))
-      ∙ ap (λ l. before_stage p' k (r / 16) ++ l) (row_entries_same (16 * (r / 16)) (r - 16 * (r / 16)) (omega (arith, le)))
 
   -- the items of the first blocks of a gaggle
   pub read_same : (book : Book) (options : List ℕ) (g c : ℕ) → 16 * g + c ≤ n →
@@ -100,13 +89,3 @@ module _ (p p' : Plane) (k n : ℕ) (same : SendSame p p' k n) where
 pub early_same : (book : Book) (o : ℕ → List ℕ) (p p' : Plane) (k n : ℕ) → SendSame p p' k n → plane_reading book o p k ≡ plane_reading book o p' k
 early_same book o p p' k n same =
     span_same (stage_reading book o p) (stage_reading book o p') 0 k (λ j low high. stage_same p p' j (length p.depths) (send_earlier p p' k n j same (omega (arith, high))) book o (omega arith))
-
-pub count_same : (book : Book) (o : ℕ → List ℕ) (p p' : Plane) (k n r : ℕ) → SendSame p p' k n → r ≤ n → count_before book o p k r ≡ count_before book o p' k r
-count_same book o p p' k n r same le =
-    let g : ℕ = r / 16 in
-    omega (
-      arith,
-      ap length (early_same book o p p' k n same),
-      ap length (gaggles_same p p' k n same book o g (omega (arith, le))),
-      ap length (read_same p p' k n same book (o g) g (r - 16 * g) (omega (arith, le))),
-    )

@@ -4,6 +4,7 @@ use Rattle.std.specs.Prelude.{filter, ◌||◌, ◌&&◌}
 use Rattle.std.specs.List.{list_any, AllByRecursion}
 use Rattle.std.proofs.lemmas.List.{map-append, take_more, take_all}
 use Rattle.std.proofs.Math.Nat.{mod-eq_of_lt}
+use Rattle.std.proofs.lemmas.Bool.{or_right}
 use Rattle.item_defs.specs.Bits.{bits_of, copies}
 use Rattle.item_defs.proofs.NumberBits.{length-bits_of, value_of-bits_of, bits_of_zero, same_number}
 use Rattle.plane_defs.specs.declared.entries.Entry.TheVariants.{Word}
@@ -76,17 +77,13 @@ pub any_of_filter : {X : Type 0} (f t : X → Bool) (xs : List X) → list_any f
 any_of_filter f t [] e = e
 any_of_filter {X} f t (x ∷ xs) e = by_test (t x) e (any_of_filter f t xs)
   where
-    right : (a b : Bool) → b ≡ true → (a || b) ≡ true
-    right true b e = refl
-    right false b e = e
-
     either : (a b c : Bool) → (a || b) ≡ true → (b ≡ true → c ≡ true) → (a || c) ≡ true
     either true b c e more = refl
     either false b c e more = more e
 
     by_test : (s : Bool) → list_any f (cond s (x ∷ filter t xs) (filter t xs)) ≡ true → (list_any f (filter t xs) ≡ true → list_any f xs ≡ true) → (f x || list_any f xs) ≡ true
     by_test true e more = either (f x) (list_any f (filter t xs)) (list_any f xs) e more
-    by_test false e more = right (f x) (list_any f xs) (more e)
+    by_test false e more = or_right (f x) (list_any f xs) (more e)
 
 -- where a word lacks no wanted one, each wanted place has it
 pub wants_had : {X : Type 0} (want has : X → Bool) (xs : List X) → lacks_one (map want xs) (map has xs) ≡ false → AllByRecursion (λ x. want x ≡ true → has x ≡ true) xs

@@ -1,4 +1,4 @@
--- The blocks that the text of a plane may stand for, and the words that they send. (this project's own)
+-- The blocks that the text of a plane may represent, and the words that they send. (this project's own)
 use Rattle.std.specs.Prelude.{◌≡◌, ◌<◌, ◌≤◌, ℕ, ◌+◌, ◌/◌, ◌^◌, min, ℤ, pos, true, false, List, length, take}
 use Rattle.std.specs.Int.{int_shr}
 use lib.ListN.{get_or}

@@ -1,10 +1,10 @@
--- What the first m items of a plane give of its blocks: the steps of each that stand whole in them, and what these tell of its
+-- What the first m items of a plane give of its blocks: the steps of each that are whole in them, and what these give of its
 -- numbers. (this project's own)
 use Rattle.std.specs.Prelude.{◌≡◌, ℕ, ◌+◌, ◌-◌, ◌*◌, ◌/◌, ◌^◌, ◌==◌, ◌&&◌, ◌||◌, ℤ, pos, neg_ℤ, ◌+ℤ◌, Bool, false, if◌then◌else◌, unsigned_abs, nat_le, List, [], ◌∷◌, ◌++◌, length}
 use Rattle.std.specs.List.{flat_map, list_any}
 use lib.ListN.{get_or}
 use Rattle.item_defs.specs.Bits.{bit}
-use Rattle.plane_defs.specs.declared.codes.Book.{Book}
+use Rattle.base_122.specs.declared.book.Book.{Book}
 use Rattle.plane_defs.specs.declared.entries.Entry.{Entry}
 use Rattle.plane_defs.specs.Spans.{span}
 use Rattle.plane_defs.specs.Sets.{magnitude}
@@ -14,14 +14,14 @@ use Rattle.plane_defs.specs.StepLaws.{IsAc}
 use Rattle.plane_defs.specs.Planes.{Plane, of_block, before_stage}
 use Rattle.plane_defs.specs.Reading.{step_reading, read_after, steps_of_block, gaggle_reading, plane_reading}
 
--- those of the steps that stand whole in the first m items, with these entries before them
+-- those of the steps that are whole in the first m items, with these entries before them
 abbrev pub whole_steps : Book → List ℕ → List Entry → ℕ → List Step → List Step
 whole_steps book options before m [] = []
 whole_steps book options before m (s ∷ more) =
     let used = length (step_reading book options before s) in
     if nat_le used m then s ∷ whole_steps book options (before ++ s.entry ∷ []) (m - used) more else []
 
--- the entries of stage k that stand before block r in its gaggle, and the items before it in its plane
+-- the entries of stage k before block r in its gaggle, and the number of items before it in its plane
 abbrev pub entries_before : Plane → (k r : ℕ) → List Entry
 entries_before p k r =
     let g = r / 16 in before_stage p k g ++ flat_map (of_block p (stage_number k)) (span (16 * g) (r - 16 * g))
@@ -37,7 +37,7 @@ abbrev pub steps_given : Book → (ℕ → List ℕ) → Plane → (stages m r :
 steps_given book options p stages m r =
     flat_map (λ k. whole_steps book (options (r / 16)) (entries_before p k r) (m - count_before book options p k r) (steps_of_block p (stage_number k) r)) (span 0 stages)
 
--- ---- what steps tell of a number: its bit of the plane, and its sign
+-- ---- what steps give of a number: its bit of the plane, and its sign
 
 abbrev pub tells_bit : ℕ → Told → Bool
 tells_bit p flags_alone = false
@@ -57,13 +57,13 @@ has_bit_in steps p = list_any (λ s. tells_bit p s.tells) steps
 abbrev pub has_sign_in : List Step → ℕ → Bool
 has_sign_in steps p = list_any (λ s. tells_sign p s.tells) steps
 
--- a number with one more bit in its magnitude, and negative where it was or is so now
+-- a number with one more bit in its magnitude, and negative if it was or is so now
 abbrev pub told_number : (plane : ℕ) → ℤ → (more minus : Bool) → ℤ
 told_number plane z more minus =
     let size = unsigned_abs z + (if more then 2 ^ plane else 0) in
     if negative z || minus then neg_ℤ (pos size) else pos size
 
--- `now` is the block before the plane with what these steps tell of v
+-- `now` is the block before the plane with what these steps give of v
 pub record Tells (plane : ℕ) (steps : List Step) (v before now : List ℤ) : Type 0 where
   pub whole : length now ≡ 64
   pub acs : (p : ℕ) → IsAc p → get_or now p (pos 0) ≡

@@ -1,4 +1,4 @@
-//! What the text of a bit plane gives of its blocks, and the laws that a reader stands on: each word that isn't refused is sent by
+//! What the text of a bit plane gives of its blocks, and the law that a reader relies on: each word that isn't refused is sent by
 //! some block that is the same above the plane and in what it sent before.
 #![tactic(auto)]
 

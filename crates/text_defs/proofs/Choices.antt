@@ -13,6 +13,7 @@ use Rattle.segment_defs.specs.SegmentItems.{Options, segment_items}
 use Rattle.text_defs.specs.Spellable.{IsSpellable, AreWordOptions}
 use Rattle.text_defs.specs.Outcomes.{Reading}
 use Rattle.text_defs.specs.Agreement.{ItemsAlike}
+use Rattle.text_defs.proofs.NumbersChoice.{left_at}
 use Rattle.text_defs.proofs.FrontLaws.{next_alike}
 use Rattle.text_defs.proofs.SegmentAlike.{segment_alike}
 use Rattle.text_defs.proofs.SoundItems.{segment_sound, sound_at}
@@ -25,17 +26,12 @@ pub record Chooses (m n : ℕ) (is js : List Item) : Type 0 where
   pub next : (item_at js m).said ≡ n
 
 pub choose_left : (m n : ℕ) (is js is' js' : List Item) → m < length is → Chooses m n is js → Chooses m n (is ++ is') (js ++ js')
-choose_left m n is js is' js' lt c = record { within = longer js js' m c.within; before = same m is js is' js' lt c.within c.before; next = ap (λ i. i.said) (left m js js' c.within) ∙ c.next }
+choose_left m n is js is' js' lt c = record { within = longer js js' m c.within; before = same m is js is' js' lt c.within c.before; next = ap (λ i. i.said) (left_at m js js' c.within) ∙ c.next }
   where
     longer : (js js' : List Item) (m : ℕ) → m < length js → m < length (js ++ js')
     longer [] js' m lt = absurd (omega (arith, lt))
     longer (j ∷ js) js' zero lt = omega arith
     longer (j ∷ js) js' (suc m) lt = let r = longer js js' m (omega (arith, lt)) in omega (arith, r)
-
-    left : (m : ℕ) (js js' : List Item) → m < length js → item_at (js ++ js') m ≡ item_at js m
-    left m [] js' lt = absurd (omega (arith, lt))
-    left zero (j ∷ js) js' lt = refl
-    left (suc m) (j ∷ js) js' lt = left m js js' (omega (arith, lt))
 
     same : (m : ℕ) (is js is' js' : List Item) → m < length is → m < length js → SaySame m is js → SaySame m (is ++ is') (js ++ js')
     same zero is js is' js' a b e = refl

@@ -18,6 +18,7 @@ use Rattle.segment_defs.specs.SegmentItems.{Options, dc_shift, dc_part_items, it
 use Rattle.wave_defs.specs.Blocks as blocks
 use Rattle.text_defs.specs.Spellable.{IsSpellable}
 use Rattle.text_defs.specs.Outcomes.{Reading}
+use Rattle.text_defs.proofs.Onward.{zero_number}
 use Rattle.text_defs.proofs.NumbersChoice.{left_at}
 use Rattle.text_defs.proofs.ValueChoice.{MaySay, may_same}
 use Rattle.text_defs.proofs.Choices.{Chooses, choose_left, further_from}
@@ -39,16 +40,11 @@ unfolding lone
 lone_dcs [] = refl
 lone_dcs (z ∷ zs) = ap (λ l. z ∷ l) (lone_dcs zs)
 
-no_number : (xs : List ℕ) (i : ℕ) → get_or (map (λ j. pos 0) xs) i (pos 0) ≡ pos 0
-no_number [] i = refl
-no_number (x ∷ xs) zero = refl
-no_number (x ∷ xs) (suc i) = no_number xs i
-
 lone_zero : (zs : List ℤ) (r p : ℕ) → 1 ≤ p → magnitude (get_or (map lone zs) r []) p ≡ 0
 unfolding lone
 lone_zero zs r zero low = absurd (omega (arith, low))
 lone_zero [] r (suc p) low = refl
-lone_zero (z ∷ zs) zero (suc p) low = ap unsigned_abs (no_number (span 0 63) p)
+lone_zero (z ∷ zs) zero (suc p) low = ap unsigned_abs (zero_number (span 0 63) p)
 lone_zero (z ∷ zs) (suc r) (suc p) low = lone_zero zs r (suc p) low
 
 lone_dc : (zs : List ℤ) (r : ℕ) → magnitude (get_or (map lone zs) r []) 0 ≡ unsigned_abs (get_or zs r (pos 0))

@@ -2,7 +2,7 @@
 use Rattle.std.proofs.Common.{◌≡◌, ◌⊎◌, ℕ, zero, suc, ◌+◌, ◌-◌, ◌*◌, ◌<◌, ◌≤◌, inl, inr, Bool, true, false, cond, eqb, List, [], ◌∷◌, length, map, refl, ap, sym, ◌∙◌, subst, arith, ℤ, pos, negsuc, get_or, length-append}
 use Rattle.std.specs.Prelude.{nat_le, nat_lt, ◌&&◌}
 use Rattle.std.specs.Int.{int_shr}
-use Rattle.std.proofs.lemmas.Bool.{cases_lt}
+use Rattle.std.proofs.lemmas.Bool.{cases_lt, and_parts}
 use Rattle.std.proofs.lemmas.Bool.Decides.{nat_tests}
 use Rattle.std.proofs.lemmas.Int.{ints}
 use Rattle.std.proofs.lemmas.List.{get_or-map, length-map}
@@ -16,7 +16,7 @@ use Rattle.plane_defs.proofs.Settled.{head_same, tail_same}
 use Rattle.segment_defs.specs.declared.head.SegmentHead.{SegmentHead}
 use Rattle.segment_defs.specs.Depths.{dc_of, dcs_of}
 use Rattle.segment_defs.specs.SegmentItems.{Options, dc_shift, q_of, dc_part_items}
-use Rattle.text_defs.specs.Spellable.{IsSpellable, block_of}
+use Rattle.text_defs.specs.Spellable.{IsSpellable}
 use Rattle.number_defs.specs.Given.{numbers_through}
 use Rattle.text_defs.specs.Given.{dc_through, high_count, is_dc_bit_given}
 use Rattle.text_defs.proofs.Prefixes.{SaySame, Inside, Past, split, first_part}
@@ -97,16 +97,8 @@ through_by N q vs ws o u m r fit also same within = by_bits (eqb N 1) refl
 
 -- whether a bit of the planes is given
 given_from : (h n len r m planes : ℕ) → (nat_lt n planes && nat_le (h + n * len + r + 1) m) ≡ true → (n < planes) × (h + n * len + r + 1 ≤ m)
-given_from h n len r m planes e = (lt_from n planes (first (nat_lt n planes) _ e), le_from (h + n * len + r + 1) m (second (nat_lt n planes) _ e))
+given_from h n len r m planes e = (lt_from n planes (and_parts (nat_lt n planes) _ e).0, le_from (h + n * len + r + 1) m (and_parts (nat_lt n planes) _ e).1)
   where
-    first : (a b : Bool) → (a && b) ≡ true → a ≡ true
-    first true b e = refl
-    first false b e = e
-
-    second : (a b : Bool) → (a && b) ≡ true → b ≡ true
-    second true b e = e
-    second false b e = absurd cc
-
     lt_from : (a b : ℕ) → nat_lt a b ≡ true → a < b
     lt_from a b e = grind (arith, nat_tests)
 
@@ -148,16 +140,9 @@ module _ (head : SegmentHead) (xs ys : List (List ℤ)) (ds es : List ℕ) (o u 
   unfolding dc_items
   high_said = first_part m (high xs o) (high ys u) (low xs) (low ys) (high_step N (q_of head) (dcs_of xs) (dcs_of ys) o.dcs u.dcs long p.dcs_fit q.dcs_fit) said
 
-  -- a DC is one of the list
-  dc_at : (blocks : List (List ℤ)) (r : ℕ) → r < length blocks → get_or (dcs_of blocks) r (pos 0) ≡ dc_of (block_of blocks r)
-  dc_at blocks r within = get_or-map dc_of blocks r [] (pos 0) within
-
   module _ (r : ℕ) (inside : r < head.blocks) where
     at_x : r < length (dcs_of xs)
     at_x = omega (arith, length-map xs dc_of, p.blocks_all, inside)
-
-    at_y : r < length (dcs_of ys)
-    at_y = omega (arith, long, at_x)
 
     abbrev x : ℤ
     x = get_or (dcs_of xs) r (pos 0)

@@ -24,6 +24,8 @@ use Rattle.text_defs.specs.Spellable.{IsSpellable}
 use Rattle.text_defs.specs.Outcomes.{Reading}
 use Rattle.text_defs.proofs.Prefixes.{are_rest}
 use Rattle.text_defs.proofs.LongItems.{depth_bits_some}
+use Rattle.text_defs.proofs.PlanesFurther.{planes_are}
+use Rattle.text_defs.proofs.Onward.{zero_number}
 use Rattle.text_defs.proofs.NumbersChoice.{left_at, right_at}
 use Rattle.text_defs.proofs.ValueChoice.{MaySay, may_same}
 use Rattle.text_defs.proofs.OptionsRead.{numbers_further}
@@ -114,16 +116,11 @@ any_depths depth_ac ds o k said le few inside all lt may = by_depth (eqb depth_a
 blank : List ℤ → List ℤ
 blank block = dc_of block ∷ map (λ i. pos 0) (span 0 63)
 
-zero_at : (xs : List ℕ) (i : ℕ) → get_or (map (λ j. pos 0) xs) i (pos 0) ≡ pos 0
-zero_at [] i = refl
-zero_at (x ∷ xs) zero = refl
-zero_at (x ∷ xs) (suc i) = zero_at xs i
-
 blank_zero : (blocks : List (List ℤ)) (r p : ℕ) → 1 ≤ p → magnitude (get_or (map blank blocks) r []) p ≡ 0
 unfolding blank
 blank_zero blocks r zero low = absurd (omega (arith, low))
 blank_zero [] r (suc p) low = refl
-blank_zero (b ∷ blocks) zero (suc p) low = ap unsigned_abs (zero_at (span 0 63) p)
+blank_zero (b ∷ blocks) zero (suc p) low = ap unsigned_abs (zero_number (span 0 63) p)
 blank_zero (b ∷ blocks) (suc r) (suc p) low = blank_zero blocks r (suc p) low
 
 blank_dc : (blocks : List (List ℤ)) (r : ℕ) → magnitude (get_or (map blank blocks) r []) 0 ≡ magnitude (get_or blocks r []) 0
@@ -165,12 +162,6 @@ blank_spellable head xs ds es p long few = record {
 
 -- ---- one item further
 
-segments_are : (head : SegmentHead) (blocks : List (List ℤ)) (depths : List ℕ) (options : Options) → head.stop.dc ≡ false →
-    segment_items head blocks depths options ≡ dc_part_items head blocks options ++ (depth_items head.depth_ac depths options.depths ++ planes_items head blocks depths options head.depth_ac)
-unfolding segment_items
-segments_are head blocks depths options e =
-    ap (λ t. cond t (dc_part_items head blocks options) (dc_part_items head blocks options ++ (depth_items head.depth_ac depths options.depths ++ planes_items head blocks depths options head.depth_ac))) e
-
 pub depths_further : (head : SegmentHead) (rest : List ℕ) (m : ℕ) (xs : List (List ℤ)) (ds : List ℕ) (o : Options) (more after : List Bool) (said : ℕ) → IsHead head →
     Reading head rest xs ds o m more → head.stop.dc ≡ false → length (dc_part_items head xs o) ≤ m → m < length (dc_part_items head xs o) + length (depth_items head.depth_ac ds o.depths) →
     MaySay (item_at (segment_items head xs ds o) m) said → more ≡ spelling (item_at (segment_items head xs ds o) m).form.shape said ++ after →
@@ -181,7 +172,7 @@ depths_further head rest m xs ds o more after said fits a goes_on low high may r
     let P = planes_items head xs ds o head.depth_ac in
     let c : ℕ = m - length D in
     let p = a.spellable in
-    let parts : segment_items head xs ds o ≡ D ++ (Z ++ P) = segments_are head xs ds o goes_on in
+    let parts : segment_items head xs ds o ≡ D ++ (Z ++ P) = planes_are head xs ds o goes_on in
     let within : c < length Z = omega (arith, low, high) in
     let all : AreItems (take m (D ++ (Z ++ P))) = subst (λ l. AreItems (take m l)) parts a.front.taken in
     let all_depths : AreItems (take c Z) = first_are c Z P (are_rest m D (Z ++ P) all low) in
@@ -192,6 +183,6 @@ depths_further head rest m xs ds o more after said fits a goes_on low high may r
     let same : said_of D ≡ said_of (dc_part_items head ys u) = ap (λ l. said_of (dc_items head.depth_dc head.depth_ac (dc_shift head) l o.dcs)) (sym (blank_dcs xs)) in
     let joined : Chooses m said (D ++ (Z ++ P)) (dc_part_items head ys u ++ (depth_items head.depth_ac r.es r.u ++ planes_items head ys r.es u head.depth_ac)) =
     choose_right m said D (dc_part_items head ys u) _ _ low same (choose_left c said Z (depth_items head.depth_ac r.es r.u) P _ within r.chosen) in
-    let chosen = choose_as m said _ _ _ _ parts (segments_are head ys r.es u goes_on) joined in
+    let chosen = choose_as m said _ _ _ _ parts (planes_are head ys r.es u goes_on) joined in
     let long : m < length (segment_items head xs ds o) = omega (arith, high, ap length parts, length-append D (Z ++ P), length-append Z P) in
     (ys, r.es, u, further_from head rest m xs ys ds r.es o u more after said fits a may.0 may.1 read long (blank_spellable head xs ds r.es p r.long r.few) (record { at = a.known.at }) chosen)

@@ -1,10 +1,10 @@
 -- The next item of an entry says any number that it doesn't refuse, by another entry or by another option.
-use Rattle.std.proofs.Common.{◌≡◌, ◌⊎◌, ℕ, zero, suc, ◌+◌, ◌^◌, ◌<◌, ◌≤◌, inl, inr, Bool, true, false, not, cond, eqb, List, [], ◌∷◌, ◌++◌, length, refl, ap, sym, ◌∙◌, subst, arith, zero-add}
+use Rattle.std.proofs.Common.{◌≡◌, ◌⊎◌, ℕ, zero, suc, ◌+◌, ◌^◌, ◌<◌, ◌≤◌, inl, inr, Bool, true, false, cond, eqb, List, [], ◌∷◌, ◌++◌, length, refl, ap, sym, ◌∙◌, subst, arith, zero-add}
 use Rattle.std.specs.Prelude.{◌==◌, ◌||◌, None, Some, nat_lt}
 use Rattle.std.specs.List.{list_any, list_all}
 use Rattle.std.proofs.lemmas.Bool.Decides.{nat_tests}
 use Rattle.item_defs.specs.Bits.{digit}
-use Rattle.item_defs.specs.Items.{Item, raw, plain, code, bad_option, false_flag, IsSaid}
+use Rattle.item_defs.specs.Items.{Item, raw, plain, code, false_flag, IsSaid}
 use Rattle.item_defs.specs.Readings.{item_at}
 use Rattle.plane_defs.specs.declared.entries.Entry.{Entry}
 use Rattle.plane_defs.specs.declared.entries.Entry.TheVariants.{Bit, Word}
@@ -21,6 +21,7 @@ use Rattle.plane_defs.proofs.SpanLists.{length-map-span, list_any-span-suc}
 use Rattle.plane_defs.proofs.Tables.{list_all-span-zero}
 use Rattle.plane_defs.proofs.StepItems.{AreOptionsOf}
 use Rattle.plane_texts.specs.Candidates.{Replaces}
+use Rattle.text_defs.proofs.OptionsRead.{named}
 use Rattle.text_defs.proofs.ValueChoice.{MaySay}
 use Rattle.text_defs.proofs.Choices.{Chooses}
 use Rattle.plane_texts.proofs.SmallFacts.{equal_from}
@@ -80,10 +81,6 @@ pub record OptionSpot (o : List ℕ) (before : List Entry) (check : Check) (x : 
 passed : (b : Bool) → cond b (Some false_flag) None ≡ None → b ≡ false
 passed true e = cc
 passed false e = refl
-
-named : (b : Bool) → cond (not b) (Some bad_option) None ≡ None → b ≡ true
-named true e = refl
-named false e = cc
 
 -- an option of this name
 some_option : (n said k : ℕ) → list_any (λ option. identifier_number n option == said) (span 0 k) ≡ true → (option : ℕ) × (option < k) × (identifier_number n option ≡ said)

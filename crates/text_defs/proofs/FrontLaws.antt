@@ -1,6 +1,7 @@
 -- Two readings of the same bits agree as far as both go, and stop in one way.
 use Rattle.std.proofs.Common.{◌≡◌, ℕ, zero, suc, ◌<◌, ◌≤◌, List, [], ◌∷◌, ◌++◌, length, take, Bool, refl, sym, ap, subst, ◌∙◌, arith}
-use Rattle.std.specs.Prelude.{Option, None, Some}
+use Rattle.std.specs.Prelude.{Some}
+use Rattle.item_defs.proofs.ReadingLaws.{not_refused, some_of}
 use Rattle.item_defs.specs.Items.{Item, Refusal, item_bits, text, spelling, IsSaid}
 use Rattle.item_defs.specs.Readings.{IsSound, IsItem, AreItems, StepsAlike, item_at}
 use Rattle.item_defs.specs.Laws.{said_of}
@@ -76,12 +77,6 @@ abbrev pub EndsSo : List Item → ℕ → List Bool → End → Type 0
 EndsSo items m more all_given = m ≡ length items
 EndsSo items m more nothing_follows = NothingFollows items m more
 EndsSo items m more (refusal_follows name) = RefusalFollows items m more name
-
-not_refused : {name : Refusal} (o : Option Refusal) → o ≡ None → o ≡ Some name → ⊥
-not_refused o p q = cc
-
-some_of : (o : Option Refusal) (a b : Refusal) → o ≡ Some a → o ≡ Some b → a ≡ b
-some_of o a b p q = cc
 
 module _ (is js : List Item) (bits : List Bool) (same : ItemsAlike is js) where
   -- where one goes on, the other doesn't end

@@ -9,6 +9,7 @@ use Rattle.std.proofs.lemmas.List.{get_or_past, length-map, get_or-map, get_or_a
 use Rattle.std.proofs.Math.Seq.{get_or-append_seam}
 use Rattle.std.proofs.Math.Nat.{mod-eq_of_lt}
 use Rattle.std.proofs.Math.Pow.{pow_mono}
+use Rattle.std.proofs.lemmas.List.FromFn.{length-range_with_len}
 use Rattle.item_defs.specs.Bits.{bit}
 use Rattle.number_defs.specs.Ranges.{shifted_height, complement}
 use Rattle.number_defs.specs.Gaggles.{Kind, uncoded, first_place, places, uncoded_value, unary_part, rest_part, value_items, lead_items, gaggle_items, items_before, gaggle_count, number_items}
@@ -29,7 +30,7 @@ use Rattle.text_defs.specs.Given.{dc_through, high_count, is_dc_bit_given, given
 use Rattle.text_defs.specs.Laws.{AllGiven}
 use Rattle.text_defs.proofs.SegmentAlike.{list_same}
 use Rattle.plane_texts.proofs.NothingTold.{any_bit, any_sign}
-use Rattle.text_defs.proofs.NumbersTold.{before_parts, length-range, map_long}
+use Rattle.text_defs.proofs.NumbersTold.{before_parts, map_long}
 use Rattle.text_defs.proofs.DcTold.{dc_long}
 use Rattle.plane_texts.proofs.LowBits.{none_below, left_over}
 use Rattle.text_defs.proofs.GivenAlike.{sum_alike}
@@ -113,7 +114,7 @@ numbers_fit kind heights options i lt =
         let fit : cond (eqb (options (i / 16)) (uncoded kind.bits) || eqb (options (i / 16)) 0) 0 n + (i - a + 1) ≤ length (value_items kind heights (options (i / 16)) (places (length heights) (i / 16))) =
         values_fit kind heights (options (i / 16)) a n i (omega arith) (omega (arith, lt)) in
         let counted : cond (eqb (options (i / 16)) (uncoded kind.bits) || eqb (options (i / 16)) 0) 0 (length (places (length heights) (i / 16))) + (i - a + 1) ≤ length (value_items kind heights (options (i / 16)) (places (length heights) (i / 16))) =
-        subst (λ k. cond (eqb (options (i / 16)) (uncoded kind.bits) || eqb (options (i / 16)) 0) 0 k + (i - a + 1) ≤ length (value_items kind heights (options (i / 16)) (places (length heights) (i / 16)))) (sym (length-range a n)) fit in
+        subst (λ k. cond (eqb (options (i / 16)) (uncoded kind.bits) || eqb (options (i / 16)) 0) 0 k + (i - a + 1) ≤ length (value_items kind heights (options (i / 16)) (places (length heights) (i / 16)))) (sym (length-range_with_len a n)) fit in
         omega (arith, parts, counted, gaggle_long kind heights (options (i / 16)) (i / 16))
 
 -- ---- an AC number

@@ -5,6 +5,7 @@ use Rattle.std.specs.List.{range_with_len}
 use Rattle.std.proofs.lemmas.Bool.{cases_lt}
 use Rattle.std.proofs.lemmas.Bool.Decides.{nat_tests}
 use Rattle.std.proofs.lemmas.List.{length-map}
+use Rattle.std.proofs.lemmas.List.FromFn.{length-range_with_len}
 use Rattle.item_defs.specs.Items.{Item}
 use Rattle.item_defs.specs.Laws.{said_of}
 use Rattle.number_defs.specs.Gaggles.{Kind, uncoded, value_at, first_place, places, uncoded_value, unary_part, rest_part, value_items, lead_items, gaggle_items, items_before, gaggle_count, number_items}
@@ -47,12 +48,8 @@ all_said (suc m) (i ∷ is) (j ∷ js) long le e =
     let first : i.said ≡ j.said = head_same i.said j.said (said_of (take m is)) (said_of (take m js)) e in
     ap (λ n. n ∷ said_of is) first ∙ ap (λ l. j.said ∷ l) (all_said m is js (omega (arith, long)) (omega (arith, le)) (tail_same i.said j.said (said_of (take m is)) (said_of (take m js)) e))
 
-pub length-range : (a n : ℕ) → length (range_with_len a n) ≡ n
-length-range a zero = refl
-length-range a (suc n) = let r = length-range (a + 1) n in omega (arith, r)
-
 pub map_long : (f : ℕ → Item) (a n : ℕ) → length (map f (range_with_len a n)) ≡ n
-map_long f a n = length-map (range_with_len a n) f ∙ length-range a n
+map_long f a n = length-map (range_with_len a n) f ∙ length-range_with_len a n
 
 -- ---- a gaggle
 
@@ -160,7 +157,7 @@ module _ (kind : Kind) (xs ys : List ℕ) (p : (i : ℕ) → get_or xs i 0 < 2 ^
         before,
         λ i low high fit.
             let counted : 1 + length (lead_items kind xs g) + unary_of kind (o g) n + (i - a + 1) ≤ suc c =
-            subst (λ l. 1 + length (lead_items kind xs g) + unary_of kind (o g) l + (i - a + 1) ≤ suc c) (length-range a n) fit in
+            subst (λ l. 1 + length (lead_items kind xs g) + unary_of kind (o g) l + (i - a + 1) ≤ suc c) (length-range_with_len a n) fit in
             let d : ℕ = i - a + 1 in
             let at : a + d - 1 ≡ i = omega arith in
             subst (λ j. get_or xs j 0 ≡ get_or ys j 0) at

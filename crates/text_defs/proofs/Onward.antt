@@ -105,7 +105,7 @@ zeros xs = map (λ j. 0) xs
 pub zero_depths : ℕ → List ℕ
 zero_depths n = zeros (span 0 n)
 
-zero_number : (xs : List ℕ) (i : ℕ) → get_or (map (λ j. pos 0) xs) i (pos 0) ≡ pos 0
+pub zero_number : (xs : List ℕ) (i : ℕ) → get_or (map (λ j. pos 0) xs) i (pos 0) ≡ pos 0
 zero_number [] i = refl
 zero_number (x ∷ xs) zero = refl
 zero_number (x ∷ xs) (suc i) = zero_number xs i

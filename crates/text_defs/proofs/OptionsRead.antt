@@ -15,7 +15,7 @@ are_at zero k (i ∷ is) all lt within = absurd (omega (arith, lt))
 are_at (suc m) zero (i ∷ is) all lt within = all.0
 are_at (suc m) (suc k) (i ∷ is) all lt within = are_at m k is all.1 (omega (arith, lt)) (omega (arith, within))
 
-named : (b : Bool) → cond (not b) (Some bad_option) None ≡ None → b ≡ true
+pub named : (b : Bool) → cond (not b) (Some bad_option) None ≡ None → b ≡ true
 named true e = refl
 named false e = cc
 

@@ -1,5 +1,5 @@
 -- A text is read in one way, and has one outcome.
-use Rattle.std.proofs.Common.{◌≡◌, ◌⊎◌, ℕ, ◌+◌, ◌*◌, ◌/◌, ◌<◌, ◌≤◌, inl, inr, Bool, cond, List, ◌++◌, length, take, refl, ap, sym, ◌∙◌, subst, arith, ℤ, length-append}
+use Rattle.std.proofs.Common.{◌≡◌, ◌⊎◌, ℕ, ◌+◌, ◌*◌, ◌/◌, ◌≤◌, inl, inr, Bool, cond, List, ◌++◌, length, take, refl, ap, sym, ◌∙◌, subst, arith, ℤ, length-append}
 use Rattle.std.proofs.lemmas.Bool.{cases_lt}
 use Rattle.std.proofs.Math.Seq.{take-length}
 use Rattle.item_defs.specs.Items.{Item, Refusal, text}
@@ -33,11 +33,6 @@ module _ (head : SegmentHead) (rest : List ℕ) (fits : IsHead head) (xs ys : Li
         | inl lt ↦ absurd (no_earlier_end (segment_items head xs ds o) (segment_items head ys es u) (bits_read head rest) (segment_alike head xs ys ds es o u fits a.spellable b.spellable a.known b.known) m n more other s lt a.front b.front ends)
         | inr ge ↦ ge
       ]
-
-not_at : (is : List Item) (m : ℕ) (more : List Bool) (s : End) → EndsSo is m more s → (s ≡ all_given → ⊥) → m < length is
-not_at is m more all_given ends some = absurd (some refl)
-not_at is m more nothing_follows ends some = ends.within
-not_at is m more (refusal_follows name) ends some = ends.within
 
 module _ (head : SegmentHead) (rest : List ℕ) (fits : IsHead head) (xs ys : List (List ℤ)) (ds es : List ℕ) (o u : Options) (more other : List Bool) where
   -- ends at one place
@@ -94,13 +89,6 @@ end_of_taken head rest is m more (inr cut) = (nothing_follows, cut.0)
 abbrev Cause : SegmentHead → List ℕ → List Item → ℕ → List Bool → SegmentRefusal → Type 0
 Cause head rest is m more name =
     IsRefusedItem is m more name ⊎ (((m ≡ length is) × IsOff (length_of head rest) (expected_length head is) name) ⊎ (NothingFollows is m more × IsOffLimit head rest name))
-
-end_of_refused : (head : SegmentHead) (rest : List ℕ) (is : List Item) (m : ℕ) (more : List Bool) (name : SegmentRefusal) → Cause head rest is m more name → (s : End) × EndsSo is m more s
-end_of_refused head rest is m more (at_item name) (inl refused) = (refusal_follows name, refused)
-end_of_refused head rest is m more short_segment (inl refused) = absurd refused
-end_of_refused head rest is m more overlong (inl refused) = absurd refused
-end_of_refused head rest is m more name (inr (inl whole)) = (all_given, whole.0)
-end_of_refused head rest is m more name (inr (inr cut)) = (nothing_follows, cut.0)
 
 -- two causes that end alike have one name
 off_once : (octets wanted : ℕ) (a b : SegmentRefusal) → IsOff octets wanted a → IsOff octets wanted b → a ≡ b

@@ -1,9 +1,10 @@
 -- The next item of a plane says any number that it doesn't refuse, by another entry of one block or by another option.
 use Rattle.std.proofs.Common.{◌≡◌, ◌⊎◌, ℕ, zero, suc, ◌+◌, ◌*◌, ◌<◌, ◌≤◌, inl, inr, Bool, false, List, [], ◌∷◌, ◌++◌, length, refl, ap, sym, ◌∙◌, subst, arith, ℤ, get_or}
 use Rattle.std.specs.Prelude.{◌||◌}
-use Rattle.std.specs.List.{flat_map, list_any, AllByRecursion}
+use Rattle.std.specs.List.{flat_map, list_any}
 use Rattle.std.proofs.lemmas.Bool.{cases_lt}
 use Rattle.std.proofs.lemmas.List.Folds.{list_any-append}
+use Rattle.plane_defs.proofs.Alike.{all_of}
 use Rattle.item_defs.specs.Readings.{item_at}
 use Rattle.item_defs.specs.Laws.{said_of}
 use Rattle.plane_defs.specs.declared.entries.Entry.{Entry}
@@ -31,10 +32,6 @@ use Rattle.text_defs.proofs.EntrySpot.{Elsewhere}
 use Rattle.text_defs.proofs.StepSpot.{StepSpot, spot, read_options}
 use Rattle.plane_texts.proofs.SmallFacts.{neither_left, neither_right}
 use Rattle.text_defs.proofs.PlaneItems.{flat_allowed}
-
-all_of : {X : Type 0} {P : X → Type 0} → ((x : X) → P x) → (xs : List X) → AllByRecursion P xs
-all_of each [] = tt
-all_of each (x ∷ xs) = (each x, all_of each xs)
 
 flat_equal : {A : Type 0} (f g : ℕ → List A) (start n : ℕ) → ((j : ℕ) → start ≤ j → j < start + n → f j ≡ g j) → flat_map f (span start n) ≡ flat_map g (span start n)
 unfolding span
@@ -92,7 +89,7 @@ module _ (xs : List (List ℤ)) (depths weights : List ℕ) (number q : ℕ) whe
     alike i le s = block_same (get_or xs s []) (get_or ys s []) (get_or depths s 0) weights number q (differs.acs s) i (omega (arith, most)) (λ third. early_said 2 (omega (arith, third)) s)
 
     gaggle_alike : (i g : ℕ) → i ≤ k → SameSteps (steps_of_gaggle (plane_with xs) (stage_number i) g) (steps_of_gaggle (plane_with ys) (stage_number i) g)
-    gaggle_alike i g le = flat_steps (Steps xs i) (Steps ys i) (span (16 * g) (gaggle_size (plane_with xs) g)) (all_of (alike i le) (span (16 * g) (gaggle_size (plane_with xs) g)))
+    gaggle_alike i g le = flat_steps (Steps xs i) (Steps ys i) (span (16 * g) (gaggle_size (plane_with xs) g)) (all_of (span (16 * g) (gaggle_size (plane_with xs) g)) (alike i le))
 
     gaggle_said : (i g : ℕ) → i < k → of_gaggle (plane_with xs) (stage_number i) g ≡ of_gaggle (plane_with ys) (stage_number i) g
     gaggle_said i g lt = flat_equal (of_block (plane_with xs) (stage_number i)) (of_block (plane_with ys) (stage_number i)) (16 * g) (gaggle_size (plane_with xs) g) (λ s low high. differs.early i lt s)

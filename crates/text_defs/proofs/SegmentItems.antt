@@ -1,10 +1,9 @@
 -- The items of a segment of spellable values, with options that there are and depths within the head's, are none of them refused.
-use Rattle.std.proofs.Common.{◌≡◌, ℕ, ◌<◌, ◌≤◌, Bool, true, false, cond, List, [], ◌∷◌, ◌++◌, length, refl, ◌∙◌, subst, arith, ℤ, get_or}
+use Rattle.std.proofs.Common.{◌≡◌, ℕ, ◌<◌, ◌≤◌, Bool, true, false, cond, List, ◌++◌, length, refl, ◌∙◌, subst, arith, ℤ, get_or}
 use Rattle.std.specs.Prelude.{nat_le}
-use Rattle.std.specs.List.{list_all, flat_map}
+use Rattle.std.specs.List.{list_all}
 use Rattle.std.proofs.lemmas.Bool.Decides.{nat_tests}
 use Rattle.std.proofs.lemmas.List.{length-map}
-use Rattle.item_defs.specs.Items.{Item}
 use Rattle.item_defs.specs.Readings.{AreItems}
 use Rattle.item_defs.proofs.ReadingLaws.{are_append}
 use Rattle.number_defs.specs.Gaggles.{gaggle_count}
@@ -17,7 +16,7 @@ use Rattle.segment_defs.specs.Head.{IsHead}
 use Rattle.segment_defs.specs.Depths.{dc_of, dcs_of}
 use Rattle.segment_defs.specs.SegmentItems.{Options, dc_shift, plane_at, stages_sent, dc_part_items, nth_plane, nth_plane_items, planes_items, segment_items}
 use Rattle.text_defs.specs.Spellable.{IsSpellable, AreWordOptions, AreNumberOptions}
-use Rattle.text_defs.proofs.PlaneItems.{plane_are_items}
+use Rattle.text_defs.proofs.PlaneItems.{plane_are_items, flat_items}
 
 depths_fit : list_all (λ d. nat_le (depth_bits d) 10) (span 0 28) ≡ true
 unfolding span
@@ -28,10 +27,6 @@ le_from a b e = grind (arith, nat_tests)
 
 pub depth_bits_few : (depth_ac : ℕ) → depth_ac ≤ 27 → depth_bits depth_ac ≤ 10
 depth_bits_few depth_ac le = le_from (depth_bits depth_ac) 10 (list_all-span-zero (λ d. nat_le (depth_bits d) 10) 28 depth_ac depths_fit (omega arith))
-
-flat_items : {X : Type 0} (f : X → List Item) → ((x : X) → AreItems (f x)) → (xs : List X) → AreItems (flat_map f xs)
-flat_items f all [] = tt
-flat_items f all (x ∷ xs) = are_append (f x) (flat_map f xs) (all x) (flat_items f all xs)
 
 pub segment_are_items : (head : SegmentHead) (blocks : List (List ℤ)) (depths : List ℕ) (options : Options) → IsHead head → IsSpellable head blocks depths → AreWordOptions options → AreNumberOptions head options →
     ((r : ℕ) → r < length depths → get_or depths r 0 ≤ head.depth_ac) → AreItems (segment_items head blocks depths options)

@@ -6,7 +6,7 @@ use Rattle.item_defs.specs.Readings.{AreItems}
 use Rattle.number_defs.specs.Depths.{depth_items}
 use Rattle.number_defs.proofs.SegmentSteps.{dcs_alike, depths_alike}
 use Rattle.number_defs.proofs.NotRefused.{depths_allowed, depths_said}
-use Rattle.plane_defs.specs.declared.codes.Book.{Book}
+use Rattle.base_122.specs.declared.book.Book.{Book}
 use Rattle.plane_defs.specs.Entries.{stage_number}
 use Rattle.plane_defs.specs.Profile.{profile}
 use Rattle.plane_defs.specs.Planes.{Plane}

@@ -31,7 +31,7 @@ abbrev pub high_count : SegmentHead → List (List ℤ) → Options → ℕ
 high_count head blocks options =
     length (high_items (dc_bits head.depth_dc head.depth_ac (dc_shift head)) (q_of head) (dcs_of blocks) options.dcs)
 
--- bit b of a DC stands in the nth plane below q
+-- bit b of a DC is in the nth plane below q
 abbrev pub is_dc_bit_given : SegmentHead → List (List ℤ) → Options → (m r b : ℕ) → Bool
 is_dc_bit_given head blocks options m r b =
     let n = q_of head - (b + 1) in
@@ -69,7 +69,7 @@ module _ (head : SegmentHead) (blocks : List (List ℤ)) (depths : List ℕ) (op
   given_ac r p =
       if has_sign r p && negative (get_or (block_of blocks r) p (pos 0)) then neg_ℤ (pos (given_magnitude r p)) else pos (given_magnitude r p)
 
-  -- the low bits of a DC come in the DC part or in the planes
+  -- the low bits of a DC are in the DC part or in the planes
   abbrev pub given_low : (r : ℕ) → ℕ
   given_low r =
       sum_by (λ b. if (is_dc_bit_given head blocks options m r b || has_bit r 0 b) && (complement 1 (int_shr (dc_of (block_of blocks r)) b) == 1) then 2 ^ b else 0)

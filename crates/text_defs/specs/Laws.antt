@@ -12,7 +12,7 @@ use Rattle.text_defs.specs.Spellable.{IsSpellable}
 use Rattle.text_defs.specs.Given.{given_blocks}
 use Rattle.text_defs.specs.Outcomes.{Reading, Holds, Refused, SegmentRefusal}
 
--- Two readings of as many items of one text say the same and leave the same bits; their next items have one form, or
+-- Two readings of the same number of items of one text say the same and leave the same bits; their next items have one form, or
 -- both have none.
 pub record ReadingsAgree (head : SegmentHead) (rest : List ℕ) (m : ℕ) (xs ys : List (List ℤ)) (ds es : List ℕ) (o u : Options) (more other : List Bool) : Type 0 where
   pub said : said_of (take m (segment_items head xs ds o)) ≡ said_of (take m (segment_items head ys es u))
@@ -25,8 +25,8 @@ abbrev pub StepLaw : Type 0
 StepLaw = (head : SegmentHead) (rest : List ℕ) (m : ℕ) (xs ys : List (List ℤ)) (ds es : List ℕ) (o u : Options) (more other : List Bool) → IsHead head →
     Reading head rest xs ds o m more → Reading head rest ys es u m other → ReadingsAgree head rest m xs ys ds es o u more other
 
--- A text has no two names, nor a name where it holds something; all readings of what it holds are of as many items, and where a
--- form refuses the next item, no reading goes further.
+-- A text has no two names, and no name if it holds something; all readings of what it holds have the same number of items, and if
+-- a form refuses the next item, no reading has more items.
 pub record OutcomesExclude : Type 0 where
   pub one_name : (head : SegmentHead) (rest : List ℕ) (a b : SegmentRefusal) → IsHead head → Refused head rest a → Refused head rest b → a ≡ b
   pub not_both : (head : SegmentHead) (rest : List ℕ) (w : List (List ℤ)) (name : SegmentRefusal) → IsHead head → Holds head rest w → Refused head rest name → ⊥
@@ -34,7 +34,7 @@ pub record OutcomesExclude : Type 0 where
   pub no_further : (head : SegmentHead) (rest : List ℕ) (m n : ℕ) (xs ys : List (List ℤ)) (ds es : List ℕ) (o u : Options) (more other : List Bool) (h : IsHead head) →
       Reading head rest xs ds o m more → (name : Refusal) → RefusalFollows (segment_items head xs ds o) m more name → Reading head rest ys es u n other → n ≤ m
 
--- Two readings of as many items give the same numbers, so a text holds one w.
+-- Two readings of the same number of items give the same numbers, so a text holds at most one w.
 abbrev pub SameGiven : Type 0
 SameGiven = (head : SegmentHead) (rest : List ℕ) (m : ℕ) (xs ys : List (List ℤ)) (ds es : List ℕ) (o u : Options) (more other : List Bool) → IsHead head →
     Reading head rest xs ds o m more → Reading head rest ys es u m other → given_blocks head xs ds o m ≡ given_blocks head ys es u m
@@ -45,7 +45,7 @@ AllGiven = (head : SegmentHead) (blocks : List (List ℤ)) (depths : List ℕ) (
     head.stop.dc ≡ false → head.stop.plane ≡ 0 → head.stop.stage ≡ 3 → ((r : ℕ) → r < length depths → get_or depths r 0 ≤ head.depth_ac) →
     given_blocks head blocks depths options (length (segment_items head blocks depths options)) ≡ blocks
 
--- An item that follows and isn't refused is the next one of some reading: a form refuses just what no values complete.
+-- An item that follows and isn't refused is the next one of some reading: a form refuses exactly what no values complete.
 abbrev pub GoesFurther : Type 0
 GoesFurther = (head : SegmentHead) (rest : List ℕ) (m : ℕ) (xs : List (List ℤ)) (ds : List ℕ) (o : Options) (more after : List Bool) (said : ℕ) → IsHead head →
     Reading head rest xs ds o m more → m < length (segment_items head xs ds o) → IsSaid (item_at (segment_items head xs ds o) m).form.shape said →

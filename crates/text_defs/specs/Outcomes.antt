@@ -1,4 +1,4 @@
--- What a segment's text holds, or by which name it is refused. The text is told by the octets after its head: the head's own
+-- What a segment's text holds, or by which name it is refused. The text is given by the octets after its head: the head's own
 -- are any that are read as this head. (this project's own)
 use Rattle.std.specs.Prelude.{◌≡◌, ◌≢◌, ◌<◌, ◌⊎◌, ℕ, ◌+◌, ◌-◌, ◌*◌, ◌/◌, ◌==◌, ℤ, Bool, if◌then◌else◌, List, length, take}
 use Rattle.item_defs.specs.Bits.{bits_of_octets}
@@ -21,25 +21,25 @@ abbrev pub bits_read : SegmentHead → List ℕ → List Bool
 bits_read head rest =
     bits_of_octets (if head.limit == 0 then rest else take (head.limit - head_length head) rest)
 
--- where all items are given
+-- the length of a text of which all items are given
 abbrev pub expected_length : SegmentHead → List Item → ℕ
 expected_length head items =
     if head.fill then head.limit else rounded (8 * head.image.word) (8 * head_length head + length (text items)) / 8
 
 -- ---- readings
 
--- the first m items of these values stand in the text, before `more`
+-- the first m items of these values are in the text, before `more`
 pub record Reading (head : SegmentHead) (rest : List ℕ) (blocks : List (List ℤ)) (depths : List ℕ) (options : Options) (m : ℕ) (more : List Bool) : Type 0 where
   pub spellable : IsSpellable head blocks depths
   pub known : AreWordOptions options
   pub front : Front (segment_items head blocks depths options) m (bits_read head rest) more
 
--- the text stands in the limit's octets, and is cut there
+-- the text has the limit's number of octets, and is cut there
 pub record IsCut (head : SegmentHead) (rest : List ℕ) : Type 0 where
   pub limited : head.limit ≢ 0
   pub full : length_of head rest ≡ head.limit
 
--- all items are given, and the text ends where it should; or the limit cuts them
+-- all items are given, and the text has the length that it should have; or the limit cuts them
 abbrev pub IsTaken : SegmentHead → List ℕ → List Item → ℕ → List Bool → Type 0
 IsTaken head rest items m more =
     ((m ≡ length items) × (length_of head rest ≡ expected_length head items)) ⊎ (NothingFollows items m more × IsCut head rest)

@@ -29,7 +29,7 @@ pub record IsSpellable (head : SegmentHead) (blocks : List (List ℤ)) (depths :
   pub below : (r p : ℕ) → 1 ≤ p → magnitude (block_of blocks r) p < 2 ^ get_or depths r 0
   pub depths_few : AreFew (depth_bits head.depth_ac) depths
 
--- the options of words are some of their lengths; those of numbers are told by the forms of their identifiers
+-- the options of words are some of their lengths; those of numbers are checked by the forms of their identifiers
 pub record AreWordOptions (options : Options) : Type 0 where
   pub at : (b g n : ℕ) → 2 ≤ n → n ≤ 4 → option_of (options.words b g) n < n
 

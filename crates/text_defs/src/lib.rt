@@ -1,10 +1,10 @@
 //! Definitions of what a segment's text holds: the values that it may spell, its readings, and the name by which it is
-//! refused; with the laws that a text is read in one way and has just one outcome.
+//! refused; with the laws that a text is read in one way and has exactly one outcome.
 #![tactic(auto)]
 
 ghost use Rattle.text_defs.specs.Laws.{StepLaw, OutcomesExclude, SameGiven, AllGiven, GoesFurther, HasOutcome};
 
-/// Two readings of as many items of one text say the same, and go on alike.
+/// Two readings of the same number of items of one text say the same, and their next items have one form.
 pub const fn readings_agree()
     ensures { StepLaw }
 {}
@@ -24,7 +24,7 @@ pub const fn texts_have_outcomes()
     ensures { HasOutcome }
 {}
 
-/// Two readings of as many items give the same numbers, so a text holds one list of blocks.
+/// Two readings of the same number of items give the same numbers, so a text holds one list of blocks.
 pub const fn readings_give_one()
     ensures { SameGiven }
 {}

@@ -50,18 +50,6 @@ even_of-within m n j c d one h wc wd =
     let k = correction-within m _ _ one (wd.at (j - 1) (omega arith)) (wd.at j h) in
     record { above = omega (arith, ints); below = omega (arith, ints) }
 
-pub prediction-within : (m n j : ℕ) (e : ℕ → ℤ) → 2 ≤ m → 2 ≤ n → j < n → AllWithin (2 * m) n e → IsWithin (3 * m) (prediction e n j)
-unfolding prediction
-prediction-within m n j e two long h w =
-    predicted-within m _ _ _ _ two (w.at (even_before j) (omega arith)) (w.at j h) (w.at (even_within n (j + 1)) (omega arith)) (w.at (even_within n (j + 2)) (omega arith))
-
-pub odd_of-within : (m n j : ℕ) (c d : ℕ → ℤ) → 2 ≤ m → 2 ≤ n → j < n → AllWithin m n c → AllWithin m n d → IsWithin (4 * m) (odd_of c d n j)
-unfolding odd_of
-odd_of-within m n j c d two long h wc wd =
-    let o = wd.at j h in
-    let p = prediction-within m n j (even_of c d) two long h (record { at = λ k l. even_of-within m n k c d (omega arith) l wc wd }) in
-    record { above = omega (arith, ints); below = omega (arith, ints) }
-
 -- ---- the same to the point, for the inverse: even samples of at most half as much again, odd ones of at most three times
 
 abbrev pub half_more : ℕ → ℕ

@@ -1,6 +1,6 @@
 -- Taking a line apart and putting it together undo each other.
 use mathlib.Core.Path.{fun_ext}
-use Rattle.std.proofs.Common.{◌≡◌, ℕ, true, false, if◌then◌else◌, ◌==◌, ◌+◌, ◌*◌, ◌-◌, ◌<◌, ◌≤◌, ◌/◌, ◌%◌, ℤ, ◌+ℤ◌, ◌-ℤ◌, sym, ap, ◌∙◌, ⊎_elim, subst, arith}
+use Rattle.std.proofs.Common.{◌≡◌, ℕ, true, false, if◌then◌else◌, ◌==◌, ◌+◌, ◌*◌, ◌-◌, ◌<◌, ◌≤◌, ◌/◌, ◌%◌, ℤ, ◌+ℤ◌, ◌-ℤ◌, ap, ◌∙◌, ⊎_elim, subst, arith}
 use Rattle.std.proofs.lemmas.Int.{ints}
 use Rattle.std.proofs.lemmas.Bool.Decides.{nat_tests}
 use Rattle.std.proofs.lemmas.Bool.{cases_eq}
@@ -93,13 +93,6 @@ odd_of-same n j c c' d d' two h a b =
     let q = b.at j h in
     let p = prediction-same n j (even_of c d) (even_of c' d') two h (record { at = λ k l. even_of-same n k c c' d d' l a b }) in
     cc
-
--- the samples that come back are those of the line, where the low and high ones are known only up to n
-pub merged-forward : (x c d : ℕ → ℤ) (n : ℕ) → 2 ≤ n → Agrees n c (low_of x n) → Agrees n d (high_of x n) → Agrees (2 * n) x (merged c d n)
-merged-forward x c d n two a b =
-    Agrees-merged x c d n
-    (record { at = λ k l. sym (even_of-same n k _ _ _ _ l a b ∙ even_of-forward x n k) })
-    (record { at = λ k l. sym (odd_of-same n k _ _ _ _ two l a b ∙ odd_of-forward x n k) })
 
 -- ---- the laws, as equations of signals
 

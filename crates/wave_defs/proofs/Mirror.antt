@@ -1,6 +1,6 @@
 -- Why the mirror of the even samples in specs/Line.antt is the standard's on samples: sample -i is sample i, and sample
 -- 2 * n - 1 + i is sample 2 * n - 1 - i.
-use Rattle.std.proofs.Common.{◌≡◌, ℕ, ◌+◌, ◌-◌, ◌*◌, ◌<◌, ◌≤◌, ℤ, ◌-ℤ◌, refl, ap, sym, ◌∙◌, ⊎_elim, arith}
+use Rattle.std.proofs.Common.{◌≡◌, ℕ, ◌+◌, ◌-◌, ◌*◌, ◌<◌, ◌≤◌, ℤ, ◌-ℤ◌, ap, sym, ◌∙◌, ⊎_elim, arith}
 use Rattle.std.proofs.lemmas.Bool.{cases_lt}
 use Rattle.wave_defs.specs.Line.{predicted, prediction, high_of, even_before, even_within}
 use Rattle.wave_defs.specs.Laws.{IsMirrored}
@@ -8,10 +8,6 @@ use Rattle.wave_defs.specs.Laws.{IsMirrored}
 -- inside on the left nothing is mirrored
 pub mirrored_before : (j : ℕ) → 1 ≤ j → 2 * even_before j ≡ 2 * j - 2
 mirrored_before j h = omega arith
-
--- sample -2 is sample 2
-pub mirrored_first : 2 * even_before 0 ≡ 2
-mirrored_first = refl
 
 -- inside on the right nothing is mirrored
 pub mirrored_within : (n k : ℕ) → k < n → 2 * even_within n k ≡ 2 * k

@@ -133,21 +133,6 @@ PyramidWithin-same x y z r c p q s w = record {
   ll3 = EachWithin-same _ _ _ _ _ s.ll3 w.ll3;
 }
 
--- wider bounds
-pub PyramidWithin-more : (x y z u v w r c : ℕ) (p : Pyramid) → x ≤ u → y ≤ v → z ≤ w → PyramidWithin x y z r c p → PyramidWithin u v w r c p
-PyramidWithin-more x y z u v w r c p hx hy hz b = record {
-  hh1 = EachWithin-more _ _ _ _ _ _ _ hx (omega arith) (omega arith) b.hh1;
-  hl1 = EachWithin-more _ _ _ _ _ _ _ hx (omega arith) (omega arith) b.hl1;
-  lh1 = EachWithin-more _ _ _ _ _ _ _ hx (omega arith) (omega arith) b.lh1;
-  hh2 = EachWithin-more _ _ _ _ _ _ _ hy (omega arith) (omega arith) b.hh2;
-  hl2 = EachWithin-more _ _ _ _ _ _ _ hy (omega arith) (omega arith) b.hl2;
-  lh2 = EachWithin-more _ _ _ _ _ _ _ hy (omega arith) (omega arith) b.lh2;
-  hh3 = EachWithin-more _ _ _ _ _ _ _ hz (omega arith) (omega arith) b.hh3;
-  hl3 = EachWithin-more _ _ _ _ _ _ _ hz (omega arith) (omega arith) b.hl3;
-  lh3 = EachWithin-more _ _ _ _ _ _ _ hz (omega arith) (omega arith) b.lh3;
-  ll3 = EachWithin-more _ _ _ _ _ _ _ hz (omega arith) (omega arith) b.ll3;
-}
-
 pub SamePyramid-trans : (r c : ℕ) (p q s : Pyramid) → SamePyramid r c p q → SamePyramid r c q s → SamePyramid r c p s
 SamePyramid-trans r c p q s a b = record {
   hh1 = SameWithin-trans _ _ _ _ _ a.hh1 b.hh1;

@@ -2,23 +2,19 @@
 use mathlib.Core.Path.{fun_ext}
 use Rattle.std.proofs.Common.{◌≡◌, ℕ, ◌+◌, ◌-◌, ◌*◌, ◌<◌, ◌≤◌, min, ℤ, refl, sym, ap, ◌∙◌, ⊎_elim, subst, arith}
 use Rattle.std.specs.Prelude.{nat_lt, if◌then◌else◌}
-use Rattle.std.proofs.lemmas.Int.{ints}
 use Rattle.std.proofs.lemmas.Bool.Decides.{nat_tests}
 use Rattle.std.proofs.lemmas.Bool.{cases_lt}
 use Rattle.wave_defs.specs.Line.{even_before, even_within, high_of, low_of, prediction}
 use Rattle.wave_defs.specs.Level.{level, rows_low, rows_high, columns_low, columns_high}
 use Rattle.wave_defs.specs.Within.{IsWithin, AllWithin}
 use Rattle.wave_defs.specs.Held.{Agrees}
-use Rattle.wave_defs.proofs.Floors.{predicted-within, low_of-within, high_of-within}
+use Rattle.wave_defs.proofs.Floors.{low_of-within, high_of-within}
 use Rattle.wave_defs.proofs.LineLaws.{low_of-same, high_of-same}
 use Rattle.wave_defs.specs.Rolling.{open_high, open_low, mirrored, parted, beside}
 
 -- before its last row the mirrored image is the image
 pub mirrored-inside : (a : ℕ → ℕ → ℤ) (n i : ℕ) → i < 2 * n → mirrored a n i ≡ a i
 mirrored-inside a n i h = ap a (let e : min i (4 * n - 2 - i) ≡ i = omega arith in e)
-
-pub mirrored-after : (a : ℕ → ℕ → ℤ) (n i : ℕ) → 2 * n ≤ i → mirrored a n i ≡ a (4 * n - 2 - i)
-mirrored-after a n i h = ap a (let e : min i (4 * n - 2 - i) ≡ 4 * n - 2 - i = omega arith in e)
 
 -- the high and the low rows of a whole image are the open ones of its mirrored image
 pub open_high-mirrored : (a : ℕ → ℕ → ℤ) (n j c : ℕ) → 2 ≤ n → j < n → open_high (mirrored a n) j c ≡ columns_high a n j c
@@ -106,9 +102,3 @@ unfolding level columns_high
 hh-beside a n m j c = ap (λ (x : ℕ → ℤ). high_of x n j) (fun_ext (λ i. beside-high a m i c))
 
 -- ---- magnitudes
-
-pub open_high-within : (m : ℕ) (a : ℕ → ℕ → ℤ) (j c : ℕ) → 2 ≤ m → IsWithin (2 * m) (a (2 * j + 1) c) → IsWithin (2 * m) (a (2 * even_before j) c) → IsWithin (2 * m) (a (2 * j) c) → IsWithin (2 * m) (a (2 * (j + 1)) c) → IsWithin (2 * m) (a (2 * (j + 2)) c) → IsWithin (5 * m) (open_high a j c)
-unfolding open_high
-open_high-within m a j c two o p q r s =
-    let w = predicted-within m _ _ _ _ two p q r s in
-    record { above = omega (arith, ints); below = omega (arith, ints) }

@@ -8,11 +8,11 @@ use Rattle.wave_defs.specs.Pyramid.{Pyramid}
 abbrev pub signal : List ℤ → ℕ → ℤ
 signal xs i = slice_index_or xs i (pos 0)
 
--- the image whose rows of so many samples a slice holds, one after the other
+-- the image whose rows of `width` samples a slice holds, one after the other
 abbrev pub grid : ℕ → List ℤ → ℕ → ℕ → ℤ
 grid width cells i j = slice_index_or cells (i * width + j) (pos 0)
 
--- block r of numbers that stand block by block, 64 in each, and all of the blocks
+-- block r of numbers in block order, 64 in each, and all of the blocks
 abbrev pub block_at : List ℤ → ℕ → List ℤ
 block_at cells r = take 64 (drop (64 * r) cells)
 

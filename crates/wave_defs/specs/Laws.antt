@@ -35,8 +35,8 @@ pub record PyramidUndoes : Type 0 where
   pub back : (a : ℕ → ℕ → ℤ) (r c : ℕ) → rebuilt (pyramid a r c) r c ≡ a
   pub again : (p : Pyramid) (r c : ℕ) → pyramid (rebuilt p r c) r c ≡ p
 
--- Magnitudes. A pass over lines takes a bound of 2 * m to 5 * m, so from pixels of at most 65,536
--- come 409,600, 2,560,000 and 16,000,000 after one, two and three levels.
+-- Magnitudes. A pass over lines takes a bound of 2 * m to 5 * m, so for pixels of at most 65,536
+-- the bounds are 409,600, 2,560,000 and 16,000,000 after one, two and three levels.
 pub record ForwardBounds : Type 0 where
   pub low : (m n : ℕ) (x : ℕ → ℤ) → 2 ≤ m → 2 ≤ n → AllWithin (2 * m) (2 * n) x
       → AllWithin (5 * m) n (low_of x n)

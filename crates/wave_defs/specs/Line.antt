@@ -17,7 +17,7 @@ correction before after = floor_div (pos 2 -ℤ (before +ℤ after)) 4
 
 -- The samples outside a line are mirrored: sample -i is sample i, and sample 2 * n - 1 + i is
 -- sample 2 * n - 1 - i. So the even one before the first is the second, and after the last even one
--- comes the last one again, then the one before it: here by number among the even samples.
+-- follow the last one again, then the one before it: here by number among the even samples.
 abbrev pub even_before : ℕ → ℕ
 even_before j = (j - 1) + (1 - j)
 

@@ -43,7 +43,7 @@ pyramid a r c =
     let second = level first.ll (2 * r) (2 * c) in
     pyramid_of first second (level second.ll r c)
 
--- the four bands of each level, where the low one is made from the levels above
+-- the four bands of each level; the low one is made from the levels above
 unfoldable pub third_of : Pyramid → Quarters
 third_of p = record { ll = p.ll3; hl = p.hl3; lh = p.lh3; hh = p.hh3 }
 

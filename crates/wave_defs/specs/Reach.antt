@@ -1,4 +1,4 @@
--- How far a block reaches: which samples of the inverse it has a part in, and which rows of an image it is made from.
+-- The reach of a block: which samples of the inverse it has a part in, and which rows of an image it is made from.
 use Rattle.std.specs.Prelude.{◌≡◌, ℕ, ◌+◌, ◌*◌, ◌≤◌, ◌<◌, ℤ, Bool, true, false, ◌&&◌, nat_le, IsTrue, ◌⊎◌, List}
 use Rattle.wave_defs.specs.Line.{merged, low_of, high_of}
 use Rattle.wave_defs.specs.Pyramid.{Pyramid, padded, pyramid, rebuilt}
@@ -28,8 +28,8 @@ pub record LineReach : Type 0 where
       → ((j : ℕ) → j < n → 2 * j ≤ i + 3 → i ≤ 2 * j + 5 → d j ≡ d' j)
       → merged c d n i ≡ merged c' d' n i
 
--- Three levels back: a sample depends on the blocks alone that reach it by its row and by its column. So what stands in
--- missing blocks changes only samples that one of them reaches, and what stands in a block row, or a block column, only
+-- Three levels back: a sample depends on the blocks alone that reach it by its row and by its column. So what is in
+-- missing blocks changes only samples that one of them reaches, and what is in a block row, or a block column, only
 -- the rows, or columns, that it reaches.
 pub record InverseReach : Type 0 where
   pub sample : (p q : Pyramid) (r c i j : ℕ) → 2 ≤ r → 2 ≤ c → i < 8 * r → j < 8 * c

@@ -3,7 +3,7 @@ use Rattle.std.specs.Prelude.{◌≡◌, ℕ, ◌+◌, ◌-◌, ◌*◌, ◌<◌
 use Rattle.wave_defs.specs.Within.{AllWithin}
 use Rattle.wave_defs.specs.Held.{Agrees, signal}
 
--- so many rows of w samples
+-- a number of rows of w samples
 pub record AreRows (count w : ℕ) (rows : List (List ℤ)) : Type 0 where
   pub count_is : length rows ≡ count
   pub wide : (t : ℕ) → t < count → length (slice_index_or rows t []) ≡ w
@@ -12,7 +12,7 @@ pub record AreRows (count w : ℕ) (rows : List (List ℤ)) : Type 0 where
 pub record RowsWithin (bound w : ℕ) (rows : List (List ℤ)) : Type 0 where
   pub at : (t : ℕ) → t < length rows → AllWithin bound w (signal (slice_index_or rows t []))
 
--- the newest ones of the first n rows of a sequence; where n is small, the oldest places hold none
+-- the newest ones of the first n rows of a sequence; if n is small, the oldest places hold none
 pub record AreNewest (f : ℕ → ℕ → ℤ) (w n : ℕ) (rows : List (List ℤ)) : Type 0 where
   pub at : (t : ℕ) → t < length rows → length rows ≤ n + t
       → Agrees w (signal (slice_index_or rows t [])) (f (n + t - length rows))

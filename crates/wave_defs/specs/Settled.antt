@@ -18,7 +18,7 @@ pub record SameUpTo (b c : ℕ) (p q : Pyramid) : Type 0 where
   pub lh3 : SameWithin (b + 1) c p.lh3 q.lh3
   pub ll3 : SameWithin (b + 1) c p.ll3 q.ll3
 
--- Row j of a level comes with row 2 * j + 4 of its image, and block row b with row 8 * b + 28.
+-- Row j of a level is settled by row 2 * j + 4 of its image, and block row b by row 8 * b + 28.
 pub record RowsSettle : Type 0 where
   pub of_level : (x y : ℕ → ℕ → ℤ) (n k m j : ℕ) → 2 ≤ m → j + 2 < n → j + 2 < k
       → SameWithin (2 * j + 5) (2 * m) x y → SameQuarters (j + 1) m (level x n m) (level y k m)

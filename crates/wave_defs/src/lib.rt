@@ -19,14 +19,14 @@ pub const fn undoes()
     ensures pyramid { PyramidUndoes }
 {}
 
-/// How large the values of both directions are (docs/formats.md, "Bounds").
+/// The values of both directions have these bounds (docs/formats.md, "Bounds").
 pub const fn stays_bounded()
     ensures forward { ForwardBounds }
     ensures blocks { BlockBounds }
     ensures inverse { InverseBounds }
 {}
 
-/// What a sample of the inverse is made from, so how far a block reaches (docs/formats.md, "Picture
+/// Which numbers a sample of the inverse is made from, and so how far a block reaches (docs/formats.md, "Picture
 /// and damage").
 pub const fn reaches()
     ensures line { LineReach }
