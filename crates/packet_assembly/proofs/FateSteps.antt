@@ -1,4 +1,4 @@
--- The fate of a packet of the image is what is judged of what it says.
+-- The fate of a packet of the image is what is classified of what it says.
 use Rattle.std.proofs.Common.{◌≡◌, ℕ, List, [], ◌∷◌, length, drop, refl, sym, ap, subst, ◌∙◌}
 use Rattle.std.specs.Prelude.{Bool, true, false, if◌then◌else◌, ◌==◌, Option, Some, None, Result, Ok, Err, unwrap_or}
 use Rattle.std.specs.Option.{option_map}
@@ -15,7 +15,7 @@ use Rattle.stream_defs.specs.declared.fate.Fate.TheVariants.{Kept, Skipped, Fore
 use Rattle.stream_defs.specs.declared.fate.FateState.{FateState}
 use Rattle.stream_defs.specs.Fates.{fate, after, after_kept, is_kept, geometry_with, geometry_after, is_foreign, is_late, is_out_of_place}
 use Rattle.packet_assembly.specs.declared.note.PacketNote.{PacketNote}
-use Rattle.packet_assembly.specs.Judging.{unkept, refusal_told, ok_of, head_told, judged_by, judged, geometry_past, past_kept}
+use Rattle.packet_assembly.specs.Classification.{unkept, refusal_told, ok_of, head_told, classified_by, classified, geometry_left, past_kept}
 use Rattle.packet_assembly.specs.Notes.{note_of, head_octets, start_of, text_brought, start_brought}
 
 pub fate_mine : (apid : ℕ) (s : FateState) (packet : List ℕ) → skip_of apid packet ≡ None →
@@ -48,16 +48,16 @@ refusals false false true o why e = let same : OutOfPlace ≡ why = cc in subst 
 refusals false false false (Some fault) why e = let same : BadHead fault ≡ why = cc in subst Unkept same (record { unkept = refl; note = λ number packet. refl })
 refusals false false false None why e = absurd cc
 
-pub judged_ok : (o : Option Fate) (head found : Option SegmentHead) → judged_by o head ≡ Ok found → (o ≡ None) × (head ≡ found)
-judged_ok None head found e = (refl, cc)
-judged_ok (Some why) head found e = absurd cc
+pub classified_ok : (o : Option Fate) (head found : Option SegmentHead) → classified_by o head ≡ Ok found → (o ≡ None) × (head ≡ found)
+classified_ok None head found e = (refl, cc)
+classified_ok (Some why) head found e = absurd cc
 
-judged_not : (o : Option Fate) (head : Option SegmentHead) (why : Fate) → judged_by o head ≡ Err why → o ≡ Some why
-judged_not None head why e = absurd cc
-judged_not (Some other) head why e = cc
+classified_not : (o : Option Fate) (head : Option SegmentHead) (why : Fate) → classified_by o head ≡ Err why → o ≡ Some why
+classified_not None head why e = absurd cc
+classified_not (Some other) head why e = cc
 
 geometry_by : (standing : Option Geometry) (a : Ancillary) (b : Bool) (r : Result SegmentHead HeadFault) →
-    geometry_past standing a (if b then ok_of r else None) ≡ (if b then geometry_with standing a r else standing)
+    geometry_left standing a (if b then ok_of r else None) ≡ (if b then geometry_with standing a r else standing)
 geometry_by standing a true (Ok head) = refl
 geometry_by standing a true (Err fault) = refl
 geometry_by standing a false r = refl
@@ -72,15 +72,15 @@ pub record KeptSo (apid : ℕ) (s : FateState) (packet : List ℕ) (found : Opti
   pub found_is : found ≡ head_told (ancillary_in packet) (text_in packet)
 
 pub kept_so : (apid : ℕ) (s : FateState) (packet : List ℕ) (found : Option SegmentHead) → skip_of apid packet ≡ None →
-    judged s (flags_in packet) (ancillary_in packet) (text_in packet) ≡ Ok found → KeptSo apid s packet found
+    classified s (flags_in packet) (ancillary_in packet) (text_in packet) ≡ Ok found → KeptSo apid s packet found
 unfolding after text_brought start_brought
 kept_so apid s packet found mine e =
     let a = ancillary_in packet in
     let text = text_in packet in
-    let x = judged_ok (unkept s (flags_in packet) a text) (head_told a text) found e in
+    let x = classified_ok (unkept s (flags_in packet) a text) (head_told a text) found e in
     let is : fate apid s packet ≡ Kept = fate_mine apid s packet mine ∙ ap (λ o. unwrap_or o Kept) x.0 in
-    let geometry : geometry_after s.geometry packet ≡ geometry_past s.geometry a found =
-    sym (geometry_by s.geometry a (a.part == 0) (head_read text)) ∙ ap (geometry_past s.geometry a) x.1 in
+    let geometry : geometry_after s.geometry packet ≡ geometry_left s.geometry a found =
+    sym (geometry_by s.geometry a (a.part == 0) (head_read text)) ∙ ap (geometry_left s.geometry a) x.1 in
     record {
       fate_is = is;
       after_is = ap (λ f. if is_kept f then after_kept s packet else s) is ∙ (λ i. record (after_kept s packet) { geometry = geometry i });
@@ -103,12 +103,12 @@ unkept_so apid s packet why is none =
     let not : is_kept (fate apid s packet) ≡ false = ap is_kept is ∙ none in
     record { fate_is = is; after_is = rw not refl; text_is = rw not refl; start_is = rw not refl }
 
-pub judged_unkept : (apid : ℕ) (s : FateState) (packet : List ℕ) (why : Fate) → skip_of apid packet ≡ None →
-    judged s (flags_in packet) (ancillary_in packet) (text_in packet) ≡ Err why → Unkept why × UnkeptSo apid s packet why
-judged_unkept apid s packet why mine e =
+pub classified_unkept : (apid : ℕ) (s : FateState) (packet : List ℕ) (why : Fate) → skip_of apid packet ≡ None →
+    classified s (flags_in packet) (ancillary_in packet) (text_in packet) ≡ Err why → Unkept why × UnkeptSo apid s packet why
+classified_unkept apid s packet why mine e =
     let a = ancillary_in packet in
     let text = text_in packet in
-    let x = judged_not (unkept s (flags_in packet) a text) (head_told a text) why e in
+    let x = classified_not (unkept s (flags_in packet) a text) (head_told a text) why e in
     let not = refusals (is_foreign s a) (is_late s.last a) (is_out_of_place s.last (flags_in packet) a) (refusal_told s.geometry a text) why x in
     let is : fate apid s packet ≡ why = fate_mine apid s packet mine ∙ ap (λ o. unwrap_or o Kept) x in
     (not, unkept_so apid s packet why is not.unkept)

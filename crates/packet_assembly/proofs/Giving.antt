@@ -7,7 +7,7 @@ use Rattle.port_122.specs.Outside.{Outside}
 use Rattle.packet_assembly.specs.Assembling.{Assembling}
 use Rattle.packet_assembly.specs.Segments.{GoesOn}
 use Rattle.packet_assembly.specs.Tails.{text_tail, told_tail}
-use Rattle.packet_assembly.specs.Texts.{Hears, TakesOctet}
+use Rattle.packet_assembly.specs.Texts.{FillsText, TakesOctet}
 use Rattle.packet_assembly.proofs.TailSteps.{unheld_tail, comes_then}
 
 -- one octet less waits
@@ -47,9 +47,9 @@ goes_less octet unheld g =
       held_on = λ start h. absurd (let no : None ≡ Some start = sym unheld ∙ (g.held_on start h).1 in cc);
     }
 
-pub gives_octet : {old new : Outside} {a b c : Assembling} (octet : ℕ) → Hears old new a b (Ok true) → b ≡ with_octet octet c → octet < 256 → TakesOctet old new a c (Ok (Some octet))
-gives_octet {old = old} {new = new} {a = a} {b = b} {c = c} octet heard is small =
-    let h : Hears old new a (with_octet octet c) (Ok true) = subst (λ b. Hears old new a b (Ok true)) is heard in
+pub gives_octet : {old new : Outside} {a b c : Assembling} (octet : ℕ) → FillsText old new a b (Ok true) → b ≡ with_octet octet c → octet < 256 → TakesOctet old new a c (Ok (Some octet))
+gives_octet {old = old} {new = new} {a = a} {b = b} {c = c} octet filled is small =
+    let h : FillsText old new a (with_octet octet c) (Ok true) = subst (λ b. FillsText old new a b (Ok true)) is filled in
     record {
       goes = goes_less octet h.unheld h.goes;
       silent = h.silent;

@@ -9,9 +9,9 @@ use Rattle.segment_defs.specs.Head.{head_length}
 use Rattle.segment_defs.specs.Reading.{part_1_length, part_3, part_4, head_in, refused_where, first_refusal, presence_tests, support_tests, depth_tests, value_tests, answer, head_read}
 use Rattle.packet_defs.specs.declared.ancillary.Ancillary.{Ancillary}
 use Rattle.stream_defs.specs.declared.fate.FateState.{FateState}
-use Rattle.packet_assembly.specs.Judging.{unkept, ok_of, head_told, judged}
+use Rattle.packet_assembly.specs.Classification.{unkept, ok_of, head_told, classified}
 use Rattle.packet_assembly.specs.Notes.{head_octets}
-use Rattle.packet_assembly.proofs.FateSteps.{judged_ok}
+use Rattle.packet_assembly.proofs.FateSteps.{classified_ok}
 
 before_none : (xs ys : List (Option HeadFault)) → first_refusal (xs ++ ys) ≡ None → first_refusal xs ≡ None
 before_none [] ys e = refl
@@ -65,6 +65,6 @@ told_within true text = found_within text (head_read text) refl
 told_within false text = omega arith
 
 -- so are the octets of the head in a packet that is kept
-pub kept_within : (s : FateState) (flags : ℕ) (a : Ancillary) (text : List ℕ) (found : Option SegmentHead) → judged s flags a text ≡ Ok found → head_octets found ≤ length text
+pub kept_within : (s : FateState) (flags : ℕ) (a : Ancillary) (text : List ℕ) (found : Option SegmentHead) → classified s flags a text ≡ Ok found → head_octets found ≤ length text
 kept_within s flags a text found e =
-    subst (λ h. head_octets h ≤ length text) (judged_ok (unkept s flags a text) (head_told a text) found e).1 (told_within (a.part == 0) text)
+    subst (λ h. head_octets h ≤ length text) (classified_ok (unkept s flags a text) (head_told a text) found e).1 (told_within (a.part == 0) text)

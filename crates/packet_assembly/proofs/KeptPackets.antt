@@ -1,7 +1,7 @@
 -- Packets that are kept, and those that begin a segment.
 use Rattle.std.proofs.Common.{◌≡◌, ℕ, List, [], ◌∷◌, ◌++◌, drop, refl, sym, ap, ◌∙◌, arith}
-use Rattle.std.specs.Prelude.{Bool, true, false, not, ◌&&◌, ◌||◌, ◌==◌, if◌then◌else◌, Option, Some, None, Result, Ok, Err}
-use Rattle.std.proofs.lemmas.Bool.{false≢true}
+use Rattle.std.specs.Prelude.{Bool, true, false, not, ◌||◌, ◌==◌, if◌then◌else◌, Option, Some, None, Result, Ok, Err}
+use Rattle.std.proofs.lemmas.Bool.{false≢true, and_parts}
 use Rattle.std.proofs.lemmas.Bool.Decides.{nat_tests}
 use Rattle.base_122.specs.declared.geometry.Geometry.{Geometry}
 use Rattle.segment_defs.specs.declared.head.SegmentHead.{SegmentHead}
@@ -18,7 +18,7 @@ use Rattle.stream_defs.proofs.FateLaws.{after_as_kept, after_as_other}
 use Rattle.stream_defs.proofs.KeptOrder.{is_kept_so, kept_tests, or_second}
 use Rattle.packet_assembly.specs.declared.note.SegmentStart.{SegmentStart}
 use Rattle.packet_assembly.specs.Assembling.{is_first, last_index, text_after, Starts, BeginsNone}
-use Rattle.packet_assembly.specs.Judging.{ok_of, head_told}
+use Rattle.packet_assembly.specs.Classification.{ok_of, head_told}
 use Rattle.packet_assembly.specs.Notes.{head_octets, start_of, text_brought, start_brought}
 
 -- ---- the first part
@@ -75,14 +75,10 @@ some_first apid s packet start some = by_kept (is_kept (fate apid s packet)) ref
 
 -- ---- greater parts
 
-and_first : (a b : Bool) → (a && b) ≡ true → a ≡ true
-and_first true b e = refl
-and_first false b e = absurd (false≢true e)
-
 follows_index : (last : Option LastPart) (a : Ancillary) → follows last a ≡ true → Some a.index ≡ last_index last
 follows_index None a e = absurd (false≢true e)
 follows_index (Some last) a e =
-    let same : (a.index == last.index) ≡ true = and_first (a.index == last.index) _ e in
+    let same : (a.index == last.index) ≡ true = (and_parts (a.index == last.index) _ e).0 in
     ap Some (equal a.index last.index same)
   where
     equal : (m n : ℕ) → (m == n) ≡ true → m ≡ n

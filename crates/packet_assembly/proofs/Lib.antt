@@ -8,8 +8,8 @@ pub mod Again
 pub mod OneStep
 pub mod Seeking
 pub mod TailSteps
-pub mod Unhearing
-pub mod Hearing
+pub mod NoneReady
+pub mod Filling
 pub mod Giving
 pub mod TailParts
 pub mod Ranges

@@ -1,4 +1,4 @@
--- One packet, or none, by a reader and what is judged.
+-- One packet, or none, by a reader and what is classified.
 use Rattle.std.proofs.Common.{◌≡◌, ◌≤◌, ◌<◌, ◌+◌, ◌-◌, ℕ, List, [], ◌∷◌, length, drop, refl, sym, ap, subst, ◌∙◌, arith, length-append, length-drop}
 use Rattle.std.specs.Prelude.{Bool, true, false, nat_lt, Option, Some, None, Result, Ok, Err}
 use Rattle.std.proofs.lemmas.Bool.Decides.{nat_tests}
@@ -25,11 +25,11 @@ use Rattle.space_packets.specs.PacketReads.{ReadsPacket, EndsPacket}
 use Rattle.space_packets.proofs.Intakes.{answered_packet}
 use Rattle.packet_assembly.specs.declared.note.Passed.{Passed}
 use Rattle.packet_assembly.specs.Assembling.{Assembling}
-use Rattle.packet_assembly.specs.Judging.{judged}
+use Rattle.packet_assembly.specs.Classification.{classified}
 use Rattle.packet_assembly.specs.Notes.{note_of, text_brought, start_brought, at_end, PassesNext}
 use Rattle.packet_assembly.specs.Held.{note_told, told_mine, after_mine, told_by, after_by, told_other, after_other}
 use Rattle.packet_assembly.proofs.Verdicts.{mine_read, other_read, over_read, long_read, ends_go, shorter_past, answered_none_text}
-use Rattle.packet_assembly.proofs.FateSteps.{note_mine, kept_so, judged_unkept, unkept_so, fate_other}
+use Rattle.packet_assembly.proofs.FateSteps.{note_mine, kept_so, classified_unkept, unkept_so, fate_other}
 
 -- two assemblies are the same by their parts that a packet changes
 pub same_assembling : {a b : Assembling} → a.apid ≡ b.apid → a.intake ≡ b.intake → a.state ≡ b.state → a.packets ≡ b.packets → a.text ≡ b.text → a.held ≡ b.held → a.framing ≡ b.framing → a ≡ b
@@ -56,34 +56,34 @@ note_is : (a : Assembling) (packet : List ℕ) (why : Fate) → (head_in packet)
 note_is a packet why long = λ i. record (note_mine a.packets why packet) { octets = long i }
 
 module _ (a : Assembling) (w : Intake) (packet : List ℕ) (mine : skip_of a.apid packet ≡ None) (text_is : w.text ≡ text_in packet) where
-  abbrev judgement : Result (Option SegmentHead) Fate
-  judgement = judged a.state (flags_in packet) (ancillary_in packet) (text_in packet)
+  abbrev classification : Result (Option SegmentHead) Fate
+  classification = classified a.state (flags_in packet) (ancillary_in packet) (text_in packet)
 
-  after_by_is : (j : Result (Option SegmentHead) Fate) → judgement ≡ j → after_by (read_into a w) (head_in packet) (ancillary_in packet) j ≡ past a packet w
+  after_by_is : (j : Result (Option SegmentHead) Fate) → classification ≡ j → after_by (read_into a w) (head_in packet) (ancillary_in packet) j ≡ past a packet w
   after_by_is (Ok found) e =
       let k = kept_so a.apid a.state packet found mine e in
       same_assembling refl refl (sym k.after_is) refl (ap (drop _) text_is ∙ sym k.text_is) refl refl
   after_by_is (Err why) e =
-      let k = (judged_unkept a.apid a.state packet why mine e).1 in
+      let k = (classified_unkept a.apid a.state packet why mine e).1 in
       same_assembling refl refl (sym k.after_is) refl (sym k.text_is) refl refl
 
   after_mine_is : after_mine (read_into a w) (head_in packet) (ancillary_in packet) ≡ past a packet w
   after_mine_is =
-      ap (λ text. after_by (read_into a w) (head_in packet) (ancillary_in packet) (judged a.state (flags_in packet) (ancillary_in packet) text)) text_is
-      ∙ after_by_is judgement refl
+      ap (λ text. after_by (read_into a w) (head_in packet) (ancillary_in packet) (classified a.state (flags_in packet) (ancillary_in packet) text)) text_is
+      ∙ after_by_is classification refl
 
-  told_by_is : (j : Result (Option SegmentHead) Fate) → (head_in packet).length - 24 ≡ length (text_in packet) → judgement ≡ j → told_by (read_into a w) (head_in packet) (ancillary_in packet) j ≡ passed a packet
+  told_by_is : (j : Result (Option SegmentHead) Fate) → (head_in packet).length - 24 ≡ length (text_in packet) → classification ≡ j → told_by (read_into a w) (head_in packet) (ancillary_in packet) j ≡ passed a packet
   told_by_is (Ok found) long e =
       let k = kept_so a.apid a.state packet found mine e in
       same_passed (note_is a packet fates.Kept long ∙ ap (λ f. note_of a.packets f packet) (sym k.fate_is)) (sym k.start_is)
   told_by_is (Err why) long e =
-      let x = judged_unkept a.apid a.state packet why mine e in
+      let x = classified_unkept a.apid a.state packet why mine e in
       same_passed (note_is a packet why long ∙ sym (x.0.note a.packets packet) ∙ ap (λ f. note_of a.packets f packet) (sym x.1.fate_is)) (sym x.1.start_is)
 
   told_mine_is : (head_in packet).length - 24 ≡ length (text_in packet) → told_mine (read_into a w) (head_in packet) (ancillary_in packet) ≡ passed a packet
   told_mine_is long =
-      ap (λ text. told_by (read_into a w) (head_in packet) (ancillary_in packet) (judged a.state (flags_in packet) (ancillary_in packet) text)) text_is
-      ∙ told_by_is judgement long refl
+      ap (λ text. told_by (read_into a w) (head_in packet) (ancillary_in packet) (classified a.state (flags_in packet) (ancillary_in packet) text)) text_is
+      ∙ told_by_is classification long refl
 
 -- octets of the text of a packet that waits
 long_text : (apid : ℕ) (u : Intake) → begins_packet u.pending ≡ true → (head_in (first_packet u.pending)).length - 24 ≡ length (text_in (first_packet u.pending))

@@ -14,6 +14,7 @@ use Rattle.stream_defs.proofs.ChosenLaws.{kept-append}
 use Rattle.stream_defs.proofs.KeptOrder.{Begins, does, at_none, at_same, at_other, at_both, shut, begun_or_none, before_none, IsElsewhere}
 use Rattle.packet_assembly.specs.Assembling.{is_first, is_closed, last_index, BeginsNone}
 use Rattle.packet_assembly.specs.Tails.{in_front, nothing, kept_tail, tail_over}
+use Rattle.packet_assembly.proofs.TailSteps.{over_none}
 use Rattle.packet_assembly.specs.Wholes.{parts_in, tail_past, TellsParts}
 
 -- ---- packets that end with a closing one
@@ -89,10 +90,6 @@ over_kept : (apid : ℕ) (s : FateState) (x : List ℕ) (xs : List (List ℕ)) (
     tail_over apid s (x ∷ xs) stop ≡ kept_tail x (tail_over apid (after apid s x) xs stop)
 unfolding tail_over
 over_kept apid s x xs stop e = rw e refl
-
-over_none : (apid : ℕ) (s : FateState) (stop : End) → tail_over apid s [] stop ≡ nothing stop
-unfolding tail_over
-over_none apid s stop = refl
 
 kept_none : (apid : ℕ) (s : FateState) → kept apid s [] ≡ []
 unfolding kept

@@ -43,7 +43,7 @@ over_one : (apid : ℕ) (s : FateState) (packet : List ℕ) (packets : List (Lis
 unfolding tail_over
 over_one apid s packet packets stop = refl
 
-over_none : (apid : ℕ) (s : FateState) (stop : End) → tail_over apid s [] stop ≡ nothing stop
+pub over_none : (apid : ℕ) (s : FateState) (stop : End) → tail_over apid s [] stop ≡ nothing stop
 unfolding tail_over
 over_none apid s stop = refl
 

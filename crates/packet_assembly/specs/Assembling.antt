@@ -1,4 +1,4 @@
--- How far an assembly has come. This project's own.
+-- The progress of an assembly. This project's own.
 use Rattle.std.specs.Prelude.{◌≡◌, ◌≤◌, ℕ, ◌+◌, ◌==◌, Bool, true, false, if◌then◌else◌, List, [], ◌∷◌, ◌++◌, length, take, drop, Option, None, Some, Ok}
 use Rattle.std.specs.List.{AllByRecursion}
 use Rattle.segment_defs.specs.declared.head.SegmentHead.{SegmentHead}

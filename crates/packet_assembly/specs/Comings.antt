@@ -2,7 +2,7 @@
 use Rattle.std.specs.Prelude.{ℕ, ◌-◌, ◌||◌, Bool, nat_lt, if◌then◌else◌, List, [], ◌++◌, length, take}
 use Rattle.space_packets.specs.Intake.{Intake}
 
--- the octets that a reader has at hand or can still take, where these are left
+-- the octets that wait in a reader or that it can still take, if these are left
 abbrev pub coming : Intake → List ℕ → List ℕ
 coming v rest = v.pending ++ (if v.ended then [] else take (v.cap - v.taken) rest)
 

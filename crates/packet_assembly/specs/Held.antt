@@ -13,11 +13,11 @@ use Rattle.packet_assembly.specs.declared.assembly.Assembly.TheInside.{Inside}
 use Rattle.packet_assembly.specs.declared.note.PacketNote.{PacketNote}
 use Rattle.packet_assembly.specs.declared.note.Passed.{Passed}
 use Rattle.packet_assembly.specs.Assembling.{Assembling}
-use Rattle.packet_assembly.specs.Judging.{judged, past_kept}
+use Rattle.packet_assembly.specs.Classification.{classified, past_kept}
 use Rattle.packet_assembly.specs.Notes.{head_octets, start_of}
 use Rattle.packet_assembly.specs.Ranged.{IsRanged}
 
--- the octets that weren't given yet stand in the reader's text
+-- the octets that weren't given yet are in the reader's text
 abbrev pub assembling : Inside → Assembling
 assembling a = record {
   apid = a.apid;
@@ -29,7 +29,7 @@ assembling a = record {
   framing = a.framing;
 }
 
--- the reader stands where it answers this fault
+-- the reader is at the octet at which it returns this fault
 abbrev pub StandsAtFault : (apid : ℕ) → Intake → Framing → Type 0
 StandsAtFault apid v fault = verdict apid v ≡ Some (Ok (Fault fault))
 
@@ -61,10 +61,10 @@ after_by v head a (Ok found) = record v {
 after_by v head a (Err refusal) = record v { packets = v.packets + 1; text = [] }
 
 abbrev pub told_mine : Assembling → PacketHead → Ancillary → Passed
-told_mine v head a = told_by v head a (judged v.state head.flags a v.intake.text)
+told_mine v head a = told_by v head a (classified v.state head.flags a v.intake.text)
 
 abbrev pub after_mine : Assembling → PacketHead → Ancillary → Assembling
-after_mine v head a = after_by v head a (judged v.state head.flags a v.intake.text)
+after_mine v head a = after_by v head a (classified v.state head.flags a v.intake.text)
 
 -- ---- another packet that was read
 

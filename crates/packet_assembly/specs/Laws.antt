@@ -8,7 +8,7 @@ use Rattle.packet_assembly.specs.Assembling.{Assembling}
 use Rattle.packet_assembly.specs.Notes.{ReadsNote}
 use Rattle.packet_assembly.specs.Segments.{StandsEnded, StandsLong}
 
--- after the end, what can't be read on and an input that is too long each further call answers the same
+-- after the end, what can't be read on and an input that is too long each further call returns the same
 pub record AnswersAgain : Type 0 where
   pub ended : (old new : Outside) (a b : Assembling) (result : Result (Option PacketNote) InFault) → ReadsNote old new a b result → StandsEnded a →
       (result ≡ Ok None) × StandsEnded b

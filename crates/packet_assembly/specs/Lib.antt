@@ -1,4 +1,4 @@
-pub mod Judging
+pub mod Classification
 pub mod Comings
 pub mod Assembling
 pub mod Notes

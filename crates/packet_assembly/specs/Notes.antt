@@ -1,4 +1,4 @@
--- What a call that goes on by one packet leaves. This project's own.
+-- What a call that passes one packet leaves. This project's own.
 use Rattle.std.specs.Prelude.{◌≡◌, ℕ, ◌+◌, if◌then◌else◌, List, [], length, drop, Option, None, Some, Result, Ok, Err}
 use Rattle.bit_pipe.specs.declared.fault.InFault.{InFault}
 use Rattle.segment_defs.specs.declared.head.SegmentHead.{SegmentHead}
@@ -20,11 +20,11 @@ use Rattle.packet_assembly.specs.declared.note.PacketNote.{PacketNote}
 use Rattle.packet_assembly.specs.declared.note.SegmentStart.{SegmentStart}
 use Rattle.packet_assembly.specs.declared.note.Passed.{Passed}
 use Rattle.packet_assembly.specs.Assembling.{Assembling}
-use Rattle.packet_assembly.specs.Judging.{head_told}
+use Rattle.packet_assembly.specs.Classification.{head_told}
 
 -- ---- what a packet brings
 
--- what is told of a packet with this fate and number
+-- the report of a packet with this fate and number
 abbrev pub note_of : (number : ℕ) → Fate → List ℕ → PacketNote
 note_of number (fates.Skipped skip) packet = record { number = number; fate = fates.Skipped skip; index = 0; part = 0; octets = 0 }
 note_of number fate packet = record {
@@ -39,7 +39,7 @@ abbrev pub head_octets : Option SegmentHead → ℕ
 head_octets None = 0
 head_octets (Some head) = head_length head
 
--- the segment that begins with a packet that tells this, where there is a head in it
+-- the segment that begins with a packet with these ancillary data, if there is a header in it
 abbrev pub start_of : Ancillary → Option SegmentHead → Option SegmentStart
 start_of a None = None
 start_of a (Some head) = Some (record { ancillary = a; head = head })
@@ -56,7 +56,7 @@ start_brought apid s packet =
 
 -- ---- one step
 
--- what is told of the packet with which octets begin
+-- the report of the packet with which octets begin
 abbrev pub note_next : Assembling → List ℕ → PacketNote
 note_next a octets = note_of a.packets (fate a.apid a.state (first_packet octets)) (first_packet octets)
 
@@ -85,11 +85,11 @@ past_next a octets intake = record a {
   text = text_brought a.apid a.state (first_packet octets);
 }
 
--- an assembly where no packet came
+-- an assembly after no packet
 abbrev pub at_end : Assembling → Intake → Option Framing → Assembling
 at_end a intake framing = record a { intake = intake; text = []; framing = framing }
 
--- what stands after this was read
+-- the state after this was read
 abbrev pub stands_after : Assembling → List ℕ → Result PacketRead InFault → Intake → Assembling
 stands_after a octets (Ok (Mine head ancillary)) intake = past_next a octets intake
 stands_after a octets (Ok (Skipped skip)) intake = past_next a octets intake

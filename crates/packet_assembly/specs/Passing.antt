@@ -1,4 +1,4 @@
--- Stretches in which packets were passed, one after another. These laws stand here since the meaning of a text holds them.
+-- Stretches in which packets were passed, one after another. These laws are here since the meaning of a text holds them.
 use Rattle.std.proofs.Common.{◌≡◌, ℕ, List, [], ◌∷◌, ◌++◌, take, refl, sym, ap, subst, ◌∙◌, arith, append_assoc, add-zero, length-append}
 use Rattle.std.specs.List.{AllByRecursion}
 use Rattle.std.proofs.lemmas.List.{append-nil, take-append-le}
@@ -18,7 +18,7 @@ use Rattle.packet_assembly.specs.Assembling.{Assembling, state_with, AsksAt, Pas
 use Rattle.packet_assembly.specs.Comings.{coming, sees_end}
 use Rattle.packet_assembly.specs.Segments.{GoesOn, BeganAt}
 
--- packets in front of octets
+-- packets before octets
 both_split : (packets : List (List ℕ)) (rest : List ℕ) → AllByRecursion IsPacket packets → Splits (joined packets ++ rest) (packets ++ whole_packets rest) (left_over rest)
 both_split packets rest are =
     let s = whole_splits rest in

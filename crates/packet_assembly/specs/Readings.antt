@@ -1,4 +1,4 @@
--- How far a stream was read since the beginning, and that it was read out. This project's own.
+-- What of a stream was read since the beginning, and that it was read to its end. This project's own.
 use Rattle.std.specs.Prelude.{◌≡◌, ◌⊎◌, ◌≤◌, ◌<◌, ℕ, true, List, [], ◌++◌, length, Some}
 use Rattle.std.specs.List.{AllByRecursion}
 use Rattle.port_122.specs.Outside.{Outside, AtEnd}
@@ -7,7 +7,7 @@ use Rattle.packet_defs.specs.Streams.{IsPacket, left_over, has_bad_version}
 use Rattle.stream_defs.specs.Fates.{fresh, after_all}
 use Rattle.packet_assembly.specs.Assembling.{Assembling}
 
--- The octets that were taken, at most so many, are those of the packets that were passed, and those that wait.
+-- The octets that were taken, at most this number, are those of the packets that were passed, and those that wait.
 pub record HasRead (mine most : ℕ) (a : Assembling) (took : List ℕ) (passed : List (List ℕ)) : Type 0 where
   pub apid : a.apid ≡ mine
   pub taken : a.intake.taken ≡ length took
@@ -18,7 +18,7 @@ pub record HasRead (mine most : ℕ) (a : Assembling) (took : List ℕ) (passed 
   pub state : a.state ≡ after_all mine fresh passed
   pub count : a.packets ≡ length passed
 
--- where the end was seen, nothing is left, and more octets may be taken
+-- if the end was seen, nothing is left, and more octets may be taken
 abbrev pub SawEnd : Outside → Assembling → Type 0
 SawEnd now a = (rest : List ℕ) → now.rest ≡ Some rest → a.intake.ended ≡ true → (rest ≡ []) × (a.intake.taken < a.intake.cap)
 

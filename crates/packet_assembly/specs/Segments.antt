@@ -36,11 +36,11 @@ pub record FoundNone (old new : Outside) (a b : Assembling) : Type 0 where
   pub stays : StaysAt a b.state
   pub none_after : b.held ≡ None
 
--- the reader stands where it answers the end, or why there is none
+-- the reader is at the octet at which it returns the end, or why there is none
 abbrev pub StandsEnded : Assembling → Type 0
 StandsEnded b = verdict b.apid b.intake ≡ Some (Ok (end_read b.framing))
 
--- the reader stands where it answers that the input is too long
+-- the reader is at the octet at which it returns that the input is too long
 abbrev pub StandsLong : Assembling → Type 0
 StandsLong b = verdict b.apid b.intake ≡ Some (Err LongInput)
 

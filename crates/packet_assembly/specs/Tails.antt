@@ -15,14 +15,14 @@ use Rattle.packet_assembly.specs.Assembling.{Assembling, is_closed}
 abbrev pub stop_of : Intake → List ℕ → End
 stop_of v rest = if has_bad_version (left_over (coming v rest)) || sees_end v rest then InPieces else TooLong
 
--- some octets in front of what comes
+-- some octets before what follows
 abbrev pub in_front : List ℕ → Tail → Tail
 in_front octets tail = record { octets = octets ++ tail.octets; ends = tail.ends }
 
 abbrev pub nothing : End → Tail
 nothing ends = record { octets = []; ends = ends }
 
--- what a kept packet brings, where so much comes after it: another segment's first part ends the text in pieces
+-- what a kept packet adds, if this follows it: another segment's first part ends the text in pieces
 abbrev pub kept_tail : List ℕ → Tail → Tail
 kept_tail packet later =
     if (ancillary_in packet).part == 0 then nothing InPieces else
@@ -39,14 +39,14 @@ tail_over apid s (packet ∷ packets) stop =
 abbrev pub tail_from : (apid : ℕ) → FateState → List (List ℕ) → End → Tail
 tail_from apid s packets stop = if is_closed s.last then nothing Plainly else tail_over apid s packets stop
 
--- what comes after the octets that were read
+-- what follows the octets that were read
 abbrev pub tail_after : Assembling → List ℕ → Tail
 tail_after a rest = tail_from a.apid a.state (whole_packets (coming a.intake rest)) (stop_of a.intake rest)
 
--- all that comes of the text, where these octets are left to be read; nothing where another segment was begun
+-- all that follows of the text, if these octets are left to be read; nothing if another segment was begun
 abbrev pub text_tail : Assembling → List ℕ → Tail
 text_tail a rest = if is_some a.held then nothing InPieces else in_front a.text (tail_after a rest)
 
--- the same, where the port tells what is left
+-- the same, if the port reports what is left
 abbrev pub told_tail : Outside → Assembling → Option Tail
 told_tail now a = option_map (text_tail a) now.rest

@@ -1,4 +1,4 @@
--- An open segment's text as a place where octets come from. This project's own.
+-- An open segment's text as a source of octets. This project's own.
 use Rattle.std.proofs.Common.{◌≡◌, refl, ◌∙◌}
 use Rattle.std.specs.Prelude.{ℕ, if◌then◌else◌, List, [], is_some}
 use Rattle.bit_pipe.specs.Sources.{SourceOf}
@@ -21,11 +21,11 @@ went_nowhere outside s = record { assembly = refl; port = refl; goes = goes_nowh
 pub went_both : {X : Type 0} (outside : X → Outside) (s t u : SegmentText X) → Went outside s t → Went outside t u → Went outside s u
 went_both outside s t u p q = record { assembly = q.assembly ∙ p.assembly; port = q.port ∙ p.port; goes = goes_both p.goes q.goes }
 
--- the octets of the text that were read and not given yet; none where another segment was begun
+-- the octets of the text that were read and not given yet; none if another segment was begun
 abbrev pub text_ready : Assembling → List ℕ
 text_ready a = if is_some a.held then [] else a.text
 
--- It tells its octets where the port tells what is left to be read, and counts the port's faults of reading.
+-- Its octets are known if the port reports what is left to be read, and it counts the port's faults of reading.
 abbrev pub segment_source : {X : Type 0} → (X → Outside) → SourceOf (SegmentText X)
 segment_source outside = record {
   tail = λ s. told_tail (outside s.port.now) s.assembly.now;

@@ -27,7 +27,7 @@ EndsTaken old new a b (Ok (Some octet)) = ComesSo old new a b (octet ∷ []) × 
 EndsTaken old new a b (Ok None) = ComesSo old new a b [] × IsOver (told_tail new b) Plainly
 EndsTaken old new a b (Err fault) = ComesSo old new a b [] × FailsSo fault old new b
 
--- ---- no call reads where an octet of the text, its end or its break is at hand
+-- ---- no call reads while an octet of the text, its end or its break was read already
 
 -- none of these packets, one after another, brings an octet to the text, begins another segment or closes the text
 abbrev pub BringsNone : (apid : ℕ) → FateState → List (List ℕ) → Type 0
@@ -37,20 +37,20 @@ BringsNone apid s (packet ∷ packets) =
     × BringsNone apid (after apid s packet) packets
 
 -- no octet waited, the text was open, and these packets left it so
-pub record Unheard (a : Assembling) (packets : List (List ℕ)) : Type 0 where
+pub record NoneReady (a : Assembling) (packets : List (List ℕ)) : Type 0 where
   pub unheld : a.held ≡ None
   pub empty : a.text ≡ []
   pub unclosed : is_closed a.state.last ≡ false
   pub none : BringsNone a.apid a.state packets
 
 -- a read call with i of these octets taken, whose packets leave the text so, and none given
-abbrev pub AsksUnheard : Assembling → List ℕ → ℕ → ℕ → Type 0
-AsksUnheard a took i j = Unheard a (whole_packets (a.intake.pending ++ take i took)) × (j ≡ 0)
+abbrev pub AsksNoneReady : Assembling → List ℕ → ℕ → ℕ → Type 0
+AsksNoneReady a took i j = NoneReady a (whole_packets (a.intake.pending ++ take i took)) × (j ≡ 0)
 
 -- no read call but such
 pub record Silent (old new : Outside) (a : Assembling) : Type 0 where
   pub took : List ℕ
-  pub asks : Since old new took [] [] (AsksUnheard a took)
+  pub asks : Since old new took [] [] (AsksNoneReady a took)
 
 -- ---- the calls
 
@@ -61,16 +61,16 @@ pub record TakesOctet (old new : Outside) (a b : Assembling) (result : Result (O
   pub closed : result ≡ Ok None → (b.held ≡ None) × (is_closed b.state.last ≡ true)
   pub ends : EndsTaken old new a b result
 
-abbrev pub EndsHearing : (old new : Outside) (a b : Assembling) → Result Bool InFault → Type 0
-EndsHearing old new a b (Ok true) = 0 < length b.text
-EndsHearing old new a b (Ok false) = IsOver (told_tail new b) Plainly
-EndsHearing old new a b (Err fault) = FailsSo fault old new b
+abbrev pub EndsFilling : (old new : Outside) (a b : Assembling) → Result Bool InFault → Type 0
+EndsFilling old new a b (Ok true) = 0 < length b.text
+EndsFilling old new a b (Ok false) = IsOver (told_tail new b) Plainly
+EndsFilling old new a b (Err fault) = FailsSo fault old new b
 
 -- octets of the text wait, or its end, or why there is none
-pub record Hears (old new : Outside) (a b : Assembling) (result : Result Bool InFault) : Type 0 where
+pub record FillsText (old new : Outside) (a b : Assembling) (result : Result Bool InFault) : Type 0 where
   pub goes : GoesOn old new a b
   pub silent : Silent old new a
   pub comes : ComesSo old new a b []
   pub unheld : IfOk result (λ _. b.held ≡ None)
   pub closed : result ≡ Ok false → is_closed b.state.last ≡ true
-  pub ends : EndsHearing old new a b result
+  pub ends : EndsFilling old new a b result

@@ -1,4 +1,4 @@
--- What a segment's text tells of its kept packets: where it ends plainly, they are all there. This project's own.
+-- What a segment's text says of its kept packets: if it ends plainly, none is missing. This project's own.
 use Rattle.std.specs.Prelude.{◌≡◌, ℕ, true, List, [], ◌∷◌, ◌++◌, slice_index_or}
 use Rattle.bit_pipe.specs.Sources.{End, Plainly, Tail}
 use Rattle.packet_defs.specs.Reading.{text_in}
@@ -18,7 +18,7 @@ abbrev pub tail_past : (apid : ℕ) → (before : List (List ℕ)) (packet : Lis
 tail_past apid before packet later stop = tail_from apid (after apid (after_all apid fresh before) packet) later stop
 
 -- The segment's kept packets are the one that begins it and those that bring what comes of its text. They are complete exactly
--- where the text ends plainly.
+-- if the text ends plainly.
 pub record TellsParts (apid : ℕ) (before : List (List ℕ)) (packet : List ℕ) (later : List (List ℕ)) (stop : End) (parts : List (List ℕ)) : Type 0 where
   pub first : slice_index_or parts 0 [] ≡ packet
   pub text : text_of_parts parts ≡ text_in packet ++ (tail_past apid before packet later stop).octets

@@ -1,13 +1,12 @@
-// Whether a segment's head agrees with the image that its packet tells of.
-ghost use Rattle.std.specs.Prelude.{◌≡◌, ◌≤◌, ◌<◌, ◌+◌, ◌-◌, ◌*◌, ◌^◌, ◌==◌, ◌%◌, not, nat_le, ◌||◌, min};
-ghost use Rattle.base_122.specs.Sizes.{padded_size};
-ghost use Rattle.stream_defs.specs.Agreement.{geometry_for, blocks_of, is_of_image, disagreement};
+// Whether a segment header agrees with the image of its packet.
+ghost use Rattle.std.specs.Prelude.{◌≡◌, ◌<◌, ◌^◌, ◌&&◌, true, if◌then◌else◌};
+ghost use Rattle.stream_defs.specs.Agreement.{geometry_for, blocks_of, has_blocks, ends_where_told, pads_as_told, may_have_blocks, told_height, may_end, is_of_image, disagreement, geometry_past};
 
-use base_122::Geometry;
+use base_122::{FieldRange, Geometry};
 use packet_defs::Ancillary;
 use segment_defs::{HeadFault, HeadField, ImagePart, SegmentHead};
 
-/// The geometry that stands, or is made of what a segment's packet and head tell.
+/// Returns the geometry that is known, or that of a segment's packet and header.
 pub fn geometry_for(
     standing: Option<Geometry>,
     ancillary: &Ancillary,
@@ -30,7 +29,7 @@ pub fn geometry_for(
     }
 }
 
-/// The blocks of an image of any size.
+/// Returns the number of blocks of an image of any size.
 pub fn blocks_of(geometry: &Geometry) -> u64
     ensures value { result ≡ blocks_of geometry.now }
     ensures small { result < 2 ^ 60 }
@@ -38,7 +37,7 @@ pub fn blocks_of(geometry: &Geometry) -> u64
     u64::from(geometry.width.div_ceil(8)) * u64::from(geometry.rows.div_ceil(8))
 }
 
-/// The first test by which a head doesn't agree with what its packet tells, in an image of this geometry (docs/formats.md,
+/// Returns the first test by which a segment header doesn't agree with its packet, in an image of this geometry (docs/formats.md,
 /// "Fates").
 #[tactic(auto, unfolding(stream_defs::specs::Agreement::disagreement))]
 pub fn disagreement(
@@ -46,21 +45,22 @@ pub fn disagreement(
     ancillary: &Ancillary,
     head: &SegmentHead,
 ) -> Option<HeadFault>
+    requires { 0 < geometry.now.width }
     ensures { result ≡ disagreement geometry.now ancillary.now head.now }
 {
     if head.first != (ancillary.index == 0) {
         return Some(HeadFault::BadValue(HeadField::First));
     }
-    if has_other_blocks(geometry, ancillary.first, head.blocks) {
+    if !agree_in_blocks(geometry, ancillary, head) {
         return Some(HeadFault::BadValue(HeadField::Blocks));
     }
-    if head.last != is_last(geometry, ancillary.first, head.blocks) {
+    if !agree_in_end(geometry, ancillary, head) {
         return Some(HeadFault::BadValue(HeadField::Last));
     }
     if u32::from(head.count) != ancillary.index % 256 {
         return Some(HeadFault::BadValue(HeadField::Count));
     }
-    if head.last && pads_otherwise(geometry, head.pad_rows) {
+    if !ancillary.told_last && !pads_as_told(geometry, head) {
         return Some(HeadFault::BadValue(HeadField::PadRows));
     }
     if !is_of_image(geometry, &head.image) {
@@ -69,34 +69,103 @@ pub fn disagreement(
     None
 }
 
-// A segment that begins so can't have so many blocks.
-fn has_other_blocks(geometry: &Geometry, first: u32, blocks: u32) -> bool
-    ensures { result ≡ (nat_le (blocks_of geometry.now) first || not (blocks == min geometry.now.segment (blocks_of geometry.now - first))) }
+// Returns whether the blocks are those that the segment can have.
+fn agree_in_blocks(geometry: &Geometry, ancillary: &Ancillary, head: &SegmentHead) -> bool
+    ensures { result ≡ (if ancillary.now.told_last then may_have_blocks geometry.now head.now else has_blocks geometry.now ancillary.now head.now) }
+{
+    if ancillary.told_last {
+        return may_have_blocks(geometry, head);
+    }
+    has_blocks(geometry, ancillary, head)
+}
+
+// Returns whether the segment is the last one exactly if the image can end, or ends, with it.
+fn agree_in_end(geometry: &Geometry, ancillary: &Ancillary, head: &SegmentHead) -> bool
+    requires { 0 < geometry.now.width }
+    ensures { result ≡ (if ancillary.now.told_last then may_end geometry.now ancillary.now head.now else ends_where_told geometry.now ancillary.now head.now) }
+{
+    if ancillary.told_last {
+        return may_end(geometry, ancillary, head);
+    }
+    ends_where_told(geometry, ancillary, head)
+}
+
+// Returns whether the blocks are the segment's, if the height is known.
+fn has_blocks(geometry: &Geometry, ancillary: &Ancillary, head: &SegmentHead) -> bool
+    ensures { result ≡ has_blocks geometry.now ancillary.now head.now }
 {
     let total = blocks_of(geometry);
-    let first = u64::from(first);
+    let first = u64::from(ancillary.first);
     if total <= first {
-        return true;
+        return false;
     }
-    u64::from(blocks) != u64::from(geometry.segment).min(total - first)
+    u64::from(head.blocks) == u64::from(geometry.segment).min(total - first)
 }
 
-// The segment goes up to the image's last block.
-fn is_last(geometry: &Geometry, first: u32, blocks: u32) -> bool
-    ensures { result ≡ (first + blocks == blocks_of geometry.now) }
+// Returns whether the segment is the last one exactly if it has the image's last block.
+fn ends_where_told(geometry: &Geometry, ancillary: &Ancillary, head: &SegmentHead) -> bool
+    ensures { result ≡ ends_where_told geometry.now ancillary.now head.now }
 {
-    u64::from(first) + u64::from(blocks) == blocks_of(geometry)
+    let ends = u64::from(ancillary.first) + u64::from(head.blocks) == blocks_of(geometry);
+    head.last == ends
 }
 
-// The image is padded by another number of rows.
-fn pads_otherwise(geometry: &Geometry, pad_rows: u8) -> bool
-    ensures { result ≡ not (pad_rows == padded_size geometry.now.rows - geometry.now.rows) }
+// Returns whether the padding rows are those of the image, in its last segment.
+fn pads_as_told(geometry: &Geometry, head: &SegmentHead) -> bool
+    ensures { result ≡ pads_as_told geometry.now head.now }
 {
     let rows = u64::from(geometry.rows);
-    u64::from(pad_rows) != rows.div_ceil(8) * 8 - rows
+    !head.last || u64::from(head.pad_rows) == rows.div_ceil(8) * 8 - rows
 }
 
-// What a head says of the image is what this geometry says.
+// Returns whether the blocks are those of a whole segment, or fewer in the last one.
+fn may_have_blocks(geometry: &Geometry, head: &SegmentHead) -> bool
+    ensures { result ≡ may_have_blocks geometry.now head.now }
+{
+    if head.last {
+        return 1 <= head.blocks && head.blocks <= geometry.segment;
+    }
+    head.blocks == geometry.segment
+}
+
+// Returns whether the segment ends a block row at a height in range if it is the last one, and else leaves room for another.
+fn may_end(geometry: &Geometry, ancillary: &Ancillary, head: &SegmentHead) -> bool
+    requires { 0 < geometry.now.width }
+    ensures { result ≡ may_end geometry.now ancillary.now head.now }
+{
+    let columns = u64::from(geometry.width.div_ceil(8));
+    let first = u64::from(ancillary.first);
+    if !head.last {
+        return first + u64::from(geometry.segment) < 32_768 * columns;
+    }
+    (first + u64::from(head.blocks)) % columns == 0
+        && FieldRange::ROWS.contains(told_height(geometry, ancillary, head))
+}
+
+/// Returns the geometry after a header that agrees is kept: if the height is reported last, the last header reports it.
+pub fn geometry_past(geometry: &Geometry, ancillary: &Ancillary, head: &SegmentHead) -> Geometry
+    requires width { 0 < geometry.now.width }
+    requires height { (ancillary.now.told_last && head.now.last) ≡ true → told_height geometry.now ancillary.now head.now < 2 ^ 32 }
+    ensures { result ≡ geometry_past geometry.now ancillary.now head.now }
+{
+    if !ancillary.told_last || !head.last {
+        return *geometry;
+    }
+    let rows = told_height(geometry, ancillary, head) as u32;
+    Geometry { rows, ..*geometry }
+}
+
+// Returns the height that a last header reports.
+fn told_height(geometry: &Geometry, ancillary: &Ancillary, head: &SegmentHead) -> u64
+    requires { 0 < geometry.now.width }
+    ensures { result ≡ told_height geometry.now ancillary.now head.now }
+{
+    let columns = u64::from(geometry.width.div_ceil(8));
+    let block_rows = (u64::from(ancillary.first) + u64::from(head.blocks)) / columns;
+    (8 * block_rows).saturating_sub(u64::from(head.pad_rows))
+}
+
+// Returns whether a header says of the image what this geometry says.
 fn is_of_image(geometry: &Geometry, image: &ImagePart) -> bool
     ensures { result ≡ is_of_image geometry.now image.now }
 {

@@ -2,7 +2,7 @@
 ghost use Rattle.std.specs.Prelude.{◌≡◌, ◌≤◌, ◌<◌, ◌+◌, ◌-◌, length, drop, Some, None, IfOk, IfSome, [], MatchBool};
 ghost use Rattle.packet_assembly.specs.Notes.{head_octets, start_of};
 
-use crate::judging::{judge, past_kept};
+use crate::classification::{classify, past_kept};
 use crate::note::{PacketNote, Passed, SegmentStart};
 use crate::text::SegmentText;
 use base_122::Geometry;
@@ -20,7 +20,8 @@ const ANCILLARY: u32 = 24;
 
 /// Reads a stream as the packets of an image's segments (docs/formats.md, "Fates").
 ///
-/// It takes so many octets at most, and reads on only where the octets that it has taken don't decide what comes next.
+/// It takes at most the number of octets that it was made with, and reads on only if the octets that it has taken don't decide
+/// what is next.
 #[derive(Drop)]
 pub struct Assembly {
     reader: PacketReader,
@@ -53,11 +54,11 @@ impl Assembly {
     ghost use Rattle.packet_assembly.specs.Assembling.{is_closed};
     ghost use Rattle.packet_assembly.specs.Segments.{FindsSegment};
     ghost use Rattle.packet_assembly.specs.TextSource.{text_ready};
-    ghost use Rattle.packet_assembly.specs.Texts.{TakesOctet, Hears};
-    ghost use Rattle.base_122.specs.Ranges.{IsGeometryInRange};
+    ghost use Rattle.packet_assembly.specs.Texts.{TakesOctet, FillsText};
+    ghost use Rattle.base_122.specs.Ranges.{IsGeometryInRange, IsWithin, rows_range};
 
-    /// An assembly for the packets with an APID, of so many octets at most. It takes the memory of a `PacketReader`, and no call
-    /// takes more.
+    /// Returns an assembly for the packets with an APID, of at most `octets` octets. It takes the memory of a `PacketReader`, and
+    /// no call takes more.
     pub fn new(alloc: Global, apid: u16, octets: u64) -> Result<Assembly, AllocError>
         ensures { IfOk result (λ made. made ≡ unread_assembly apid octets) }
     {
@@ -67,6 +68,7 @@ impl Assembly {
             apid,
             state: FateState {
                 geometry: None,
+                told_last: false,
                 last: None,
             },
             packets: 0,
@@ -76,15 +78,16 @@ impl Assembly {
         })
     }
 
-    /// The geometry of the image, from its first kept packet on. Each of its fields is in range.
+    /// Returns the geometry of the image, from its first kept packet on. Each of its fields is in range.
     pub fn geometry(&self) -> Option<Geometry>
         ensures standing { result ≡ self.now.state.geometry }
         ensures in_range { IfSome result IsGeometryInRange }
+        ensures height { IfSome result (λ g. IsWithin rows_range g.rows) }
     {
         self.state.geometry
     }
 
-    /// Why the stream can't be read on, where that was found: the reader stands there.
+    /// Returns why the stream can't be read on, if that was found: the reader is at that octet.
     pub fn framing(&self) -> Option<Framing>
         ensures found { result ≡ self.now.framing }
         ensures met { IfSome result (StandsAtFault self.now.apid self.now.intake) }
@@ -92,14 +95,15 @@ impl Assembly {
         self.framing
     }
 
-    /// Whether the octets that were taken hold the whole next packet. Then `next_packet` answers its fate and reads nothing.
+    /// Returns whether the octets that were taken hold the whole next packet. Then `next_packet` returns its fate and reads
+    /// nothing.
     pub fn has_packet(&self) -> bool
         ensures { result ≡ begins_packet self.now.intake.pending }
     {
         self.reader.has_packet()
     }
 
-    /// The next packet's fate, or nothing at the end and at what can't be read on.
+    /// Returns the next packet's fate, or `None` at the end and at what can't be read on.
     pub fn next_packet<X: Port>(&mut self, port: &mut X) -> Result<Option<PacketNote>, InFault>
         ensures { ReadsNote (X.outside port.old) (X.outside port.new) self.old self.new result }
     {
@@ -109,8 +113,8 @@ impl Assembly {
         Ok(Some(passed.note))
     }
 
-    /// Goes on to the next segment, past what is left of an earlier one, or to the end or what can't be read on. A segment whose
-    /// first packet ended the text before isn't lost.
+    /// Returns the start of the next segment, past what is left of an earlier one, or `None` at the end and at what can't be read
+    /// on. A segment whose first packet ended the text before isn't lost.
     pub fn next_segment<X: Port>(&mut self, port: &mut X) -> Result<Option<SegmentStart>, InFault>
         ensures { FindsSegment (X.outside port.old) (X.outside port.new) self.old self.new result }
     {
@@ -121,7 +125,7 @@ impl Assembly {
         self.find_segment(port)
     }
 
-    /// The text of the segment that was answered last.
+    /// Returns the text of the segment that was returned last.
     pub fn text<'a, X: Port>(&'a mut self, port: &'a mut X) -> SegmentText<'a, X>
         ensures assembly { result.assembly.ghost_name ≡ self.entry.ghost_name }
         ensures port { result.port.ghost_name ≡ port.entry.ghost_name }
@@ -134,11 +138,11 @@ impl Assembly {
         }
     }
 
-    /// The next octet of the segment's text, or none at its end.
+    /// Takes the next octet of the segment's text; `None` at its end.
     pub fn take_octet<X: Port>(&mut self, port: &mut X) -> Result<Option<u8>, InFault>
         ensures { TakesOctet (X.outside port.old) (X.outside port.new) self.old self.new result }
     {
-        match self.hear(port) {
+        match self.fill_text(port) {
             Ok(true) => {}
             Ok(false) => return Ok(None),
             Err(fault) => return Err(fault),
@@ -148,7 +152,7 @@ impl Assembly {
         Ok(Some(octet))
     }
 
-    /// The octets of the segment's text that were read and not given yet.
+    /// Returns the octets of the segment's text that were read and not given yet.
     #[inline(always)]
     pub fn ready(&self) -> &[u8]
         ensures { result.now ≡ text_ready self.now }
@@ -159,7 +163,7 @@ impl Assembly {
         &self.reader.text()[self.next..]
     }
 
-    /// Passes so many of them.
+    /// Passes `count` of these octets.
     #[inline(always)]
     pub fn pass_ready(&mut self, count: usize)
         requires { count ≤ length (text_ready self.old) }
@@ -187,9 +191,9 @@ impl Assembly {
         }
     }
 
-    // Passes packets until octets of the segment's text wait; answers false where the text is over.
-    fn hear<X: Port>(&mut self, port: &mut X) -> Result<bool, InFault>
-        ensures { Hears (X.outside port.old) (X.outside port.new) self.old self.new result }
+    // Passes packets until octets of the segment's text wait; returns false if the text is over.
+    fn fill_text<X: Port>(&mut self, port: &mut X) -> Result<bool, InFault>
+        ensures { FillsText (X.outside port.old) (X.outside port.new) self.old self.new result }
     {
         if self.held.is_some() {
             return Err(InFault::Broken);
@@ -211,14 +215,14 @@ impl Assembly {
         Ok(true)
     }
 
-    // No octet of the text waits.
+    // Returns whether no octet of the text waits.
     fn is_used_up(&self) -> bool
         ensures { MatchBool result (self.now.text ≡ []) (0 < length self.now.text) }
     {
         self.next == self.reader.text().len()
     }
 
-    // The last part closed its segment's text.
+    // Returns whether the last part closed its segment's text.
     fn is_closed(&self) -> bool
         ensures { result ≡ is_closed self.now.state.last }
     {
@@ -228,7 +232,7 @@ impl Assembly {
         }
     }
 
-    // Passes the next packet, or tells that none comes.
+    // Passes the next packet; `None` if there is none.
     fn pass<X: Port>(&mut self, port: &mut X) -> Result<Option<Passed>, InFault>
         ensures { PassesNext (X.outside port.old) (X.outside port.new) self.old self.new result }
     {
@@ -238,7 +242,9 @@ impl Assembly {
             Err(fault) => return Err(fault),
         };
         match read {
-            PacketRead::Mine { head, ancillary } => Ok(Some(self.pass_mine(&head, &ancillary))),
+            PacketRead::Mine { head, ancillary } => Ok(Some(self.pass_image_packet(
+                &head, &ancillary,
+            ))),
             PacketRead::Skipped(skip) => Ok(Some(self.pass_other(skip))),
             PacketRead::Ended => {
                 self.framing = None;
@@ -252,7 +258,7 @@ impl Assembly {
     }
 
     // Passes a packet of the image that was read.
-    fn pass_mine(&mut self, head: &PacketHead, ancillary: &Ancillary) -> Passed
+    fn pass_image_packet(&mut self, head: &PacketHead, ancillary: &Ancillary) -> Passed
         requires counted { self.old.packets + length self.old.intake.pending < self.old.intake.taken }
         requires field { 24 ≤ head.now.length }
         requires image { ancillary.now.image ≤ 65535 }
@@ -261,10 +267,10 @@ impl Assembly {
     {
         let text = self.reader.text();
         let octets = text.len();
-        let judged = judge(&self.state, head.flags, ancillary, text);
+        let classified = classify(&self.state, head.flags, ancillary, text);
         let number = self.packets;
         self.packets += 1;
-        match judged {
+        match classified {
             Ok(found) => {
                 self.state = past_kept(&self.state, head.flags, ancillary, found);
                 self.next = head_octets(found);
@@ -305,7 +311,7 @@ impl Assembly {
     }
 }
 
-// What is told of a packet of the image.
+// Returns the report of a packet of the image.
 fn note_told(number: u64, fate: Fate, head: &PacketHead, ancillary: &Ancillary) -> PacketNote
     requires { 24 ≤ head.now.length }
     ensures { result ≡ record { number = number; fate = fate; index = ancillary.now.index; part = ancillary.now.part; octets = head.now.length - 24 } }
@@ -319,7 +325,7 @@ fn note_told(number: u64, fate: Fate, head: &PacketHead, ancillary: &Ancillary) 
     }
 }
 
-// The octets of a head that was found.
+// Returns the number of octets of a header that was found.
 fn head_octets(found: Option<SegmentHead>) -> usize
     ensures { result ≡ head_octets found }
 {
@@ -329,7 +335,7 @@ fn head_octets(found: Option<SegmentHead>) -> usize
     }
 }
 
-// The segment that begins with a packet that tells this, where there is a head in it.
+// Returns the segment that begins with a packet with these ancillary data, if there is a header in it.
 fn start_of(ancillary: &Ancillary, found: Option<SegmentHead>) -> Option<SegmentStart>
     ensures { result ≡ start_of ancillary.now found }
 {

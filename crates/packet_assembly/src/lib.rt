@@ -1,10 +1,10 @@
-//! What becomes of each packet of a stream, and the texts of the segments that the kept ones carry. The rules stand in
+//! What becomes of each packet of a stream, and the texts of the segments that the kept ones carry. The rules are in
 //! docs/formats.md, "Fates".
 #![tactic(auto)]
 
 mod agreement;
 mod assembly;
-mod judging;
+mod classification;
 mod laws;
 mod note;
 mod text;

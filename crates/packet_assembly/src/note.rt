@@ -1,4 +1,4 @@
-// What is told of packets and segments.
+// What is reported of packets and segments.
 use packet_defs::Ancillary;
 use segment_defs::SegmentHead;
 use stream_defs::Fate;
@@ -17,14 +17,14 @@ pub struct PacketNote {
     pub octets: u32,
 }
 
-/// What a segment's first packet tells of it.
+/// What a segment's first packet says of it.
 #[derive(Clone, Copy, Debug, PartialEq, Eq)]
 pub struct SegmentStart {
     pub ancillary: Ancillary,
     pub head: SegmentHead,
 }
 
-/// What is told of a packet that was passed, and the start of the segment that it begins.
+/// The report of a packet that was passed, and the start of the segment that it begins.
 #[derive(Clone, Copy, Debug, PartialEq, Eq)]
 pub struct Passed {
     pub note: PacketNote,

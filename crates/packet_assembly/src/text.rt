@@ -5,7 +5,7 @@ use port_122::Port;
 
 /// The text of an assembly's segment after its head, on its way from a port (docs/formats.md, "Fates").
 ///
-/// It breaks where another segment's first packet, the end or a framing fault comes before the closing part. As a source it counts
+/// It breaks if another segment's first packet, the end or a framing fault is read before the closing part. As a source it counts
 /// the port's `read_faults`.
 #[derive(Drop)]
 pub struct SegmentText<'a, X> {

@@ -1,14 +1,14 @@
 -- A packet is read as it was written.
 use Rattle.std.proofs.Common.{◌≡◌, ◌≤◌, ◌<◌, ◌+◌, ◌-◌, ◌/◌, ◌%◌, ◌^◌, ℕ, List, [], ◌∷◌, ◌++◌, length, refl, sym, ap, ◌∙◌, arith, length-append}
-use Rattle.std.specs.Prelude.{Bool, true, false, not, ◌==◌, nat_lt, nat_le, slice_index, Option}
+use Rattle.std.specs.Prelude.{Bool, true, false, not, ◌==◌, ◌||◌, nat_lt, nat_le, slice_index, Option}
 use Rattle.std.proofs.lemmas.Bool.Decides.{nat_tests}
 use Rattle.byteorder.specs.Endian.{big_bytes}
 use Rattle.byteorder.specs.Numbers.{big_number-reads_back}
 use Rattle.packet_defs.specs.declared.ancillary.Ancillary.{Ancillary}
 use Rattle.packet_defs.specs.declared.packet.Skip.TheVariants.{OtherMark}
-use Rattle.packet_defs.specs.Packets.{identification, sequence_control, mark, ancillary_length, ancillary_octets, packet_with}
+use Rattle.packet_defs.specs.Packets.{identification, sequence_control, mark_of, ancillary_length, ancillary_octets, packet_with}
 use Rattle.packet_defs.specs.Tests.{when, first_of}
-use Rattle.packet_defs.specs.Reading.{number_at, type_in, secondary_in, apid_in, field_length, mark_in, idle_apid, skip_of}
+use Rattle.packet_defs.specs.Reading.{number_at, type_in, secondary_in, apid_in, field_length, mark_in, has_mark, idle_apid, skip_of}
 use Rattle.packet_defs.specs.Streams.{told_length}
 use Rattle.packet_defs.specs.Written.{CanBeWritten}
 use Rattle.packet_defs.specs.Laws.{ReadsBack}
@@ -29,8 +29,21 @@ not_below m n e = grind (arith, nat_tests)
 not_least : (m n : ℕ) → n < m → nat_le m n ≡ false
 not_least m n e = grind (arith, nat_tests)
 
-same_ancillary : {a b : Ancillary} → a.image ≡ b.image → a.rows ≡ b.rows → a.segment ≡ b.segment → a.index ≡ b.index → a.first ≡ b.first → a.part ≡ b.part → a ≡ b
-same_ancillary image rows segment index first part = λ i. record { image = image i; rows = rows i; segment = segment i; index = index i; first = first i; part = part i }
+same_ancillary : {a b : Ancillary} → a.told_last ≡ b.told_last → a.image ≡ b.image → a.rows ≡ b.rows → a.segment ≡ b.segment → a.index ≡ b.index → a.first ≡ b.first → a.part ≡ b.part → a ≡ b
+same_ancillary told image rows segment index first part = λ i. record { told_last = told i; image = image i; rows = rows i; segment = segment i; index = index i; first = first i; part = part i }
+
+mark_fits : (told_last : Bool) → mark_of told_last < 256 ^ 2
+mark_fits true = omega arith
+mark_fits false = omega arith
+
+-- each of the two marks tells its own
+mark_tells : (m : ℕ) (told_last : Bool) → m ≡ mark_of told_last → (m == mark_of true) ≡ told_last
+mark_tells m true e = equal m (mark_of true) e
+mark_tells m false e = apart m (mark_of true) (λ f. omega (arith, e, f))
+
+mark_known : (m : ℕ) (told_last : Bool) → m ≡ mark_of told_last → ((m == mark_of false) || (m == mark_of true)) ≡ true
+mark_known m true e = rw (apart m (mark_of false) (λ f. omega (arith, e, f)), equal m (mark_of true) e) refl
+mark_known m false e = rw (equal m (mark_of false) e) refl
 
 -- the octets of the ancillary data from each number on
 abbrev from_part : Ancillary → List ℕ → List ℕ
@@ -68,7 +81,7 @@ reads_back apid flags number a text can =
     big_number-reads_back 2 (identification apid) (big_bytes 2 control ++ (big_bytes 2 (length field - 1) ++ field)) (omega (arith, can.own)) in
     let second : number_at packet 2 2 ≡ control = big_number-reads_back 2 control (big_bytes 2 (length field - 1) ++ field) control_fits in
     let third : number_at packet 4 2 ≡ length field - 1 = big_number-reads_back 2 (length field - 1) field (omega (arith, size, can.room)) in
-    let marked : mark_in packet ≡ mark = big_number-reads_back 2 mark (from_image a text) (omega arith) in
+    let marked : mark_in packet ≡ mark_of a.told_last = big_number-reads_back 2 (mark_of a.told_last) (from_image a text) (mark_fits a.told_last) in
     let image : number_at packet 8 2 ≡ a.image = big_number-reads_back 2 a.image (from_rows a text) can.ancillary.image in
     let rows : number_at packet 10 4 ≡ a.rows = big_number-reads_back 4 a.rows (from_segment a text) can.ancillary.rows in
     let segment : number_at packet 14 4 ≡ a.segment = big_number-reads_back 4 a.segment (from_index a text) can.ancillary.segment in
@@ -92,8 +105,8 @@ reads_back apid flags number a text can =
           ∙ none_first (not (apid_in packet == apid)) _ _ (ap not (equal (apid_in packet) apid own))
           ∙ none_first (secondary_in packet == 0) _ _ (apart (secondary_in packet) 0 (λ e. omega (arith, secondary, e)))
           ∙ none_first (nat_lt (field_length packet) ancillary_length) _ _ (not_below (field_length packet) ancillary_length (omega (arith, told, size)))
-          ∙ none_first (not (mark_in packet == mark)) OtherMark [] (ap not (equal (mark_in packet) mark marked));
+          ∙ none_first (not (has_mark packet)) OtherMark [] (ap not (mark_known (mark_in packet) a.told_last marked));
       flags_are = ap (λ n. n / 2 ^ 14) second ∙ (let e : control / 2 ^ 14 ≡ flags = omega (arith, low) in e);
-      ancillary_is = same_ancillary image rows segment index block part;
+      ancillary_is = same_ancillary (mark_tells (mark_in packet) a.told_last marked) image rows segment index block part;
       text_is = refl;
     }

@@ -5,13 +5,7 @@ use Rattle.std.specs.List.{AllByRecursion}
 use Rattle.std.proofs.lemmas.List.{append-nil, take-append-drop, drop_at}
 use Rattle.packet_defs.specs.Packets.{joined}
 use Rattle.packet_defs.specs.Streams.{told_length, begins_packet, first_packet, after_packet, IsPacket, Splits, packets_within, whole_packets, left_over}
-use Rattle.packet_defs.proofs.Joins.{joined-append}
 use Rattle.packet_defs.proofs.Fronts.{begins_so, so_begins, begins-append, packet_begins, first-packet, after-packet, first_is_packet, told_least}
-
--- what holds of each in two lists holds of each in both
-each_of_both : {X : Type 0} (P : X → Type 0) (xs ys : List X) → AllByRecursion P xs → AllByRecursion P ys → AllByRecursion P (xs ++ ys)
-each_of_both P [] ys p q = q
-each_of_both P (x ∷ xs) ys p q = (p.0, each_of_both P xs ys p.1 q)
 
 -- each packet has some octets, so there are no more packets than octets
 few_packets : (packets : List (List ℕ)) → AllByRecursion IsPacket packets → length packets ≤ length (joined packets)
@@ -85,15 +79,6 @@ pub whole_splits : (octets : List ℕ) → Splits octets (whole_packets octets) 
 whole_splits octets =
     let parts = split_within (length octets) octets (omega arith) in
     subst (λ left. Splits octets (whole_packets octets) left) (sym (splits_left parts.1)) parts.1
-
--- what is left over goes on
-pub splits_more : {octets left rest : List ℕ} {packets later : List (List ℕ)} (more : List ℕ) → Splits octets packets left → Splits (left ++ more) later rest → Splits (octets ++ more) (packets ++ later) rest
-splits_more {octets = octets} {left = left} {rest = rest} {packets = packets} {later = later} more s t = record {
-  octets_are = ap (λ zs. zs ++ more) s.octets_are ∙ append_assoc (joined packets) left more ∙ ap (λ zs. joined packets ++ zs) t.octets_are
-      ∙ sym (append_assoc (joined packets) (joined later) rest) ∙ ap (λ zs. zs ++ rest) (sym (joined-append packets later));
-  packets_are = each_of_both IsPacket packets later s.packets_are t.packets_are;
-  none_left = t.none_left;
-}
 
 no_packet : begins_packet [] ≡ false
 unfolding begins_packet

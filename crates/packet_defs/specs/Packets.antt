@@ -1,6 +1,6 @@
 -- The packets that carry a segment's text (CCSDS 133.0-B-2, section 4.1, for the primary header; the ancillary data, the parts
 -- and the sequence count that begins with each image are this project's own).
-use Rattle.std.specs.Prelude.{ℕ, ◌+◌, ◌-◌, ◌*◌, ◌/◌, ◌%◌, ◌^◌, ◌==◌, if◌then◌else◌, List, ◌++◌, length, map, take, drop}
+use Rattle.std.specs.Prelude.{ℕ, ◌+◌, ◌-◌, ◌*◌, ◌/◌, ◌%◌, ◌^◌, ◌==◌, if◌then◌else◌, Bool, List, ◌++◌, length, map, take, drop}
 use Rattle.std.specs.List.{range_with_len, flat_map}
 use Rattle.byteorder.specs.Endian.{big_bytes}
 use Rattle.packet_defs.specs.declared.ancillary.Ancillary.{Ancillary}
@@ -21,30 +21,30 @@ sequence_control flags number = flags * 2 ^ 14 + number % 2 ^ 14
 abbrev pub ancillary_length : ℕ
 ancillary_length = 24
 
--- the mark of the ancillary data
-abbrev pub mark : ℕ
-mark = 0x1220
+-- the mark of the ancillary data: one if they report the height of the image, another if the height is reported last
+abbrev pub mark_of : (told_last : Bool) → ℕ
+mark_of told_last = if told_last then 0x1221 else 0x1220
 
 abbrev pub ancillary_octets : Ancillary → List ℕ
 ancillary_octets a =
-    big_bytes 2 mark ++ big_bytes 2 a.image ++ big_bytes 4 a.rows ++ big_bytes 4 a.segment ++ big_bytes 4 a.index
+    big_bytes 2 (mark_of a.told_last) ++ big_bytes 2 a.image ++ big_bytes 4 a.rows ++ big_bytes 4 a.segment ++ big_bytes 4 a.index
     ++ big_bytes 4 a.first ++ big_bytes 4 a.part
 
--- a packet whose data field has these octets; the header tells their number less 1
+-- a packet whose data field has these octets; the header has their number less 1
 abbrev pub packet_with : (apid flags number : ℕ) → List ℕ → List ℕ
 packet_with apid flags number field =
     big_bytes 2 (identification apid) ++ big_bytes 2 (sequence_control flags number) ++ big_bytes 2 (length field - 1) ++ field
 
--- ---- the parts of a text, each of so many octets but the last
+-- ---- the parts of a text, each of the same number of octets except the last
 
--- parts of a text of so many octets; no octets have no part
+-- the number of parts of a text of a number of octets; no octets have no part
 abbrev pub part_count : (size octets : ℕ) → ℕ
 part_count size octets = (octets + size - 1) / size
 
 abbrev pub part_of : (size part : ℕ) → List ℕ → List ℕ
 part_of size part text = take size (drop (part * size) text)
 
--- octets of text in a packet whose data field has at most so many octets
+-- octets of text in a packet whose data field has at most this number of octets
 abbrev pub part_size : (packet : ℕ) → ℕ
 part_size packet = packet - ancillary_length
 

@@ -1,6 +1,6 @@
 -- What a packet says (CCSDS 133.0-B-2, section 4.1, for the primary header; the ancillary data and the order of the tests are
 -- this project's own).
-use Rattle.std.specs.Prelude.{ℕ, ◌+◌, ◌/◌, ◌%◌, ◌^◌, ◌==◌, not, nat_lt, List, [], ◌∷◌, drop, Option, None, Some}
+use Rattle.std.specs.Prelude.{ℕ, ◌+◌, ◌/◌, ◌%◌, ◌^◌, ◌==◌, ◌||◌, Bool, true, false, not, nat_lt, List, [], ◌∷◌, drop, Option, None, Some}
 use Rattle.byteorder.specs.Endian.{big_number}
 use Rattle.packet_defs.specs.declared.ancillary.Ancillary.{Ancillary}
 use Rattle.packet_defs.specs.declared.packet.PacketHead.{PacketHead}
@@ -8,7 +8,7 @@ use Rattle.packet_defs.specs.declared.packet.Skip.{Skip}
 use Rattle.packet_defs.specs.declared.packet.Skip.TheVariants.{Idle, NotTelemetry, OtherApid, NoSecondary, ShortAncillary, OtherMark}
 use Rattle.packet_defs.specs.declared.packet.PacketRead.{PacketRead}
 use Rattle.packet_defs.specs.declared.packet.PacketRead.TheVariants.{Mine, Skipped}
-use Rattle.packet_defs.specs.Packets.{ancillary_length, mark}
+use Rattle.packet_defs.specs.Packets.{ancillary_length, mark_of}
 use Rattle.packet_defs.specs.Tests.{when, first_of}
 
 -- octets of the primary header
@@ -19,7 +19,7 @@ header_length = 6
 abbrev pub front_length : ℕ
 front_length = header_length + ancillary_length
 
--- the number in so many octets of a packet, from a place on
+-- the number in a number of octets of a packet, from a place on
 abbrev pub number_at : List ℕ → (place size : ℕ) → ℕ
 number_at packet place size = big_number size (drop place packet)
 
@@ -29,7 +29,7 @@ number_at packet place size = big_number size (drop place packet)
 abbrev pub type_in : List ℕ → ℕ
 type_in packet = number_at packet 0 2 / 2 ^ 12 % 2
 
--- 1 where there is a secondary header
+-- 1 if there is a secondary header
 abbrev pub secondary_in : List ℕ → ℕ
 secondary_in packet = number_at packet 0 2 / 2 ^ 11 % 2
 
@@ -61,6 +61,7 @@ mark_in packet = number_at packet 6 2
 
 abbrev pub ancillary_in : List ℕ → Ancillary
 ancillary_in packet = record {
+  told_last = mark_in packet == mark_of true;
   image = number_at packet 8 2;
   rows = number_at packet 10 4;
   segment = number_at packet 14 4;
@@ -78,6 +79,9 @@ text_in packet = drop front_length packet
 abbrev pub idle_apid : ℕ
 idle_apid = 2047
 
+abbrev pub has_mark : List ℕ → Bool
+has_mark packet = (mark_in packet == mark_of false) || (mark_in packet == mark_of true)
+
 -- why a packet is none of an image with this APID: the first of these that is so
 unfoldable pub skip_of : (apid : ℕ) → List ℕ → Option Skip
 skip_of apid packet = first_of (
@@ -86,7 +90,7 @@ skip_of apid packet = first_of (
     ∷ when (not (apid_in packet == apid)) OtherApid
     ∷ when (secondary_in packet == 0) NoSecondary
     ∷ when (nat_lt (field_length packet) ancillary_length) ShortAncillary
-    ∷ when (not (mark_in packet == mark)) OtherMark
+    ∷ when (not (has_mark packet)) OtherMark
     ∷ []
     )
 

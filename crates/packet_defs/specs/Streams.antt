@@ -8,11 +8,11 @@ use Rattle.packet_defs.specs.Packets.{joined}
 use Rattle.packet_defs.specs.Tests.{when, first_of}
 use Rattle.packet_defs.specs.Reading.{header_length, field_length}
 
--- the first three bits, which tell the version, aren't 000
+-- the first three bits, the version, aren't 000
 abbrev pub has_bad_version : List ℕ → Bool
 has_bad_version octets = nat_le (2 ^ 5) (slice_index octets 0)
 
--- octets of the packet with which octets begin, as its header tells
+-- octets of the packet with which octets begin, by its header
 unfoldable pub told_length : List ℕ → ℕ
 told_length octets = header_length + field_length octets
 
@@ -39,7 +39,7 @@ pub record Splits (octets : List ℕ) (packets : List (List ℕ)) (left : List �
   pub packets_are : AllByRecursion IsPacket packets
   pub none_left : begins_packet left ≡ false
 
--- the first whole packets, at most so many
+-- the first whole packets, at most `most`
 unfoldable pub packets_within : (most : ℕ) → List ℕ → List (List ℕ)
 packets_within zero octets = []
 packets_within (suc most) octets =
@@ -57,11 +57,11 @@ place_after octets = length (joined (whole_packets octets))
 abbrev pub left_over : List ℕ → List ℕ
 left_over octets = drop (place_after octets) octets
 
--- octets that lack of a packet that begins so: of its primary header where that is cut, else of its data field
+-- the missing octets of a packet that begins with these: of its primary header if that is cut, else of its data field
 abbrev pub missing : List ℕ → ℕ
 missing left = if nat_lt (length left) header_length then header_length - length left else told_length left - length left
 
--- why octets at a place, which begin with no whole packet, can't be read on, where the input ends after them
+-- why octets at a place, which begin with no whole packet, can't be read on, if the input ends after them
 unfoldable pub framing_at : (place : ℕ) → List ℕ → Option Framing
 framing_at place left = first_of (
     when (has_bad_version left) (BadVersion place)
@@ -69,6 +69,6 @@ framing_at place left = first_of (
     ∷ []
     )
 
--- why a stream that ends after these octets can't be read to its end, where that is so
+-- why a stream that ends after these octets can't be read to its end, if it can't
 abbrev pub framing : List ℕ → Option Framing
 framing octets = framing_at (place_after octets) (left_over octets)

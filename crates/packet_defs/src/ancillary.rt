@@ -1,13 +1,15 @@
-// What a packet says of its text before it.
+// What a packet says of its part of the text.
 
-/// The numbers of a packet's 24 octets of ancillary data, after its mark (docs/formats.md, "Packets").
+/// The fields of a packet's 24 octets of ancillary data, with the meaning of its mark (docs/formats.md, "Packets").
 #[derive(Clone, Copy, Debug, PartialEq, Eq)]
 pub struct Ancillary {
     /// Number of the image.
     pub image: u16,
-    /// Rows of the image.
+    /// The height of the image is reported last, by the head of its last segment.
+    pub told_last: bool,
+    /// Rows of the image; 0 if they are reported last.
     pub rows: u32,
-    /// Blocks of a segment of the image, but for the last.
+    /// Blocks of each segment of the image except the last.
     pub segment: u32,
     /// Index of the segment, from 0.
     pub index: u32,

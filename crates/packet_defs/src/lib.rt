@@ -14,7 +14,7 @@ pub const fn packets_read_back()
     ensures { PacketsReadBack }
 {}
 
-/// A stream is whole packets and a rest that begins with none, in one way alone.
+/// A stream is whole packets and a rest that begins with no packet, in exactly one way.
 pub const fn streams_split()
     ensures { StreamsSplit }
 {}

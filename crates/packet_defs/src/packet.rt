@@ -9,11 +9,11 @@ pub struct PacketHead {
     pub flags: u8,
     /// Sequence count.
     pub count: u16,
-    /// Octets of the data field.
+    /// Octets of the packet data field.
     pub length: u32,
 }
 
-/// Why a packet is none of an image with the APID that is asked for (docs/formats.md, "Fates").
+/// Why a packet isn't one of the image with the wanted APID (docs/formats.md, "Fates").
 #[derive(Clone, Copy, Debug, PartialEq, Eq)]
 pub enum Skip {
     Idle,
@@ -29,7 +29,8 @@ pub enum Skip {
 pub enum Framing {
     /// A packet begins with another version than 000, at this octet of the stream, from 0.
     BadVersion { octet: u64 },
-    /// The input ends inside a packet: so many octets lack of its primary header where that is cut, else of its data field.
+    /// The input ends inside a packet: this number of octets is missing, of its primary header if that is cut, else of its
+    /// packet data field.
     CutPacket { missing: u32 },
 }
 

@@ -1,5 +1,5 @@
 -- Read calls after a stretch of calls.
-use Rattle.std.proofs.Common.{◌≡◌, ◌<◌, ◌≤◌, ◌+◌, ◌⊎◌, inl, inr, ℕ, zero, suc, List, [], ◌∷◌, ◌++◌, length, take, refl, subst, arith, add-zero}
+use Rattle.std.proofs.Common.{◌≡◌, ◌<◌, ◌≤◌, ◌+◌, ℕ, List, [], ◌++◌, length, take, refl, subst, add-zero}
 use Rattle.std.proofs.lemmas.List.{append-nil, take-append-le}
 use Rattle.std.proofs.Math.Seq.{take-append-add}
 use Rattle.port_122.specs.Outside.{Outside, Since, Read, ReadFailed, AtStart, AtEnd, GivenBy, Rose}
@@ -40,13 +40,6 @@ pub since_end : {a b c : Outside} {t g w piece : List ℕ} {Q : ℕ → ℕ → 
     Since a b t g w Q → Read b c piece 0 → 0 < length piece → Q (length t) (length g) → Since a c t g w Q × AtEnd c
 since_end {a = a} {c = c} {t = t} {g = g} {w = w} {Q = Q} p q some here =
     (subst (λ t. Since a c t g w Q) (append-nil t) (since_read 0 p q here), q.at_end refl some)
-
--- a read of one octet saw the end or took it
-pub read_one : {b c : Outside} (x n : ℕ) → Read b c (x ∷ []) n →
-    ((n ≡ 0) × Since b c [] [] [] AtStart × AtEnd c) ⊎ ((n ≡ 1) × Since b c (x ∷ []) [] [] AtStart)
-read_one x zero q = inl (refl, q.since, q.at_end refl (omega arith))
-read_one x (suc zero) q = inr (refl, q.since)
-read_one x (suc (suc n)) q = let within : suc (suc n) ≤ 1 = q.within in absurd (omega (arith, within))
 
 -- All that stands given for the octets taken was given, and the stretch that follows asks only where nothing more
 -- stands given: then the whole asks only where what stands given was given.

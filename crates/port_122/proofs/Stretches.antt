@@ -2,10 +2,10 @@
 use Rattle.std.proofs.Common.{◌≡◌, ◌≤◌, ◌+◌, ℕ, List, [], ◌∷◌, ◌++◌, length, refl, sym, ap, subst, arith, append_assoc, length-append, ◌-◌, take, drop}
 use Rattle.std.specs.Prelude.{Option, None, Some, Result, Ok, Err, IsErr}
 use Rattle.std.specs.List.{AllByRecursion}
-use Rattle.std.proofs.lemmas.List.{append-nil, take_rest, take-append-le}
+use Rattle.std.proofs.lemmas.List.{append-nil, take_rest}
 use Rattle.std.proofs.lemmas.Bool.{false≢true}
 use Rattle.std.proofs.Math.Seq.{take-add}
-use Rattle.port_122.specs.Outside.{GivenBy, Outside, IsUsedUp, AtEnd, Grows, Loses, AsksOnly, CountedFrom, Since, NoRead, Written, WriteFailed, Noted, NoteFailed, WritesAll, NotesAll, Rose}
+use Rattle.port_122.specs.Outside.{Outside, IsUsedUp, AtEnd, Grows, Loses, AsksOnly, CountedFrom, Since, NoRead, Written, WriteFailed, Noted, NoteFailed, WritesAll, NotesAll, Rose}
 
 -- what is told grows by nothing
 pub grows_start : {A : Type 0} (o : Option (List A)) → Grows o o []
@@ -181,10 +181,6 @@ since_weaker {a = a} {b = b} p f = record {
   asked = asks_weaker a.asked b.asked a.taken a.given _ _ (λ i j r. (r.0, r.1, f i j r.0 r.2)) p.asked;
   faults = p.faults;
 }
-
--- a read call that stands for the octets taken stands for more of them
-pub given_by_more : (given_for : List ℕ → List ℕ) (took more : List ℕ) (i j : ℕ) → i ≤ length took → GivenBy given_for took i j → GivenBy given_for (took ++ more) i j
-given_by_more given_for took more i j le r = rw (take-append-le i took more le) r
 
 -- a count that rose in a part of a stretch rose in all of it
 pub rose_since : {a b c : ℕ} → a ≤ b → Rose b c → Rose a c

@@ -8,35 +8,16 @@ grown : (a b : Option (List ℕ)) (xs ys more : List ℕ) → a ≡ Some xs → 
 grown a b xs ys more p q r =
     let at : Grows (Some xs) (Some ys) more = rw (p, q) at r in at
 
-lost : (a b : Option (List ℕ)) (xs ys less : List ℕ) → a ≡ Some xs → b ≡ Some ys → Loses a b less → xs ≡ less ++ ys
-lost a b xs ys less p q r =
-    let at : Loses (Some xs) (Some ys) less = rw (p, q) at r in at
-
 all_lost : (a b : Option (List ℕ)) (xs less : List ℕ) → a ≡ Some xs → Loses a b less → IsUsedUp b → less ≡ xs
 all_lost a None xs less p r e =
     let at : Loses (Some xs) None less = rw p at r in absurd at
 all_lost a (Some ys) xs less p r e =
     let at : xs ≡ less ++ ys = rw p at r in sym (at ∙ ap (λ zs. less ++ zs) e ∙ append-nil less)
 
--- the octets taken were told so
-pub taken_told : {a b : Outside} {t g w : List ℕ} {Q : ℕ → ℕ → Type 0} (xs ys : List ℕ) →
-    Since a b t g w Q → a.taken ≡ Some xs → b.taken ≡ Some ys → ys ≡ xs ++ t
-taken_told {a = a} {b = b} {t = t} xs ys p before after = grown a.taken b.taken xs ys t before after p.taken
-
 -- the octets given were told so
 pub given_told : {a b : Outside} {t g w : List ℕ} {Q : ℕ → ℕ → Type 0} (xs ys : List ℕ) →
     Since a b t g w Q → a.given ≡ Some xs → b.given ≡ Some ys → ys ≡ xs ++ g
 given_told {a = a} {b = b} {g = g} xs ys p before after = grown a.given b.given xs ys g before after p.given
-
--- the octets noted were told so
-pub noted_told : {a b : Outside} {t g w : List ℕ} {Q : ℕ → ℕ → Type 0} (xs ys : List ℕ) →
-    Since a b t g w Q → a.noted ≡ Some xs → b.noted ≡ Some ys → ys ≡ xs ++ w
-noted_told {a = a} {b = b} {w = w} xs ys p before after = grown a.noted b.noted xs ys w before after p.noted
-
--- the octets taken are those that the input began with
-pub rest_told : {a b : Outside} {t g w : List ℕ} {Q : ℕ → ℕ → Type 0} (xs ys : List ℕ) →
-    Since a b t g w Q → a.rest ≡ Some xs → b.rest ≡ Some ys → xs ≡ t ++ ys
-rest_told {a = a} {b = b} {t = t} xs ys p before after = lost a.rest b.rest xs ys t before after p.rest
 
 -- where the end was seen, the octets taken are the whole input
 pub end_told : {a b : Outside} {t g w : List ℕ} {Q : ℕ → ℕ → Type 0} (xs : List ℕ) →

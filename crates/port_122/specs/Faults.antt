@@ -1,8 +1,8 @@
--- How counts of faults stand after a call. This project's own.
+-- The counts of faults after a call. This project's own.
 use Rattle.std.specs.Prelude.{◌≡◌, ◌+◌, ◌-◌, ◌^◌, ℕ, min, Result, Ok, Err}
 use Rattle.port_122.specs.Outside.{Outside}
 
--- a count of faults after a call that answered so: it is one more after a failure, and stops at 2^64 - 1
+-- a count of faults after a call with this result: it is one more after a failure, and stops at 2^64 - 1
 abbrev pub faults_after : {T E : Type 0} → Result T E → ℕ → ℕ
 faults_after (Ok done) faults = faults
 faults_after (Err failed) faults = min (faults + 1) (2 ^ 64 - 1)

@@ -1,4 +1,4 @@
--- A port over memory: the octets that it tells of, and which of its calls fail. This project's own.
+-- A port over memory: the octets that it reports, and which of its calls fail. This project's own.
 use Rattle.std.specs.Prelude.{◌≡◌, ◌⊎◌, ◌+◌, ◌-◌, ◌^◌, ℕ, List, [], min, take, drop, Some, Result, IsErr, IfOk, OnErr, IsTrue, Contains}
 use Rattle.port_122.specs.Outside.{Outside}
 use Rattle.port_122.specs.declared.memory.MemoryPort.{MemoryPort}
@@ -11,7 +11,7 @@ octets_left m = drop m.at m.input.items
 abbrev pub octets_taken : MemoryPort → List ℕ
 octets_taken m = take m.at m.input.items
 
--- it tells all
+-- it reports all
 abbrev pub outside_of : MemoryPort → Outside
 outside_of m = record {
   rest = Some (octets_left m);
@@ -45,8 +45,8 @@ pub record IsFresh (m : MemoryPort) (input fail : List ℕ) (piece : ℕ) : Type
 abbrev pub FailsByNumber : MemoryPort → Type 0
 FailsByNumber m = Contains m.fail.items m.calls ⊎ (m.calls ≡ 2 ^ 64 - 1)
 
--- One call that could move so many octets: its number is counted, it fails by its number, or else only for want of
--- memory, which is told from then on, and it moves all that it could within one piece.
+-- One call that could move this number of octets: its number is counted, it fails by its number, or else only for want of
+-- memory, which is reported from then on, and it moves all that it could within one piece.
 pub record Call {E : Type 0} (old new : MemoryPort) (could : ℕ) (result : Result ℕ E) : Type 0 where
   pub counted : new.calls ≡ min (old.calls + 1) (2 ^ 64 - 1)
   pub fails : new.fail.items ≡ old.fail.items

@@ -2,7 +2,7 @@
 use Rattle.std.specs.Prelude.{◌≡◌, ◌<◌, ◌≤◌, ◌+◌, ◌-◌, ◌^◌, ℕ, min, List, [], ◌∷◌, ◌++◌, length, take, ⊤, Option, None, Some, Result, MatchResult}
 use Rattle.std.specs.List.{AllByRecursion}
 
--- the octets that a port tells of, and how often each kind of call has failed
+-- the octets that a port reports, and how often each kind of call has failed
 pub record Outside : Type 0 where
   pub rest : Option (List ℕ)
   pub taken : Option (List ℕ)
@@ -13,19 +13,19 @@ pub record Outside : Type 0 where
   pub write_faults : ℕ
   pub note_faults : ℕ
 
--- what is told afterwards was told before, and has grown by this
+-- what is known afterwards was known before, and has grown by this
 abbrev pub Grows : {A : Type 0} → Option (List A) → Option (List A) → List A → Type 0
 Grows old None xs = ⊤
 Grows None (Some now) xs = ⊥
 Grows (Some before) (Some now) xs = now ≡ before ++ xs
 
--- it is told before and afterwards or never, and began with this
+-- it is known before and afterwards or never, and began with this
 abbrev pub Loses : Option (List ℕ) → Option (List ℕ) → List ℕ → Type 0
 Loses None None xs = ⊤
 Loses (Some before) (Some now) xs = before ≡ xs ++ now
 Loses old now xs = ⊥
 
--- nothing is left, where that is told
+-- nothing is left, if that is known
 abbrev pub IsUsedUp : Option (List ℕ) → Type 0
 IsUsedUp None = ⊤
 IsUsedUp (Some left) = left ≡ []
@@ -34,7 +34,7 @@ IsUsedUp (Some left) = left ≡ []
 abbrev pub AtEnd : Outside → Type 0
 AtEnd now = IsUsedUp now.rest
 
--- a count of faults rose, or stands at its end
+-- a count of faults rose, or is at its end
 abbrev pub Rose : ℕ → ℕ → Type 0
 Rose before now = min (before + 1) (2 ^ 64 - 1) ≤ now
 
@@ -63,8 +63,8 @@ pub record NoFewerFaults (old new : Outside) : Type 0 where
   pub writes : old.write_faults ≤ new.write_faults
   pub notes : old.note_faults ≤ new.note_faults
 
--- From old to new just these octets were taken, given and noted, and at each read call, which had taken and
--- given some of them, Q held of how many.
+-- From old to new exactly these octets were taken, given and noted, and at each read call, which had taken and
+-- given some of them, Q held of their numbers.
 pub record Since (old new : Outside) (took gave wrote : List ℕ) (Q : ℕ → ℕ → Type 0) : Type 0 where
   pub rest : Loses old.rest new.rest took
   pub taken : Grows old.taken new.taken took
@@ -73,7 +73,7 @@ pub record Since (old new : Outside) (took gave wrote : List ℕ) (Q : ℕ → �
   pub asked : AsksOnly old.asked new.asked old.taken old.given (λ i j. (i ≤ length took) × (j ≤ length gave) × Q i j)
   pub faults : NoFewerFaults old new
 
--- a read call with i octets taken and j given, which are those that stand given for the octets taken
+-- a read call with i octets taken and j given, which are those that are due for the octets taken
 abbrev pub GivenBy : (List ℕ → List ℕ) → List ℕ → ℕ → ℕ → Type 0
 GivenBy given_for took i j = j ≡ length (given_for (take i took))
 
@@ -119,7 +119,7 @@ pub record NoteFailed (old new : Outside) : Type 0 where
   pub since : Since old new [] [] [] NoRead
   pub rose : Rose old.note_faults new.note_faults
 
--- what a call that writes all of these octets leaves: a prefix of them is out where it failed
+-- what a call that writes all of these octets leaves: a prefix of them is written if it failed
 abbrev pub WritesAll : {T E : Type 0} → Result T E → Outside → Outside → List ℕ → Type 0
 WritesAll result old new octets = MatchResult result
     (λ _. Since old new [] octets [] NoRead)

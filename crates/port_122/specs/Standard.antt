@@ -3,7 +3,7 @@ use Rattle.std.specs.Prelude.{None}
 use Rattle.port_122.specs.Outside.{Outside}
 use Rattle.port_122.specs.declared.standard.StdPort.{StdPort}
 
--- it tells no octets, and has its counts of faults
+-- it reports no octets, and has its counts of faults
 abbrev pub outside_of : {I O N : Type 0} → StdPort I O N → Outside
 outside_of port = record {
   rest = None;

@@ -7,7 +7,7 @@ use Rattle.port_122.specs.declared.steady.SteadyPort.{SteadyPort}
 abbrev pub octets_left : SteadyPort → List ℕ
 octets_left s = drop s.at s.input.items
 
--- it tells what it keeps, while that fits its room, and no read calls
+-- it reports what it keeps, while that fits its room, and no read calls
 abbrev pub outside_of : SteadyPort → Outside
 outside_of s = record {
   rest = Some (octets_left s);
@@ -20,7 +20,7 @@ outside_of s = record {
   note_faults = 0;
 }
 
--- what is told of octets that are kept in this room, when more of them come
+-- what is known of octets that are kept in this room, after more of them
 abbrev pub told_after : ℕ → Option (List ℕ) → List ℕ → Option (List ℕ)
 told_after room None octets = None
 told_after room (Some kept) octets = if nat_le (length kept + length octets) room then Some (kept ++ octets) else None

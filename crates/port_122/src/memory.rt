@@ -1,4 +1,4 @@
-// A port over memory, whose calls fail where it is told.
+// A port over memory, of which chosen calls fail.
 ghost use Rattle.std.specs.Prelude.{◌≡◌, ◌⊎◌, ◌<◌, ◌≤◌, ◌-◌, ◌^◌, ◌↔◌, length, min, IsTrue, MatchResult, IfOk, Some, Contains};
 ghost use Rattle.port_122.specs.Outside.{Outside, Read, ReadFailed, Written, WriteFailed, Noted, NoteFailed};
 ghost use Rattle.port_122.specs.Faults.{HasFaults, faults_after};
@@ -6,11 +6,11 @@ ghost use Rattle.port_122.specs.Faults.{HasFaults, faults_after};
 use crate::port::{Failed, Port};
 use std::alloc::{AllocError, Global};
 
-/// A port that reads from memory and keeps and tells all that it is given (docs/architecture.md, "The outside").
+/// A port that reads from memory, and keeps and reports all that it is given (docs/architecture.md, "The outside").
 ///
 /// Its calls of all three kinds are numbered together from 0, and those fail whose numbers were handed in. The
 /// number stops at 2^64 - 1, and a call of that number fails. No call moves more than one piece. A call that finds
-/// no memory fails too, and `starved` tells so from then on.
+/// no memory fails too, and `starved` reports this from then on.
 #[derive(Drop)]
 pub struct MemoryPort {
     input: Vec<u8>,
@@ -32,7 +32,7 @@ pub struct MemoryPort {
 impl MemoryPort {
     ghost use Rattle.port_122.specs.Memory.{outside_of, octets_taken, IsFresh};
 
-    /// A port with this input. Its calls of the numbers in `fail` fail, and each moves at most `piece` octets.
+    /// Returns a port with this input. Its calls of the numbers in `fail` fail, and each moves at most `piece` octets.
     pub fn new(
         alloc: Global,
         input: Vec<u8>,
@@ -58,35 +58,35 @@ impl MemoryPort {
         })
     }
 
-    /// Whether a call has failed for want of memory.
+    /// Returns whether a call has failed for want of memory.
     pub fn starved(&self) -> bool
         ensures { result ≡ self.now.starved }
     {
         self.starved
     }
 
-    /// The octets that were written.
+    /// Returns the octets that were written.
     pub fn given(&self) -> &[u8]
         ensures { (outside_of self.now).given ≡ Some result.now }
     {
         &self.given
     }
 
-    /// The octets that were noted.
+    /// Returns the octets that were noted.
     pub fn noted(&self) -> &[u8]
         ensures { (outside_of self.now).noted ≡ Some result.now }
     {
         &self.noted
     }
 
-    /// For each read call that answered `Ok`, how many octets had been taken and given as it began.
+    /// Returns, for each read call that returned `Ok`, the numbers of octets taken and given as it began.
     pub fn asked(&self) -> &[(u64, u64)]
         ensures { (outside_of self.now).asked ≡ Some result.now }
     {
         &self.asked
     }
 
-    /// How many octets were read.
+    /// Returns the number of octets that were read.
     pub fn taken(&self) -> u64
         ensures { result ≡ length (octets_taken self.now) }
     {

@@ -3,7 +3,7 @@ ghost use Rattle.port_122.specs.Outside.{WritesAll, NotesAll};
 
 use crate::port::{Failed, Port};
 
-/// Gives all of the octets, in as many writes as it takes. After `Failed` a prefix of them is given, and
+/// Gives all of the octets, by one write or more. After `Failed` a prefix of them is given, and
 /// `write_faults` rose (docs/architecture.md, "The outside").
 pub fn write_all<X: Port>(port: &mut X, bytes: &[u8]) -> Result<(), Failed>
     ensures { WritesAll result (X.outside port.old) (X.outside port.new) bytes.now }
@@ -15,7 +15,7 @@ pub fn write_all<X: Port>(port: &mut X, bytes: &[u8]) -> Result<(), Failed>
     Ok(())
 }
 
-/// Notes all of the octets, in as many calls as it takes. After `Failed` a prefix of them is noted, and
+/// Notes all of the octets, by one call or more. After `Failed` a prefix of them is noted, and
 /// `note_faults` rose (docs/architecture.md, "The outside").
 pub fn note_all<X: Port>(port: &mut X, bytes: &[u8]) -> Result<(), Failed>
     ensures { NotesAll result (X.outside port.old) (X.outside port.new) bytes.now }

@@ -11,7 +11,7 @@ use std::io::{Read, Write};
 
 /// A port over a reader and two writers, which counts their faults (docs/architecture.md, "The outside").
 ///
-/// It tells no octets: nothing is claimed of what a file, a pipe or a terminal holds. A call that was interrupted
+/// It reports no octets: nothing is claimed of what a file, a pipe or a terminal holds. A call that was interrupted
 /// (`ErrorKind::Interrupted`) moved nothing and is made again. Any other error is a fault, `WouldBlock` too, and so is
 /// a write or a note that takes nothing of a piece that isn't empty.
 #[derive(Drop)]
@@ -25,7 +25,7 @@ pub struct StdPort<I: Read, O: Write, N: Write> {
 }
 
 impl<I: Read, O: Write, N: Write> StdPort<I, O, N> {
-    /// A port over these, without a fault so far.
+    /// Returns a port over these, without a fault so far.
     pub fn new(input: I, output: O, notes: N) -> StdPort<I, O, N>
         ensures input { result.input ≡ input }
         ensures output { result.output ≡ output }

@@ -7,8 +7,8 @@ use std::alloc::{AllocError, Global};
 
 /// A port that reads from memory and never fails (docs/architecture.md, "The outside").
 ///
-/// It keeps and tells the octets that it is given while they fit its room, and so those that it notes. From the
-/// first octets that don't fit it keeps and tells none of that kind. It doesn't tell its read calls.
+/// It keeps and reports the octets that it is given while they fit its room, and also those that it notes. From the
+/// first octets that don't fit it keeps and reports none of that kind. It doesn't report its read calls.
 #[derive(Drop)]
 pub struct SteadyPort {
     input: Vec<u8>,
@@ -26,7 +26,7 @@ pub struct SteadyPort {
 impl SteadyPort {
     ghost use Rattle.port_122.specs.Steady.{outside_of};
 
-    /// A port with this input, and room for so many octets given and as many noted.
+    /// Returns a port with this input, and with room for `room` octets that are given and `room` octets that are noted.
     pub fn new(alloc: Global, input: Vec<u8>, room: usize) -> Result<SteadyPort, AllocError>
         ensures outside { IfOk result (λ port. outside_of port ≡ record {
           rest = Some input.items;
@@ -51,14 +51,14 @@ impl SteadyPort {
         })
     }
 
-    /// The octets given, while they fit the room, and none afterwards.
+    /// Returns the octets given, while they fit the room, and none afterwards.
     pub fn given(&self) -> &[u8]
         ensures { result.now ≡ unwrap_or (outside_of self.now).given [] }
     {
         if self.given_full { &[] } else { &self.given }
     }
 
-    /// The octets noted, while they fit the room, and none afterwards.
+    /// Returns the octets noted, while they fit the room, and none afterwards.
     pub fn noted(&self) -> &[u8]
         ensures { result.now ≡ unwrap_or (outside_of self.now).noted [] }
     {
@@ -66,7 +66,7 @@ impl SteadyPort {
     }
 }
 
-// Keeps the octets where they fit the room, and answers whether they did.
+// Keeps the octets if they fit the room, and returns whether they did.
 fn keep(kept: &mut Vec<u8>, room: usize, bytes: &[u8]) -> bool
     requires { room ≤ vec_capacity kept.old }
     ensures fits { result ≡ nat_le (length kept.old.items + length bytes.now) room }

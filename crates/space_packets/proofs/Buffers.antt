@@ -7,7 +7,7 @@ use Rattle.std.proofs.lemmas.List.{drop_all, drop-append-le}
 use Rattle.space_packets.specs.declared.stage.Stage.{Stage}
 use Rattle.space_packets.specs.declared.stage.Stage.TheVariants.{Idle, Begun, Broken}
 use Rattle.space_packets.specs.declared.stage.Text.{Text}
-use Rattle.space_packets.specs.Stages.{IsBegun, given_in, room_of, parts_of}
+use Rattle.space_packets.specs.Stages.{given_in, room_of, parts_of}
 
 -- none, where just the room for a header is left
 pub header_alone : (items now : List ℕ) → now ≡ take 30 items → drop 30 now ≡ []
@@ -22,12 +22,6 @@ pub room_least : (s : Stage) (size : ℕ) → room_of s size ≤ size
 room_least Idle size = omega arith
 room_least (Begun t) size = omega arith
 room_least Broken size = omega arith
-
--- where octets may come, a text is begun, and has been given these
-pub given_begun : (s : Stage) (size pending : ℕ) → given_in s size pending < 2 ^ 32 → IsBegun s
-given_begun Idle size pending few = omega (arith, few)
-given_begun (Begun t) size pending few = tt
-given_begun Broken size pending few = omega (arith, few)
 
 pub given_count : (s : Stage) (size pending : ℕ) → given_in s size pending < 2 ^ 32 → given_in s size pending ≡ parts_of s * size + pending
 given_count Idle size pending few = absurd (omega (arith, few))

@@ -1,7 +1,7 @@
 -- What octets more, and answers, leave of a reader's state.
 use Rattle.std.proofs.Common.{◌≡◌, ◌≢◌, ◌≤◌, ◌<◌, ◌+◌, ◌-◌, ℕ, List, [], ◌∷◌, ◌++◌, length, take, drop, refl, sym, ap, subst, ◌∙◌, arith, append_assoc, add_assoc, add-zero, length-append, length-drop}
 use Rattle.std.specs.Prelude.{Bool, true, false, ◌||◌, ◌==◌, Some, None, Result, Ok, Err, slice_range}
-use Rattle.std.proofs.lemmas.Bool.{false≢true}
+use Rattle.std.proofs.lemmas.Bool.{false≢true, or_parts}
 use Rattle.std.proofs.lemmas.Bool.Decides.{nat_tests}
 use Rattle.std.proofs.lemmas.List.{append-nil, take-append-le, drop-append-le, drop-take, drop-drop, length-take-le, take-take, take_at, with_items_is}
 use Rattle.std.proofs.Math.Seq.{take-append-add}
@@ -21,7 +21,6 @@ use Rattle.packet_defs.specs.declared.packet.Framing.TheVariants.{BadVersion, Cu
 use Rattle.packet_defs.specs.declared.packet.Skip.{Skip}
 use Rattle.packet_defs.specs.Reading.{packet_read, read_as, skip_of, head_in, ancillary_in, text_in}
 use Rattle.packet_defs.specs.Streams.{has_bad_version, begins_packet, first_packet, after_packet, framing_at, missing}
-use Rattle.packet_defs.proofs.Fronts.{begins_so}
 use Rattle.space_packets.specs.Intake.{Intake, place_of, is_decided, end_read, verdict, text_mine, answered, fed}
 
 -- two states are the same by their parts
@@ -109,10 +108,6 @@ pub verdict_bad : (apid : ℕ) (v : Intake) → has_bad_version v.pending ≡ tr
 unfolding verdict
 verdict_bad apid v bad = rw bad refl
 
-pub verdict_packet : (apid : ℕ) (v : Intake) → begins_packet v.pending ≡ true → verdict apid v ≡ Some (Ok (packet_read apid (first_packet v.pending)))
-unfolding verdict
-verdict_packet apid v whole = rw ((begins_so v.pending whole).version, whole) refl
-
 pub verdict_end : (apid : ℕ) (v : Intake) → has_bad_version v.pending ≡ false → begins_packet v.pending ≡ false → v.ended ≡ true →
     verdict apid v ≡ Some (Ok (end_read (framing_at (place_of v) v.pending)))
 unfolding verdict
@@ -132,13 +127,6 @@ verdict_cut apid v good none over some =
     let t : (length v.pending == 0) ≡ false = grind (arith, nat_tests) in
     let e : framing_at (place_of v) v.pending ≡ Some (CutPacket (missing v.pending)) = rw (good, t) refl in
     verdict_end apid v good none over ∙ ap (λ f. Some (Ok (end_read f))) e
-
-pub verdict_long : (apid : ℕ) (v : Intake) → has_bad_version v.pending ≡ false → begins_packet v.pending ≡ false → v.ended ≡ false → is_decided v ≡ true →
-    verdict apid v ≡ Some (Err LongInput)
-unfolding verdict is_decided
-verdict_long apid v good none going decided =
-    let full : (v.taken == v.cap) ≡ true = rw (good, none, going) at decided in
-    rw (good, none, going, full) refl
 
 pub answered_packet : (apid : ℕ) (v : Intake) → begins_packet v.pending ≡ true →
     answered apid v ≡ record v { pending = after_packet v.pending; text = text_mine apid (first_packet v.pending) }
@@ -232,11 +220,7 @@ asks_now {v = v} more s unseen undecided =
 
 -- where nothing is decided, the end wasn't seen
 still_open : {p now : Outside} {v w : Intake} → (s : TakenSoFar p now v w) → w.ended ≡ false → s.saw_end ≡ false
-still_open {v = v} s going = or_right v.ended s.saw_end (sym (ap (λ w. w.ended) s.stands) ∙ going)
-  where
-    or_right : (a b : Bool) → (a || b) ≡ false → b ≡ false
-    or_right true b e = absurd (false≢true (sym e))
-    or_right false b e = e
+still_open {v = v} s going = (or_parts v.ended s.saw_end (sym (ap (λ w. w.ended) s.stands) ∙ going)).1
 
 pub taken_more : {p now new : Outside} {v w u : Intake} → TakenSoFar p now v w → is_decided w ≡ false → w.taken < w.cap → w.ended ≡ false → Fed now new w u → TakenSoFar p new v u
 taken_more {p = p} {new = new} {v = v} {w = w} {u = u} s undecided below going f =

@@ -1,4 +1,4 @@
--- A text goes on by octets, and then by more.
+-- A text is continued by octets, and then by more.
 use Rattle.std.proofs.Common.{◌≡◌, ◌≤◌, ◌<◌, ◌+◌, ◌-◌, ◌*◌, ℕ, zero, suc, List, [], ◌++◌, length, take, drop, map, refl, sym, ◌∙◌, ap, arith, add-zero, add_assoc, append_assoc, length-append, length-drop}
 use Rattle.std.specs.Prelude.{false}
 use Rattle.std.specs.List.{range_with_len}
@@ -17,10 +17,6 @@ use Rattle.space_packets.specs.FullParts.{full_parts_below, full_parts_within, f
 -- two states are the same by their parts
 pub same_progress : {v w : Progress} → v.packet ≡ w.packet → v.stage ≡ w.stage → v.texts ≡ w.texts → v.packets ≡ w.packets → v.octets ≡ w.octets → v.pending ≡ w.pending → v ≡ w
 same_progress p s t k o q = λ i. record { packet = p i; stage = s i; texts = t i; packets = k i; octets = o i; pending = q i }
-
--- an open text has room in a part
-pub open_size : {t : Text} {v : Progress} → IsOpen t v → 40 ≤ part_size v.packet
-open_size going = omega (arith, going.packet)
 
 -- ---- by nothing
 
@@ -46,20 +42,13 @@ after_none {t = t} {v = v} going =
 
 -- ---- by more
 
--- the part of a longer list
-part_same : (size part : ℕ) (xs ys : List ℕ) → (part + 1) * size ≤ length xs → part_of size part (xs ++ ys) ≡ part_of size part xs
-part_same size part xs ys within =
-    let start : part * size ≤ length xs = omega arith in
-    let room : size ≤ length (drop (part * size) xs) = omega (arith, length-drop (part * size) xs) in
-    rw (drop-append-le (part * size) xs ys start, take-append-le size (drop (part * size) xs) ys room)
-
 -- octets counted from a later part
 later_drop : (size m i : ℕ) (xs ys : List ℕ) → m * size ≤ length xs → drop ((m + i) * size) (xs ++ ys) ≡ drop (i * size) (drop (m * size) xs ++ ys)
 later_drop size m i xs ys within =
     let sum : (m + i) * size ≡ m * size + i * size = omega arith in
     ap (λ n. drop n (xs ++ ys)) sum ∙ sym (drop-drop (i * size) (m * size) (xs ++ ys)) ∙ ap (drop (i * size)) (drop-append-le (m * size) xs ys within)
 
--- the count of full parts, past so many of them
+-- the count of full parts, after a number of them
 full_parts_past : (size m octets rest : ℕ) → 0 < size → octets ≡ m * size + rest → 0 < rest → full_parts size octets ≡ m + full_parts size rest
 full_parts_past size m octets rest some e more =
     let below : full_parts size rest * size < rest = full_parts_below size rest more in

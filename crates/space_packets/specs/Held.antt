@@ -3,7 +3,7 @@ use Rattle.std.specs.Prelude.{◌≡◌, ◌≤◌, ◌-◌, length, slice_range
 use Rattle.space_packets.specs.declared.packet_reader.PacketReader.TheInside.{Inside}
 use Rattle.space_packets.specs.Intake.{Intake}
 
--- the octets that wait, and the last text, stand in the buffer
+-- the octets that wait, and the last text, are in the buffer
 abbrev pub intake : Inside → Intake
 intake a = record {
   cap = a.cap;

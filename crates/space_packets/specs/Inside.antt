@@ -5,7 +5,7 @@ use Rattle.space_packets.specs.declared.packetiser.Packetiser.TheInside.{Inside}
 use Rattle.space_packets.specs.Progress.{Progress}
 use Rattle.space_packets.specs.Stages.{apid_of, parts_of, open_texts, room_of}
 
--- the octets that wait stand after the room for a header
+-- the octets that wait are after the room for a header
 abbrev pub progress : Inside → Progress
 progress a = record {
   packet = a.packet;

@@ -1,4 +1,4 @@
--- How far a reader of packets has come, and what that decides. This project's own.
+-- The progress of a reader of packets, and what it decides. This project's own.
 use Rattle.std.specs.Prelude.{ℕ, ◌+◌, ◌-◌, ◌==◌, ◌||◌, Bool, false, if◌then◌else◌, List, [], ◌∷◌, ◌++◌, length, Option, None, Some, Result, Ok, Err, is_none}
 use Rattle.bit_pipe.specs.declared.fault.InFault.{InFault}
 use Rattle.bit_pipe.specs.declared.fault.InFault.TheVariants.{LongInput}
@@ -10,8 +10,8 @@ use Rattle.packet_defs.specs.Tests.{when, first_of}
 use Rattle.packet_defs.specs.Reading.{text_in, skip_of, packet_read}
 use Rattle.packet_defs.specs.Streams.{has_bad_version, begins_packet, first_packet, after_packet, framing_at}
 
--- How many octets may be taken and how many were; those among them that are in no packet answered yet; the text of the packet
--- answered last, where that is one of the image's; and whether the end was seen.
+-- The number of octets that may be taken and of those that were; those among them that are in no packet returned yet; the text of
+-- the packet returned last, if it is one of the image's; and whether the end was seen.
 pub record Intake : Type 0 where
   pub cap : ℕ
   pub taken : ℕ
@@ -23,11 +23,11 @@ pub record Intake : Type 0 where
 abbrev pub unread : (cap : ℕ) → Intake
 unread cap = record { cap = cap; taken = 0; pending = []; text = []; ended = false }
 
--- where the octets that wait begin among all that were taken
+-- the place at which the octets that wait begin among all that were taken
 abbrev pub place_of : Intake → ℕ
 place_of v = v.taken - length v.pending
 
--- the octets at hand, the end or the cap decide what comes next
+-- the octets that wait, the end or the cap decide what is next
 unfoldable pub is_decided : Intake → Bool
 is_decided v = has_bad_version v.pending || (begins_packet v.pending || (v.ended || (v.taken == v.cap)))
 
@@ -36,7 +36,7 @@ abbrev pub end_read : Option Framing → PacketRead
 end_read None = Ended
 end_read (Some fault) = Fault fault
 
--- what comes next, where that is decided: the first of these
+-- what is next, if that is decided: the first of these
 unfoldable pub verdict : (apid : ℕ) → Intake → Option (Result PacketRead InFault)
 verdict apid v = first_of (
     when (has_bad_version v.pending) (Ok (Fault (BadVersion (place_of v))))
@@ -50,13 +50,13 @@ verdict apid v = first_of (
 abbrev pub text_mine : (apid : ℕ) → List ℕ → List ℕ
 text_mine apid packet = if is_none (skip_of apid packet) then text_in packet else []
 
--- what stands after it is answered: a whole packet is passed
+-- the state after it is returned: a whole packet is passed
 unfoldable pub answered : (apid : ℕ) → Intake → Intake
 answered apid v =
     if begins_packet v.pending then record v { pending = after_packet v.pending; text = text_mine apid (first_packet v.pending) }
     else record v { text = [] }
 
--- what stands after these octets more, and after the end where it was seen; the last text is gone then
+-- the state after these further octets, and after the end if it was seen; the last text is dropped then
 abbrev pub fed : Intake → List ℕ → (saw_end : Bool) → Intake
 fed v octets saw_end = record {
   cap = v.cap;

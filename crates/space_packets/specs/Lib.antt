@@ -12,7 +12,6 @@ pub mod Writing
 pub mod SinkLaws
 pub mod PacketSink
 pub mod Intake
-pub mod Streams
 pub mod PacketReads
 pub mod Held
 pub mod Serving

@@ -10,7 +10,7 @@ use Rattle.space_packets.specs.Intake.{Intake, is_decided, verdict, answered, fe
 abbrev pub AsksUndecided : Intake → List ℕ → ℕ → ℕ → Type 0
 AsksUndecided v took i j = (is_decided (fed v (take i took) false) ≡ false) × (j ≡ 0)
 
--- why it was answered so, where u stands after the octets that were taken
+-- the reason for the answer, if u is the state after the octets that were taken
 abbrev pub EndsPacket : (apid : ℕ) → (old new : Outside) → (u w : Intake) → Result PacketRead InFault → Type 0
 EndsPacket apid old new u w (Ok read) = (verdict apid u ≡ Some (Ok read)) × (w ≡ answered apid u)
 EndsPacket apid old new u w (Err ReadFault) = Rose old.read_faults new.read_faults × (is_decided u ≡ false) × (w ≡ u)

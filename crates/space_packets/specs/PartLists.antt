@@ -12,7 +12,7 @@ map_same f g a (suc n) same =
     map_same f g (a + 1) n (λ i low high. same i (omega arith) (omega arith)) in
     rw (here, rest)
 
--- a range goes on after its first m
+-- a range is its first m numbers and the others
 pub map_split : {X : Type 0} (f : ℕ → X) (a m n : ℕ) →
     map f (range_with_len a (m + n)) ≡ map f (range_with_len a m) ++ map f (range_with_len (a + m) n)
 map_split f a zero n = rw (zero-add n, add-zero a)

@@ -1,4 +1,4 @@
--- How far a packetiser has come, and the packets that octets bring out. This project's own.
+-- The progress of a packetiser, and the packets that octets complete. This project's own.
 use Rattle.std.specs.Prelude.{ℕ, ◌≡◌, ◌≤◌, ◌+◌, ◌*◌, true, false, List, [], ◌++◌, length, map, drop}
 use Rattle.std.specs.List.{range_with_len}
 use Rattle.packet_defs.specs.Packets.{part_of, part_size, part_count, text_packets}
@@ -10,7 +10,7 @@ use Rattle.space_packets.specs.Stages.{given_in}
 use Rattle.space_packets.specs.Parts.{full_parts, text_at, packet_of}
 
 -- The most octets of a packet's data field; what is being done; the texts that were begun, the packets that were written and
--- their octets, since the count of packets began; and the octets of the begun text that stand in no packet yet.
+-- their octets, since the count of packets began; and the octets of the begun text that are in no packet yet.
 pub record Progress : Type 0 where
   pub packet : ℕ
   pub stage : Stage
@@ -19,7 +19,7 @@ pub record Progress : Type 0 where
   pub octets : ℕ
   pub pending : List ℕ
 
--- octets that the begun text was given; none fit where none is begun
+-- octets that the begun text was given; none fit if none is begun
 abbrev pub given_octets : Progress → ℕ
 given_octets v = given_in v.stage (part_size v.packet) (length v.pending)
 
@@ -37,7 +37,7 @@ pub record IsOpen (t : Text) (v : Progress) : Type 0 where
   pub packet : 64 ≤ v.packet
   pub pending : length v.pending ≤ part_size v.packet
 
--- ---- a text goes on by these octets
+-- ---- a text is continued by these octets
 
 -- full packets that go out then
 abbrev pub full_count : Progress → List ℕ → ℕ
@@ -60,7 +60,7 @@ first_octets t v octets count = joined (first_packets t v octets count)
 abbrev pub written : Text → Progress → List ℕ → List ℕ
 written t v octets = first_octets t v octets (full_count v octets)
 
--- what stands after them
+-- the state after them
 abbrev pub after : Text → Progress → List ℕ → Progress
 after t v octets = let count = full_count v octets in record v {
   stage = Begun (text_at t count);
@@ -69,7 +69,7 @@ after t v octets = let count = full_count v octets in record v {
   pending = drop (count * part_size v.packet) (v.pending ++ octets);
 }
 
--- what stands after a write failed when so many of them were out
+-- the state after a write failed when a number of them were written
 abbrev pub broken : Text → Progress → List ℕ → (count : ℕ) → Progress
 broken t v octets count = record v {
   stage = Broken;
@@ -84,15 +84,15 @@ broken t v octets count = record v {
 abbrev pub last_packet : Text → Progress → List ℕ
 last_packet t v = packet_of t v.packets true v.pending
 
--- what stands after a packet of all octets that wait
+-- the state after a packet of all octets that wait
 abbrev pub past_packet : Progress → Stage → (packet : List ℕ) → Progress
 past_packet v next packet = record v { stage = next; packets = v.packets + 1; octets = v.octets + length packet; pending = [] }
 
--- what stands after its write failed
+-- the state after its write failed
 abbrev pub stopped : Progress → Progress
 stopped v = record v { stage = Broken; pending = [] }
 
--- what stands after a whole text
+-- the state after a whole text
 abbrev pub ended : Progress → Text → List ℕ → Progress
 ended v t text = record v {
   stage = Idle;

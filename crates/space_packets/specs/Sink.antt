@@ -1,4 +1,4 @@
--- What octets of a begun text do, where it is a place where octets go. This project's own.
+-- What octets of a begun text do, if it is a sink of octets. This project's own.
 use Rattle.std.specs.Prelude.{ℕ, ◌≡◌, List}
 use Rattle.port_122.specs.Outside.{Outside}
 use Rattle.space_packets.specs.declared.sink.PacketSink.{PacketSink}
@@ -6,7 +6,7 @@ use Rattle.space_packets.specs.declared.stage.Text.{Text}
 use Rattle.space_packets.specs.Progress.{IsOpen}
 use Rattle.space_packets.specs.Writes.{GoesOn, BreaksOff}
 
--- The octets went to the packets of the begun text, by the same packetiser and port. Nothing is said where none is open.
+-- The octets were put into the packets of the begun text, by the same packetiser and port. Nothing is said if none is open.
 pub record Gave {X : Type 0} (outside : X → Outside) (old new : PacketSink X) (octets : List ℕ) : Type 0 where
   pub packets : new.packets.ghost_name ≡ old.packets.ghost_name
   pub port : new.port.ghost_name ≡ old.port.ghost_name

@@ -1,4 +1,4 @@
--- A begun text is a place where octets go. These laws stand here since the meaning of a sink holds them.
+-- A begun text is a sink of octets. These laws are here since the meaning of a sink holds them.
 use Rattle.std.proofs.Common.{ℕ, List, [], ◌++◌, refl, sym, ◌∙◌, subst}
 use Rattle.port_122.specs.Outside.{Outside}
 use Rattle.space_packets.specs.declared.sink.PacketSink.{PacketSink}
@@ -12,7 +12,7 @@ use Rattle.space_packets.specs.Writing.{goes_nowhere, goes_both, breaks_after}
 pub gave_nothing : {X : Type 0} (outside : X → Outside) (s : PacketSink X) → Gave outside s s []
 gave_nothing outside s = record { packets = refl; port = refl; text = λ t going. goes_nowhere (outside s.port.now) going }
 
--- the text is open where octets went to it
+-- the text is open if octets were written to it
 still_open : {X : Type 0} (outside : X → Outside) {s u : PacketSink X} {xs : List ℕ} → Gave outside s u xs → (t : Text) → IsOpen t s.packets.now →
     IsOpen (text_at t (full_count s.packets.now xs)) u.packets.now
 still_open outside {s = s} {u = u} {xs = xs} first t going =

@@ -9,7 +9,7 @@ IsBegun Idle = ⊥
 IsBegun (Begun t) = ⊤
 IsBegun Broken = ⊥
 
--- octets that the begun text was given, where a part has this size and so many octets wait; else as many as can be
+-- octets that the begun text was given, if a part has this size and this number of octets wait; else the most that are possible
 abbrev pub given_in : Stage → (size pending : ℕ) → ℕ
 given_in Idle size pending = 2 ^ 32
 given_in (Begun t) size pending = t.ancillary.part * size + pending
@@ -33,7 +33,7 @@ open_texts Idle = 0
 open_texts (Begun t) = 1
 open_texts Broken = 0
 
--- octets that may wait, where a part has this size
+-- octets that may wait, if a part has this size
 abbrev pub room_of : Stage → (size : ℕ) → ℕ
 room_of Idle size = 0
 room_of (Begun t) size = size

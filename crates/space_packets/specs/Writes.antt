@@ -13,7 +13,7 @@ pub record GoesOn (t : Text) (p q : Outside) (v w : Progress) (octets : List ℕ
   pub out : Since p q [] (written t v octets) [] NoRead
   pub stands : w ≡ after t v octets
 
--- A write failed while a text went on by these octets: so many of its full packets are out, and a front of the next.
+-- A write failed while a text was continued by these octets: some of its full packets are written, and a prefix of the next.
 pub record BreaksOff (t : Text) (p q : Outside) (v w : Progress) (octets : List ℕ) : Type 0 where
   pub count : ℕ
   pub few : count < full_count v octets
@@ -33,7 +33,7 @@ pub record PacketOut (p q : Outside) (v w : Progress) (next : Stage) (packet : L
   pub out : Since p q [] packet [] NoRead
   pub stands : w ≡ past_packet v next packet
 
--- a write of one packet failed, and so many of its octets are out
+-- a write of one packet failed, and a prefix of its octets is written
 pub record PacketFailed (p q : Outside) (v w : Progress) (packet : List ℕ) : Type 0 where
   pub some : ℕ
   pub within : some ≤ length packet
@@ -52,7 +52,7 @@ pub record TextOut (t : Text) (p q : Outside) (v w : Progress) (text : List ℕ)
   pub out : Since p q [] (joined (text_packets t.apid t.ancillary v.packet v.packets text)) [] NoRead
   pub stands : w ≡ ended v t text
 
--- a write failed while a text went out, and a front of its packets' octets is out
+-- a write failed while a text was written, and a prefix of its packets' octets is written
 pub record TextCut (t : Text) (p q : Outside) (v w : Progress) (text : List ℕ) : Type 0 where
   pub some : ℕ
   pub within : some ≤ length (joined (text_packets t.apid t.ancillary v.packet v.packets text))

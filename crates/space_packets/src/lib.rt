@@ -1,4 +1,4 @@
-//! Packets that carry the texts of segments. The rules stand in docs/formats.md, "Packets".
+//! Packets that carry the texts of segments. The rules are in docs/formats.md, "Packets".
 #![tactic(auto)]
 
 mod header;

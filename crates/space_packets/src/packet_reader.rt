@@ -1,4 +1,4 @@
-// Packets in.
+// A stream of octets, read as packets.
 ghost use Rattle.std.specs.Prelude.{◌≡◌, ◌≤◌, ◌<◌, ◌+◌, ◌-◌, ◌^◌, [], length, take, drop, true, false, Some, None, IfOk};
 ghost use Rattle.std.specs.Bool.{OnFalse};
 
@@ -13,7 +13,7 @@ use std::marker::Model;
 // Octets of the longest packet.
 const LONGEST: usize = 65_542;
 
-// Octets of the buffer: what waits can always be copied to its front, or has room behind it.
+// Octets of the buffer: what waits can always be copied to its start, or has room behind it.
 const ROOM: usize = 2 * LONGEST;
 
 // Octets that a read asks for at most.
@@ -21,7 +21,8 @@ const PIECE: usize = 4_096;
 
 /// Reads a stream of octets as packets (docs/formats.md, "Packets").
 ///
-/// It takes so many octets at most, and reads on only where the octets that it has taken don't decide what comes next.
+/// It takes at most the number of octets that it was made with, and reads on only if the octets that it has taken don't decide
+/// what is next.
 #[derive(Drop)]
 pub struct PacketReader {
     buffer: Vec<u8>,
@@ -52,7 +53,7 @@ impl PacketReader {
     ghost use Rattle.packet_defs.specs.Reading.{packet_read};
     ghost use Rattle.packet_defs.specs.Streams.{begins_packet, first_packet};
 
-    /// A reader that takes at most so many octets. It takes the memory of two packets of the greatest
+    /// Returns a reader that takes at most `octets` octets. It takes the memory of two packets of the greatest
     /// length, and no call takes more.
     pub fn new(alloc: Global, octets: u64) -> Result<PacketReader, AllocError>
         ensures { IfOk result (λ made. made ≡ unread octets) }
@@ -71,18 +72,18 @@ impl PacketReader {
         })
     }
 
-    /// The octets after the ancillary data of the packet that was answered last, where it was `Mine`; else none.
+    /// Returns the octets after the ancillary data of the packet that was returned last, if it was `Mine`; else none.
     pub fn text(&self) -> &[u8]
         ensures { result.now ≡ self.now.text }
     {
         &self.buffer[self.text_start..self.text_end]
     }
 
-    /// The next packet, read for an APID, or the end, or why there is none (docs/formats.md, "Packets").
+    /// Returns the next packet, read for an APID, or the end, or why there is no packet (docs/formats.md, "Packets").
     ///
-    /// After `Ended`, a fault of the framing and `LongInput` each further call answers the same and reads nothing. `LongInput`
-    /// comes exactly where the cap's number of octets was taken and they, without an end, decide nothing. After `ReadFault` the
-    /// next call reads again. `Broken` never comes.
+    /// After `Ended`, a fault of the framing and `LongInput` each further call returns the same and reads nothing. `LongInput`
+    /// is returned exactly if the cap's number of octets was taken and they, without an end, decide nothing. After `ReadFault` the
+    /// next call reads again. `Broken` is never returned.
     pub fn next<X: Port>(&mut self, port: &mut X, apid: u16) -> Result<PacketRead, InFault>
         ensures { ReadsPacket apid (X.outside port.old) (X.outside port.new) self.old self.new result }
     {
@@ -95,14 +96,14 @@ impl PacketReader {
         self.answer(apid)
     }
 
-    /// Whether the octets that were taken hold the whole next packet. Then `next` answers it and reads nothing.
+    /// Returns whether the octets that were taken hold the whole next packet. Then `next` returns it and reads nothing.
     pub fn has_packet(&self) -> bool
         ensures { result ≡ begins_packet self.now.pending }
     {
         begins_packet(self.pending())
     }
 
-    // Lets the text of the last packet go.
+    // Drops the text of the last packet.
     fn forget_text(&mut self)
         ensures stands { self.new ≡ fed self.old [] false }
         ensures capped { self.old.taken ≤ self.old.cap }
@@ -111,7 +112,7 @@ impl PacketReader {
         self.text_end = 0;
     }
 
-    // The octets that are in no packet answered yet.
+    // Returns the octets that are in no packet that was returned.
     fn pending(&self) -> &[u8]
         ensures waiting { result.now ≡ self.now.pending }
         ensures counted { length result.now ≤ self.now.taken }
@@ -119,8 +120,8 @@ impl PacketReader {
         &self.buffer[self.start..self.end]
     }
 
-    // Whether the octets at hand, the end or the cap decide what comes next. Where they don't, they are fewer than the longest
-    // packet has.
+    // Returns whether the octets that wait, the end or the cap decide what is next. If they don't, the octets are fewer than
+    // those of the longest packet.
     #[tactic(auto, unfolding(crate::specs::Intake::is_decided))]
     fn is_decided(&self) -> bool
         ensures value { result ≡ is_decided self.now }
@@ -164,7 +165,7 @@ impl PacketReader {
         Ok(())
     }
 
-    // What the octets at hand, the end or the cap have decided.
+    // Returns what the octets that wait, the end or the cap have decided.
     #[tactic(auto, unfolding(crate::specs::Intake::is_decided, crate::specs::Intake::verdict, crate::specs::Intake::answered))]
     fn answer(&mut self, apid: u16) -> Result<PacketRead, InFault>
         requires decided { is_decided self.old ≡ true }
@@ -213,7 +214,7 @@ impl PacketReader {
     }
 }
 
-// Moves octets that wait from a place on to the buffer's front, where they don't overlap, and answers where they begin then.
+// Moves octets that wait from a place on to the buffer's start, if the two don't overlap, and returns where they begin then.
 fn make_room(buffer: &mut [u8], start: usize, held: usize) -> usize
     requires within { start + held ≤ length buffer.old }
     ensures same { take held (drop result buffer.new) ≡ take held (drop start buffer.old) }
@@ -227,7 +228,7 @@ fn make_room(buffer: &mut [u8], start: usize, held: usize) -> usize
     0
 }
 
-// Copies octets from a place on to the front, where they don't overlap.
+// Copies octets from a place on to the start, if the two don't overlap.
 fn copy_to_front(buffer: &mut [u8], start: usize, count: usize)
     requires apart { count ≤ start }
     requires within { start + count ≤ length buffer.old }

@@ -1,4 +1,4 @@
-// Texts in, packets out.
+// Texts, written as packets.
 ghost use Rattle.std.specs.Prelude.{◌≡◌, ◌≤◌, ◌<◌, ◌+◌, ◌*◌, ◌^◌, ◌++◌, ◌∷◌, [], ℕ, length, drop, true, false, IfOk, MatchResult, vec_capacity, if◌then◌else◌};
 ghost use Rattle.std.specs.Bool.{OnTrue, OnFalse};
 ghost use Rattle.std.specs.Int.{w64, to_be_bytes};
@@ -18,7 +18,7 @@ use std::marker::Model;
 ///
 /// It holds one packet, which is written only when a further octet of its text arrives, or at the text's end. Each packet is
 /// one `write_all`, which is tested and not proved. Packets are numbered from 0 with each `reset`, their parts from 0 with each text. After a call that
-/// answered `Failed` only `reset` may follow.
+/// returned `Failed` only `reset` may follow.
 #[derive(Drop)]
 pub struct Packetiser {
     buffer: Vec<u8>,
@@ -48,8 +48,8 @@ impl Packetiser {
     ghost use Rattle.space_packets.specs.declared.stage.Text.{Text};
     ghost use Rattle.space_packets.specs.declared.stage.Stage.TheVariants.{Idle, Begun};
 
-    /// A packetiser whose packets have at most so many octets in their data fields: 64 to 65,536 (docs/formats.md,
-    /// "Packets"). It takes the memory of one packet, and no call takes more.
+    /// Returns a packetiser whose packets have at most this number of octets in their packet data fields: 64 to 65,536
+    /// (docs/formats.md, "Packets"). It takes the memory of one packet, and no call takes more.
     pub fn new(alloc: Global, packet: u32) -> Result<Packetiser, AllocError>
         requires least { 64 ≤ packet }
         requires most { packet ≤ 65536 }
@@ -79,14 +79,14 @@ impl Packetiser {
         self.octets = 0;
     }
 
-    /// The whole packets written since the last reset.
+    /// Returns the number of whole packets written since the last reset.
     pub fn packets(&self) -> u64
         ensures { result ≡ self.now.packets }
     {
         self.packets
     }
 
-    /// The octets of the whole packets written since the last reset.
+    /// Returns the number of octets of the whole packets written since the last reset.
     pub fn octets(&self) -> u64
         ensures { result ≡ self.now.octets }
     {
@@ -107,7 +107,7 @@ impl Packetiser {
         self.texts += 1;
     }
 
-    /// Where the octets of the begun text go (docs/formats.md, "Packets").
+    /// Returns the sink of the begun text's octets (docs/formats.md, "Packets").
     pub fn sink<'a, X: Port>(&'a mut self, port: &'a mut X) -> PacketSink<'a, X>
         requires { IsBegun self.old.stage }
         ensures packets { result.packets.ghost_name ≡ self.entry.ghost_name }
@@ -121,8 +121,8 @@ impl Packetiser {
         }
     }
 
-    /// Ends the begun text, which isn't empty, with its last packet (docs/formats.md, "Packets"). After `Failed` a front of
-    /// that packet is out, and the port's `write_faults` rose.
+    /// Ends the begun text, which isn't empty, with its last packet (docs/formats.md, "Packets"). After `Failed` a prefix of
+    /// that packet is written, and the port's `write_faults` rose.
     pub fn close<X: Port>(&mut self, port: &mut X) -> Result<(), Failed>
         requires begun { IsBegun self.old.stage }
         requires some { 0 < length self.old.pending }
@@ -134,7 +134,7 @@ impl Packetiser {
         self.write_part(port, text, true)
     }
 
-    /// Takes one octet of the begun text. A full part goes out before it. After `Failed` a front of its packet is out.
+    /// Takes one octet of the begun text. A full part is written before it. After `Failed` a prefix of its packet is written.
     pub(crate) fn put<X: Port>(&mut self, port: &mut X, octet: u8) -> Result<(), Failed>
         requires { given_octets self.old < 2 ^ 32 }
         ensures { PutsOctet result (X.outside port.old) (X.outside port.new) self.old self.new octet }
@@ -151,7 +151,7 @@ impl Packetiser {
         Ok(())
     }
 
-    // The begun text.
+    // Returns the begun text.
     fn text(&self) -> Text
         requires { IsBegun self.now.stage }
         ensures begun { self.now.stage ≡ Begun result }
@@ -163,7 +163,7 @@ impl Packetiser {
         }
     }
 
-    // Whether the part has room for a further octet.
+    // Returns whether the part has room for a further octet.
     fn has_room(&self) -> bool
         ensures room { OnTrue result (length self.now.pending < part_size self.now.packet) }
         ensures full { OnFalse result (length self.now.pending ≡ part_size self.now.packet) }
@@ -181,7 +181,7 @@ impl Packetiser {
         self.buffer.push_reserved(octet);
     }
 
-    // Whether the part has room for the eight octets of a word.
+    // Returns whether the part has room for the eight octets of a word.
     pub(crate) fn has_room_for_word(&self) -> bool
         ensures { OnTrue result (length self.now.pending + 8 ≤ part_size self.now.packet) }
     {

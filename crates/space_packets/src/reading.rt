@@ -1,24 +1,24 @@
 // What a packet says.
 ghost use Rattle.std.specs.Prelude.{◌≡◌, ◌≤◌, ◌<◌, ◌-◌, length, false, IfNone};
-ghost use Rattle.packet_defs.specs.Reading.{head_in, ancillary_in, skip_of};
+ghost use Rattle.packet_defs.specs.Reading.{head_in, ancillary_in, has_mark, skip_of};
 ghost use Rattle.packet_defs.specs.Streams.{has_bad_version, told_length, begins_packet, missing};
 ghost use Rattle.packet_defs.specs.declared.packet.PacketRead.TheVariants.{Mine};
 
-use crate::header::{ANCILLARY, MARK, PRIMARY};
+use crate::header::{ANCILLARY, PRIMARY, mark_of};
 use byteorder::{BigEndian, ByteOrder};
 use packet_defs::{Ancillary, PacketHead, PacketRead, Skip};
 
 // The APID of idle packets.
 const IDLE: u16 = 2047;
 
-/// Whether the first octet tells another version than 000.
+/// Returns whether the first octet has another version than 000.
 pub fn has_bad_version(octets: &[u8]) -> bool
     ensures { result ≡ has_bad_version octets.now }
 {
     !octets.is_empty() && octets[0] >= 1 << 5
 }
 
-/// Octets of the packet with which these begin, as its header tells.
+/// Returns the number of octets of the packet with which these begin, by its header.
 #[tactic(auto, unfolding(packet_defs::specs::Streams::told_length))]
 pub fn told_length(octets: &[u8]) -> usize
     requires { 6 ≤ length octets.now }
@@ -28,8 +28,8 @@ pub fn told_length(octets: &[u8]) -> usize
     PRIMARY + BigEndian::read_u16(&octets[4..]) as usize + 1
 }
 
-/// Whether the octets begin with a whole packet. Where they don't, and the version is none to refuse, they are fewer than the
-/// longest packet has.
+/// Returns whether the octets begin with a whole packet. If they don't, and the version is 000, they are fewer than those of the
+/// longest packet.
 #[tactic(auto, unfolding(packet_defs::specs::Streams::begins_packet))]
 pub fn begins_packet(octets: &[u8]) -> bool
     ensures value { result ≡ begins_packet octets.now }
@@ -38,7 +38,7 @@ pub fn begins_packet(octets: &[u8]) -> bool
     !has_bad_version(octets) && octets.len() >= PRIMARY && told_length(octets) <= octets.len()
 }
 
-/// Octets that lack of a packet that begins so and isn't whole.
+/// Returns the number of missing octets of a packet that begins with these and isn't whole.
 pub fn missing(octets: &[u8]) -> u32
     ensures { result ≡ missing octets.now }
 {
@@ -48,7 +48,7 @@ pub fn missing(octets: &[u8]) -> u32
     told_length(octets).saturating_sub(octets.len()) as u32
 }
 
-/// Why a whole packet is none of an image with this APID.
+/// Returns why a whole packet isn't one of an image with this APID.
 #[tactic(auto, unfolding(packet_defs::specs::Reading::skip_of, packet_defs::specs::Streams::told_length))]
 pub fn skip_of(packet: &[u8], apid: u16) -> Option<Skip>
     requires { length packet.now ≡ told_length packet.now }
@@ -72,13 +72,22 @@ pub fn skip_of(packet: &[u8], apid: u16) -> Option<Skip>
     if packet.len() < PRIMARY + ANCILLARY {
         return Some(Skip::ShortAncillary);
     }
-    if BigEndian::read_u16(&packet[6..]) != MARK {
+    if !has_mark(packet) {
         return Some(Skip::OtherMark);
     }
     None
 }
 
-/// What a packet of an image says.
+// Returns whether the ancillary data begin with one of their marks.
+fn has_mark(packet: &[u8]) -> bool
+    requires { 30 ≤ length packet.now }
+    ensures { result ≡ has_mark packet.now }
+{
+    let mark = BigEndian::read_u16(&packet[6..]);
+    mark == mark_of(false) || mark == mark_of(true)
+}
+
+/// Returns what a packet of an image says.
 pub fn mine_in(packet: &[u8]) -> PacketRead
     requires { 30 ≤ length packet.now }
     ensures { result ≡ Mine (head_in packet.now) (ancillary_in packet.now) }
@@ -89,7 +98,7 @@ pub fn mine_in(packet: &[u8]) -> PacketRead
     }
 }
 
-// The primary header of a packet.
+// Returns the primary header of a packet.
 fn head_in(packet: &[u8]) -> PacketHead
     requires { 6 ≤ length packet.now }
     ensures { result ≡ head_in packet.now }
@@ -103,12 +112,13 @@ fn head_in(packet: &[u8]) -> PacketHead
     }
 }
 
-// The ancillary data of a packet.
+// Returns the ancillary data of a packet.
 fn ancillary_in(packet: &[u8]) -> Ancillary
     requires { 30 ≤ length packet.now }
     ensures { result ≡ ancillary_in packet.now }
 {
     Ancillary {
+        told_last: BigEndian::read_u16(&packet[6..]) == mark_of(true),
         image: BigEndian::read_u16(&packet[8..]),
         rows: BigEndian::read_u32(&packet[10..]),
         segment: BigEndian::read_u32(&packet[14..]),

@@ -1,4 +1,4 @@
-// A text that goes on by octets.
+// A text that is given octet by octet.
 ghost use Rattle.std.specs.Prelude.{◌≤◌, ◌+◌, ◌^◌};
 ghost use Rattle.item_defs.specs.Bits.{bits_of};
 ghost use Rattle.bit_pipe.specs.Sinks.{PutsOctets};
@@ -11,7 +11,7 @@ use port_122::Port;
 
 /// The begun text of a packetiser on its way to a port (docs/formats.md, "Packets").
 ///
-/// As a sink it was given the octets of the begun text, and it counts the port's `write_faults`. Where no text is begun it
+/// As a sink it was given the octets of the begun text, and it counts the port's `write_faults`. If no text is begun it
 /// takes no octet.
 #[derive(Drop)]
 pub struct PacketSink<'a, X> {
@@ -20,7 +20,7 @@ pub struct PacketSink<'a, X> {
 }
 
 impl<'a, X: Port> PacketSink<'a, X> {
-    // Gives the octets of a word one by one, as where they go to two packets.
+    // Gives the octets of a word one by one, since they may belong to two packets.
     fn put_each(&mut self, word: u64) -> Result<(), bit_pipe::Failed>
         requires { given_octets self.old.packets.now + 8 ≤ 2 ^ 32 }
         ensures { PutsOctets (packet_sink X.outside) result self.old self.new (bits_of 64 word) }

@@ -24,7 +24,7 @@ pub enum Stage {
 }
 
 impl Text {
-    /// What is done once a part is out, the last or not: the text stands at its next part, or is over.
+    /// Returns the stage after a part was written, the last or not: the text is at its next part, or is over.
     pub fn after_part(self, last: bool) -> Stage
         requires { self.ancillary.part < 2 ^ 32 - 1 }
         ensures { result ≡ (if last then Idle else Begun (text_at self 1)) }

@@ -1,22 +1,23 @@
 -- Which of some packets of an image are kept.
-use Rattle.std.proofs.Common.{◌≡◌, inl, inr, ◌≤◌, ◌<◌, ◌+◌, ℕ, zero, suc, ℤ, List, [], ◌∷◌, ◌++◌, map, refl, sym, ap, subst, ◌∙◌, arith}
+use Rattle.std.proofs.Common.{◌≡◌, ◌⊎◌, inl, inr, ◌≤◌, ◌<◌, ◌+◌, ℕ, zero, suc, ℤ, List, [], ◌∷◌, ◌++◌, map, refl, sym, ap, subst, ◌∙◌, arith}
 use Rattle.std.specs.Prelude.{Bool, true, false, ◌==◌, ◌&&◌, if◌then◌else◌, Some}
 use Rattle.std.specs.List.{range_with_len, flat_map}
+use Rattle.std.proofs.lemmas.Bool.{cases_lt}
 use Rattle.std.proofs.lemmas.Bool.Decides.{nat_tests}
 use Rattle.std.proofs.lemmas.Grind.{flat_map-append}
 use Rattle.std.proofs.lemmas.List.{append-nil}
-use Rattle.base_122.specs.Setting.{geometry_of}
 use Rattle.base_122.specs.declared.setting.Setting.{Setting}
 use Rattle.stream_defs.specs.declared.fate.Fate.TheVariants.{Kept, OutOfPlace}
 use Rattle.stream_defs.specs.declared.fate.LastPart.{LastPart}
 use Rattle.stream_defs.specs.declared.fate.FateState.{FateState}
 use Rattle.stream_defs.specs.Output.{segments_of}
-use Rattle.stream_defs.specs.Fates.{fresh, fate, is_kept, follows, after, after_all, kept}
+use Rattle.stream_defs.specs.Fates.{fresh, fate, is_kept, follows, after, after_all, kept, reads}
 use Rattle.stream_defs.specs.Places.{parts_of, packet_at, place_at, AreCoded}
 use Rattle.stream_defs.specs.Chosen.{IsRising, IsChoice, chosen, run}
+use Rattle.stream_defs.specs.StreamLaws.{geometry_by, IsLastBegun}
 use Rattle.stream_defs.proofs.Outputs.{range_with_len-more}
 use Rattle.stream_defs.proofs.OutPackets.{written_at}
-use Rattle.stream_defs.proofs.FateLaws.{state_of, LeftBefore, first_kept, next_kept, gap_not_kept, first_leaves, next_leaves, after_as_other}
+use Rattle.stream_defs.proofs.FateLaws.{state_by, LeftBefore, first_kept, next_kept, gap_not_kept, first_leaves, next_leaves, after_as_other}
 
 -- ---- the fold, packet by packet
 
@@ -65,30 +66,30 @@ kept_is : (apid : ℕ) (st : FateState) (packet : List ℕ) → fate apid st pac
 kept_is apid st packet e = rw e refl
 
 -- a part that doesn't follow
-far_part : (last : LastPart) (index part : ℕ) (s : Setting) → last.part < part → follows (Some last) (written_at s index (part + 1)) ≡ false
-far_part last index part s far = let e : (part + 1 == last.part + 1) ≡ false = apart (part + 1) (last.part + 1) (λ e. omega (arith, e, far)) in rw e (and_false (index == last.index))
+far_part : (last : LastPart) (index part : ℕ) (told_last : Bool) (s : Setting) → last.part < part → follows (Some last) (written_at told_last s index (part + 1)) ≡ false
+far_part last index part told_last s far = let e : (part + 1 == last.part + 1) ≡ false = apart (part + 1) (last.part + 1) (λ e. omega (arith, e, far)) in rw e (and_false (index == last.index))
   where
     and_false : (b : Bool) → (b && false) ≡ false
     and_false true = refl
     and_false false = refl
 
-far_index : (last : LastPart) (index part : ℕ) (s : Setting) → last.index < index → follows (Some last) (written_at s index part) ≡ false
-far_index last index part s far = let e : (index == last.index) ≡ false = apart index last.index (λ e. omega (arith, e, far)) in rw e refl
+far_index : (last : LastPart) (index part : ℕ) (told_last : Bool) (s : Setting) → last.index < index → follows (Some last) (written_at told_last s index part) ≡ false
+far_index last index part told_last s far = let e : (index == last.index) ≡ false = apart index last.index (λ e. omega (arith, e, far)) in rw e refl
 
 -- ---- one segment
 
-module _ (s : Setting) (all : List (List ℤ)) (coded : AreCoded s all) (index : ℕ) (lt : index < segments_of s) where
+module _ (told_last : Bool) (s : Setting) (all : List (List ℤ)) (coded : AreCoded s all) (read : reads told_last ≡ true) (index : ℕ) (lt : index < segments_of s) where
   -- the state after part k
   abbrev after_part : ℕ → FateState
-  after_part k = state_of (geometry_of s) (place_at s all index k)
+  after_part k = state_by told_last s (place_at s all index k)
 
   packets_of_parts : List ℕ → List (List ℕ)
-  packets_of_parts ks = map (packet_at s all index) ks
+  packets_of_parts ks = map (packet_at told_last s all index) ks
 
   -- parts that leave a gap are dropped, and leave all as it was
   gap_drops : (st : FateState) (least : ℕ) (ks : List ℕ) → 1 ≤ least → IsRising least (parts_of s all index) ks →
-      ((k : ℕ) → least ≤ k + 1 → LeftBefore (geometry_of s) index (k + 1) st × (follows st.last (written_at s index (k + 1)) ≡ false)) →
-      (kept s.apid st (map (packet_at s all index) ks) ≡ []) × (after_all s.apid st (map (packet_at s all index) ks) ≡ st)
+      ((k : ℕ) → least ≤ k + 1 → LeftBefore told_last s index (k + 1) st × (follows st.last (written_at told_last s index (k + 1)) ≡ false)) →
+      (kept s.apid st (map (packet_at told_last s all index) ks) ≡ []) × (after_all s.apid st (map (packet_at told_last s all index) ks) ≡ st)
   gap_drops st least [] some rising gap = (kept_none s.apid st, refl)
   gap_drops st least (zero ∷ ks) some rising gap = absurd (let low = rising.0 in omega (arith, low, some))
   gap_drops st least (suc k ∷ ks) some rising gap =
@@ -96,31 +97,31 @@ module _ (s : Setting) (all : List (List ℤ)) (coded : AreCoded s all) (index :
       let low = rising.0 in
       let few = rising.1 in
       let here = gap k (omega (arith, low)) in
-      let fate_is : fate s.apid st (packet_at s all index (suc k)) ≡ OutOfPlace =
-      subst (λ m. fate s.apid st (packet_at s all index m) ≡ OutOfPlace) e (gap_not_kept s all coded st index k lt (omega (arith, few)) here.0 here.1) in
-      let dropped = kept_is s.apid st (packet_at s all index (suc k)) fate_is in
-      let same : after s.apid st (packet_at s all index (suc k)) ≡ st = after_as_other s.apid st (packet_at s all index (suc k)) dropped in
+      let fate_is : fate s.apid st (packet_at told_last s all index (suc k)) ≡ OutOfPlace =
+      subst (λ m. fate s.apid st (packet_at told_last s all index m) ≡ OutOfPlace) e (gap_not_kept told_last s all coded read st index k lt (omega (arith, few)) here.0 here.1) in
+      let dropped = kept_is s.apid st (packet_at told_last s all index (suc k)) fate_is in
+      let same : after s.apid st (packet_at told_last s all index (suc k)) ≡ st = after_as_other s.apid st (packet_at told_last s all index (suc k)) dropped in
       let rest = gap_drops st (suc k + 1) ks (omega arith) rising.2 (λ j later. gap j (omega (arith, later, low))) in (
-        kept_past s.apid st (packet_at s all index (suc k)) (map (packet_at s all index) ks) dropped ∙ ap (λ t. kept s.apid t (map (packet_at s all index) ks)) same ∙ rest.0,
-        ap (λ t. after_all s.apid t (map (packet_at s all index) ks)) same ∙ rest.1,
+        kept_past s.apid st (packet_at told_last s all index (suc k)) (map (packet_at told_last s all index) ks) dropped ∙ ap (λ t. kept s.apid t (map (packet_at told_last s all index) ks)) same ∙ rest.0,
+        ap (λ t. after_all s.apid t (map (packet_at told_last s all index) ks)) same ∙ rest.1,
       )
 
   -- after part k, further parts are kept as far as they go on
   GoesOnTo : ℕ → List ℕ → Type 0
-  GoesOnTo k ks = (kept s.apid (after_part k) (map (packet_at s all index) ks) ≡ map (packet_at s all index) (run (k + 1) ks))
-      × ((last : ℕ) × (last < parts_of s all index) × (after_all s.apid (after_part k) (map (packet_at s all index) ks) ≡ after_part last))
+  GoesOnTo k ks = (kept s.apid (after_part k) (map (packet_at told_last s all index) ks) ≡ map (packet_at told_last s all index) (run (k + 1) ks))
+      × ((last : ℕ) × (last < parts_of s all index) × (after_all s.apid (after_part k) (map (packet_at told_last s all index) ks) ≡ after_part last))
 
   takes_next : (k : ℕ) (ks : List ℕ) → k + 1 < parts_of s all index → GoesOnTo (k + 1) ks → GoesOnTo k ((k + 1) ∷ ks)
   unfolding GoesOnTo
   takes_next k ks few rest =
-      let packet = packet_at s all index (k + 1) in
-      let leaves = next_leaves s all coded index k lt few in
+      let packet = packet_at told_last s all index (k + 1) in
+      let leaves = next_leaves told_last s all coded read index k lt few in
       let here : (k + 1 == k + 1) ≡ true = equal (k + 1) (k + 1) refl in (
-        kept_more s.apid (after_part k) packet (map (packet_at s all index) ks) (next_kept s all coded index k lt few)
-            ∙ ap (λ t. packet ∷ kept s.apid t (map (packet_at s all index) ks)) leaves
+        kept_more s.apid (after_part k) packet (map (packet_at told_last s all index) ks) (next_kept told_last s all coded read index k lt few)
+            ∙ ap (λ t. packet ∷ kept s.apid t (map (packet_at told_last s all index) ks)) leaves
             ∙ ap (λ ps. packet ∷ ps) rest.0
-            ∙ ap (λ b. map (packet_at s all index) (if b then (k + 1) ∷ run (k + 1 + 1) ks else [])) (sym here),
-        (rest.1.0, rest.1.1, ap (λ t. after_all s.apid t (map (packet_at s all index) ks)) leaves ∙ rest.1.2),
+            ∙ ap (λ b. map (packet_at told_last s all index) (if b then (k + 1) ∷ run (k + 1 + 1) ks else [])) (sym here),
+        (rest.1.0, rest.1.1, ap (λ t. after_all s.apid t (map (packet_at told_last s all index) ks)) leaves ∙ rest.1.2),
       )
 
   stops_there : (k j : ℕ) (ks : List ℕ) → k < parts_of s all index → IsRising (k + 1) (parts_of s all index) (j ∷ ks) → (j == k + 1) ≡ false → GoesOnTo k (j ∷ ks)
@@ -129,8 +130,8 @@ module _ (s : Setting) (all : List (List ℤ)) (coded : AreCoded s all) (index :
       let low = rising.0 in
       let past : k + 2 ≤ j = grind (arith, nat_tests) in
       let dropped = gap_drops (after_part k) j (j ∷ ks) (omega (arith, past)) ((omega arith), rising.1, rising.2)
-      (λ m later. (inr (place_at s all index k, refl, inr (refl, omega (arith, later, past))), far_part (place_at s all index k) index m s (omega (arith, later, past)))) in (
-        dropped.0 ∙ ap (λ b. map (packet_at s all index) (if b then j ∷ run (k + 1 + 1) ks else [])) (sym e),
+      (λ m later. (inr (place_at s all index k, refl, inr (refl, omega (arith, later, past))), far_part (place_at s all index k) index m told_last s (omega (arith, later, past)))) in (
+        dropped.0 ∙ ap (λ b. map (packet_at told_last s all index) (if b then j ∷ run (k + 1 + 1) ks else [])) (sym e),
         (k, few, dropped.1),
       )
 
@@ -150,75 +151,75 @@ module _ (s : Setting) (all : List (List ℤ)) (coded : AreCoded s all) (index :
   goes_on k (j ∷ ks) few rising = by_next k j ks few rising (j == k + 1) refl (λ f r. goes_on (k + 1) ks f r)
 
   -- what was left before a segment is left before its parts and before the next segment
-  before_parts : (st : FateState) (part : ℕ) → LeftBefore (geometry_of s) index 0 st → LeftBefore (geometry_of s) index part st × (follows st.last (written_at s index part) ≡ false)
-  before_parts st part (inl none) = (inl none, ap (λ t. follows t.last (written_at s index part)) none)
-  before_parts st part (inr (last, is, inl before)) = (inr (last, is, inl before), ap (λ t. follows t.last (written_at s index part)) is ∙ far_index last index part s before)
+  before_parts : (st : FateState) (part : ℕ) → LeftBefore told_last s index 0 st → LeftBefore told_last s index part st × (follows st.last (written_at told_last s index part) ≡ false)
+  before_parts st part (inl none) = (inl none, ap (λ t. follows t.last (written_at told_last s index part)) none)
+  before_parts st part (inr (last, is, inl before)) = (inr (last, is, inl before), ap (λ t. follows t.last (written_at told_last s index part)) is ∙ far_index last index part told_last s before)
   before_parts st part (inr (last, is, inr here)) = absurd (let none = here.1 in omega (arith, none))
 
-  before_next : (st : FateState) → LeftBefore (geometry_of s) index 0 st → LeftBefore (geometry_of s) (index + 1) 0 st
+  before_next : (st : FateState) → LeftBefore told_last s index 0 st → LeftBefore told_last s (index + 1) 0 st
   before_next st (inl none) = inl none
   before_next st (inr (last, is, inl before)) = inr (last, is, inl (omega (arith, before)))
   before_next st (inr (last, is, inr here)) = absurd (let none = here.1 in omega (arith, none))
 
-  -- a part of this image was kept last
-  abbrev Touched : FateState → Type 0
-  Touched st = (last : LastPart) × (st ≡ state_of (geometry_of s) last)
-
   -- where a segment begins, a part of it is kept last
-  pub segment_touched : (st : FateState) (ks : List ℕ) → LeftBefore (geometry_of s) index 0 st → IsRising 0 (parts_of s all index) (0 ∷ ks) →
-      Touched (after_all s.apid st (map (packet_at s all index) (0 ∷ ks)))
+  pub segment_touched : (st : FateState) (ks : List ℕ) → LeftBefore told_last s index 0 st → IsRising 0 (parts_of s all index) (0 ∷ ks) →
+      (last : LastPart) × (last.index ≡ index) × (after_all s.apid st (map (packet_at told_last s all index) (0 ∷ ks)) ≡ state_by told_last s last)
   unfolding GoesOnTo
   segment_touched st ks left rising =
       let rest = goes_on 0 ks rising.1 rising.2 in
-      (place_at s all index rest.1.0, ap (λ t. after_all s.apid t (map (packet_at s all index) ks)) (first_leaves s all coded st index lt rising.1 left) ∙ rest.1.2)
+      (place_at s all index rest.1.0, refl, ap (λ t. after_all s.apid t (map (packet_at told_last s all index) ks)) (first_leaves told_last s all coded read st index lt rising.1 left) ∙ rest.1.2)
 
-  -- and stays so
-  pub still_touched : (st : FateState) (ks : List ℕ) → Touched st → LeftBefore (geometry_of s) index 0 st → IsRising 0 (parts_of s all index) ks →
-      Touched (after_all s.apid st (map (packet_at s all index) ks))
-  still_touched st [] touched left rising = touched
-  still_touched st (zero ∷ ks) touched left rising = segment_touched st ks left rising
-  still_touched st (suc k ∷ ks) touched left rising =
-      let dropped = gap_drops st (suc k) (suc k ∷ ks) (omega arith) ((omega arith), rising.1, rising.2) (λ m later. before_parts st (m + 1) left) in
-      (touched.0, dropped.1 ∙ touched.1)
+  -- where it doesn't, all stays as it was
+  pub segment_passed : (st : FateState) (k : ℕ) (ks : List ℕ) → LeftBefore told_last s index 0 st → IsRising 0 (parts_of s all index) (suc k ∷ ks) →
+      after_all s.apid st (map (packet_at told_last s all index) (suc k ∷ ks)) ≡ st
+  segment_passed st k ks left rising =
+      (gap_drops st (suc k) (suc k ∷ ks) (omega arith) ((omega arith), rising.1, rising.2) (λ m later. before_parts st (m + 1) left)).1
 
   -- the parts of a segment that are kept: those from 0 on, as far as they go on
-  pub segment_kept : (st : FateState) (ks : List ℕ) → LeftBefore (geometry_of s) index 0 st → IsRising 0 (parts_of s all index) ks →
-      (kept s.apid st (map (packet_at s all index) ks) ≡ map (packet_at s all index) (run 0 ks)) × LeftBefore (geometry_of s) (index + 1) 0 (after_all s.apid st (map (packet_at s all index) ks))
+  pub segment_kept : (st : FateState) (ks : List ℕ) → LeftBefore told_last s index 0 st → IsRising 0 (parts_of s all index) ks →
+      (kept s.apid st (map (packet_at told_last s all index) ks) ≡ map (packet_at told_last s all index) (run 0 ks)) × LeftBefore told_last s (index + 1) 0 (after_all s.apid st (map (packet_at told_last s all index) ks))
   unfolding GoesOnTo
   segment_kept st [] left rising = (kept_none s.apid st, before_next st left)
   segment_kept st (zero ∷ ks) left rising =
-      let packet = packet_at s all index 0 in
+      let packet = packet_at told_last s all index 0 in
       let some = rising.1 in
-      let leaves = first_leaves s all coded st index lt some left in
+      let leaves = first_leaves told_last s all coded read st index lt some left in
       let rest = goes_on 0 ks some rising.2 in (
-        kept_more s.apid st packet (map (packet_at s all index) ks) (first_kept s all coded st index lt some left)
-            ∙ ap (λ t. packet ∷ kept s.apid t (map (packet_at s all index) ks)) leaves ∙ ap (λ ps. packet ∷ ps) rest.0,
-        inr (place_at s all index rest.1.0, ap (λ t. after_all s.apid t (map (packet_at s all index) ks)) leaves ∙ rest.1.2, inl (omega arith)),
+        kept_more s.apid st packet (map (packet_at told_last s all index) ks) (first_kept told_last s all coded read st index lt some left)
+            ∙ ap (λ t. packet ∷ kept s.apid t (map (packet_at told_last s all index) ks)) leaves ∙ ap (λ ps. packet ∷ ps) rest.0,
+        inr (place_at s all index rest.1.0, ap (λ t. after_all s.apid t (map (packet_at told_last s all index) ks)) leaves ∙ rest.1.2, inl (omega arith)),
       )
   segment_kept st (suc k ∷ ks) left rising =
       let zero_not : (suc k == 0) ≡ false = apart (suc k) 0 (λ e. omega (arith, e)) in
       let dropped = gap_drops st (suc k) (suc k ∷ ks) (omega arith) ((omega arith), rising.1, rising.2) (λ m later. before_parts st (m + 1) left) in (
-        dropped.0 ∙ ap (λ b. map (packet_at s all index) (if b then suc k ∷ run (0 + 1) ks else [])) (sym zero_not),
-        subst (LeftBefore (geometry_of s) (index + 1) 0) (sym dropped.1) (before_next st left),
+        dropped.0 ∙ ap (λ b. map (packet_at told_last s all index) (if b then suc k ∷ run (0 + 1) ks else [])) (sym zero_not),
+        subst (LeftBefore told_last s (index + 1) 0) (sym dropped.1) (before_next st left),
       )
 
 -- ---- all segments
 
-module _ (s : Setting) (all : List (List ℤ)) (coded : AreCoded s all) (parts : ℕ → List ℕ) (choice : IsChoice s all parts) where
-  chosen_none : (p : ℕ → List ℕ) → chosen s all p 0 ≡ []
+-- a segment is begun, and none after it of the first n
+pub record LastBegun (parts : ℕ → List ℕ) (n : ℕ) (last : LastPart) : Type 0 where
+  pub more : List ℕ
+  pub begun : parts last.index ≡ 0 ∷ more
+  pub few : last.index < n
+  pub none_after : (later : ℕ) → last.index < later → later < n → (rest : List ℕ) → parts later ≡ 0 ∷ rest → ⊥
+
+module _ (told_last : Bool) (s : Setting) (all : List (List ℤ)) (coded : AreCoded s all) (read : reads told_last ≡ true) (parts : ℕ → List ℕ) (choice : IsChoice s all parts) where
+  chosen_none : (p : ℕ → List ℕ) → chosen told_last s all p 0 ≡ []
   unfolding chosen
   chosen_none p = refl
 
-  pub chosen_more : (p : ℕ → List ℕ) (n : ℕ) → chosen s all p (n + 1) ≡ chosen s all p n ++ map (packet_at s all n) (p n)
+  pub chosen_more : (p : ℕ → List ℕ) (n : ℕ) → chosen told_last s all p (n + 1) ≡ chosen told_last s all p n ++ map (packet_at told_last s all n) (p n)
   unfolding chosen
   chosen_more p n =
-      let f = λ (index : ℕ). map (packet_at s all index) (p index) in
+      let f = λ (index : ℕ). map (packet_at told_last s all index) (p index) in
       ap (flat_map f) (range_with_len-more 0 n ∙ ap (λ k. range_with_len 0 n ++ k ∷ []) (let t : 0 + n ≡ n = omega arith in t))
       ∙ flat_map-append f (range_with_len 0 n) (n ∷ []) ∙ ap (λ r. flat_map f (range_with_len 0 n) ++ r) (append-nil (f n))
 
   -- of the chosen packets just those are kept that go on from part 0 in their segment
   pub chosen_kept : (n : ℕ) → n ≤ segments_of s →
-      (kept s.apid fresh (chosen s all parts n) ≡ chosen s all (λ index. run 0 (parts index)) n) × LeftBefore (geometry_of s) n 0 (after_all s.apid fresh (chosen s all parts n))
+      (kept s.apid fresh (chosen told_last s all parts n) ≡ chosen told_last s all (λ index. run 0 (parts index)) n) × LeftBefore told_last s n 0 (after_all s.apid fresh (chosen told_last s all parts n))
   chosen_kept zero few = (
     ap (kept s.apid fresh) (chosen_none parts) ∙ kept_none s.apid fresh ∙ sym (chosen_none (λ index. run 0 (parts index))),
     inl (ap (after_all s.apid fresh) (chosen_none parts)),
@@ -227,35 +228,94 @@ module _ (s : Setting) (all : List (List ℤ)) (coded : AreCoded s all) (parts :
       let e : n + 1 ≡ suc n = omega arith in
       let rest = chosen_kept n (omega (arith, few)) in
       let lt : n < segments_of s = omega (arith, few) in
-      let st = after_all s.apid fresh (chosen s all parts n) in
-      let here = segment_kept s all coded n lt st (parts n) rest.1 (choice.each n lt) in
-      let first : kept s.apid fresh (chosen s all parts (n + 1)) ≡ chosen s all (λ index. run 0 (parts index)) (n + 1) =
-      ap (kept s.apid fresh) (chosen_more parts n) ∙ kept-append s.apid fresh (chosen s all parts n) (map (packet_at s all n) (parts n))
-      ∙ ap (λ zs. zs ++ kept s.apid st (map (packet_at s all n) (parts n))) rest.0 ∙ ap (λ zs. chosen s all (λ index. run 0 (parts index)) n ++ zs) here.0
+      let st = after_all s.apid fresh (chosen told_last s all parts n) in
+      let here = segment_kept told_last s all coded read n lt st (parts n) rest.1 (choice.each n lt) in
+      let first : kept s.apid fresh (chosen told_last s all parts (n + 1)) ≡ chosen told_last s all (λ index. run 0 (parts index)) (n + 1) =
+      ap (kept s.apid fresh) (chosen_more parts n) ∙ kept-append s.apid fresh (chosen told_last s all parts n) (map (packet_at told_last s all n) (parts n))
+      ∙ ap (λ zs. zs ++ kept s.apid st (map (packet_at told_last s all n) (parts n))) rest.0 ∙ ap (λ zs. chosen told_last s all (λ index. run 0 (parts index)) n ++ zs) here.0
       ∙ sym (chosen_more (λ index. run 0 (parts index)) n) in
-      let state : after_all s.apid fresh (chosen s all parts (n + 1)) ≡ after_all s.apid st (map (packet_at s all n) (parts n)) =
-      ap (after_all s.apid fresh) (chosen_more parts n) ∙ after_all-append s.apid fresh (chosen s all parts n) (map (packet_at s all n) (parts n)) in
-      subst (λ m. (kept s.apid fresh (chosen s all parts m) ≡ chosen s all (λ index. run 0 (parts index)) m) × LeftBefore (geometry_of s) m 0 (after_all s.apid fresh (chosen s all parts m))) e
-      (first, subst (LeftBefore (geometry_of s) (n + 1) 0) (sym state) here.1)
+      let state : after_all s.apid fresh (chosen told_last s all parts (n + 1)) ≡ after_all s.apid st (map (packet_at told_last s all n) (parts n)) =
+      ap (after_all s.apid fresh) (chosen_more parts n) ∙ after_all-append s.apid fresh (chosen told_last s all parts n) (map (packet_at told_last s all n) (parts n)) in
+      subst (λ m. (kept s.apid fresh (chosen told_last s all parts m) ≡ chosen told_last s all (λ index. run 0 (parts index)) m) × LeftBefore told_last s m 0 (after_all s.apid fresh (chosen told_last s all parts m))) e
+      (first, subst (LeftBefore told_last s (n + 1) 0) (sym state) here.1)
 
-  state_more : (n : ℕ) → after_all s.apid fresh (chosen s all parts (n + 1)) ≡ after_all s.apid (after_all s.apid fresh (chosen s all parts n)) (map (packet_at s all n) (parts n))
-  state_more n = ap (after_all s.apid fresh) (chosen_more parts n) ∙ after_all-append s.apid fresh (chosen s all parts n) (map (packet_at s all n) (parts n))
+  state_more : (n : ℕ) → after_all s.apid fresh (chosen told_last s all parts (n + 1)) ≡ after_all s.apid (after_all s.apid fresh (chosen told_last s all parts n)) (map (packet_at told_last s all n) (parts n))
+  state_more n = ap (after_all s.apid fresh) (chosen_more parts n) ∙ after_all-append s.apid fresh (chosen told_last s all parts n) (map (packet_at told_last s all n) (parts n))
 
-  -- from the first segment on that begins, the geometry is the setting's
-  pub chosen_touched : (index later : ℕ) (ks : List ℕ) → parts index ≡ 0 ∷ ks → index + 1 + later ≤ segments_of s →
-      (last : LastPart) × (after_all s.apid fresh (chosen s all parts (index + 1 + later)) ≡ state_of (geometry_of s) last)
-  chosen_touched index zero ks begins few =
-      let e : index + 1 + 0 ≡ index + 1 = omega arith in
-      let lt : index < segments_of s = omega (arith, few) in
-      let st = after_all s.apid fresh (chosen s all parts index) in
-      let rising = subst (IsRising 0 (parts_of s all index)) begins (choice.each index lt) in
-      let here = segment_touched s all coded index lt st ks (chosen_kept index (omega (arith, lt))).1 rising in
-      subst (λ m. (last : LastPart) × (after_all s.apid fresh (chosen s all parts m) ≡ state_of (geometry_of s) last)) (sym e)
-      (here.0, state_more index ∙ ap (λ p. after_all s.apid st (map (packet_at s all index) p)) begins ∙ here.1)
-  chosen_touched index (suc later) ks begins few =
-      let n = index + 1 + later in
-      let e : index + 1 + suc later ≡ n + 1 = omega arith in
-      let lt : n < segments_of s = omega (arith, few, e) in
-      let before = chosen_touched index later ks begins (omega (arith, lt)) in
-      let here = still_touched s all coded n lt (after_all s.apid fresh (chosen s all parts n)) (parts n) before (chosen_kept n (omega (arith, lt))).1 (choice.each n lt) in
-      subst (λ m. (last : LastPart) × (after_all s.apid fresh (chosen s all parts m) ≡ state_of (geometry_of s) last)) (sym e) (here.0, state_more n ∙ here.1)
+  NoneBegun : ℕ → Type 0
+  NoneBegun n = (index : ℕ) → index < n → (rest : List ℕ) → parts index ≡ 0 ∷ rest → ⊥
+
+  -- what the chosen packets of the first n segments leave
+  LeftBy : ℕ → FateState → Type 0
+  LeftBy n st = ((st ≡ fresh) × NoneBegun n) ⊎ ((last : LastPart) × (st ≡ state_by told_last s last) × LastBegun parts n last)
+
+  -- a segment that isn't begun
+  still_left : (n : ℕ) (st : FateState) → ((rest : List ℕ) → parts n ≡ 0 ∷ rest → ⊥) → LeftBy n st → LeftBy (n + 1) st
+  unfolding LeftBy NoneBegun
+  still_left n st none (inl (e, before)) = inl (
+    e,
+    λ index lt rest is. elim (cases_lt index n) [
+      | inl less ↦ before index less rest is
+      | inr far ↦ let same : index ≡ n = omega (arith, lt, far) in none rest (ap parts (sym same) ∙ is)
+    ],
+  )
+  still_left n st none (inr (last, e, b)) = inr (
+    last,
+    e,
+    record {
+      more = b.more;
+      begun = b.begun;
+      few = let few = b.few in omega (arith, few);
+      none_after = λ later past lt rest is. elim (cases_lt later n) [
+        | inl less ↦ b.none_after later past less rest is
+        | inr far ↦ let same : later ≡ n = omega (arith, lt, far) in none rest (ap parts (sym same) ∙ is)
+      ];
+    },
+  )
+
+  by_parts : (n : ℕ) → n < segments_of s → (st : FateState) → LeftBefore told_last s n 0 st → LeftBy n st → (ks : List ℕ) → parts n ≡ ks → IsRising 0 (parts_of s all n) (parts n) →
+      LeftBy (n + 1) (after_all s.apid st (map (packet_at told_last s all n) (parts n)))
+  unfolding LeftBy NoneBegun
+  by_parts n lt st left before [] is rising =
+      subst (LeftBy (n + 1)) (sym (ap (λ ks. after_all s.apid st (map (packet_at told_last s all n) ks)) is))
+      (still_left n st (λ rest f. let g : [] ≡ 0 ∷ rest = sym is ∙ f in cc) before)
+  by_parts n lt st left before (zero ∷ ks) is rising =
+      let here = segment_touched told_last s all coded read n lt st ks left (subst (IsRising 0 (parts_of s all n)) is rising) in
+      let at = here.1 in
+      inr (
+        here.0,
+        ap (λ ks. after_all s.apid st (map (packet_at told_last s all n) ks)) is ∙ here.2,
+        record {
+          more = ks;
+          begun = ap parts at ∙ is;
+          few = omega (arith, at);
+          none_after = λ later past lt rest f. absurd (omega (arith, past, lt, at));
+        },
+      )
+  by_parts n lt st left before (suc k ∷ ks) is rising =
+      subst (LeftBy (n + 1))
+      (sym (ap (λ ks. after_all s.apid st (map (packet_at told_last s all n) ks)) is ∙ segment_passed told_last s all coded read n lt st k ks left (subst (IsRising 0 (parts_of s all n)) is rising)))
+      (still_left n st (λ rest f. let g : suc k ∷ ks ≡ 0 ∷ rest = sym is ∙ f in cc) before)
+
+  left_by : (n : ℕ) → n ≤ segments_of s → LeftBy n (after_all s.apid fresh (chosen told_last s all parts n))
+  unfolding LeftBy NoneBegun
+  left_by zero few = inl (ap (after_all s.apid fresh) (chosen_none parts), λ index lt rest is. absurd (omega (arith, lt)))
+  left_by (suc n) few =
+      let e : n + 1 ≡ suc n = omega arith in
+      let lt : n < segments_of s = omega (arith, few) in
+      let before = left_by n (omega (arith, few)) in
+      let st = after_all s.apid fresh (chosen told_last s all parts n) in
+      subst (λ m. LeftBy m (after_all s.apid fresh (chosen told_last s all parts m))) e
+      (subst (LeftBy (n + 1)) (sym (state_more n)) (by_parts n lt st (chosen_kept n (omega (arith, lt))).1 before (parts n) refl (choice.each n lt)))
+
+  -- where a segment is begun, the geometry that is left is that of the last one begun
+  pub geometry_left : (index : ℕ) (more : List ℕ) → index < segments_of s → parts index ≡ 0 ∷ more →
+      (last : ℕ) × (last < segments_of s) × IsLastBegun s parts last × ((after_all s.apid fresh (chosen told_last s all parts (segments_of s))).geometry ≡ Some (geometry_by told_last s last))
+  unfolding LeftBy NoneBegun
+  geometry_left index more lt begun = elim (left_by (segments_of s) (omega arith)) [
+    | inl none ↦ absurd (none.1 index lt more begun)
+    | inr some ↦
+        let last = some.0 in
+        let b = some.2 in
+        (last.index, b.few, record { more = b.more; begun = b.begun; none_after = b.none_after }, ap (λ st. st.geometry) some.1)
+  ]

@@ -1,6 +1,10 @@
 -- The definitions at examples that were worked out by hand.
-use Rattle.std.proofs.Common.{◌≡◌, ℕ, List, [], ◌∷◌, ◌++◌, refl, take}
+use Rattle.std.proofs.Common.{◌≡◌, ◌*◌, ℕ, List, [], ◌∷◌, ◌++◌, refl, take, drop}
 use Rattle.std.specs.Prelude.{None, Some, map}
+use Rattle.std.specs.Option.{option_map}
+use Rattle.std.specs.List.{range_with_len}
+use Rattle.base_122.specs.declared.geometry.Geometry.{Geometry}
+use Rattle.base_122.specs.declared.setting.Setting.{Setting}
 use Rattle.item_defs.specs.Bits.{value_of, bits_of_octets, bits_of}
 use Rattle.packet_defs.specs.declared.packet.Skip.TheVariants as skips
 use Rattle.packet_defs.specs.declared.packet.Framing.TheVariants.{BadVersion, CutPacket}
@@ -12,8 +16,9 @@ use Rattle.segment_defs.specs.Fields.{number_in}
 use Rattle.segment_defs.specs.Reading.{head_read, presence_tests, support_tests, depth_tests, value_tests}
 use Rattle.stream_defs.specs.declared.fate.Fate.{Fate}
 use Rattle.stream_defs.specs.declared.fate.Fate.TheVariants.{Kept, Skipped, Foreign, Late, OutOfPlace, BadHead}
+use Rattle.stream_defs.specs.Output.{segments_of, share}
 use Rattle.stream_defs.specs.Agreement.{disagreement}
-use Rattle.stream_defs.specs.Fates.{fresh, fate, after, fates}
+use Rattle.stream_defs.specs.Fates.{fresh, refusal_in, geometry_after, fate, after, fates}
 use Rattle.stream_defs.specs.Damage.{ranges}
 
 -- the packet of the only segment of a black image of 17 by 17 pixels of 8 bits
@@ -55,6 +60,29 @@ refusals : map alone (
     ∷ BadHead (BadValue fields.Blocks) ∷ BadHead (BadValue fields.PadRows) ∷ []
 unfolding alone fate skip_of head_read presence_tests support_tests depth_tests value_tests number_in disagreement value_of bits_of_octets bits_of
 refusals = refl
+
+-- The same image with its height reported last: its only head reports it. Its packet is not read yet.
+told_last : (blocks pads : ℕ) → List ℕ
+told_last blocks pads =
+    (0x08 ∷ 0x64 ∷ 0xC0 ∷ 0 ∷ 0 ∷ 0x2D ∷ []) ++ (0x12 ∷ 0x21 ∷ drop 2 (ancillary 0 0 0) ++ text 0xC0 0x02 pads blocks)
+
+-- The rows that pad are not tested, but the height has to be in range. A packet with this mark has no rows in its ancillary data.
+height_told : (fates 100 fresh (told_last 0x9C 0xE0 ∷ black ∷ []) ≡ Foreign ∷ Kept ∷ [])
+    × (map (λ packet. option_map (λ (g : Geometry). g.rows) (geometry_after None packet)) (told_last 0x9C 0xE0 ∷ told_last 0x9C 0xC0 ∷ []) ≡ Some 17 ∷ Some 18 ∷ [])
+    × (refusal_in None (told_last 0x8C 0xE0) ≡ Some (BadValue fields.Last))
+    × (refusal_in None (told_last 0x9C 0xE0) ≡ None)
+    × (alone (changed 0x08 0x64 0xC0 0 0 0 0xC0 0x02 0xE0 0x9C) ≡ Foreign)
+unfolding told_last alone fates fate after skip_of head_read presence_tests support_tests depth_tests value_tests number_in disagreement value_of bits_of_octets bits_of
+height_told = (refl, refl, refl, refl, refl)
+
+-- the shares of 400 octets that eight texts have of which each has 21
+evenly : Setting → (i : ℕ) → ℕ
+evenly s i = share s i (21 * i)
+
+shares : (s : Setting) → s.total ≡ 400 → s.word ≡ 1 → segments_of s ≡ 8 →
+    map (evenly s) (range_with_len 0 8) ≡ 50 ∷ 54 ∷ 59 ∷ 67 ∷ 79 ∷ 98 ∷ 137 ∷ 253 ∷ []
+unfolding share evenly
+shares s total word eight = rw (total, word, eight) refl
 
 -- what can't be read on
 faults : (framing black ≡ None) × (framing (black ++ 0xFF ∷ []) ≡ Some (BadVersion 52)) × (framing (black ++ take 51 black) ≡ Some (CutPacket 1)) × (framing (0x08 ∷ []) ≡ Some (CutPacket 5))

@@ -1,20 +1,21 @@
 -- The fates of an image's packets.
-use Rattle.std.proofs.Common.{◌≡◌, ◌⊎◌, inl, inr, ◌≤◌, ◌<◌, ◌+◌, ◌-◌, ◌*◌, ◌%◌, ℕ, ℤ, List, [], ◌∷◌, min, refl, sym, ap, subst, ◌∙◌, arith}
-use Rattle.std.specs.Prelude.{Bool, true, false, ◌==◌, ◌&&◌, ◌||◌, not, nat_le, if◌then◌else◌, Option, Some, None, Ok, unwrap_or}
+use Rattle.std.proofs.Common.{◌≡◌, ◌⊎◌, inl, inr, ◌≤◌, ◌<◌, ◌+◌, ◌-◌, ◌*◌, ◌/◌, ◌%◌, ◌^◌, ℕ, ℤ, List, [], ◌∷◌, min, refl, sym, ap, subst, ◌∙◌, arith}
+use Rattle.std.specs.Prelude.{Bool, true, false, ◌==◌, ◌&&◌, ◌||◌, not, nat_le, nat_lt, if◌then◌else◌, Option, Some, None, Ok, unwrap_or}
 use Rattle.std.specs.Option.{option_map}
 use Rattle.std.specs.Str.{bytes_eq}
 use Rattle.std.proofs.lemmas.Bool.{cases_lt}
+use Rattle.std.proofs.Math.Nat.{mul-le-mul_left, mul-div_cancel_left, mul-mod_right}
 use Rattle.std.proofs.lemmas.Bool.Decides.{nat_tests}
 use Rattle.base_122.specs.declared.range.FieldRange.{FieldRange}
 use Rattle.base_122.specs.Ranges.{IsWithin, is_within, rows_range, segment_range}
-use Rattle.base_122.specs.Sizes.{total_blocks, padded_size}
-use Rattle.base_122.specs.Setting.{geometry_of}
+use Rattle.base_122.specs.Sizes.{block_count, total_blocks, padded_size}
+use Rattle.base_122.specs.Setting.{image_geometry}
 use Rattle.base_122.specs.declared.geometry.Geometry.{Geometry}
 use Rattle.base_122.specs.declared.setting.Setting.{Setting}
-use Rattle.base_122.proofs.SizeBounds.{first_block-lt, total-le-segments}
+use Rattle.base_122.proofs.SizeBounds.{first_block-lt, total-le-segments, three-le-block_count, block_count-rows}
 use Rattle.base_122.specs.Sizes.{segment_count as segments}
 use Rattle.segment_defs.specs.declared.fault.HeadFault.TheVariants.{BadValue}
-use Rattle.segment_defs.specs.declared.fault.HeadField.TheVariants.{Image}
+use Rattle.segment_defs.specs.declared.fault.HeadField.TheVariants.{PadRows, Image}
 use Rattle.segment_defs.specs.declared.head.SegmentHead.{SegmentHead}
 use Rattle.segment_defs.specs.Reading.{head_read}
 use Rattle.packet_defs.specs.declared.ancillary.Ancillary.{Ancillary}
@@ -25,11 +26,12 @@ use Rattle.stream_defs.specs.declared.fate.Fate.{Fate}
 use Rattle.stream_defs.specs.declared.fate.Fate.TheVariants.{Kept, Foreign, Late, OutOfPlace}
 use Rattle.stream_defs.specs.declared.fate.LastPart.{LastPart}
 use Rattle.stream_defs.specs.declared.fate.FateState.{FateState}
-use Rattle.stream_defs.specs.Output.{head_of, image_part, segment_of, segments_of}
-use Rattle.stream_defs.specs.Agreement.{geometry_for, same_flag, is_of_image, disagreement, head_refusal}
-use Rattle.stream_defs.specs.Fates.{fresh, differs, is_foreign, is_late, begins, follows, is_out_of_place, refusal_in, fate, is_kept, geometry_with, geometry_after, part_in, after_kept, after}
+use Rattle.stream_defs.specs.Output.{head_for, image_part, segments_of}
+use Rattle.stream_defs.specs.Agreement.{geometry_for, same_flag, is_of_image, has_blocks, ends_where_told, pads_as_told, may_have_blocks, may_end, disagreement, head_refusal, geometry_past}
+use Rattle.stream_defs.specs.Fates.{fresh, reads, tells_rows, is_past, differs, is_foreign, is_late, begins, follows, is_out_of_place, refusal_in, fate, is_kept, geometry_with, geometry_after, part_in, after_kept, after}
 use Rattle.stream_defs.specs.Places.{parts_of, packet_at, place_at, AreCoded}
-use Rattle.stream_defs.proofs.OutPackets.{written_at, block_before, part_reads, part_begins, part_closes}
+use Rattle.stream_defs.specs.StreamLaws.{geometry_by}
+use Rattle.stream_defs.proofs.OutPackets.{written_at, some_blocks, block_before, part_reads, part_begins, part_closes}
 
 -- ---- the tests in their order
 
@@ -78,6 +80,9 @@ not_least m n e = grind (arith, nat_tests)
 own_tests : (a b c d : Bool) → a ≡ true → b ≡ true → c ≡ true → d ≡ false → (not a || (not b || (not c || d))) ≡ false
 own_tests a b c d x y z u = rw (x, y, z, u) refl
 
+same_tests : (a b c d e : Bool) → a ≡ true → b ≡ true → c ≡ true → d ≡ true → e ≡ false → (not a || (not b || (not c || (not d || e)))) ≡ false
+same_tests a b c d e x y z u v = rw (x, y, z, u, v) refl
+
 flag_same : (b : Bool) → same_flag b b ≡ true
 flag_same true = refl
 flag_same false = refl
@@ -92,12 +97,17 @@ bytes_same (x ∷ xs) = rw (equal x x refl) (bytes_same xs)
 abbrev pub IsEarlier : LastPart → (index part : ℕ) → Type 0
 IsEarlier last index part = (last.index < index) ⊎ ((last.index ≡ index) × (last.part < part))
 
--- nothing was kept yet, or an earlier part of this image was kept last
-abbrev pub state_of : Geometry → LastPart → FateState
-state_of g last = record { geometry = Some g; last = Some last }
+-- what a part of an image leaves where it is kept
+abbrev pub state_by : (told_last : Bool) → Setting → LastPart → FateState
+state_by told_last s last = record { geometry = Some (geometry_by told_last s last.index); told_last = told_last; last = Some last }
 
-abbrev pub LeftBefore : Geometry → (index part : ℕ) → FateState → Type 0
-LeftBefore g index part st = (st ≡ fresh) ⊎ ((last : LastPart) × (st ≡ state_of g last) × IsEarlier last index part)
+-- nothing was kept yet, or an earlier part of this image was kept last
+abbrev pub LeftBefore : (told_last : Bool) → Setting → (index part : ℕ) → FateState → Type 0
+LeftBefore told_last s index part st = (st ≡ fresh) ⊎ ((last : LastPart) × (st ≡ state_by told_last s last) × IsEarlier last index part)
+
+-- the geometry before the last segment
+abbrev geometry_first : (told_last : Bool) → Setting → Geometry
+geometry_first told_last s = image_geometry s (if told_last then 0 else s.rows)
 
 not_late : (last : LastPart) (a : Ancillary) → IsEarlier last a.index a.part → is_late (Some last) a ≡ false
 not_late last a (inl before) = grind (arith, nat_tests)
@@ -118,8 +128,8 @@ follows_so last a index part unclosed = rw (equal a.index last.index index, equa
 same_last : {a b : LastPart} → a.index ≡ b.index → a.part ≡ b.part → a.closed ≡ b.closed → a ≡ b
 same_last index part closed = λ i. record { index = index i; part = part i; closed = closed i }
 
-same_state : {a b : FateState} → a.geometry ≡ b.geometry → a.last ≡ b.last → a ≡ b
-same_state geometry last = λ i. record { geometry = geometry i; last = last i }
+same_state : {a b : FateState} → a.geometry ≡ b.geometry → a.told_last ≡ b.told_last → a.last ≡ b.last → a ≡ b
+same_state geometry told last = λ i. record { geometry = geometry i; told_last = told i; last = last i }
 
 -- ---- the head agrees
 
@@ -137,15 +147,21 @@ last_by_blocks total S index some lt =
           equal (index + 1) (segments total S) e ∙ sym (equal (index * S + min S (total - index * S)) total (omega (arith, whole, before)))
     ]
 
-pads_last : (b : Bool) (n : ℕ) → (b && not ((if b then n else 0) == n)) ≡ false
-pads_last true n = rw (equal n n refl) refl
+pads_last : (b : Bool) (n : ℕ) → (not b || ((if b then n else 0) == n)) ≡ true
+pads_last true n = equal n n refl
 pads_last false n = refl
 
-blocks_agree : (a b : Bool) → a ≡ false → b ≡ true → (a || not b) ≡ false
-blocks_agree a b x y = rw (x, y) refl
+both : (a b : Bool) → a ≡ true → b ≡ true → (a && b) ≡ true
+both a b x y = rw (x, y) refl
 
-image_agrees : (s : Setting) → is_of_image (geometry_of s) (image_part s) ≡ true
-image_agrees s = rw (flag_same s.signed, equal s.depth s.depth refl, equal s.width s.width refl, equal s.word s.word refl) (bytes_same s.weights.shifts)
+below : (m n : ℕ) → m < n → nat_lt m n ≡ true
+below m n lt = grind (arith, nat_tests)
+
+least : (m n : ℕ) → m ≤ n → nat_le m n ≡ true
+least m n le = grind (arith, nat_tests)
+
+image_agrees : (s : Setting) (rows : ℕ) → is_of_image (image_geometry s rows) (image_part s) ≡ true
+image_agrees s rows = rw (flag_same s.signed, equal s.depth s.depth refl, equal s.width s.width refl, equal s.word s.word refl) (bytes_same s.weights.shifts)
 
 -- a head that agrees isn't refused
 refusal_at : (standing : Option Geometry) (packet : List ℕ) (a : Ancillary) (head : SegmentHead) → ancillary_in packet ≡ a → a.part ≡ 0 → head_read (text_in packet) ≡ Ok head →
@@ -156,131 +172,246 @@ refusal_at standing packet a head says first read agree =
 
 -- and makes the geometry, or leaves it
 geometry_at : (standing : Option Geometry) (packet : List ℕ) (a : Ancillary) (head : SegmentHead) → ancillary_in packet ≡ a → a.part ≡ 0 → head_read (text_in packet) ≡ Ok head →
-    geometry_after standing packet ≡ Some (geometry_for standing a head.image)
+    geometry_after standing packet ≡ Some (geometry_past (geometry_for standing a head.image) a head)
 geometry_at standing packet a head says first read =
     let test : ((ancillary_in packet).part == 0) ≡ true = ap (λ a. a.part == 0) says ∙ equal a.part 0 first in
     rw test (ap (λ b. geometry_with standing b (head_read (text_in packet))) says ∙ ap (geometry_with standing a) read)
 
-module _ (s : Setting) (all : List (List ℤ)) (coded : AreCoded s all) where
-  agrees : (index : ℕ) → index < segments_of s → disagreement (geometry_of s) (written_at s index 0) (head_of s index (segment_of s all index)) ≡ None
-  unfolding disagreement
-  agrees index lt =
-      let total = total_blocks s.width s.rows in
-      let range = coded.setting.segment in
-      let some : 0 < s.segment = omega (arith, range) in
-      let before = block_before s all coded index lt in
-      let blocks = coded.blocks index lt in
-      let head = head_of s index (segment_of s all index) in
-      let at_end : (index * s.segment + head.blocks == total) ≡ (index + 1 == segments_of s) =
-      ap (λ n. index * s.segment + n == total) blocks ∙ sym (last_by_blocks total s.segment index some lt) in
-      none_first (not (same_flag head.first (index == 0))) _ _ (ap not (flag_same (index == 0)))
-      ∙ none_first (nat_le total (index * s.segment) || not (head.blocks == min s.segment (total - index * s.segment))) _ _
-      (blocks_agree _ _ (not_least total (index * s.segment) before) (equal head.blocks (min s.segment (total - index * s.segment)) blocks))
-      ∙ none_first (not (same_flag head.last (index * s.segment + head.blocks == total))) _ _
-      (ap (λ b. not (same_flag (index + 1 == segments_of s) b)) at_end ∙ ap not (flag_same (index + 1 == segments_of s)))
-      ∙ none_first (not (index % 256 == index % 256)) _ _ (ap not (equal (index % 256) (index % 256) refl))
-      ∙ none_first (head.last && not (head.pad_rows == padded_size s.rows - s.rows)) _ _ (pads_last (index + 1 == segments_of s) (padded_size s.rows - s.rows))
-      ∙ none_first (not (is_of_image (geometry_of s) head.image)) (BadValue Image) [] (ap not (image_agrees s))
+-- ---- the height that the last head tells
 
-  own : (st : FateState) (index part : ℕ) → index < segments_of s → LeftBefore (geometry_of s) index part st → is_foreign st (written_at s index part) ≡ false
+more_after : (m n : ℕ) → m < n → (m + 1 == n) ≡ false → m + 1 < n
+more_after m n lt e = grind (arith, nat_tests)
+
+equal_so : (m n : ℕ) → (m == n) ≡ true → m ≡ n
+equal_so m n e = grind (arith, nat_tests)
+
+-- the last segment ends the image's block rows, and what is left without the rows that pad is its height
+ends_rows : (columns rows : ℕ) → 0 < columns → (columns * block_count rows) % columns ≡ 0 × (8 * ((columns * block_count rows) / columns) - (padded_size rows - rows) ≡ rows)
+ends_rows columns rows some =
+    let whole : (columns * block_count rows) / columns ≡ block_count rows = mul-div_cancel_left (block_count rows) some in
+    (mul-mod_right columns (block_count rows), omega (arith, whole))
+
+module _ (s : Setting) (all : List (List ℤ)) (coded : AreCoded s all) (index : ℕ) (lt : index < segments_of s) where
+  some_columns : 0 < block_count s.width
+  some_columns = let width = coded.setting.width in let three = three-le-block_count s.width width.0 in omega (arith, three)
+
+  blocks_are : (head_for s all index).blocks ≡ min s.segment (total_blocks s.width s.rows - index * s.segment)
+  blocks_are = coded.blocks index lt
+
+  last_is : (index + 1 == segments_of s) ≡ (index * s.segment + (head_for s all index).blocks == total_blocks s.width s.rows)
+  last_is = last_by_blocks (total_blocks s.width s.rows) s.segment index (some_blocks s all coded) lt ∙ ap (λ n. index * s.segment + n == total_blocks s.width s.rows) (sym blocks_are)
+
+  -- where the packets tell the height
+  agrees_told : disagreement (image_geometry s s.rows) (written_at false s index 0) (head_for s all index) ≡ None
+  unfolding disagreement
+  agrees_told =
+      let head = head_for s all index in
+      let g = image_geometry s s.rows in
+      let a = written_at false s index 0 in
+      let before = block_before s all coded index lt in
+      none_first (not (same_flag head.first (index == 0))) _ _ (ap not (flag_same (index == 0)))
+      ∙ none_first (not (has_blocks g a head)) _ _
+      (ap not (both _ _ (below (index * s.segment) (total_blocks s.width s.rows) before) (equal head.blocks (min s.segment (total_blocks s.width s.rows - index * s.segment)) blocks_are)))
+      ∙ none_first (not (ends_where_told g a head)) _ _ (ap not (ap (same_flag head.last) (sym last_is) ∙ flag_same (index + 1 == segments_of s)))
+      ∙ none_first (not (index % 256 == index % 256)) _ _ (ap not (equal (index % 256) (index % 256) refl))
+      ∙ none_first (not (pads_as_told g head)) _ _ (ap not (pads_last (index + 1 == segments_of s) (padded_size s.rows - s.rows)))
+      ∙ none_first (not (is_of_image g head.image)) (BadValue Image) [] (ap not (image_agrees s s.rows))
+
+  -- where it is told last: by whether this segment is the last one
+  told_blocks : (last : Bool) → (index + 1 == segments_of s) ≡ last → (if last then nat_le 1 (head_for s all index).blocks && nat_le (head_for s all index).blocks s.segment else (head_for s all index).blocks == s.segment) ≡ true
+  told_blocks true e =
+      let before = block_before s all coded index lt in
+      let some = some_blocks s all coded in
+      both _ _ (least 1 (head_for s all index).blocks (omega (arith, blocks_are, before, some))) (least (head_for s all index).blocks s.segment (omega (arith, blocks_are)))
+  told_blocks false e =
+      let more : index + 1 < segments_of s = more_after index (segments_of s) lt e in
+      let next : (index + 1) * s.segment < total_blocks s.width s.rows = first_block-lt (total_blocks s.width s.rows) s.segment (index + 1) (some_blocks s all coded) more in
+      equal (head_for s all index).blocks s.segment (omega (arith, blocks_are, next))
+
+  ends_last : (index + 1 == segments_of s) ≡ true → index * s.segment + (head_for s all index).blocks ≡ block_count s.width * block_count s.rows
+  ends_last e = equal_so (index * s.segment + (head_for s all index).blocks) (total_blocks s.width s.rows) (sym last_is ∙ e)
+
+  height_told : (index + 1 == segments_of s) ≡ true → 8 * ((index * s.segment + (head_for s all index).blocks) / block_count s.width) - (padded_size s.rows - s.rows) ≡ s.rows
+  height_told e = ap (λ n. 8 * (n / block_count s.width) - (padded_size s.rows - s.rows)) (ends_last e) ∙ (ends_rows (block_count s.width) s.rows some_columns).1
+
+  told_end : (last : Bool) → (index + 1 == segments_of s) ≡ last →
+      (if last
+      then ((index * s.segment + (head_for s all index).blocks) % block_count s.width == 0)
+      && is_within rows_range (8 * ((index * s.segment + (head_for s all index).blocks) / block_count s.width) - (if last then padded_size s.rows - s.rows else 0))
+      else nat_lt (index * s.segment + s.segment) (32768 * block_count s.width)) ≡ true
+  told_end true e =
+      both _ _
+      (equal ((index * s.segment + (head_for s all index).blocks) % block_count s.width) 0 (ap (λ n. n % block_count s.width) (ends_last e) ∙ (ends_rows (block_count s.width) s.rows some_columns).0))
+      (ap (is_within rows_range) (height_told e) ∙ within rows_range s.rows coded.rows)
+  told_end false e =
+      let more : index + 1 < segments_of s = more_after index (segments_of s) lt e in
+      let next : (index + 1) * s.segment < total_blocks s.width s.rows = first_block-lt (total_blocks s.width s.rows) s.segment (index + 1) (some_blocks s all coded) more in
+      let tall : block_count s.rows ≤ 2 ^ 15 = block_count-rows s.rows coded.rows in
+      let most : block_count s.width * block_count s.rows ≤ block_count s.width * 2 ^ 15 = mul-le-mul_left (block_count s.width) tall in
+      below (index * s.segment + s.segment) (32768 * block_count s.width) (omega (arith, next, most))
+
+  agrees_last : disagreement (image_geometry s 0) (written_at true s index 0) (head_for s all index) ≡ None
+  unfolding disagreement
+  agrees_last =
+      let head = head_for s all index in
+      let g = image_geometry s 0 in
+      let a = written_at true s index 0 in
+      none_first (not (same_flag head.first (index == 0))) _ _ (ap not (flag_same (index == 0)))
+      ∙ none_first (not (may_have_blocks g head)) _ _ (ap not (told_blocks (index + 1 == segments_of s) refl))
+      ∙ none_first (not (may_end g a head)) _ _ (ap not (told_end (index + 1 == segments_of s) refl))
+      ∙ none_first (not (index % 256 == index % 256)) _ _ (ap not (equal (index % 256) (index % 256) refl))
+      ∙ none_first (not (true || pads_as_told g head)) (BadValue PadRows) (when (not (is_of_image g head.image)) (BadValue Image) ∷ []) refl
+      ∙ none_first (not (is_of_image g head.image)) (BadValue Image) [] (ap not (image_agrees s 0))
+
+  pub agrees : (told_last : Bool) → disagreement (geometry_first told_last s) (written_at told_last s index 0) (head_for s all index) ≡ None
+  agrees true = agrees_last
+  agrees false = agrees_told
+
+  -- the geometry once the head is kept
+  past_by : (last : Bool) → (index + 1 == segments_of s) ≡ last →
+      (if last then image_geometry s (8 * ((index * s.segment + (head_for s all index).blocks) / block_count s.width) - (if last then padded_size s.rows - s.rows else 0)) else image_geometry s 0)
+      ≡ image_geometry s (if not last then 0 else s.rows)
+  past_by true e = ap (image_geometry s) (height_told e)
+  past_by false e = refl
+
+  pub past : (told_last : Bool) → geometry_past (geometry_first told_last s) (written_at told_last s index 0) (head_for s all index) ≡ geometry_by told_last s index
+  past true = past_by (index + 1 == segments_of s) refl
+  past false = refl
+
+module _ (told_last : Bool) (s : Setting) (all : List (List ℤ)) (coded : AreCoded s all) (read : reads told_last ≡ true) where
+  tells : (told : Bool) → reads told ≡ true → (reads told && (if told then (if told then 0 else s.rows) == 0 else is_within rows_range (if told then 0 else s.rows))) ≡ true
+  tells told are = both (reads told) _ are (by told)
+    where
+      by : (told : Bool) → (if told then (if told then 0 else s.rows) == 0 else is_within rows_range (if told then 0 else s.rows)) ≡ true
+      by true = equal 0 0 refl
+      by false = within rows_range s.rows coded.rows
+
+  -- the rows field is as before, and the block isn't past the last one
+  same_rows : (told over : Bool) → ((if told then 0 else s.rows) == (if told then 0 else (if told && over then 0 else s.rows))) ≡ true
+  same_rows true over = equal 0 0 refl
+  same_rows false over = equal s.rows s.rows refl
+
+  not_past : (over : Bool) (index part : ℕ) → index < segments_of s → is_past (image_geometry s (if over then 0 else s.rows)) (written_at told_last s index part) ≡ false
+  not_past true index part lt = refl
+  not_past false index part lt =
+      let far = not_least (total_blocks s.width s.rows) (index * s.segment) (block_before s all coded index lt) in
+      and_false (not (s.rows == 0)) _ far
+    where
+      and_false : (a b : Bool) → b ≡ false → (a && b) ≡ false
+      and_false true b e = e
+      and_false false b e = refl
+
+  own : (st : FateState) (index part : ℕ) → index < segments_of s → LeftBefore told_last s index part st → is_foreign st (written_at told_last s index part) ≡ false
   own st index part lt left =
       let range = coded.setting in
-      own_tests (is_within rows_range s.rows) (is_within segment_range s.segment) (index * s.segment == index * s.segment) (differs st.geometry (written_at s index part))
-      (within rows_range s.rows range.rows) (within segment_range s.segment range.segment) (equal (index * s.segment) (index * s.segment) refl)
+      let a = written_at told_last s index part in
+      own_tests (tells_rows a) (is_within segment_range s.segment) (index * s.segment == index * s.segment) (differs st.geometry st.told_last a)
+      (tells told_last read) (within segment_range s.segment range.segment) (equal (index * s.segment) (index * s.segment) refl)
       (elim left [
-        | inl none ↦ ap (λ st. differs st.geometry (written_at s index part)) none
-        | inr kept ↦ ap (λ st. differs st.geometry (written_at s index part)) kept.1
-            ∙ own_tests (s.image == s.image) (s.rows == s.rows) (s.segment == s.segment) (nat_le (total_blocks s.width s.rows) (index * s.segment))
-            (equal s.image s.image refl) (equal s.rows s.rows refl) (equal s.segment s.segment refl)
-            (not_least (total_blocks s.width s.rows) (index * s.segment) (block_before s all coded index lt))
+        | inl none ↦ ap (λ st. differs st.geometry st.told_last a) none
+        | inr kept ↦
+            let over = told_last && not (kept.0.index + 1 == segments_of s) in
+            ap (λ st. differs st.geometry st.told_last a) kept.1
+            ∙ same_tests (same_flag told_last told_last) (s.image == s.image) _ (s.segment == s.segment) _
+            (flag_same told_last) (equal s.image s.image refl) (same_rows told_last (not (kept.0.index + 1 == segments_of s))) (equal s.segment s.segment refl)
+            (not_past over index part lt)
       ])
 
-  early : (st : FateState) (index part : ℕ) → LeftBefore (geometry_of s) index part st → is_late st.last (written_at s index part) ≡ false
+  early : (st : FateState) (index part : ℕ) → LeftBefore told_last s index part st → is_late st.last (written_at told_last s index part) ≡ false
   early st index part left = elim left [
-    | inl none ↦ ap (λ st. is_late st.last (written_at s index part)) none
-    | inr kept ↦ ap (λ st. is_late st.last (written_at s index part)) kept.1 ∙ not_late kept.0 (written_at s index part) kept.2
+    | inl none ↦ ap (λ st. is_late st.last (written_at told_last s index part)) none
+    | inr kept ↦ ap (λ st. is_late st.last (written_at told_last s index part)) kept.1 ∙ not_late kept.0 (written_at told_last s index part) kept.2
   ]
 
-  -- the geometry for its head is the setting's
-  geometry_here : (st : FateState) (index part : ℕ) → LeftBefore (geometry_of s) index part st → geometry_for st.geometry (written_at s index part) (image_part s) ≡ geometry_of s
-  geometry_here st index part left = elim left [
-    | inl none ↦ ap (λ st. geometry_for st.geometry (written_at s index part) (image_part s)) none
-    | inr kept ↦ ap (λ st. geometry_for st.geometry (written_at s index part) (image_part s)) kept.1
+  -- the geometry for the head of a segment is the one before the last segment
+  geometry_here : (st : FateState) (index : ℕ) → index < segments_of s → LeftBefore told_last s index 0 st → geometry_for st.geometry (written_at told_last s index 0) (image_part s) ≡ geometry_first told_last s
+  geometry_here st index lt left = elim left [
+    | inl none ↦ ap (λ st. geometry_for st.geometry (written_at told_last s index 0) (image_part s)) none
+    | inr kept ↦ ap (λ st. geometry_for st.geometry (written_at told_last s index 0) (image_part s)) kept.1 ∙ by_place kept.0 kept.2
   ]
+    where
+      before_last : (last : LastPart) → last.index < index → (told : Bool) → geometry_by told s last.index ≡ geometry_first told s
+      before_last last less true = let e : (last.index + 1 == segments_of s) ≡ false = apart (last.index + 1) (segments_of s) (λ e. omega (arith, e, less, lt)) in ap (λ b. image_geometry s (if not b then 0 else s.rows)) e
+      before_last last less false = refl
+
+      by_place : (last : LastPart) → IsEarlier last index 0 → geometry_by told_last s last.index ≡ geometry_first told_last s
+      by_place last (inl less) = before_last last less told_last
+      by_place last (inr here) = absurd (let none = here.1 in omega (arith, none))
 
   -- ---- the fates
 
   -- the first part of a segment is kept
-  pub first_kept : (st : FateState) (index : ℕ) → index < segments_of s → 0 < parts_of s all index → LeftBefore (geometry_of s) index 0 st →
-      fate s.apid st (packet_at s all index 0) ≡ Kept
+  pub first_kept : (st : FateState) (index : ℕ) → index < segments_of s → 0 < parts_of s all index → LeftBefore told_last s index 0 st →
+      fate s.apid st (packet_at told_last s all index 0) ≡ Kept
   first_kept st index lt some left =
-      let packet = packet_at s all index 0 in
-      let reads = part_reads s all coded index 0 lt some in
+      let packet = packet_at told_last s all index 0 in
+      let reads = part_reads told_last s all coded index 0 lt some in
       let says = reads.ancillary_is in
       let read = ap head_read reads.text_is ∙ coded.heads index lt in
-      let agree = ap (λ g. disagreement g (written_at s index 0) (head_of s index (segment_of s all index))) (geometry_here st index 0 left) ∙ agrees index lt in
-      let head : refusal_in st.geometry packet ≡ None = refusal_at st.geometry packet (written_at s index 0) (head_of s index (segment_of s all index)) says refl read agree in
+      let agree = ap (λ g. disagreement g (written_at told_last s index 0) (head_for s all index)) (geometry_here st index lt left) ∙ agrees s all coded index lt told_last in
+      let head : refusal_in st.geometry packet ≡ None = refusal_at st.geometry packet (written_at told_last s index 0) (head_for s all index) says refl read agree in
       kept_by s.apid st packet reads.mine
       (ap (is_foreign st) says ∙ own st index 0 lt left)
       (ap (is_late st.last) says ∙ early st index 0 left)
-      (first_placed st.last (flags_in packet) (ancillary_in packet) (ap (λ a. a.part) says) (part_begins s all coded index 0 lt some ∙ equal 0 0 refl))
+      (first_placed st.last (flags_in packet) (ancillary_in packet) (ap (λ a. a.part) says) (part_begins told_last s all coded index 0 lt some ∙ equal 0 0 refl))
       head
 
   -- a further part is kept where it follows
   pub next_kept : (index part : ℕ) → index < segments_of s → part + 1 < parts_of s all index →
-      fate s.apid (state_of (geometry_of s) (place_at s all index part)) (packet_at s all index (part + 1)) ≡ Kept
+      fate s.apid (state_by told_last s (place_at s all index part)) (packet_at told_last s all index (part + 1)) ≡ Kept
   next_kept index part lt few =
-      let packet = packet_at s all index (part + 1) in
-      let st = state_of (geometry_of s) (place_at s all index part) in
-      let reads = part_reads s all coded index (part + 1) lt few in
+      let packet = packet_at told_last s all index (part + 1) in
+      let st = state_by told_last s (place_at s all index part) in
+      let reads = part_reads told_last s all coded index (part + 1) lt few in
       let says = reads.ancillary_is in
-      let left : LeftBefore (geometry_of s) index (part + 1) st = inr (place_at s all index part, refl, inr (refl, omega arith)) in
+      let left : LeftBefore told_last s index (part + 1) st = inr (place_at s all index part, refl, inr (refl, omega arith)) in
       let zero : (part + 1 == 0) ≡ false = apart (part + 1) 0 (λ e. omega (arith, e)) in
       let further : ((ancillary_in packet).part == 0) ≡ false = ap (λ a. a.part == 0) says ∙ zero in
       let unclosed : (part + 1 == parts_of s all index) ≡ false = apart (part + 1) (parts_of s all index) (λ e. omega (arith, e, few)) in
       kept_by s.apid st packet reads.mine
       (ap (is_foreign st) says ∙ own st index (part + 1) lt left)
       (ap (is_late st.last) says ∙ early st index (part + 1) left)
-      (next_placed (place_at s all index part) (flags_in packet) (ancillary_in packet) further (part_begins s all coded index (part + 1) lt few ∙ zero)
-      (ap (follows st.last) says ∙ follows_so (place_at s all index part) (written_at s index (part + 1)) refl refl unclosed))
+      (next_placed (place_at s all index part) (flags_in packet) (ancillary_in packet) further (part_begins told_last s all coded index (part + 1) lt few ∙ zero)
+      (ap (follows st.last) says ∙ follows_so (place_at s all index part) (written_at told_last s index (part + 1)) refl refl unclosed))
       (rw further refl)
 
   -- and isn't where it doesn't
-  pub gap_not_kept : (st : FateState) (index part : ℕ) → index < segments_of s → part + 1 < parts_of s all index → LeftBefore (geometry_of s) index (part + 1) st →
-      follows st.last (written_at s index (part + 1)) ≡ false → fate s.apid st (packet_at s all index (part + 1)) ≡ OutOfPlace
+  pub gap_not_kept : (st : FateState) (index part : ℕ) → index < segments_of s → part + 1 < parts_of s all index → LeftBefore told_last s index (part + 1) st →
+      follows st.last (written_at told_last s index (part + 1)) ≡ false → fate s.apid st (packet_at told_last s all index (part + 1)) ≡ OutOfPlace
   gap_not_kept st index part lt few left gap =
-      let packet = packet_at s all index (part + 1) in
-      let reads = part_reads s all coded index (part + 1) lt few in
+      let packet = packet_at told_last s all index (part + 1) in
+      let reads = part_reads told_last s all coded index (part + 1) lt few in
       let says = reads.ancillary_is in
       let zero : (part + 1 == 0) ≡ false = apart (part + 1) 0 (λ e. omega (arith, e)) in
       misplaced_by s.apid st packet reads.mine
       (ap (is_foreign st) says ∙ own st index (part + 1) lt left)
       (ap (is_late st.last) says ∙ early st index (part + 1) left)
-      (gap_misplaced st.last (flags_in packet) (ancillary_in packet) (ap (λ a. a.part == 0) says ∙ zero) (part_begins s all coded index (part + 1) lt few ∙ zero)
+      (gap_misplaced st.last (flags_in packet) (ancillary_in packet) (ap (λ a. a.part == 0) says ∙ zero) (part_begins told_last s all coded index (part + 1) lt few ∙ zero)
       (ap (follows st.last) says ∙ gap))
 
   -- ---- what they leave
 
-  same_part : (index part : ℕ) → index < segments_of s → part < parts_of s all index → part_in (packet_at s all index part) ≡ place_at s all index part
+  same_part : (index part : ℕ) → index < segments_of s → part < parts_of s all index → part_in (packet_at told_last s all index part) ≡ place_at s all index part
   same_part index part lt few =
-      let says = (part_reads s all coded index part lt few).ancillary_is in
-      same_last (ap (λ a. a.index) says) (ap (λ a. a.part) says) (part_closes s all coded index part lt few)
+      let says = (part_reads told_last s all coded index part lt few).ancillary_is in
+      same_last (ap (λ a. a.index) says) (ap (λ a. a.part) says) (part_closes told_last s all coded index part lt few)
 
-  pub first_leaves : (st : FateState) (index : ℕ) → index < segments_of s → 0 < parts_of s all index → LeftBefore (geometry_of s) index 0 st →
-      after s.apid st (packet_at s all index 0) ≡ state_of (geometry_of s) (place_at s all index 0)
+  pub first_leaves : (st : FateState) (index : ℕ) → index < segments_of s → 0 < parts_of s all index → LeftBefore told_last s index 0 st →
+      after s.apid st (packet_at told_last s all index 0) ≡ state_by told_last s (place_at s all index 0)
   first_leaves st index lt some left =
-      let packet = packet_at s all index 0 in
-      let reads = part_reads s all coded index 0 lt some in
+      let packet = packet_at told_last s all index 0 in
+      let reads = part_reads told_last s all coded index 0 lt some in
       let read = ap head_read reads.text_is ∙ coded.heads index lt in
-      let geometry : geometry_after st.geometry packet ≡ Some (geometry_of s) =
-      geometry_at st.geometry packet (written_at s index 0) (head_of s index (segment_of s all index)) reads.ancillary_is refl read ∙ ap Some (geometry_here st index 0 left) in
-      after_as_kept s.apid st packet (first_kept st index lt some left) ∙ same_state geometry (ap Some (same_part index 0 lt some))
+      let geometry : geometry_after st.geometry packet ≡ Some (geometry_by told_last s index) =
+      geometry_at st.geometry packet (written_at told_last s index 0) (head_for s all index) reads.ancillary_is refl read
+      ∙ ap (λ g. Some (geometry_past g (written_at told_last s index 0) (head_for s all index))) (geometry_here st index lt left) ∙ ap Some (past s all coded index lt told_last) in
+      after_as_kept s.apid st packet (first_kept st index lt some left) ∙ same_state geometry (ap (λ a. a.told_last) reads.ancillary_is) (ap Some (same_part index 0 lt some))
 
   pub next_leaves : (index part : ℕ) → index < segments_of s → part + 1 < parts_of s all index →
-      after s.apid (state_of (geometry_of s) (place_at s all index part)) (packet_at s all index (part + 1)) ≡ state_of (geometry_of s) (place_at s all index (part + 1))
+      after s.apid (state_by told_last s (place_at s all index part)) (packet_at told_last s all index (part + 1)) ≡ state_by told_last s (place_at s all index (part + 1))
   next_leaves index part lt few =
-      let packet = packet_at s all index (part + 1) in
-      let st = state_of (geometry_of s) (place_at s all index part) in
-      let says = (part_reads s all coded index (part + 1) lt few).ancillary_is in
+      let packet = packet_at told_last s all index (part + 1) in
+      let st = state_by told_last s (place_at s all index part) in
+      let says = (part_reads told_last s all coded index (part + 1) lt few).ancillary_is in
       let further : ((ancillary_in packet).part == 0) ≡ false = ap (λ a. a.part == 0) says ∙ apart (part + 1) 0 (λ e. omega (arith, e)) in
-      after_as_kept s.apid st packet (next_kept index part lt few) ∙ same_state (rw further refl) (ap Some (same_part index (part + 1) lt few))
+      after_as_kept s.apid st packet (next_kept index part lt few) ∙ same_state (rw further refl) (ap (λ a. a.told_last) says) (ap Some (same_part index (part + 1) lt few))

@@ -14,13 +14,12 @@ use Rattle.wave_defs.proofs.BlockLaws.{length-blocks, get_or-blocks}
 use Rattle.wave_defs.proofs.BlockPlaces.{SamePyramid-block, block-same}
 use Rattle.wave_defs.proofs.ForwardReach.{images-known}
 use Rattle.wave_defs.proofs.PyramidLaws.{pyramid-same}
-use Rattle.base_122.specs.Ranges.{IsInRange}
+use Rattle.base_122.specs.Ranges.{IsInRange, IsWithin, rows_range}
 use Rattle.base_122.specs.Sizes.{block_count, total_blocks}
 use Rattle.base_122.specs.declared.setting.Setting.{Setting}
 use Rattle.base_122.proofs.SizeBounds.{three-le-block_count}
-use Rattle.stream_defs.specs.Output.{image_blocks, packets_of, segments_of}
+use Rattle.stream_defs.specs.Output.{image_blocks, segments_of}
 use Rattle.stream_defs.specs.Settled.{last_block_row, is_settled, settled, BlocksAgree}
-use Rattle.stream_defs.proofs.SettledLaws.{settled_same}
 
 -- ---- the blocks
 
@@ -43,7 +42,7 @@ image_block s x b d lt =
     let total : r * c ≡ c * r = grind arith in
     get_or-blocks (pyramid (padded x s.rows s.width) r c) s.weights.shifts r c b d (omega (arith, total, lt))
 
-module _ (s : Setting) (range : IsInRange s) where
+module _ (s : Setting) (range : IsInRange s) (tall : IsWithin rows_range s.rows) where
   some_columns : 3 ≤ block_count s.width
   some_columns = three-le-block_count s.width range.width.0
 
@@ -54,7 +53,7 @@ module _ (s : Setting) (range : IsInRange s) where
       let total : c * block_count s.rows ≡ block_count s.rows * c = grind arith in
       (div-lt_iff_lt-mul {k = c} {x = b} {y = block_count s.rows} some).1 (omega (arith, lt, total))
 
-  total_above : (b : ℕ) → b / block_count s.width < block_count s.rows → b < total_blocks s.width s.rows
+  pub total_above : (b : ℕ) → b / block_count s.width < block_count s.rows → b < total_blocks s.width s.rows
   total_above b lt =
       let c = block_count s.width in
       let some : 0 < c = omega (arith, some_columns) in
@@ -80,7 +79,7 @@ module _ (s : Setting) (range : IsInRange s) where
   padded_whole : (x y : ℕ → ℕ → ℤ) → SameWithin s.rows s.width x y → SameWithin (8 * block_count s.rows) (8 * block_count s.width) (padded x s.rows s.width) (padded y s.rows s.width)
   padded_whole x y same = record {
     at = λ i j hi hj.
-        let rows = range.rows.0 in
+        let rows = tall.0 in
         let width = range.width.0 in
         same.at (min i (s.rows - 1)) (min j (s.width - 1)) (omega (arith, rows)) (omega (arith, width));
   }
@@ -90,7 +89,7 @@ module _ (s : Setting) (range : IsInRange s) where
       let r = block_count s.rows in
       let c = block_count s.width in
       let three = some_columns in
-      let tall = three-le-block_count s.rows range.rows.0 in
+      let tall = three-le-block_count s.rows tall.0 in
       let pyramids = pyramid-same r c (padded x s.rows s.width) (padded y s.rows s.width) (omega (arith, tall)) (omega (arith, three)) (padded_whole x y same) in
       same_lists (image_blocks s x) (image_blocks s y) (length-image_blocks s x ∙ sym (length-image_blocks s y))
       (λ b d hb.
@@ -106,10 +105,6 @@ module _ (s : Setting) (range : IsInRange s) where
     at = λ b near. blocks_known k x y b le same near;
     whole = λ e. blocks_whole x y (subst (λ n. SameWithin n s.width x y) e same);
   }
-
-  pub images_settle : (k : ℕ) (x y : ℕ → ℕ → ℤ) → k ≤ s.rows → SameWithin k s.width x y →
-      packets_of s (image_blocks s x) (settled s k) ≡ packets_of s (image_blocks s y) (settled s k)
-  images_settle k x y le same = settled_same s range k (image_blocks s x) (image_blocks s y) (length-image_blocks s x) (blocks_agree k x y le same)
 
 -- ---- how many are settled
 
@@ -140,19 +135,22 @@ count_all p (suc n) a each =
     one true e = (omega arith, omega arith)
     one false e = absurd cc
 
-pub settled_rises : (s : Setting) (k l : ℕ) → k ≤ l → l ≤ s.rows → settled s k ≤ settled s l
+pub settled_rises : (told_last : Bool) (s : Setting) (k l : ℕ) → k ≤ l → l ≤ s.rows → settled told_last s k ≤ settled told_last s l
 unfolding settled
-settled_rises s k l le most = count_rises (is_settled s k) (is_settled s l) (segments_of s) 0 (λ i e. later i (k == s.rows) (nat_lt (8 * last_block_row s i + 28) k) refl refl e)
+settled_rises told_last s k l le most = count_rises (is_settled told_last s k) (is_settled told_last s l) (segments_of s) 0 (λ i e. later i told_last e)
   where
-    later : (i : ℕ) (a b : Bool) → (k == s.rows) ≡ a → nat_lt (8 * last_block_row s i + 28) k ≡ b → (a || b) ≡ true → is_settled s l i ≡ true
-    later i true b e f g = let h : (l == s.rows) ≡ true = grind (arith, nat_tests) in rw h refl
-    later i false true e f g = far i (l == s.rows) (let h : nat_lt (8 * last_block_row s i + 28) l ≡ true = grind (arith, nat_tests) in h)
-      where
-        far : (i : ℕ) (a : Bool) → nat_lt (8 * last_block_row s i + 28) l ≡ true → (a || nat_lt (8 * last_block_row s i + 28) l) ≡ true
-        far i true h = refl
-        far i false h = h
-    later i false false e f g = absurd cc
+    far : (i : ℕ) (a : Bool) → nat_lt (8 * last_block_row s i + 28) k ≡ true → (a || nat_lt (8 * last_block_row s i + 28) l) ≡ true
+    far i true h = refl
+    far i false h = grind (arith, nat_tests)
 
-pub settled_whole : (s : Setting) → settled s s.rows ≡ segments_of s
+    by_rows : (i : ℕ) (a : Bool) → (k == s.rows) ≡ a → (a || nat_lt (8 * last_block_row s i + 28) k) ≡ true → ((l == s.rows) || nat_lt (8 * last_block_row s i + 28) l) ≡ true
+    by_rows i true e f = let h : (l == s.rows) ≡ true = grind (arith, nat_tests) in rw h refl
+    by_rows i false e f = far i (l == s.rows) f
+
+    later : (i : ℕ) (told : Bool) → is_settled told s k i ≡ true → is_settled told s l i ≡ true
+    later i true e = far i false e
+    later i false e = by_rows i (k == s.rows) refl e
+
+pub settled_whole : (s : Setting) → settled false s s.rows ≡ segments_of s
 unfolding settled
-settled_whole s = count_all (is_settled s s.rows) (segments_of s) 0 (λ i. let h : (s.rows == s.rows) ≡ true = grind (arith, nat_tests) in rw h refl)
+settled_whole s = count_all (is_settled false s s.rows) (segments_of s) 0 (λ i. let h : (s.rows == s.rows) ≡ true = grind (arith, nat_tests) in rw h refl)

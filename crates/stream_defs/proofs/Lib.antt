@@ -9,4 +9,7 @@ pub mod WholeStreams
 pub mod DamageLaws
 pub mod SettledLaws
 pub mod ImageLaws
+pub mod HeightLaws
 pub mod KeptOrder
+pub mod ShareLaws
+pub mod Small

@@ -1,8 +1,9 @@
 -- What a packet of an image says, by its place.
-use Rattle.std.proofs.Common.{inl, inr, ◌≡◌, ◌≤◌, ◌<◌, ◌+◌, ◌-◌, ◌*◌, ◌/◌, ℕ, ℤ, List, length, drop, refl, ap, ◌∙◌, arith, length-take}
+use Rattle.std.proofs.Common.{inl, inr, ◌≡◌, ◌≤◌, ◌<◌, ◌+◌, ◌-◌, ◌*◌, ◌/◌, ◌^◌, ℕ, ℤ, List, length, drop, refl, ap, ◌∙◌, arith, length-take}
 use Rattle.std.specs.Prelude.{Bool, true, false, ◌==◌, if◌then◌else◌}
 use Rattle.std.proofs.lemmas.Bool.{cases_lt}
 use Rattle.std.proofs.Math.Nat.{div-mul-le_self, mul-le-mul_left, mul-le-mul_right}
+use Rattle.base_122.specs.Ranges.{IsWithin, rows_range}
 use Rattle.base_122.specs.Sizes.{total_blocks}
 use Rattle.base_122.specs.declared.setting.Setting.{Setting}
 use Rattle.base_122.proofs.SizeBounds.{first_block-lt, total_blocks-most}
@@ -17,8 +18,8 @@ use Rattle.stream_defs.specs.Places.{parts_of, packet_at, AreCoded}
 use Rattle.stream_defs.specs.Fates.{begins, closes}
 
 -- what is written in the packet of a part
-abbrev pub written_at : Setting → (index part : ℕ) → Ancillary
-written_at s index part = record (ancillary_of s index) { part = part }
+abbrev pub written_at : (told_last : Bool) → Setting → (index part : ℕ) → Ancillary
+written_at told_last s index part = record (ancillary_of told_last s index) { part = part }
 
 flags_say : (first last : Bool) → begins ((if first then 1 else 0) + (if last then 2 else 0)) ≡ first
 flags_say true true = refl
@@ -52,27 +53,32 @@ few_parts size octets some =
     ]
 
 module _ (s : Setting) (all : List (List ℤ)) (coded : AreCoded s all) where
-  some_blocks : 0 < s.segment
+  pub some_blocks : 0 < s.segment
   some_blocks = let range = coded.setting.segment in omega (arith, range)
 
   pub block_before : (index : ℕ) → index < segments_of s → index * s.segment < total_blocks s.width s.rows
   block_before index lt = first_block-lt (total_blocks s.width s.rows) s.segment index some_blocks lt
 
-  fits : (index part : ℕ) → index < segments_of s → part < parts_of s all index → IsAncillary (written_at s index part)
+module _ (told_last : Bool) (s : Setting) (all : List (List ℤ)) (coded : AreCoded s all) where
+  rows_fit : (told : Bool) → IsWithin rows_range s.rows → (if told then 0 else s.rows) < 2 ^ 32
+  rows_fit true rows = omega arith
+  rows_fit false rows = omega (arith, rows)
+
+  fits : (index part : ℕ) → index < segments_of s → part < parts_of s all index → IsAncillary (written_at told_last s index part)
   fits index part lt few =
       let r = coded.setting in
       let image = r.image in
-      let rows = r.rows in
+      let rows = coded.rows in
       let segment = r.segment in
       let packet = r.packet in
-      let before = block_before index lt in
-      let most = total_blocks-most s.width s.rows r.width r.rows in
+      let before = block_before s all coded index lt in
+      let most = total_blocks-most s.width s.rows r.width rows in
       let least : index * 1 ≤ index * s.segment = mul-le-mul_left {m = 1} {n = s.segment} index (omega (arith, segment)) in
       let long = coded.long index lt in
       let parts = few_parts (part_size s.packet) (length (segment_text s all index)) (omega (arith, packet)) in
       record {
         image = omega (arith, image);
-        rows = omega (arith, rows);
+        rows = rows_fit told_last rows;
         segment = omega (arith, segment);
         index = omega (arith, least, before, most);
         first = omega (arith, before, most);
@@ -81,11 +87,11 @@ module _ (s : Setting) (all : List (List ℤ)) (coded : AreCoded s all) where
 
   -- the packet of a part is read as it was written
   pub part_reads : (index part : ℕ) → index < segments_of s → part < parts_of s all index →
-      ReadsBack s.apid (sequence_flags part (parts_of s all index)) (written_at s index part) (part_of (part_size s.packet) part (segment_text s all index)) (packet_at s all index part)
+      ReadsBack s.apid (sequence_flags part (parts_of s all index)) (written_at told_last s index part) (part_of (part_size s.packet) part (segment_text s all index)) (packet_at told_last s all index part)
   part_reads index part lt few =
       let apid = coded.setting.apid in
       let packet = coded.setting.packet in
-      reads_back s.apid (sequence_flags part (parts_of s all index)) (packets_before s all index + part) (written_at s index part)
+      reads_back s.apid (sequence_flags part (parts_of s all index)) (packets_before s all index + part) (written_at told_last s index part)
       (part_of (part_size s.packet) part (segment_text s all index)) record {
         own = omega (arith, apid);
         few_flags = flags_few (part == 0) (part + 1 == parts_of s all index);
@@ -94,8 +100,8 @@ module _ (s : Setting) (all : List (List ℤ)) (coded : AreCoded s all) where
       }
 
   -- its flags say whether it is the first and whether it is the last
-  pub part_begins : (index part : ℕ) → index < segments_of s → part < parts_of s all index → begins (flags_in (packet_at s all index part)) ≡ (part == 0)
+  pub part_begins : (index part : ℕ) → index < segments_of s → part < parts_of s all index → begins (flags_in (packet_at told_last s all index part)) ≡ (part == 0)
   part_begins index part lt few = ap begins (part_reads index part lt few).flags_are ∙ flags_say (part == 0) (part + 1 == parts_of s all index)
 
-  pub part_closes : (index part : ℕ) → index < segments_of s → part < parts_of s all index → closes (flags_in (packet_at s all index part)) ≡ (part + 1 == parts_of s all index)
+  pub part_closes : (index part : ℕ) → index < segments_of s → part < parts_of s all index → closes (flags_in (packet_at told_last s all index part)) ≡ (part + 1 == parts_of s all index)
   part_closes index part lt few = ap closes (part_reads index part lt few).flags_are ∙ flags_close (part == 0) (part + 1 == parts_of s all index)

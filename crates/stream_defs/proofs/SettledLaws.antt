@@ -1,6 +1,6 @@
 -- The packets of settled segments are determined by the blocks that the rows so far determine.
 use Rattle.std.proofs.Common.{◌≡◌, inl, inr, ◌≤◌, ◌<◌, ◌+◌, ◌-◌, ◌*◌, ◌/◌, ℕ, zero, suc, ℤ, List, [], length, take, drop, refl, sym, ap, subst, ◌∙◌, arith, length-take, length-drop}
-use Rattle.std.specs.Prelude.{Bool, true, false, ◌==◌, ◌||◌, nat_lt, cond}
+use Rattle.std.specs.Prelude.{Bool, true, false, ◌==◌, ◌&&◌, ◌||◌, not, nat_lt, cond}
 use Rattle.std.specs.List.{count_by, range_with_len}
 use Rattle.std.proofs.lemmas.Bool.{cases_lt, false≢true}
 use Rattle.std.proofs.lemmas.Bool.Decides.{nat_tests}
@@ -37,24 +37,37 @@ count_few p (suc n) a (suc m) none =
     by_test true rest = omega (arith, rest)
     by_test false rest = omega (arith, rest)
 
-rows_rise : (a b c : ℕ) → 0 < c → a ≤ b → a / c ≤ b / c
+-- where a test is met by the first numbers, at least as many are counted
+pub count_many : (p : ℕ → Bool) (n a m : ℕ) → m ≤ n → ((j : ℕ) → a ≤ j → j < a + m → p j ≡ true) → m ≤ count_by p (range_with_len a n)
+count_many p n a zero few each = omega arith
+count_many p zero a (suc m) few each = absurd (omega (arith, few))
+count_many p (suc n) a (suc m) few each =
+    let here : p a ≡ true = each a (omega arith) (omega arith) in
+    let rest : m ≤ count_by p (range_with_len (a + 1) n) = count_many p n (a + 1) m (omega (arith, few)) (λ j low high. each j (omega (arith, low)) (omega (arith, high))) in
+    let one : cond {A = ℕ} (p a) 1 0 ≡ 1 = ap (λ b. cond b 1 0) here in
+    omega (arith, sym (sum_by-cons (λ x. cond (p x) 1 0) a (range_with_len (a + 1) n)), one, rest)
+
+-- no more are counted than there are
+pub count_most : (p : ℕ → Bool) (n a : ℕ) → count_by p (range_with_len a n) ≤ n
+count_most p n a = count_few p n a n (λ j low high. absurd (omega (arith, low, high)))
+
+pub rows_rise : (a b c : ℕ) → 0 < c → a ≤ b → a / c ≤ b / c
 rows_rise a b c some le = let below : a / c * c ≤ a = div-mul-le_self a c in le-div (a / c) b c some (omega (arith, below, le))
 
-not_settled : (s : Setting) (k i : ℕ) → is_settled s k i ≡ false → (k ≡ s.rows → ⊥) × (k ≤ 8 * last_block_row s i + 28)
-not_settled s k i e = by_tests (k == s.rows) (nat_lt (8 * last_block_row s i + 28) k) refl refl e
+not_settled : (told_last : Bool) (s : Setting) (k i : ℕ) → is_settled told_last s k i ≡ false → ((not told_last && (k == s.rows)) ≡ false) × (k ≤ 8 * last_block_row s i + 28)
+not_settled told_last s k i e = by_tests (not told_last && (k == s.rows)) (nat_lt (8 * last_block_row s i + 28) k) refl refl e
   where
-    by_tests : (a b : Bool) → (k == s.rows) ≡ a → nat_lt (8 * last_block_row s i + 28) k ≡ b → (a || b) ≡ false → (k ≡ s.rows → ⊥) × (k ≤ 8 * last_block_row s i + 28)
+    by_tests : (a b : Bool) → (not told_last && (k == s.rows)) ≡ a → nat_lt (8 * last_block_row s i + 28) k ≡ b → (a || b) ≡ false → ((not told_last && (k == s.rows)) ≡ false) × (k ≤ 8 * last_block_row s i + 28)
     by_tests true b x y z = absurd (false≢true (sym z))
     by_tests false true x y z = absurd (false≢true (sym z))
-    by_tests false false x y z = ((λ same. grind (arith, nat_tests)), grind (arith, nat_tests))
+    by_tests false false x y z = (x, grind (arith, nat_tests))
 
-unsettled_so : (s : Setting) (k i : ℕ) → (k ≡ s.rows → ⊥) → k ≤ 8 * last_block_row s i + 28 → is_settled s k i ≡ false
-unsettled_so s k i other far =
-    let a : (k == s.rows) ≡ false = grind (arith, nat_tests) in
+unsettled_so : (told_last : Bool) (s : Setting) (k i : ℕ) → (not told_last && (k == s.rows)) ≡ false → k ≤ 8 * last_block_row s i + 28 → is_settled told_last s k i ≡ false
+unsettled_so told_last s k i a far =
     let b : nat_lt (8 * last_block_row s i + 28) k ≡ false = grind (arith, nat_tests) in
     rw (a, b) refl
 
-module _ (s : Setting) (range : IsInRange s) where
+module _ (told_last : Bool) (s : Setting) (range : IsInRange s) where
   some_blocks : 0 < s.segment
   some_blocks = let segment = range.segment in omega (arith, segment)
 
@@ -73,20 +86,20 @@ module _ (s : Setting) (range : IsInRange s) where
       rows_rise (i * S + segment_blocks total S i - 1) (j * S + segment_blocks total S j - 1) (block_count s.width) some_columns ends
 
   -- what isn't settled is followed by none that is
-  none_later : (k i j : ℕ) → is_settled s k i ≡ false → i ≤ j → j < segments_of s → is_settled s k j ≡ false
+  none_later : (k i j : ℕ) → is_settled told_last s k i ≡ false → i ≤ j → j < segments_of s → is_settled told_last s k j ≡ false
   none_later k i j e le lt =
-      let not = not_settled s k i e in
+      let not = not_settled told_last s k i e in
       let rise = last_rises i j le lt in
       let far = not.1 in
-      unsettled_so s k j not.0 (omega (arith, far, rise))
+      unsettled_so told_last s k j not.0 (omega (arith, far, rise))
 
-  settled_first : (k i : ℕ) → i < settled s k → is_settled s k i ≡ true
+  pub settled_first : (k i : ℕ) → i < settled told_last s k → is_settled told_last s k i ≡ true
   unfolding settled
-  settled_first k i lt = by_test (is_settled s k i) refl
+  settled_first k i lt = by_test (is_settled told_last s k i) refl
     where
-      by_test : (b : Bool) → is_settled s k i ≡ b → b ≡ true
+      by_test : (b : Bool) → is_settled told_last s k i ≡ b → b ≡ true
       by_test true e = refl
-      by_test false e = absurd (let few = count_few (is_settled s k) (segments_of s) 0 i (λ j low high. none_later k i j e (omega (arith, low)) (omega (arith, high))) in omega (arith, few, lt))
+      by_test false e = absurd (let few = count_few (is_settled told_last s k) (segments_of s) 0 i (λ j low high. none_later k i j e (omega (arith, low)) (omega (arith, high))) in omega (arith, few, lt))
 
   -- ---- their blocks
 
@@ -105,12 +118,16 @@ module _ (s : Setting) (range : IsInRange s) where
       ∙ agree.at (first + i) (omega (arith, row, near))
       ∙ sym (get_or-take S (drop first ys) i [] few ∙ get_or-drop first ys i []))
 
-  pub settled_same : (k : ℕ) (xs ys : List (List ℤ)) → length xs ≡ total_blocks s.width s.rows → BlocksAgree s k xs ys → packets_of s xs (settled s k) ≡ packets_of s ys (settled s k)
-  settled_same k xs ys size agree = by_rows (k == s.rows) refl
+  pub settled_same : (k : ℕ) (xs ys : List (List ℤ)) → length xs ≡ total_blocks s.width s.rows → BlocksAgree s k xs ys → packets_of told_last s xs (settled told_last s k) ≡ packets_of told_last s ys (settled told_last s k)
+  settled_same k xs ys size agree = by_rows (not told_last && (k == s.rows)) refl
     where
-      near : (index : ℕ) → (k == s.rows) ≡ false → is_settled s k index ≡ true → 8 * last_block_row s index + 28 < k
+      near : (index : ℕ) → (not told_last && (k == s.rows)) ≡ false → is_settled told_last s k index ≡ true → 8 * last_block_row s index + 28 < k
       near index e t = let u : nat_lt (8 * last_block_row s index + 28) k ≡ true = rw e at t in grind (arith, nat_tests)
 
-      by_rows : (b : Bool) → (k == s.rows) ≡ b → packets_of s xs (settled s k) ≡ packets_of s ys (settled s k)
-      by_rows true e = ap (λ zs. packets_of s zs (settled s k)) (agree.whole (grind (arith, nat_tests)))
-      by_rows false e = same_packets s xs ys (settled s k) (λ index lt. segment_same k xs ys index size agree (near index e (settled_first k index lt)))
+      all_rows : (told : Bool) → (not told && (k == s.rows)) ≡ true → k ≡ s.rows
+      all_rows true e = absurd (false≢true e)
+      all_rows false e = grind (arith, nat_tests)
+
+      by_rows : (b : Bool) → (not told_last && (k == s.rows)) ≡ b → packets_of told_last s xs (settled told_last s k) ≡ packets_of told_last s ys (settled told_last s k)
+      by_rows true e = ap (λ zs. packets_of told_last s zs (settled told_last s k)) (agree.whole (all_rows told_last e))
+      by_rows false e = same_packets told_last s xs ys (settled told_last s k) (λ index lt. segment_same k xs ys index size agree (near index e (settled_first k index lt)))

@@ -1,7 +1,8 @@
 -- Whether a segment's head agrees with the image that its packet tells of. This project's own.
-use Rattle.std.specs.Prelude.{ℕ, ◌+◌, ◌-◌, ◌%◌, ◌==◌, ◌&&◌, ◌||◌, Bool, true, false, not, nat_le, min, [], ◌∷◌, Option, None, Some, Result, Ok, Err}
+use Rattle.std.specs.Prelude.{ℕ, ◌+◌, ◌-◌, ◌*◌, ◌/◌, ◌%◌, ◌==◌, ◌&&◌, ◌||◌, Bool, true, false, not, nat_le, nat_lt, if◌then◌else◌, min, [], ◌∷◌, Option, None, Some, Result, Ok, Err}
 use Rattle.std.specs.Str.{bytes_eq}
-use Rattle.base_122.specs.Sizes.{padded_size, total_blocks}
+use Rattle.base_122.specs.Sizes.{block_count, padded_size, total_blocks}
+use Rattle.base_122.specs.Ranges.{is_within, rows_range}
 use Rattle.base_122.specs.declared.geometry.Geometry.{Geometry}
 use Rattle.segment_defs.specs.declared.head.SegmentHead.{SegmentHead}
 use Rattle.segment_defs.specs.declared.head.ImagePart.{ImagePart}
@@ -11,7 +12,7 @@ use Rattle.segment_defs.specs.declared.fault.HeadField.TheVariants.{First, Block
 use Rattle.packet_defs.specs.declared.ancillary.Ancillary.{Ancillary}
 use Rattle.packet_defs.specs.Tests.{when, first_of}
 
--- the geometry that a segment's packet and head tell
+-- the geometry that a segment's packet and head tell; its rows are 0 where the height is told last
 abbrev pub geometry_told : Ancillary → ImagePart → Geometry
 geometry_told a image = record {
   width = image.width;
@@ -42,17 +43,54 @@ is_of_image g image =
     same_flag image.signed g.signed && ((image.depth == g.depth) && ((image.width == g.width) && ((image.word == g.word)
     && bytes_eq image.weights.shifts g.weights.shifts)))
 
+-- ---- where the packets tell the height
+
+-- the blocks are the segment's
+abbrev pub has_blocks : Geometry → Ancillary → SegmentHead → Bool
+has_blocks g a head = nat_lt a.first (blocks_of g) && (head.blocks == min g.segment (blocks_of g - a.first))
+
+-- it is the last one just where it ends the image
+abbrev pub ends_where_told : Geometry → Ancillary → SegmentHead → Bool
+ends_where_told g a head = same_flag head.last (a.first + head.blocks == blocks_of g)
+
+-- the rows that pad are those of the image
+abbrev pub pads_as_told : Geometry → SegmentHead → Bool
+pads_as_told g head = not head.last || (head.pad_rows == padded_size g.rows - g.rows)
+
+-- ---- where the height is told last
+
+-- the blocks are those of a whole segment, or fewer in the last one
+abbrev pub may_have_blocks : Geometry → SegmentHead → Bool
+may_have_blocks g head = if head.last then nat_le 1 head.blocks && nat_le head.blocks g.segment else head.blocks == g.segment
+
+-- the height that a last head tells: that of the block rows that it ends, without the rows that pad
+abbrev pub told_height : Geometry → Ancillary → SegmentHead → ℕ
+told_height g a head = 8 * ((a.first + head.blocks) / block_count g.width) - head.pad_rows
+
+-- it ends block rows and a height in range, or leaves room for a segment after it
+abbrev pub may_end : Geometry → Ancillary → SegmentHead → Bool
+may_end g a head =
+    if head.last
+    then ((a.first + head.blocks) % block_count g.width == 0) && is_within rows_range (told_height g a head)
+    else nat_lt (a.first + g.segment) (32768 * block_count g.width)
+
+-- ---- all tests
+
 -- the first of these by which a head doesn't agree with what its packet tells, in an image of this geometry
 unfoldable pub disagreement : Geometry → Ancillary → SegmentHead → Option HeadFault
 disagreement g a head = first_of (
     when (not (same_flag head.first (a.index == 0))) (BadValue First)
-    ∷ when (nat_le (blocks_of g) a.first || not (head.blocks == min g.segment (blocks_of g - a.first))) (BadValue Blocks)
-    ∷ when (not (same_flag head.last (a.first + head.blocks == blocks_of g))) (BadValue Last)
+    ∷ when (not (if a.told_last then may_have_blocks g head else has_blocks g a head)) (BadValue Blocks)
+    ∷ when (not (if a.told_last then may_end g a head else ends_where_told g a head)) (BadValue Last)
     ∷ when (not (head.count == a.index % 256)) (BadValue Count)
-    ∷ when (head.last && not (head.pad_rows == padded_size g.rows - g.rows)) (BadValue PadRows)
+    ∷ when (not (a.told_last || pads_as_told g head)) (BadValue PadRows)
     ∷ when (not (is_of_image g head.image)) (BadValue Image)
     ∷ []
     )
+
+-- the geometry once this head is kept: where the height is told last, a last head tells it
+abbrev pub geometry_past : Geometry → Ancillary → SegmentHead → Geometry
+geometry_past g a head = if a.told_last && head.last then record g { rows = told_height g a head } else g
 
 -- why a head that was read, or the refusal of one, is refused in a packet that tells this
 abbrev pub head_refusal : Option Geometry → Ancillary → Result SegmentHead HeadFault → Option HeadFault

@@ -1,5 +1,5 @@
 -- Some of an image's packets, in order: a sub-list of them.
-use Rattle.std.specs.Prelude.{ℕ, ◌+◌, ◌<◌, ◌≤◌, ◌==◌, ℤ, if◌then◌else◌, List, [], ◌∷◌, map}
+use Rattle.std.specs.Prelude.{ℕ, ◌+◌, ◌<◌, ◌≤◌, ◌==◌, ℤ, if◌then◌else◌, Bool, List, [], ◌∷◌, map}
 use Rattle.std.specs.List.{range_with_len, flat_map}
 use Rattle.base_122.specs.declared.setting.Setting.{Setting}
 use Rattle.stream_defs.specs.Output.{segments_of}
@@ -15,8 +15,8 @@ pub record IsChoice (s : Setting) (all : List (List ℤ)) (parts : ℕ → List 
   pub each : (index : ℕ) → index < segments_of s → IsRising 0 (parts_of s all index) (parts index)
 
 -- their packets, of the first n segments
-unfoldable pub chosen : Setting → List (List ℤ) → (parts : ℕ → List ℕ) → (n : ℕ) → List (List ℕ)
-chosen s all parts n = flat_map (λ index. map (packet_at s all index) (parts index)) (range_with_len 0 n)
+unfoldable pub chosen : (told_last : Bool) → Setting → List (List ℤ) → (parts : ℕ → List ℕ) → (n : ℕ) → List (List ℕ)
+chosen told_last s all parts n = flat_map (λ index. map (packet_at told_last s all index) (parts index)) (range_with_len 0 n)
 
 -- the numbers from one on, one after the other, as far as they go on
 abbrev pub run : (next : ℕ) → List ℕ → List ℕ

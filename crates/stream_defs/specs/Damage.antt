@@ -5,6 +5,7 @@ use Rattle.std.specs.Prelude.{ℤ}
 use Rattle.base_122.specs.Sizes.{block_count}
 use Rattle.base_122.specs.declared.geometry.Geometry.{Geometry}
 use Rattle.wave_defs.specs.Reach.{reaches}
+use Rattle.stream_defs.specs.Begun.{height, block_rows}
 use Rattle.stream_defs.specs.declared.range.RowRange.{RowRange}
 
 -- ---- missing block rows
@@ -14,9 +15,16 @@ abbrev pub is_missing : Geometry → (ℕ → Option (List (List ℤ))) → (blo
 is_missing g received r =
     list_any (λ column. not (is_some (received ((r * block_count g.width + column) / g.segment)))) (range_with_len 0 (block_count g.width))
 
--- the missing block rows, in rising order
-unfoldable pub missing_rows : Geometry → (ℕ → Option (List (List ℤ))) → List ℕ
-missing_rows g received = filter (is_missing g received) (range_with_len 0 (block_count g.rows))
+-- those of the first block rows that are missing, in rising order
+unfoldable pub missing_below : Geometry → (ℕ → Option (List (List ℤ))) → (rows : ℕ) → List ℕ
+missing_below g received rows = filter (is_missing g received) (range_with_len 0 rows)
+
+-- the missing block rows where the kept heads reach n block rows, and those of an image whose height is known
+abbrev pub missing_rows : Geometry → (ℕ → Option (List (List ℤ))) → (n : ℕ) → List ℕ
+missing_rows g received n = missing_below g received (block_rows g n)
+
+abbrev pub whole_missing : Geometry → (ℕ → Option (List (List ℤ))) → List ℕ
+whole_missing g received = missing_below g received (block_count g.rows)
 
 -- ---- their reach
 
@@ -40,8 +48,12 @@ range_from rows missing row = record { first = row; last = row + run_length rows
 unfoldable pub ranges : (rows : ℕ) → List ℕ → List RowRange
 ranges rows missing = map (range_from rows missing) (filter (begins_range rows missing) (range_with_len 0 rows))
 
-abbrev pub damage : Geometry → (ℕ → Option (List (List ℤ))) → List RowRange
-damage g received = ranges g.rows (missing_rows g received)
+-- where the kept heads reach n block rows, and of an image whose height is known
+abbrev pub damage : Geometry → (ℕ → Option (List (List ℤ))) → (n : ℕ) → List RowRange
+damage g received n = ranges (height g n) (missing_rows g received n)
+
+abbrev pub whole_damage : Geometry → (ℕ → Option (List (List ℤ))) → List RowRange
+whole_damage g received = ranges g.rows (whole_missing g received)
 
 -- ---- what makes them the least list
 

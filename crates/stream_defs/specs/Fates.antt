@@ -14,24 +14,37 @@ use Rattle.stream_defs.specs.declared.fate.Fate.{Fate}
 use Rattle.stream_defs.specs.declared.fate.Fate.TheVariants.{Kept, Skipped, Foreign, Late, OutOfPlace, BadHead}
 use Rattle.stream_defs.specs.declared.fate.LastPart.{LastPart}
 use Rattle.stream_defs.specs.declared.fate.FateState.{FateState}
-use Rattle.stream_defs.specs.Agreement.{geometry_for, blocks_of, head_refusal}
+use Rattle.stream_defs.specs.Agreement.{geometry_for, blocks_of, same_flag, head_refusal, geometry_past}
 
 -- before the first packet
 abbrev pub fresh : FateState
-fresh = record { geometry = None; last = None }
+fresh = record { geometry = None; told_last = false; last = None }
 
 -- ---- the tests, in their order
 
--- another image, or a block past the last one
-abbrev pub differs : Option Geometry → Ancillary → Bool
-differs None a = false
-differs (Some g) a =
-    not (a.image == g.image) || (not (a.rows == g.rows) || (not (a.segment == g.segment) || nat_le (blocks_of g) a.first))
+-- Packets of this kind are read. A packet whose image reports its height last is not read yet, so it is foreign to any image.
+abbrev pub reads : (told_last : Bool) → Bool
+reads told_last = not told_last
+
+-- the rows field of a packet has the rows of an image, or 0 if the height is reported last
+abbrev pub tells_rows : Ancillary → Bool
+tells_rows a = reads a.told_last && (if a.told_last then a.rows == 0 else is_within rows_range a.rows)
+
+-- a block past the last one, where the height is told
+abbrev pub is_past : Geometry → Ancillary → Bool
+is_past g a = not (g.rows == 0) && nat_le (blocks_of g) a.first
+
+-- another image than that of the geometry, whose packets tell its rows or leave them to be told last
+abbrev pub differs : Option Geometry → (told_last : Bool) → Ancillary → Bool
+differs None told_last a = false
+differs (Some g) told_last a =
+    not (same_flag a.told_last told_last) || (not (a.image == g.image)
+    || (not (a.rows == (if told_last then 0 else g.rows)) || (not (a.segment == g.segment) || is_past g a)))
 
 abbrev pub is_foreign : FateState → Ancillary → Bool
 is_foreign s a =
-    not (is_within rows_range a.rows) || (not (is_within segment_range a.segment) || (not (a.first == a.index * a.segment)
-    || differs s.geometry a))
+    not (tells_rows a) || (not (is_within segment_range a.segment) || (not (a.first == a.index * a.segment)
+    || differs s.geometry s.told_last a))
 
 -- a place that is at most the last one, index before part
 abbrev pub is_late : Option LastPart → Ancillary → Bool
@@ -77,7 +90,7 @@ is_kept other = false
 
 -- the geometry after a head that was read in a kept packet that tells this
 abbrev pub geometry_with : Option Geometry → Ancillary → Result SegmentHead HeadFault → Option Geometry
-geometry_with standing a (Ok head) = Some (geometry_for standing a head.image)
+geometry_with standing a (Ok head) = Some (geometry_past (geometry_for standing a head.image) a head)
 geometry_with standing a (Err fault) = standing
 
 abbrev pub geometry_after : Option Geometry → List ℕ → Option Geometry
@@ -93,7 +106,11 @@ part_in packet = record {
 
 -- what a kept packet leaves
 abbrev pub after_kept : FateState → List ℕ → FateState
-after_kept s packet = record { geometry = geometry_after s.geometry packet; last = Some (part_in packet) }
+after_kept s packet = record {
+  geometry = geometry_after s.geometry packet;
+  told_last = (ancillary_in packet).told_last;
+  last = Some (part_in packet);
+}
 
 -- a packet that isn't kept leaves all as it was
 unfoldable pub after : (apid : ℕ) → FateState → List ℕ → FateState

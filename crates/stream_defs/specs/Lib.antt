@@ -3,6 +3,7 @@ pub mod Places
 pub mod Chosen
 pub mod Agreement
 pub mod Fates
+pub mod Begun
 pub mod Received
 pub mod Picture
 pub mod Damage
@@ -10,3 +11,5 @@ pub mod Marks
 pub mod Settled
 pub mod StreamLaws
 pub mod SettledImages
+pub mod Shares
+pub mod KnownHeights

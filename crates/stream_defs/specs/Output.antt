@@ -1,10 +1,13 @@
 -- All packets of an image: the whole-image definition of what an encoder writes. Nothing in it knows of rows that come one
--- after another.
-use Rattle.std.specs.Prelude.{ℕ, ◌+◌, ◌-◌, ◌%◌, ◌==◌, ℤ, Bool, true, false, if◌then◌else◌, List, length, take, drop}
+-- after another. A setting here has the height of the image; whether the packets tell that height or leave it to the last head
+-- is said beside it.
+use Rattle.std.specs.Prelude.{ℕ, zero, suc, ◌+◌, ◌-◌, ◌*◌, ◌/◌, ◌%◌, ◌==◌, ℤ, Bool, true, false, if◌then◌else◌, min, List, length, take, drop}
 use Rattle.std.specs.List.{range_with_len, flat_map, sum_by}
 use Rattle.wave_defs.specs.Pyramid.{padded, pyramid}
 use Rattle.wave_defs.specs.Blocks.{blocks}
 use Rattle.base_122.specs.Sizes.{block_count, padded_size, total_blocks, segment_count, first_block}
+use Rattle.base_122.specs.Ranges.{limit_range}
+use Rattle.base_122.specs.Setting.{sized}
 use Rattle.base_122.specs.declared.setting.Setting.{Setting}
 use Rattle.base_122.specs.declared.setting.Select.{Select}
 use Rattle.base_122.specs.declared.setting.Select.TheVariants.{Heuristic, Optimal}
@@ -46,16 +49,22 @@ written_stop stop = record {
   stage = if stop.dc then 3 else stop.stage;
 }
 
--- the head of the segment of this index, with so many blocks of these depths
-abbrev pub head_with : Setting → (index count depth_dc depth_ac : ℕ) → SegmentHead
-head_with s index count depth_dc depth_ac = record {
+-- Octets that the text of a segment has at most, after texts of so many octets; 0 is no bound. Where there is a total, it is an even
+-- share of what is left of it, in whole code words.
+unfoldable pub share : Setting → (index used : ℕ) → ℕ
+share s index used =
+    if s.total == 0 then s.limit else min ((s.total - used) / (segments_of s - index)) limit_range.most / s.word * s.word
+
+-- the head of the segment of this index, with this limit and so many blocks of these depths
+abbrev pub head_with : Setting → (index limit count depth_dc depth_ac : ℕ) → SegmentHead
+head_with s index limit count depth_dc depth_ac = record {
   first = index == 0;
   last = index + 1 == segments_of s;
   count = index % 256;
   depth_dc = depth_dc;
   depth_ac = depth_ac;
   pad_rows = if index + 1 == segments_of s then padded_size s.rows - s.rows else 0;
-  limit = s.limit;
+  limit = limit;
   stop = written_stop s.stop;
   fill = s.fill;
   blocks = count;
@@ -64,19 +73,32 @@ head_with s index count depth_dc depth_ac = record {
   image = image_part s;
 }
 
--- the head of the segment of this index, with these blocks
-abbrev pub head_of : Setting → ℕ → List (List ℤ) → SegmentHead
-head_of s index segment = head_with s index (length segment) (depth_dc_of segment) (depth_ac_of segment)
+-- the head of the segment of this index, with these blocks, after texts of so many octets
+abbrev pub head_of : Setting → (index used : ℕ) → List (List ℤ) → SegmentHead
+head_of s index used segment = head_with s index (share s index used) (length segment) (depth_dc_of segment) (depth_ac_of segment)
 
--- the text of a segment
-abbrev pub segment_text : Setting → List (List ℤ) → ℕ → List ℕ
-segment_text s all index = let segment = segment_of s all index in coded (head_of s index segment) segment
+-- the text of the segment of this index, after texts of so many octets
+abbrev pub text_with : Setting → List (List ℤ) → (index used : ℕ) → List ℕ
+text_with s all index used = let segment = segment_of s all index in coded (head_of s index used segment) segment
+
+-- the octets of the texts of the segments before this one
+unfoldable pub used_before : Setting → List (List ℤ) → (index : ℕ) → ℕ
+used_before s all zero = 0
+used_before s all (suc index) = used_before s all index + length (text_with s all index (used_before s all index))
+
+-- the head and the text of a segment
+abbrev pub head_for : Setting → List (List ℤ) → (index : ℕ) → SegmentHead
+head_for s all index = head_of s index (used_before s all index) (segment_of s all index)
+
+abbrev pub segment_text : Setting → List (List ℤ) → (index : ℕ) → List ℕ
+segment_text s all index = text_with s all index (used_before s all index)
 
 -- what the packets of a segment say of it, with part 0
-abbrev pub ancillary_of : Setting → ℕ → Ancillary
-ancillary_of s index = record {
+abbrev pub ancillary_of : (told_last : Bool) → Setting → (index : ℕ) → Ancillary
+ancillary_of told_last s index = record {
+  told_last = told_last;
   image = s.image;
-  rows = s.rows;
+  rows = if told_last then 0 else s.rows;
   segment = s.segment;
   index = index;
   first = first_block s.segment index;
@@ -89,17 +111,22 @@ packets_before s all index =
     sum_by (λ i. part_count (part_size s.packet) (length (segment_text s all i))) (range_with_len 0 index)
 
 -- the packets of one segment
-abbrev pub segment_packets : Setting → List (List ℤ) → ℕ → List (List ℕ)
-segment_packets s all index =
-    text_packets s.apid (ancillary_of s index) s.packet (packets_before s all index) (segment_text s all index)
+abbrev pub segment_packets : (told_last : Bool) → Setting → List (List ℤ) → (index : ℕ) → List (List ℕ)
+segment_packets told_last s all index =
+    text_packets s.apid (ancillary_of told_last s index) s.packet (packets_before s all index) (segment_text s all index)
 
 -- the packets of the first n segments
-unfoldable pub packets_of : Setting → List (List ℤ) → ℕ → List (List ℕ)
-packets_of s all n = flat_map (segment_packets s all) (range_with_len 0 n)
+unfoldable pub packets_of : (told_last : Bool) → Setting → List (List ℤ) → (n : ℕ) → List (List ℕ)
+packets_of told_last s all n = flat_map (segment_packets told_last s all) (range_with_len 0 n)
 
--- all packets of an image, and their octets
-abbrev pub image_packets : Setting → (ℕ → ℕ → ℤ) → List (List ℕ)
-image_packets s x = packets_of s (image_blocks s x) (segments_of s)
+-- all packets of an image
+abbrev pub image_packets : (told_last : Bool) → Setting → (ℕ → ℕ → ℤ) → List (List ℕ)
+image_packets told_last s x = packets_of told_last s (image_blocks s x) (segments_of s)
 
-abbrev pub output : Setting → (ℕ → ℕ → ℤ) → List ℕ
-output s x = joined (image_packets s x)
+-- a setting that leaves the rows open has the height told last
+abbrev pub tells_last : Setting → Bool
+tells_last s = s.rows == 0
+
+-- the octets of all packets of an image of so many rows
+abbrev pub output : Setting → (rows : ℕ) → (ℕ → ℕ → ℤ) → List ℕ
+output s rows x = joined (image_packets (tells_last s) (sized s rows) x)

@@ -8,6 +8,7 @@ use Rattle.wave_defs.specs.Line.{floor_div}
 use Rattle.wave_defs.specs.Pyramid.{Pyramid, rebuilt}
 use Rattle.wave_defs.specs.Blocks.{Place, place_of, block_side}
 use Rattle.raster_rows.specs.Pixels.{clamped, raster_octets}
+use Rattle.stream_defs.specs.Begun.{height, band_rows}
 
 -- the number at a position of a block, where blocks are counted in raster order; 0 where its segment isn't received
 unfoldable pub number_at : Geometry → (ℕ → Option (List (List ℤ))) → (block position : ℕ) → ℤ
@@ -43,16 +44,31 @@ pyramid_with numbers columns weights = record {
   ll3 = band_with numbers columns weights 9;
 }
 
--- the image that blocks with these numbers give, each pixel clamped once
-unfoldable pub picture_with : Geometry → (ℕ → ℕ → ℤ) → ℕ → ℕ → ℤ
-picture_with g numbers i j =
-    let r = block_count g.rows in
+-- the image of r block rows that blocks with these numbers give, each pixel clamped once
+unfoldable pub picture_of : Geometry → (ℕ → ℕ → ℤ) → (r : ℕ) → ℕ → ℕ → ℤ
+picture_of g numbers r i j =
     let c = block_count g.width in
     clamped g.depth g.signed (rebuilt (pyramid_with numbers c g.weights.shifts) r c i j)
 
-abbrev pub picture : Geometry → (ℕ → Option (List (List ℤ))) → ℕ → ℕ → ℤ
-picture g received = picture_with g (number_at g received)
+-- ---- where the kept heads reach n block rows
 
--- its octets, cropped to the image's rows and width
-abbrev pub picture_octets : Geometry → (ℕ → Option (List (List ℤ))) → List ℕ
-picture_octets g received = raster_octets g.depth g.rows g.width (picture g received)
+abbrev pub picture_with : Geometry → (ℕ → ℕ → ℤ) → (n : ℕ) → ℕ → ℕ → ℤ
+picture_with g numbers n = picture_of g numbers (band_rows g n)
+
+abbrev pub picture : Geometry → (ℕ → Option (List (List ℤ))) → (n : ℕ) → ℕ → ℕ → ℤ
+picture g received n = picture_with g (number_at g received) n
+
+-- its octets, cropped to the rows that are given and the image's width
+abbrev pub picture_octets : Geometry → (ℕ → Option (List (List ℤ))) → (n : ℕ) → List ℕ
+picture_octets g received n = raster_octets g.depth (height g n) g.width (picture g received n)
+
+-- ---- of an image whose height is known
+
+abbrev pub whole_with : Geometry → (ℕ → ℕ → ℤ) → ℕ → ℕ → ℤ
+whole_with g numbers = picture_of g numbers (block_count g.rows)
+
+abbrev pub whole_picture : Geometry → (ℕ → Option (List (List ℤ))) → ℕ → ℕ → ℤ
+whole_picture g received = whole_with g (number_at g received)
+
+abbrev pub whole_octets : Geometry → (ℕ → Option (List (List ℤ))) → List ℕ
+whole_octets g received = raster_octets g.depth g.rows g.width (whole_picture g received)

@@ -1,5 +1,5 @@
 -- How far octets and rows that came determine what goes out. This project's own.
-use Rattle.std.specs.Prelude.{◌≡◌, ◌<◌, ℕ, ◌+◌, ◌-◌, ◌*◌, ◌/◌, ◌==◌, ◌||◌, Bool, nat_lt, if◌then◌else◌, List, [], length, slice_index_or, ℤ, is_some, Option, None, Some}
+use Rattle.std.specs.Prelude.{◌≡◌, ◌<◌, ℕ, ◌+◌, ◌-◌, ◌*◌, ◌/◌, ◌==◌, ◌&&◌, ◌||◌, Bool, not, nat_lt, if◌then◌else◌, List, [], length, slice_index_or, ℤ, is_some, Option, None, Some}
 use Rattle.std.specs.List.{count_by, range_with_len}
 use Rattle.base_122.specs.Sizes.{block_count, total_blocks, first_block, segment_blocks}
 use Rattle.base_122.specs.Ranges.{IsInRange}
@@ -17,13 +17,13 @@ abbrev pub last_block_row : Setting → (index : ℕ) → ℕ
 last_block_row s index =
     (first_block s.segment index + segment_blocks (total_blocks s.width s.rows) s.segment index - 1) / block_count s.width
 
--- the first k rows determine the segment's numbers
-abbrev pub is_settled : Setting → (k index : ℕ) → Bool
-is_settled s k index = (k == s.rows) || nat_lt (8 * last_block_row s index + 28) k
+-- the first k rows determine the segment's numbers: by their reach, or where they are known to be all
+abbrev pub is_settled : (told_last : Bool) → Setting → (k index : ℕ) → Bool
+is_settled told_last s k index = (not told_last && (k == s.rows)) || nat_lt (8 * last_block_row s index + 28) k
 
 -- the number of settled segments, which are the first ones
-unfoldable pub settled : Setting → (k : ℕ) → ℕ
-settled s k = count_by (is_settled s k) (range_with_len 0 (segments_of s))
+unfoldable pub settled : (told_last : Bool) → Setting → (k : ℕ) → ℕ
+settled told_last s k = count_by (is_settled told_last s k) (range_with_len 0 (segments_of s))
 
 -- ---- the decoder
 
@@ -31,12 +31,15 @@ settled s k = count_by (is_settled s k) (range_with_len 0 (segments_of s))
 abbrev pub block_rows_before : Geometry → (block : ℕ) → ℕ
 block_rows_before g block = block / block_count g.width
 
+-- blocks of a segment; while the height isn't told, none is known to be the last one
+abbrev pub blocks_in : Geometry → (index : ℕ) → ℕ
+blocks_in g index = if g.rows == 0 then g.segment else segment_blocks (blocks_of g) g.segment index
+
 -- the first block after a segment where it is received, else its own first block
 abbrev pub blocks_through : Geometry → (ℕ → Option (List (List ℤ))) → (index : ℕ) → ℕ
-blocks_through g received index =
-    first_block g.segment index + (if is_some (received index) then segment_blocks (blocks_of g) g.segment index else 0)
+blocks_through g received index = first_block g.segment index + (if is_some (received index) then blocks_in g index else 0)
 
--- rows that n whole block rows determine
+-- rows that n whole block rows determine; while the height isn't told, none are all of them
 abbrev pub rows_through : Geometry → (n : ℕ) → ℕ
 rows_through g n = if n == block_count g.rows then g.rows else 8 * n - 21
 
@@ -63,5 +66,5 @@ pub record BlocksAgree (s : Setting) (k : ℕ) (xs ys : List (List ℤ)) : Type 
 
 -- then the packets of the settled segments are the same
 pub record SettledSame : Type 0 where
-  pub same : (s : Setting) (k : ℕ) (xs ys : List (List ℤ)) → IsInRange s → length xs ≡ total_blocks s.width s.rows → BlocksAgree s k xs ys →
-      packets_of s xs (settled s k) ≡ packets_of s ys (settled s k)
+  pub same : (told_last : Bool) (s : Setting) (k : ℕ) (xs ys : List (List ℤ)) → IsInRange s → length xs ≡ total_blocks s.width s.rows → BlocksAgree s k xs ys →
+      packets_of told_last s xs (settled told_last s k) ≡ packets_of told_last s ys (settled told_last s k)

@@ -1,15 +1,26 @@
 -- Which packets the first rows of an image determine. This project's own.
-use Rattle.std.specs.Prelude.{◌≡◌, ℕ, ◌≤◌, ℤ}
+use Rattle.std.specs.Prelude.{◌≡◌, ℕ, ◌≤◌, ℤ, Bool, false, List}
 use Rattle.wave_defs.specs.Held.{SameWithin}
 use Rattle.base_122.specs.Ranges.{IsInRange}
+use Rattle.base_122.specs.Setting.{IsHeight, sized}
 use Rattle.base_122.specs.declared.setting.Setting.{Setting}
-use Rattle.stream_defs.specs.Output.{image_blocks, packets_of, segments_of}
+use Rattle.stream_defs.specs.Output.{image_blocks, packets_of, segments_of, tells_last}
 use Rattle.stream_defs.specs.Settled.{settled}
 
--- The packets of the settled segments are the same for two images whose first k rows agree. More rows settle no fewer segments, and
--- all rows settle all of them.
+-- an image of so many rows for a setting, and the packets of its first n segments
+abbrev pub front_packets : Setting → (rows : ℕ) → (ℕ → ℕ → ℤ) → (n : ℕ) → List (List ℕ)
+front_packets s rows x n = let whole = sized s rows in packets_of (tells_last s) whole (image_blocks whole x) n
+
+-- the segments that the first k rows of such an image settle
+abbrev pub settled_in : Setting → (rows k : ℕ) → ℕ
+settled_in s rows k = settled (tells_last s) (sized s rows) k
+
+-- The packets of the settled segments are the same for two images for a setting whose first k rows agree, whatever their heights. More
+-- rows settle no fewer segments, and all rows, where it is known that they are all, settle all of them.
 pub record ImagesSettle : Type 0 where
-  pub same : (s : Setting) (k : ℕ) (x y : ℕ → ℕ → ℤ) → IsInRange s → k ≤ s.rows → SameWithin k s.width x y →
-      packets_of s (image_blocks s x) (settled s k) ≡ packets_of s (image_blocks s y) (settled s k)
-  pub rises : (s : Setting) (k l : ℕ) → k ≤ l → l ≤ s.rows → settled s k ≤ settled s l
-  pub whole : (s : Setting) → settled s s.rows ≡ segments_of s
+  pub same : (s : Setting) (rows lines k : ℕ) (x y : ℕ → ℕ → ℤ) → IsInRange s → IsHeight s rows → IsHeight s lines → k ≤ rows → k ≤ lines →
+      SameWithin k s.width x y → front_packets s rows x (settled_in s rows k) ≡ front_packets s lines y (settled_in s lines k)
+  pub alike : (s : Setting) (rows lines k : ℕ) → IsInRange s → IsHeight s rows → IsHeight s lines → k ≤ rows → k ≤ lines →
+      settled_in s rows k ≡ settled_in s lines k
+  pub rises : (told_last : Bool) (s : Setting) (k l : ℕ) → k ≤ l → l ≤ s.rows → settled told_last s k ≤ settled told_last s l
+  pub whole : (s : Setting) → settled false s s.rows ≡ segments_of s

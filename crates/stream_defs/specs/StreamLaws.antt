@@ -1,40 +1,52 @@
 -- The laws of an image's packets where they are read. This project's own.
-use Rattle.std.specs.Prelude.{◌≡◌, ℕ, ◌<◌, ℤ, List, [], ◌∷◌, slice_index_or, Some, Ok}
-use Rattle.base_122.specs.Setting.{geometry_of}
+use Rattle.std.specs.Prelude.{◌≡◌, ℕ, ◌<◌, ◌+◌, ◌==◌, ◌&&◌, not, Bool, true, if◌then◌else◌, ℤ, List, [], ◌∷◌, slice_index_or, Some, Ok}
+use Rattle.base_122.specs.Setting.{image_geometry}
+use Rattle.base_122.specs.declared.geometry.Geometry.{Geometry}
 use Rattle.base_122.specs.declared.setting.Setting.{Setting}
 use Rattle.segment_defs.specs.Reading.{head_read}
 use Rattle.packet_defs.specs.Reading.{text_in}
-use Rattle.stream_defs.specs.Output.{head_of, packets_of, segment_of, segment_text, segments_of}
-use Rattle.stream_defs.specs.Fates.{fresh, kept, after_all}
+use Rattle.stream_defs.specs.Output.{head_for, packets_of, segment_of, segment_text, segments_of}
+use Rattle.stream_defs.specs.Fates.{fresh, reads, kept, after_all}
 use Rattle.stream_defs.specs.Received.{packets_at, IsComplete, text_of_parts}
 use Rattle.stream_defs.specs.Places.{AreCoded}
 use Rattle.stream_defs.specs.Chosen.{IsChoice, chosen, run, all_parts}
 
 -- all packets of an image, in order, are kept
 pub record ImagesKept : Type 0 where
-  pub all_kept : (s : Setting) (all : List (List ℤ)) → AreCoded s all →
-      kept s.apid fresh (packets_of s all (segments_of s)) ≡ packets_of s all (segments_of s)
+  pub all_kept : (told_last : Bool) (s : Setting) (all : List (List ℤ)) → AreCoded s all → reads told_last ≡ true →
+      kept s.apid fresh (packets_of told_last s all (segments_of s)) ≡ packets_of told_last s all (segments_of s)
 
 -- the packets that are kept of those chosen
-abbrev pub kept_of : Setting → List (List ℤ) → (parts : ℕ → List ℕ) → List (List ℕ)
-kept_of s all parts = kept s.apid fresh (chosen s all parts (segments_of s))
+abbrev pub kept_of : (told_last : Bool) → Setting → List (List ℤ) → (parts : ℕ → List ℕ) → List (List ℕ)
+kept_of told_last s all parts = kept s.apid fresh (chosen told_last s all parts (segments_of s))
+
+-- The geometry that stands after a part of this segment: where the height is told last, it is there from the last segment on.
+abbrev pub geometry_by : (told_last : Bool) → Setting → (index : ℕ) → Geometry
+geometry_by told_last s index = image_geometry s (if told_last && not (index + 1 == segments_of s) then 0 else s.rows)
+
+-- the segment of this index is begun, and none after it
+pub record IsLastBegun (s : Setting) (parts : ℕ → List ℕ) (index : ℕ) : Type 0 where
+  pub more : List ℕ
+  pub begun : parts index ≡ 0 ∷ more
+  pub none_after : (later : ℕ) → index < later → later < segments_of s → (rest : List ℕ) → parts later ≡ 0 ∷ rest → ⊥
 
 -- Of some packets of an image just those are kept that go on from part 0 of their segment, one after the other. So a segment is
 -- complete exactly where all its packets are there; then its text and its head are those that were written.
-pub record SublistsKept (s : Setting) (all : List (List ℤ)) (parts : ℕ → List ℕ) : Type 0 where
-  pub those_kept : kept_of s all parts ≡ chosen s all (λ index. run 0 (parts index)) (segments_of s)
+pub record SublistsKept (told_last : Bool) (s : Setting) (all : List (List ℤ)) (parts : ℕ → List ℕ) : Type 0 where
+  pub those_kept : kept_of told_last s all parts ≡ chosen told_last s all (λ index. run 0 (parts index)) (segments_of s)
   pub geometry : (index : ℕ) (more : List ℕ) → index < segments_of s → parts index ≡ 0 ∷ more →
-      (after_all s.apid fresh (chosen s all parts (segments_of s))).geometry ≡ Some (geometry_of s)
-  pub only : (index : ℕ) → index < segments_of s → IsComplete (packets_at index (kept_of s all parts)) → parts index ≡ all_parts s all index
-  pub each : (index : ℕ) → index < segments_of s → parts index ≡ all_parts s all index → IsComplete (packets_at index (kept_of s all parts))
-  pub text : (index : ℕ) → index < segments_of s → parts index ≡ all_parts s all index → text_of_parts (packets_at index (kept_of s all parts)) ≡ segment_text s all index
+      (last : ℕ) × (last < segments_of s) × IsLastBegun s parts last
+      × ((after_all s.apid fresh (chosen told_last s all parts (segments_of s))).geometry ≡ Some (geometry_by told_last s last))
+  pub only : (index : ℕ) → index < segments_of s → IsComplete (packets_at index (kept_of told_last s all parts)) → parts index ≡ all_parts s all index
+  pub each : (index : ℕ) → index < segments_of s → parts index ≡ all_parts s all index → IsComplete (packets_at index (kept_of told_last s all parts))
+  pub text : (index : ℕ) → index < segments_of s → parts index ≡ all_parts s all index → text_of_parts (packets_at index (kept_of told_last s all parts)) ≡ segment_text s all index
   pub head : (index : ℕ) → index < segments_of s → parts index ≡ all_parts s all index →
-      head_read (text_in (slice_index_or (packets_at index (kept_of s all parts)) 0 [])) ≡ Ok (head_of s index (segment_of s all index))
+      head_read (text_in (slice_index_or (packets_at index (kept_of told_last s all parts)) 0 [])) ≡ Ok (head_for s all index)
 
 pub record SublistsAreKept : Type 0 where
-  pub each_choice : (s : Setting) (all : List (List ℤ)) (parts : ℕ → List ℕ) → AreCoded s all → IsChoice s all parts → SublistsKept s all parts
+  pub each_choice : (told_last : Bool) (s : Setting) (all : List (List ℤ)) (parts : ℕ → List ℕ) → AreCoded s all → reads told_last ≡ true → IsChoice s all parts → SublistsKept told_last s all parts
 
 -- the packets of the first segments are determined by the blocks of these
 pub record PacketsOfBlocks : Type 0 where
-  pub same : (s : Setting) (xs ys : List (List ℤ)) (n : ℕ) → ((index : ℕ) → index < n → segment_of s xs index ≡ segment_of s ys index) →
-      packets_of s xs n ≡ packets_of s ys n
+  pub same : (told_last : Bool) (s : Setting) (xs ys : List (List ℤ)) (n : ℕ) → ((index : ℕ) → index < n → segment_of s xs index ≡ segment_of s ys index) →
+      packets_of told_last s xs n ≡ packets_of told_last s ys n

@@ -31,6 +31,9 @@ pub struct LastPart {
 /// What the packets so far leave for the next one's fate (docs/formats.md, "Fates").
 #[derive(Clone, Copy, Debug, PartialEq, Eq)]
 pub struct FateState {
+    /// The geometry that stands; its rows are 0 while the height isn't told.
     pub geometry: Option<Geometry>,
+    /// Its packets leave the height to the last head.
+    pub told_last: bool,
     pub last: Option<LastPart>,
 }

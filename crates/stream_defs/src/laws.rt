@@ -1,7 +1,9 @@
 // Laws of an image's packets where they are read.
 ghost use Rattle.stream_defs.specs.Damage.{DamageIsLeast};
+ghost use Rattle.stream_defs.specs.KnownHeights.{KnownHeights};
 ghost use Rattle.stream_defs.specs.Settled.{SettledSame};
 ghost use Rattle.stream_defs.specs.SettledImages.{ImagesSettle};
+ghost use Rattle.stream_defs.specs.Shares.{SharesFit};
 ghost use Rattle.stream_defs.specs.StreamLaws.{ImagesKept, SublistsAreKept, PacketsOfBlocks};
 
 /// All packets of an image, in order, are kept.
@@ -30,7 +32,17 @@ pub const fn settled_is_same()
     ensures { SettledSame }
 {}
 
-/// The packets of settled segments are determined by the rows so far, and more rows settle no fewer.
+/// Each share of a total can be said, and all texts together keep to the total.
+pub const fn shares_fit()
+    ensures { SharesFit }
+{}
+
+/// The packets of settled segments are determined by the rows so far, whatever the height, and more rows settle no fewer.
 pub const fn images_settle()
     ensures { ImagesSettle }
+{}
+
+/// The picture and the damage of an image whose height is known depend on the height alone, whatever the kept heads reach.
+pub const fn heights_are_known()
+    ensures { KnownHeights }
 {}

@@ -7,7 +7,7 @@ mod range;
 
 pub use fate::{Fate, FateState, LastPart};
 pub use laws::{
-    damage_is_least, images_are_kept, images_settle, packets_of_blocks, settled_is_same,
-    sublists_are_kept,
+    damage_is_least, heights_are_known, images_are_kept, images_settle, packets_of_blocks,
+    settled_is_same, shares_fit, sublists_are_kept,
 };
 pub use range::RowRange;

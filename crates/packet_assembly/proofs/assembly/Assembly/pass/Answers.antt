@@ -28,11 +28,11 @@ invariant_of-self-in-Fault g c =
     let x = counted_on c.self.inside.packets c.self.invariant.counted (c.next.ensures) in
     record { place = omega arith; counted = x.0; capped = x.1; cap = omega (arith, x.2, c.self.invariant.cap); range = c.self.invariant.range; framing = told_fault c.self.inside.apid _ _ c.self.inside.reader _ _ (rw (c.in-Ok.is, c.in-Fault.is) at c.next.ensures) }
 
-pub pass_mine-requires-clause-counted : goal.pass_mine-requires-clause-counted
-pass_mine-requires-clause-counted g c = counted_mine c.self.inside.packets c.self.invariant.counted (rw (c.in-Ok.is, c.in-Mine.is) at c.next.ensures)
+pub pass_image_packet-requires-clause-counted : goal.pass_image_packet-requires-clause-counted
+pass_image_packet-requires-clause-counted g c = counted_mine c.self.inside.packets c.self.invariant.counted (rw (c.in-Ok.is, c.in-Mine.is) at c.next.ensures)
 
-pub pass_mine-requires-clause-field : goal.pass_mine-requires-clause-field
-pass_mine-requires-clause-field g c = mine_field (rw (c.in-Ok.is, c.in-Mine.is) at c.next.ensures)
+pub pass_image_packet-requires-clause-field : goal.pass_image_packet-requires-clause-field
+pass_image_packet-requires-clause-field g c = mine_field (rw (c.in-Ok.is, c.in-Mine.is) at c.next.ensures)
 
 pub pass_other-requires : goal.pass_other-requires
 pass_other-requires g c = record { counted = counted_other c.self.inside.packets c.self.invariant.counted (rw (c.in-Ok.is, c.in-Skipped.is) at c.next.ensures) }
@@ -41,7 +41,7 @@ pub returns-in-Err : goal.returns-in-Err
 returns-in-Err g c = rw (← c.self.view_is) (failed_passes (rw c.in-Err.is at c.next.ensures) refl)
 
 pub returns-in-Mine : goal.returns-in-Mine
-returns-in-Mine g c = rw (← c.self.view_is) (mine_passes (rw (c.in-Ok.is, c.in-Mine.is) at c.next.ensures) refl c.pass_mine.ensures.told c.pass_mine.ensures.stands)
+returns-in-Mine g c = rw (← c.self.view_is) (mine_passes (rw (c.in-Ok.is, c.in-Mine.is) at c.next.ensures) refl c.pass_image_packet.ensures.told c.pass_image_packet.ensures.stands)
 
 pub returns-in-Skipped : goal.returns-in-Skipped
 returns-in-Skipped g c = rw (← c.self.view_is) (other_passes (rw (c.in-Ok.is, c.in-Skipped.is) at c.next.ensures) refl c.pass_other.ensures.told c.pass_other.ensures.stands)

@@ -5,22 +5,22 @@ use Rattle.packet_assembly.proofs.assembly.Assembly.take_octet.Goals as goal
 
 pub returns : goal.returns
 returns g c =
-    let heard = rw c.in-Ok-true.field-0-test at c.in-Ok-true.ensures in
+    let filled = rw c.in-Ok-true.field-0-test at c.in-Ok-true.ensures in
     let x = c.self.inside in
-    let some : 0 < length (drop x.next x.reader.text) = subst (λ (a : Assembling). 0 < length a.text) (sym c.self.view_is) heard.ends in
+    let some : 0 < length (drop x.next x.reader.text) = subst (λ (a : Assembling). 0 < length a.text) (sym c.self.view_is) filled.ends in
     let octet = get_or c.text.result.now x.next 0 in
     let first : drop x.next x.reader.text ≡ octet ∷ drop (x.next + 1) x.reader.text =
     waits_first x.reader.text x.next some ∙ ap (λ xs. get_or xs x.next 0 ∷ drop (x.next + 1) x.reader.text) (sym c.text.ensures) in
-    gives_octet octet heard
+    gives_octet octet filled
     (sym c.self.view_is ∙ (λ i. record { apid = x.apid; intake = x.reader; state = x.state; packets = x.packets; text = first i; held = x.held; framing = x.framing }))
     (search rules)
 
 pub returns-in-Ok-false : goal.returns-in-Ok-false
 returns-in-Ok-false g c =
-    let heard = rw c.in-Ok-false.field-0-test at c.in-Ok-false.ensures in
-    record { goes = heard.goes; silent = heard.silent; closed = λ e. (heard.unheld, heard.closed refl); ends = (heard.comes, heard.ends) }
+    let filled = rw c.in-Ok-false.field-0-test at c.in-Ok-false.ensures in
+    record { goes = filled.goes; silent = filled.silent; closed = λ e. (filled.unheld, filled.closed refl); ends = (filled.comes, filled.ends) }
 
 pub returns-in-Err : goal.returns-in-Err
 returns-in-Err g c =
-    let heard = c.in-Err.ensures in
-    record { goes = heard.goes; silent = heard.silent; closed = λ e. absurd cc; ends = (heard.comes, heard.ends) }
+    let filled = c.in-Err.ensures in
+    record { goes = filled.goes; silent = filled.silent; closed = λ e. absurd cc; ends = (filled.comes, filled.ends) }

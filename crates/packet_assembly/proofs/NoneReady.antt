@@ -16,7 +16,7 @@ use Rattle.packet_assembly.specs.declared.note.Passed.{Passed}
 use Rattle.packet_assembly.specs.Assembling.{Assembling, is_first, is_closed}
 use Rattle.packet_assembly.specs.Notes.{text_brought}
 use Rattle.packet_assembly.specs.Passing.{whole_after}
-use Rattle.packet_assembly.specs.Texts.{BringsNone, Unheard, AsksUnheard, Silent}
+use Rattle.packet_assembly.specs.Texts.{BringsNone, NoneReady, AsksNoneReady, Silent}
 use Rattle.packet_assembly.proofs.OneStep.{AsksNone, OneOn}
 
 pub brings_more : (apid : ℕ) (s : FateState) (packets : List (List ℕ)) (packet : List ℕ) → BringsNone apid s packets → text_brought apid (after_all apid s packets) packet ≡ [] →
@@ -32,8 +32,8 @@ pub record Quiet (old new : Outside) (a b : Assembling) : Type 0 where
   pub packets_are : AllByRecursion IsPacket passed
   pub apid : b.apid ≡ a.apid
   pub state : b.state ≡ after_all a.apid a.state passed
-  pub asks : Since old new took [] [] (AsksUnheard a took)
-  pub unheard : b.text ≡ [] → is_closed b.state.last ≡ false → Unheard a passed
+  pub asks : Since old new took [] [] (AsksNoneReady a took)
+  pub none_ready : b.text ≡ [] → is_closed b.state.last ≡ false → NoneReady a passed
 
 pub quiet_nothing : (p : Outside) (a : Assembling) → a.held ≡ None → Quiet p p a a
 quiet_nothing p a unheld = record {
@@ -44,31 +44,31 @@ quiet_nothing p a unheld = record {
   apid = refl;
   state = refl;
   asks = since_start p _;
-  unheard = λ empty going. record { unheld = unheld; empty = empty; unclosed = going; none = tt };
+  none_ready = λ empty going. record { unheld = unheld; empty = empty; unclosed = going; none = tt };
 }
 
 -- a stretch whose packets left the text open, and then one in which no packet came before a read
-unheard_then : {old mid new : Outside} {a b : Assembling} → (q : Quiet old mid a b) → (more : List ℕ) → Unheard a q.passed → Since mid new more [] [] (AsksNone b more) →
-    Since old new (q.took ++ more) [] [] (AsksUnheard a (q.took ++ more))
-unheard_then {old = old} {mid = mid} {a = a} {b = b} q more unheard asks =
+none_ready_then : {old mid new : Outside} {a b : Assembling} → (q : Quiet old mid a b) → (more : List ℕ) → NoneReady a q.passed → Since mid new more [] [] (AsksNone b more) →
+    Since old new (q.took ++ more) [] [] (AsksNoneReady a (q.took ++ more))
+none_ready_then {old = old} {mid = mid} {a = a} {b = b} q more none_ready asks =
     let took = q.took ++ more in
-    let first : Since old mid q.took [] [] (AsksUnheard a took) =
-    since_weaker q.asks (λ i j le r. (subst (λ zs. Unheard a (whole_packets (a.intake.pending ++ zs))) (sym (take-append-le i q.took more le)) r.0, r.1)) in
+    let first : Since old mid q.took [] [] (AsksNoneReady a took) =
+    since_weaker q.asks (λ i j le r. (subst (λ zs. NoneReady a (whole_packets (a.intake.pending ++ zs))) (sym (take-append-le i q.took more le)) r.0, r.1)) in
     let here = λ (i : ℕ) (none : whole_packets (b.intake.pending ++ take i more) ≡ []).
     ap (λ zs. whole_packets (a.intake.pending ++ zs)) (take-append-add q.took more i)
     ∙ ap whole_packets (sym (append_assoc a.intake.pending q.took (take i more)) ∙ ap (λ zs. zs ++ take i more) q.octets_are ∙ append_assoc (joined q.passed) b.intake.pending (take i more))
     ∙ whole_after q.passed (b.intake.pending ++ take i more) q.packets_are
     ∙ ap (λ ps. q.passed ++ ps) none ∙ append-nil q.passed in
-    since_then first asks (λ i j le r. (subst (λ ps. Unheard a ps) (sym (here i r.0)) unheard, omega (arith, r.1)))
+    since_then first asks (λ i j le r. (subst (λ ps. NoneReady a ps) (sym (here i r.0)) none_ready, omega (arith, r.1)))
 
 -- a read that found no packet
 pub quiet_then : {old mid new : Outside} {a b : Assembling} → (q : Quiet old mid a b) → b.text ≡ [] → is_closed b.state.last ≡ false → (more : List ℕ) → Since mid new more [] [] (AsksNone b more) →
     Silent old new a
-quiet_then q empty going more asks = record { took = q.took ++ more; asks = unheard_then q more (q.unheard empty going) asks }
+quiet_then q empty going more asks = record { took = q.took ++ more; asks = none_ready_then q more (q.none_ready empty going) asks }
 
 -- a packet that leaves the text as it was
-quiet_packet : {old mid : Outside} {a b : Assembling} → (q : Quiet old mid a b) → Unheard a q.passed → (packet : List ℕ) → text_brought b.apid b.state packet ≡ [] →
-    is_first b.apid b.state packet ≡ false → is_closed (after b.apid b.state packet).last ≡ false → Unheard a (q.passed ++ packet ∷ [])
+quiet_packet : {old mid : Outside} {a b : Assembling} → (q : Quiet old mid a b) → NoneReady a q.passed → (packet : List ℕ) → text_brought b.apid b.state packet ≡ [] →
+    is_first b.apid b.state packet ≡ false → is_closed (after b.apid b.state packet).last ≡ false → NoneReady a (q.passed ++ packet ∷ [])
 quiet_packet {a = a} {b = b} q u packet text first closed =
     let s = after_all a.apid a.state q.passed in
     record {
@@ -85,7 +85,7 @@ quiet_packet {a = a} {b = b} q u packet text first closed =
 pub quiet_more : {P : FateState → Type 0} {old mid new : Outside} {a b c : Assembling} {told : Passed} → (q : Quiet old mid a b) → b.text ≡ [] → is_closed b.state.last ≡ false → (one : OneOn P mid new b c told) →
     is_first b.apid b.state one.packet ≡ false → Quiet old new a c
 quiet_more {a = a} {b = b} {c = c} q empty going one first =
-    let u = q.unheard empty going in
+    let u = q.none_ready empty going in
     record {
       took = q.took ++ one.passes.took;
       passed = q.passed ++ one.packet ∷ [];
@@ -95,6 +95,6 @@ quiet_more {a = a} {b = b} {c = c} q empty going one first =
       packets_are = each_of_both IsPacket q.passed (one.packet ∷ []) q.packets_are (one.is_packet, tt);
       apid = one.passes.apid ∙ q.apid;
       state = one.state ∙ ap (λ n. after n b.state one.packet) q.apid ∙ ap (λ s. after a.apid s one.packet) q.state ∙ sym (after_all-append a.apid a.state q.passed (one.packet ∷ []));
-      asks = unheard_then q one.passes.took u one.asks;
-      unheard = λ no_text open_still. quiet_packet q u one.packet (sym one.text ∙ no_text) first (sym (ap (λ s. is_closed s.last) one.state) ∙ open_still);
+      asks = none_ready_then q one.passes.took u one.asks;
+      none_ready = λ no_text open_still. quiet_packet q u one.packet (sym one.text ∙ no_text) first (sym (ap (λ s. is_closed s.last) one.state) ∙ open_still);
     }

@@ -10,14 +10,14 @@ use Rattle.packet_defs.specs.Tests.{when, first_of}
 use Rattle.stream_defs.specs.declared.fate.Fate.{Fate}
 use Rattle.stream_defs.specs.declared.fate.Fate.TheVariants.{Foreign, Late, OutOfPlace, BadHead}
 use Rattle.stream_defs.specs.declared.fate.FateState.{FateState}
-use Rattle.stream_defs.specs.Agreement.{geometry_for, head_refusal}
+use Rattle.stream_defs.specs.Agreement.{geometry_for, head_refusal, geometry_past}
 use Rattle.stream_defs.specs.Fates.{is_foreign, is_late, is_out_of_place, closes}
 
--- why the head is refused of a packet that tells this; it stands in part 0 alone
+-- why the segment header of a packet with these fields is refused; only part 0 has one
 abbrev pub refusal_told : Option Geometry → Ancillary → List ℕ → Option HeadFault
 refusal_told standing a text = if a.part == 0 then head_refusal standing a (head_read text) else None
 
--- why a packet that tells this isn't kept: the first of these
+-- why a packet with these fields isn't kept: the first of these
 abbrev pub unkept : FateState → (flags : ℕ) → Ancillary → List ℕ → Option Fate
 unkept s flags a text = first_of (
     when (is_foreign s a) Foreign
@@ -36,21 +36,22 @@ abbrev pub head_told : Ancillary → List ℕ → Option SegmentHead
 head_told a text = if a.part == 0 then ok_of (head_read text) else None
 
 -- the head of a packet that is kept, or why it isn't
-abbrev pub judged_by : Option Fate → Option SegmentHead → Result (Option SegmentHead) Fate
-judged_by None head = Ok head
-judged_by (Some fate) head = Err fate
+abbrev pub classified_by : Option Fate → Option SegmentHead → Result (Option SegmentHead) Fate
+classified_by None head = Ok head
+classified_by (Some fate) head = Err fate
 
-abbrev pub judged : FateState → (flags : ℕ) → Ancillary → List ℕ → Result (Option SegmentHead) Fate
-judged s flags a text = judged_by (unkept s flags a text) (head_told a text)
+abbrev pub classified : FateState → (flags : ℕ) → Ancillary → List ℕ → Result (Option SegmentHead) Fate
+classified s flags a text = classified_by (unkept s flags a text) (head_told a text)
 
--- the geometry after a kept packet that tells this, with this head
-abbrev pub geometry_past : Option Geometry → Ancillary → Option SegmentHead → Option Geometry
-geometry_past standing a None = standing
-geometry_past standing a (Some head) = Some (geometry_for standing a head.image)
+-- the geometry after a kept packet with these ancillary data, with this header
+abbrev pub geometry_left : Option Geometry → Ancillary → Option SegmentHead → Option Geometry
+geometry_left standing a None = standing
+geometry_left standing a (Some head) = Some (geometry_past (geometry_for standing a head.image) a head)
 
 -- what such a packet leaves
 abbrev pub past_kept : FateState → (flags : ℕ) → Ancillary → Option SegmentHead → FateState
 past_kept s flags a head = record {
-  geometry = geometry_past s.geometry a head;
+  geometry = geometry_left s.geometry a head;
+  told_last = a.told_last;
   last = Some (record { index = a.index; part = a.part; closed = closes flags });
 }

@@ -14,14 +14,14 @@ use Rattle.packet_assembly.specs.Notes.{PassesNext}
 use Rattle.packet_assembly.specs.Segments.{GoesOn, BeganAt}
 use Rattle.packet_assembly.specs.Passing.{goes_nowhere, goes_both}
 use Rattle.packet_assembly.specs.Tails.{told_tail}
-use Rattle.packet_assembly.specs.Texts.{ComesSo, FailsSo, Hears, Silent}
-use Rattle.packet_assembly.proofs.Unhearing.{Quiet, quiet_nothing, quiet_then, quiet_more}
+use Rattle.packet_assembly.specs.Texts.{ComesSo, FailsSo, FillsText, Silent}
+use Rattle.packet_assembly.proofs.NoneReady.{Quiet, quiet_nothing, quiet_then, quiet_more}
 use Rattle.packet_assembly.proofs.KeptPackets.{none_first, some_first, stays}
 use Rattle.packet_assembly.proofs.OneStep.{NoneOn, FailsStep, one_on, end_on, fail_on}
 use Rattle.packet_assembly.proofs.TailSteps.{tail_broken, tail_goes_on, tail_same, tail_ended, tail_long, comes_none, over_told, comes_then}
 
 -- packets were passed within a text, and no octet of it was given
-pub record Heard (old new : Outside) (a b : Assembling) : Type 0 where
+pub record Filled (old new : Outside) (a b : Assembling) : Type 0 where
   pub goes : GoesOn old new a b
   pub quiet : Quiet old new a b
   pub comes : ComesSo old new a b []
@@ -30,16 +30,16 @@ pub record Heard (old new : Outside) (a b : Assembling) : Type 0 where
 comes_same : (p : Outside) (a : Assembling) → ComesSo p p a a []
 comes_same p a = comes_none p p a a [] (loses_start p.rest) (λ rest is. refl)
 
-pub heard_nothing : (p : Outside) (a : Assembling) → a.held ≡ None → Heard p p a a
-heard_nothing p a unheld = record { goes = goes_nowhere p a; quiet = quiet_nothing p a unheld; comes = comes_same p a; unheld = unheld }
+pub filled_nothing : (p : Outside) (a : Assembling) → a.held ≡ None → Filled p p a a
+filled_nothing p a unheld = record { goes = goes_nowhere p a; quiet = quiet_nothing p a unheld; comes = comes_same p a; unheld = unheld }
 
 pub not_some : (o : Option SegmentStart) → is_some o ≡ false → o ≡ None
 not_some None e = refl
 not_some (Some start) e = absurd (false≢true (sym e))
 
 -- another segment was begun before
-pub heard_held : (p : Outside) (a : Assembling) → is_some a.held ≡ true → Hears p p a a (Err Broken)
-heard_held p a held = record {
+pub filled_held : (p : Outside) (a : Assembling) → is_some a.held ≡ true → FillsText p p a a (Err Broken)
+filled_held p a held = record {
   goes = goes_nowhere p a;
   silent = record { took = []; asks = since_start p _ };
   comes = comes_same p a;
@@ -53,10 +53,10 @@ open_now b unheld going = record { unheld = unheld; unclosed = going; same = ref
 
 -- ---- a packet more
 
-module _ {old mid new : Outside} {a b c : Assembling} {told : Passed} (x : Heard old mid a b) (empty : b.text ≡ []) (going : is_closed b.state.last ≡ false)
+module _ {old mid new : Outside} {a b c : Assembling} {told : Passed} (x : Filled old mid a b) (empty : b.text ≡ []) (going : is_closed b.state.last ≡ false)
     (next : PassesNext mid new b c (Ok (Some told))) where
-  pub heard_more : told.start ≡ None → Heard old new a c
-  heard_more none =
+  pub filled_more : told.start ≡ None → Filled old new a c
+  filled_more none =
       let one = one_on {P = StaysOpen b} next (open_now b x.unheld going) in
       let first = none_first b.apid b.state one.packet (sym (ap (λ (t : Passed). t.start) one.told_is) ∙ none) in
       let same : StaysAt b c.state = ap (λ s. last_index s.last) one.state ∙ stays b.apid b.state one.packet first in
@@ -70,8 +70,8 @@ module _ {old mid new : Outside} {a b c : Assembling} {told : Passed} (x : Heard
       }
 
   -- another segment was begun
-  pub heard_other : (start : SegmentStart) → told.start ≡ Some start → Hears old new a (record c { held = Some start }) (Err Broken)
-  heard_other start some =
+  pub filled_other : (start : SegmentStart) → told.start ≡ Some start → FillsText old new a (record c { held = Some start }) (Err Broken)
+  filled_other start some =
       let one = one_on {P = StaysOpen b} next (open_now b x.unheld going) in
       let p = one.passes in
       let passes : Passes (StaysOpen b) mid new b (record c { held = Some start }) (one.packet ∷ []) = record {
@@ -110,7 +110,7 @@ module _ {old mid new : Outside} {a b c : Assembling} {told : Passed} (x : Heard
 
 -- ---- no packet
 
-module _ {old mid new : Outside} {a b c : Assembling} (x : Heard old mid a b) (empty : b.text ≡ []) (going : is_closed b.state.last ≡ false) where
+module _ {old mid new : Outside} {a b c : Assembling} (x : Filled old mid a b) (empty : b.text ≡ []) (going : is_closed b.state.last ≡ false) where
   silent_none : NoneOn (StaysOpen b) mid new b c → Silent old new a
   silent_none none = quiet_then x.quiet empty going none.passes.took none.asks
 
@@ -131,8 +131,8 @@ module _ {old mid new : Outside} {a b c : Assembling} (x : Heard old mid a b) (e
       comes_then (told_tail old a) (told_tail mid b) (told_tail new c) [] [] x.comes
       (comes_none mid new b c none.passes.took none.passes.since.rest (λ rest is. tail_same none rest is x.unheld empty going))
 
-  pub heard_end : PassesNext mid new b c (Ok None) → Hears old new a c (Err Broken)
-  heard_end next =
+  pub filled_end : PassesNext mid new b c (Ok None) → FillsText old new a c (Err Broken)
+  filled_end next =
       let over = end_on {P = StaysOpen b} next (open_now b x.unheld going) in
       let none = over.none in
       record {
@@ -150,7 +150,7 @@ module _ {old mid new : Outside} {a b c : Assembling} (x : Heard old mid a b) (e
       over_told new c TooLong (λ rest is. tail_long c rest (none.held ∙ x.unheld) none.text (ap (λ s. is_closed s.last) none.state ∙ going) fails)
   fails_so Broken none fails = absurd fails
 
-  pub heard_failed : (fault : InFault) → PassesNext mid new b c (Err fault) → Hears old new a c (Err fault)
-  heard_failed fault next =
+  pub filled_failed : (fault : InFault) → PassesNext mid new b c (Err fault) → FillsText old new a c (Err fault)
+  filled_failed fault next =
       let over = fail_on {P = StaysOpen b} next (open_now b x.unheld going) in
       record { goes = goes_none over.none; silent = silent_none over.none; comes = comes_nothing over.none; unheld = tt; closed = λ e. absurd (let no : Err fault ≡ Ok false = e in cc); ends = fails_so fault over.none over.fails }

@@ -1,27 +1,30 @@
-// The fate of an image's packet by what it says.
-ghost use Rattle.std.specs.Prelude.{◌≡◌, ◌==◌, ◌&&◌, Some, None, Ok, Err, if◌then◌else◌, MatchResult, IfOk, IfSome};
-ghost use Rattle.base_122.specs.Ranges.{is_within, rows_range, segment_range};
+// The fate of an image's packet, by its fields.
+ghost use Rattle.std.specs.Prelude.{◌≡◌, ◌&&◌, Some, None, Ok, Err, if◌then◌else◌, MatchResult, IfOk, IfSome};
 ghost use Rattle.stream_defs.specs.Agreement.{head_refusal};
-ghost use Rattle.stream_defs.specs.Fates.{differs, is_foreign, is_late, follows, is_out_of_place, closes};
+ghost use Rattle.stream_defs.specs.Fates.{tells_rows, is_past, differs, is_foreign, is_late, follows, is_out_of_place, closes};
 ghost use Rattle.segment_defs.specs.Head.{IsHead};
 ghost use Rattle.segment_defs.specs.Reading.{head_read};
-ghost use Rattle.packet_assembly.specs.Judging.{judged, past_kept};
+ghost use Rattle.base_122.specs.Ranges.{IsGeometryInRange};
+ghost use Rattle.packet_assembly.specs.Classification.{classified, past_kept};
+ghost use Rattle.packet_assembly.specs.Ranged.{IsRanged, TellsHeight};
 
-use crate::agreement::{blocks_of, disagreement, geometry_for};
+use crate::agreement::{blocks_of, disagreement, geometry_for, geometry_past};
 use base_122::{FieldRange, Geometry};
 use packet_defs::Ancillary;
 use segment_defs::{HeadFault, SegmentHead};
 use segment_head::read_head;
 use stream_defs::{Fate, FateState, LastPart};
 
-/// The head of a packet that is kept, where it is its segment's first, or why it isn't kept (docs/formats.md, "Fates").
-pub fn judge(
+/// Returns the segment header of a packet that is kept, if the packet is its segment's first, or why it isn't kept
+/// (docs/formats.md, "Fates").
+pub fn classify(
     state: &FateState,
     flags: u8,
     ancillary: &Ancillary,
     text: &[u8],
 ) -> Result<Option<SegmentHead>, Fate>
-    ensures value { result ≡ judged state.now flags ancillary.now text.now }
+    requires ranged { IsRanged state.now }
+    ensures value { result ≡ classified state.now flags ancillary.now text.now }
     ensures fits { IfOk result (λ found. IfSome found IsHead) }
 {
     if is_foreign(state, ancillary) {
@@ -42,13 +45,16 @@ pub fn judge(
     }
 }
 
-/// What a kept packet leaves for the next one's fate.
+/// Returns the state that a kept packet leaves for the next one's fate.
 pub fn past_kept(
     state: &FateState,
     flags: u8,
     ancillary: &Ancillary,
     head: Option<SegmentHead>,
 ) -> FateState
+    requires ranged { IsRanged state.now }
+    requires fits { IfSome head IsHead }
+    requires height { IfSome head (TellsHeight state.now ancillary.now) }
     ensures { result ≡ past_kept state.now flags ancillary.now head }
 {
     let last = Some(LastPart {
@@ -58,17 +64,25 @@ pub fn past_kept(
     });
     let geometry = match head {
         None => state.geometry,
-        Some(head) => Some(geometry_for(state.geometry, ancillary, &head.image)),
+        Some(head) => {
+            let geometry = geometry_for(state.geometry, ancillary, &head.image);
+            Some(geometry_past(&geometry, ancillary, &head))
+        }
     };
-    FateState { geometry, last }
+    FateState {
+        geometry,
+        told_last: ancillary.told_last,
+        last,
+    }
 }
 
-// The head in a segment's first packet, where it agrees with the rest.
+// Returns the segment header in a segment's first packet, if it agrees with the rest.
 fn read_first(
     standing: Option<Geometry>,
     ancillary: &Ancillary,
     text: &[u8],
 ) -> Result<SegmentHead, HeadFault>
+    requires ranged { IfSome standing IsGeometryInRange }
     ensures read { MatchResult result
         (λ head. (head_read text.now ≡ Ok head) × (head_refusal standing ancillary.now (Ok head) ≡ None))
         (λ fault. head_refusal standing ancillary.now (head_read text.now) ≡ Some fault) }
@@ -82,11 +96,11 @@ fn read_first(
     }
 }
 
-// The packet can be none of the image.
+// Returns whether the packet can't be one of the image.
 fn is_foreign(state: &FateState, ancillary: &Ancillary) -> bool
     ensures { result ≡ is_foreign state.now ancillary.now }
 {
-    if !is_size(ancillary.rows, ancillary.segment) {
+    if !tells_rows(ancillary) || !FieldRange::SEGMENT.contains(u64::from(ancillary.segment)) {
         return true;
     }
     if u64::from(ancillary.first) != u64::from(ancillary.index) * u64::from(ancillary.segment) {
@@ -94,28 +108,37 @@ fn is_foreign(state: &FateState, ancillary: &Ancillary) -> bool
     }
     match state.geometry {
         None => false,
-        Some(geometry) => differs(&geometry, ancillary),
+        Some(geometry) => differs(&geometry, state.told_last, ancillary),
     }
 }
 
-// Rows and blocks of a segment as an image can have them.
-fn is_size(rows: u32, segment: u32) -> bool
-    ensures { result ≡ (is_within rows_range rows && is_within segment_range segment) }
+// Returns whether the rows are those of an image. A packet of an image that reports its height last is not read yet.
+fn tells_rows(ancillary: &Ancillary) -> bool
+    ensures { result ≡ tells_rows ancillary.now }
 {
-    FieldRange::ROWS.contains(u64::from(rows)) && FieldRange::SEGMENT.contains(u64::from(segment))
+    !ancillary.told_last && FieldRange::ROWS.contains(u64::from(ancillary.rows))
 }
 
-// The packet tells of another image than this, or of a block past its last.
-fn differs(geometry: &Geometry, ancillary: &Ancillary) -> bool
-    ensures { result ≡ differs (Some geometry.now) ancillary.now }
+// Returns whether the packet is one of another image than this, or has a block past its last.
+fn differs(geometry: &Geometry, told_last: bool, ancillary: &Ancillary) -> bool
+    ensures { result ≡ differs (Some geometry.now) told_last ancillary.now }
 {
-    ancillary.image != geometry.image
-        || ancillary.rows != geometry.rows
+    let rows = if told_last { 0 } else { geometry.rows };
+    ancillary.told_last != told_last
+        || ancillary.image != geometry.image
+        || ancillary.rows != rows
         || ancillary.segment != geometry.segment
-        || blocks_of(geometry) <= u64::from(ancillary.first)
+        || is_past(geometry, ancillary)
 }
 
-// The packet's place isn't past the last one.
+// Returns whether the packet has a block past the last one, if that is known.
+fn is_past(geometry: &Geometry, ancillary: &Ancillary) -> bool
+    ensures { result ≡ is_past geometry.now ancillary.now }
+{
+    geometry.rows != 0 && blocks_of(geometry) <= u64::from(ancillary.first)
+}
+
+// Returns whether the packet's place isn't past the last one.
 fn is_late(last: Option<LastPart>, ancillary: &Ancillary) -> bool
     ensures { result ≡ is_late last ancillary.now }
 {
@@ -125,7 +148,7 @@ fn is_late(last: Option<LastPart>, ancillary: &Ancillary) -> bool
     ancillary.index < last.index || (ancillary.index == last.index && ancillary.part <= last.part)
 }
 
-// The packet is the next part of a segment that isn't closed.
+// Returns whether the packet is the next part of a segment that isn't closed.
 fn follows(last: Option<LastPart>, ancillary: &Ancillary) -> bool
     ensures { result ≡ follows last ancillary.now }
 {
@@ -137,7 +160,7 @@ fn follows(last: Option<LastPart>, ancillary: &Ancillary) -> bool
         && !last.closed
 }
 
-// The packet's flags don't say what its part is, or it doesn't follow the last one.
+// Returns whether the packet's flags don't agree with its part, or it doesn't follow the last one.
 fn is_out_of_place(last: Option<LastPart>, flags: u8, ancillary: &Ancillary) -> bool
     ensures { result ≡ is_out_of_place last flags ancillary.now }
 {

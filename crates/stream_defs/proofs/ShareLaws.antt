@@ -1,0 +1,147 @@
+-- Shares of a total.
+use Rattle.std.proofs.Common.{◌≡◌, ◌≢◌, inl, inr, ◌≤◌, ◌<◌, ◌+◌, ◌-◌, ◌*◌, ◌/◌, ◌%◌, ℕ, zero, suc, ℤ, List, length, refl, sym, subst, arith, min, length-take}
+use Rattle.std.specs.Prelude.{Bool, true, false, ◌==◌}
+use Rattle.std.proofs.lemmas.Bool.Decides.{nat_tests}
+use Rattle.std.proofs.lemmas.Nat.{le-div}
+use Rattle.std.proofs.Math.Nat.{div-mul-le_self, mul-mod_left, mul-le-mul_left}
+use Rattle.item_defs.specs.Bits.{octets_of}
+use Rattle.item_defs.specs.Padding.{padded}
+use Rattle.base_122.specs.Ranges.{IsInRange, HasTotal, limit_range}
+use Rattle.base_122.specs.declared.setting.Setting.{Setting}
+use Rattle.segment_defs.specs.declared.head.SegmentHead.{SegmentHead}
+use Rattle.segment_defs.specs.Coded.{coded, coded_bits}
+use Rattle.segment_defs.specs.Text.{text_octets}
+use Rattle.stream_defs.specs.Output.{segment_of, segments_of, share, head_of, text_with, used_before}
+use Rattle.stream_defs.specs.Shares.{CanBeSaid}
+
+-- a text is no longer than its limit
+pub coded_within : (head : SegmentHead) (blocks : List (List ℤ)) → head.limit ≢ 0 → length (coded head blocks) ≤ head.limit
+unfolding coded text_octets
+coded_within head blocks some =
+    let octets = octets_of (padded head.image.word head.limit head.fill (coded_bits head blocks)) in
+    let e : (head.limit == 0) ≡ false = grind (arith, nat_tests) in
+    rw e (let n = length-take head.limit octets in omega (arith, n))
+
+-- 36 octets are whole code words
+words_hold : (q word : ℕ) → 1 ≤ word → word ≤ 4 → 36 ≤ q → 36 ≤ q / word * word
+words_hold q zero least most some = absurd (omega (arith, least))
+words_hold q (suc zero) least most some = omega (arith, some)
+words_hold q (suc (suc zero)) least most some = omega (arith, some)
+words_hold q (suc (suc (suc zero))) least most some = omega (arith, some)
+words_hold q (suc (suc (suc (suc zero)))) least most some = omega (arith, some)
+words_hold q (suc (suc (suc (suc (suc word))))) least most some = absurd (omega (arith, most))
+
+module _ (s : Setting) (range : IsInRange s) (some : s.total ≢ 0) where
+  has : HasTotal s
+  has = elim range.total [ inl none ↦ absurd (some none) | inr here ↦ here ]
+
+  -- the share is what is left, parted among the segments that are left
+  pub parted : (index used : ℕ) → ℕ
+  parted index used = (s.total - used) / (segments_of s - index)
+
+  share_is : (index used : ℕ) → share s index used ≡ min (parted index used) limit_range.most / s.word * s.word
+  unfolding share parted
+  share_is index used = let e : (s.total == 0) ≡ false = grind (arith, nat_tests) in rw e refl
+
+  pub share_most : (index used : ℕ) → share s index used ≤ parted index used
+  share_most index used =
+      let m = min (parted index used) limit_range.most in
+      let e = share_is index used in
+      let f : m / s.word * s.word ≤ m = div-mul-le_self m s.word in
+      omega (arith, e, f)
+
+  pub share_least : (index used : ℕ) → 36 ≤ parted index used → 36 ≤ share s index used
+  share_least index used enough =
+      let word = range.word in
+      let e = share_is index used in
+      let f = words_hold (min (parted index used) limit_range.most) s.word word.0 word.1 (omega (arith, enough)) in
+      omega (arith, e, f)
+
+  -- what is left parts into 36 octets and more
+  enough : (index used : ℕ) → index < segments_of s → used + 36 * (segments_of s - index) ≤ s.total → 36 ≤ parted index used
+  unfolding parted
+  enough index used lt left = le-div 36 (s.total - used) (segments_of s - index) (omega (arith, lt)) (omega (arith, left))
+
+  -- so a share can be said
+  pub said_by : (index used : ℕ) → index < segments_of s → used + 36 * (segments_of s - index) ≤ s.total → CanBeSaid s (share s index used)
+  said_by index used lt left =
+      let least = share_least index used (enough index used lt left) in
+      let e = share_is index used in
+      let m = min (parted index used) limit_range.most in
+      let most : m / s.word * s.word ≤ m = div-mul-le_self m s.word in
+      record {
+        limit = inr ((omega (arith, least)), (omega (arith, e, most)), subst (λ n. n % s.word ≡ 0) (sym e) (mul-mod_left (m / s.word) s.word));
+        fill = λ set none. omega (arith, none, least);
+      }
+
+  whole_parts : (index used : ℕ) → parted index used * (segments_of s - index) ≤ s.total - used
+  unfolding parted
+  whole_parts index used = div-mul-le_self (s.total - used) (segments_of s - index)
+
+  spread : (q m : ℕ) → 1 ≤ m → q * m ≡ q + (m - 1) * q
+  spread q zero one = absurd (omega (arith, one))
+  spread q (suc m) one = let e : suc m - 1 ≡ m = omega arith in rw e (let f : q * suc m ≡ q + m * q = grind arith in f)
+
+  -- after a text that keeps to its share enough is left for those that come
+  pub left_next : (index used octets : ℕ) → index < segments_of s → used + 36 * (segments_of s - index) ≤ s.total → octets ≤ share s index used →
+      used + octets + 36 * (segments_of s - (index + 1)) ≤ s.total
+  left_next index used octets lt left few =
+      let m = segments_of s - index in
+      let q = parted index used in
+      let much : 36 ≤ q = enough index used lt left in
+      let most = share_most index used in
+      let whole : q * m ≤ s.total - used = whole_parts index used in
+      let more : (m - 1) * 36 ≤ (m - 1) * q = mul-le-mul_left (m - 1) much in
+      let part : q * m ≡ q + (m - 1) * q = spread q m (omega (arith, lt)) in
+      omega (arith, lt, left, most, few, whole, more, part)
+
+  -- a text, of whatever blocks, keeps to its share
+  pub segment_within : (segment : List (List ℤ)) (index used : ℕ) → index < segments_of s → used + 36 * (segments_of s - index) ≤ s.total →
+      length (coded (head_of s index used segment) segment) ≤ share s index used
+  segment_within segment index used lt left =
+      let least : 36 ≤ share s index used = share_least index used (enough index used lt left) in
+      coded_within (head_of s index used segment) segment (λ none. omega (arith, none, least))
+
+  pub text_within : (all : List (List ℤ)) (index used : ℕ) → index < segments_of s → used + 36 * (segments_of s - index) ≤ s.total →
+      length (text_with s all index used) ≤ share s index used
+  text_within all index used lt left = segment_within (segment_of s all index) index used lt left
+
+  pub left_after : (all : List (List ℤ)) (index : ℕ) → index ≤ segments_of s → used_before s all index + 36 * (segments_of s - index) ≤ s.total
+  unfolding used_before
+  left_after all zero le = let within = has.within in omega (arith, within)
+  left_after all (suc index) le =
+      let used = used_before s all index in
+      let lt : index < segments_of s = omega (arith, le) in
+      let left = left_after all index (omega (arith, le)) in
+      let next = left_next index used (length (text_with s all index used)) lt left (text_within all index used lt left) in
+      let e : index + 1 ≡ suc index = omega arith in
+      omega (arith, next, e)
+
+-- the share as it is computed
+pub share_none : (s : Setting) (index used : ℕ) → s.total ≡ 0 → share s index used ≡ s.limit
+unfolding share
+share_none s index used none = let e : (s.total == 0) ≡ true = grind (arith, nat_tests) in rw e refl
+
+pub share_some : (s : Setting) (index used : ℕ) → s.total ≢ 0 →
+    share s index used ≡ min ((s.total - used) / (segments_of s - index)) limit_range.most / s.word * s.word
+unfolding share
+share_some s index used some = let e : (s.total == 0) ≡ false = grind (arith, nat_tests) in rw e refl
+
+pub share_said : (s : Setting) (all : List (List ℤ)) (index : ℕ) → IsInRange s → index < segments_of s → CanBeSaid s (share s index (used_before s all index))
+unfolding share
+share_said s all index range lt = by (s.total == 0) refl
+  where
+    no : s.total ≡ 0 → (s.total == 0) ≡ false → ⊥
+    no none e = grind (arith, nat_tests)
+
+    by : (b : Bool) → (s.total == 0) ≡ b → CanBeSaid s (share s index (used_before s all index))
+    by true e =
+        let none : s.total ≡ 0 = grind (arith, nat_tests) in
+        rw e record {
+          limit = elim range.limit [ inl unset ↦ inl unset | inr here ↦ let in_range = here.0 in inr ((omega (arith, in_range)), (omega (arith, in_range)), here.1) ];
+          fill = λ set. elim (range.fill set) [ inl some ↦ some | inr other ↦ absurd (other none) ];
+        }
+    by false e = said_by s range (λ none. no none e) index (used_before s all index) lt (left_after s range (λ none. no none e) all index (omega (arith, lt)))
+
+pub total_kept : (s : Setting) (all : List (List ℤ)) → IsInRange s → s.total ≢ 0 → used_before s all (segments_of s) ≤ s.total
+total_kept s all range some = let left = left_after s range some all (segments_of s) (omega arith) in omega (arith, left)

@@ -1,0 +1,21 @@
+-- How large pixels and weighted coefficients are.
+use Rattle.std.proofs.Common.{◌≤◌, ◌<◌, ◌-◌, ◌^◌, ℕ, ℤ, pos, negsuc, Bool, true, false, arith}
+use Rattle.std.specs.Prelude.{unsigned_abs}
+use Rattle.std.proofs.Math.Pow.{pow_mono}
+use Rattle.std.proofs.lemmas.Int.{ints}
+use Rattle.wave_defs.specs.Within.{IsWithin}
+use Rattle.raster_rows.specs.Pixels.{IsPixel}
+
+-- a pixel in range is at most 2 ^ 16 in magnitude
+pub pixel_small : (depth : ℕ) (signed : Bool) (z : ℤ) → 1 ≤ depth → depth ≤ 16 → IsPixel depth signed z → IsWithin (2 ^ 16) z
+pixel_small depth true z some most p =
+    let half = pow_mono {i = depth - 1} {j = 16} (omega arith) in
+    record { above = omega (arith, ints, p.low, half); below = omega (arith, ints, p.high, half) }
+pixel_small depth false z some most p =
+    let whole = pow_mono {i = depth} {j = 16} most in
+    record { above = omega (arith, ints, p.low); below = omega (arith, ints, p.high, whole) }
+
+-- a coefficient with the greatest weight is below 2 ^ 27 in magnitude
+pub within_small : (z : ℤ) → IsWithin 128000000 z → unsigned_abs z < 2 ^ 27
+within_small (pos a) h = omega (arith, ints, h.above, h.below)
+within_small (negsuc a) h = omega (arith, ints, h.above, h.below)

@@ -1,0 +1,51 @@
+-- How far an image goes as the kept packets tell: its height, or what their heads reach while it isn't told. This project's own.
+use Rattle.std.specs.Prelude.{ℕ, ◌+◌, ◌-◌, ◌*◌, ◌/◌, ◌==◌, max, if◌then◌else◌, List, fold, Option, None, Some, Result, Ok, Err}
+use Rattle.base_122.specs.Sizes.{block_count}
+use Rattle.base_122.specs.declared.geometry.Geometry.{Geometry}
+use Rattle.segment_defs.specs.declared.head.SegmentHead.{SegmentHead}
+use Rattle.segment_defs.specs.declared.fault.HeadFault.{HeadFault}
+use Rattle.segment_defs.specs.Reading.{head_read}
+use Rattle.packet_defs.specs.declared.ancillary.Ancillary.{Ancillary}
+use Rattle.packet_defs.specs.Reading.{ancillary_in, text_in}
+use Rattle.stream_defs.specs.Fates.{geometry_in, kept_in}
+
+-- ---- what the kept heads reach
+
+-- the first block after a segment whose head was read in a packet that tells this
+abbrev pub end_told : Ancillary → Result SegmentHead HeadFault → ℕ
+end_told a (Ok head) = a.first + head.blocks
+end_told a (Err fault) = 0
+
+-- the first block after the segment that a packet begins; 0 where it begins none
+abbrev pub end_in : List ℕ → ℕ
+end_in packet = if (ancillary_in packet).part == 0 then end_told (ancillary_in packet) (head_read (text_in packet)) else 0
+
+-- the greatest of these
+unfoldable pub end_of : List (List ℕ) → ℕ
+end_of packets = fold (λ most packet. max most (end_in packet)) 0 packets
+
+-- whole block rows that the heads of kept packets reach, in an image of this width
+abbrev pub begun : Geometry → List (List ℕ) → ℕ
+begun g packets = end_of packets / block_count g.width
+
+-- of a stream of octets; none without a geometry
+abbrev pub begun_in : (apid : ℕ) → List ℕ → ℕ
+begun_in apid octets = by_geometry (geometry_in apid octets)
+  where
+    by_geometry : Option Geometry → ℕ
+    by_geometry None = 0
+    by_geometry (Some g) = begun g (kept_in apid octets)
+
+-- ---- rows
+
+-- rows that are given where the kept heads reach n block rows: all, or those that these determine while the height isn't told
+abbrev pub height : Geometry → (n : ℕ) → ℕ
+height g n = if g.rows == 0 then 8 * n - 21 else g.rows
+
+-- block rows of which some can be missing
+abbrev pub block_rows : Geometry → (n : ℕ) → ℕ
+block_rows g n = if g.rows == 0 then n else block_count g.rows
+
+-- block rows of the bands: while the height isn't told, as many as an image has at least of which the first n don't end it
+abbrev pub band_rows : Geometry → (n : ℕ) → ℕ
+band_rows g n = if g.rows == 0 then n + 3 else block_count g.rows
