@@ -15,3 +15,4 @@ pub mod WordOctets
 mod FrontBits
 mod FrontTaking
 pub mod WindowBits
+pub mod Endings

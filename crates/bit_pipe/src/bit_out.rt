@@ -82,22 +82,36 @@ impl<'a, O: OctetOut> BitOut<'a, O> {
     }
 
     // Puts bits for which there is room. They wait until they fill a word of eight octets.
-    #[inline]
+    #[inline(always)]
     fn put_fitting(&mut self, value: u64, count: u8) -> Result<(), PutFault>
         requires count { count < 64 }
         requires room { count ≤ self.old.room }
         requires bound { IsOpen (stand O.sink self.old) }
         ensures { Puts O.sink result (stand O.sink self.old) (stand O.sink self.new) (bits_of count value) }
     {
-        let low = value & ((1 << count) - 1);
         let filled = self.filled + count;
-        if filled < 64 {
-            self.pending = (self.pending << count) | low;
-            self.filled = filled;
-            self.room -= u64::from(count);
-            return Ok(());
+        if filled >= 64 {
+            return self.put_word(value, count);
         }
-        let rest = filled - 64;
+        let low = value & ((1 << count) - 1);
+        self.pending = (self.pending << count) | low;
+        self.filled = filled;
+        self.room -= u64::from(count);
+        Ok(())
+    }
+
+    // Puts bits that fill a word with those that wait, and gives the word to the sink. Most calls fill none.
+    #[cold]
+    #[inline(never)]
+    fn put_word(&mut self, value: u64, count: u8) -> Result<(), PutFault>
+        requires count { count < 64 }
+        requires room { count ≤ self.old.room }
+        requires full { 64 ≤ self.old.filled + count }
+        requires bound { IsOpen (stand O.sink self.old) }
+        ensures { Puts O.sink result (stand O.sink self.old) (stand O.sink self.new) (bits_of count value) }
+    {
+        let low = value & ((1 << count) - 1);
+        let rest = self.filled + count - 64;
         let word = (self.pending << (count - rest)) | (low >> rest);
         self.out.put_word(word)?;
         self.pending = low & ((1 << rest) - 1);

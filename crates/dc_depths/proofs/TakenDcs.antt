@@ -25,7 +25,8 @@ use Rattle.dc_depths.specs.TakenDc.{dc_through, given_dcs, TakesDc}
 use Rattle.dc_depths.specs.DcReading.{block_count, HasNumbers, HasBits, high_parts, with_low, TakesHigh, TakesPlanes}
 use Rattle.dc_depths.proofs.DcCells.{dcs_as, dcs_then}
 use Rattle.dc_depths.proofs.DcNumbers.{dc_with, number_stays, low_bit, no_bit_below}
-use Rattle.dc_depths.proofs.TakenPlanes.{planes_long, later_answer, in_whole}
+use Rattle.dc_depths.proofs.TakenPlanes.{planes_long}
+use Rattle.bit_pipe.proofs.Endings.{later_answer, in_whole}
 
 -- ---- DCs of numbers and low parts
 

@@ -19,6 +19,7 @@ use Rattle.bit_pipe.specs.Coming.{Coming, IsIn, Takes}
 use Rattle.bit_pipe.specs.Reading.{Ending, stopped, failed, Reads, later_by, IsCut}
 use Rattle.bit_pipe.specs.Answers.{part_answer, items_read}
 use Rattle.bit_pipe.proofs.Taking.{takes_start, takes_then, in_later}
+use Rattle.bit_pipe.proofs.Endings.{later_answer, read_later, whole_ending, ended_cut, err_cut, in_whole}
 use Rattle.bit_pipe.proofs.ItemReading.{reads_then, reads_cut, reads_whole}
 use Rattle.number_defs.specs.Cells.{cell_at}
 use Rattle.number_defs.specs.DcPart.{dc_bit, planes_before}
@@ -37,41 +38,6 @@ same_maps f g (x ∷ xs) [] d e long same = absurd (omega (arith, long))
 same_maps f g (x ∷ xs) (y ∷ ys) d e long same =
     let rest = same_maps f g xs ys d e (omega (arith, long)) (λ i lt. same (suc i) (omega (arith, lt))) in
     ap (λ z. z ∷ map f xs) (same 0 (omega arith)) ∙ ap (λ zs. g y ∷ zs) rest
-
--- ---- endings
-
-pub later_answer : (n : ℕ) (e : Ending) → part_answer (later_by n e) ≡ part_answer e
-later_answer n (stopped whole) = refl
-later_answer n (stopped (ended m)) = refl
-later_answer n (stopped (refused m s name)) = refl
-later_answer n (failed m e) = refl
-
-pub read_later : (c d n : ℕ) (e : Ending) → IsCut e → items_read c (later_by n e) ≡ n + items_read d e
-read_later c d n (stopped whole) cut = absurd cut
-read_later c d n (stopped (ended m)) cut = refl
-read_later c d n (stopped (refused m s name)) cut = refl
-read_later c d n (failed m e) cut = refl
-
-pub whole_ending : (e : Ending) → Ok Whole ≡ part_answer e → e ≡ stopped whole
-whole_ending (stopped whole) h = refl
-whole_ending (stopped (ended m)) h = absurd cc
-whole_ending (stopped (refused m s name)) h = absurd cc
-whole_ending (failed m e) h = absurd cc
-
-pub ended_cut : (e : Ending) → Ok Ended ≡ part_answer e → IsCut e
-ended_cut (stopped whole) h = absurd cc
-ended_cut (stopped (ended m)) h = tt
-ended_cut (stopped (refused m s name)) h = tt
-ended_cut (failed m e) h = tt
-
-pub err_cut : (e : Ending) (fault : TextFault) → Err fault ≡ part_answer e → IsCut e
-err_cut (stopped whole) fault h = absurd cc
-err_cut (stopped (ended m)) fault h = tt
-err_cut (stopped (refused m s name)) fault h = tt
-err_cut (failed m e) fault h = tt
-
-pub in_whole : {I : Type 0} {k : SourceOf I} {items : List Item} {e : Ending} {a b : Coming I} → IsIn a → e ≡ stopped whole → Reads k items e a b → IsIn b
-in_whole {I} {k} {items} {e} {a} {b} h w p = in_later h (subst (λ x. Reads k items x a b) w p).ends
 
 -- ---- the items of planes
 

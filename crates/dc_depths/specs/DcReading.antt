@@ -18,11 +18,11 @@ use Rattle.dc_depths.specs.TakenDc.{SetsDcs, dc_through}
 abbrev pub zero_dc : ℕ → ℤ
 zero_dc r = pos 0
 
--- the blocks of so many numbers
+-- the number of blocks that these numbers have
 abbrev pub block_count : List ℤ → ℕ
 block_count blocks = div_ceil (length blocks) 64
 
--- so much can be added to each DC
+-- this weight can be added to each DC
 pub record HasRoom (weight : ℤ) (blocks : List ℤ) : Type 0 where
   pub at : (r : ℕ) → r * 64 < length blocks → unsigned_abs (cell_at 64 blocks r) + unsigned_abs weight < 2147483648
 

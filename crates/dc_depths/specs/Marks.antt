@@ -1,4 +1,4 @@
--- Block depths as they stand in marks. (This project's own.)
+-- Block depths as they are in marks. (This project's own.)
 use Rattle.std.specs.Prelude.{◌<◌, ℕ, ℤ, pos, ◌≤ℤ◌, List, length, map, nat_abs, slice_index_or}
 
 abbrev pub depths_of : List ℤ → List ℕ

@@ -11,7 +11,7 @@ use Rattle.number_defs.specs.Given.{numbers_through}
 use Rattle.number_defs.specs.Depths.{depth_bits, depth_kind, depth_items}
 use Rattle.gaggle_codes.specs.Taken.{IsOption}
 
--- how many items make the depth of a block whole, with all before it
+-- the number of items that make the depth of a block whole, with all before it
 abbrev pub depths_through : ℕ → List ℕ → (ℕ → ℕ) → ℕ → ℕ
 depths_through depth_ac depths options i =
     if depth_ac == 0 then 0 else if depth_ac == 1 then i + 1 else numbers_through (depth_kind depth_ac) depths options i

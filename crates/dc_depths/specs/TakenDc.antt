@@ -20,12 +20,12 @@ pub record SetsDcs (dc : ℕ → ℤ) (old new : List ℤ) : Type 0 where
   pub dcs : (r : ℕ) → r * 64 < length old → cell_at 64 new r ≡ dc r
   pub others : (i : ℕ) → ((r : ℕ) → i ≡ r * 64 → ⊥) → slice_index_or new i (pos 0) ≡ slice_index_or old i (pos 0)
 
--- how many items make the number of a DC whole, with all before it
+-- the number of items that make the number of a DC whole, with all before it
 abbrev pub dc_through : ℕ → ℕ → List ℤ → (ℕ → ℕ) → ℕ → ℕ
 dc_through N q dcs options r =
     if N == 1 then r + 1 else numbers_through (dc_kind N) (map (shifted_height true N q) dcs) options r
 
--- bit b of DC r stands whole in the first m items, in a DC bit plane
+-- bit b of DC r is whole in the first m items, in a DC bit plane
 abbrev pub is_plane_bit_given : (q planes high count m r b : ℕ) → Bool
 is_plane_bit_given q planes high count m r b = nat_lt (q - (b + 1)) planes && nat_le (high + (q - (b + 1)) * count + r + 1) m
 

@@ -11,10 +11,10 @@ use base_122::Select;
 use bit_pipe::{BitOut, OctetOut, PutFault};
 use gaggle_codes::{NumberRange, put_values};
 
-// Numbers of a block; its DC is the first.
+// The number of numbers of a block; its DC is the first.
 const BLOCK: usize = 64;
 
-// One bit of each block's DC in two's complement.
+// Puts one bit of each block's DC in two's complement.
 fn put_plane<O: OctetOut>(out: &mut BitOut<O>, blocks: &[i32], plane: u8) -> Result<(), PutFault>
     requires open { IsReady O.sink out.old }
     requires plane { plane ≤ 28 }
@@ -26,7 +26,7 @@ fn put_plane<O: OctetOut>(out: &mut BitOut<O>, blocks: &[i32], plane: u8) -> Res
     Ok(())
 }
 
-// The high bits of each block's DC.
+// Puts the high bits of each block's DC.
 fn put_high<O: OctetOut>(
     out: &mut BitOut<O>,
     blocks: &[i32],
@@ -49,7 +49,7 @@ fn put_high<O: OctetOut>(
     put_values(out, blocks, BLOCK, plan.q(), range, select)
 }
 
-// The DC bit planes that are left, from the highest down.
+// Puts the DC bit planes that are left, from the highest down.
 fn put_planes<O: OctetOut>(
     out: &mut BitOut<O>,
     blocks: &[i32],

@@ -10,10 +10,10 @@ use crate::plan::DcPlan;
 use bit_pipe::{BitIn, OctetIn, Part, TextFault};
 use gaggle_codes::{NumberRange, take_values};
 
-// Numbers of a block; its DC is the first.
+// The number of numbers of a block; its DC is the first.
 const BLOCK: usize = 64;
 
-// Each DC becomes 0.
+// Sets each DC to 0.
 fn clear(blocks: &mut [i32])
     ensures { SetsDcs zero_dc blocks.old blocks.new }
 {
@@ -22,7 +22,7 @@ fn clear(blocks: &mut [i32])
     }
 }
 
-// A power of two.
+// Returns a power of two.
 fn power(shift: u8) -> i32
     requires { shift ≤ 27 }
     ensures { result ≡ pos (2 ^ shift) }
@@ -30,7 +30,7 @@ fn power(shift: u8) -> i32
     1 << shift
 }
 
-// A bit times what it counts.
+// Returns a bit times its weight.
 fn weighed(bit: u32, weight: i32) -> i32
     requires { bit < 2 }
     ensures { result ≡ pos bit *ℤ weight }
@@ -38,7 +38,7 @@ fn weighed(bit: u32, weight: i32) -> i32
     if bit == 1 { weight } else { 0 }
 }
 
-// One bit of each block, which counts so much in its DC.
+// Takes one bit of each block, and adds it with this weight to the DC.
 fn take_bits<I: OctetIn>(
     input: &mut BitIn<I>,
     blocks: &mut [i32],
@@ -57,7 +57,7 @@ fn take_bits<I: OctetIn>(
     Ok(Part::Whole)
 }
 
-// The numbers of the DCs.
+// Takes the numbers of the DCs.
 fn take_high<I: OctetIn>(
     input: &mut BitIn<I>,
     blocks: &mut [i32],
@@ -80,7 +80,7 @@ fn take_high<I: OctetIn>(
     Ok(part)
 }
 
-// The DC bit planes, from the highest down.
+// Takes the DC bit planes, from the highest down.
 fn take_planes<I: OctetIn>(
     input: &mut BitIn<I>,
     blocks: &mut [i32],
@@ -106,8 +106,8 @@ fn take_planes<I: OctetIn>(
 
 /// Takes the DC part of a segment: the numbers of its blocks' DCs, then their bit planes down to the depth of AC
 /// (docs/formats.md, "DC part and block depths"). A block is 64 numbers, of which the first becomes its DC, and the
-/// others stay: the number that is given times 2^q and the low bits that are given, and 0 where no number is. The
-/// answer tells whether all items stood in the text.
+/// others stay: the number that is given times 2^q and the low bits that are given, and 0 if no number is. Returns
+/// whether all items were in the text.
 ///
 /// `depth_dc` is at most 28, `shift` at most 3, and there are fewer than 2^20 blocks.
 ///

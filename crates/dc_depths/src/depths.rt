@@ -10,7 +10,7 @@ use base_122::Select;
 use bit_pipe::{BitOut, OctetOut, PutFault};
 use gaggle_codes::{NumberRange, put_values};
 
-// The bits of each depth, where the greatest is at least 2.
+// Returns the number of bits of each depth, if the greatest is at least 2.
 pub(crate) fn depth_bits_of(depth_ac: u8) -> u8
     requires low { 2 ≤ depth_ac }
     requires high { depth_ac ≤ 27 }
@@ -27,7 +27,7 @@ pub(crate) fn depth_bits_of(depth_ac: u8) -> u8
     }
 }
 
-// Depths of 0 or 1, a bit each.
+// Puts depths of 0 or 1, one bit each.
 fn put_raw<O: OctetOut>(out: &mut BitOut<O>, marks: &[i32]) -> Result<(), PutFault>
     requires open { IsReady O.sink out.old }
     requires depths { AreDepths 1 marks.now }

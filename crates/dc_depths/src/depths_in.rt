@@ -7,7 +7,7 @@ use crate::depths::depth_bits_of;
 use bit_pipe::{BitIn, OctetIn, Part, TextFault};
 use gaggle_codes::{NumberRange, take_bounded};
 
-// Each mark becomes 0.
+// Sets each mark to 0.
 fn clear(marks: &mut [i32])
     ensures { (i : ℕ) → slice_index_or marks.new i (pos 0) ≡ pos 0 }
 {
@@ -16,7 +16,7 @@ fn clear(marks: &mut [i32])
     }
 }
 
-// Depths of 0 or 1, a bit each.
+// Takes depths of 0 or 1, one bit each.
 fn take_raw<I: OctetIn>(input: &mut BitIn<I>, marks: &mut [i32]) -> Result<Part, TextFault>
     requires open { IsIn (coming input.old) }
     requires none { (i : ℕ) → slice_index_or marks.old i (pos 0) ≡ pos 0 }
@@ -32,7 +32,7 @@ fn take_raw<I: OctetIn>(input: &mut BitIn<I>, marks: &mut [i32]) -> Result<Part,
 }
 
 /// Takes the block depths, one for each mark (docs/formats.md, "DC part and block depths"). The marks are the depths
-/// that are given, and 0 for further ones. The answer tells whether all items stood in the text.
+/// that are given, and 0 for further ones. Returns whether all items were in the text.
 ///
 /// `depth_ac` is at most 27, and there are fewer than 2^20 marks.
 ///

@@ -1,6 +1,6 @@
 ghost use Rattle.std.specs.Prelude.{◌≡◌, ◌≤◌};
 
-/// What a head tells of a segment's DC part: the depths of DC and AC, and the shift of the weight of LL3.
+/// What a segment header says of the segment's DC part: the depths of DC and AC, and the shift of the weight of LL3.
 #[derive(Clone, Copy, Debug, PartialEq, Eq)]
 pub struct DcPlan {
     pub depth_dc: u8,
@@ -11,14 +11,15 @@ pub struct DcPlan {
 impl DcPlan {
     ghost use Rattle.number_defs.specs.DcPart.{depth_q, dc_q, dc_bits};
 
-    /// The low bits of each DC that are left for later (docs/formats.md, "DC part and block depths").
+    /// Returns q, the number of low bits of each DC that are missing in its number (docs/formats.md, "DC part and block
+    /// depths").
     pub fn q(&self) -> u8
         ensures { result ≡ dc_q self.now.depth_dc self.now.depth_ac self.now.shift }
     {
         self.depth_q().max(self.shift)
     }
 
-    // The low bits that the depths alone would leave.
+    // Returns the number of low bits that the depths alone would leave.
     fn depth_q(&self) -> u8
         ensures { result ≡ depth_q self.now.depth_dc self.now.depth_ac }
     {
@@ -35,7 +36,7 @@ impl DcPlan {
         }
     }
 
-    /// The bits of each number that is written before the DC bit planes, 1 to 10 (docs/formats.md, "DC part
+    /// Returns the number of bits of each number that is written before the DC bit planes, 1 to 10 (docs/formats.md, "DC part
     /// and block depths").
     pub fn bits(&self) -> u8
         ensures is { result ≡ dc_bits self.now.depth_dc self.now.depth_ac self.now.shift }

@@ -1,10 +1,10 @@
 -- How an option is chosen by the total.
-use Rattle.std.proofs.Common.{◌≡◌, ℕ, zero, suc, ◌+◌, ◌*◌, ◌-◌, ◌^◌, ◌<◌, ◌≤◌, true, false, refl, arith, leb, ltb, sub-one}
+use Rattle.std.proofs.Common.{◌≡◌, ℕ, zero, suc, ◌+◌, ◌*◌, ◌-◌, ◌^◌, ◌<◌, ◌≤◌, true, false, arith, leb, ltb, sub-one}
 use Rattle.std.proofs.lemmas.Bool.Decides.{nat_tests}
 use Rattle.number_defs.specs.Choice.{suits, greatest_suiting, by_total}
 use Rattle.number_defs.proofs.Suiting.{greatest_suiting-taken, greatest_suiting-passed, greatest_suiting-none}
 use Rattle.gaggle_codes.specs.Options.{name_of}
-use Rattle.gaggle_codes.proofs.Names.{name_k, name_uncoded}
+use Rattle.gaggle_codes.proofs.Names.{name_k}
 
 pub suits_less : (count total k : ℕ) → 0 < k → 128 * total + 49 * count < count * 2 ^ (k + 7) → greatest_suiting count total k ≡ greatest_suiting count total (k - 1)
 suits_less count total zero lt over = absurd (omega arith)
@@ -23,17 +23,6 @@ suits_none count total zero le = greatest_suiting-none count total
 suits_none count total (suc k) le = absurd (omega arith)
 
 module _ (N count total : ℕ) where
-  pub takes_uncoded : 23 * count * 2 ^ N ≤ 64 * total → 15 ≡ name_of N (by_total N count total)
-  takes_uncoded p =
-      let a : leb (23 * count * 2 ^ N) (64 * total) ≡ true = grind (arith, nat_tests) in
-      rw a (name_uncoded N)
-
-  pub takes_none : 2 ≤ N → N ≤ 10 → 64 * total < 23 * count * 2 ^ N → 128 * total < 207 * count → 0 ≡ name_of N (by_total N count total)
-  takes_none low high p q =
-      let a : leb (23 * count * 2 ^ N) (64 * total) ≡ false = grind (arith, nat_tests) in
-      let b : ltb (128 * total) (207 * count) ≡ true = grind (arith, nat_tests) in
-      rw (a, b) (name_k N 0 low high (omega arith))
-
   pub takes_k : (k : ℕ) → 2 ≤ N → N ≤ 10 → k ≤ N - 2 → 64 * total < 23 * count * 2 ^ N → 207 * count ≤ 128 * total → greatest_suiting count total (N - 2) ≡ k → k ≡ name_of N (by_total N count total)
   takes_k k low high le p q e =
       let a : leb (23 * count * 2 ^ N) (64 * total) ≡ false = grind (arith, nat_tests) in

@@ -4,6 +4,7 @@ use Rattle.std.specs.Prelude.{◌||◌, ◌==◌, nat_lt}
 use Rattle.std.specs.List.{range_with_len}
 use Rattle.std.proofs.lemmas.Bool.{cases_lt}
 use Rattle.std.proofs.lemmas.Bool.Decides.{nat_tests}
+use Rattle.std.proofs.lemmas.List.FromFn.{length-range_with_len}
 use Rattle.number_defs.specs.Gaggles.{Kind, uncoded, places, first_place, reference, lead_items, uncoded_value, unary_part, rest_part, value_items, gaggle_items, items_before}
 use Rattle.number_defs.specs.Given.{numbers_through}
 use Rattle.gaggle_codes.specs.Taken.{option_item, given_in}
@@ -26,10 +27,6 @@ abbrev pub through_in : ℕ → ℕ → ℕ → ℕ → ℕ → ℕ
 through_in N option size zero zero = 2
 through_in N option size zero (suc j) = 2 + cond (whole_alone N option) 0 (size - 1) + (j + 1)
 through_in N option size (suc g) j = 1 + cond (whole_alone N option) 0 size + (j + 1)
-
-range_length : (a n : ℕ) → length (range_with_len a n) ≡ n
-range_length a zero = refl
-range_length a (suc n) = ap suc (range_length (a + 1) n)
 
 module _ (kind : Kind) (xs : List ℕ) where
   pub value_count : (option a n : ℕ) → length (value_items kind xs option (range_with_len a n)) ≡ value_total kind.bits option n
@@ -74,11 +71,11 @@ module _ (kind : Kind) (xs : List ℕ) where
       by_gaggle zero zero e lt = omega arith
       by_gaggle zero (suc j) e lt =
           let t : eqb (16 * 0 + suc j) 0 ≡ false = grind (arith, nat_tests) in
-          let n : length (places (length xs) 0) ≡ size - 1 = range_length 1 (min (length xs) (16 * 0 + 16) - max (16 * 0) 1) ∙ omega (arith, e) in
+          let n : length (places (length xs) 0) ≡ size - 1 = length-range_with_len 1 (min (length xs) (16 * 0 + 16) - max (16 * 0) 1) ∙ omega (arith, e) in
           rw (t, n) (omega arith)
       by_gaggle (suc g) j e lt =
           let t : eqb (16 * suc g + j) 0 ≡ false = grind (arith, nat_tests) in
-          let n : length (places (length xs) (suc g)) ≡ size = range_length (max (16 * suc g) 1) (min (length xs) (16 * suc g + 16) - max (16 * suc g) 1) ∙ omega (arith, e) in
+          let n : length (places (length xs) (suc g)) ≡ size = length-range_with_len (max (16 * suc g) 1) (min (length xs) (16 * suc g + 16) - max (16 * suc g) 1) ∙ omega (arith, e) in
           rw (t, n) (omega arith)
 
 -- ---- within one gaggle

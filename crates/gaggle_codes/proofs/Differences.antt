@@ -14,62 +14,12 @@ use Rattle.bit_pipe.specs.Coming.{Coming, IsIn, Takes}
 use Rattle.bit_pipe.specs.Reading.{Ending, stopped, failed, Reads, IsCut, later_by}
 use Rattle.bit_pipe.specs.Answers.{part_answer, items_read}
 use Rattle.bit_pipe.proofs.Taking.{in_later}
+use Rattle.bit_pipe.proofs.Endings.{whole_ending, cut_within, later_read, later_answer, ended_differs, err_differs, cut_from, of_part, of_fault, cut_read}
 use Rattle.bit_pipe.proofs.ItemReading.{reads_then, reads_cut}
 use Rattle.number_defs.specs.Gaggles.{Kind, uncoded, is_option, uncoded_value, unary_part, rest_part, value_items}
 use Rattle.gaggle_codes.specs.Taken.{whole_item, whole_items, whole_of, difference_items, TakesZeros, TakesWhole, TakesDifferences}
 use Rattle.gaggle_codes.proofs.RangeItems.{range_same, range_long}
 use Rattle.gaggle_codes.proofs.Wholes.{chain_none, fill}
-
--- ---- endings
-
-pub whole_from : (e : Ending) → Ok Whole ≡ part_answer e → e ≡ stopped whole
-whole_from (stopped whole) h = refl
-whole_from (stopped (ended m)) h = absurd cc
-whole_from (stopped (refused m n name)) h = absurd cc
-whole_from (failed m e) h = absurd cc
-
-pub cut_from : (e : Ending) → (Ok Whole ≡ part_answer e → ⊥) → IsCut e
-cut_from (stopped whole) h = h refl
-cut_from (stopped (ended m)) h = tt
-cut_from (stopped (refused m n name)) h = tt
-cut_from (failed m e) h = tt
-
-abbrev pub of_part : Part → Result Part TextFault
-of_part part = Ok part
-
-abbrev pub of_fault : TextFault → Result Part TextFault
-of_fault fault = Err fault
-
-pub ended_differs : Ok Whole ≡ of_part Ended → ⊥
-ended_differs h = absurd cc
-
-pub err_differs : (fault : TextFault) → Ok Whole ≡ of_fault fault → ⊥
-err_differs fault h = absurd cc
-
--- a reading that is cut read fewer items
-pub cut_within : {I : Type 0} {k : SourceOf I} (items : List Item) (n : ℕ) (e : Ending) {a b : Coming I} → IsCut e → Reads k items e a b → items_read n e < length items
-cut_within items n (stopped whole) cut r = absurd cut
-cut_within items n (stopped (ended m)) cut r = r.ends.0.within
-cut_within items n (stopped (refused m s name)) cut r = r.ends.within
-cut_within items n (failed m e) cut r = r.ends.0.within
-
-pub cut_read : (m n : ℕ) (e : Ending) → IsCut e → items_read m e ≡ items_read n e
-cut_read m n (stopped whole) cut = absurd cut
-cut_read m n (stopped (ended i)) cut = refl
-cut_read m n (stopped (refused i s name)) cut = refl
-cut_read m n (failed i e) cut = refl
-
-pub later_read : (n m : ℕ) (e : Ending) → items_read (n + m) (later_by n e) ≡ n + items_read m e
-later_read n m (stopped whole) = refl
-later_read n m (stopped (ended i)) = refl
-later_read n m (stopped (refused i s name)) = refl
-later_read n m (failed i e) = refl
-
-pub later_answer : (n : ℕ) (e : Ending) → part_answer (later_by n e) ≡ part_answer e
-later_answer n (stopped whole) = refl
-later_answer n (stopped (ended i)) = refl
-later_answer n (stopped (refused i s name)) = refl
-later_answer n (failed i e) = refl
 
 -- ---- items
 
@@ -162,7 +112,7 @@ module _ {I : Type 0} {k : SourceOf I} (kind : Kind) (option p count : ℕ) (zer
     -- they were, and then the rests
     pub differences_split : {r : Result Part TextFault} {a b c : Coming I} {before now : List ℕ} → TakesZeros k kind.bits option zeros (Ok Whole) a b → TakesWhole k kind option p zeros r b c before now → TakesDifferences k kind option p count r a c before now
     differences_split {r} {a} {b} {c} {before} {now} z w =
-        let whole_end = whole_from z.ending z.answer in
+        let whole_end = whole_ending z.ending z.answer in
         let first = subst (λ e. Reads k (map (unary_part kind (p ∷ w.heights) option) (range_with_len 1 (length zeros))) e a b) whole_end (z.read kind (p ∷ w.heights) refl (w.zeros_are a' b')) in
         let unary = map (unary_part kind (p ∷ w.heights) option) (range_with_len 1 count) in
         let wholes = whole_items kind option count (p ∷ w.heights) in
@@ -194,7 +144,7 @@ module _ {I : Type 0} {k : SourceOf I} (kind : Kind) (option p count : ℕ) (zer
         let f = fill kind.bits option p zeros known z.few (length zeros) 0 p [] (chain_none kind.bits option p zeros low) in
         let n : 0 + length zeros ≡ length zeros = omega arith in
         let heights = [] ++ f.rest in
-        let first = subst (λ e. Reads k (map (unary_part kind (p ∷ heights) option) (range_with_len 1 (length zeros))) e a b) (whole_from z.ending z.answer)
+        let first = subst (λ e. Reads k (map (unary_part kind (p ∷ heights) option) (range_with_len 1 (length zeros))) e a b) (whole_ending z.ending z.answer)
         (z.read kind (p ∷ heights) refl (λ j lt. f.chained.zeros_are a' b' j (omega (arith, n, lt)))) in
         in_later h first.ends
 

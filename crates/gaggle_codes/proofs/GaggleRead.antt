@@ -18,7 +18,7 @@ use Rattle.bit_pipe.proofs.ItemReading.{reads_then, reads_cut}
 use Rattle.number_defs.specs.Gaggles.{Kind, uncoded, places, uncoded_value, unary_part, rest_part, value_items, reference, gaggle_items}
 use Rattle.gaggle_codes.specs.Taken.{whole_of, difference_items, IsOption, option_item, TakesReference, TakesDifferences, given_in, HasGaggle, TakesGaggle}
 use Rattle.gaggle_codes.proofs.RangeItems.{range_same}
-use Rattle.gaggle_codes.proofs.Differences.{later_read, later_answer, cut_within}
+use Rattle.bit_pipe.proofs.Endings.{later_read, later_answer, cut_within}
 
 -- ---- one item
 

@@ -12,9 +12,6 @@ low_same most xs = record { kept = λ low. low }
 pub low_stays : {xs ys zs : List ℕ} (most : ℕ) → StayLow most xs ys → zs ≡ ys → StayLow most xs zs
 low_stays {xs} most s e = subst (StayLow most xs) (sym e) s
 
-pub low_none : (most : ℕ) → AreLow most []
-low_none most = record { at = λ i. omega arith }
-
 low_push : (most height : ℕ) (ys : List ℕ) → height ≤ most → AreLow most ys → AreLow most (ys ++ height ∷ [])
 low_push most height ys le low = record {
   at = λ i. elim (cases_lt i (length ys)) [
@@ -31,13 +28,6 @@ low_push most height ys le low = record {
 
 pub low_more : {xs ys zs : List ℕ} (most height : ℕ) → StayLow most xs ys → height ≤ most → zs ≡ ys ++ height ∷ [] → StayLow most xs zs
 low_more {xs} {ys} most height s le e = subst (StayLow most xs) (sym e) (record { kept = λ low. low_push most height ys le (s.kept low) })
-
-pub low_then : {xs ys zs : List ℕ} (most : ℕ) → StayLow most xs ys → StayLow most ys zs → StayLow most xs zs
-low_then most s t = record { kept = λ low. t.kept (s.kept low) }
-
--- where there was none before
-pub low_from : {xs ys : List ℕ} (most : ℕ) → xs ≡ [] → StayLow most xs ys → AreLow most ys
-low_from {xs} {ys} most none s = s.kept (subst (AreLow most) (sym none) (low_none most))
 
 -- no test of a bound refuses them
 pub low_allowed : {most N : ℕ} (too_great : ℕ → Bool) → IsBound most N too_great → {xs : List ℕ} → AreLow most xs → ((i : ℕ) → get_or xs i 0 < 2 ^ N) → (i : ℕ) → i < length xs → too_great (get_or xs i 0) ≡ false

@@ -27,7 +27,7 @@ use Rattle.gaggle_codes.specs.declared.range.NumberRange.{NumberRange}
 use Rattle.gaggle_codes.specs.Written.{kind_of}
 use Rattle.gaggle_codes.specs.Given.{SetsCells}
 use Rattle.gaggle_codes.specs.Taken.{IsOption, given_in, HasGaggle, TakesGaggle, TakesNumbers, numbers_answer}
-use Rattle.gaggle_codes.proofs.Differences.{of_fault, ended_differs, err_differs, whole_from, cut_from, cut_within}
+use Rattle.bit_pipe.proofs.Endings.{of_fault, ended_differs, err_differs, whole_ending, cut_from, cut_within}
 use Rattle.gaggle_codes.proofs.Leads.{uncoded_is}
 use Rattle.number_defs.specs.Gaggles.{uncoded}
 use Rattle.gaggle_codes.proofs.Setting.{sets_as}
@@ -309,7 +309,7 @@ module _ {I : Type 0} {k : SourceOf I} (range : NumberRange) (too_great : ℕ �
       -- ---- where all of them were read
       module _ (all_read : r ≡ Ok Whole) where
         whole_here : t.ending ≡ stopped whole
-        whole_here = whole_from t.ending (sym all_read ∙ t.answer)
+        whole_here = whole_ending t.ending (sym all_read ∙ t.answer)
 
         pub got_all : got ≡ t.heights
         unfolding m

@@ -2,8 +2,9 @@
 use Rattle.std.proofs.Common.{◌≡◌, ℕ, zero, suc, ◌+◌, ◌-◌, ◌/◌, ◌^◌, ◌<◌, ◌≤◌, List, [], ◌∷◌, ◌++◌, length, map, get_or, Bool, true, false, eqb, cond, refl, sym, ap, ◌∙◌, arith}
 use Rattle.std.specs.Prelude.{flat_map}
 use Rattle.std.proofs.lemmas.Bool.Decides.{nat_tests}
-use Rattle.std.proofs.lemmas.Nat.{shr_below}
 use Rattle.std.proofs.lemmas.List.Concat.{flat_map-cons}
+use Rattle.number_defs.proofs.AreItems.{option_within}
+use Rattle.number_defs.proofs.CodedBits.{high_small}
 use Rattle.item_defs.specs.Bits.{bits_of}
 use Rattle.item_defs.specs.Items.{Item, item_bits, text, identifier}
 use Rattle.item_defs.proofs.BitLists.{zeros_then_one}
@@ -19,20 +20,12 @@ each_text f g b same [] = refl
 each_text f g b same (x ∷ at) =
     text-cons (f x) (map f at) ∙ ap (λ r. r ++ text (map f at)) (same x) ∙ ap (λ r. b (g x) ++ r) (each_text f g b same at) ∙ sym (flat_map-cons b (g x) (map g at))
 
-fewer : (N k v : ℕ) → k ≤ N → v < 2 ^ N → v / 2 ^ k < 2 ^ (N - k)
-fewer N k v le lt =
-    let e : (N - k) + k ≡ N = omega arith in
-    shr_below v (N - k) k (rw e lt)
-
-is_k : (N option : ℕ) → is_option N option ≡ true → eqb option (uncoded N) ≡ false → option ≤ N - 2
-is_k N option is ne = grind (arith, nat_tests)
-
 module _ (kind : Kind) (heights : List ℕ) (few : (i : ℕ) → get_or heights i 0 < 2 ^ kind.bits) (low : 2 ≤ kind.bits) (high : kind.bits ≤ 10) where
   value_below : (i : ℕ) → value_at kind.bits heights i < 2 ^ kind.bits
   value_below i = mapped_below kind.bits (get_or heights (i - 1) 0) (get_or heights i 0) (few (i - 1)) (few i)
 
   unary_text : (k i : ℕ) → k ≤ kind.bits → item_bits (unary_part kind heights k i) ≡ unary_bits k (value_at kind.bits heights i)
-  unary_text k i le = sym (zeros_then_one (value_at kind.bits heights i / 2 ^ k) (2 ^ (kind.bits - k)) (fewer kind.bits k (value_at kind.bits heights i) le (value_below i)))
+  unary_text k i le = sym (zeros_then_one (value_at kind.bits heights i / 2 ^ k) (2 ^ (kind.bits - k)) (high_small kind.bits k (value_at kind.bits heights i) le (value_below i)))
 
   split_text : (k : ℕ) (at : List ℕ) → k ≤ kind.bits - 2 →
       text (map (unary_part kind heights k) at ++ cond (eqb k 0) [] (map (rest_part kind heights k) at))
@@ -57,7 +50,7 @@ module _ (kind : Kind) (heights : List ℕ) (few : (i : ℕ) → get_or heights 
       ≡ value_bits kind.bits (cond t 15 option) values) [
         | true ↦ λ e. each_text (uncoded_value kind heights) (value_at kind.bits heights) (bits_of kind.bits) (λ i. refl) at
         | false ↦ λ e.
-            let le : option ≤ kind.bits - 2 = is_k kind.bits option is e in
+            let le : option ≤ kind.bits - 2 = option_within kind.bits option is e in
             let other : eqb option 15 ≡ false = grind (arith, nat_tests) in
             rw other (split_text option at le)
       ] refl

@@ -1,5 +1,5 @@
 -- Items that make numbers whole, each given by the number before and the number.
-use Rattle.std.proofs.Common.{◌≡◌, ℕ, ◌+◌, ◌-◌, ◌*◌, ◌/◌, ◌^◌, ◌<◌, List, [], ◌∷◌, get_or, Bool, true, false, cond, eqb, refl, sym, ap, ◌∙◌, arith}
+use Rattle.std.proofs.Common.{◌≡◌, ℕ, ◌+◌, ◌-◌, ◌*◌, ◌/◌, ◌^◌, ◌<◌, [], ◌∷◌, Bool, true, false, cond, eqb, refl, sym, ap, ◌∙◌, arith}
 use Rattle.std.specs.Prelude.{Some, None, nat_lt}
 use Rattle.std.proofs.lemmas.Bool.Decides.{nat_tests}
 use Rattle.std.proofs.lemmas.Nat.{mod_low}
@@ -11,10 +11,6 @@ use Rattle.gaggle_codes.specs.Taken.{IsBound, whole_shape, whole_value, whole_it
 
 abbrev pub item_after : Kind → ℕ → ℕ → ℕ → Item
 item_after kind option p c = whole_item kind option (p ∷ c ∷ []) 1
-
--- an item looks at two numbers alone
-pub looks_at : (kind : Kind) (option : ℕ) (xs : List ℕ) (i : ℕ) → whole_item kind option xs i ≡ item_after kind option (get_or xs (i - 1) 0) (get_or xs i 0)
-looks_at kind option xs i = refl
 
 no_zeros : {w limit : ℕ} → fixed w ≡ zeros_to limit → ⊥
 no_zeros e = absurd cc

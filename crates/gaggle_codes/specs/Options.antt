@@ -9,7 +9,7 @@ abbrev pub choice_of : Select → ℕ → List ℕ → ℕ
 choice_of Heuristic = heuristic
 choice_of Optimal = optimal
 
--- an option is named by its k, and by 15 where it is uncoded
+-- an option is named by its k, and by 15 if it is uncoded
 abbrev pub name_of : ℕ → ℕ → ℕ
 name_of N option = if option == uncoded N then 15 else option
 

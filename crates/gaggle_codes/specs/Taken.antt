@@ -19,7 +19,7 @@ use Rattle.number_defs.specs.Given.{numbers_through}
 use Rattle.gaggle_codes.specs.declared.range.NumberRange.{NumberRange}
 use Rattle.gaggle_codes.specs.Given.{SetsCells}
 
--- numbers of N bits are too great just above `most`
+-- numbers of N bits are too great exactly if they are above `most`
 pub record IsBound (most N : ℕ) (too_great : ℕ → Bool) : Type 0 where
   pub at : (height : ℕ) → height < 2 ^ N → too_great height ≡ nat_lt most height
 
@@ -27,7 +27,7 @@ pub record IsBound (most N : ℕ) (too_great : ℕ → Bool) : Type 0 where
 pub record AreLow (most : ℕ) (heights : List ℕ) : Type 0 where
   pub at : (i : ℕ) → slice_index heights i ≤ most
 
--- and none comes that is
+-- and none is added that is
 pub record StayLow (most : ℕ) (before now : List ℕ) : Type 0 where
   pub kept : AreLow most before → AreLow most now
 
@@ -51,13 +51,13 @@ pub record TakesValue {I : Type 0} (k : SourceOf I) (shape : Shape) (value : ℕ
 abbrev pub itself : ℕ → ℕ
 itself n = n
 
--- ---- the items that make numbers whole: values as they are, unary parts where k is 0, or rests
+-- ---- the items that make numbers whole: values as they are, unary parts if k is 0, or rests
 
 abbrev pub whole_shape : ℕ → ℕ → Shape
 whole_shape N option =
     if option == uncoded N then fixed N else if option == 0 then zeros_to (2 ^ (N - option)) else fixed option
 
--- the mapped value by what such an item says, after so many zeros of its unary part
+-- the mapped value by what such an item says, after the zeros of its unary part
 abbrev pub whole_value : ℕ → ℕ → ℕ → ℕ → ℕ
 whole_value N option zeros said =
     if option == uncoded N then said else if option == 0 then said else zeros * 2 ^ option + said
@@ -93,14 +93,14 @@ pub record TakesWhole {I : Type 0} (k : SourceOf I) (kind : Kind) (option p : �
   pub answer : result ≡ part_answer ending
   pub whole : now ≡ before ++ take (items_read (length zeros) ending) heights
 
--- how many numbers the first m items of so many mapped values make whole
+-- the number of numbers that the first m items of a number of mapped values make whole
 abbrev pub whole_of : ℕ → ℕ → ℕ → ℕ → ℕ
 whole_of N option count m = if option == uncoded N || option == 0 then m else m - count
 
 abbrev pub difference_items : Kind → ℕ → ℕ → List ℕ → List Item
 difference_items kind option count heights = value_items kind heights option (range_with_len 1 count)
 
--- so many numbers after the one of height p were read, as far as their items go
+-- a number of numbers after the one of height p were read, up to where their items end
 pub record TakesDifferences {I : Type 0} (k : SourceOf I) (kind : Kind) (option p count : ℕ) (result : Result Part TextFault) (old new : Coming I) (before now : List ℕ) : Type 0 where
   pub heights : List ℕ
   pub all : length heights ≡ count
@@ -128,7 +128,7 @@ pub record TakesReference {I : Type 0} (k : SourceOf I) (kind : Kind) (result : 
 
 -- ---- a gaggle
 
--- how many numbers of gaggle g its first m items give, of so many
+-- the number of numbers of gaggle g that its first m items give
 abbrev pub given_in : ℕ → ℕ → ℕ → ℕ → ℕ → ℕ
 given_in N option size zero m = if nat_lt m 2 then 0 else 1 + whole_of N option (size - 1) (m - 2)
 given_in N option size (suc g) m = whole_of N option size (m - 1)
@@ -161,8 +161,8 @@ numbers_answer (stopped (ended m)) given = Ok (record { 0 = Ended; 1 = given })
 numbers_answer (stopped (refused m spelt name)) given = Err (of_refusal name)
 numbers_answer (failed m e) given = Err (of_input e)
 
--- Numbers of a kind were read into every so many cells, as far as their items go: the cells have those that are given, and 0 for
--- further ones. A number is given where its items stand, and those of all numbers before it; then it isn't too great.
+-- Numbers of a kind were read into every `stride`-th cell, up to where their items end: the cells have those that are given, and 0
+-- for further ones. A number is given if its items are there, and those of all numbers before it; then it isn't too great.
 pub record TakesNumbers {I : Type 0} (k : SourceOf I) (kind : Kind) (range : NumberRange) (shift stride : ℕ) (result : Result (Part × ℕ) TextFault) (old new : Coming I) (before now : List ℤ) : Type 0 where
   pub heights : List ℕ
   pub all : length heights ≡ div_ceil (length before) stride

@@ -6,7 +6,7 @@ use Rattle.number_defs.specs.Gaggles.{Kind}
 use Rattle.gaggle_codes.specs.declared.range.NumberRange.{NumberRange}
 use Rattle.gaggle_codes.specs.declared.numbers.Numbers.{Numbers}
 
--- the heights of every so many cells over 2 ^ shift, rounded down
+-- the heights of every `stride`-th cell over 2 ^ shift, rounded down
 abbrev pub heights : NumberRange → ℕ → ℕ → List ℤ → List ℕ
 heights range shift stride cells = map (shifted_height range.signed range.bits shift) (strided stride cells)
 

@@ -9,7 +9,7 @@ use base_122::Select;
 pub(crate) const UNCODED: u8 = 15;
 
 /// Chooses how a gaggle's mapped values are coded: k, or 15 for uncoded (docs/formats.md, "Numbers by
-/// differences"). There are at most 16 values, each of so many bits, 2 to 10.
+/// differences"). There are at most 16 values, each of `bits` bits, 2 to 10.
 pub fn choose(values: &[u16], bits: u8, select: Select) -> u8
     requires low { 2 ≤ bits }
     requires high { bits ≤ 10 }

@@ -1,14 +1,14 @@
 //! Numbers by differences, gaggle by gaggle (docs/formats.md, "Numbers by differences").
 #![tactic(auto)]
 
-mod cells;
 mod choice;
-mod got;
+mod gaggle_heights;
 mod mapped_values;
 mod mapping;
 mod numbers;
 mod put;
 mod range;
+mod strided_cells;
 mod take;
 mod take_gaggle;
 mod unmapping;

@@ -6,23 +6,23 @@ ghost use Rattle.bit_pipe.specs.declared.fault.TextFault.TheVariants.{BadDepth};
 ghost use Rattle.number_defs.specs.Mapping.{unmapped};
 ghost use Rattle.number_defs.specs.Gaggles.{uncoded, is_option};
 ghost use Rattle.gaggle_codes.specs.Written.{kind_of};
-ghost use Rattle.gaggle_codes.specs.Given.{got};
+ghost use Rattle.gaggle_codes.specs.Given.{heights_in};
 ghost use Rattle.gaggle_codes.specs.Taken.{IsBound, StayLow, TakesValue, itself, whole_shape, whole_value, TakesZeros, TakesWhole};
 
-use crate::got::Got;
+use crate::gaggle_heights::GaggleHeights;
 use crate::range::NumberRange;
 use crate::unmapping::unmapped_of;
 use crate::values::option_bits;
 use bit_pipe::{BitIn, OctetIn, Part, TextFault};
 
-// The option of values as they are: all ones.
+// Returns the identifier of uncoded values: all ones.
 pub(crate) fn uncoded_of(bits: u8) -> u8
     ensures is { result ≡ uncoded bits }
 {
     (1 << option_bits(bits)) - 1
 }
 
-// The zeros of a unary part.
+// Takes a unary part, and returns the number of its zeros.
 fn take_unary<I: OctetIn>(input: &mut BitIn<I>, bits: u8, k: u8) -> Result<Option<u16>, TextFault>
     requires open { IsIn (coming input.old) }
     requires bits { bits ≤ 10 }
@@ -38,7 +38,7 @@ fn take_unary<I: OctetIn>(input: &mut BitIn<I>, bits: u8, k: u8) -> Result<Optio
     Ok(Some(zeros))
 }
 
-// The mapped value that the next item makes whole, after so many zeros.
+// Takes the item that makes a mapped value whole, after this number of zeros, and returns the value.
 fn take_value<I: OctetIn>(
     input: &mut BitIn<I>,
     bits: u8,
@@ -66,15 +66,21 @@ fn take_value<I: OctetIn>(
     Ok(Some((zeros << option) + rest as u16))
 }
 
-// The number of a mapped value, unless it is too great.
-fn follow(numbers: &mut Got, bits: u8, most: u16, before: u16, value: u16) -> Result<u16, TextFault>
-    requires room { length (got numbers.old) < 16 }
+// Adds the number of a mapped value, unless it is too great.
+fn follow(
+    numbers: &mut GaggleHeights,
+    bits: u8,
+    most: u16,
+    before: u16,
+    value: u16,
+) -> Result<u16, TextFault>
+    requires room { length (heights_in numbers.old) < 16 }
     requires bits { bits ≤ 10 }
     requires before { before < 2 ^ bits }
     requires value { value < 2 ^ bits }
     ensures is { MatchResult result (λ height. height ≡ unmapped bits before value) (λ fault. fault ≡ BadDepth) }
     ensures bound { MatchResult result (λ height. height ≤ most) (λ fault. most < unmapped bits before value) }
-    ensures numbers { MatchResult result (λ height. got numbers.new ≡ got numbers.old ++ height ∷ []) (λ fault. got numbers.new ≡ got numbers.old) }
+    ensures numbers { MatchResult result (λ height. heights_in numbers.new ≡ heights_in numbers.old ++ height ∷ []) (λ fault. heights_in numbers.new ≡ heights_in numbers.old) }
 {
     let height = unmapped_of(bits, before, value);
     if height > most {
@@ -84,7 +90,7 @@ fn follow(numbers: &mut Got, bits: u8, most: u16, before: u16, value: u16) -> Re
     Ok(height)
 }
 
-// The zeros of all unary parts of a gaggle.
+// Takes all unary parts of a gaggle, and returns the numbers of their zeros.
 pub(crate) fn take_unary_parts<I: OctetIn>(
     input: &mut BitIn<I>,
     bits: u8,
@@ -105,7 +111,7 @@ pub(crate) fn take_unary_parts<I: OctetIn>(
     Ok(Part::Whole)
 }
 
-// The numbers that mapped values make whole, one after another.
+// Takes the items that make mapped values whole, one after another, and adds their numbers.
 pub(crate) fn take_whole<I: OctetIn>(
     input: &mut BitIn<I>,
     range: NumberRange,
@@ -113,17 +119,17 @@ pub(crate) fn take_whole<I: OctetIn>(
     option: u8,
     before: u16,
     zeros: &[u16],
-    numbers: &mut Got,
+    numbers: &mut GaggleHeights,
 ) -> Result<Part, TextFault>
     requires open { IsIn (coming input.old) }
     requires bits { range.bits ≤ 10 }
     requires option { is_option range.bits option ≡ true }
     requires before { before < 2 ^ range.bits }
     requires zeros { (j : ℕ) → slice_index zeros.now j < 2 ^ (range.bits - option) }
-    requires room { length (got numbers.old) + length zeros.now ≤ 16 }
+    requires room { length (heights_in numbers.old) + length zeros.now ≤ 16 }
     ensures takes { (too_great : ℕ → Bool) → IsBound most range.bits too_great →
-        TakesWhole I.source (kind_of range too_great) option before zeros.now result (coming input.old) (coming input.new) (got numbers.old) (got numbers.new) }
-    ensures low { StayLow most (got numbers.old) (got numbers.new) }
+        TakesWhole I.source (kind_of range too_great) option before zeros.now result (coming input.old) (coming input.new) (heights_in numbers.old) (heights_in numbers.new) }
+    ensures low { StayLow most (heights_in numbers.old) (heights_in numbers.new) }
 {
     let mut before = before;
     for zeros in zeros {

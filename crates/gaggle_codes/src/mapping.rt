@@ -2,7 +2,7 @@
 ghost use Rattle.std.specs.Prelude.{◌≡◌, ◌<◌, ◌≤◌, ◌+◌, ◌^◌};
 ghost use Rattle.number_defs.specs.Mapping.{theta, mapped};
 
-// How far one may go both ways from a number.
+// Returns the distance that is in the range both below and above a number.
 fn theta_of(bits: u8, before: u16) -> u16
     requires bits { bits ≤ 10 }
     requires before { before < 2 ^ bits }
@@ -11,7 +11,7 @@ fn theta_of(bits: u8, before: u16) -> u16
     before.min((1 << bits) - 1 - before)
 }
 
-// The mapped value of a number after the one before it; both are told by their heights.
+// Returns the mapped value of a number after the one before it; both are given as heights.
 #[tactic(auto, unfolding(number_defs::specs::Mapping::mapped))]
 pub(crate) fn mapped_of(bits: u8, before: u16, number: u16) -> u16
     requires bits { bits ≤ 10 }

@@ -32,7 +32,7 @@ impl Numbers<'_> {
         self.cells.len().div_ceil(self.stride)
     }
 
-    // How high a number is above the least.
+    // Returns the height of a number: how far it is above the least one of the range.
     pub(crate) fn height(&self, place: usize) -> u16
         requires { place < length (heights_of self.now) }
         ensures is { result ≡ slice_index (heights_of self.now) place }
@@ -42,7 +42,7 @@ impl Numbers<'_> {
         (number + i32::from(self.range.negatives())) as u16
     }
 
-    // The first number in two's complement.
+    // Returns the first number in two's complement.
     pub(crate) fn reference(&self) -> u16
         requires { 0 < length (heights_of self.now) }
         ensures { result ≡ complement self.now.range.bits (number_at self.now.range.signed self.now.range.bits (slice_index (heights_of self.now) 0)) }
@@ -50,7 +50,7 @@ impl Numbers<'_> {
         (self.height(0) + self.range.negatives()) % (1 << self.range.bits)
     }
 
-    // The mapped values of the numbers from this place on.
+    // Writes the mapped values of the numbers from this place on.
     pub(crate) fn map_values(&self, from: usize, into: &mut [u16])
         requires from { 1 ≤ from }
         requires within { from + length into.old ≤ length (heights_of self.now) }

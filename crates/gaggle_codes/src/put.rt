@@ -19,7 +19,7 @@ use bit_pipe::{BitOut, OctetOut, PutFault};
 // Numbers of a gaggle.
 const GAGGLE: usize = 16;
 
-// The reference, which stands in the first gaggle alone.
+// Puts the reference, which only the first gaggle has.
 fn put_lead<O: OctetOut>(
     out: &mut BitOut<O>,
     numbers: &Numbers,

@@ -5,9 +5,9 @@ ghost use Rattle.bit_pipe.specs.Coming.{coming, IsIn};
 ghost use Rattle.gaggle_codes.specs.Written.{any_of, kind_of};
 ghost use Rattle.gaggle_codes.specs.Taken.{IsBound, TakesNumbers};
 
-use crate::cells::{clear, set_numbers};
-use crate::got::{GAGGLE, Got};
+use crate::gaggle_heights::{GAGGLE, GaggleHeights};
 use crate::range::NumberRange;
+use crate::strided_cells::{clear, set_numbers};
 use crate::take_gaggle::take_gaggle;
 use bit_pipe::{BitIn, OctetIn, Part, TextFault};
 
@@ -21,8 +21,8 @@ fn last_of(heights: &[u16]) -> u16
 
 /// Takes numbers of a range by their differences, and refuses those that are higher above the least than `most`
 /// (docs/formats.md, "Numbers by differences"). The numbers times 2^shift go into every `stride`-th cell, as far as
-/// they are given; further ones are 0, and all other cells stay. The answer tells whether all items stood in the
-/// text, and how many numbers are given.
+/// they are given; further ones are 0, and all other cells stay. Returns whether all items were in the
+/// text, and the number of numbers that are given.
 ///
 /// `stride` is at least 1, `range.bits` and `shift` are at most 28 together, and there are fewer than 2^20 numbers.
 ///
@@ -53,7 +53,7 @@ pub fn take_bounded<I: OctetIn>(
     for gaggle in 0..count.div_ceil(GAGGLE) {
         let from = GAGGLE * gaggle;
         let size = (count - from).min(GAGGLE);
-        let mut numbers = Got::new();
+        let mut numbers = GaggleHeights::new();
         let result = take_gaggle(input, range, most, gaggle, before, size, &mut numbers);
         let heights = numbers.as_slice();
         set_numbers(cells, stride, shift, range, from, heights);
@@ -68,7 +68,7 @@ pub fn take_bounded<I: OctetIn>(
 
 /// Takes numbers of a range by their differences (docs/formats.md, "Numbers by differences"). The numbers times
 /// 2^shift go into every `stride`-th cell, as far as they are given; further ones are 0, and all other cells stay.
-/// The answer tells whether all items stood in the text, and how many numbers are given.
+/// Returns whether all items were in the text, and the number of numbers that are given.
 ///
 /// `stride` is at least 1, `range.bits` and `shift` are at most 28 together, and there are fewer than 2^20 numbers.
 ///

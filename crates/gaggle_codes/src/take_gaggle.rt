@@ -4,16 +4,16 @@ ghost use Rattle.bit_pipe.specs.Coming.{coming, IsIn};
 ghost use Rattle.bit_pipe.specs.Answers.{TakesOne};
 ghost use Rattle.number_defs.specs.Gaggles.{is_option};
 ghost use Rattle.gaggle_codes.specs.Written.{kind_of};
-ghost use Rattle.gaggle_codes.specs.Given.{got};
+ghost use Rattle.gaggle_codes.specs.Given.{heights_in};
 ghost use Rattle.gaggle_codes.specs.Taken.{IsBound, AreLow, StayLow, IsOption, option_item, TakesReference, TakesDifferences, TakesGaggle};
 
-use crate::got::{GAGGLE, Got};
+use crate::gaggle_heights::{GAGGLE, GaggleHeights};
 use crate::mapped_values::{take_unary_parts, take_whole, uncoded_of};
 use crate::range::NumberRange;
 use crate::values::option_bits;
 use bit_pipe::{BitIn, OctetIn, Part, TextFault};
 
-// Whether an identifier names an option: all ones, or a k in range.
+// Returns whether an identifier names an option: all ones, or a k in range.
 fn names_option(bits: u8, option: u8) -> bool
     requires { 2 ≤ bits }
     ensures { result ≡ is_option bits option }
@@ -21,7 +21,7 @@ fn names_option(bits: u8, option: u8) -> bool
     option == uncoded_of(bits) || option <= bits - 2
 }
 
-// The option of a gaggle.
+// Takes the option of a gaggle.
 fn take_identifier<I: OctetIn>(input: &mut BitIn<I>, bits: u8) -> Result<Option<u8>, TextFault>
     requires open { IsIn (coming input.old) }
     requires low { 2 ≤ bits }
@@ -38,20 +38,20 @@ fn take_identifier<I: OctetIn>(input: &mut BitIn<I>, bits: u8) -> Result<Option<
     Ok(Some(option))
 }
 
-// The first number of all.
+// Takes the reference, the first number of all.
 fn take_reference<I: OctetIn>(
     input: &mut BitIn<I>,
     range: NumberRange,
     most: u16,
-    numbers: &mut Got,
+    numbers: &mut GaggleHeights,
 ) -> Result<Option<u16>, TextFault>
     requires open { IsIn (coming input.old) }
     requires low { 2 ≤ range.bits }
     requires high { range.bits ≤ 10 }
-    requires room { length (got numbers.old) < 16 }
+    requires room { length (heights_in numbers.old) < 16 }
     ensures takes { (too_great : ℕ → Bool) → IsBound most range.bits too_great →
-        TakesReference I.source (kind_of range too_great) result (coming input.old) (coming input.new) (got numbers.old) (got numbers.new) }
-    ensures low { StayLow most (got numbers.old) (got numbers.new) }
+        TakesReference I.source (kind_of range too_great) result (coming input.old) (coming input.new) (heights_in numbers.old) (heights_in numbers.new) }
+    ensures low { StayLow most (heights_in numbers.old) (heights_in numbers.new) }
 {
     let Some(number) = input.take_bits(range.bits)? else {
         return Ok(None);
@@ -64,7 +64,7 @@ fn take_reference<I: OctetIn>(
     Ok(Some(height))
 }
 
-// So many numbers after the one before, by an option.
+// Takes `count` numbers after the one before, by an option.
 fn take_differences<I: OctetIn>(
     input: &mut BitIn<I>,
     range: NumberRange,
@@ -72,16 +72,16 @@ fn take_differences<I: OctetIn>(
     option: u8,
     before: u16,
     count: usize,
-    numbers: &mut Got,
+    numbers: &mut GaggleHeights,
 ) -> Result<Part, TextFault>
     requires open { IsIn (coming input.old) }
     requires bits { range.bits ≤ 10 }
     requires option { is_option range.bits option ≡ true }
     requires before { before < 2 ^ range.bits }
-    requires room { length (got numbers.old) + count ≤ 16 }
+    requires room { length (heights_in numbers.old) + count ≤ 16 }
     ensures takes { (too_great : ℕ → Bool) → IsBound most range.bits too_great →
-        TakesDifferences I.source (kind_of range too_great) option before count result (coming input.old) (coming input.new) (got numbers.old) (got numbers.new) }
-    ensures low { StayLow most (got numbers.old) (got numbers.new) }
+        TakesDifferences I.source (kind_of range too_great) option before count result (coming input.old) (coming input.new) (heights_in numbers.old) (heights_in numbers.new) }
+    ensures low { StayLow most (heights_in numbers.old) (heights_in numbers.new) }
 {
     let mut room = [0; GAGGLE];
     let zeros = &mut room[..count];
@@ -94,23 +94,23 @@ fn take_differences<I: OctetIn>(
     take_whole(input, range, most, option, before, zeros, numbers)
 }
 
-// The numbers of the first gaggle.
+// Takes the numbers of the first gaggle.
 pub(crate) fn take_first<I: OctetIn>(
     input: &mut BitIn<I>,
     range: NumberRange,
     most: u16,
     size: usize,
-    numbers: &mut Got,
+    numbers: &mut GaggleHeights,
 ) -> Result<Part, TextFault>
     requires open { IsIn (coming input.old) }
     requires low { 2 ≤ range.bits }
     requires high { range.bits ≤ 10 }
     requires some { 1 ≤ size }
     requires room { size ≤ 16 }
-    requires none { got numbers.old ≡ [] }
+    requires none { heights_in numbers.old ≡ [] }
     ensures takes { (too_great : ℕ → Bool) → IsBound most range.bits too_great →
-        TakesGaggle I.source (kind_of range too_great) 0 0 size result (coming input.old) (coming input.new) (got numbers.new) }
-    ensures low { AreLow most (got numbers.new) }
+        TakesGaggle I.source (kind_of range too_great) 0 0 size result (coming input.old) (coming input.new) (heights_in numbers.new) }
+    ensures low { AreLow most (heights_in numbers.new) }
 {
     let Some(option) = take_identifier(input, range.bits)? else {
         return Ok(Part::Ended);
@@ -121,24 +121,24 @@ pub(crate) fn take_first<I: OctetIn>(
     take_differences(input, range, most, option, before, size - 1, numbers)
 }
 
-// The numbers of a further gaggle.
+// Takes the numbers of a further gaggle.
 pub(crate) fn take_next<I: OctetIn>(
     input: &mut BitIn<I>,
     range: NumberRange,
     most: u16,
     before: u16,
     size: usize,
-    numbers: &mut Got,
+    numbers: &mut GaggleHeights,
 ) -> Result<Part, TextFault>
     requires open { IsIn (coming input.old) }
     requires low { 2 ≤ range.bits }
     requires high { range.bits ≤ 10 }
     requires before { before < 2 ^ range.bits }
     requires room { size ≤ 16 }
-    requires none { got numbers.old ≡ [] }
+    requires none { heights_in numbers.old ≡ [] }
     ensures takes { (too_great : ℕ → Bool) → IsBound most range.bits too_great → (g : ℕ) →
-        TakesGaggle I.source (kind_of range too_great) (g + 1) before size result (coming input.old) (coming input.new) (got numbers.new) }
-    ensures low { AreLow most (got numbers.new) }
+        TakesGaggle I.source (kind_of range too_great) (g + 1) before size result (coming input.old) (coming input.new) (heights_in numbers.new) }
+    ensures low { AreLow most (heights_in numbers.new) }
 {
     let Some(option) = take_identifier(input, range.bits)? else {
         return Ok(Part::Ended);
@@ -146,7 +146,7 @@ pub(crate) fn take_next<I: OctetIn>(
     take_differences(input, range, most, option, before, size, numbers)
 }
 
-// The numbers of a gaggle, after the one before it.
+// Takes the numbers of a gaggle, after the one before it.
 pub(crate) fn take_gaggle<I: OctetIn>(
     input: &mut BitIn<I>,
     range: NumberRange,
@@ -154,7 +154,7 @@ pub(crate) fn take_gaggle<I: OctetIn>(
     gaggle: usize,
     before: u16,
     size: usize,
-    numbers: &mut Got,
+    numbers: &mut GaggleHeights,
 ) -> Result<Part, TextFault>
     requires open { IsIn (coming input.old) }
     requires low { 2 ≤ range.bits }
@@ -163,10 +163,10 @@ pub(crate) fn take_gaggle<I: OctetIn>(
     requires first { gaggle ≡ 0 → before ≡ 0 }
     requires some { 1 ≤ size }
     requires room { size ≤ 16 }
-    requires none { got numbers.old ≡ [] }
+    requires none { heights_in numbers.old ≡ [] }
     ensures takes { (too_great : ℕ → Bool) → IsBound most range.bits too_great →
-        TakesGaggle I.source (kind_of range too_great) gaggle before size result (coming input.old) (coming input.new) (got numbers.new) }
-    ensures low { AreLow most (got numbers.new) }
+        TakesGaggle I.source (kind_of range too_great) gaggle before size result (coming input.old) (coming input.new) (heights_in numbers.new) }
+    ensures low { AreLow most (heights_in numbers.new) }
 {
     if gaggle == 0 {
         return take_first(input, range, most, size, numbers);

@@ -5,8 +5,8 @@ use Rattle.std.proofs.lemmas.Nat.{one_shl}
 use Rattle.item_defs.specs.Bits.{bits_of}
 use Rattle.item_defs.specs.Items.{item_bits}
 use Rattle.item_defs.proofs.NumberBits.{bits_none}
-use Rattle.plane_defs.specs.declared.codes.Code.{Code}
-use Rattle.plane_defs.specs.declared.codes.Book.{Book}
+use Rattle.base_122.specs.declared.book.Code.{Code}
+use Rattle.base_122.specs.declared.book.Book.{Book}
 use Rattle.plane_defs.specs.Codes.{code_bits, no_code, word_item}
 use Rattle.plane_coder.specs.Coding.{IsCodeOf, IsWordOf, row_of, code_in, option_for}
 use Rattle.block_masks.specs.Gaggles.{AreOptions}
@@ -76,14 +76,24 @@ all_words length word v few all below =
 
 -- ---- the options of a gaggle
 
-pub rows_chosen : (rows : List (List Code)) (options : List ℕ) (n : ℕ) → n ≤ 4 →
-    get_or (get_or rows 0 [] ∷ get_or rows 1 [] ∷ get_or rows (2 + get_or options 0 0) [] ∷ get_or rows (4 + get_or options 1 0) [] ∷ get_or rows (7 + get_or options 2 0) [] ∷ []) n [] ≡ get_or rows (row_of n (option_for options n)) []
-rows_chosen rows options zero le = refl
-rows_chosen rows options (suc zero) le = refl
-rows_chosen rows options (suc (suc zero)) le = refl
-rows_chosen rows options (suc (suc (suc zero))) le = refl
-rows_chosen rows options (suc (suc (suc (suc zero)))) le = refl
-rows_chosen rows options (suc (suc (suc (suc (suc n))))) le = absurd (omega arith)
+abbrev rows : List ℕ → List ℕ
+rows options = 0 ∷ 1 ∷ (2 + get_or options 0 0) ∷ (4 + get_or options 1 0) ∷ (7 + get_or options 2 0) ∷ []
+
+pub rows_chosen : (options : List ℕ) (n : ℕ) → n ≤ 4 → get_or (rows options) n 0 ≡ row_of n (option_for options n)
+rows_chosen options zero le = refl
+rows_chosen options (suc zero) le = refl
+rows_chosen options (suc (suc zero)) le = refl
+rows_chosen options (suc (suc (suc zero))) le = refl
+rows_chosen options (suc (suc (suc (suc zero)))) le = refl
+rows_chosen options (suc (suc (suc (suc (suc n))))) le = absurd (omega arith)
+
+pub rows_within : (options : List ℕ) → AreOptions options → (n : ℕ) → n ≤ 4 → get_or (rows options) n 0 < 11
+rows_within options known zero le = omega arith
+rows_within options known (suc zero) le = omega arith
+rows_within options known (suc (suc zero)) le = omega (arith, known.two)
+rows_within options known (suc (suc (suc zero))) le = omega (arith, known.three)
+rows_within options known (suc (suc (suc (suc zero)))) le = omega (arith, known.four)
+rows_within options known (suc (suc (suc (suc (suc n))))) le = absurd (omega arith)
 
 pub word_of_length : (options : List ℕ) (word : ℕ) → AreOptions options → IsPacked word → IsWordOf (word / 16) (option_for options (word / 16)) (word % 16)
 word_of_length options word known packed = record {

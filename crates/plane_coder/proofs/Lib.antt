@@ -1,3 +1,4 @@
+mod FourTypes
 mod Pushing
 mod Saying
 mod Keeping

@@ -1,5 +1,5 @@
 -- Entries said one after another, and put together.
-use Rattle.std.proofs.Common.{◌≡◌, ℕ, zero, suc, ◌+◌, ◌*◌, ◌-◌, ◌/◌, ◌%◌, ◌<◌, ◌≤◌, ◌⊎◌, inl, inr, Bool, true, false, cond, List, [], ◌∷◌, ◌++◌, length, map, nat_lt, get_or, set, refl, ap, sym, ◌∙◌, subst, arith, append_assoc, append-nil}
+use Rattle.std.proofs.Common.{◌≡◌, ℕ, zero, suc, ◌+◌, ◌*◌, ◌-◌, ◌/◌, ◌%◌, ◌<◌, ◌≤◌, ◌⊎◌, inl, inr, Bool, true, false, cond, ◌||◌, List, [], ◌∷◌, ◌++◌, length, map, nat_lt, get_or, set, refl, ap, sym, ◌∙◌, subst, arith, append_assoc, append-nil}
 use Rattle.std.specs.Prelude.{Result, if◌then◌else◌}
 use Rattle.std.specs.List.{list_any, flat_map}
 use Rattle.plane_defs.specs.Spans.{span}
@@ -10,7 +10,7 @@ use Rattle.item_defs.proofs.Texts.{text-append}
 use Rattle.bit_pipe.specs.Sinks.{SinkOf}
 use Rattle.bit_pipe.specs.Standing.{Standing, IsOpen, Puts}
 use Rattle.bit_pipe.specs.declared.fault.PutFault.{PutFault}
-use Rattle.plane_defs.specs.declared.codes.Book.{Book}
+use Rattle.base_122.specs.declared.book.Book.{Book}
 use Rattle.plane_defs.specs.declared.entries.Entry.{Entry}
 use Rattle.plane_defs.specs.declared.entries.Entry.TheVariants.{Bit, Word}
 use Rattle.plane_defs.specs.declared.entries.Bits.{Bits}
@@ -21,10 +21,12 @@ use Rattle.block_masks.specs.declared.gaggle.Gaggle.{Gaggle}
 use Rattle.block_masks.specs.Gaggles.{Agrees}
 use Rattle.plane_coder.specs.Spells.{Spells}
 use Rattle.plane_coder.specs.declared.speech.Speech.{Speech}
-use Rattle.plane_coder.specs.Picked.{word_of}
+use Rattle.plane_coder.specs.declared.seen.Typed.{Typed}
+use Rattle.plane_coder.specs.Picked.{word_of, raws_of, entries_of}
 use Rattle.plane_coder.specs.Coding.{word_bits, option_for, unopened}
 use Rattle.plane_coder.specs.Speaks.{Speaks, Opens, identified, said, load}
 use Rattle.block_masks.proofs.Agreeing.{agrees_other, agrees_again, agrees_first}
+use Rattle.plane_coder.proofs.FourTypes.{IsTyped}
 use Rattle.plane_coder.proofs.Spelling.{on_ok, puts_open, raw_text, short_text, again_text, first_text}
 
 -- entries that nothing says
@@ -109,6 +111,35 @@ opens_again n a low high was = record {
       agrees_again a.gaggle.sent before word (subst (λ m. 2 ≤ m) (sym is) low) (subst (λ m. m ≤ 4) (sym is) high) (ap (λ m. get_or a.gaggle.sent (m - 2) false) is ∙ was) agrees;
   options = refl;
 }
+
+-- no identifier is due before a word of this length
+pub opens_already : (n : ℕ) (a : Speech) → n ≤ 4 → get_or a.opened n false ≡ true → Opens n a a
+opens_already zero a high is = opens_short zero a (omega arith)
+opens_already (suc zero) a high is = opens_short (suc zero) a (omega arith)
+opens_already (suc (suc n)) a high is =
+    let back : suc (suc n) - 2 ≡ n = omega arith in
+    opens_again (suc (suc n)) a (omega arith) high (ap (λ m. get_or a.gaggle.sent m false) back ∙ sym (ap (λ l. get_or l (suc (suc n)) false) a.opened_told) ∙ is)
+
+-- one is due
+pub is_long : (n : ℕ) (a : Speech) → get_or a.opened n false ≡ false → 2 ≤ n
+is_long zero a is = let no : true ≡ false = sym (ap (λ l. get_or l zero false) a.opened_told) ∙ is in cc
+is_long (suc zero) a is = let no : true ≡ false = sym (ap (λ l. get_or l (suc zero) false) a.opened_told) ∙ is in cc
+is_long (suc (suc n)) a is = omega arith
+
+pub is_due : (n : ℕ) (a : Speech) → get_or a.opened n false ≡ false → get_or a.gaggle.sent (n - 2) false ≡ false
+is_due zero a is = let no : true ≡ false = sym (ap (λ l. get_or l zero false) a.opened_told) ∙ is in cc
+is_due (suc zero) a is = let no : true ≡ false = sym (ap (λ l. get_or l (suc zero) false) a.opened_told) ∙ is in cc
+is_due (suc (suc n)) a is =
+    let back : suc (suc n) - 2 ≡ n = omega arith in
+    ap (λ m. get_or a.gaggle.sent m false) back ∙ sym (ap (λ l. get_or l (suc (suc n)) false) a.opened_told) ∙ is
+
+-- it was sent
+pub opened_there : (n : ℕ) (opened sent : List Bool) → 2 ≤ n → opened ≡ true ∷ true ∷ sent → set opened n true ≡ true ∷ true ∷ set sent (n - 2) true
+opened_there zero opened sent low is = absurd (omega arith)
+opened_there (suc zero) opened sent low is = absurd (omega arith)
+opened_there (suc (suc n)) opened sent low is =
+    let back : suc (suc n) - 2 ≡ n = omega arith in
+    ap (λ l. set l (suc (suc n)) true) is ∙ ap (λ m. true ∷ true ∷ set sent m true) (sym back)
 
 pub opens_first : (n : ℕ) (a b : Speech) → 2 ≤ n → n ≤ 4 → length a.gaggle.sent ≡ 3 → get_or a.gaggle.sent (n - 2) false ≡ false →
     said b ≡ said a ++ item_bits (option_item n (option_of a.gaggle.options n)) → b.gaggle.sent ≡ set a.gaggle.sent (n - 2) true → b.gaggle.options ≡ a.gaggle.options → Opens n a b
@@ -199,3 +230,23 @@ speaks_raws book a b bits most put kept more = record {
   options = ap (λ g. g.options) kept;
   load = more;
 }
+
+-- a word of no bit says nothing
+pub speaks_nothing : {book : Book} {a c : Speech} {most : ℕ} → Speaks book a c (word_of 0 ∷ map Bit (bits_of 0 0)) most → Speaks book a c [] most
+unfolding bits_of
+speaks_nothing {book} {a} {c} p = record {
+  bits = λ before agrees. p.bits before agrees ∙ ap (λ l. said a ++ l) (said_text book a.gaggle.options before (record { value = 0; count = 0 }));
+  agrees = λ before agrees. record { at = λ n low high. (p.agrees before agrees).at n low high ∙ no_longer before n low };
+  options = p.options;
+  load = p.load;
+}
+  where
+    no_longer : (before : List Entry) (n : ℕ) → 2 ≤ n → list_any (is_word_of n) (before ++ word_of 0 ∷ []) ≡ list_any (is_word_of n) (before ++ [])
+    no_longer [] n low = let other : is_word_of n (word_of 0) ≡ false = grind arith in ap (λ b. b || false) other
+    no_longer (x ∷ before) n low = ap (λ b. is_word_of n x || b) (no_longer before n low)
+
+-- types and signs that are said where a test holds
+pub speaks_typed : {book : Book} {a c : Speech} {b : Bool} {t : Typed} {entries : List Entry} {most : ℕ} → IsTyped b t entries → Speaks book a c (entries_of t) most → Speaks book a c (cond b entries []) most
+speaks_typed {book} {a} {c} {b = true} {most = most} is p = subst (λ l. Speaks book a c l most) (is.said refl) p
+speaks_typed {book} {a} {c} {b = false} {t} {most = most} is p =
+    speaks_nothing (subst (λ v. Speaks book a c (word_of 0 ∷ raws_of v) most) (is.no_signs refl) (subst (λ w. Speaks book a c (word_of w ∷ raws_of t.signs) most) (is.no_word refl) p))

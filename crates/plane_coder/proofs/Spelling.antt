@@ -10,7 +10,7 @@ use Rattle.bit_pipe.specs.Sinks.{SinkOf}
 use Rattle.bit_pipe.specs.Standing.{Standing, IsOpen, Puts}
 use Rattle.bit_pipe.specs.declared.fault.PutFault.{PutFault}
 use Rattle.bit_pipe.proofs.Putting.{adds_start, open_later, puts_then, puts_cut, puts_whole}
-use Rattle.plane_defs.specs.declared.codes.Book.{Book}
+use Rattle.base_122.specs.declared.book.Book.{Book}
 use Rattle.plane_defs.specs.declared.entries.Entry.{Entry}
 use Rattle.plane_defs.specs.declared.entries.Entry.TheVariants.{Bit, Word}
 use Rattle.plane_defs.specs.declared.entries.Bits.{Bits}

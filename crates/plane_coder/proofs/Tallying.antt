@@ -13,8 +13,11 @@ use Rattle.plane_defs.proofs.SpanLists.{flat_map-span-suc, flat_map-span-none}
 use Rattle.plane_defs.proofs.Tables.{list_all-span-zero}
 use Rattle.plane_coder.specs.declared.tally.Tally.{Tally}
 use Rattle.plane_coder.specs.declared.tally.TheConstants.{PLACES}
+use Rattle.item_defs.specs.Bits.{bits_of}
+use Rattle.plane_coder.specs.declared.seen.Typed.{Typed}
 use Rattle.plane_coder.specs.Picked.{word_of, IsPacked}
 use Rattle.plane_coder.specs.Tallies.{Counts, AreAtMost, count_at}
+use Rattle.plane_coder.proofs.FourTypes.{IsTyped}
 
 pub count_by-append : (p : Entry → Bool) (xs ys : List Entry) → count_by p (xs ++ ys) ≡ count_by p xs + count_by p ys
 count_by-append p xs ys = sum_by-append (λ x. cond (p x) 1 0) xs ys
@@ -172,6 +175,18 @@ module _ (a b : Tally) (word : ℕ) (packed : IsPacked word) (more : b.counts �
     at = counted;
     most = λ i. elim (same_or_not i (place word)) [ inl e ↦ rw e (omega (arith, here)) | inr e ↦ omega (arith, elsewhere i e) ];
   }
+
+-- ---- types that are counted where a test holds
+
+-- a word of no bit counts for no length
+pub counts_typed : {a c : Tally} {b : Bool} {t : Typed} {entries : List Entry} → IsTyped b t entries → Counts a c (word_of t.word ∷ []) 1 → Counts a c (cond b entries []) 1
+counts_typed {a} {c} {b = true} {t} is p = subst (λ l. Counts a c l 1) (is.said refl) (counts_raws (bits_of (t.signs / 16) (t.signs % 16)) p)
+counts_typed {a} {c} {b = false} is p =
+    let q = subst (λ w. Counts a c (word_of w ∷ []) 1) (is.no_word refl) p in
+    record { at = λ n s low high below. q.at n s low high below ∙ ap (λ k. count_at a n s + k) (none n s low); most = q.most }
+  where
+    none : (n s : ℕ) → 2 ≤ n → count_by (has_symbol n s) (word_of 0 ∷ []) ≡ count_by (has_symbol n s) []
+    none n s low = let other : (0 == n && symbol n 0 == s) ≡ false = grind arith in ap (λ x. 0 + cond x 1 0) other
 
 pub none_at_first : (n i : ℕ) → get_or (replicate n 0) i 0 ≤ 0
 none_at_first zero i = omega arith

@@ -8,3 +8,4 @@ pub mod Picked
 pub mod Refining
 pub mod Coding
 pub mod Speaks
+pub mod Fours

@@ -2,7 +2,7 @@
 use Rattle.std.specs.Prelude.{◌≡◌, ◌≤◌, ℕ, ◌+◌, Bool, List, [], ◌∷◌, ◌++◌, if◌then◌else◌, nat_lt}
 use Rattle.item_defs.specs.Bits.{bits_of}
 use Rattle.item_defs.specs.Items.{Item, text}
-use Rattle.plane_defs.specs.declared.codes.Book.{Book}
+use Rattle.base_122.specs.declared.book.Book.{Book}
 use Rattle.plane_defs.specs.declared.entries.Entry.{Entry}
 use Rattle.plane_defs.specs.declared.entries.Bits.{Bits}
 use Rattle.plane_defs.specs.declared.entries.Entry.TheVariants.{Word}

@@ -4,7 +4,7 @@ use Rattle.item_defs.specs.Items.{text}
 use Rattle.bit_pipe.specs.Sinks.{SinkOf}
 use Rattle.bit_pipe.specs.Standing.{Standing, IsOpen, Puts}
 use Rattle.bit_pipe.specs.declared.fault.PutFault.{PutFault}
-use Rattle.plane_defs.specs.declared.codes.Book.{Book}
+use Rattle.base_122.specs.declared.book.Book.{Book}
 use Rattle.plane_defs.specs.declared.entries.Entry.{Entry}
 use Rattle.plane_defs.specs.Spelled.{spelled_after}
 use Rattle.block_masks.specs.declared.gaggle.Gaggle.{Gaggle}

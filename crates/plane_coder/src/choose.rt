@@ -11,8 +11,8 @@ ghost use Rattle.plane_coder.specs.Views.{plane_in};
 
 use crate::tally::Tally;
 use crate::view::View;
+use base_122::Book;
 use block_masks::{Gaggle, depth_of, store};
-use plane_defs::Book;
 use word_codes::best_option;
 
 // Counts the words of stages 1 to 3 of block r.

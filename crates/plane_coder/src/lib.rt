@@ -1,7 +1,8 @@
 //! A bit plane of a segment, written as raw bits and coded words (docs/formats.md, "Bit planes" and "Words and codes").
 //!
 //! `masks` reads what the numbers of a block are in a plane, and `seen` tells of each set of positions and flags which
-//! word and signs it sends, by masks and look-ups. `view` keeps the masks of the first blocks for all stages: `choose` has
+//! word and signs it sends, by masks and look-ups. `fours` looks up the types of four positions with their signs, without a
+//! test whether their set is significant. `view` keeps the masks of the first blocks for all stages: `choose` has
 //! `tally` count the words of a gaggle and takes its options, then `stages` has `put` go through the blocks, where `say`
 //! gathers the bits in a `speech`. The marks keep the options meanwhile.
 //!
@@ -9,6 +10,7 @@
 #![tactic(auto)]
 
 mod choose;
+mod fours;
 mod masks;
 mod plane;
 mod put;

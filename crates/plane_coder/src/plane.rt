@@ -13,9 +13,9 @@ use crate::masks::first_masks;
 use crate::stages::put_stage;
 use crate::tables::CodeTables;
 use crate::view::View;
+use base_122::Book;
 use bit_pipe::{BitOut, OctetOut, PutFault};
 use block_masks::{CodedPlane, PlanePlan};
-use plane_defs::Book;
 
 // Puts the stages of a plane up to the last one asked, with the options of fewest bits.
 fn put_stages<O: OctetOut>(

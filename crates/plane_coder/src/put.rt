@@ -8,7 +8,7 @@ ghost use Rattle.plane_defs.specs.Entries.{twos_bit, dc_bits, parents, children,
 ghost use Rattle.block_masks.specs.Gaggles.{AreOptions};
 ghost use Rattle.block_masks.specs.SetMasks.{AreSets};
 ghost use Rattle.plane_coder.specs.Spells.{Spells};
-ghost use Rattle.plane_defs.specs.declared.codes.Book.{Book as BookValue};
+ghost use Rattle.base_122.specs.declared.book.Book.{Book as BookValue};
 ghost use Rattle.block_masks.specs.declared.gaggle.Gaggle.{Gaggle as GaggleValue};
 
 use crate::say::{say_children, say_parents, say_quads, say_refinement};
@@ -121,10 +121,10 @@ fn put_all_quads<O: OctetOut>(
     requires same { spoken.now.options ≡ gaggle.old.options }
     ensures { Spells O.sink spoken.now.tables.now.book gaggle.old gaggle.new result (stand O.sink out.old) (stand O.sink out.new) (all_quads seen.now.block.now seen.now.plan.now.weights.shifts seen.now.plan.now.plane) }
 {
-    for i in 0..3u8 {
-        put_quads(out, gaggle, spoken, seen, has(sets.grandchildren, i), i)?;
-    }
-    Ok(())
+    let families = sets.grandchildren;
+    put_quads(out, gaggle, spoken, seen, has(families, 0), 0)?;
+    put_quads(out, gaggle, spoken, seen, has(families, 1), 1)?;
+    put_quads(out, gaggle, spoken, seen, has(families, 2), 2)
 }
 
 fn put_grandchildren<O: OctetOut>(

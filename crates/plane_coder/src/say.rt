@@ -5,7 +5,7 @@ ghost use Rattle.plane_defs.specs.Spans.{span};
 ghost use Rattle.plane_defs.specs.declared.sets.Set.TheVariants.{Grandchildren};
 ghost use Rattle.plane_defs.specs.Sets.{significant, set_significant, refined as is_refined};
 ghost use Rattle.plane_defs.specs.Entries.{typed, parents, children, children_types, quads, quads_types};
-ghost use Rattle.plane_defs.specs.declared.codes.Book.{Book as BookValue};
+ghost use Rattle.base_122.specs.declared.book.Book.{Book as BookValue};
 ghost use Rattle.block_masks.specs.Masks.{Shows};
 ghost use Rattle.block_masks.specs.SetMasks.{AreSets, AreQuads};
 ghost use Rattle.plane_coder.specs.Speaks.{Speaks, load};
@@ -14,22 +14,7 @@ ghost use Rattle.plane_coder.specs.Refining.{refining};
 use crate::seen::Seen;
 use crate::speech::Speech;
 use crate::spoken::Spoken;
-use block_masks::{Sets, has, is_any_of};
-
-// The types of four positions and their signs, where their set is significant.
-#[inline(always)]
-fn say_types(speech: &mut Speech, spoken: &Spoken, seen: &Seen, is_said: bool, at: u8)
-    requires within { at + 4 ≤ 64 }
-    requires same { spoken.now.options ≡ speech.old.gaggle.options }
-    requires room { load speech.old + 12 ≤ 63 }
-    ensures { Speaks spoken.now.tables.now.book speech.old speech.new
-        (cond is_said (typed seen.now.block.now seen.now.plan.now.weights.shifts seen.now.plan.now.plane (span at 4)) []) 12 }
-{
-    if !is_said {
-        return;
-    }
-    speech.typed(spoken, seen.types(at, 4));
-}
+use block_masks::{Sets, is_any_of};
 
 #[inline(always)]
 fn say_children_types(speech: &mut Speech, spoken: &Spoken, seen: &Seen, sets: Sets)
@@ -39,8 +24,9 @@ fn say_children_types(speech: &mut Speech, spoken: &Spoken, seen: &Seen, sets: S
     ensures { Speaks spoken.now.tables.now.book speech.old speech.new
         (children_types seen.now.block.now seen.now.plan.now.weights.shifts seen.now.plan.now.plane) 36 }
 {
+    let types = seen.types_of_children(sets);
     for i in 0..3u8 {
-        say_types(speech, spoken, seen, has(sets.families, i), 4 + 4 * i);
+        speech.typed(spoken, types.four(4 * i));
     }
 }
 
@@ -74,9 +60,9 @@ fn say_quads_types(speech: &mut Speech, spoken: &Spoken, seen: &Seen, i: u8)
     ensures { Speaks spoken.now.tables.now.book speech.old speech.new
         (quads_types seen.now.block.now seen.now.plan.now.weights.shifts seen.now.plan.now.plane i) 48 }
 {
-    let quads = seen.quads(i);
+    let types = seen.types_of_quads(i);
     for j in 0..4u8 {
-        say_types(speech, spoken, seen, has(quads, j), 16 + 16 * i + 4 * j);
+        speech.typed(spoken, types.four(4 * j));
     }
 }
 

@@ -1,6 +1,6 @@
 // A block as a plane sees it.
 
-ghost use Rattle.std.specs.Prelude.{◌≡◌, ◌<◌, ◌≤◌, ◌+◌, ℕ, true, pos, [], ◌∷◌, length, map, slice_index_or};
+ghost use Rattle.std.specs.Prelude.{◌≡◌, ◌<◌, ◌≤◌, ◌+◌, ◌-◌, ◌*◌, ◌/◌, ◌&&◌, ℕ, Bool, true, pos, [], ◌∷◌, length, map, slice_index_or};
 ghost use Rattle.item_defs.specs.Bits.{bit};
 ghost use Rattle.plane_defs.specs.declared.sets.Set.TheVariants.{Descendants, Family, Grandchildren, Quad};
 ghost use Rattle.plane_defs.specs.declared.entries.Entry.TheVariants.{Bit as BitEntry};
@@ -9,8 +9,9 @@ ghost use Rattle.plane_defs.specs.Sets.{magnitude, significant, set_significant,
 ghost use Rattle.plane_defs.specs.Entries.{negative as is_negative, word, typed, flags};
 ghost use Rattle.block_masks.specs.Masks.{Shows};
 
+use crate::fours::{Fours, filled, four_sets};
 use crate::masks::Masks;
-use block_masks::{CodedPlane, Sets, beside, both, either, masked, one, part, pick, quads_of};
+use block_masks::{CodedPlane, Sets, beside, both, either, masked, one, part, pick};
 
 // The word of the types of some positions and the signs after it, each as it is picked.
 #[derive(Clone, Copy)]
@@ -40,6 +41,7 @@ pub(crate) struct Seen<'a> {
 
 impl<'a> Seen<'a> {
     ghost use Rattle.block_masks.specs.SetMasks.{AreSets, AreQuads};
+    ghost use Rattle.plane_coder.specs.Fours.{AreFours};
     ghost use Rattle.plane_coder.specs.Viewed.{IsView};
     ghost use Rattle.plane_coder.specs.Refining.{refining};
     ghost use Rattle.plane_coder.specs.Picked.{IsPacked, ArePacked, word_of, raws_of, entries_of};
@@ -76,6 +78,41 @@ impl<'a> Seen<'a> {
             word: pick(part(self.due, at, count), part(self.reached, at, count)),
             signs: pick(part(new, at, count), part(self.negative, at, count)),
         }
+    }
+
+    // The types of some positions, of those that a mask has.
+    #[inline(always)]
+    fn types_in(&self, at: u8, count: u8, among: u64) -> Fours
+        requires few { count ≤ 16 }
+        requires within { at + count ≤ 64 }
+        requires at { at < 64 }
+        ensures { (g : ℕ → Bool) → Shows among g at count → AreFours (λ p. type_due self.now.block.now self.now.plan.now.weights.shifts self.now.plan.now.plane p && g p) (significant self.now.block.now self.now.plan.now.plane) (λ p. is_negative (slice_index_or self.now.block.now p (pos 0))) at count result }
+    {
+        let due = both(part(self.due, at, count), among);
+        let ones = both(due, part(self.reached, at, count));
+        let minus = both(ones, part(self.negative, at, count));
+        Fours {
+            plain: beside(minus, due),
+            ones,
+        }
+    }
+
+    // The types of the children of significant families.
+    #[inline(always)]
+    pub fn types_of_children(&self, sets: Sets) -> Fours
+        requires { AreSets (significant self.now.block.now self.now.plan.now.plane) sets }
+        ensures { AreFours (λ p. type_due self.now.block.now self.now.plan.now.weights.shifts self.now.plan.now.plane p && set_significant self.now.block.now self.now.plan.now.plane (Family ((p - 4) / 4))) (significant self.now.block.now self.now.plan.now.plane) (λ p. is_negative (slice_index_or self.now.block.now p (pos 0))) 4 12 result }
+    {
+        self.types_in(4, 12, filled(sets.families))
+    }
+
+    // The types of the significant sets of four grandchildren in family i.
+    #[inline(always)]
+    pub fn types_of_quads(&self, i: u8) -> Fours
+        requires { i < 3 }
+        ensures { AreFours (λ p. type_due self.now.block.now self.now.plan.now.weights.shifts self.now.plan.now.plane p && set_significant self.now.block.now self.now.plan.now.plane (Quad i ((p - (16 + 16 * i)) / 4))) (significant self.now.block.now self.now.plan.now.plane) (λ p. is_negative (slice_index_or self.now.block.now p (pos 0))) (16 + 16 * i) 16 result }
+    {
+        self.types_in(16 + 16 * i, 16, filled(self.quads(i)))
     }
 
     // The sets that are significant in the plane.
@@ -130,7 +167,7 @@ impl<'a> Seen<'a> {
         requires { i < 3 }
         ensures { AreQuads (significant self.now.block.now self.now.plan.now.plane) i result }
     {
-        quads_of(self.reached, i)
+        four_sets(self.reached, 16 + 16 * i)
     }
 
     // The flags of the four sets of grandchildren in a family whose grandchildren are significant.
@@ -141,7 +178,8 @@ impl<'a> Seen<'a> {
         ensures flags { word_of result ≡ word (flags self.now.block.now self.now.plan.now.weights.shifts self.now.plan.now.plane (Quad i 0 ∷ Quad i 1 ∷ Quad i 2 ∷ Quad i 3 ∷ [])) }
         ensures packed { IsPacked result }
     {
-        let new = beside(quads_of(self.above, i), self.plan.live_quads[i as usize]);
+        let before = four_sets(self.above, 16 + 16 * i);
+        let new = beside(before, self.plan.live_quads[i as usize]);
         pick(new, self.quads(i))
     }
 

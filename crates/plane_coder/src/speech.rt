@@ -4,7 +4,7 @@ ghost use Rattle.std.specs.Prelude.{◌≡◌, ◌+◌, ◌-◌, ◌/◌, ◌%�
 ghost use Rattle.item_defs.specs.Bits.{bits_of};
 ghost use Rattle.item_defs.specs.Items.{item_bits};
 ghost use Rattle.plane_defs.specs.Codes.{option_item, identifier_width as width_of, identifier_number as number_of};
-ghost use Rattle.plane_defs.specs.declared.codes.Book.{Book as BookValue};
+ghost use Rattle.base_122.specs.declared.book.Book.{Book as BookValue};
 ghost use Rattle.plane_defs.specs.Spelled.{option_of};
 ghost use Rattle.block_masks.specs.Gaggles.{AreOptions};
 ghost use Rattle.plane_coder.specs.Picked.{IsPacked, ArePacked, word_of, raws_of, entries_of};
@@ -42,9 +42,12 @@ pub(crate) struct Speech {
     value: u64,
     count: u8,
     pub gaggle: Gaggle,
+    // For each length of words from 0 on: no identifier is due before the next word of that length.
+    opened: [bool; 5],
     ghost fits: { value < 2 ^ count },
     ghost most: { count + unopened gaggle.sent ≤ 63 },
     ghost known: { AreOptions gaggle.options },
+    ghost opened_told: { opened ≡ true ∷ true ∷ gaggle.sent },
 }
 
 impl Speech {
@@ -62,6 +65,7 @@ impl Speech {
             value: 0,
             count: 0,
             gaggle,
+            opened: [true, true, gaggle.sent[0], gaggle.sent[1], gaggle.sent[2]],
         }
     }
 
@@ -93,6 +97,7 @@ impl Speech {
         let place = length as usize - 2;
         let option = self.gaggle.options[place];
         self.gaggle.sent[place] = true;
+        self.opened[length as usize] = true;
         self.push(identifier_number(length, option), identifier_width(length));
     }
 
@@ -103,10 +108,7 @@ impl Speech {
         ensures opens { Opens length self.old self.new }
         ensures load { load self.new ≡ load self.old }
     {
-        if length < 2 {
-            return;
-        }
-        if self.gaggle.sent[length as usize - 2] {
+        if self.opened[length as usize] {
             return;
         }
         self.open(length);

@@ -6,29 +6,16 @@ ghost use Rattle.plane_coder.specs.Coding.{IsCodeOf, row_of, option_for};
 ghost use Rattle.plane_coder.specs.Picked.{IsPacked};
 
 use crate::tables::CodeTables;
-use plane_defs::Code;
+use base_122::Code;
 
-// The codes of each length of words, each under one of its options.
-#[derive(Clone, Copy)]
-struct OptionCodes {
-    rows: [[Code; 16]; 5],
-}
-
-impl OptionCodes {
-    fn new(tables: &CodeTables, options: [u8; 3]) -> OptionCodes
-        requires { AreOptions options }
-        ensures { (n : ℕ) → n ≤ 4 → slice_index_or result.rows n [] ≡ slice_index_or tables.now.rows (row_of n (option_for options n)) [] }
-    {
-        OptionCodes {
-            rows: [
-                tables.rows[0],
-                tables.rows[1],
-                tables.rows[2 + options[0] as usize],
-                tables.rows[4 + options[1] as usize],
-                tables.rows[7 + options[2] as usize],
-            ],
-        }
-    }
+// Where the tables have the codes of each length of words from 0 on, each under one of its options.
+#[inline(always)]
+fn rows_of(options: [u8; 3]) -> [u8; 5]
+    requires { AreOptions options }
+    ensures rows { (n : ℕ) → n ≤ 4 → slice_index_or result n 0 ≡ row_of n (option_for options n) }
+    ensures within { (n : ℕ) → n ≤ 4 → slice_index_or result n 0 < 11 }
+{
+    [0, 1, 2 + options[0], 4 + options[1], 7 + options[2]]
 }
 
 // The tables with the options of a gaggle, and the codes under them.
@@ -36,9 +23,10 @@ impl OptionCodes {
 pub(crate) struct Spoken<'a> {
     pub tables: &'a CodeTables,
     pub options: [u8; 3],
-    codes: OptionCodes,
+    rows: [u8; 5],
     ghost known: { AreOptions options },
-    ghost chosen: { (n : ℕ) → n ≤ 4 → slice_index_or codes.rows n [] ≡ slice_index_or tables.now.rows (row_of n (option_for options n)) [] },
+    ghost chosen: { (n : ℕ) → n ≤ 4 → slice_index_or rows n 0 ≡ row_of n (option_for options n) },
+    ghost within: { (n : ℕ) → n ≤ 4 → slice_index_or rows n 0 < 11 },
 }
 
 impl<'a> Spoken<'a> {
@@ -50,7 +38,7 @@ impl<'a> Spoken<'a> {
         Spoken {
             tables,
             options,
-            codes: OptionCodes::new(tables, options),
+            rows: rows_of(options),
         }
     }
 
@@ -60,6 +48,7 @@ impl<'a> Spoken<'a> {
         requires { IsPacked word }
         ensures { IsCodeOf self.now.tables.now.book (word / 16) (option_for self.now.options (word / 16)) (word % 16) result }
     {
-        self.codes.rows[(word / 16) as usize][(word % 16) as usize]
+        let row = self.rows[(word / 16) as usize];
+        self.tables.rows[row as usize][(word % 16) as usize]
     }
 }

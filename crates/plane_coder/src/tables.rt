@@ -2,10 +2,10 @@
 
 ghost use Rattle.std.specs.Prelude.{◌≡◌, ◌+◌, ◌<◌, ◌≤◌, ◌/◌, ◌%◌, ◌^◌, ℕ, IsTrue, slice_index_or};
 ghost use Rattle.plane_defs.specs.Codes.{is_book_sound, no_code};
-ghost use Rattle.plane_defs.specs.declared.codes.Book.{Book as BookValue};
+ghost use Rattle.base_122.specs.declared.book.Book.{Book as BookValue};
 ghost use Rattle.plane_coder.specs.Coding.{IsCodeOf, IsWordOf, row_of, code_in};
 
-use plane_defs::{Book, Code};
+use base_122::{Book, Code};
 use word_codes::code_of_word;
 
 const NOTHING: Code = Code { bits: 0, len: 0 };

@@ -47,17 +47,11 @@ impl Tally {
     }
 
     #[inline(always)]
-    fn add_types(&mut self, seen: &Seen, is_said: bool, at: u8, count: u8)
-        requires few { count ≤ 4 }
-        requires within { at + count ≤ 64 }
-        requires at { at < 64 }
-        requires small { AreAtMost self.old (2 ^ 20) }
-        ensures { Counts self.old self.new (cond is_said (typed seen.now.block.now seen.now.plan.now.weights.shifts seen.now.plan.now.plane (span at count)) []) 1 }
+    fn add_parents(&mut self, seen: &Seen)
+        requires { AreAtMost self.old (2 ^ 20) }
+        ensures { Counts self.old self.new (parents seen.now.block.now seen.now.plan.now.weights.shifts seen.now.plan.now.plane) 1 }
     {
-        if !is_said {
-            return;
-        }
-        self.add(seen.types(at, count).word);
+        self.add(seen.types(1, 3).word);
     }
 
     #[inline(always)]
@@ -66,8 +60,9 @@ impl Tally {
         requires small { AreAtMost self.old (2 ^ 19) }
         ensures { Counts self.old self.new (children_types seen.now.block.now seen.now.plan.now.weights.shifts seen.now.plan.now.plane) 3 }
     {
+        let types = seen.types_of_children(sets);
         for i in 0..3u8 {
-            self.add_types(seen, has(sets.families, i), 4 + 4 * i, 4);
+            self.add(types.four(4 * i).word);
         }
     }
 
@@ -87,9 +82,9 @@ impl Tally {
         requires small { AreAtMost self.old (2 ^ 19) }
         ensures { Counts self.old self.new (quads_types seen.now.block.now seen.now.plan.now.weights.shifts seen.now.plan.now.plane i) 4 }
     {
-        let quads = seen.quads(i);
+        let types = seen.types_of_quads(i);
         for j in 0..4u8 {
-            self.add_types(seen, has(quads, j), 16 + 16 * i + 4 * j, 4);
+            self.add(types.four(4 * j).word);
         }
     }
 
@@ -137,7 +132,7 @@ impl Tally {
             grandchildren seen.now.block.now seen.now.plan.now.weights.shifts seen.now.plan.now.plane)) 21 }
     {
         let sets = seen.sets();
-        self.add_types(seen, true, 1, 3);
+        self.add_parents(seen);
         self.add_children(seen, sets);
         self.add_grandchildren(seen, sets);
     }

@@ -10,7 +10,7 @@ use Rattle.item_defs.specs.Bits.{digit}
 use Rattle.item_defs.specs.Items.{raw, text}
 use Rattle.item_defs.specs.Readings.{whole}
 use Rattle.item_defs.proofs.Texts.{text-cons}
-use Rattle.plane_defs.specs.declared.codes.Book.{Book}
+use Rattle.base_122.specs.declared.book.Book.{Book}
 use Rattle.plane_defs.specs.declared.entries.Entry.{Entry}
 use Rattle.plane_defs.specs.declared.entries.Entry.TheVariants.{Bit}
 use Rattle.plane_defs.specs.Steps.{free, Told, Step, step}

@@ -3,7 +3,7 @@ use Rattle.std.proofs.Common.{ℕ, Bool, not, ◌&&◌, ◌||◌, ℤ, List, ◌
 use Rattle.std.specs.Prelude.{Ok, Err, Some, None, Result, Option}
 use Rattle.std.specs.List.{list_any}
 use Rattle.item_defs.specs.Bits.{bit}
-use Rattle.plane_defs.specs.declared.codes.Book.{Book}
+use Rattle.base_122.specs.declared.book.Book.{Book}
 use Rattle.plane_defs.specs.declared.sets.Set.TheVariants.{Family}
 use Rattle.plane_defs.specs.Sets.{coded, members, set_significant}
 use Rattle.plane_defs.specs.Steps.{Told, flags_alone, Step, some_one_where, children_steps}

@@ -3,7 +3,7 @@ use Rattle.std.proofs.Common.{◌≡◌, ℕ, zero, suc, ◌-◌, ◌≤◌, Boo
 use Rattle.std.specs.Prelude.{Ok, Err, Some, None, Result, Option}
 use Rattle.std.specs.List.{list_any}
 use Rattle.item_defs.specs.Readings.{whole, ended, refused}
-use Rattle.plane_defs.specs.declared.codes.Book.{Book}
+use Rattle.base_122.specs.declared.book.Book.{Book}
 use Rattle.plane_defs.specs.declared.entries.Entry.{Entry}
 use Rattle.plane_defs.specs.Entries.{twos_bit}
 use Rattle.plane_defs.specs.Spelled.{is_word_of}

@@ -8,7 +8,7 @@ use Rattle.plane_defs.proofs.Tables.{list_all-span-zero}
 use Rattle.item_defs.specs.Bits.{bit, bits_of, digit, value_of}
 use Rattle.item_defs.specs.Items.{raw, fixed}
 use Rattle.item_defs.specs.Readings.{whole, ended, Lacks}
-use Rattle.plane_defs.specs.declared.codes.Book.{Book}
+use Rattle.base_122.specs.declared.book.Book.{Book}
 use Rattle.plane_defs.specs.Spans.{span}
 use Rattle.block_masks.specs.declared.gaggle.Gaggle.{Gaggle}
 use Rattle.block_masks.specs.Masks.{Shows}

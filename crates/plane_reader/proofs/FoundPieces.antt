@@ -4,7 +4,7 @@ use Rattle.std.specs.Prelude.{Ok, Err, Some, None, Result, Option, true}
 use Rattle.std.proofs.lemmas.List.Folds.{list_any-append}
 use Rattle.item_defs.specs.Bits.{bit}
 use Rattle.item_defs.specs.Readings.{whole, ended, refused}
-use Rattle.plane_defs.specs.declared.codes.Book.{Book}
+use Rattle.base_122.specs.declared.book.Book.{Book}
 use Rattle.plane_defs.specs.declared.entries.Entry.{Entry}
 use Rattle.plane_defs.specs.Sets.{magnitude}
 use Rattle.plane_defs.specs.Entries.{negative}

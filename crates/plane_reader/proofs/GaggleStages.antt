@@ -1,7 +1,7 @@
 -- A stage, gaggle by gaggle: what the marks keep of a gaggle is loaded, and stored again.
 use Rattle.std.proofs.Common.{◌≡◌, ℕ, ◌+◌, ◌/◌, inl, inr, ℤ, List, length, refl, ap, sym, ◌∙◌}
 use Rattle.std.specs.Prelude.{Ok, Err}
-use Rattle.plane_defs.specs.declared.codes.Book.{Book}
+use Rattle.base_122.specs.declared.book.Book.{Book}
 use Rattle.block_masks.specs.declared.gaggle.Gaggle.{Gaggle}
 use Rattle.block_masks.specs.declared.plan.CodedPlane.{CodedPlane}
 use Rattle.block_masks.specs.Gaggles.{options_in, sent_in, options_at, sent_at}

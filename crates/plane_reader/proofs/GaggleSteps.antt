@@ -4,7 +4,7 @@ use Rattle.std.specs.Prelude.{Result, Ok}
 use borrow.Rule.Slice.PartMut.{put_mid}
 use Rattle.item_defs.specs.Readings.{whole, ended, refused}
 use Rattle.wave_defs.specs.Held.{block_at}
-use Rattle.plane_defs.specs.declared.codes.Book.{Book}
+use Rattle.base_122.specs.declared.book.Book.{Book}
 use Rattle.plane_defs.specs.Marks.{depth_of}
 use Rattle.plane_defs.specs.Steps.{Step}
 use Rattle.block_masks.specs.declared.gaggle.Gaggle.{Gaggle}

@@ -3,7 +3,7 @@ use Rattle.std.proofs.Common.{◌≡◌, ℕ, ◌+◌, ◌*◌, ◌/◌, ◌%◌
 use Rattle.std.proofs.lemmas.Nat.{mul-mod_first, pow-add}
 use Rattle.std.proofs.Math.Nat.{mul_assoc}
 use Rattle.item_defs.proofs.NumberBits.{bits_none}
-use Rattle.plane_defs.specs.declared.codes.Book.{Book}
+use Rattle.base_122.specs.declared.book.Book.{Book}
 use Rattle.plane_defs.specs.Steps.{Step}
 use Rattle.block_masks.specs.declared.gaggle.Gaggle.{Gaggle}
 use Rattle.bit_pipe.specs.Sources.{SourceOf}

@@ -1,7 +1,7 @@
 -- The words of the children, and what the mark says then.
 use Rattle.std.proofs.Common.{◌≡◌, ℕ, ℤ, List, [], sym, subst, append-nil}
 use Rattle.std.specs.Prelude.{Ok, Err, Some, None}
-use Rattle.plane_defs.specs.declared.codes.Book.{Book}
+use Rattle.base_122.specs.declared.book.Book.{Book}
 use Rattle.plane_defs.specs.Steps.{Step, children_steps}
 use Rattle.block_masks.specs.declared.gaggle.Gaggle.{Gaggle}
 use Rattle.block_masks.specs.Gaggles.{families_in}

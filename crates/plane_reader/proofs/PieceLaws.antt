@@ -4,7 +4,7 @@ use Rattle.std.specs.Prelude.{Ok, Some, Result, Option}
 use Rattle.std.proofs.lemmas.List.{map-append}
 use Rattle.item_defs.specs.Items.{text}
 use Rattle.item_defs.specs.Readings.{whole, ended, refused}
-use Rattle.plane_defs.specs.declared.codes.Book.{Book}
+use Rattle.base_122.specs.declared.book.Book.{Book}
 use Rattle.plane_defs.specs.declared.entries.Entry.{Entry}
 use Rattle.plane_defs.specs.Steps.{Step}
 use Rattle.plane_defs.specs.StepLaws.{entries_of}

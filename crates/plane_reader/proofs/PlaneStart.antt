@@ -5,7 +5,7 @@ use Rattle.std.proofs.lemmas.Int.{ints}
 use Rattle.std.proofs.lemmas.List.FromFn.{get_or-map-range_with_len, length-map-range_with_len}
 use Rattle.item_defs.specs.Items.{text}
 use Rattle.wave_defs.specs.Held.{block_at}
-use Rattle.plane_defs.specs.declared.codes.Book.{Book}
+use Rattle.base_122.specs.declared.book.Book.{Book}
 use Rattle.plane_defs.specs.Marks.{depths_of}
 use Rattle.plane_defs.proofs.SpanLists.{flat_map-span-none}
 use Rattle.plane_texts.specs.Given.{told_number, Tells}

@@ -6,7 +6,7 @@ use Rattle.std.proofs.lemmas.Bool.{cases_lt}
 use Rattle.item_defs.specs.Items.{text}
 use Rattle.item_defs.specs.Readings.{whole}
 use Rattle.wave_defs.specs.Held.{block_at}
-use Rattle.plane_defs.specs.declared.codes.Book.{Book}
+use Rattle.base_122.specs.declared.book.Book.{Book}
 use Rattle.plane_defs.specs.Marks.{depths_of}
 use Rattle.plane_defs.specs.StepLaws.{entries_of}
 use Rattle.plane_defs.specs.Planes.{gaggles}

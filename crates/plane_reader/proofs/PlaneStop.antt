@@ -7,7 +7,7 @@ use Rattle.item_defs.specs.Bits.{bit}
 use Rattle.item_defs.specs.Items.{Item, text}
 use Rattle.item_defs.specs.Readings.{whole, ended, refused}
 use Rattle.wave_defs.specs.Held.{block_at}
-use Rattle.plane_defs.specs.declared.codes.Book.{Book}
+use Rattle.base_122.specs.declared.book.Book.{Book}
 use Rattle.plane_defs.specs.declared.entries.Entry.{Entry}
 use Rattle.plane_defs.specs.Sets.{magnitude}
 use Rattle.plane_defs.specs.Entries.{stage_number, negative, twos_bit}
@@ -29,6 +29,7 @@ use Rattle.bit_pipe.specs.Sources.{SourceOf}
 use Rattle.bit_pipe.specs.Coming.{Coming, Takes}
 use Rattle.bit_pipe.specs.Reading.{Ending, stopped, failed, Reads, later_by, IsCut}
 use Rattle.bit_pipe.specs.Answers.{part_answer, items_read}
+use Rattle.bit_pipe.proofs.Endings.{later_answer, read_later}
 use Rattle.bit_pipe.proofs.ItemReading.{reads_then, reads_cut, reads_whole}
 use Rattle.plane_reader.specs.Frames.{steps_of}
 use Rattle.plane_reader.specs.Pieces.{CutAfter, StopsAfter, ReadsSteps}
@@ -40,18 +41,6 @@ use Rattle.plane_reader.proofs.PlaneStands.{knows_own}
 use Rattle.plane_reader.proofs.PlaneSteps.{ReadsBlock, values_then, value_here, candidates_then, stands_other, known_then, taken_before, reads_here}
 
 -- ---- endings
-
-later_answer : (n : ℕ) (e : Ending) → part_answer (later_by n e) ≡ part_answer e
-later_answer n (stopped whole) = refl
-later_answer n (stopped (ended m)) = refl
-later_answer n (stopped (refused m s name)) = refl
-later_answer n (failed m e) = refl
-
-read_later : (c d n : ℕ) (e : Ending) → IsCut e → items_read c (later_by n e) ≡ n + items_read d e
-read_later c d n (stopped whole) cut = absurd cut
-read_later c d n (stopped (ended m)) cut = refl
-read_later c d n (stopped (refused m s name)) cut = refl
-read_later c d n (failed m e) cut = refl
 
 stops_cut : (book : Book) (options : List ℕ) (sent : List Entry) (part : List Step) (d : ℕ) (e : Ending) (steps : List Step) → IsCut e → StopsAfter book options sent part e steps →
     CutAfter book options sent part (items_read d e) steps

@@ -2,7 +2,7 @@
 use Rattle.std.proofs.Common.{◌≡◌, ℕ, ◌+◌, ◌*◌, ◌<◌, Bool, true, false, not, ◌&&◌, ◌||◌, ℤ, List, [], ◌∷◌, ◌++◌, refl, ap, sym, ◌∙◌, subst, arith}
 use Rattle.std.specs.Prelude.{Ok, Err, Some, None, Result, Option, map}
 use Rattle.item_defs.specs.Bits.{bit}
-use Rattle.plane_defs.specs.declared.codes.Book.{Book}
+use Rattle.base_122.specs.declared.book.Book.{Book}
 use Rattle.plane_defs.specs.declared.sets.Set.TheVariants.{Grandchildren, Quad}
 use Rattle.plane_defs.specs.Spans.{span}
 use Rattle.plane_defs.specs.Sets.{coded, set_significant, live, enclosing_significant, flag_due, quad_of}

@@ -4,7 +4,7 @@ use Rattle.std.specs.Prelude.{Ok, Some, map, filter}
 use Rattle.std.proofs.lemmas.Bool.{cases_lt}
 use Rattle.item_defs.specs.Bits.{bit}
 use Rattle.item_defs.proofs.NumberBits.{length-bits_of}
-use Rattle.plane_defs.specs.declared.codes.Book.{Book}
+use Rattle.base_122.specs.declared.book.Book.{Book}
 use Rattle.plane_defs.specs.declared.entries.Entry.TheVariants.{Bit}
 use Rattle.plane_defs.specs.Spans.{span}
 use Rattle.plane_defs.specs.Sets.{magnitude, refined}

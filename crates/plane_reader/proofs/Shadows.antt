@@ -9,7 +9,7 @@ use Rattle.item_defs.specs.Bits.{bits_of, bits_of_octets}
 use Rattle.item_defs.specs.Items.{text}
 use Rattle.item_defs.proofs.NumberBits.{bits_of-mod, bits_of-split, take-bits_of}
 use Rattle.item_defs.proofs.OctetBits.{octets_append, length-bits_of_octets}
-use Rattle.plane_defs.specs.declared.codes.Book.{Book}
+use Rattle.base_122.specs.declared.book.Book.{Book}
 use Rattle.plane_defs.specs.declared.entries.Entry.{Entry}
 use Rattle.plane_defs.specs.Steps.{Step}
 use Rattle.plane_defs.specs.Reading.{read_after}

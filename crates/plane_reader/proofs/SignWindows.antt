@@ -7,7 +7,7 @@ use Rattle.std.proofs.Math.Nat.{mod-eq_of_lt}
 use Rattle.std.proofs.Math.Pow.{pow_mono}
 use Rattle.item_defs.specs.Bits.{bit, bits_of, value_of}
 use Rattle.item_defs.proofs.NumberBits.{length-bits_of, value_of-bits_of}
-use Rattle.plane_defs.specs.declared.codes.Book.{Book}
+use Rattle.base_122.specs.declared.book.Book.{Book}
 use Rattle.plane_defs.specs.Spans.{span}
 use Rattle.plane_defs.specs.Sets.{magnitude}
 use Rattle.plane_defs.specs.Entries.{negative}

@@ -4,7 +4,7 @@ use Rattle.std.specs.Prelude.{◌==◌, Ok, Err, Some, None}
 use Rattle.std.proofs.lemmas.Bool.{cases_lt}
 use Rattle.std.proofs.lemmas.Nat.Bits.{bit_at_above}
 use Rattle.item_defs.specs.Bits.{bit}
-use Rattle.plane_defs.specs.declared.codes.Book.{Book}
+use Rattle.base_122.specs.declared.book.Book.{Book}
 use Rattle.plane_defs.specs.Steps.{Step}
 use Rattle.block_masks.specs.declared.gaggle.Gaggle.{Gaggle}
 use Rattle.block_masks.specs.Gaggles.{AreOptions}

@@ -4,7 +4,7 @@ use Rattle.std.specs.Prelude.{Ok, Some, Result, Option}
 use Rattle.item_defs.specs.Bits.{digit}
 use Rattle.item_defs.specs.Items.{raw}
 use Rattle.item_defs.specs.Readings.{whole, ended, refused}
-use Rattle.plane_defs.specs.declared.codes.Book.{Book}
+use Rattle.base_122.specs.declared.book.Book.{Book}
 use Rattle.plane_defs.specs.declared.entries.Entry.{Entry}
 use Rattle.plane_defs.specs.declared.entries.Entry.TheVariants.{Bit}
 use Rattle.plane_defs.specs.Steps.{Check, free, Told, Step, step}

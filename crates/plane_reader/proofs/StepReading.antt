@@ -11,7 +11,7 @@ use Rattle.item_defs.proofs.Texts.{text-append, text-one, item_at_past, item_at_
 use Rattle.bit_pipe.specs.Sources.{SourceOf}
 use Rattle.bit_pipe.specs.Coming.{Coming, Takes}
 use Rattle.bit_pipe.specs.Reading.{Ending, stopped, failed, Reads, IsCut, BreaksAt, RefusesAt, EndsReading}
-use Rattle.plane_defs.specs.declared.codes.Book.{Book}
+use Rattle.base_122.specs.declared.book.Book.{Book}
 use Rattle.plane_defs.specs.declared.entries.Entry.{Entry}
 use Rattle.plane_defs.specs.Spans.{span}
 use Rattle.plane_defs.specs.Codes.{symbol, codes_of, code_at, code_bits, word_item, uncoded}

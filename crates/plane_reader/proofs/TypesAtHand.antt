@@ -9,7 +9,7 @@ use Rattle.item_defs.specs.Bits.{bit, value_of}
 use Rattle.item_defs.specs.Items.{raw, item_bits}
 use Rattle.item_defs.specs.Readings.{whole}
 use Rattle.item_defs.proofs.NumberBits.{bits_none, length-bits_of}
-use Rattle.plane_defs.specs.declared.codes.Book.{Book}
+use Rattle.base_122.specs.declared.book.Book.{Book}
 use Rattle.plane_defs.specs.Codes.{word_item}
 use Rattle.plane_defs.specs.Spans.{span}
 use Rattle.plane_defs.specs.Steps.{Step, typed_steps, some_one_where}

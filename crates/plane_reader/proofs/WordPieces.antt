@@ -10,7 +10,7 @@ use Rattle.item_defs.specs.Bits.{value_of}
 use Rattle.item_defs.specs.Items.{false_flag}
 use Rattle.item_defs.specs.Readings.{whole, refused}
 use Rattle.item_defs.proofs.NumberBits.{value_below}
-use Rattle.plane_defs.specs.declared.codes.Book.{Book}
+use Rattle.base_122.specs.declared.book.Book.{Book}
 use Rattle.plane_defs.specs.declared.entries.Entry.{Entry}
 use Rattle.plane_defs.specs.Entries.{stage_number, word}
 use Rattle.plane_defs.specs.Spelled.{is_word_of, option_of, opening}

@@ -13,7 +13,7 @@ use Rattle.bit_pipe.proofs.Taking.{in_later}
 use Rattle.bit_pipe.specs.Reading.{Ending, stopped, failed, Reads, IsCut, later_by, BreaksAt, EndsReading}
 use Rattle.bit_pipe.specs.Answers.{IsBelow, TakesOne, item_answer}
 use Rattle.bit_pipe.proofs.ItemReading.{reads_then, reads_cut}
-use Rattle.plane_defs.specs.declared.codes.Book.{Book}
+use Rattle.base_122.specs.declared.book.Book.{Book}
 use Rattle.plane_defs.specs.declared.entries.Entry.{Entry}
 use Rattle.plane_defs.specs.Codes.{option_item, word_item, uncoded}
 use Rattle.plane_defs.specs.Spelled.{option_of, opening}

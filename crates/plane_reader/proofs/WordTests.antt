@@ -8,7 +8,7 @@ use Rattle.item_defs.specs.Bits.{bit, bits_of, value_of}
 use Rattle.item_defs.proofs.NumberBits.{value_of-append, bits_of-value_of}
 use Rattle.block_masks.proofs.Maskings.{any_shown}
 use Rattle.block_masks.proofs.Picking.{ones_of}
-use Rattle.plane_defs.specs.declared.codes.Book.{Book}
+use Rattle.base_122.specs.declared.book.Book.{Book}
 use Rattle.plane_defs.specs.Spans.{span}
 use Rattle.plane_defs.specs.Steps.{Check, lacks_one, refuses, some_one_where, Told, Step}
 use Rattle.block_masks.specs.declared.gaggle.Gaggle.{Gaggle}

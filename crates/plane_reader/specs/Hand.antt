@@ -4,7 +4,7 @@ use lib.ListN.{get_or, drop}
 use Rattle.item_defs.specs.Bits.{value_of}
 use Rattle.item_defs.specs.Items.{item_bits, raw}
 use Rattle.plane_defs.specs.Codes.{word_item}
-use Rattle.plane_defs.specs.declared.codes.Book.{Book}
+use Rattle.base_122.specs.declared.book.Book.{Book}
 use Rattle.block_masks.specs.declared.gaggle.Gaggle.{Gaggle}
 use Rattle.block_masks.specs.Picks.{AreSpread}
 use Rattle.bit_pipe.specs.declared.front.Front.{Front}

@@ -4,7 +4,7 @@ use lib.ListN.{get_or}
 use Rattle.std.specs.List.{flat_map}
 use Rattle.item_defs.specs.Bits.{bit}
 use Rattle.plane_defs.specs.Spans.{span}
-use Rattle.plane_defs.specs.declared.codes.Book.{Book}
+use Rattle.base_122.specs.declared.book.Book.{Book}
 use Rattle.plane_defs.specs.declared.entries.Entry.{Entry}
 use Rattle.plane_defs.specs.declared.entries.Entry.TheVariants.{Word}
 use Rattle.plane_defs.specs.Sets.{magnitude}

@@ -4,7 +4,7 @@ use Rattle.std.specs.List.{flat_map}
 use lib.ListN.{get_or}
 use Rattle.item_defs.specs.Items.{Item, text}
 use Rattle.wave_defs.specs.Held.{block_at}
-use Rattle.plane_defs.specs.declared.codes.Book.{Book}
+use Rattle.base_122.specs.declared.book.Book.{Book}
 use Rattle.plane_defs.specs.declared.entries.Entry.{Entry}
 use Rattle.plane_defs.specs.Spans.{span}
 use Rattle.plane_defs.specs.Entries.{stage_number}

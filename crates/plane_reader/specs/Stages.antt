@@ -1,7 +1,7 @@
 -- What a call leaves that reads a stage of a block. (This project's own.)
 use Rattle.std.specs.Prelude.{◌≡◌, ◌<◌, ℕ, ℤ, List, [], ◌++◌, Result}
 use Rattle.std.specs.List.{flat_map}
-use Rattle.plane_defs.specs.declared.codes.Book.{Book}
+use Rattle.base_122.specs.declared.book.Book.{Book}
 use Rattle.plane_defs.specs.declared.entries.Entry.{Entry}
 use Rattle.plane_defs.specs.declared.sets.Set.TheVariants.{Family}
 use Rattle.plane_defs.specs.Spans.{span}

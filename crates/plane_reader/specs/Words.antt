@@ -3,7 +3,7 @@ use Rattle.std.specs.Prelude.{◌≡◌, ◌<◌, ◌≤◌, ℕ, ◌-◌, ◌&&
 use Rattle.item_defs.specs.Bits.{bit, digit, value_of}
 use Rattle.item_defs.specs.Items.{raw}
 use Rattle.plane_defs.specs.Spans.{span}
-use Rattle.plane_defs.specs.declared.codes.Book.{Book}
+use Rattle.base_122.specs.declared.book.Book.{Book}
 use Rattle.block_masks.specs.Masks.{Shows}
 use Rattle.plane_defs.specs.declared.entries.Entry.{Entry}
 use Rattle.plane_defs.specs.Spelled.{option_of, opening}

@@ -3,7 +3,7 @@
 ghost use Rattle.std.specs.Prelude.{◌≡◌, ◌≤◌, ◌<◌, ◌&&◌, not, ℕ, ℤ, List};
 ghost use Rattle.bit_pipe.specs.Coming.{coming, IsIn};
 ghost use Rattle.plane_defs.specs.Steps.{Step, children_steps};
-ghost use Rattle.plane_defs.specs.declared.codes.Book.{Book as BookValue};
+ghost use Rattle.base_122.specs.declared.book.Book.{Book as BookValue};
 ghost use Rattle.block_masks.specs.declared.gaggle.Gaggle.{Gaggle as GaggleValue};
 ghost use Rattle.plane_reader.specs.declared.found.Found.{Found as FoundValue};
 ghost use Rattle.block_masks.specs.Gaggles.{AreOptions};

@@ -14,9 +14,9 @@ use crate::above::all_significant;
 use crate::found::Found;
 use crate::stages::{Terms, take_block};
 use crate::waiting::{BLOCK, KEPT, settle};
+use base_122::Book;
 use bit_pipe::{BitIn, OctetIn, Part, TextFault};
 use block_masks::{CodedPlane, Gaggle, PlanePlan, depth_of, load, mark_of, store};
-use plane_defs::Book;
 use word_codes::WordTables;
 
 // Blocks of a gaggle.

@@ -4,7 +4,7 @@ ghost use Rattle.std.specs.Prelude.{◌≡◌, ◌<◌, ◌≤◌, ◌&&◌, ℕ
 ghost use Rattle.bit_pipe.specs.Coming.{coming, IsIn};
 ghost use Rattle.plane_defs.specs.Sets.{coded};
 ghost use Rattle.plane_defs.specs.Steps.{Step, dc_steps, refinement_steps};
-ghost use Rattle.plane_defs.specs.declared.codes.Book.{Book as BookValue};
+ghost use Rattle.base_122.specs.declared.book.Book.{Book as BookValue};
 ghost use Rattle.block_masks.specs.declared.gaggle.Gaggle.{Gaggle as GaggleValue};
 ghost use Rattle.block_masks.specs.Gaggles.{AreOptions};
 ghost use Rattle.plane_reader.specs.Frames.{Frame};

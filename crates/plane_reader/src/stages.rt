@@ -5,7 +5,7 @@ ghost use Rattle.bit_pipe.specs.declared.fault.Part.TheVariants.{Whole, Ended};
 ghost use Rattle.bit_pipe.specs.Coming.{coming, IsIn};
 ghost use Rattle.plane_defs.specs.Marks.{depth_of as depth_in};
 ghost use Rattle.plane_defs.specs.Steps.{Step, parents_steps, children_steps};
-ghost use Rattle.plane_defs.specs.declared.codes.Book.{Book as BookValue};
+ghost use Rattle.base_122.specs.declared.book.Book.{Book as BookValue};
 ghost use Rattle.block_masks.specs.declared.gaggle.Gaggle.{Gaggle as GaggleValue};
 ghost use Rattle.block_masks.specs.Gaggles.{AreOptions, options_in, sent_in};
 ghost use Rattle.plane_reader.specs.declared.found.Found.{Found as FoundValue};

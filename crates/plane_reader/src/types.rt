@@ -3,7 +3,7 @@
 ghost use Rattle.std.specs.Prelude.{◌≡◌, ◌≤◌, ◌<◌, ◌+◌, ◌^◌, ◌&&◌, ℕ, ℤ, Bool, List};
 ghost use Rattle.bit_pipe.specs.Coming.{coming, IsIn};
 ghost use Rattle.plane_defs.specs.Steps.{Told, Step, typed_steps, some_one_where};
-ghost use Rattle.plane_defs.specs.declared.codes.Book.{Book as BookValue};
+ghost use Rattle.base_122.specs.declared.book.Book.{Book as BookValue};
 ghost use Rattle.block_masks.specs.declared.gaggle.Gaggle.{Gaggle as GaggleValue};
 ghost use Rattle.block_masks.specs.Gaggles.{AreOptions};
 ghost use Rattle.block_masks.specs.Masks.{Shows};

@@ -1,7 +1,7 @@
 -- The codes of an option.
 use Rattle.std.proofs.Common.{◌≡◌, ℕ, ◌+◌, ◌^◌, ◌<◌, ◌≤◌, Bool, true, false, List, [], ◌∷◌, ◌++◌, length, refl, ap, arith}
 use Rattle.item_defs.specs.Items.{coded, IsSaid}
-use Rattle.plane_defs.specs.declared.codes.Book.{Book}
+use Rattle.base_122.specs.declared.book.Book.{Book}
 use Rattle.plane_defs.specs.Codes.{table, table_place, is_book_sound, code_at, code_bits, codes_of, is_prefix}
 use Rattle.plane_defs.proofs.SpanLists.{length-map-span}
 use Rattle.plane_defs.proofs.Tables.{table_len, sound_table}

@@ -2,7 +2,7 @@
 use Rattle.std.proofs.Common.{◌≡◌, ℕ, ◌+◌, ◌<◌, ◌^◌, Bool, false, ◌∙◌, sym, ap, arith}
 use Rattle.std.specs.Prelude.{◌==◌, if◌then◌else◌}
 use Rattle.item_defs.specs.Items.{item_bits, plain, code}
-use Rattle.plane_defs.specs.declared.codes.Book.{Book}
+use Rattle.base_122.specs.declared.book.Book.{Book}
 use Rattle.plane_defs.specs.Codes.{symbol, uncoded, code_at, code_bits, codes_of, word_item}
 use Rattle.plane_defs.proofs.ReadOnce.{code_there}
 

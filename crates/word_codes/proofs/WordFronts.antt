@@ -10,8 +10,8 @@ use Rattle.item_defs.specs.Readings.{Lacks}
 use Rattle.item_defs.proofs.NumberBits.{length-bits_of, bits_of-split, same_number}
 use Rattle.bit_pipe.specs.declared.front.Front.{Front}
 use Rattle.bit_pipe.specs.Fronts.{front_at, first_bits, Tells}
-use Rattle.plane_defs.specs.declared.codes.Code.{Code}
-use Rattle.plane_defs.specs.declared.codes.Book.{Book}
+use Rattle.base_122.specs.declared.book.Code.{Code}
+use Rattle.base_122.specs.declared.book.Book.{Book}
 use Rattle.plane_defs.specs.Codes.{symbol, table, table_place, is_book_sound, code_at, code_bits, codes_of, word_item}
 use Rattle.plane_defs.proofs.Tables.{sound_table}
 use Rattle.plane_defs.proofs.ReadOnce.{begins, code_there, words}

@@ -4,7 +4,7 @@ ghost use Rattle.std.specs.Prelude.{◌≡◌, IsTrue};
 ghost use Rattle.plane_defs.specs.Codes.{is_book_sound};
 ghost use Rattle.plane_defs.specs.Profile.{profile};
 
-use plane_defs::{Book, Code};
+use base_122::{Book, Code};
 
 // Sixteen codes, each written as its bits and their number.
 macro_rules! table {

@@ -4,7 +4,7 @@ ghost use Rattle.std.specs.Prelude.{◌≡◌, ◌+◌, ◌-◌, ◌≤◌, ◌<
 ghost use Rattle.plane_defs.specs.Codes.{table_place};
 ghost use Rattle.plane_defs.specs.Choice.{code_length, cost, cheapest};
 
-use plane_defs::Book;
+use base_122::Book;
 
 // Where the table of a coded option stands.
 pub(crate) fn table_at(length: u8, option: u8) -> usize

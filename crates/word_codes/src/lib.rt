@@ -8,9 +8,9 @@ mod symbols;
 mod tables;
 mod take;
 
+pub use base_122::{Book, Code};
 pub use book::profile_book;
 pub use choice::best_option;
-pub use plane_defs::{Book, Code};
 pub use put::{code_of_word, put_option, put_word};
 pub use symbols::symbol_of;
 pub use tables::WordTables;

@@ -7,8 +7,8 @@ ghost use Rattle.plane_defs.specs.Codes.{is_book_sound, symbol, code_at, code_bi
 
 use crate::choice::table_at;
 use crate::symbols::symbol_of;
+use base_122::{Book, Code};
 use bit_pipe::{BitOut, OctetOut, PutFault};
-use plane_defs::{Book, Code};
 
 /// Puts the identifier of an option (docs/formats.md, "Words and codes").
 ///

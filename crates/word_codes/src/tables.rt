@@ -8,8 +8,8 @@ ghost use Rattle.word_codes.specs.WordFronts.{AreFronts, ArePlain, row_place};
 use crate::choice::table_at;
 use crate::put::trimmed;
 use crate::symbols::word_of;
+use base_122::{Book, Code};
 use bit_pipe::Front;
-use plane_defs::{Book, Code};
 
 const NOTHING: Front = Front { number: 0, len: 0 };
 

@@ -8,8 +8,8 @@ ghost use Rattle.item_defs.specs.Items.{item_bits};
 ghost use Rattle.plane_defs.specs.Codes.{is_book_sound, word_item, identifier_width, identifier_number, names_option, option_item};
 
 use crate::tables::{WordTables, row_at};
+use base_122::Book;
 use bit_pipe::{BitIn, Front, OctetIn, TextFault};
-use plane_defs::Book;
 
 // The bits of an identifier.
 fn identifier_bits(length: u8) -> u8

@@ -2,7 +2,7 @@ use Rattle.std.proofs.Common.{arith}
 use Rattle.std.proofs.lemmas.Result.{err_from_is_err_and}
 use Rattle.number_defs.specs.DcPart.{dc_q, dc_bits}
 use Rattle.number_defs.proofs.DcBits.{q_small}
-use Rattle.dc_depths.proofs.TakenPlanes.{whole_ending, ended_cut, err_cut}
+use Rattle.bit_pipe.proofs.Endings.{whole_ending, ended_cut, err_cut}
 use Rattle.dc_depths.proofs.TakenHigh.{high_room}
 use Rattle.dc_depths.proofs.TakenDcs.{high_in, dc_cut, dc_then}
 use Rattle.dc_depths.proofs.dc_in.take_dc.Goals as goal

@@ -3,7 +3,8 @@ use Rattle.std.proofs.lemmas.Int.{to_z-of_z}
 use Rattle.std.proofs.lemmas.Result.{err_from_is_err_and}
 use Rattle.number_defs.specs.DcPart.{dc_q, dc_planes}
 use Rattle.number_defs.proofs.DcBits.{q_small}
-use Rattle.dc_depths.proofs.TakenPlanes.{planes_start, planes_room, planes_more, planes_cut, planes_all, whole_ending, ended_cut, err_cut, in_whole}
+use Rattle.dc_depths.proofs.TakenPlanes.{planes_start, planes_room, planes_more, planes_cut, planes_all}
+use Rattle.bit_pipe.proofs.Endings.{whole_ending, ended_cut, err_cut, in_whole}
 use Rattle.dc_depths.proofs.dc_in.take_planes.Goals as goal
 
 pub loop-plane-init : goal.loop-plane-init

@@ -2,8 +2,9 @@ use Rattle.std.proofs.Common.{◌≡◌, ◌⊎◌, inl, inr, arith, length-take
 use Rattle.std.proofs.lemmas.Result.{err_from_is_err_and}
 use Rattle.number_defs.specs.Gaggles.{uncoded}
 use Rattle.gaggle_codes.specs.Written.{kind_of}
-use Rattle.gaggle_codes.specs.Given.{got}
-use Rattle.gaggle_codes.proofs.Differences.{alone_by, differences_cut, differences_split, in_after_zeros, ended_differs, err_differs}
+use Rattle.gaggle_codes.specs.Given.{heights_in}
+use Rattle.gaggle_codes.proofs.Differences.{alone_by, differences_cut, differences_split, in_after_zeros}
+use Rattle.bit_pipe.proofs.Endings.{ended_differs, err_differs}
 use Rattle.gaggle_codes.proofs.take_gaggle.take_differences.Goals as goal
 use Rattle.gaggle_codes.proofs.take_gaggle.take_differences.Goals.{then-option-eq0-via-then-option-eq0, then-option-eq0-via-else-option-eq0+then-option-uncoded_of}
 
@@ -21,7 +22,7 @@ returns-in_err-take_unary_parts-clause-takes g c = λ too_great bound.
     let not_all : c.args.option ≡ uncoded c.args.range.bits → ⊥ = λ e. omega (arith, e, c.uncoded_of.ensures.is) in
     let some : c.args.option ≡ 0 → ⊥ = λ e. omega (arith, e) in
     rw (p.1, p.2) (differences_cut (kind_of c.args.range too_great) c.args.option c.args.before c.args.count c.take_unary_parts.new.zeros (c.take_unary_parts.auto.zeros ∙ rw length-take (omega arith)) c.requires.option c.requires.before not_all some
-    (got c.args.numbers.now) (err_differs _) c.in_err-take_unary_parts.ensures)
+    (heights_in c.args.numbers.now) (err_differs _) c.in_err-take_unary_parts.ensures)
 
 pub returns-in_default-clause-takes : goal.returns-in_default-clause-takes
 returns-in_default-clause-takes g c = λ too_great bound.
@@ -29,7 +30,7 @@ returns-in_default-clause-takes g c = λ too_great bound.
     let not_all : c.args.option ≡ uncoded c.args.range.bits → ⊥ = λ e. omega (arith, e, c.uncoded_of.ensures.is) in
     let some : c.args.option ≡ 0 → ⊥ = λ e. omega (arith, e) in
     differences_cut (kind_of c.args.range too_great) c.args.option c.args.before c.args.count c.take_unary_parts.new.zeros (c.take_unary_parts.auto.zeros ∙ rw length-take (omega arith)) c.requires.option c.requires.before not_all some
-    (got c.args.numbers.now) ended_differs h
+    (heights_in c.args.numbers.now) ended_differs h
 
 pub take_whole-requires-2-clause-open : goal.take_whole-requires-2-clause-open
 take_whole-requires-2-clause-open g c =

@@ -2,19 +2,19 @@ use Rattle.std.proofs.Common.{◌≡◌, ◌∙◌, ◌+◌, ◌*◌, ◌%◌, �
 use Rattle.std.proofs.lemmas.Result.{err_from_is_err_and}
 use Rattle.number_defs.specs.Ranges.{negatives}
 use Rattle.gaggle_codes.specs.Written.{kind_of}
-use Rattle.gaggle_codes.specs.Given.{got}
+use Rattle.gaggle_codes.specs.Given.{heights_in}
 use Rattle.gaggle_codes.proofs.Leads.{reference_one, reference_great, reference_ended, reference_failed, reference_code}
 use Rattle.gaggle_codes.proofs.take_gaggle.take_reference.Goals as goal
 
 pub returns-in_err-number-clause-takes : goal.returns-in_err-number-clause-takes
 returns-in_err-number-clause-takes g c = λ too_great bound.
     let p = err_from_is_err_and c.from_residual.result c.from_residual.ensures.1 in
-    rw (p.1, p.2) (reference_failed (kind_of c.args.range too_great) (got c.args.numbers.now) c.in_err-number.field-0.0 c.in_err-number.ensures.ends)
+    rw (p.1, p.2) (reference_failed (kind_of c.args.range too_great) (heights_in c.args.numbers.now) c.in_err-number.field-0.0 c.in_err-number.ensures.ends)
 
 pub returns-in_default-clause-takes : goal.returns-in_default-clause-takes
 returns-in_default-clause-takes g c = λ too_great bound.
     let h = rw c.in_default.is at c.in_ok-number.ensures in
-    reference_ended (kind_of c.args.range too_great) (got c.args.numbers.now) h.ends
+    reference_ended (kind_of c.args.range too_great) (heights_in c.args.numbers.now) h.ends
 
 pub returns-then-height-most-clause-takes : goal.returns-then-height-most-clause-takes
 returns-then-height-most-clause-takes g c = λ too_great bound.
@@ -22,7 +22,7 @@ returns-then-height-most-clause-takes g c = λ too_great bound.
     let h = rw c.in-Some.is at c.in_ok-number.ensures in
     let code : (c.in-Some.number + c.negatives.result) % (1 * 2 ^ range.bits % 65536) ≡ (c.in-Some.number + negatives range.signed range.bits) % 2 ^ range.bits =
     reference_code range.bits c.in-Some.number c.negatives.result c.requires.high ∙ ap (λ n. (c.in-Some.number + n) % 2 ^ range.bits) c.negatives.ensures.is in
-    reference_great (kind_of range too_great) c.in-Some.number (omega (arith, c.requires.low)) h.ends.0 c.args.most ((c.in-Some.number + c.negatives.result) % (1 * 2 ^ range.bits % 65536)) (got c.args.numbers.now) bound code c.if-height-most.true h.ends.1
+    reference_great (kind_of range too_great) c.in-Some.number (omega (arith, c.requires.low)) h.ends.0 c.args.most ((c.in-Some.number + c.negatives.result) % (1 * 2 ^ range.bits % 65536)) (heights_in c.args.numbers.now) bound code c.if-height-most.true h.ends.1
 
 pub returns-clause-takes : goal.returns-clause-takes
 returns-clause-takes g c = λ too_great bound.
@@ -30,4 +30,4 @@ returns-clause-takes g c = λ too_great bound.
     let h = rw c.in-Some.is at c.in_ok-number.ensures in
     let code : (c.in-Some.number + c.negatives.result) % (1 * 2 ^ range.bits % 65536) ≡ (c.in-Some.number + negatives range.signed range.bits) % 2 ^ range.bits =
     reference_code range.bits c.in-Some.number c.negatives.result c.requires.high ∙ ap (λ n. (c.in-Some.number + n) % 2 ^ range.bits) c.negatives.ensures.is in
-    reference_one (kind_of range too_great) c.in-Some.number (omega (arith, c.requires.low)) h.ends.0 _ (got c.args.numbers.now) (got c.push.new.self) code c.push.ensures h.ends.1
+    reference_one (kind_of range too_great) c.in-Some.number (omega (arith, c.requires.low)) h.ends.0 _ (heights_in c.args.numbers.now) (heights_in c.push.new.self) code c.push.ensures h.ends.1

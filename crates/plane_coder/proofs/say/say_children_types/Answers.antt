@@ -1,10 +1,11 @@
-use Rattle.std.proofs.Common.{◌≡◌, ◌+◌, ◌*◌, ◌∙◌, sym, subst, arith}
+use Rattle.std.proofs.Common.{◌≡◌, ◌+◌, ◌*◌, ◌∙◌, refl, sym, subst, arith}
 use Rattle.std.specs.List.{flat_map}
 use Rattle.plane_defs.specs.Spans.{span}
 use Rattle.plane_defs.specs.declared.sets.Set.TheVariants.{Family}
 use Rattle.plane_defs.specs.Sets.{set_significant}
 use Rattle.plane_coder.specs.Speaks.{Speaks}
-use Rattle.plane_coder.proofs.Speaking.{speaks_start, speaks_more}
+use Rattle.plane_coder.proofs.Speaking.{speaks_start, speaks_more, speaks_typed}
+use Rattle.plane_coder.proofs.FourTypes.{children_typed}
 use Rattle.plane_coder.proofs.BlockSets.{of_children, of_children_is, children_are}
 use Rattle.plane_coder.proofs.say.say_children_types.Goals as goal
 
@@ -13,15 +14,14 @@ loop-i-init c =
     let s = c.args.seen.now in
     record { says = speaks_start c.args.spoken.now.tables.now.book c.args.speech.now (of_children s.block.now s.plan.now.weights.shifts s.plan.now.plane) 0 12 }
 
-pub say_types-requires : goal.say_types-requires
-say_types-requires c = record {
-  within = omega arith;
+pub typed-requires : goal.typed-requires
+typed-requires c = record {
+  packed = c.four.ensures.packed;
   same = c.requires.same ∙ sym c.loop-i.invariant.says.options;
   room = omega (arith, c.loop-i.invariant.says.load, c.requires.room);
 }
 
 pub loop-i-preserved : goal.loop-i-preserved
-unfolding set_significant
 loop-i-preserved c =
     let s = c.args.seen.now in
     let book = c.args.spoken.now.tables.now.book in
@@ -29,10 +29,11 @@ loop-i-preserved c =
     let block = s.block.now in
     let weights = s.plan.now.weights.shifts in
     let plane = s.plan.now.plane in
-    let told : c.has.result ≡ set_significant block plane (Family (0 + i)) = c.has.ensures _ 0 3 c.requires.sets.families c.loop-i-test.true in
+    let b = set_significant block plane (Family (0 + i)) in
+    let typed = children_typed block weights plane i _ (c.four.ensures.picked _ _ _ 4 12 c.types_of_children-types.ensures (omega arith)) in
     record {
       says = speaks_more (of_children block weights plane) 0 i 12 c.loop-i.invariant.says
-          (subst (λ l. Speaks book c.loop-i.speech c.say_types.new.speech l 12) (of_children_is block weights plane c.has.result i told) c.say_types.ensures);
+          (subst (λ l. Speaks book c.loop-i.speech c.typed.new.self l 12) (of_children_is block weights plane b i refl) (speaks_typed typed c.typed.ensures));
     }
 
 pub returns : goal.returns

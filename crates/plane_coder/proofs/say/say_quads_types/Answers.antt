@@ -1,10 +1,11 @@
-use Rattle.std.proofs.Common.{◌≡◌, ◌+◌, ◌*◌, ◌∙◌, sym, subst, arith}
+use Rattle.std.proofs.Common.{◌≡◌, ◌+◌, ◌*◌, ◌∙◌, refl, sym, subst, arith}
 use Rattle.std.specs.List.{flat_map}
 use Rattle.plane_defs.specs.Spans.{span}
 use Rattle.plane_defs.specs.declared.sets.Set.TheVariants.{Quad}
 use Rattle.plane_defs.specs.Sets.{set_significant}
 use Rattle.plane_coder.specs.Speaks.{Speaks}
-use Rattle.plane_coder.proofs.Speaking.{speaks_start, speaks_more}
+use Rattle.plane_coder.proofs.Speaking.{speaks_start, speaks_more, speaks_typed}
+use Rattle.plane_coder.proofs.FourTypes.{quads_typed}
 use Rattle.plane_coder.proofs.BlockSets.{of_quad, of_quad_is, quads_are}
 use Rattle.plane_coder.proofs.say.say_quads_types.Goals as goal
 
@@ -13,26 +14,27 @@ loop-j-init c =
     let s = c.args.seen.now in
     record { says = speaks_start c.args.spoken.now.tables.now.book c.args.speech.now (of_quad s.block.now s.plan.now.weights.shifts s.plan.now.plane c.args.i) 0 12 }
 
-pub say_types-requires : goal.say_types-requires
-say_types-requires c = record {
-  within = omega (arith, c.requires.family);
+pub typed-requires : goal.typed-requires
+typed-requires c = record {
+  packed = c.four.ensures.packed;
   same = c.requires.same ∙ sym c.loop-j.invariant.says.options;
   room = omega (arith, c.loop-j.invariant.says.load, c.requires.room);
 }
 
 pub loop-j-preserved : goal.loop-j-preserved
-unfolding set_significant
 loop-j-preserved c =
     let s = c.args.seen.now in
     let book = c.args.spoken.now.tables.now.book in
+    let i = c.args.i in
     let j = c.loop-j.j in
     let block = s.block.now in
     let weights = s.plan.now.weights.shifts in
     let plane = s.plan.now.plane in
-    let told : c.has.result ≡ set_significant block plane (Quad c.args.i (0 + j)) = c.has.ensures _ 0 4 c.quads-quads.ensures.shown c.loop-j-test.true in
+    let b = set_significant block plane (Quad i (0 + j)) in
+    let typed = quads_typed block weights plane i j _ (c.four.ensures.picked _ _ _ (16 + 16 * i) 16 c.types_of_quads-types.ensures (omega arith)) in
     record {
-      says = speaks_more (of_quad block weights plane c.args.i) 0 j 12 c.loop-j.invariant.says
-          (subst (λ l. Speaks book c.loop-j.speech c.say_types.new.speech l 12) (of_quad_is block weights plane c.has.result c.args.i j told) c.say_types.ensures);
+      says = speaks_more (of_quad block weights plane i) 0 j 12 c.loop-j.invariant.says
+          (subst (λ l. Speaks book c.loop-j.speech c.typed.new.self l 12) (of_quad_is block weights plane b i j refl) (speaks_typed typed c.typed.ensures));
     }
 
 pub returns : goal.returns

@@ -1,5 +1,5 @@
 use Rattle.std.proofs.Common.{◌*◌, ◌-◌}
-use Rattle.plane_defs.specs.declared.codes.Book.{Book}
+use Rattle.base_122.specs.declared.book.Book.{Book}
 use Rattle.plane_coder.specs.Refining.{refining}
 use Rattle.plane_coder.specs.Speaks.{Speaks}
 use Rattle.plane_coder.proofs.say.say_refinement.Given as goal

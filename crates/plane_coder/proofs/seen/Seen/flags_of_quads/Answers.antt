@@ -23,9 +23,9 @@ returns c =
     let weights = s.plan.now.weights.shifts in
     let plane = s.plan.now.plane in
     let i = c.args.i in
-    let above = c.quads_of.ensures (significant block (plane + 1)) s.above_shown in
+    let above = c.four_sets-before.ensures (significant block (plane + 1)) s.above_shown in
     let live_quads = s.plan.now.quads_shown c.args.i c.requires.family in
-    let new = c.beside-new.ensures.told (λ (j : ℕ). set_significant block (plane + 1) (Quad i j)) (λ (j : ℕ). live weights plane (Quad i j)) 0 4 above.shown live_quads.shown in
+    let new = c.beside-new.ensures.told (λ (j : ℕ). set_significant block (plane + 1) (Quad i j)) (λ (j : ℕ). live weights plane (Quad i j)) 0 4 above live_quads.shown in
     let fresh = λ (j : ℕ). not (set_significant block (plane + 1) (Quad i j)) && live weights plane (Quad i j) in
     let due = shows_same {g = λ (j : ℕ). flag_due block weights plane (Quad i j)} (λ j. and_true (fresh j) ∙ ap (λ b. fresh j && b) (sym c.requires.enclosing)) new in
     record {

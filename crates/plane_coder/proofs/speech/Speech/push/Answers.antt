@@ -12,6 +12,7 @@ invariant_of-self c =
       fits = subst (λ n. n < 2 ^ (s.count + c.args.count)) (sym whole) (joined_below s.value c.args.value s.count c.args.count s.fits c.requires.fits);
       most = omega (arith, c.requires.room);
       known = s.known;
+      opened_told = s.opened_told;
     }
 
 pub returns-clause-said : goal.returns-clause-said

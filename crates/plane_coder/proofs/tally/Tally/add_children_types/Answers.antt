@@ -1,10 +1,11 @@
-use Rattle.std.proofs.Common.{◌≡◌, ◌+◌, ◌*◌, ◌^◌, subst, arith}
+use Rattle.std.proofs.Common.{◌≡◌, ◌+◌, ◌*◌, ◌^◌, refl, subst, arith}
 use Rattle.std.specs.List.{flat_map}
 use Rattle.plane_defs.specs.Spans.{span}
 use Rattle.plane_defs.specs.declared.sets.Set.TheVariants.{Family}
 use Rattle.plane_defs.specs.Sets.{set_significant}
 use Rattle.plane_coder.specs.Tallies.{Counts}
-use Rattle.plane_coder.proofs.Tallying.{counts_start, counts_more, at_most_later}
+use Rattle.plane_coder.proofs.Tallying.{counts_start, counts_more, counts_typed, at_most_later}
+use Rattle.plane_coder.proofs.FourTypes.{children_typed}
 use Rattle.plane_coder.proofs.BlockSets.{of_children, of_children_is, children_are}
 use Rattle.plane_coder.proofs.tally.Tally.add_children_types.Goals as goal
 
@@ -13,27 +14,24 @@ loop-i-init c =
     let s = c.args.seen.now in
     record { counts = counts_start c.args.self.now (of_children s.block.now s.plan.now.weights.shifts s.plan.now.plane) 0 1 }
 
-pub add_types-requires : goal.add_types-requires
-unfolding set_significant
-add_types-requires c = record {
-  few = omega arith;
-  within = omega arith;
-  at = omega arith;
+pub add-requires : goal.add-requires
+add-requires c = record {
+  packed = c.four.ensures.packed.word;
   small = at_most_later (2 ^ 19) (1 * c.loop-i.i) (2 ^ 20) c.requires.small c.loop-i.invariant.counts (omega arith);
 }
 
 pub loop-i-preserved : goal.loop-i-preserved
-unfolding set_significant
 loop-i-preserved c =
     let s = c.args.seen.now in
     let i = c.loop-i.i in
     let block = s.block.now in
     let weights = s.plan.now.weights.shifts in
     let plane = s.plan.now.plane in
-    let told : c.has.result ≡ set_significant block plane (Family (0 + i)) = c.has.ensures _ 0 3 c.requires.sets.families c.loop-i-test.true in
+    let b = set_significant block plane (Family (0 + i)) in
+    let typed = children_typed block weights plane i _ (c.four.ensures.picked _ _ _ 4 12 c.types_of_children-types.ensures (omega arith)) in
     record {
       counts = counts_more (of_children block weights plane) 0 i 1 c.loop-i.invariant.counts
-          (subst (λ l. Counts c.loop-i.self c.add_types.new.self l 1) (of_children_is block weights plane c.has.result i told) c.add_types.ensures);
+          (subst (λ l. Counts c.loop-i.self c.add.new.self l 1) (of_children_is block weights plane b i refl) (counts_typed typed c.add.ensures));
     }
 
 pub returns : goal.returns

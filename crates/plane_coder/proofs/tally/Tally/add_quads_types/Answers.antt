@@ -1,10 +1,11 @@
-use Rattle.std.proofs.Common.{◌≡◌, ◌+◌, ◌*◌, ◌^◌, subst, arith}
+use Rattle.std.proofs.Common.{◌≡◌, ◌+◌, ◌*◌, ◌^◌, refl, subst, arith}
 use Rattle.std.specs.List.{flat_map}
 use Rattle.plane_defs.specs.Spans.{span}
 use Rattle.plane_defs.specs.declared.sets.Set.TheVariants.{Quad}
 use Rattle.plane_defs.specs.Sets.{set_significant}
 use Rattle.plane_coder.specs.Tallies.{Counts}
-use Rattle.plane_coder.proofs.Tallying.{counts_start, counts_more, at_most_later}
+use Rattle.plane_coder.proofs.Tallying.{counts_start, counts_more, counts_typed, at_most_later}
+use Rattle.plane_coder.proofs.FourTypes.{quads_typed}
 use Rattle.plane_coder.proofs.BlockSets.{of_quad, of_quad_is, quads_are}
 use Rattle.plane_coder.proofs.tally.Tally.add_quads_types.Goals as goal
 
@@ -13,27 +14,25 @@ loop-j-init c =
     let s = c.args.seen.now in
     record { counts = counts_start c.args.self.now (of_quad s.block.now s.plan.now.weights.shifts s.plan.now.plane c.args.i) 0 1 }
 
-pub add_types-requires : goal.add_types-requires
-unfolding set_significant
-add_types-requires c = record {
-  few = omega arith;
-  within = omega (arith, c.requires.family);
-  at = omega (arith, c.requires.family);
+pub add-requires : goal.add-requires
+add-requires c = record {
+  packed = c.four.ensures.packed.word;
   small = at_most_later (2 ^ 19) (1 * c.loop-j.j) (2 ^ 20) c.requires.small c.loop-j.invariant.counts (omega arith);
 }
 
 pub loop-j-preserved : goal.loop-j-preserved
-unfolding set_significant
 loop-j-preserved c =
     let s = c.args.seen.now in
+    let i = c.args.i in
     let j = c.loop-j.j in
     let block = s.block.now in
     let weights = s.plan.now.weights.shifts in
     let plane = s.plan.now.plane in
-    let told : c.has.result ≡ set_significant block plane (Quad c.args.i (0 + j)) = c.has.ensures _ 0 4 c.quads-quads.ensures.shown c.loop-j-test.true in
+    let b = set_significant block plane (Quad i (0 + j)) in
+    let typed = quads_typed block weights plane i j _ (c.four.ensures.picked _ _ _ (16 + 16 * i) 16 c.types_of_quads-types.ensures (omega arith)) in
     record {
-      counts = counts_more (of_quad block weights plane c.args.i) 0 j 1 c.loop-j.invariant.counts
-          (subst (λ l. Counts c.loop-j.self c.add_types.new.self l 1) (of_quad_is block weights plane c.has.result c.args.i j told) c.add_types.ensures);
+      counts = counts_more (of_quad block weights plane i) 0 j 1 c.loop-j.invariant.counts
+          (subst (λ l. Counts c.loop-j.self c.add.new.self l 1) (of_quad_is block weights plane b i j refl) (counts_typed typed c.add.ensures));
     }
 
 pub returns : goal.returns

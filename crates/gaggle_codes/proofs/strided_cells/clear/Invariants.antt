@@ -1,5 +1,5 @@
 use Rattle.gaggle_codes.proofs.Setting.{Clears}
-use Rattle.gaggle_codes.proofs.cells.clear.Given as goal
+use Rattle.gaggle_codes.proofs.strided_cells.clear.Given as goal
 
 abbrev pub invariant-loop-place : goal.invariant-loop-place
 invariant-loop-place l = Clears l.stride l.place l.initial.cells l.cells

@@ -2,7 +2,7 @@ use Rattle.std.proofs.Common.{◌≤◌, ◌^◌, ap, ◌∙◌, arith, to_z, w3
 use Rattle.std.proofs.Math.Pow.{pow_mono}
 use Rattle.std.proofs.lemmas.Nat.{one_shl}
 use Rattle.std.proofs.lemmas.Int.{to_z_pos}
-use Rattle.gaggle_codes.proofs.cells.power.Goals as goal
+use Rattle.gaggle_codes.proofs.strided_cells.power.Goals as goal
 
 pub returns : goal.returns
 returns c =

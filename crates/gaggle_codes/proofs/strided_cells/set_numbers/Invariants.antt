@@ -1,6 +1,6 @@
 use Rattle.std.proofs.Common.{◌≡◌, ℕ, ℤ, List, ◌++◌, length, take}
 use Rattle.gaggle_codes.specs.Given.{SetsCells}
-use Rattle.gaggle_codes.proofs.cells.set_numbers.Given as goal
+use Rattle.gaggle_codes.proofs.strided_cells.set_numbers.Given as goal
 
 abbrev pub invariant-loop-place : goal.invariant-loop-place
 invariant-loop-place l = (first : List ℕ) (before : List ℤ) → length first ≡ l.from → SetsCells l.range l.shift l.stride first before l.initial.cells →

@@ -1,11 +1,11 @@
-// Numbers into cells.
+// Numbers that are put into every `stride`-th cell.
 ghost use Rattle.std.specs.Prelude.{◌≡◌, ◌<◌, ◌≤◌, ◌+◌, ◌-◌, ◌*◌, ◌^◌, ◌*ℤ◌, ℕ, ℤ, List, pos, [], ◌++◌, length, slice_index, unsigned_abs};
 ghost use Rattle.number_defs.specs.Ranges.{number_at};
 ghost use Rattle.gaggle_codes.specs.Given.{SetsCells};
 
 use crate::range::NumberRange;
 
-// A power of two.
+// Returns 2^shift.
 fn power(shift: u8) -> i32
     requires { shift ≤ 26 }
     ensures { result ≡ pos (2 ^ shift) }
@@ -13,7 +13,7 @@ fn power(shift: u8) -> i32
     1 << shift
 }
 
-// The number of a height.
+// Returns the number of a height.
 fn centred(range: NumberRange, height: u16) -> i32
     requires low { 2 ≤ range.bits }
     requires high { range.bits ≤ 10 }
@@ -23,7 +23,7 @@ fn centred(range: NumberRange, height: u16) -> i32
     i32::from(height) - i32::from(range.negatives())
 }
 
-// A number times 2^shift.
+// Returns a number times 2^shift.
 fn scaled(number: i32, shift: u8) -> i32
     requires shift { shift ≤ 26 }
     requires fits { unsigned_abs (number *ℤ pos (2 ^ shift)) < 2 ^ 31 }
@@ -32,7 +32,7 @@ fn scaled(number: i32, shift: u8) -> i32
     number * power(shift)
 }
 
-// The number of a height, times 2^shift.
+// Returns the number of a height, times 2^shift.
 fn number_of(range: NumberRange, shift: u8, height: u16) -> i32
     requires low { 2 ≤ range.bits }
     requires high { range.bits ≤ 10 }
@@ -43,7 +43,7 @@ fn number_of(range: NumberRange, shift: u8, height: u16) -> i32
     scaled(centred(range, height), shift)
 }
 
-// Every `stride`-th cell becomes 0.
+// Sets every `stride`-th cell to 0.
 pub(crate) fn clear(cells: &mut [i32], stride: usize, shift: u8, range: NumberRange)
     requires stride { 1 ≤ stride }
     ensures { SetsCells range shift stride [] cells.old cells.new }
@@ -53,7 +53,7 @@ pub(crate) fn clear(cells: &mut [i32], stride: usize, shift: u8, range: NumberRa
     }
 }
 
-// Numbers go where so many stand already.
+// Puts the numbers of these heights after the `from` numbers that are in the cells already.
 pub(crate) fn set_numbers(
     cells: &mut [i32],
     stride: usize,

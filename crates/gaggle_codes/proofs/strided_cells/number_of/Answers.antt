@@ -1,7 +1,7 @@
 use Rattle.std.proofs.Common.{w32, rules}
 use Rattle.std.proofs.lemmas.Int.{to_z-of_z}
 use Rattle.gaggle_codes.proofs.ScaledNumbers.{scaled_small}
-use Rattle.gaggle_codes.proofs.cells.number_of.Goals as goal
+use Rattle.gaggle_codes.proofs.strided_cells.number_of.Goals as goal
 
 pub scaled-requires-clause-fits : goal.scaled-requires-clause-fits
 scaled-requires-clause-fits c =

@@ -2,7 +2,7 @@ use Rattle.std.proofs.Common.{◌≡◌, ◌+◌, ◌-◌, ◌++◌, ◌∷◌, 
 use Rattle.std.proofs.lemmas.Int.{to_z-of_z}
 use Rattle.std.proofs.lemmas.List.{append-nil, take_more, take_all}
 use Rattle.gaggle_codes.proofs.Setting.{sets_more, sets_as, place_further}
-use Rattle.gaggle_codes.proofs.cells.set_numbers.Goals as goal
+use Rattle.gaggle_codes.proofs.strided_cells.set_numbers.Goals as goal
 
 pub loop-place-init : goal.loop-place-init
 loop-place-init c = λ first before e s. sets_as c.args.range c.args.shift c.args.stride (sym (append-nil first)) s

@@ -1,7 +1,7 @@
 use Rattle.std.proofs.Common.{arith, length}
 use Rattle.number_defs.proofs.CellPlaces.{place_within}
 use Rattle.gaggle_codes.proofs.Setting.{places_before, clears_start, clears_more, clears_all}
-use Rattle.gaggle_codes.proofs.cells.clear.Goals as goal
+use Rattle.gaggle_codes.proofs.strided_cells.clear.Goals as goal
 
 pub loop-place-init : goal.loop-place-init
 loop-place-init c = clears_start c.args.stride c.requires.stride c.args.cells.now

@@ -1,0 +1,17 @@
+-- The types of positions, four by four.
+use Rattle.std.specs.Prelude.{◌≡◌, ℕ, ◌&&◌, Bool, not, map, filter}
+use Rattle.plane_defs.specs.Spans.{span}
+use Rattle.block_masks.specs.Masks.{Shows}
+use Rattle.block_masks.specs.Picks.{packed}
+use Rattle.plane_coder.specs.declared.fours.Fours.{Fours}
+use Rattle.plane_coder.specs.declared.seen.Typed.{Typed}
+
+-- the masks of positions: `due` has the types that are due, `one` those that are 1, and `minus` the negative numbers
+pub record AreFours (due one minus : ℕ → Bool) (start count : ℕ) (m : Fours) : Type 0 where
+  pub plain : Shows m.plain (λ p. not ((due p && one p) && minus p) && due p) start count
+  pub ones : Shows m.ones (λ p. due p && one p) start count
+
+-- the word and the signs of four positions from a start on
+pub record ArePicked (due one minus : ℕ → Bool) (start : ℕ) (t : Typed) : Type 0 where
+  pub word : t.word ≡ packed (map one (filter due (span start 4)))
+  pub signs : t.signs ≡ packed (map minus (filter (λ p. due p && one p) (span start 4)))
