@@ -133,7 +133,10 @@ pub fn gather<B: BandRows>(bands: &B, column: u32, weights: &Weights, into: &mut
     requires fits { (i : ℕ) → i < 64 → unsigned_abs (B.number bands.now (place_in column i) *ℤ weight_at weights.now.shifts i) < 2 ^ 31 }
     ensures { into.new ≡ gathered (B.number bands.now) weights.now.shifts column }
 {
-    gather_tops(bands, column, weights, into);
-    gather_children(bands, column, weights, into);
-    gather_grandchildren(bands, column, weights, into);
+    // A block of its own can't overlap what the bands hold, so that they look each row up once.
+    let mut block = [0; 64];
+    gather_tops(bands, column, weights, &mut block);
+    gather_children(bands, column, weights, &mut block);
+    gather_grandchildren(bands, column, weights, &mut block);
+    into.copy_from_slice(&block);
 }

@@ -1,8 +1,8 @@
 //! The numbers of one block row.
 
-ghost use Rattle.std.specs.Prelude.{◌≡◌, ℕ, ◌+◌, ◌*◌, ◌^◌, ◌<◌, ◌≤◌, ℤ, length, vec_len};
+ghost use Rattle.std.specs.Prelude.{◌≡◌, ℕ, ◌+◌, ◌*◌, ◌^◌, ◌<◌, ◌≤◌, ℤ, length, vec_len, slice_set};
 ghost use Rattle.wave_defs.specs.Blocks.{block_side};
-ghost use Rattle.wave_defs.specs.Within.{AllWithin};
+ghost use Rattle.wave_defs.specs.Within.{AllWithin, IsWithin};
 ghost use Rattle.wave_defs.specs.Held.{signal};
 ghost use Rattle.inverse_strip.specs.Cells.{first_cell, first_of_row};
 
@@ -43,6 +43,16 @@ fn numbers_before(band: usize) -> usize
         return 36 + 4 * band;
     }
     54 + band
+}
+
+// Makes a value the number of a cell.
+#[inline(always)]
+fn set_cell(cells: &mut [i32], at: usize, value: i64)
+    requires inside { at < length cells.old }
+    requires small { IsWithin (2 ^ 27) value }
+    ensures { cells.new ≡ slice_set cells.old at value }
+{
+    cells[at] = value as i32;
 }
 
 impl BlockRow {
@@ -136,10 +146,12 @@ impl BlockRow {
     {
         let upper = self.start_of(band, row);
         let lower = self.start_of(band, row + 1);
-        self.set_in_row(band, row, upper, column, values[0]);
-        self.set_in_row(band, row, upper, column + 1, values[1]);
-        self.set_in_row(band, row + 1, lower, column, values[2]);
-        self.set_in_row(band, row + 1, lower, column + 1, values[3]);
+        // The list is looked up once for all four.
+        let cells = self.cells.as_mut_slice();
+        set_cell(cells, upper + column, values[0]);
+        set_cell(cells, upper + column + 1, values[1]);
+        set_cell(cells, lower + column, values[2]);
+        set_cell(cells, lower + column + 1, values[3]);
     }
 
     /// Makes all numbers 0.

@@ -4,12 +4,14 @@
 
 mod lanes;
 mod narrow;
+mod narrow_onto;
 mod samples;
 mod wide;
 mod wide_onto;
 mod wide_samples;
 
 pub use narrow::{predict_sub, update_sub};
+pub use narrow_onto::{predict_sub_onto, update_sub_onto};
 pub use samples::{high_sample, low_sample};
 pub use wide::{predict_add, update_add};
 pub use wide_onto::{predict_onto, update_onto};

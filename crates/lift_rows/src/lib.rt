@@ -10,7 +10,10 @@ ghost use Rattle.wave_defs.specs.Held.{Agrees, signal};
 mod back;
 mod halves;
 
-pub use lift_lanes::{predict_add, predict_onto, predict_sub, update_add, update_onto, update_sub};
+pub use lift_lanes::{
+    predict_add, predict_onto, predict_sub, predict_sub_onto, update_add, update_onto, update_sub,
+    update_sub_onto,
+};
 
 /// The number of the even sample before even sample `j`, where the line is mirrored
 /// (docs/formats.md, "A line").

@@ -60,7 +60,7 @@ impl PixelForm {
         if self.depth <= 8 {
             i32::from(octets[place])
         } else {
-            256 * i32::from(octets[2 * place]) + i32::from(octets[2 * place + 1])
+            i32::from(u16::from_be_bytes([octets[2 * place], octets[2 * place + 1]]))
         }
     }
 

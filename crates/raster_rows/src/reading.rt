@@ -1,8 +1,9 @@
 // A row in.
 ghost use Rattle.std.specs.Prelude.{◌≡◌, ◌+◌, ◌-◌, ◌*◌, ◌<◌, ◌≤◌, ◌^◌, length, take, drop, MatchResult};
+ghost use Rattle.std.specs.Bool.{OnTrue};
 ghost use Rattle.base_122.specs.Ranges.{IsInRange};
 ghost use Rattle.raster_rows.specs.Pixels.{pixel_size};
-ghost use Rattle.raster_rows.specs.RowReads.{RowRead};
+ghost use Rattle.raster_rows.specs.RowReads.{RowRead, FirstInRange};
 ghost use Rattle.raster_rows.specs.Pieces.{PixelsPut, FirstOut};
 
 use crate::form::{PIECE, PixelForm};
@@ -106,6 +107,10 @@ fn take_pixels(
         (λ _. PixelsPut form.depth form.signed octets.now column count into.old into.new)
         (λ bad. FirstOut form.depth form.signed octets.now column count bad.place bad.value into.old into.new) }
 {
+    if are_in_range(form, octets, count) {
+        put_pixels(form, octets, count, into, column);
+        return Ok(());
+    }
     for place in 0..count {
         let value = form.pixel_at(octets, place);
         if !form.holds(value) {
@@ -114,6 +119,30 @@ fn take_pixels(
         into[column + place] = value;
     }
     Ok(())
+}
+
+// Whether the first pixels of these octets are all in range. Without an end before the last, the loop takes many at once.
+fn are_in_range(form: PixelForm, octets: &[u8], count: usize) -> bool
+    requires whole { count * pixel_size form.depth ≤ length octets.now }
+    ensures { OnTrue result (FirstInRange form.depth form.signed octets.now count) }
+{
+    let mut all = true;
+    for place in 0..count {
+        all &= form.holds(form.pixel_at(octets, place));
+    }
+    all
+}
+
+// Puts the first pixels of these octets, which are in range, into a row from a column on.
+fn put_pixels(form: PixelForm, octets: &[u8], count: usize, into: &mut [i32], column: usize)
+    requires whole { count * pixel_size form.depth ≤ length octets.now }
+    requires room { column + count ≤ length into.old }
+    requires in_range { FirstInRange form.depth form.signed octets.now count }
+    ensures { PixelsPut form.depth form.signed octets.now column count into.old into.new }
+{
+    for place in 0..count {
+        into[column + place] = form.pixel_at(octets, place);
+    }
 }
 
 // Moves what follows the whole pixels, an octet at most, to the front, and answers how many octets that is.

@@ -3,7 +3,7 @@ ghost use Rattle.std.specs.Prelude.{◌≡◌, ◌≤◌};
 ghost use Rattle.base_122.specs.Ranges.{IsInRange};
 
 use crate::{MadeImage, RowFault, at_end, made_pixel, pad_row, read_row, write_row};
-use base_122::{Select, Setting, Stop, Weights};
+use base_122::Setting;
 use port_122::{MemoryPort, SteadyPort};
 use std::test::Fail;
 
@@ -15,24 +15,9 @@ fn setting(depth: u8, signed: bool) -> Setting
     ensures width { result.width ≡ 17 }
 {
     Setting {
-        width: 17,
-        rows: 17,
         depth,
         signed,
-        segment: 64,
-        limit: 0,
-        fill: false,
-        word: 1,
-        stop: Stop {
-            dc: false,
-            plane: 0,
-            stage: 3,
-        },
-        weights: Weights::usual(),
-        select: Select::Optimal,
-        apid: 100,
-        image: 0,
-        packet: 1024,
+        ..Setting::usual(17, 17)
     }
 }
 

@@ -10,7 +10,7 @@ use Rattle.wave_defs.proofs.LineLaws.{prediction-same}
 use Rattle.wave_defs.proofs.LevelSame.{SameWithin-trans, rows_merged-same}
 use Rattle.wave_defs.proofs.LevelWithin.{EachWithin-more, EachWithin-same}
 use Rattle.wave_defs.proofs.LiftLaws.{SameWithin-columns_merged}
-use Rattle.wave_plain.specs.Shown.{image_of, HasSize, Shows}
+use Rattle.wave_plain.specs.Shown.{image_of, Shows}
 use Rattle.wave_defs.specs.Rings.{even_rows, odd_rows}
 
 SameWithin-sym : (r w : ℕ) (x y : ℕ → ℕ → ℤ) → SameWithin r w x y → SameWithin r w y x
@@ -48,9 +48,6 @@ merged_by_rows n w x y c d two even kept odd =
 pub shown_plane_within : (b c r s v w : ℕ) (a : ℕ → ℕ → ℤ) (p : Plane) → b ≤ c → s ≡ r → v ≡ w → Shows r w a p → EachWithin b r w a → EachWithin c s v (image_of p)
 shown_plane_within b c r s v w a p le er ew shown within =
     EachWithin-more b c r s w v _ le (omega arith) (omega arith) (EachWithin-same b r w _ _ shown.cells within)
-
-pub same_size : (r w s v : ℕ) (p : Plane) → r ≡ s → w ≡ v → HasSize r w p → HasSize s v p
-same_size r w s v p er ew h = rw (← er, ← ew) h
 
 -- the rows of planes that show two halves
 pub shown_rows : (r m : ℕ) (x y : ℕ → ℕ → ℤ) (l h p : Plane) → 2 ≤ m → Shows r m x l → Shows r m y h → Shows l.rows (2 * l.width) (rows_merged (image_of l) (image_of h) l.width) p → Shows r (2 * m) (rows_merged x y m) p

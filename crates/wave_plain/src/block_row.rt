@@ -47,7 +47,7 @@ fn cell_of(plane: &Plane, row: u32, column: u32) -> i32
 }
 
 impl<'a> BlockRow<'a> {
-    /// The block row of this number. The bands are those of an image, and have it.
+    /// Returns the block row of this number. The bands are those of an image, and have it.
     pub fn new(bands: &'a Bands, row: u32) -> BlockRow<'a>
         requires { IsBlockRow bands.now row }
         ensures bands { result.bands.now ≡ bands.now }

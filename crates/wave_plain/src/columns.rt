@@ -54,7 +54,7 @@ fn low_row(even: &[i32], before: &[i32], after: &[i32], into: &mut [i32])
     update_sub(into, before, after);
 }
 
-/// Each column of 2 * n cells to n low and n high ones, where a row has w cells.
+/// Splits each column of 2 * n cells into n low and n high ones; a row has w cells.
 pub fn split_columns(cells: &[i32], w: usize, n: usize, low: &mut [i32], high: &mut [i32])
     requires whole { length cells.now ≡ 2 * n * w }
     requires low_half { length low.old ≡ n * w }
@@ -122,7 +122,7 @@ fn odd_row(high: &[i64], a: &[i64], b: &[i64], c: &[i64], d: &[i64], into: &mut 
     predict_add(into, a, b, c, d);
 }
 
-/// The even rows of an image from its n low and n high rows of w cells.
+/// Makes the even rows of an image from its n low and n high rows of w cells.
 fn join_even_rows(low: &[i64], high: &[i64], w: usize, n: usize, into: &mut [i64])
     requires low_half { length low.now ≡ n * w }
     requires high_half { length high.now ≡ n * w }
@@ -141,7 +141,7 @@ fn join_even_rows(low: &[i64], high: &[i64], w: usize, n: usize, into: &mut [i64
     }
 }
 
-/// The odd rows of an image from its n high rows of w cells and its even rows, which stand in their
+/// Makes the odd rows of an image from its n high rows of w cells and its even rows, which are in their
 /// places. A row of room is kept for the row at hand.
 fn join_odd_rows(high: &[i64], w: usize, n: usize, row: &mut [i64], into: &mut [i64])
     requires high_half { length high.now ≡ n * w }
@@ -166,7 +166,7 @@ fn join_odd_rows(high: &[i64], w: usize, n: usize, row: &mut [i64], into: &mut [
     }
 }
 
-/// Each column of 2 * n cells from its n low and n high ones, where a row has w cells. `row` is
+/// Joins each column of 2 * n cells from its n low and n high ones; a row has w cells. `row` is
 /// room for the row at hand.
 pub fn join_columns(
     low: &[i64],

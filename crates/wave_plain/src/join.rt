@@ -8,7 +8,7 @@ ghost use Rattle.wave_plain.specs.Shown.{image_of, quarters_in, zeros, HasSize, 
 use crate::{Plane, columns, rows};
 use std::alloc::{AllocError, Global};
 
-/// A plane of zeros.
+/// Returns a plane of zeros.
 fn zero_plane(alloc: Global, width: u32, rows: u32) -> Result<Plane, AllocError>
     ensures { IfOk result (Shows rows width zeros) }
 {
@@ -16,7 +16,7 @@ fn zero_plane(alloc: Global, width: u32, rows: u32) -> Result<Plane, AllocError>
     Ok(Plane { width, rows, cells })
 }
 
-/// The columns of `rows` cells that have these low and high halves.
+/// Returns the columns of `rows` cells that have these low and high halves.
 fn join_columns(alloc: Global, rows: u32, low: &Plane, high: &Plane) -> Result<Plane, AllocError>
     requires low_size { HasSize low.now.rows low.now.width low.now }
     requires high_size { HasSize low.now.rows low.now.width high.now }
@@ -42,7 +42,7 @@ fn join_columns(alloc: Global, rows: u32, low: &Plane, high: &Plane) -> Result<P
     Ok(plane)
 }
 
-/// The rows of `width` cells that have these low and high halves.
+/// Returns the rows of `width` cells that have these low and high halves.
 fn join_rows(alloc: Global, width: u32, low: &Plane, high: &Plane) -> Result<Plane, AllocError>
     requires low_size { HasSize low.now.rows low.now.width low.now }
     requires high_size { HasSize low.now.rows low.now.width high.now }
@@ -64,7 +64,7 @@ fn join_rows(alloc: Global, width: u32, low: &Plane, high: &Plane) -> Result<Pla
     Ok(plane)
 }
 
-/// The image of this width and these rows that has these four bands of one level.
+/// Returns the image of this width and these rows that has these four bands of one level.
 pub fn join(
     alloc: Global,
     width: u32,

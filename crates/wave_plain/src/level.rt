@@ -8,7 +8,7 @@ use crate::rows::split_rows;
 use crate::samples::Samples;
 use std::alloc::{AllocError, Global};
 
-/// The four bands of a level; the low one goes on to the next level.
+/// The four bands of a level; the low one is split by the next level.
 #[derive(Drop)]
 pub struct Level {
     pub ll: Samples,
@@ -23,7 +23,7 @@ impl Samples {
     ghost use Rattle.wave_defs.specs.Within.{EachWithin};
     ghost use Rattle.wave_plain.specs.ShownSamples.{samples_of, ShowsHalves, ShowsLevel};
 
-    /// The low and the high half of each row.
+    /// Returns the low and the high half of each row.
     fn halve_rows(&self, alloc: Global) -> Result<(Samples, Samples), AllocError>
         requires even { self.now.width ≡ 2 * (self.now.width / 2) }
         requires long { 6 ≤ self.now.width }
@@ -45,7 +45,7 @@ impl Samples {
         Ok((low, high))
     }
 
-    /// The low and the high half of each column.
+    /// Returns the low and the high half of each column.
     fn halve_columns(&self, alloc: Global) -> Result<(Samples, Samples), AllocError>
         requires even { self.now.rows ≡ 2 * (self.now.rows / 2) }
         requires long { 6 ≤ self.now.rows }
@@ -67,7 +67,7 @@ impl Samples {
         Ok((low, high))
     }
 
-    /// The four bands of one level.
+    /// Returns the four bands of one level.
     pub fn level(&self, alloc: Global) -> Result<Level, AllocError>
         requires even { self.now.width ≡ 2 * (self.now.width / 2) }
         requires long { 6 ≤ self.now.width }

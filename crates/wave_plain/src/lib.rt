@@ -37,7 +37,7 @@ pub struct Bands {
     pub planes: Vec<Plane>,
 }
 
-/// The ten bands of an image (docs/formats.md, "Levels and padding").
+/// Returns the ten bands of an image (docs/formats.md, "Levels and padding").
 ///
 /// Width and rows are multiples of 8 from 24, and the cells are at most 2^16 in magnitude. The
 /// values of the bands are at most 16,000,000 in magnitude (docs/formats.md, "Bounds"). The one
@@ -68,7 +68,7 @@ pub fn forward3(alloc: Global, image: &Plane) -> Result<Bands, AllocError>
     })
 }
 
-/// The plane of a band, by its number.
+/// Returns the plane of a band, by its number.
 fn plane_of(bands: &Bands, band: usize) -> &Plane
     requires whole { IsWhole (bands.now.rows / 8) (bands.now.width / 8) bands.now }
     requires within { band < 10 }
@@ -79,7 +79,7 @@ fn plane_of(bands: &Bands, band: usize) -> &Plane
     &bands.planes[band]
 }
 
-/// The image that has these ten bands (docs/formats.md, "Levels and padding").
+/// Returns the image that has these ten bands (docs/formats.md, "Levels and padding").
 ///
 /// Width and rows are multiples of 8 from 24, the ten planes have the sizes of their bands, and
 /// their values are at most 2^27 in magnitude. The one error is want of memory.

@@ -8,7 +8,7 @@ ghost use Rattle.wave_defs.specs.Held.{grid, SameWithin};
 use crate::columns::row_of;
 use lift_rows::{forward_row, inverse_row};
 
-/// Each row of 2 * n cells to n low and n high ones.
+/// Splits each row of 2 * n cells into n low and n high ones.
 pub fn split_rows(cells: &[i32], rows: usize, n: usize, low: &mut [i32], high: &mut [i32])
     requires whole { length cells.now ≡ rows * (2 * n) }
     requires low_half { length low.old ≡ rows * n }
@@ -24,7 +24,7 @@ pub fn split_rows(cells: &[i32], rows: usize, n: usize, low: &mut [i32], high: &
     }
 }
 
-/// The rows of 2 * n cells that have these n low and n high ones.
+/// Joins the rows of 2 * n cells that have these n low and n high ones.
 pub fn join_rows(low: &[i64], high: &[i64], rows: usize, n: usize, into: &mut [i64])
     requires low_half { length low.now ≡ rows * n }
     requires high_half { length high.now ≡ rows * n }

@@ -43,7 +43,7 @@ impl Samples {
     ghost use Rattle.wave_plain.specs.Shown.{image_of, zeros, Shows};
     ghost use Rattle.wave_plain.specs.ShownSamples.{samples_of, ShowsSamples};
 
-    /// Zeros.
+    /// Returns zeros.
     pub fn zeros(alloc: Global, width: u32, rows: u32) -> Result<Samples, AllocError>
         ensures { IfOk result (ShowsSamples rows width zeros) }
     {
@@ -51,7 +51,7 @@ impl Samples {
         Ok(Samples { width, rows, cells })
     }
 
-    /// The cells of a plane.
+    /// Returns the cells of a plane.
     pub fn narrowed(alloc: Global, plane: &Plane) -> Result<Samples, AllocError>
         requires whole { vec_len plane.now.cells ≡ plane.now.rows * plane.now.width }
         requires bounded { EachWithin (2 ^ 24) plane.now.rows plane.now.width (image_of plane.now) }
@@ -62,7 +62,7 @@ impl Samples {
         Ok(samples)
     }
 
-    /// The samples as a plane.
+    /// Returns the samples as a plane.
     pub fn widened(&self, alloc: Global) -> Result<Plane, AllocError>
         ensures { IfOk result (Shows self.now.rows self.now.width (samples_of self.now)) }
     {

@@ -6,7 +6,7 @@ ghost use Rattle.wave_defs.specs.Held.{Agrees, signal};
 ghost use Rattle.wave_defs.specs.Rolling.{open_high, open_low};
 ghost use Rattle.wave_defs.specs.Rings.{AreRows, RowsWithin, AreNewest, even_rows, odd_rows};
 
-use lift_rows::{predict_sub, update_sub};
+use lift_rows::{predict_sub_onto, update_sub_onto};
 use line_rings::RowRing;
 
 /// High row j, once even row j + 2 and odd row j + 1 are the newest (docs/formats.md, "A line").
@@ -23,10 +23,10 @@ pub fn high_row(evens: &RowRing<i32>, odds: &RowRing<i32>, j: usize, into: &mut 
         → RowsWithin (2 * m) (length into.old) odds.now
         → AllWithin (5 * m) (length into.old) (signal into.new) }
 {
-    into.copy_from_slice(odds.at(0));
     let before = if j == 0 { 2 } else { 0 };
-    predict_sub(
+    predict_sub_onto(
         into,
+        odds.at(0),
         evens.at(before),
         evens.at(1),
         evens.at(2),
@@ -49,7 +49,6 @@ pub fn low_row(evens: &RowRing<i32>, highs: &RowRing<i32>, kept: usize, j: usize
         → RowsWithin (5 * m) (length into.old) highs.now
         → AllWithin (5 * m) (length into.old) (signal into.new) }
 {
-    into.copy_from_slice(evens.at(1));
     let before = if j == 0 { kept - 1 } else { kept - 2 };
-    update_sub(into, highs.at(before), highs.at(kept - 1));
+    update_sub_onto(into, evens.at(1), highs.at(before), highs.at(kept - 1));
 }

@@ -1,4 +1,4 @@
-//! Images whose block rows come one after another, and their rows.
+//! Images whose block rows are put one after another, and their rows.
 
 ghost use Rattle.std.specs.Prelude.{◌≡◌, ◌≤◌, ◌<◌, ◌*◌, ◌^◌, ℕ, IfOk, length, unsigned_abs, vec_len};
 ghost use Rattle.std.specs.Result.{OnOk};
@@ -61,7 +61,7 @@ fn bounded(number: i32) -> i64
     }
 }
 
-/// Puts the numbers of one block where those of the next block row go.
+/// Puts the numbers of one block into the next block row.
 fn put_block(strip: &mut StripInverse, whole: &BlockRow, column: u32)
     requires column { column < 3 }
     requires columns { columns_of strip.old ≡ 3 }
@@ -147,7 +147,7 @@ fn push_rows(
 
 const NONE: u32 = u32::MAX;
 
-/// All rows come back where the image's end is told after four of its five block rows.
+/// All rows are returned if the image's end is reported after four of its five block rows.
 fn end_is_told_late(
     rt: &impl Abort,
     strip: &mut StripInverse,
@@ -178,7 +178,7 @@ fn are_same(a: &[i64], b: &[i64], from: usize, to: usize) -> bool
     a[24 * from..24 * to] == b[24 * from..24 * to]
 }
 
-/// Where block row 5 is lost, rows 19 to 69 may differ.
+/// If block row 5 is lost, rows 19 to 69 may differ.
 fn one_is_lost(
     rt: &impl Abort,
     strip: &mut StripInverse,

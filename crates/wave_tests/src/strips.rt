@@ -1,4 +1,4 @@
-//! When block rows come, and what they show.
+//! When block rows are ready, and what they show.
 
 ghost use Rattle.std.specs.Prelude.{◌≡◌, ◌<◌, ◌^◌, ℕ, IfOk, false, true, vec_len};
 ghost use Rattle.wave_defs.specs.Within.{AllWithin, EachWithin, IsWithin};
@@ -17,7 +17,7 @@ use std::test::Fail;
 use wave_plain::{Bands, BlockRow, Plane, forward3};
 use wave_strip::StripWave;
 
-/// Three block rows come at the end of 24 rows, and none before.
+/// Three block rows are ready at the end of 24 rows, and none before.
 fn end_after_24_rows(rt: &impl Abort, strip: &mut StripWave)
     requires columns { columns_of strip.old ≡ 3 }
     requires start { IsAtStart strip.old }
@@ -40,7 +40,7 @@ fn end_after_24_rows(rt: &impl Abort, strip: &mut StripWave)
     assert_eq!(rt; strip.finish_row(), None);
 }
 
-/// Of 32 rows the first block row comes with row 29, and the others at the end.
+/// Of 32 rows the first block row is ready with row 29, and the others at the end.
 fn push_32_rows(rt: &impl Abort, strip: &mut StripWave)
     requires columns { columns_of strip.old ≡ 3 }
     requires start { IsAtStart strip.old }
@@ -125,7 +125,7 @@ fn made_plane(alloc: Global) -> Result<Plane, AllocError>
     })
 }
 
-/// The numbers of one block of the block row that stands, against those of the whole array.
+/// Compares the numbers of one block of the present block row with those of the whole array.
 #[tactic(auto, using(block_families::proofs::Placing::place_within))]
 fn same_block(rt: &impl Abort, strip: &StripWave, whole: &BlockRow, column: u32)
     requires standing { is_standing strip.now ≡ true }
@@ -139,7 +139,7 @@ fn same_block(rt: &impl Abort, strip: &StripWave, whole: &BlockRow, column: u32)
     }
 }
 
-/// The block row that stands, against that of the whole array.
+/// Compares the present block row with that of the whole array.
 fn same_block_row(rt: &impl Abort, strip: &StripWave, bands: &Bands, row: u32)
     requires standing { is_standing strip.now ≡ true }
     requires columns { columns_of strip.now ≡ 6 }
@@ -152,7 +152,7 @@ fn same_block_row(rt: &impl Abort, strip: &StripWave, bands: &Bands, row: u32)
     }
 }
 
-/// Pushes all rows, and compares each block row that comes with one.
+/// Pushes all rows, and compares each block row that is ready after one.
 fn push_rows(rt: &impl Abort, strip: &mut StripWave, bands: &Bands)
     requires columns { columns_of strip.old ≡ 6 }
     requires start { (rows_of strip.old ≡ 0) × (has_ended strip.old ≡ false) }
@@ -167,7 +167,7 @@ fn push_rows(rt: &impl Abort, strip: &mut StripWave, bands: &Bands)
     }
 }
 
-/// Compares the block rows that come at the end.
+/// Compares the block rows that are ready at the end.
 fn finish_rows(rt: &impl Abort, strip: &mut StripWave, bands: &Bands)
     requires columns { columns_of strip.old ≡ 6 }
     requires rows { rows_of strip.old ≡ 40 }

@@ -6,7 +6,7 @@ use Rattle.wave_strip.proofs.pairs.high_row.Goals.{then-j-eq0, else-j-eq0}
 
 pub returns-clause-value : goal.returns-clause-value
 returns-clause-value c = λ a e o.
-    let lifted = simp (c.copy_from_slice.ensures.after, c.at.ensures, c.at-2.ensures, c.at-3.ensures, c.at-4.ensures, c.at-5.ensures) at c.predict_sub.ensures in
+    let lifted = simp (c.at.ensures, c.at-2.ensures, c.at-3.ensures, c.at-4.ensures, c.at-5.ensures) at c.predict_sub_onto.ensures in
     let long = c.requires.odds.wide 0 (omega arith) in
     let inside : c.if-j-eq0.before < 4 = elim c.if-j-eq0.branch [ then-j-eq0 w ↦ omega arith | else-j-eq0 w ↦ omega arith ] in
     let place : c.args.j + 3 + c.if-j-eq0.before ≡ even_before c.args.j + 4 = elim c.if-j-eq0.branch [ then-j-eq0 w ↦ omega arith | else-j-eq0 w ↦ omega arith ] in
@@ -15,7 +15,7 @@ returns-clause-value c = λ a e o.
 
 pub returns-clause-small : goal.returns-clause-small
 returns-clause-small c = λ m two e o.
-    let lifted = simp (c.copy_from_slice.ensures.after, c.at.ensures, c.at-2.ensures, c.at-3.ensures, c.at-4.ensures, c.at-5.ensures) at c.predict_sub.ensures in
+    let lifted = simp (c.at.ensures, c.at-2.ensures, c.at-3.ensures, c.at-4.ensures, c.at-5.ensures) at c.predict_sub_onto.ensures in
     let long = c.requires.odds.wide 0 (omega arith) in
     let inside : c.if-j-eq0.before < 4 = elim c.if-j-eq0.branch [ then-j-eq0 w ↦ omega arith | else-j-eq0 w ↦ omega arith ] in
     less_predicted-within m _ c.if-j-eq0.before c.args.evens.now c.args.odds.now _ c.requires.evens.count_is c.requires.odds.count_is inside two

@@ -5,7 +5,7 @@ use Rattle.wave_strip.proofs.pairs.low_row.Goals.{then-j-eq0, else-j-eq0}
 
 pub returns-clause-value : goal.returns-clause-value
 returns-clause-value c = λ a e d.
-    let lifted = simp (c.copy_from_slice.ensures.after, c.at.ensures, c.at-2.ensures, c.at-3.ensures) at c.update_sub.ensures in
+    let lifted = simp (c.at.ensures, c.at-2.ensures, c.at-3.ensures) at c.update_sub_onto.ensures in
     let long = c.requires.evens.wide 1 (omega arith) in
     let two = c.requires.two in
     let inside : c.if-j-eq0.before < c.args.kept = elim c.if-j-eq0.branch [ then-j-eq0 w ↦ omega arith | else-j-eq0 w ↦ omega arith ] in
@@ -15,7 +15,7 @@ returns-clause-value c = λ a e d.
 
 pub returns-clause-small : goal.returns-clause-small
 returns-clause-small c = λ m hm e d.
-    let lifted = simp (c.copy_from_slice.ensures.after, c.at.ensures, c.at-2.ensures, c.at-3.ensures) at c.update_sub.ensures in
+    let lifted = simp (c.at.ensures, c.at-2.ensures, c.at-3.ensures) at c.update_sub_onto.ensures in
     let long = c.requires.evens.wide 1 (omega arith) in
     let two = c.requires.two in
     let inside : c.if-j-eq0.before < c.args.kept = elim c.if-j-eq0.branch [ then-j-eq0 w ↦ omega arith | else-j-eq0 w ↦ omega arith ] in

@@ -1,20 +1,47 @@
-use Rattle.std.proofs.Common.{◌≡◌, ◌+◌, pos, get_or, refl, arith}
-use Rattle.std.proofs.lemmas.Int.{to_z-of_z}
+use Rattle.std.proofs.Common.{◌≡◌, ℕ, ◌+◌, ◌*◌, ◌^◌, ◌<◌, ℤ, w64, to_z, of_z, pos, List, length, get_or, sym, ap, subst, arith}
+use Rattle.std.proofs.lemmas.List.{with_items_is}
 use Rattle.wave_defs.specs.Blocks.{Place}
+use Rattle.wave_defs.specs.Held.{signal}
+use Rattle.wave_defs.specs.Within.{AllWithin}
+use Rattle.wave_defs.proofs.Shifts.{kept}
+use Rattle.block_families.specs.Scattering.{SetsSquare}
 use Rattle.inverse_strip.specs.Cells.{number_in}
-use Rattle.inverse_strip.proofs.SquareLemmas.{corner, sets_square}
+use Rattle.inverse_strip.proofs.SquareLemmas.{cells_square, cells_within, long4}
 use Rattle.inverse_strip.proofs.block_row.BlockRow.set_square.Goals as goal
+
+pub invariant_of-self-clause-small : goal.invariant_of-self-clause-small
+invariant_of-self-clause-small c =
+    let s = c.args.self.now in
+    let values = c.args.values in
+    let x4 = c.set_cell-4.new.cells in
+    let p : Place = record { band = c.args.band; row = c.args.row; column = c.args.column } in
+    let w : ℕ → ℤ = λ k. to_z w64 (of_z w64 (get_or values k (pos 0))) in
+    let fit : (k : ℕ) → k < 4 → w k ≡ get_or values k (pos 0) = λ k lt. kept w64 (2 ^ 27) (get_or values k (pos 0)) (omega arith) (c.requires.small k lt) in
+    let value = c.as_mut_slice-cells.ensures.value in
+    let hu : c.start_of-upper.result + c.args.column + 1 < length s.cells.items = omega (arith, c.start_of-upper.ensures.fits, c.requires.inside) in
+    let hl : c.start_of-lower.result + c.args.column + 1 < length s.cells.items = omega (arith, c.start_of-lower.ensures.fits, c.requires.inside) in
+    let e1 = rw value at c.set_cell.ensures in
+    let long = long4 s.columns s.cells.items _ _ _ x4 p _ _ values w c.requires.band c.requires.rows c.requires.inside
+    (ap (λ (k : ℕ). k + c.args.column) c.start_of-upper.ensures.start) (ap (λ (k : ℕ). k + c.args.column) c.start_of-lower.ensures.start) hu hl fit e1 c.set_cell-2.ensures c.set_cell-3.ensures c.set_cell-4.ensures in
+    let small = cells_within s.columns s.cells.items _ _ _ x4 p _ _ values w c.requires.band c.requires.rows c.requires.inside
+    (ap (λ (k : ℕ). k + c.args.column) c.start_of-upper.ensures.start) (ap (λ (k : ℕ). k + c.args.column) c.start_of-lower.ensures.start) hu hl fit e1 c.set_cell-2.ensures c.set_cell-3.ensures c.set_cell-4.ensures
+    (2 ^ 27) (64 * s.columns) s.small c.requires.small in
+    subst (λ (zs : List ℤ). AllWithin (2 ^ 27) (64 * s.columns) (signal zs)) (sym (with_items_is s.cells x4 (omega (arith, long)))) small
 
 pub returns-clause-values : goal.returns-clause-values
 returns-clause-values c =
+    let s = c.args.self.now in
+    let values = c.args.values in
+    let x4 = c.set_cell-4.new.cells in
     let p : Place = record { band = c.args.band; row = c.args.row; column = c.args.column } in
-    let q1 : Place = record { band = c.args.band; row = c.args.row; column = c.args.column + 1 } in
-    let q2 : Place = record { band = c.args.band; row = c.args.row + 1; column = c.args.column } in
-    let q3 : Place = record { band = c.args.band; row = c.args.row + 1; column = c.args.column + 1 } in
-    let v0 : number_in c.set_in_row.new.self.columns c.set_in_row.new.self.cells.items p ≡ get_or c.args.values 0 (pos 0) = grind (arith, to_z-of_z, c.set_in_row.ensures.value) in
-    let v1 : number_in c.set_in_row-2.new.self.columns c.set_in_row-2.new.self.cells.items q1 ≡ get_or c.args.values 1 (pos 0) = grind (arith, to_z-of_z, c.set_in_row-2.ensures.value) in
-    let v2 : number_in c.set_in_row-3.new.self.columns c.set_in_row-3.new.self.cells.items q2 ≡ get_or c.args.values 2 (pos 0) = grind (arith, to_z-of_z, c.set_in_row-3.ensures.value) in
-    let v3 : number_in c.set_in_row-4.new.self.columns c.set_in_row-4.new.self.cells.items q3 ≡ get_or c.args.values 3 (pos 0) = grind (arith, to_z-of_z, c.set_in_row-4.ensures.value) in
-    sets_square _ _ _ _ _ p p q1 q2 q3 c.args.values
-    (corner p p 0 refl (omega arith) (omega arith)) (corner p q1 1 refl (omega arith) (omega arith)) (corner p q2 2 refl (omega arith) (omega arith)) (corner p q3 3 refl (omega arith) (omega arith))
-    v0 v1 v2 v3 c.set_in_row.ensures.others c.set_in_row-2.ensures.others c.set_in_row-3.ensures.others c.set_in_row-4.ensures.others
+    let w : ℕ → ℤ = λ k. to_z w64 (of_z w64 (get_or values k (pos 0))) in
+    let fit : (k : ℕ) → k < 4 → w k ≡ get_or values k (pos 0) = λ k lt. kept w64 (2 ^ 27) (get_or values k (pos 0)) (omega arith) (c.requires.small k lt) in
+    let value = c.as_mut_slice-cells.ensures.value in
+    let hu : c.start_of-upper.result + c.args.column + 1 < length s.cells.items = omega (arith, c.start_of-upper.ensures.fits, c.requires.inside) in
+    let hl : c.start_of-lower.result + c.args.column + 1 < length s.cells.items = omega (arith, c.start_of-lower.ensures.fits, c.requires.inside) in
+    let e1 = rw value at c.set_cell.ensures in
+    let long = long4 s.columns s.cells.items _ _ _ x4 p _ _ values w c.requires.band c.requires.rows c.requires.inside
+    (ap (λ (k : ℕ). k + c.args.column) c.start_of-upper.ensures.start) (ap (λ (k : ℕ). k + c.args.column) c.start_of-lower.ensures.start) hu hl fit e1 c.set_cell-2.ensures c.set_cell-3.ensures c.set_cell-4.ensures in
+    let square = cells_square s.columns s.cells.items _ _ _ x4 p _ _ values w c.requires.band c.requires.rows c.requires.inside
+    (ap (λ (k : ℕ). k + c.args.column) c.start_of-upper.ensures.start) (ap (λ (k : ℕ). k + c.args.column) c.start_of-lower.ensures.start) hu hl fit e1 c.set_cell-2.ensures c.set_cell-3.ensures c.set_cell-4.ensures in
+    subst (λ (zs : List ℤ). SetsSquare (number_in s.columns s.cells.items) (number_in s.columns zs) p values) (sym (with_items_is s.cells x4 (omega (arith, long)))) square
