@@ -22,9 +22,8 @@ use Rattle.bit_pipe.specs.Coming.{Coming, BeginsIn}
 use Rattle.bit_pipe.specs.Reading.{BreaksAt}
 use Rattle.bit_pipe.specs.Sources.{SourceOf}
 use Rattle.segment_defs.specs.declared.head.SegmentHead.{SegmentHead}
-use Rattle.segment_defs.specs.Head.{IsHead, head_bits, head_length}
+use Rattle.segment_defs.specs.Head.{IsHead, head_bits}
 use Rattle.segment_defs.specs.SegmentItems.{Options, dc_shift, segment_items}
-use Rattle.segment_head.proofs.WrittenHeads.{length-head_bits}
 use Rattle.text_defs.specs.Spellable.{IsSpellable, AreWordOptions, AreNumberOptions}
 use Rattle.text_defs.proofs.SegmentItems.{depth_bits_few}
 use Rattle.text_defs.proofs.SoundItems.{shape_at, segment_shapes, profile_sound}
@@ -119,11 +118,11 @@ brief_at i bits (is_zeros limit le e) lacks = elim (cases_lt (length bits) limit
 ]
 brief_at i bits (is_coded n option low high known e) lacks = let few = coded_first n option low high known bits (subst (λ s. Lacks s bits) e lacks) in omega (arith, few)
 
-pub cut_below : {I : Type 0} (k : SourceOf I) (head : SegmentHead) (old : I) (start stop : Coming I) → BeginsIn old (bound_of head.limit) (head_length head) start → (values : List (List ℤ)) (depths : List ℕ) (options : Options) → IsHead head →
+pub cut_below : {I : Type 0} (k : SourceOf I) (head : SegmentHead) (size : ℕ) → size ≤ 20 → (old : I) (start stop : Coming I) → BeginsIn old (bound_of head.limit) size start → (values : List (List ℤ)) (depths : List ℕ) (options : Options) → IsHead head →
     length head.image.weights.shifts ≡ 10 → IsSpellable head values depths → AreWordOptions options → AreNumberOptions head options → (m : ℕ) → BreaksAt k (segment_items head values depths options) m start stop → stop.used < 2 ^ 35
-cut_below k head old start stop begins values depths options fits ten spellable words numbers m q =
+cut_below k head size small old start stop begins values depths options fits ten spellable words numbers m q =
     let items = segment_items head values depths options in
     let few = brief_at (item_at items m) q.some (short_items head values depths options fits words m q.within) q.lacks in
     let inside = item_within items m q.within in
     let short = texts_are_short head values depths options fits ten spellable numbers in
-    omega (arith, few, inside, short, length-append (head_bits head) (text items), length-head_bits head ten, q.taken.used, begins.used, length-append (text (take m items)) q.some)
+    omega (arith, small, few, inside, short, length-append (head_bits head) (text items), q.taken.used, begins.used, length-append (text (take m items)) q.some)

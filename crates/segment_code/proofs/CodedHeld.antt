@@ -28,7 +28,7 @@ use Rattle.segment_code.proofs.TextOctets.{IsLimit, take-octets_of, padded_withi
 
 -- ---- lengths
 
-whole_octets : (word limit used : ℕ) (fill : Bool) → padded_length word limit fill used ≡ 8 * (padded_length word limit fill used / 8)
+pub whole_octets : (word limit used : ℕ) (fill : Bool) → padded_length word limit fill used ≡ 8 * (padded_length word limit fill used / 8)
 whole_octets word limit used fill =
     let q = (used + (8 * word - 1)) / (8 * word) in
     let e : q * (8 * word) ≡ 8 * (q * word) = grind arith in

@@ -7,7 +7,7 @@ use Rattle.number_defs.specs.Gaggles.{is_option}
 use Rattle.number_defs.specs.Depths.{depth_bits}
 use Rattle.number_defs.proofs.Chosen.{heuristic_is, optimal_is}
 use Rattle.plane_defs.specs.Spans.{span}
-use Rattle.plane_defs.specs.declared.codes.Book.{Book}
+use Rattle.base_122.specs.declared.book.Book.{Book}
 use Rattle.plane_defs.specs.Choice.{is_cheapest, cheapest, symbol_counts}
 use Rattle.plane_defs.specs.Planes.{Plane, counted, chosen}
 use Rattle.plane_defs.specs.Profile.{profile}

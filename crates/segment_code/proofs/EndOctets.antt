@@ -1,6 +1,6 @@
--- Octets asked for one after another, and then the end.
+-- Octets asked for one after another.
 use Rattle.std.proofs.Common.{◌≡◌, ℕ, ◌+◌, ◌*◌, ◌/◌, ◌%◌, ◌<◌, ◌≤◌, min, List, [], ◌∷◌, ◌++◌, length, refl, ap, ◌∙◌, subst, arith, length-append}
-use Rattle.std.specs.Prelude.{Option, Result, Ok, Err, None, Some}
+use Rattle.std.specs.Prelude.{Result, Ok, Err, None, Some}
 use Rattle.std.proofs.lemmas.Grind.{div_ceil_times}
 use Rattle.std.proofs.lemmas.List.{append-nil}
 use Rattle.item_defs.specs.Bits.{AreOctets}
@@ -14,9 +14,9 @@ use Rattle.bit_pipe.specs.Sources.{SourceOf, Comes, GivesOctet, Fails}
 use Rattle.bit_pipe.proofs.Giving.{rose_since}
 use Rattle.bit_pipe.proofs.Taking.{comes_same, comes_then}
 use Rattle.segment_code.specs.declared.decode.SegmentFault.{SegmentFault}
-use Rattle.segment_code.specs.declared.decode.SegmentFault.TheVariants.{ShortSegment, Overlong}
+use Rattle.segment_code.specs.declared.decode.SegmentFault.TheVariants.{ShortSegment}
 use Rattle.segment_code.specs.Faults.{of_input}
-use Rattle.segment_code.specs.TextEnds.{EndsLength, EndsAfter}
+use Rattle.segment_code.specs.TextEnds.{EndsLength, Passes}
 
 -- so many octets came
 pub record HaveCome {I : Type 0} (k : SourceOf I) (count : ℕ) (old new : I) : Type 0 where
@@ -51,32 +51,25 @@ module _ {I : Type 0} {k : SourceOf I} where
     went = k.went_both a b c p.went went;
   }
 
-  ends_so : {a b : I} {n : ℕ} (p : HaveCome k n a b) (count : ℕ) (part : Part) (r : Result Part SegmentFault) → EndsLength k count part r p.octets a b → EndsAfter k count part r a b
+  ends_so : {a b : I} {n : ℕ} (p : HaveCome k n a b) (count : ℕ) (part : Part) (r : Result Part SegmentFault) → EndsLength k count part r p.octets a b → Passes k count part r a b
   ends_so p count part r e = record { octets = p.octets; small = p.small; came = p.came; faults = p.faults; went = p.went; ends = e }
 
   -- the input ends
-  pub ends_short : {a b c : I} (n count : ℕ) (part : Part) → n < count → HaveCome k n a b → GivesOctet k (Ok None) b c → EndsAfter k count part (Err ShortSegment) a c
+  pub ends_short : {a b c : I} (n count : ℕ) (part : Part) → n < count → HaveCome k n a b → GivesOctet k (Ok None) b c → Passes k count part (Err ShortSegment) a c
   ends_short n count part lt p q = let e = no_more p q.ends.0 q.faults q.went in ends_so e count part (Err ShortSegment) (omega (arith, e.long, lt), q.ends.1)
 
-  pub ends_there : {a b c : I} (n count : ℕ) (part : Part) → n ≡ count → HaveCome k n a b → GivesOctet k (Ok None) b c → EndsAfter k count part (Ok part) a c
-  ends_there n count part same p q = let e = no_more p q.ends.0 q.faults q.went in ends_so e count part (Ok part) (refl, e.long ∙ same, q.ends.1)
-
-  -- a further octet comes
-  pub goes_over : {a b c : I} {octet : ℕ} (n count : ℕ) (part : Part) → n ≡ count → HaveCome k n a b → GivesOctet k (Ok (Some octet)) b c → EndsAfter k count part (Err Overlong) a c
-  goes_over n count part same p q = let e = one_came p q in ends_so e count part (Err Overlong) (omega (arith, e.long, same))
+  -- all of them came
+  pub ends_there : {a b : I} (n count : ℕ) (part : Part) → n ≡ count → HaveCome k n a b → Passes k count part (Ok part) a b
+  ends_there n count part same p = ends_so p count part (Ok part) (refl, p.long ∙ same)
 
   -- the input fails
-  pub ends_failed : {a b c : I} (n count : ℕ) (part : Part) (e : InFault) → HaveCome k n a b → GivesOctet k (Err e) b c → EndsAfter k count part (Err (of_input e)) a c
+  pub ends_failed : {a b c : I} (n count : ℕ) (part : Part) (e : InFault) → HaveCome k n a b → GivesOctet k (Err e) b c → Passes k count part (Err (of_input e)) a c
   ends_failed {a} {b} {c} n count part e p q = let h = no_more p q.ends.0 q.faults q.went in ends_so h count part (Err (of_input e)) (cause e h.octets q.ends.1)
     where
       cause : (e : InFault) (octets : List ℕ) → Fails k e b c → EndsLength k count part (Err (of_input e)) octets a c
       cause inputs.ReadFault octets f = rose_since (k.faults a) (k.faults b) (k.faults c) p.faults f
       cause inputs.LongInput octets f = f
       cause inputs.Broken octets f = f
-
-  pub goes_past : {a b c : I} (n count : ℕ) (part : Part) (o : Option ℕ) → n ≡ count → (o ≡ None → ⊥) → HaveCome k n a b → GivesOctet k (Ok o) b c → EndsAfter k count part (Err Overlong) a c
-  goes_past n count part None same some p q = absurd (some refl)
-  goes_past n count part (Some octet) same some p q = goes_over n count part same p q
 
 -- ---- the expected length
 

@@ -8,7 +8,7 @@ use Rattle.item_defs.specs.Bits.{value_of, digit}
 use Rattle.item_defs.specs.Items.{Item, text, item_bits, raw, plain, code}
 use Rattle.item_defs.proofs.Texts.{text-append, text-one}
 use Rattle.item_defs.proofs.NumberBits.{length-bits_of}
-use Rattle.plane_defs.specs.declared.codes.Code.{Code}
+use Rattle.base_122.specs.declared.book.Code.{Code}
 use Rattle.plane_defs.specs.declared.entries.Entry.{Entry}
 use Rattle.plane_defs.specs.declared.entries.Entry.TheVariants.{Bit, Word}
 use Rattle.plane_defs.specs.Spans.{span}

@@ -19,7 +19,7 @@ use Rattle.segment_code.specs.declared.decode.SegmentFault.{SegmentFault}
 use Rattle.segment_code.specs.Faults.{of_text}
 use Rattle.segment_code.specs.TakenText.{with_used, TakesFrom}
 use Rattle.segment_code.specs.TextEnds.{EndsWhole, EndsCut}
-use Rattle.segment_code.specs.Decoded.{DecodesSegment}
+use Rattle.segment_code.specs.DecodedItems.{DecodesItems}
 use Rattle.segment_code.proofs.BriefItems.{cut_below}
 use Rattle.segment_code.proofs.Decoding as decoding
 
@@ -38,61 +38,61 @@ used_same a b m n e = ap (λ q. q.1) (pair_of (record { 0 = a; 1 = m }) (record 
 part_same : (a b : Part) (m n : ℕ) → of_pair a m ≡ of_pair b n → a ≡ b
 part_same a b m n e = ap (λ q. q.0) (pair_of (record { 0 = a; 1 = m }) (record { 0 = b; 1 = n }) e)
 
-module _ {I : Type 0} (k : SourceOf I) (head : SegmentHead) (old mid : I) (now : List ℤ) where
-  pub used_within : (part : Part) (used : ℕ) → TakesFrom k head (Ok (record { 0 = part; 1 = used })) old mid now → used ≤ 8 * bound_of head.limit
+module _ {I : Type 0} (k : SourceOf I) (head : SegmentHead) (size : ℕ) (old mid : I) (now : List ℤ) where
+  pub used_within : (part : Part) (used : ℕ) → TakesFrom k head size (Ok (record { 0 = part; 1 = used })) old mid now → used ≤ 8 * bound_of head.limit
   used_within part used f = by_ending f.text.ending f.text.read.ends (f.answer ∙ ap (λ a. with_used a f.stop.used) f.text.answer)
     where
       by_ending : (e : Ending) → EndsReading k (segment_items head f.text.values f.text.depths f.text.options) e f.start f.stop → Ok (record { 0 = part; 1 = used }) ≡ with_used (part_answer e) f.stop.used → used ≤ 8 * bound_of head.limit
-      by_ending (stopped whole) r a = subst (λ n. n ≤ 8 * bound_of head.limit) (sym (used_same part Whole used f.stop.used a)) (decoding.used_within k head old f.start f.stop f.begins _ r)
-      by_ending (stopped (ended m)) r a = subst (λ n. n ≤ 8 * bound_of head.limit) (sym (used_same part Ended used f.stop.used a)) (decoding.used_within k head old f.start f.stop f.begins _ r.0.taken)
+      by_ending (stopped whole) r a = subst (λ n. n ≤ 8 * bound_of head.limit) (sym (used_same part Whole used f.stop.used a)) (decoding.used_within k head size old f.start f.stop f.begins _ r)
+      by_ending (stopped (ended m)) r a = subst (λ n. n ≤ 8 * bound_of head.limit) (sym (used_same part Ended used f.stop.used a)) (decoding.used_within k head size old f.start f.stop f.begins _ r.0.taken)
       by_ending (stopped (refused m s name)) r a = absurd cc
       by_ending (failed m e) r a = absurd cc
 
-  pub fault_decoded : (fault : TextFault) → TakesFrom k head (Err fault) old mid now → DecodesSegment k head (Err (of_text fault)) old mid now
-  fault_decoded fault f = subst (λ s. DecodesSegment k head (Err (of_text fault)) old s now) f.stands (by_ending f.text.ending f.text.read.ends f.text.are (f.answer ∙ ap (λ a. with_used a f.stop.used) f.text.answer))
+  pub fault_decoded : (fault : TextFault) → TakesFrom k head size (Err fault) old mid now → DecodesItems k head size (Err (of_text fault)) old mid now
+  fault_decoded fault f = subst (λ s. DecodesItems k head size (Err (of_text fault)) old s now) f.stands (by_ending f.text.ending f.text.read.ends f.text.are (f.answer ∙ ap (λ a. with_used a f.stop.used) f.text.answer))
     where
       by_ending : (e : Ending) → EndsReading k (segment_items head f.text.values f.text.depths f.text.options) e f.start f.stop →
           AreItems (take (items_read (length (segment_items head f.text.values f.text.depths f.text.options)) e) (segment_items head f.text.values f.text.depths f.text.options)) →
-          Err fault ≡ with_used (part_answer e) f.stop.used → DecodesSegment k head (Err (of_text fault)) old f.stop.source now
+          Err fault ≡ with_used (part_answer e) f.stop.used → DecodesItems k head size (Err (of_text fault)) old f.stop.source now
       by_ending (stopped whole) r are a = absurd cc
       by_ending (stopped (ended m)) r are a = absurd cc
       by_ending (stopped (refused m s name)) r are a =
           let same : fault ≡ faults.of_refusal name = cc in
-          subst (λ e. DecodesSegment k head (Err (of_text e)) old f.stop.source now) (sym same)
-          (decoding.decodes_refused k head old f.start f.stop f.begins f.text.values f.text.depths f.text.options f.text.spellable f.text.words m s name r are now)
+          subst (λ e. DecodesItems k head size (Err (of_text e)) old f.stop.source now) (sym same)
+          (decoding.decodes_refused k head size old f.start f.stop f.begins f.text.values f.text.depths f.text.options f.text.spellable f.text.words m s name r are now)
       by_ending (failed m e) r are a =
           let same : fault ≡ faults.of_input e = cc in
-          subst (λ e. DecodesSegment k head (Err (of_text e)) old f.stop.source now) (sym same)
-          (decoding.decodes_failed k head old f.start f.stop f.begins f.text.values f.text.depths f.text.options f.text.spellable f.text.words m e r.0 r.1 now)
+          subst (λ e. DecodesItems k head size (Err (of_text e)) old f.stop.source now) (sym same)
+          (decoding.decodes_failed k head size old f.start f.stop f.begins f.text.values f.text.depths f.text.options f.text.spellable f.text.words m e r.0 r.1 now)
 
-  pub whole_decoded : (used : ℕ) (r : Result Part SegmentFault) (new : I) → TakesFrom k head (Ok (record { 0 = Whole; 1 = used })) old mid now → EndsWhole k head used r mid new → DecodesSegment k head r old new now
-  whole_decoded used r new f q = by_ending f.text.ending f.text.read.ends f.text.are f.text.given (f.answer ∙ ap (λ a. with_used a f.stop.used) f.text.answer)
+  pub whole_decoded : IsHead head → (used : ℕ) (r : Result Part SegmentFault) (new : I) → TakesFrom k head size (Ok (record { 0 = Whole; 1 = used })) old mid now → EndsWhole k head used r mid new → DecodesItems k head size r old new now
+  whole_decoded fits used r new f q = by_ending f.text.ending f.text.read.ends f.text.are f.text.given (f.answer ∙ ap (λ a. with_used a f.stop.used) f.text.answer)
     where
       by_ending : (e : Ending) → EndsReading k (segment_items head f.text.values f.text.depths f.text.options) e f.start f.stop →
           AreItems (take (items_read (length (segment_items head f.text.values f.text.depths f.text.options)) e) (segment_items head f.text.values f.text.depths f.text.options)) →
           blocks_in now ≡ given_blocks head f.text.values f.text.depths f.text.options (items_read (length (segment_items head f.text.values f.text.depths f.text.options)) e) →
-          Ok (record { 0 = Whole; 1 = used }) ≡ with_used (part_answer e) f.stop.used → DecodesSegment k head r old new now
+          Ok (record { 0 = Whole; 1 = used }) ≡ with_used (part_answer e) f.stop.used → DecodesItems k head size r old new now
       by_ending (stopped whole) p are given a =
           let same = used_same Whole Whole used f.stop.used a in
-          decoding.decodes_whole k head old f.start f.stop f.begins f.text.values f.text.depths f.text.options f.text.spellable f.text.words p are now given r new
+          decoding.decodes_whole k head size old f.start f.stop f.begins f.text.values f.text.depths f.text.options f.text.spellable f.text.words fits p are now given r new
           (subst (λ s. EndsWhole k head f.stop.used r s new) (sym f.stands) (subst (λ n. EndsWhole k head n r mid new) same q))
       by_ending (stopped (ended m)) p are given a = absurd (let e = part_same Whole Ended used f.stop.used a in cc)
       by_ending (stopped (refused m s name)) p are given a = absurd cc
       by_ending (failed m e) p are given a = absurd cc
 
-  pub cut_decoded : (used : ℕ) (r : Result Part SegmentFault) (new : I) → IsHead head → length head.image.weights.shifts ≡ 10 → TakesFrom k head (Ok (record { 0 = Ended; 1 = used })) old mid now → EndsCut k head used r mid new →
-      DecodesSegment k head r old new now
-  cut_decoded used r new fits ten f q = by_ending f.text.ending f.text.read.ends f.text.are f.text.given (f.answer ∙ ap (λ a. with_used a f.stop.used) f.text.answer)
+  pub cut_decoded : size ≤ 20 → (used : ℕ) (r : Result Part SegmentFault) → IsHead head → length head.image.weights.shifts ≡ 10 → TakesFrom k head size (Ok (record { 0 = Ended; 1 = used })) old mid now → EndsCut head used r →
+      DecodesItems k head size r old mid now
+  cut_decoded small used r fits ten f q = by_ending f.text.ending f.text.read.ends f.text.are f.text.given (f.answer ∙ ap (λ a. with_used a f.stop.used) f.text.answer)
     where
       by_ending : (e : Ending) → EndsReading k (segment_items head f.text.values f.text.depths f.text.options) e f.start f.stop →
           AreItems (take (items_read (length (segment_items head f.text.values f.text.depths f.text.options)) e) (segment_items head f.text.values f.text.depths f.text.options)) →
           blocks_in now ≡ given_blocks head f.text.values f.text.depths f.text.options (items_read (length (segment_items head f.text.values f.text.depths f.text.options)) e) →
-          Ok (record { 0 = Ended; 1 = used }) ≡ with_used (part_answer e) f.stop.used → DecodesSegment k head r old new now
+          Ok (record { 0 = Ended; 1 = used }) ≡ with_used (part_answer e) f.stop.used → DecodesItems k head size r old mid now
       by_ending (stopped whole) p are given a = absurd (let e = part_same Ended Whole used f.stop.used a in cc)
       by_ending (stopped (ended m)) p are given a =
           let same = used_same Ended Ended used f.stop.used a in
-          decoding.decodes_cut k head old f.start f.stop f.begins f.text.values f.text.depths f.text.options f.text.spellable f.text.words m p.0 p.1 are
-          (cut_below k head old f.start f.stop f.begins f.text.values f.text.depths f.text.options fits ten f.text.spellable f.text.words f.text.numbers m p.0) now given r new
-          (subst (λ s. EndsCut k head f.stop.used r s new) (sym f.stands) (subst (λ n. EndsCut k head n r mid new) same q))
+          subst (λ s. DecodesItems k head size r old s now) f.stands (decoding.decodes_cut k head size old f.start f.stop f.begins f.text.values f.text.depths f.text.options f.text.spellable f.text.words m p.0 p.1 are
+          (cut_below k head size small old f.start f.stop f.begins f.text.values f.text.depths f.text.options fits ten f.text.spellable f.text.words f.text.numbers m p.0) now given r
+          (subst (λ n. EndsCut head n r) same q))
       by_ending (stopped (refused m s name)) p are given a = absurd cc
       by_ending (failed m e) p are given a = absurd cc

@@ -1,10 +1,10 @@
 mod SizeBits
 mod Blocks
-mod TextOctets
+pub mod TextOctets
 mod DcFits
 mod DcText
-mod Encoding
-mod Bounded
+pub mod Encoding
+pub mod Bounded
 mod Parts
 mod PlaneParts
 mod EntryBits
@@ -28,8 +28,10 @@ mod PlaneGiven
 mod PlaneSteps
 mod PlaneStates
 mod FromText
+mod Joined
 mod ReadNames
 pub mod CodedHeld
 pub mod CodedOptions
 mod NoneAbove
 mod ExactTexts
+mod ItemEnds

@@ -31,7 +31,7 @@ use Rattle.plane_defs.specs.Spans.{span}
 use Rattle.dc_depths.specs.Taken.{TakesDepths, depths_through}
 use Rattle.dc_depths.specs.TakenDc.{TakesDc}
 use Rattle.dc_depths.proofs.TakenDcs.{cut_same, later_items}
-use Rattle.dc_depths.proofs.TakenPlanes.{later_answer}
+use Rattle.bit_pipe.proofs.Endings.{later_answer}
 use Rattle.segment_defs.specs.declared.head.SegmentHead.{SegmentHead}
 use Rattle.segment_defs.specs.Head.{IsHead}
 use Rattle.segment_defs.specs.Depths.{dc_of, dcs_of}

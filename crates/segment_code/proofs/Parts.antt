@@ -5,17 +5,16 @@ use Rattle.item_defs.proofs.Texts.{text-append}
 use Rattle.std.proofs.lemmas.List.{append-nil}
 use Rattle.segment_defs.specs.declared.head.SegmentHead.{SegmentHead}
 use Rattle.segment_defs.specs.Depths.{block_depths}
-use Rattle.segment_defs.specs.Head.{head_bits}
 use Rattle.number_defs.specs.Depths.{depth_items}
 use Rattle.segment_defs.specs.SegmentItems.{items_after_dc, segment_items}
-use Rattle.segment_defs.specs.Coded.{chosen_options, dc_part, coded_bits}
+use Rattle.segment_defs.specs.Coded.{chosen_options, dc_part}
 use Rattle.segment_code.specs.Parts.{coded_planes, coded_rest}
 
 module _ (h : SegmentHead) (blocks : List (List ℤ)) where
-  -- head, DC part and rest
-  pub text_parts : coded_bits h blocks ≡ head_bits h ++ (text (dc_part h blocks) ++ text (coded_rest h blocks))
+  -- DC part and rest
+  pub text_parts : text (segment_items h blocks (block_depths blocks) (chosen_options h blocks)) ≡ text (dc_part h blocks) ++ text (coded_rest h blocks)
   unfolding segment_items
-  text_parts = ap (λ bits. head_bits h ++ bits) (by_stop h.stop.dc)
+  text_parts = by_stop h.stop.dc
     where
       after : List Item
       after = items_after_dc h blocks (block_depths blocks) (chosen_options h blocks)

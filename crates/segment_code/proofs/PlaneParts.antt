@@ -8,7 +8,7 @@ use Rattle.bit_pipe.specs.Standing.{Standing, IsOpen, Adds, Puts}
 use Rattle.bit_pipe.specs.declared.fault.PutFault.{PutFault}
 use Rattle.bit_pipe.proofs.Putting.{adds_start, puts_whole}
 use Rattle.wave_defs.specs.Held.{blocks_in}
-use Rattle.plane_defs.specs.declared.codes.Book.{Book}
+use Rattle.base_122.specs.declared.book.Book.{Book}
 use Rattle.plane_defs.specs.Profile.{profile}
 use Rattle.plane_defs.specs.Planes.{Plane, plane_items, chosen}
 use Rattle.plane_defs.specs.Reading.{plane_reading}

@@ -22,7 +22,7 @@ use Rattle.bit_pipe.specs.declared.fault.TextFault.{TextFault}
 use Rattle.bit_pipe.proofs.ItemReading.{reads_then, reads_cut, reads_whole}
 use Rattle.bit_pipe.proofs.Taking.{takes_start, takes_then, in_later}
 use Rattle.dc_depths.proofs.TakenDcs.{cut_same, later_items}
-use Rattle.dc_depths.proofs.TakenPlanes.{later_answer}
+use Rattle.bit_pipe.proofs.Endings.{later_answer}
 use Rattle.number_defs.specs.Ranges.{complement}
 use Rattle.number_defs.specs.Depths.{depth_items}
 use Rattle.plane_defs.specs.Spans.{span}

@@ -1,5 +1,5 @@
 -- The laws of a segment's text.
-use Rattle.std.specs.Prelude.{◌≡◌, ◌<◌, ◌↔◌, ℕ, ◌^◌, ℤ, false, List, ◌++◌, length, drop}
+use Rattle.std.specs.Prelude.{◌≡◌, ◌<◌, ◌↔◌, ℕ, ◌^◌, ℤ, false, List, [], ◌++◌, length, drop}
 use Rattle.item_defs.specs.Items.{text}
 use Rattle.segment_defs.specs.declared.head.SegmentHead.{SegmentHead}
 use Rattle.segment_defs.specs.Depths.{block_depths, depth_ac_of}
@@ -8,6 +8,8 @@ use Rattle.segment_defs.specs.SegmentItems.{Options, segment_items}
 use Rattle.segment_defs.specs.Coded.{coded}
 use Rattle.text_defs.specs.Spellable.{IsSpellable, AreNumberOptions}
 use Rattle.text_defs.specs.Outcomes.{Holds}
+use Rattle.bit_pipe.specs.declared.fault.Part.{Part}
+use Rattle.segment_code.specs.ItemsHeld.{HoldsItems}
 
 -- the coded text of values that can be spelled holds something, whatever its stop and limit
 abbrev pub CodedHolds : Type 0
@@ -31,3 +33,9 @@ CodedHoldsExactly = (head : SegmentHead) (blocks : List (List ℤ)) → IsHead h
 abbrev pub TextsAreShort : Type 0
 TextsAreShort = (head : SegmentHead) (blocks : List (List ℤ)) (depths : List ℕ) (options : Options) → IsHead head → length head.image.weights.shifts ≡ 10 →
     IsSpellable head blocks depths → AreNumberOptions head options → length (head_bits head ++ text (segment_items head blocks depths options)) < 2 ^ 34
+
+-- Octets that hold the items of a text end by themselves: no proper prefix of them holds items after such a head. They hold one list of
+-- blocks.
+pub record ItemsEndThere : Type 0 where
+  pub no_prefix : (head : SegmentHead) (size : ℕ) (rest more : List ℕ) (v w : List (List ℤ)) (p q : Part) → IsHead head → HoldsItems head size rest v p → HoldsItems head size (rest ++ more) w q → more ≡ []
+  pub one : (head : SegmentHead) (size : ℕ) (rest : List ℕ) (v w : List (List ℤ)) (p q : Part) → IsHead head → HoldsItems head size rest v p → HoldsItems head size rest w q → v ≡ w

@@ -7,3 +7,5 @@ pub mod TakenPlanes
 pub mod TakenText
 pub mod TextEnds
 pub mod Decoded
+pub mod ItemsHeld
+pub mod DecodedItems

@@ -10,7 +10,6 @@ use Rattle.bit_pipe.specs.Coming.{Coming, BeginsIn}
 use Rattle.bit_pipe.specs.Reading.{Ending, Reads}
 use Rattle.bit_pipe.specs.Answers.{part_answer, items_read}
 use Rattle.segment_defs.specs.declared.head.SegmentHead.{SegmentHead}
-use Rattle.segment_defs.specs.Head.{head_length}
 use Rattle.segment_defs.specs.SegmentItems.{Options, segment_items}
 use Rattle.text_defs.specs.Spellable.{IsSpellable, AreWordOptions, AreNumberOptions}
 use Rattle.text_defs.specs.Given.{given_blocks}
@@ -39,10 +38,10 @@ abbrev pub with_used : Result Part TextFault → ℕ → Result (Part × ℕ) Te
 with_used (Ok part) used = Ok (record { 0 = part; 1 = used })
 with_used (Err fault) used = Err fault
 
--- they were read from an input that stands after the head
-pub record TakesFrom {I : Type 0} (k : SourceOf I) (head : SegmentHead) (result : Result (Part × ℕ) TextFault) (old new : I) (now : List ℤ) : Type 0 where
+-- they were read from an input that is after the head, of `size` octets
+pub record TakesFrom {I : Type 0} (k : SourceOf I) (head : SegmentHead) (size : ℕ) (result : Result (Part × ℕ) TextFault) (old new : I) (now : List ℤ) : Type 0 where
   pub start : Coming I
-  pub begins : BeginsIn old (bound_of head.limit) (head_length head) start
+  pub begins : BeginsIn old (bound_of head.limit) size start
   pub stop : Coming I
   pub stands : stop.source ≡ new
   pub answered : Result Part TextFault

@@ -1,6 +1,13 @@
 -- What an encoder leaves in its sink (this project's own).
-use Rattle.std.specs.Prelude.{◌≡◌, ℕ, List, ◌++◌, length}
+use Rattle.std.specs.Prelude.{◌≡◌, ℕ, ℤ, List, ◌++◌, length, Result}
+use Rattle.item_defs.specs.Items.{text}
 use Rattle.bit_pipe.specs.Sinks.{SinkOf, Rose}
+use Rattle.bit_pipe.specs.Standing.{Standing, Puts}
+use Rattle.bit_pipe.specs.declared.fault.PutFault.{PutFault}
+use Rattle.segment_defs.specs.declared.head.SegmentHead.{SegmentHead}
+use Rattle.segment_defs.specs.Depths.{block_depths}
+use Rattle.segment_defs.specs.SegmentItems.{segment_items}
+use Rattle.segment_defs.specs.Coded.{chosen_options}
 
 -- the sink was given a text of so many octets
 pub record GivesText {S : Type 0} (k : SinkOf S) (old new : S) (text : List ℕ) (octets : ℕ) : Type 0 where
@@ -14,3 +21,7 @@ pub record BreaksWithin {S : Type 0} (k : SinkOf S) (old new : S) (octets : List
   pub parts : octets ≡ front ++ more
   pub broke : k.Broke old new front
   pub rose : Rose (k.counts old).faults (k.counts new).faults
+
+-- the items of a segment's text were put, with the options that a writer takes
+pub record EncodesItems {S T : Type 0} (k : SinkOf S) (head : SegmentHead) (blocks : List (List ℤ)) (result : Result T PutFault) (old new : Standing S) : Type 0 where
+  pub puts : Puts k result old new (text (segment_items head blocks (block_depths blocks) (chosen_options head blocks)))

@@ -1,8 +1,9 @@
 // A segment's text, read.
-ghost use Rattle.std.specs.Prelude.{◌≡◌, ◌*◌, length};
+ghost use Rattle.std.specs.Prelude.{◌≡◌, ◌≤◌, ◌*◌, length};
 ghost use Rattle.plane_defs.specs.Profile.{profile};
 ghost use Rattle.segment_defs.specs.Head.{IsHead};
 ghost use Rattle.segment_code.specs.Decoded.{DecodesSegment};
+ghost use Rattle.segment_code.specs.DecodedItems.{DecodesItems};
 ghost use Rattle.segment_code.specs.TakenText.{AreClear, TakesFrom};
 
 use crate::end_in::{end_cut, end_whole};
@@ -76,24 +77,26 @@ fn clear(blocks: &mut [i32])
     }
 }
 
-// Takes the items of a text, up to the limit; and how many bits they and the head have.
+// Takes the items of a text, up to the limit, after a head of `size` octets; and the number of bits of head and items.
 fn take_from<I: OctetIn>(
     input: &mut I,
     head: &SegmentHead,
+    size: u8,
     blocks: &mut [i32],
     marks: &mut [i32],
     tables: &WordTables,
 ) -> Result<(Part, u64), TextFault>
     requires fits { IsHead head.now }
+    requires size { size ≤ 20 }
     requires count { length blocks.old ≡ 64 * length marks.old }
     requires marks { length marks.old ≡ head.now.blocks }
     requires clear { AreClear blocks.old }
     requires book { tables.now.book ≡ profile }
-    ensures takes { TakesFrom I.source head.now result input.old input.new blocks.new }
+    ensures takes { TakesFrom I.source head.now size result input.old input.new blocks.new }
     ensures sizes { (length blocks.new ≡ length blocks.old) × (length marks.new ≡ length marks.old) }
     ensures ten { length head.now.image.weights.shifts ≡ 10 }
 {
-    let mut bits = BitIn::new(input, u64::from(head.limit), u64::from(head.octets()));
+    let mut bits = BitIn::new(input, u64::from(head.limit), u64::from(size));
     let part = take_text(&mut bits, head, blocks, marks, tables)?;
     Ok((part, bits.used()))
 }
@@ -134,11 +137,41 @@ impl SegmentReader {
         ensures decodes { DecodesSegment I.source head.now result input.old input.new blocks.new }
         ensures sizes { (length blocks.new ≡ length blocks.old) × (length marks.new ≡ length marks.old) }
     {
+        let part = self.decode_items(input, head, head.octets(), blocks, marks)?;
+        let None = input.take()? else {
+            return Err(SegmentFault::Overlong);
+        };
+        Ok(part)
+    }
+
+    /// Reads the items of a segment's text, with their padding and fill, from the octets after its head into 64 numbers for
+    /// each block (docs/formats.md, "Reading a segment"). The head has `size` octets there, at most 20. `Whole` and `Ended`
+    /// are as in `decode`. The octets that it takes are exactly those of the text after the head: it ends by itself, and asks
+    /// for nothing after them.
+    ///
+    /// # Errors
+    ///
+    /// As `decode`, except `Overlong`: what follows the text is not looked at.
+    pub fn decode_items<I: OctetIn>(
+        &self,
+        input: &mut I,
+        head: &SegmentHead,
+        size: u8,
+        blocks: &mut [i32],
+        marks: &mut [i32],
+    ) -> Result<Part, SegmentFault>
+        requires fits { IsHead head.now }
+        requires size { size ≤ 20 }
+        requires count { length blocks.old ≡ 64 * length marks.old }
+        requires marks { length marks.old ≡ head.now.blocks }
+        ensures decodes { DecodesItems I.source head.now size result input.old input.new blocks.new }
+        ensures sizes { (length blocks.new ≡ length blocks.old) × (length marks.new ≡ length marks.old) }
+    {
         clear(blocks);
-        let (part, used) = take_from(input, head, blocks, marks, &self.tables)?;
+        let (part, used) = take_from(input, head, size, blocks, marks, &self.tables)?;
         match part {
             Part::Whole => end_whole(input, head, used),
-            Part::Ended => end_cut(input, head, used),
+            Part::Ended => end_cut(head, used),
         }
     }
 }

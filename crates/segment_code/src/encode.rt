@@ -7,13 +7,14 @@ ghost use Rattle.plane_defs.specs.Marks.{depths_of};
 ghost use Rattle.segment_defs.specs.Depths.{block_depths, depth_dc_of, depth_ac_of};
 ghost use Rattle.segment_defs.specs.Head.{IsHead, head_length};
 ghost use Rattle.segment_defs.specs.Coded.{coded, coded_bits};
+ghost use Rattle.segment_defs.specs.SegmentItems.{dc_shift};
 ghost use Rattle.segment_code.specs.Parts.{coded_rest};
-ghost use Rattle.segment_code.specs.Text.{GivesText, BreaksWithin};
+ghost use Rattle.segment_code.specs.Text.{GivesText, BreaksWithin, EncodesItems};
 
 use crate::planes::put_planes;
 use crate::tells::{plan_of, select_of};
 use bit_pipe::{BitOut, Failed, OctetOut, PutFault};
-use dc_depths::{put_dc, put_depths};
+use dc_depths::{DcPlan, put_dc, put_depths};
 use segment_head::{SegmentHead, write_head};
 
 /// Writes the text of a segment, and answers its length in octets (docs/formats.md, "Stops, cut and fill"). The sink was
@@ -89,7 +90,54 @@ fn put_text<O: OctetOut>(
 {
     let plan = plan_of(head);
     write_head(out, head)?;
-    put_dc(out, blocks, &plan, select_of(head.best_dc))?;
+    put_items(out, head, &plan, blocks, marks)
+}
+
+/// Puts the items of a segment's text, which follow its head (docs/formats.md, "Stops, cut and fill"): the DC part, the block
+/// depths and the bit planes up to the stop. Blocks and marks are those of `encode_segment`. It neither pads nor ends the text.
+///
+/// # Errors
+///
+/// Those of `BitOut`: `Stopped` exactly if the items don't all fit below the bound.
+pub fn encode_items<O: OctetOut>(
+    out: &mut BitOut<O>,
+    head: &SegmentHead,
+    blocks: &[i32],
+    marks: &mut [i32],
+) -> Result<(), PutFault>
+    requires fits { IsHead head.now }
+    requires open { IsReady O.sink out.old }
+    requires count { length blocks.now ≡ 64 * head.now.blocks }
+    requires dc { head.now.depth_dc ≡ depth_dc_of (blocks_in blocks.now) }
+    requires ac { head.now.depth_ac ≡ depth_ac_of (blocks_in blocks.now) }
+    requires marks { marks.old ≡ map pos (block_depths (blocks_in blocks.now)) }
+    ensures encodes { EncodesItems O.sink head.now (blocks_in blocks.now) result (stand O.sink out.old) (stand O.sink out.new) }
+    ensures depths { depths_of marks.new ≡ depths_of marks.old }
+{
+    put_items(out, head, &plan_of(head), blocks, marks)
+}
+
+// Puts the items of a text by the plan of its DC part.
+fn put_items<O: OctetOut>(
+    out: &mut BitOut<O>,
+    head: &SegmentHead,
+    plan: &DcPlan,
+    blocks: &[i32],
+    marks: &mut [i32],
+) -> Result<(), PutFault>
+    requires fits { IsHead head.now }
+    requires open { IsReady O.sink out.old }
+    requires plan_dc { plan.now.depth_dc ≡ head.now.depth_dc }
+    requires plan_ac { plan.now.depth_ac ≡ head.now.depth_ac }
+    requires plan_shift { plan.now.shift ≡ dc_shift head.now }
+    requires count { length blocks.now ≡ 64 * head.now.blocks }
+    requires dc { head.now.depth_dc ≡ depth_dc_of (blocks_in blocks.now) }
+    requires ac { head.now.depth_ac ≡ depth_ac_of (blocks_in blocks.now) }
+    requires marks { marks.old ≡ map pos (block_depths (blocks_in blocks.now)) }
+    ensures encodes { EncodesItems O.sink head.now (blocks_in blocks.now) result (stand O.sink out.old) (stand O.sink out.new) }
+    ensures depths { depths_of marks.new ≡ depths_of marks.old }
+{
+    put_dc(out, blocks, plan, select_of(head.best_dc))?;
     put_rest(out, head, blocks, marks)
 }
 

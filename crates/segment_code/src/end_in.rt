@@ -1,27 +1,23 @@
 // The end of a segment's text.
 ghost use Rattle.std.specs.Prelude.{◌≡◌, ◌≤◌, ◌<◌, ◌*◌, ◌^◌};
 ghost use Rattle.item_defs.specs.Padding.{padded_length};
-ghost use Rattle.bit_pipe.specs.declared.fault.Part.TheVariants.{Whole, Ended};
 ghost use Rattle.bit_pipe.specs.Bounds.{bound_of};
 ghost use Rattle.segment_defs.specs.Head.{IsHead};
-ghost use Rattle.segment_code.specs.TextEnds.{wanted_bits, EndsAfter, EndsWhole, EndsCut};
+ghost use Rattle.segment_code.specs.TextEnds.{wanted_bits, Passes, EndsWhole, EndsCut};
 
 use crate::decode::SegmentFault;
 use bit_pipe::{OctetIn, Part};
 use segment_head::SegmentHead;
 
-// Asks for so many octets more and then for the end.
-fn end_after<I: OctetIn>(input: &mut I, count: u64, part: Part) -> Result<Part, SegmentFault>
-    ensures { EndsAfter I.source count part result input.old input.new }
+// Takes this number of octets, whatever they are.
+fn pass<I: OctetIn>(input: &mut I, count: u64, part: Part) -> Result<Part, SegmentFault>
+    ensures { Passes I.source count part result input.old input.new }
 {
     for _ in 0..count {
         let Some(_) = input.take()? else {
             return Err(SegmentFault::ShortSegment);
         };
     }
-    let None = input.take()? else {
-        return Err(SegmentFault::Overlong);
-    };
     Ok(part)
 }
 
@@ -48,7 +44,7 @@ pub(crate) fn end_whole<I: OctetIn>(
     requires bound { used ≤ 8 * bound_of head.now.limit }
     ensures { EndsWhole I.source head.now used result input.old input.new }
 {
-    end_after(
+    pass(
         input,
         expected_octets(head, used) - used.div_ceil(8),
         Part::Whole,
@@ -56,15 +52,11 @@ pub(crate) fn end_whole<I: OctetIn>(
 }
 
 // The end of a text in which an item isn't given: it has the limit's octets.
-pub(crate) fn end_cut<I: OctetIn>(
-    input: &mut I,
-    head: &SegmentHead,
-    used: u64,
-) -> Result<Part, SegmentFault>
-    ensures { EndsCut I.source head.now used result input.old input.new }
+pub(crate) fn end_cut(head: &SegmentHead, used: u64) -> Result<Part, SegmentFault>
+    ensures { EndsCut head.now used result }
 {
     if head.limit == 0 || used < 8 * u64::from(head.limit) {
         return Err(SegmentFault::ShortSegment);
     }
-    end_after(input, 0, Part::Ended)
+    Ok(Part::Ended)
 }

@@ -11,11 +11,11 @@ mod planes_in;
 mod tells;
 mod text_in;
 
-ghost use Rattle.segment_code.specs.Laws.{CodedHolds, CodedHoldsExactly, TextsAreShort};
+ghost use Rattle.segment_code.specs.Laws.{CodedHolds, CodedHoldsExactly, TextsAreShort, ItemsEndThere};
 
 pub use decode::{SegmentFault, SegmentReader, decode_segment};
 pub use depths::segment_depths;
-pub use encode::encode_segment;
+pub use encode::{encode_items, encode_segment};
 use text_defs::{items_give_all, readings_give_one};
 
 /// What was encoded can be decoded: the coded text of values that can be spelled holds something.
@@ -35,3 +35,11 @@ pub const fn coded_holds_exactly()
 pub const fn texts_are_short()
     ensures { TextsAreShort }
 {}
+
+/// The octets that `SegmentReader::decode_items` takes of a text that it reads end by themselves: no proper prefix of them holds
+/// items, and they hold one list of blocks.
+pub const fn items_end_there()
+    ensures { ItemsEndThere }
+{
+    readings_give_one();
+}

@@ -52,6 +52,11 @@ bits_within octets n r w le fit =
     let count : length (bits_of_octets front) ≡ 8 * n = length-bits_of_octets front ∙ ap (λ k. 8 * k) (length-take-le n octets le) in
     ap (λ bits. take w (drop r bits)) parts ∙ ap (take w) (drop-append-le r (bits_of_octets front) back (omega arith)) ∙ take-append-le w (drop r (bits_of_octets front)) back (omega (arith, length-drop r (bits_of_octets front)))
 
+-- a field within the first n octets
+pub number_in-within : (octets : List ℕ) (n start width : ℕ) → n ≤ length octets → start + width ≤ 8 * n → number_in octets start width ≡ number_in (take n octets) start width
+unfolding number_in
+number_in-within octets n start width le fit = ap value_of (bits_within octets n start width le fit)
+
 -- the number in so many bits of n octets' number
 field_of_number : (n r w below number : ℕ) → 8 * n ≡ r + (w + below) → value_of (take w (drop r (bits_of (8 * n) number))) ≡ number / 2 ^ below % 2 ^ w
 field_of_number n r w below number e =

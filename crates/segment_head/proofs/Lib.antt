@@ -1,7 +1,8 @@
 pub mod FieldBits
-mod HeadTests
+pub mod HeadTests
+pub mod LaterTests
 pub mod WrittenFields
-mod WrittenParts
+pub mod WrittenParts
 pub mod WrittenHeads
 pub mod ReadHeads
 pub mod PuttingFields

@@ -14,6 +14,8 @@ use Rattle.bit_pipe.proofs.Putting.{puts_cut, puts_then}
 use Rattle.segment_defs.specs.declared.head.SegmentHead.{SegmentHead}
 use Rattle.segment_defs.specs.declared.head.ImagePart.{ImagePart}
 use Rattle.segment_defs.specs.Head.{Field, field, field_bits, flag, reserved, part_1a, part_1b, part_2, part_3, part_4, weight_fields, head_fields, head_bits}
+use Rattle.segment_head.specs.declared.carried.Carried.{Carried}
+use Rattle.segment_head.specs.Parts as parts
 use Rattle.segment_head.specs.Writing.{first_parts, plain_fields}
 
 -- a field as an item of a text
@@ -38,11 +40,9 @@ put_cut ys p e = rw (← e) (puts_cut ys p)
 pub bits_join : (fs gs all : List Field) → fs ++ gs ≡ all → flat_map field_bits fs ++ flat_map field_bits gs ≡ flat_map field_bits all
 bits_join fs gs all e = sym (flat_map-append field_bits fs gs) ∙ ap (flat_map field_bits) e
 
-pub bits_both : {fs gs ps qs : List Field} → fs ≡ ps → gs ≡ qs → flat_map field_bits fs ++ flat_map field_bits gs ≡ flat_map field_bits ps ++ flat_map field_bits qs
-bits_both e f = rw (e, f) refl
-
-pub part_1_fields : (h : SegmentHead) (fs : List Field) (pad five : Field) → fs ≡ part_1a h → pad ≡ field 3 h.pad_rows → five ≡ reserved 5 → h.last ≡ true → fs ++ (pad ∷ five ∷ []) ≡ part_1a h ++ part_1b h
-part_1_fields h fs pad five e p q l = rw (e, p, q, l) refl
+pub part_1_fields : (carried : Carried) (h : SegmentHead) (fs : List Field) (pad five : Field) → fs ≡ parts.part_1a carried h → pad ≡ field 3 h.pad_rows → five ≡ reserved 5 → h.last ≡ true →
+    fs ++ (pad ∷ five ∷ []) ≡ parts.part_1 carried h
+part_1_fields carried h fs pad five e p q l = rw (e, p, q, l) refl
 
 pub custom_fields : (shifts : List ℕ) (first : Field) → bytes_eq shifts usual_shifts ≡ false → first ≡ flag true → (first ∷ []) ++ map (field 2) shifts ≡ weight_fields shifts
 custom_fields shifts first other f = rw (f, other) refl

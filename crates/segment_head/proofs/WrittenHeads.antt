@@ -20,6 +20,7 @@ use Rattle.segment_head.proofs.WrittenParts.{Has, SaysFirst, SaysSecond, SaysThi
 use Rattle.segment_head.specs.Writing.{first_parts}
 use Rattle.segment_head.proofs.PuttingFields.{first_bits, head_bits_parts}
 use Rattle.segment_head.proofs.HeadTests.{passed_all}
+use Rattle.segment_head.proofs.LaterTests.{passes, none_absent}
 
 -- ---- bits of whole parts
 
@@ -36,7 +37,7 @@ weights_width : (usual : Bool) (shifts : List ℕ) → length shifts ≡ 10 → 
 weights_width true shifts ten = refl
 weights_width false shifts ten = omega (arith, width_of-pairs shifts)
 
-length_1 : (h : SegmentHead) (last : Bool) → h.last ≡ last → length (bits_in (part_1a h ++ part_1b h)) ≡ 8 * (if last then 4 else 3)
+pub length_1 : (h : SegmentHead) (last : Bool) → h.last ≡ last → length (bits_in (part_1a h ++ part_1b h)) ≡ 8 * (if last then 4 else 3)
 length_1 h true e = length-bits_in (part_1a h ++ part_1b h) ∙ subst (λ b. width_of (part_1a h ++ (if b then field 3 h.pad_rows ∷ reserved 5 ∷ [] else [])) ≡ 32) (sym e) refl
 length_1 h false e = length-bits_in (part_1a h ++ part_1b h) ∙ subst (λ b. width_of (part_1a h ++ (if b then field 3 h.pad_rows ∷ reserved 5 ∷ [] else [])) ≡ 24) (sym e) refl
 
@@ -47,7 +48,7 @@ length_4 image ten =
     length-bits_in (part_4 image) ∙ omega (arith, weights, split)
 
 -- the head's bits, part by part, and those after it
-split_bits : (h : SegmentHead) (more : List Bool) → head_bits h ++ more ≡ bits_in (part_1a h ++ part_1b h) ++ (bits_in (part_2 h) ++ (bits_in (part_3 h) ++ (bits_in (part_4 h.image) ++ more)))
+pub split_bits : (h : SegmentHead) (more : List Bool) → head_bits h ++ more ≡ bits_in (part_1a h ++ part_1b h) ++ (bits_in (part_2 h) ++ (bits_in (part_3 h) ++ (bits_in (part_4 h.image) ++ more)))
 unfolding head_bits head_fields
 split_bits h more =
     let one = part_1a h ++ part_1b h in
@@ -70,10 +71,10 @@ pub record SaysHead (h : SegmentHead) (o : List ℕ) : Type 0 where
   pub three : SaysThird h (reading.part_3 o)
   pub four : SaysFourth h.image (reading.part_4 o)
 
-has_whole : (n : ℕ) (fs : List Field) → length (bits_in fs) ≡ 8 * n → Has (octets_of (bits_in fs)) fs []
+pub has_whole : (n : ℕ) (fs : List Field) → length (bits_in fs) ≡ 8 * n → Has (octets_of (bits_in fs)) fs []
 has_whole n fs e = record { number = λ start width. number_in-octets_of n (bits_in fs) start width e ∙ ap (λ r. value_of (take width (drop start r))) (sym (append-nil (bits_in fs))) }
 
-has_front : (n : ℕ) (fs : List Field) (after : List ℕ) → length (bits_in fs) ≡ 8 * n → Has (octets_of (bits_in fs) ++ after) fs (bits_of_octets after)
+pub has_front : (n : ℕ) (fs : List Field) (after : List ℕ) → length (bits_in fs) ≡ 8 * n → Has (octets_of (bits_in fs) ++ after) fs (bits_of_octets after)
 has_front n fs after e = record { number = λ start width. number_in-front n (bits_in fs) after start width e }
 
 pub says_head : (h : SegmentHead) (more : List Bool) → IsHead h → h.count < 256 → length h.image.weights.shifts ≡ 10 → SaysHead h (octets_of (head_bits h ++ more))
@@ -105,17 +106,6 @@ says_head h more ok small ten =
     })
 
 -- ---- the tests that a head passes
-
-passes : (test : Bool) (fault : HeadFault) (tests : List (Option HeadFault)) → test ≡ false → first_refusal tests ≡ None → first_refusal (refused_where test fault ∷ tests) ≡ None
-passes true fault tests e rest = absurd cc
-passes false fault tests e rest = rest
-
-presence_passes : (h : SegmentHead) (o : List ℕ) → part_1_length o + 16 ≤ length o → SaysFirst h o → first_refusal (presence_tests o) ≡ None
-unfolding presence_tests
-presence_passes h o long says =
-    let all : nat_lt (length o) (part_1_length o + 16) ≡ false = grind (arith, nat_tests) in
-    let some : nat_lt (length o) 3 ≡ false = grind (arith, nat_tests) in
-    passes _ _ _ some (passes _ _ _ (ap not says.has_2) (passes _ _ _ (ap not says.has_3) (passes _ _ _ (ap not says.has_4) (passes _ _ _ all refl))))
 
 even_pattern : (n word : ℕ) → n ≡ word_pattern word → (n % 2 == 1) ≡ false
 even_pattern n word e = let z : n % 2 ≡ 0 = omega (arith, e) in rw z refl
@@ -187,7 +177,7 @@ read_again h o ok says =
     let same = head_said h o says in
     let depths = rw (← same) at (depth_passes h ok) in
     let values = rw (← same) at (value_passes h ok) in
-    sym (passed_all o (presence_passes h o says.long says.one) (support_passes h (reading.part_3 o) (reading.part_4 o) ok says.three says.four) depths values) ∙ ap Ok same
+    sym (passed_all o (none_absent o says.long says.one.has_2 says.one.has_3 says.one.has_4) (support_passes h (reading.part_3 o) (reading.part_4 o) ok says.three says.four) depths values) ∙ ap Ok same
 
 pub head_undoes : (h : SegmentHead) (more : List Bool) → IsHead h → h.count < 256 → length h.image.weights.shifts ≡ 10 → head_read (octets_of (head_bits h ++ more)) ≡ Ok h
 head_undoes h more ok small ten = read_again h (octets_of (head_bits h ++ more)) ok (says_head h more ok small ten)

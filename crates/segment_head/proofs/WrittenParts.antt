@@ -20,11 +20,11 @@ use Rattle.segment_head.proofs.WrittenFields.{bits_in, start_of, field_at, value
 pub record Has (octets : List ℕ) (fields : List Field) (rest : List Bool) : Type 0 where
   pub number : (start width : ℕ) → number_in octets start width ≡ value_of (take width (drop start (bits_in fields ++ rest)))
 
-number_at : {octets : List ℕ} {fields : List Field} {rest : List Bool} → Has octets fields rest → (i : ℕ) → i < length fields →
+pub number_at : {octets : List ℕ} {fields : List Field} {rest : List Bool} → Has octets fields rest → (i : ℕ) → i < length fields →
     number_in octets (start_of fields i) (field_at fields i).width ≡ (field_at fields i).value % 2 ^ (field_at fields i).width
 number_at {octets} {fields} {rest} has i lt = has.number (start_of fields i) (field_at fields i).width ∙ value_at_place fields i rest lt
 
-flag_of : (n : ℕ) (b : Bool) → n ≡ digit b % 2 → (n == 1) ≡ b
+pub flag_of : (n : ℕ) (b : Bool) → n ≡ digit b % 2 → (n == 1) ≡ b
 flag_of n true e = rw e refl
 flag_of n false e = rw e refl
 

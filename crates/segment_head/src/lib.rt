@@ -3,14 +3,16 @@
 
 ghost use Rattle.segment_head.specs.Laws.{HeadsUndo};
 
+mod carried;
 mod field;
 mod places;
 mod read;
 mod write;
 
-pub use read::read_head;
+pub use carried::Carried;
+pub use read::{carried_in, part_1_length, read_head};
 pub use segment_defs::{HeadFault, HeadField, ImagePart, Odd, SegmentHead};
-pub use write::write_head;
+pub use write::{put_part_1, put_part_2, put_part_3, put_part_4, write_head};
 
 /// A head is read as it was written, and one that was read can be written.
 pub const fn heads_undo()

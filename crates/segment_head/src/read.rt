@@ -1,8 +1,10 @@
 // A head read from octets.
 ghost use Rattle.std.specs.Prelude.{◌≡◌, ◌≤◌, ◌+◌, length, OnOk, IfOk};
 ghost use Rattle.segment_defs.specs.Head.{IsHead};
+ghost use Rattle.segment_head.specs.Parts.{carried_in};
 ghost use Rattle.segment_defs.specs.Reading.{part_1_length, after_part_1, weights_in, stop_in, image_in, head_of, answer, first_refusal, presence_tests, support_tests, depth_tests, value_tests, head_read};
 
+use crate::carried::Carried;
 use crate::places::{is_set, number_in};
 use base_122::{Stop, Weights};
 use segment_defs::{HeadFault, HeadField, ImagePart, Odd, SegmentHead};
@@ -23,12 +25,24 @@ pub fn read_head(octets: &[u8]) -> Result<SegmentHead, HeadFault>
     Ok(head)
 }
 
-// The octets of Part 1.
-fn part_1_length(octets: &[u8]) -> usize
+/// The number of octets of Part 1 of a head, 3 or 4, which begins with these octets.
+pub fn part_1_length(octets: &[u8]) -> usize
     requires { 3 ≤ length octets.now }
     ensures { result ≡ part_1_length octets.now }
 {
     if is_set(octets, 1) { 4 } else { 3 }
+}
+
+/// The flags of Part 1A of a head that begins with these octets (docs/formats.md, "The head").
+pub fn carried_in(octets: &[u8]) -> Carried
+    requires { 3 ≤ length octets.now }
+    ensures { result ≡ carried_in octets.now }
+{
+    Carried {
+        part_2: is_set(octets, 21),
+        part_3: is_set(octets, 22),
+        part_4: is_set(octets, 23),
+    }
 }
 
 // The octets after Part 1.
@@ -51,13 +65,14 @@ fn check_presence(octets: &[u8]) -> Result<(), HeadFault>
             octets: octets.len() as u32,
         });
     }
-    if !is_set(octets, 21) {
+    let carried = carried_in(octets);
+    if !carried.part_2 {
         return Err(HeadFault::MissingPart { part: 2 });
     }
-    if !is_set(octets, 22) {
+    if !carried.part_3 {
         return Err(HeadFault::MissingPart { part: 3 });
     }
-    if !is_set(octets, 23) {
+    if !carried.part_4 {
         return Err(HeadFault::MissingPart { part: 4 });
     }
     if octets.len() < part_1_length(octets) + 16 {

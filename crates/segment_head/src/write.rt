@@ -6,9 +6,11 @@ ghost use Rattle.base_122.specs.Weights.{usual_shifts};
 ghost use Rattle.bit_pipe.specs.Standing.{stand, Puts, IsReady, Writes};
 ghost use Rattle.bit_pipe.specs.declared.fault.PutFault.TheVariants.{Stopped};
 ghost use Rattle.segment_defs.specs.Head.{field as field_of, flag as flag_of, reserved as reserved_of};
-ghost use Rattle.segment_defs.specs.Head.{IsHead, head_bits, head_length, field_bits, part_1a, part_1b, part_2, part_3, part_4, weight_fields};
+ghost use Rattle.segment_defs.specs.Head.{IsHead, head_bits, head_length, field_bits, part_2, part_3, part_4, weight_fields};
+ghost use Rattle.segment_head.specs.Parts.{part_1, part_1a};
 ghost use Rattle.segment_head.specs.Writing.{said, first_parts, plain_fields};
 
+use crate::carried::Carried;
 use crate::field::Field;
 use base_122::Weights;
 use bit_pipe::{BitOut, OctetOut, PutFault};
@@ -32,24 +34,62 @@ fn put_first_parts<O: OctetOut>(out: &mut BitOut<O>, head: &SegmentHead) -> Resu
     requires { IsReady O.sink out.old }
     ensures { Writes O.sink result out.old out.new (flat_map field_bits (first_parts head.now)) }
 {
-    put_part_1(out, head)?;
-    put_fields(out, &part_2(head))?;
-    put_fields(out, &part_3(head))
+    put_part_1(out, head, Carried::all())?;
+    put_part_2(out, head)?;
+    put_part_3(out, head)
 }
 
-// Part 1B stands in the last segment alone.
-fn put_part_1<O: OctetOut>(out: &mut BitOut<O>, head: &SegmentHead) -> Result<(), PutFault>
+/// Puts Part 1 of a head that carries these of the Parts 2, 3 and 4 (docs/formats.md, "The head"): Part 1A, and Part 1B in
+/// the image's last segment.
+///
+/// # Errors
+///
+/// Those of `BitOut`.
+pub fn put_part_1<O: OctetOut>(
+    out: &mut BitOut<O>,
+    head: &SegmentHead,
+    carried: Carried,
+) -> Result<(), PutFault>
     requires { IsReady O.sink out.old }
-    ensures { Writes O.sink result out.old out.new (flat_map field_bits (part_1a head.now ++ part_1b head.now)) }
+    ensures { Writes O.sink result out.old out.new (flat_map field_bits (part_1 carried head.now)) }
 {
-    put_fields(out, &part_1a(head))?;
+    put_fields(out, &part_1a(head, carried))?;
     if !head.last {
         return Ok(());
     }
     put_fields(out, &[field(3, u32::from(head.pad_rows)), reserved(5)])
 }
 
-fn put_part_4<O: OctetOut>(out: &mut BitOut<O>, image: &ImagePart) -> Result<(), PutFault>
+/// Puts Part 2: the limit, the stop and the fill.
+///
+/// # Errors
+///
+/// Those of `BitOut`.
+pub fn put_part_2<O: OctetOut>(out: &mut BitOut<O>, head: &SegmentHead) -> Result<(), PutFault>
+    requires { IsReady O.sink out.old }
+    ensures { Writes O.sink result out.old out.new (flat_map field_bits (part_2 head.now)) }
+{
+    put_fields(out, &part_2(head))
+}
+
+/// Puts Part 3: the blocks and how options are selected.
+///
+/// # Errors
+///
+/// Those of `BitOut`.
+pub fn put_part_3<O: OctetOut>(out: &mut BitOut<O>, head: &SegmentHead) -> Result<(), PutFault>
+    requires { IsReady O.sink out.old }
+    ensures { Writes O.sink result out.old out.new (flat_map field_bits (part_3 head.now)) }
+{
+    put_fields(out, &part_3(head))
+}
+
+/// Puts Part 4: what the head says of the image. The bound has room for it, so `Stopped` is never the answer.
+///
+/// # Errors
+///
+/// Those of `BitOut`.
+pub fn put_part_4<O: OctetOut>(out: &mut BitOut<O>, image: &ImagePart) -> Result<(), PutFault>
     requires word { 1 ≤ image.now.word }
     requires open { IsReady O.sink out.old }
     requires room { 64 ≤ (stand O.sink out.old).room }
@@ -121,8 +161,8 @@ fn reserved(width: u8) -> Field
     field(width, 0)
 }
 
-fn part_1a(head: &SegmentHead) -> [Field; 9]
-    ensures { map said result ≡ part_1a head.now }
+fn part_1a(head: &SegmentHead, carried: Carried) -> [Field; 9]
+    ensures { map said result ≡ part_1a carried head.now }
 {
     [
         flag(head.first),
@@ -131,9 +171,9 @@ fn part_1a(head: &SegmentHead) -> [Field; 9]
         field(5, u32::from(head.depth_dc)),
         field(5, u32::from(head.depth_ac)),
         reserved(1),
-        flag(true),
-        flag(true),
-        flag(true),
+        flag(carried.part_2),
+        flag(carried.part_3),
+        flag(carried.part_4),
     ]
 }
 

@@ -5,7 +5,7 @@ use bit_pipe::{BitIn, BitOut, InFault, OctetIn, OctetOut, PutFault, SliceIn, Sli
 use std::process::Abort;
 use std::test::Fail;
 
-// Puts the bits 1, 1011, 000 and 000111111111, as far as the limit goes.
+// Puts the bits 1, 1011, 000 and 000111111111, up to the limit.
 #[tactic(auto, using(bit_pipe::proofs::Putting::open_after))]
 fn put_text<O: OctetOut>(out: &mut O, limit: u64, fill: bool) -> Result<u64, PutFault>
     requires none { (O.sink.counts out.old).given ≡ 0 }
@@ -20,7 +20,7 @@ fn put_text<O: OctetOut>(out: &mut O, limit: u64, fill: bool) -> Result<u64, Put
     Ok(bits.end(2, fill)?)
 }
 
-// The octets that were written stand first in the room, and the rest of it is as it was.
+// The octets that were written are the first of the room, and the rest of it is as it was.
 fn expect_written(rt: &impl Abort, room: &[u8], octets: &[u8]) {
     assert!(rt; room.starts_with(octets), "{room:?} for {octets:?}");
     assert!(rt;
@@ -29,7 +29,7 @@ fn expect_written(rt: &impl Abort, room: &[u8], octets: &[u8]) {
     );
 }
 
-// The text goes out with this answer, and just these octets are written.
+// The text is written with this answer, and exactly these octets are written.
 fn expect_text(
     rt: &impl Abort,
     fill: bool,
@@ -61,7 +61,7 @@ fn stops_at_the_bound(rt: HostRuntime) -> Result<(), Fail> {
     Ok(())
 }
 
-// Puts as many of twelve bits as one octet takes.
+// Puts twelve bits up to the limit of one octet.
 #[tactic(auto, using(bit_pipe::proofs::Putting::open_later))]
 fn put_too_much<O: OctetOut>(out: &mut O) -> Result<u64, PutFault>
     requires none { (O.sink.counts out.old).given ≡ 0 }
@@ -85,7 +85,7 @@ fn put_words<O: OctetOut>(out: &mut O) -> Result<u64, PutFault>
     Ok(bits.end(1, false)?)
 }
 
-// The words go out with this answer, and just these octets are written.
+// The words are written with this answer, and exactly these octets are written.
 fn expect_words(rt: &impl Abort, room: &mut [u8], answer: Result<u64, PutFault>, octets: &[u8]) {
     assert_eq!(rt; put_words(&mut SliceOut::new(room)), answer);
     expect_written(rt, room, octets);
@@ -121,7 +121,7 @@ fn take_text<I: OctetIn>(rt: &impl Abort, input: &mut I) -> Result<u64, InFault>
     Ok(bits.used())
 }
 
-// So many bits of the octets are taken, and this octet comes after them.
+// A number of bits of the octets is taken, and this octet follows them.
 fn expect_taken(rt: &impl Abort, octets: &[u8], used: u64, after: Option<u8>) {
     let mut input = SliceIn::new(octets);
     assert_eq!(rt; take_text(rt, &mut input), Ok(used));

@@ -9,7 +9,7 @@ use segment_code::decode_segment;
 use segment_head::read_head;
 use std::test::Fail;
 
-// Four signed numbers of four bits from as many of these bits.
+// Reads four signed numbers of four bits from a number of these bits.
 #[tactic(auto, using(bit_pipe::proofs::Taking::in_after_item))]
 fn four_numbers(bits: u64, count: usize) -> Result<((Part, u32), [i32; 4]), TextFault>
     requires { count ≤ 64 }
@@ -54,7 +54,7 @@ fn numbers_cut_after_each_bit(rt: HostRuntime) -> Result<(), Fail> {
     Ok(())
 }
 
-// Four block depths of at most 3 from as many of these bits.
+// Reads four block depths of at most 3 from a number of these bits.
 #[tactic(auto, using(bit_pipe::proofs::Taking::in_after_item))]
 fn four_depths(bits: u64, count: usize) -> Result<(Part, [i32; 4]), TextFault>
     requires { count ≤ 64 }
@@ -123,7 +123,7 @@ const GIVEN: [(usize, usize); 23] = [
     (16, 16),
 ];
 
-// These sixteen blocks, with so many children and grandchildren.
+// These sixteen blocks, with a number of children and grandchildren.
 fn sixteen(given: (usize, usize)) -> [i32; 1024] {
     let mut blocks = [0; 1024];
     for block in 0..16 {

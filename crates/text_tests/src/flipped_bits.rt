@@ -1,4 +1,4 @@
-// Each single bit of a segment's text flipped, the head's bits too, and what the reader answers.
+// Each single bit of a segment's text flipped, the header's bits too, and the reader's answer.
 ghost use Rattle.std.specs.Prelude.{◌≡◌, ◌≤◌, ◌*◌, length};
 
 use crate::segment_planes::{DIAGONAL, THREE_NUMBERS};
@@ -23,7 +23,7 @@ fn letter_of(answer: Result<Part, SegmentFault>) -> u8 {
     }
 }
 
-// The letter of the answer to a text; H where its head is refused, and B where that tells of another number of blocks.
+// The letter of the answer to a text; H if its header is refused, and B if the header has another number of blocks.
 fn letter(text: &[u8], blocks: &mut [i32], marks: &mut [i32]) -> u8
     requires count { length blocks.old ≡ 64 * length marks.old }
     requires most { length marks.old ≤ 100 }

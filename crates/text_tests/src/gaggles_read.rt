@@ -25,7 +25,7 @@ fn two(octets: &[u8], bits: u8) -> (Result<(Part, u32), TextFault>, [i32; 2])
     (result, cells)
 }
 
-// An identifier, the reference 0, so many zeros and a one, and zeros.
+// An identifier, the reference 0, a number of zeros and a one, and zeros.
 fn unary(rt: &impl Abort, bits: u8, identifier: u8, zeros: usize) -> [u8; 131]
     requires low { 2 ≤ bits }
     requires high { bits ≤ 10 }

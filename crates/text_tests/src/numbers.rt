@@ -34,7 +34,7 @@ fn options_of_small_gaggles(rt: HostRuntime) {
         (&[2], 4, 1, 0),
         (&[3], 4, 1, 1),
         (&[6], 4, 15, 15),
-        // Two values for k take 4 bits, as many as uncoded.
+        // Two values for k take 4 bits, the number that uncoded ones take.
         (&[5], 4, 2, 15),
         // 2 bits know no k but 0, which ties at 1.
         (&[0], 2, 0, 0),
@@ -66,7 +66,7 @@ fn put_four<O: OctetOut>(out: &mut O, select: Select) -> Result<u64, PutFault>
     Ok(bits.end(1, false)?)
 }
 
-// As many of their bits as one octet takes.
+// The bits of them that one octet takes.
 #[tactic(auto, using(bit_pipe::proofs::Putting::open_later))]
 fn put_front<O: OctetOut>(out: &mut O, select: Select) -> Result<u64, PutFault>
     requires { (O.sink.counts out.old).given ≡ 0 }

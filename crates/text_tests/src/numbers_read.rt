@@ -5,7 +5,7 @@ use bit_pipe::{BitIn, Part, SliceIn, TextFault};
 use dc_depths::{DcPlan, take_dc, take_depths};
 use gaggle_codes::{NumberRange, take_values};
 
-// Four signed numbers of so many bits.
+// Four signed numbers of `bits` bits.
 fn four(octets: &[u8], bits: u8) -> (Result<(Part, u32), TextFault>, [i32; 4])
     requires low { 2 ≤ bits }
     requires high { bits ≤ 10 }
@@ -97,7 +97,7 @@ fn nine_dcs(octets: &[u8], depth_dc: u8) -> (Result<Part, TextFault>, [i32; 9])
     (result, dcs)
 }
 
-// Ten bits each over 2^9, all of which are -1. Then come planes 8 to 3: block 0 has a bit in plane 8, block 1 in plane 7,
+// Ten bits each over 2^9, all of which are -1. Then follow planes 8 to 3: block 0 has a bit in plane 8, block 1 in plane 7,
 // and block 8 in planes 8 and 3.
 const WITH_PLANES: [u8; 10] = [0x0f, 0xff, 0xfe, 0x02, 0x80, 0x00, 0x00, 0x00, 0x00, 0x10];
 

@@ -10,7 +10,7 @@ use plane_reader::take_plane;
 use std::process::Abort;
 use word_codes::profile_book;
 
-// The plane of one block with this mark; the octets begin with so many bits of no meaning.
+// Returns the plane of one block with this mark; the octets begin with a number of bits without meaning.
 #[tactic(auto, using(bit_pipe::proofs::Taking::in_after_item))]
 fn take(
     octets: &[u8],
@@ -31,7 +31,7 @@ fn take(
     take_plane(&mut input, block, &mut [mark], plan, &profile_book())
 }
 
-// As many of these bits, right-aligned, and how many bits stand before them in the first octet.
+// Returns a number of these bits, right-aligned, and the number of bits before them in the first octet.
 pub(crate) fn aligned(bits: u64, count: usize) -> ([u8; 8], usize, u8)
     requires { count ≤ 64 }
     ensures first { result.1 ≤ 8 }
@@ -97,7 +97,7 @@ fn only(bits: u64, count: usize, weights: Weights) -> (Result<Part, TextFault>, 
     (result, block)
 }
 
-// The last of these bits shows that a flag is false; what was read before stands in the block.
+// The last of these bits shows that a flag is false; what was read before is in the block.
 fn assert_false(rt: &impl Abort, bits: u64, count: usize, weights: Weights, expected: &[i32; 64])
     requires { (1 ≤ count) × (count ≤ 64) }
 {

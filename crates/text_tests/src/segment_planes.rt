@@ -74,7 +74,7 @@ fn stopped_after_stage_2(rt: HostRuntime) {
     assert_coded(&rt, &text[..20], &diagonal(), &mut [0]);
 }
 
-// The text of the three numbers up to a stop, with code words of so many octets.
+// Returns the text of the three numbers up to a stop, with code words of `word` octets.
 fn stopped_text(plane: u8, stage: u8, word: u8, items: &[u8; 5]) -> [u8; 24]
     requires plane { plane < 32 }
     requires stage { stage < 4 }
@@ -88,7 +88,7 @@ fn stopped_text(plane: u8, stage: u8, word: u8, items: &[u8; 5]) -> [u8; 24]
     text
 }
 
-// The octets of a text of a head and so many octets of items, padded to the code word.
+// Returns the number of octets of a text of a header and a number of octets of items, padded to the code word.
 fn padded_length(word: u8, octets: u8) -> usize
     requires word { (1 ≤ word) × (word ≤ 4) }
     requires octets { octets ≤ 5 }

@@ -122,7 +122,7 @@ fn depths_of_two_blocks(rt: HostRuntime) {
     assert_eq!(rt; marks, [0, 3]);
 }
 
-// The text is that of its own head and these blocks, and nothing comes after it.
+// The text is that of its own header and these blocks, and nothing follows it.
 pub(crate) fn assert_coded(rt: &impl Abort, text: &[u8], blocks: &[i32], marks: &mut [i32])
     requires short { length text.now ≤ 63 }
     requires count { length blocks.now ≡ 64 * length marks.old }

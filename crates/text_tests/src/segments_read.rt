@@ -36,7 +36,7 @@ fn answer_to(rt: &impl Abort, rest: &[u8]) -> Result<Part, SegmentFault>
     decode(rt, &text[..19 + rest.len()], &mut [7; 64], &mut [7])
 }
 
-// The text gives this answer and these numbers, in place of those that stood there.
+// The text gives this answer and these numbers, in place of those that were there.
 fn expect(
     rt: &impl Abort,
     text: &[u8],

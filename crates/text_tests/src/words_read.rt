@@ -46,7 +46,7 @@ fn word_of(octets: &[u8], option: u8, length: u8) -> Result<Option<u8>, TextFaul
 #[test]
 fn words(rt: HostRuntime) {
     let cases: [(&[u8], u8, u8, Option<u8>); 4] = [
-        // The codes of the symbols 15 and 4, which are the words 1111 and 0001; and 110, which stands as it is.
+        // The codes of the symbols 15 and 4, which are the words 1111 and 0001; and 110, which isn't coded.
         (&[0b0000_1111], 0, 4, Some(0b1111)),
         (&[0b0010_0000], 1, 4, Some(0b0001)),
         (&[0b1100_0000], 2, 3, Some(0b110)),

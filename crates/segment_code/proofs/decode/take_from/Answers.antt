@@ -12,7 +12,7 @@ returns-in_err-part-clause-takes g c =
     let same = c.new-bits.ensures.same in
     rw (p.1, p.2) (record {
       start = coming c.new-bits.result;
-      begins = rw (c.from.ensures, c.from-2.ensures, c.octets.ensures) at c.new-bits.ensures.begins;
+      begins = rw (c.from.ensures, c.from-2.ensures) at c.new-bits.ensures.begins;
       stop = coming c.take_text.new.input;
       stands = search rules;
       answered = Err _;
@@ -26,7 +26,7 @@ returns-clause-takes g c =
     let same = c.new-bits.ensures.same in
     record {
       start = coming c.new-bits.result;
-      begins = rw (c.from.ensures, c.from-2.ensures, c.octets.ensures) at c.new-bits.ensures.begins;
+      begins = rw (c.from.ensures, c.from-2.ensures) at c.new-bits.ensures.begins;
       stop = coming c.take_text.new.input;
       stands = search rules;
       answered = Ok c.in_ok-part.part;

@@ -1,7 +1,7 @@
 use Rattle.std.proofs.Common.{◌≡◌, ◌+◌, ◌-◌, ◌<◌, ℕ, arith, refl, subst, ◌∙◌}
 use Rattle.std.proofs.lemmas.Result.{err_from_is_err_and}
 use Rattle.bit_pipe.specs.Coming.{coming}
-use Rattle.dc_depths.proofs.TakenPlanes.{whole_ending, ended_cut, err_cut, in_whole}
+use Rattle.bit_pipe.proofs.Endings.{whole_ending, ended_cut, err_cut, in_whole}
 use Rattle.plane_defs.specs.Marks.{depths_of}
 use Rattle.text_defs.proofs.SegmentAlike.{sent_all}
 use Rattle.plane_reader.specs.Above.{AreSignificant}

@@ -1,6 +1,6 @@
 use Rattle.std.proofs.Common.{◌≡◌, ◌*◌, length, arith}
 use Rattle.std.proofs.lemmas.Result.{err_from_is_err_and}
-use Rattle.dc_depths.proofs.TakenPlanes.{whole_ending, ended_cut, err_cut, in_whole}
+use Rattle.bit_pipe.proofs.Endings.{whole_ending, ended_cut, err_cut, in_whole}
 use Rattle.segment_code.proofs.PartReads.{dc_stops, dc_cut, depths_cut, dcs_before, marks_are, planes_read}
 use Rattle.segment_code.proofs.text_in.take_text.Goals as goal
 

@@ -1,21 +1,25 @@
 use Rattle.std.proofs.lemmas.Result.{err_from_is_err_and}
-use Rattle.segment_code.proofs.FromText.{used_within, fault_decoded, whole_decoded, cut_decoded}
+use Rattle.segment_code.proofs.Joined.{fault_joined, whole_joined, failed_joined, over_joined}
 use Rattle.segment_code.proofs.decode.SegmentReader.decode.Goals as goal
 
 pub returns-in_err-part-clause-decodes : goal.returns-in_err-part-clause-decodes
 returns-in_err-part-clause-decodes g c =
     let p = err_from_is_err_and c.from_residual.result c.from_residual.ensures.1 in
-    rw (p.1, p.2) (fault_decoded g.I.OctetIn.source c.args.head.now c.args.input.now c.take_from.new.input c.take_from.new.blocks _ c.in_err-part.ensures.takes)
+    let d = rw c.octets.ensures at c.in_err-part.ensures.decodes in
+    rw (p.1, p.2) (fault_joined g.I.OctetIn.source c.args.head.now c.args.input.now c.decode_items.new.input c.decode_items.new.input c.decode_items.new.blocks _ d)
 
-pub end_whole-requires-clause-bound : goal.end_whole-requires-clause-bound
-end_whole-requires-clause-bound g c = used_within g.I.OctetIn.source c.args.head.now c.args.input.now c.take_from.new.input c.take_from.new.blocks c.in_ok-part.part c.in_ok-part.used c.in_ok-part.ensures.takes
+pub returns-in_err-take-clause-decodes : goal.returns-in_err-take-clause-decodes
+returns-in_err-take-clause-decodes g c =
+    let p = err_from_is_err_and c.from_residual-in_err-take.result c.from_residual-in_err-take.ensures.1 in
+    let d = rw c.octets.ensures at c.in_ok-part.ensures.decodes in
+    rw (p.1, p.2) (failed_joined g.I.OctetIn.source c.args.head.now c.args.input.now c.decode_items.new.input c.take.new.self c.decode_items.new.blocks d _ c.in_err-take.ensures)
 
-pub returns-in-Whole-clause-decodes : goal.returns-in-Whole-clause-decodes
-returns-in-Whole-clause-decodes g c =
-    let t = rw c.in-Whole.is at c.in_ok-part.ensures.takes in
-    whole_decoded g.I.OctetIn.source c.args.head.now c.args.input.now c.take_from.new.input c.take_from.new.blocks c.in_ok-part.used c.end_whole.result c.end_whole.new.input t c.end_whole.ensures
+pub returns-in_default-clause-decodes : goal.returns-in_default-clause-decodes
+returns-in_default-clause-decodes g c =
+    let d = rw c.octets.ensures at c.in_ok-part.ensures.decodes in
+    over_joined g.I.OctetIn.source c.args.head.now c.args.input.now c.decode_items.new.input c.take.new.self c.decode_items.new.blocks d _ c.in_default.not-None c.in_ok-take.ensures
 
-pub returns-in-Ended-clause-decodes : goal.returns-in-Ended-clause-decodes
-returns-in-Ended-clause-decodes g c =
-    let t = rw c.in-Ended.is at c.in_ok-part.ensures.takes in
-    cut_decoded g.I.OctetIn.source c.args.head.now c.args.input.now c.take_from.new.input c.take_from.new.blocks c.in_ok-part.used c.end_cut.result c.end_cut.new.input c.requires.fits c.in_ok-part.ensures.ten t c.end_cut.ensures
+pub returns-clause-decodes : goal.returns-clause-decodes
+returns-clause-decodes g c =
+    let d = rw c.octets.ensures at c.in_ok-part.ensures.decodes in
+    whole_joined g.I.OctetIn.source c.args.head.now c.args.input.now c.decode_items.new.input c.take.new.self c.decode_items.new.blocks d (rw c.in-None.is at c.in_ok-take.ensures)

@@ -1,0 +1,12 @@
+pub mod Filling
+mod PartLists
+mod HeadTests
+mod WholeHeads
+mod HeadTaken
+mod SameParts
+mod HeadLengths
+mod Texts
+mod FirstPart
+mod WrittenBare
+mod HeldTexts
+mod BareHeld

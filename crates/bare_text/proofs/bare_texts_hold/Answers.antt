@@ -1,0 +1,5 @@
+use Rattle.bare_text.proofs.BareHeld as laws
+use Rattle.bare_text.proofs.bare_texts_hold.Goals as goal
+
+pub returns : goal.returns
+returns c = laws.bare_texts_hold c.items_give_all.ensures

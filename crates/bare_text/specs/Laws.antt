@@ -1,0 +1,44 @@
+-- The laws that heads with absent parts keep.
+use Rattle.std.specs.Prelude.{◌≡◌, ◌<◌, ℕ, ℤ, List, ◌++◌, length, Option, None, Some, Ok}
+use Rattle.item_defs.specs.Bits.{octets_of}
+use Rattle.segment_defs.specs.declared.head.SegmentHead.{SegmentHead}
+use Rattle.segment_defs.specs.Depths.{block_depths, depth_ac_of}
+use Rattle.segment_defs.specs.Head.{IsHead, part_2, part_3, part_4}
+use Rattle.bit_pipe.specs.declared.fault.Part.{Part}
+use Rattle.text_defs.specs.Spellable.{IsSpellable}
+use Rattle.segment_code.specs.ItemsHeld.{HoldsItems}
+use Rattle.segment_code.specs.Laws.{HasNoStop}
+use Rattle.segment_head.specs.Parts.{all_carried}
+use Rattle.bare_text.specs.declared.parts.PartsInForce.{PartsInForce}
+use Rattle.bare_text.specs.InForce.{none_in_force, bare_length, parts_after}
+use Rattle.bare_text.specs.Reading.{bare_head_read}
+use Rattle.bare_text.specs.Writing.{part_octets, carried_after, bare_head_bits, bare_text}
+
+-- the parts in force after a head that was written: none before the first, and else its own
+abbrev pub in_force : Option SegmentHead → PartsInForce
+in_force None = none_in_force
+in_force (Some h) = record { carried = all_carried; octets = part_octets (part_2 h) ++ (part_octets (part_3 h) ++ part_octets (part_4 h.image)) }
+
+-- the octets of a head after this one
+abbrev pub bare_head : Option SegmentHead → SegmentHead → List ℕ
+bare_head before h = octets_of (bare_head_bits (carried_after before h) h)
+
+-- A head is read as it was written after the head before, and its parts are in force then.
+pub record BareHeadsUndo : Type 0 where
+  pub read : (before : Option SegmentHead) (h : SegmentHead) → IsHead h → h.count < 256 → length h.image.weights.shifts ≡ 10 → bare_head_read (in_force before) (bare_head before h) ≡ Ok h
+  pub whole : (before : Option SegmentHead) (h : SegmentHead) → IsHead h → h.count < 256 → length h.image.weights.shifts ≡ 10 → bare_length (bare_head before h) ≡ length (bare_head before h)
+  pub force : (before : Option SegmentHead) (h : SegmentHead) → IsHead h → h.count < 256 → length h.image.weights.shifts ≡ 10 → parts_after (in_force before) (bare_head before h) ≡ in_force (Some h)
+
+-- The text after the head before is its head and octets that hold blocks and end by themselves; with neither a stop nor a limit these
+-- are the blocks that were coded.
+pub record HoldsText (before : Option SegmentHead) (h : SegmentHead) (blocks : List (List ℤ)) : Type 0 where
+  pub rest : List ℕ
+  pub w : List (List ℤ)
+  pub part : Part
+  pub octets : bare_text before h blocks ≡ bare_head before h ++ rest
+  pub holds : HoldsItems h (length (bare_head before h)) rest w part
+  pub exact : h.limit ≡ 0 → HasNoStop h → w ≡ blocks
+
+abbrev pub BareTextsHold : Type 0
+BareTextsHold = (before : Option SegmentHead) (h : SegmentHead) (blocks : List (List ℤ)) → IsHead h → length h.image.weights.shifts ≡ 10 → IsSpellable h blocks (block_depths blocks) → h.depth_ac ≡ depth_ac_of blocks →
+    HoldsText before h blocks

@@ -1,0 +1,104 @@
+// The text of a segment, whose head carries only the parts that changed.
+ghost use Rattle.std.specs.Prelude.{◌≡◌, ◌≤◌, ◌*◌, length, map, take, pos, MatchResult, IfSome};
+ghost use Rattle.bit_pipe.specs.Standing.{stand, Adds, Breaks, IsReady, Writes};
+ghost use Rattle.wave_defs.specs.Held.{blocks_in};
+ghost use Rattle.plane_defs.specs.Marks.{depths_of};
+ghost use Rattle.segment_defs.specs.Depths.{block_depths, depth_dc_of, depth_ac_of};
+ghost use Rattle.segment_defs.specs.Head.{IsHead, head_length};
+ghost use Rattle.segment_code.specs.Text.{GivesText, BreaksWithin};
+ghost use Rattle.bare_text.specs.Writing.{bare_bits, bare_text};
+
+use crate::write::put_bare_head;
+use bit_pipe::{BitOut, Failed, OctetOut, PutFault};
+use segment_code::encode_items;
+use segment_head::SegmentHead;
+
+/// Writes the text of a segment as it is in a bare stream, and returns its length in octets (docs/formats.md, "Bare texts"). Its head
+/// carries the parts that differ from those in force, which are those of the head `before`; the first head carries all. The limit
+/// counts this head. Sink, blocks and marks are as for `encode_segment`.
+///
+/// # Errors
+///
+/// `Failed` only if the sink failed.
+pub fn encode_bare_text<O: OctetOut>(
+    out: &mut O,
+    before: Option<SegmentHead>,
+    head: &SegmentHead,
+    blocks: &[i32],
+    marks: &mut [i32],
+) -> Result<u64, Failed>
+    requires before { IfSome before (λ h. IsHead h) }
+    requires fits { IsHead head.now }
+    requires count { length blocks.now ≡ 64 * head.now.blocks }
+    requires dc { head.now.depth_dc ≡ depth_dc_of (blocks_in blocks.now) }
+    requires ac { head.now.depth_ac ≡ depth_ac_of (blocks_in blocks.now) }
+    requires marks { marks.old ≡ map pos (block_depths (blocks_in blocks.now)) }
+    requires none { (O.sink.counts out.old).given ≡ 0 }
+    ensures text { MatchResult result
+        (λ octets. GivesText O.sink out.old out.new (bare_text before head.now (blocks_in blocks.now)) octets)
+        (λ _. BreaksWithin O.sink out.old out.new (bare_text before head.now (blocks_in blocks.now))) }
+    ensures depths { depths_of marks.new ≡ depths_of marks.old }
+{
+    let mut bits = BitOut::new(out, limit_of(*head), 0);
+    put_fitting(&mut bits, before, head, blocks, marks)?;
+    bits.end(head.image.word, head.fill)
+}
+
+// The limit of a text in octets, or 0.
+fn limit_of(head: SegmentHead) -> u64
+    ensures limit { result ≡ head.limit }
+    ensures ten { length head.image.weights.shifts ≡ 10 }
+{
+    u64::from(head.limit)
+}
+
+// Puts as much of the text as fits below the bound: a text that is stopped is cut there.
+fn put_fitting<O: OctetOut>(
+    out: &mut BitOut<O>,
+    before: Option<SegmentHead>,
+    head: &SegmentHead,
+    blocks: &[i32],
+    marks: &mut [i32],
+) -> Result<(), Failed>
+    requires before { IfSome before (λ h. IsHead h) }
+    requires fits { IsHead head.now }
+    requires open { IsReady O.sink out.old }
+    requires room { 8 * head_length head.now ≤ (stand O.sink out.old).room }
+    requires count { length blocks.now ≡ 64 * head.now.blocks }
+    requires dc { head.now.depth_dc ≡ depth_dc_of (blocks_in blocks.now) }
+    requires ac { head.now.depth_ac ≡ depth_ac_of (blocks_in blocks.now) }
+    requires marks { marks.old ≡ map pos (block_depths (blocks_in blocks.now)) }
+    ensures puts { MatchResult result
+        (λ _. Adds O.sink (stand O.sink out.old) (stand O.sink out.new) (take (stand O.sink out.old).room (bare_bits before head.now (blocks_in blocks.now))))
+        (λ _. Breaks O.sink (stand O.sink out.old) (stand O.sink out.new) (take (stand O.sink out.old).room (bare_bits before head.now (blocks_in blocks.now)))) }
+    ensures depths { depths_of marks.new ≡ depths_of marks.old }
+{
+    match put_text(out, before, head, blocks, marks) {
+        Ok(()) => Ok(()),
+        Err(PutFault::Stopped) => Ok(()),
+        Err(PutFault::WriteFault) => Err(Failed),
+    }
+}
+
+// Puts the head and the items after it.
+fn put_text<O: OctetOut>(
+    out: &mut BitOut<O>,
+    before: Option<SegmentHead>,
+    head: &SegmentHead,
+    blocks: &[i32],
+    marks: &mut [i32],
+) -> Result<(), PutFault>
+    requires before { IfSome before (λ h. IsHead h) }
+    requires fits { IsHead head.now }
+    requires open { IsReady O.sink out.old }
+    requires room { 8 * head_length head.now ≤ (stand O.sink out.old).room }
+    requires count { length blocks.now ≡ 64 * head.now.blocks }
+    requires dc { head.now.depth_dc ≡ depth_dc_of (blocks_in blocks.now) }
+    requires ac { head.now.depth_ac ≡ depth_ac_of (blocks_in blocks.now) }
+    requires marks { marks.old ≡ map pos (block_depths (blocks_in blocks.now)) }
+    ensures puts { Writes O.sink result out.old out.new (bare_bits before head.now (blocks_in blocks.now)) }
+    ensures depths { depths_of marks.new ≡ depths_of marks.old }
+{
+    put_bare_head(out, before, head)?;
+    encode_items(out, head, blocks, marks)
+}

@@ -1,0 +1,35 @@
+//! One text of a bare stream, both ways: a head that carries only the parts that changed, and the items after it
+//! (docs/formats.md, "Bare texts").
+#![tactic(auto)]
+
+ghost use Rattle.bare_text.specs.Laws.{BareHeadsUndo, BareTextsHold};
+
+mod agree;
+mod encode;
+mod parts;
+mod read;
+#[cfg(test)]
+mod tests;
+mod write;
+
+pub use agree::check_agreement;
+pub use encode::encode_bare_text;
+pub use parts::PartsInForce;
+pub use read::{BareHead, BareHeadFault, read_bare_head};
+pub use segment_code::{SegmentFault, SegmentReader};
+pub use segment_head::{Carried, HeadFault, SegmentHead};
+use text_defs::items_give_all;
+pub use write::put_bare_head;
+
+/// A head that carries only the parts that changed is read as it was written, by a reader that has read the head before.
+pub const fn bare_heads_undo()
+    ensures { BareHeadsUndo }
+{}
+
+/// What was encoded can be decoded: a text is its head and octets that hold blocks, the coded ones if there is neither a stop nor a
+/// limit.
+pub const fn bare_texts_hold()
+    ensures { BareTextsHold }
+{
+    items_give_all();
+}

@@ -1,0 +1,157 @@
+// A head with absent parts, read.
+ghost use Rattle.std.specs.Prelude.{◌≡◌, ◌≤◌, length, IfOk};
+ghost use Rattle.segment_defs.specs.Head.{IsHead};
+ghost use Rattle.segment_defs.specs.Reading.{answer, first_refusal};
+ghost use Rattle.segment_defs.specs.declared.fault.HeadFault.TheVariants.{HeadShort};
+ghost use Rattle.bare_text.specs.declared.read.BareHeadFault.TheVariants.{Refused};
+ghost use Rattle.bare_text.specs.Filled.{Fills};
+ghost use Rattle.bare_text.specs.Reading.{carry_tests};
+ghost use Rattle.bare_text.specs.Taken.{ReadsHead};
+
+use crate::parts::{PartsInForce, bare_length, read_completed};
+use bit_pipe::{InFault, OctetIn, Part};
+use segment_code::{SegmentFault, SegmentReader};
+use segment_head::{HeadFault, SegmentHead, carried_in};
+
+/// A head that was read, and how many octets it has where it is: it counts against the limit of its text.
+#[derive(Clone, Copy, Debug, PartialEq, Eq)]
+pub struct BareHead {
+    pub head: SegmentHead,
+    pub size: u8,
+}
+
+impl BareHead {
+    ghost use Rattle.std.specs.Prelude.{◌*◌};
+    ghost use Rattle.segment_code.specs.DecodedItems.{DecodesItems};
+
+    /// Reads the items of the text after this head, with their padding and fill, and no octet more (docs/formats.md, "Bare
+    /// texts"). Blocks, marks and the answer are those of `SegmentReader::decode_items`.
+    ///
+    /// # Errors
+    ///
+    /// As there.
+    pub fn decode_items<I: OctetIn>(
+        &self,
+        reader: &SegmentReader,
+        input: &mut I,
+        blocks: &mut [i32],
+        marks: &mut [i32],
+    ) -> Result<Part, SegmentFault>
+        requires fits { IsHead self.now.head }
+        requires size { self.now.size ≤ 20 }
+        requires count { length blocks.old ≡ 64 * length marks.old }
+        requires marks { length marks.old ≡ self.now.head.blocks }
+        ensures decodes { DecodesItems I.source self.now.head self.now.size result input.old input.new blocks.new }
+        ensures sizes { (length blocks.new ≡ length blocks.old) × (length marks.new ≡ length marks.old) }
+    {
+        reader.decode_items(input, &self.head, self.size, blocks, marks)
+    }
+}
+
+/// Why a head of a bare text isn't read (docs/formats.md, "Bare texts").
+#[derive(Clone, Copy, Debug, PartialEq, Eq)]
+pub enum BareHeadFault {
+    /// The first test that refuses.
+    Refused(HeadFault),
+    /// The input failed, or is longer than its cap.
+    Input(InFault),
+}
+
+impl From<InFault> for BareHeadFault {
+    ghost use Rattle.bare_text.specs.declared.read.BareHeadFault.TheVariants.{Input};
+
+    ghost from_gives = { λ f e. e ≡ Input f };
+
+    fn from(fault: InFault) -> BareHeadFault {
+        BareHeadFault::Input(fault)
+    }
+}
+
+impl From<HeadFault> for BareHeadFault {
+    ghost from_gives = { λ f e. e ≡ Refused f };
+
+    fn from(fault: HeadFault) -> BareHeadFault {
+        BareHeadFault::Refused(fault)
+    }
+}
+
+// Takes octets into the places from one on and before another, as far as there are octets; and the place after the last.
+fn fill<I: OctetIn>(
+    input: &mut I,
+    into: &mut [u8; 20],
+    from: usize,
+    to: usize,
+) -> Result<usize, InFault>
+    requires order { from ≤ to }
+    requires room { to ≤ 20 }
+    ensures { Fills I.source from to result input.old input.new into.old into.new }
+{
+    for place in from..to {
+        let Some(octet) = input.take()? else {
+            return Ok(place);
+        };
+        into[place] = octet;
+    }
+    Ok(to)
+}
+
+// Each of the Parts 2, 3 and 4 is carried, or is in force.
+fn check_carried(octets: &[u8], before: &PartsInForce) -> Result<(), HeadFault>
+    requires { 3 ≤ length octets.now }
+    ensures { result ≡ answer (first_refusal (carry_tests before.now octets.now)) tt }
+{
+    let carried = carried_in(octets);
+    if !(carried.part_2 || before.carried.part_2) {
+        return Err(HeadFault::MissingPart { part: 2 });
+    }
+    if !(carried.part_3 || before.carried.part_3) {
+        return Err(HeadFault::MissingPart { part: 3 });
+    }
+    if !(carried.part_4 || before.carried.part_4) {
+        return Err(HeadFault::MissingPart { part: 4 });
+    }
+    Ok(())
+}
+
+// The head is cut after this number of octets.
+fn short(count: usize) -> BareHeadFault
+    requires { count ≤ 20 }
+    ensures { result ≡ Refused (HeadShort count) }
+{
+    BareHeadFault::Refused(HeadFault::HeadShort {
+        octets: count as u32,
+    })
+}
+
+/// Reads the head of a bare text, of which parts may be absent, and puts the parts that it carries in force (docs/formats.md,
+/// "Bare texts"). It takes the octets of the head and no more.
+///
+/// # Errors
+///
+/// The first test that refuses, or how the input failed. The parts in force have no meaning then.
+pub fn read_bare_head<I: OctetIn>(
+    input: &mut I,
+    parts: &mut PartsInForce,
+) -> Result<BareHead, BareHeadFault>
+    ensures reads { ReadsHead I.source parts.old result input.old input.new parts.new }
+    ensures fits { IfOk result (λ read. IsHead read.head × (read.size ≤ 20)) }
+{
+    let mut octets = [0; 20];
+    let count = fill(input, &mut octets, 0, 3)?;
+    if count < 3 {
+        return Err(short(count));
+    }
+    check_carried(&octets[..3], parts)?;
+    let size = bare_length(&octets[..3]);
+    let count = fill(input, &mut octets, 3, size)?;
+    if count < size {
+        return Err(short(count));
+    }
+    let after = parts.after(&octets[..size]);
+    let head = read_completed(&octets[..size], &after)?;
+    *parts = after;
+    Ok(BareHead {
+        head,
+        size: size as u8,
+    })
+}
