@@ -1,5 +1,5 @@
 -- One block of a block row among those of a segment.
-use Rattle.std.proofs.Common.{◌≡◌, ℕ, zero, suc, ◌+◌, ◌-◌, ◌*◌, ◌^◌, ◌<◌, ◌≤◌, ℤ, pos, negsuc, ◌*ℤ◌, List, length, drop, sym, ap, ◌∙◌, subst, arith, get_or, inl, inr, length-drop}
+use Rattle.std.proofs.Common.{◌≡◌, ℕ, zero, suc, ◌+◌, ◌-◌, ◌*◌, ◌^◌, ◌<◌, ◌≤◌, ℤ, pos, ◌*ℤ◌, List, length, drop, sym, ap, ◌∙◌, subst, arith, get_or, inl, inr, length-drop}
 use Rattle.std.specs.Prelude.{All, unsigned_abs}
 use Rattle.std.proofs.lemmas.Bool.{cases_lt}
 use Rattle.std.proofs.lemmas.Int.{ints}
@@ -18,6 +18,7 @@ use Rattle.wave_strip.specs.Strip.{columns_of, number_in}
 use Rattle.wave_strip.proofs.NumberBounds.{number_small}
 use Rattle.strip_coder.specs.Works.{AreSmall}
 use Rattle.strip_coder.specs.Steps.{PutsBlock}
+use Rattle.stream_defs.proofs.Small.{within_small}
 
 shift_small : (shifts : List ℕ) (k : ℕ) → All IsShift shifts → get_or shifts k 0 ≤ 3
 shift_small shifts k each =
@@ -32,10 +33,6 @@ weighted (suc zero) b z h k = record { above = omega (arith, ints); below = omeg
 weighted (suc (suc zero)) b z h k = record { above = omega (arith, ints); below = omega (arith, ints) }
 weighted (suc (suc (suc zero))) b z h k = record { above = omega (arith, ints); below = omega (arith, ints) }
 weighted (suc (suc (suc (suc w)))) b z h k = absurd (omega arith)
-
-within_small : (z : ℤ) → IsWithin 128000000 z → unsigned_abs z < 2 ^ 27
-within_small (pos a) h = omega (arith, ints, h.above, h.below)
-within_small (negsuc a) h = omega (arith, ints, h.above, h.below)
 
 -- the numbers of a block row, with their weights
 pub weighted_small : (strip : StripWave) (weights : List ℕ) (column i : ℕ) → All IsShift weights → column < columns_of strip → i < 64 →

@@ -1,99 +1,206 @@
 -- The end of a run: the rest of the packets, and the end of the input.
-use Rattle.std.proofs.Common.{◌≡◌, ℕ, ◌-◌, ◌<◌, ℤ, true, false, List, [], ◌∷◌, ◌++◌, length, take, refl, sym, ap, ◌∙◌, subst, arith, length-append}
+use Rattle.std.proofs.Common.{◌≡◌, ◌≢◌, ◌≤◌, ◌+◌, ◌*◌, inl, inr, ℕ, ◌-◌, ◌<◌, ℤ, true, false, List, [], ◌∷◌, ◌++◌, length, take, refl, sym, ap, ◌∙◌, subst, arith, length-append}
 use Rattle.std.specs.Prelude.{Ok, Err}
+use Rattle.std.proofs.lemmas.Bool.{cases_lt}
 use Rattle.std.proofs.lemmas.List.{append-nil}
 use Rattle.std.proofs.Math.Seq.{take-append_seam}
 use Rattle.port_122.specs.Outside.{Outside, Since, AtStart, GivenBy, ReadFailed}
-use Rattle.port_122.proofs.Stretches.{since_out, rose_since}
+use Rattle.port_122.proofs.Stretches.{since_out, rose_since, used_up_later}
 use Rattle.port_122.proofs.ReadCalls.{since_prompt}
 use Rattle.wave_defs.specs.Held.{SameWithin}
 use Rattle.base_122.specs.Ranges.{IsInRange}
+use Rattle.base_122.specs.Setting.{IsHeight, sized}
+use Rattle.base_122.specs.Sizes.{total_blocks}
 use Rattle.base_122.specs.declared.setting.Setting.{Setting}
+use Rattle.base_122.proofs.GeometryRanges.{in_range-sized}
 use Rattle.packet_defs.specs.Packets.{joined}
 use Rattle.raster_rows.specs.Ends.{SawEnd}
-use Rattle.stream_defs.specs.Output.{image_blocks, output, packets_of}
+use Rattle.stream_defs.specs.Output.{output, packets_of, segments_of, tells_last}
+use Rattle.stream_defs.specs.SettledImages.{front_packets, settled_in}
+use Rattle.stream_defs.proofs.HeightLaws.{images_settle, settled_alike}
 use Rattle.stream_defs.proofs.ImageLaws.{blocks_whole}
 use Rattle.strip_coder.specs.declared.encode.EncodeDone.{EncodeDone}
 use Rattle.strip_coder.specs.declared.encode.EncodeFault.TheVariants.{ReadFault, WriteFault, Long}
 use Rattle.strip_coder.specs.declared.work.Work.{Work}
-use Rattle.strip_coder.specs.Rasters.{raster_length, image_of, given_for}
-use Rattle.strip_coder.specs.Answers.{TookRaster, EncodesImage}
-use Rattle.strip_coder.specs.Steps.{RowIs, EndsImage, BreaksAt}
-use Rattle.strip_coder.specs.RowsIn.{HasCome, LastStands}
-use Rattle.strip_coder.proofs.RowsGiven.{given_whole}
+use Rattle.strip_coder.specs.Plans.{tallest}
+use Rattle.strip_coder.specs.Rasters.{row_length, most_length, image_of, given_for}
+use Rattle.strip_coder.specs.Answers.{AllInRange, TookRaster, TookRows, DoneFor, EncodesImage}
+use Rattle.strip_coder.specs.Steps.{RowIs, EndsImage, EndBreaks}
+use Rattle.strip_coder.specs.RowsIn.{HasCome, HasAll, LastStands}
+use Rattle.strip_coder.proofs.PlanLaws.{tall_height, tall_most, tall_or_open, known_tallest, known_height}
+use Rattle.strip_coder.proofs.RowsGiven.{given_all}
 use Rattle.strip_coder.proofs.RowsTakenLaws.{all_whole}
-use Rattle.strip_coder.proofs.FrontsGiven.{front_out, broke_off}
+use Rattle.strip_coder.proofs.FrontsGiven.{broken_front, known_front, broke_off}
 
-module _ (s : Setting) (range : IsInRange s) (p q : Outside) (w : Work) (come : HasCome s s.rows p q w) where
-  some : 0 < s.rows
-  some = let rows = range.rows.0 in omega (arith, rows)
+module _ (s : Setting) (range : IsInRange s) (p q : Outside) (w : Work) (all : HasAll s p q w) where
+  come : HasCome s w.at.rows p q w
+  come = all.come
 
-  last : LastStands s s.rows come.took w.row.items
+  some : 0 < w.at.rows
+  some = let rows = all.height.0.0 in omega (arith, rows)
+
+  last : LastStands s w.at.rows come.took w.row.items
   last = come.last some
 
-  raster : TookRaster s come.took
-  raster = record { whole = come.whole; in_range = all_whole s s.rows come.took come.whole come.in_range }
+  raster : TookRaster s w.at.rows come.took
+  raster = record { height = all.height; whole = come.whole; in_range = all_whole s w.at.rows come.took come.whole come.in_range }
 
-  itself : SameWithin s.rows s.width (image_of s come.took) (image_of s come.took)
+  itself : SameWithin w.at.rows s.width (image_of s come.took) (image_of s come.took)
   itself = record { at = λ i j hi hj. refl }
 
   -- the last row of each image with these rows stands
-  row_is : (y : ℕ → ℕ → ℤ) → SameWithin s.rows s.width (image_of s come.took) y → RowIs s y (s.rows - 1) w
-  row_is y same = record { at = λ j lt. last.same.at j lt ∙ same.at (s.rows - 1) j (omega (arith, some)) lt }
+  row_is : (y : ℕ → ℕ → ℤ) → SameWithin w.at.rows s.width (image_of s come.took) y → RowIs s y (w.at.rows - 1) w
+  row_is y same = record { at = λ j lt. last.same.at j lt ∙ same.at (w.at.rows - 1) j (omega (arith, some)) lt }
 
-  -- a write of the rest failed
-  pub end_breaks_off : {r : Outside} (new : Work) → BreaksAt s (s.rows - 1) q r w new → EncodesImage s p r (Err WriteFault)
-  end_breaks_off new breaks =
-      broke_off s come.took (joined (packets_of s (image_blocks s (image_of s come.took)) w.at.index)) s.rows w.at.index come.since
-      (record { whole = come.whole; most = omega arith; in_range = raster.in_range })
-      breaks.rose
-      (front_out s s.rows (image_of s come.took) w.at.index come.stands.taken.running.gathered.index (λ y h. breaks.breaks y (come.stands.follows y h) (row_is y h)))
-      (λ y h. ap (λ all. joined (packets_of s all w.at.index)) (blocks_whole s range (image_of s come.took) y h))
+  most : w.at.rows ≤ tallest s
+  most = tall_most s w.at.rows range all.height
+
+  -- what is given is that of the image of just these rows
+  gave_is : joined (front_packets s (tallest s) (image_of s come.took) w.at.index) ≡ joined (front_packets s w.at.rows (image_of s come.took) w.at.index)
+  gave_is = elim (tall_or_open s w.at.rows range all.height) [
+    | inl tall ↦ ap (λ n. joined (front_packets s n (image_of s come.took) w.at.index)) (sym tall)
+    | inr other ↦
+        let x = image_of s come.took in
+        let index : w.at.index ≡ settled_in s (tallest s) w.at.rows = come.stands.taken.index (inr other.0) in
+        ap (λ n. joined (front_packets s (tallest s) x n)) index
+        ∙ ap joined (images_settle s (tallest s) w.at.rows w.at.rows range (tall_height s range) all.height most (omega arith) x x itself)
+        ∙ ap (λ n. joined (front_packets s w.at.rows x n)) (sym (index ∙ settled_alike s (tallest s) w.at.rows w.at.rows range (tall_height s range) all.height most (omega arith)))
+  ]
+
+  so_far : Since p q come.took (joined (front_packets s w.at.rows (image_of s come.took) w.at.index)) [] (GivenBy (given_for s) come.took)
+  so_far = subst (λ g. Since p q come.took g [] (GivenBy (given_for s) come.took)) gave_is come.since
+
+  rows_taken : TookRows s come.took w.at.rows
+  rows_taken = record { whole = come.whole; most = most; in_range = raster.in_range }
+
+  -- ---- a write of the rest failed
+
+  module _ (r : Outside) (new : Work) (breaks : EndBreaks s w.at.rows q r w new) where
+    module _ (known : s.rows ≢ 0) where
+      same_rows : s.rows ≡ w.at.rows
+      same_rows = known_height s w.at.rows known all.height
+
+      few : w.at.index ≤ segments_of (sized s w.at.rows)
+      few = subst (λ n. w.at.index ≤ segments_of (sized s n)) (known_tallest s known ∙ same_rows) come.stands.taken.running.gathered.index
+
+      -- what is given is that of each image with these rows
+      gave_same : (rows : ℕ) (y : ℕ → ℕ → ℤ) → IsHeight s rows → w.at.rows ≤ rows → SameWithin w.at.rows s.width (image_of s come.took) y →
+          joined (front_packets s w.at.rows (image_of s come.took) w.at.index) ≡ joined (front_packets s rows y w.at.index)
+      gave_same rows y other le same =
+          subst (λ n. joined (front_packets s w.at.rows (image_of s come.took) w.at.index) ≡ joined (front_packets s n y w.at.index)) (sym same_rows ∙ known_height s rows known other)
+          (ap (λ blocks. joined (packets_of (tells_last s) (sized s w.at.rows) blocks w.at.index))
+          (blocks_whole (sized s w.at.rows) (in_range-sized s w.at.rows range all.height) all.height.0 (image_of s come.took) y same))
+
+      known_breaks : EncodesImage s p r (Err WriteFault)
+      known_breaks =
+          broke_off s come.took (joined (front_packets s w.at.rows (image_of s come.took) w.at.index)) w.at.rows w.at.index so_far rows_taken breaks.rose
+          (known_front s (image_of s come.took) w.at.rows w.at.index (total_blocks s.width w.at.rows) known same_rows few (λ y h. breaks.breaks y (come.stands.follows y h) (row_is y h)))
+          gave_same
+
+    open_breaks : s.rows ≡ 0 → EncodesImage s p r (Err WriteFault)
+    open_breaks left_open =
+        let x = image_of s come.took in
+        let broke = breaks.breaks x (come.stands.follows x itself) (row_is x itself) in
+        let front = broken_front s w.at.rows {p = q} {q = r} x w.at.index (total_blocks s.width w.at.rows) broke in
+        record {
+          took = come.took;
+          gave = joined (front_packets s w.at.rows x w.at.index) ++ broke.gave;
+          since = since_out so_far broke.out;
+          answer = (
+            rose_since so_far.faults.writes breaks.rose,
+            (
+              w.at.rows,
+              rows_taken,
+              inr record {
+                left_open = left_open;
+                at_end = used_up_later q.rest r.rest broke.out.rest (all.ended left_open);
+                height = all.height;
+                some = front.0;
+                front = front.1;
+              },
+            ),
+          );
+        }
+
+    pub end_breaks_off : EncodesImage s p r (Err WriteFault)
+    end_breaks_off = elim (cases_lt 0 s.rows) [ inl lt ↦ known_breaks (λ none. omega (arith, none, lt)) | inr none ↦ open_breaks (omega (arith, none)) ]
 
   -- ---- the rest was given
 
-  module _ (r : Outside) (new : Work) (done : EncodeDone) (ends : EndsImage s q r w new done) where
-    all_given : Since p r come.took (output s (image_of s come.took)) [] (GivenBy (given_for s) come.took)
+  module _ (r : Outside) (new : Work) (done : EncodeDone) (ends : EndsImage s w.at.rows q r w new done) where
+    all_given : Since p r come.took (output s w.at.rows (image_of s come.took)) [] (GivenBy (given_for s) come.took)
     all_given =
         let goes = ends.goes (image_of s come.took) (come.stands.follows (image_of s come.took) itself) (row_is (image_of s come.took) itself) in
-        subst (λ g. Since p r come.took g [] (GivenBy (given_for s) come.took)) goes.then_are (since_out come.since goes.out)
+        subst (λ g. Since p r come.took g [] (GivenBy (given_for s) come.took)) goes.then_are (since_out so_far goes.out)
 
-    -- the end is asked for
-    asked_end : {d : Outside} {more : List ℕ} → Since r d more [] [] AtStart → Since p d (come.took ++ more) (output s (image_of s come.took)) [] (GivenBy (given_for s) (come.took ++ more))
-    asked_end {more = more} read =
-        since_prompt (given_for s) all_given read
-        (λ i j most h.
-        let e = given_whole s come.took (take i more) range come.whole in
-        omega (arith, h.1, ap length e))
+    done_is : DoneFor s w.at.rows (image_of s come.took) done
+    done_is = ends.done (image_of s come.took) (come.stands.follows (image_of s come.took) itself) (row_is (image_of s come.took) itself)
 
-    same_took : come.took ++ [] ≡ come.took
-    same_took = append-nil come.took
-
-    pub run_done : {d : Outside} → SawEnd r d true → EncodesImage s p d (Ok done)
-    run_done {d = d} end = record {
-      took = come.took;
-      gave = output s (image_of s come.took);
-      since = subst (λ t. Since p d t (output s (image_of s come.took)) [] (GivenBy (given_for s) t)) same_took (asked_end end.0);
-      answer = (raster, end.1, refl, ends.done (image_of s come.took) (come.stands.follows (image_of s come.took) itself) (row_is (image_of s come.took) itself));
-    }
-
-    pub run_long : {d : Outside} → SawEnd r d false → EncodesImage s p d (Err Long)
-    run_long end =
-        let front : take (raster_length s) (come.took ++ end.0 ∷ []) ≡ come.took = subst (λ n. take n (come.took ++ end.0 ∷ []) ≡ come.took) come.whole (take-append_seam come.took (end.0 ∷ [])) in
-        record {
-          took = come.took ++ end.0 ∷ [];
-          gave = output s (image_of s come.took);
-          since = asked_end end.1;
-          answer = (omega (arith, come.whole, length-append come.took (end.0 ∷ [])), subst (TookRaster s) (sym front) raster, ap (λ t. output s (image_of s t)) (sym front));
-        }
-
-    pub run_unread : {d : Outside} → ReadFailed r d → EncodesImage s p d (Err ReadFault)
-    run_unread {d = d} failed =
-        let stands : given_for s come.took ≡ output s (image_of s come.took) =
-        subst (λ t. given_for s t ≡ output s (image_of s come.took)) same_took (given_whole s come.took [] range come.whole) in
+    -- the input ended before
+    pub run_ended : s.rows ≡ 0 → EncodesImage s p r (Ok done)
+    run_ended left_open =
+        let goes = ends.goes (image_of s come.took) (come.stands.follows (image_of s come.took) itself) (row_is (image_of s come.took) itself) in
         record {
           took = come.took;
-          gave = output s (image_of s come.took);
-          since = subst (λ t. Since p d t (output s (image_of s come.took)) [] (GivenBy (given_for s) t)) same_took (asked_end failed.since);
-          answer = (rose_since all_given.faults.reads failed.rose, omega (arith, come.whole), raster.in_range, sym stands);
+          gave = output s w.at.rows (image_of s come.took);
+          since = all_given;
+          answer = (w.at.rows, raster, used_up_later q.rest r.rest goes.out.rest (all.ended left_open), refl, done_is);
         }
+
+    module _ (known : s.rows ≢ 0) where
+      tall : tallest s ≡ w.at.rows
+      tall = known_tallest s known ∙ known_height s w.at.rows known all.height
+
+      longest : length come.took ≡ most_length s
+      longest = come.whole ∙ ap (λ n. n * row_length s) (sym tall)
+
+      all_so : (more : List ℕ) → given_for s (come.took ++ more) ≡ output s w.at.rows (image_of s come.took)
+      all_so more =
+          let same = known_height s w.at.rows known all.height in
+          given_all s come.took more range known (come.whole ∙ ap (λ n. n * row_length s) (sym same)) ∙ ap (λ n. output s n (image_of s come.took)) same
+
+      -- the end is asked for
+      asked_end : {d : Outside} {more : List ℕ} → Since r d more [] [] AtStart →
+          Since p d (come.took ++ more) (output s w.at.rows (image_of s come.took)) [] (GivenBy (given_for s) (come.took ++ more))
+      asked_end {more = more} read =
+          since_prompt (given_for s) all_given read
+          (λ i j most h.
+          let e = all_so (take i more) in
+          omega (arith, h.1, ap length e))
+
+      same_took : come.took ++ [] ≡ come.took
+      same_took = append-nil come.took
+
+      pub run_done : {d : Outside} → SawEnd r d true → EncodesImage s p d (Ok done)
+      run_done {d = d} end = record {
+        took = come.took;
+        gave = output s w.at.rows (image_of s come.took);
+        since = subst (λ t. Since p d t (output s w.at.rows (image_of s come.took)) [] (GivenBy (given_for s) t)) same_took (asked_end end.0);
+        answer = (w.at.rows, raster, end.1, refl, done_is);
+      }
+
+      pub run_long : {d : Outside} → SawEnd r d false → EncodesImage s p d (Err Long)
+      run_long end =
+          let front : take (most_length s) (come.took ++ end.0 ∷ []) ≡ come.took = subst (λ n. take n (come.took ++ end.0 ∷ []) ≡ come.took) longest (take-append_seam come.took (end.0 ∷ [])) in
+          record {
+            took = come.took ++ end.0 ∷ [];
+            gave = output s w.at.rows (image_of s come.took);
+            since = asked_end end.1;
+            answer = (
+              length-append come.took (end.0 ∷ []) ∙ ap (λ n. n + 1) longest,
+              subst (AllInRange s) (sym front) raster.in_range,
+              sym (all_so (end.0 ∷ [])),
+              λ k. ap (λ n. output s n (image_of s come.took)) (sym (known_height s w.at.rows known all.height)) ∙ ap (λ t. output s s.rows (image_of s t)) (sym front),
+            );
+          }
+
+      pub run_unread : {d : Outside} → ReadFailed r d → EncodesImage s p d (Err ReadFault)
+      run_unread {d = d} failed =
+          let stands : given_for s come.took ≡ output s w.at.rows (image_of s come.took) =
+          subst (λ t. given_for s t ≡ output s w.at.rows (image_of s come.took)) same_took (all_so []) in
+          record {
+            took = come.took;
+            gave = output s w.at.rows (image_of s come.took);
+            since = subst (λ t. Since p d t (output s w.at.rows (image_of s come.took)) [] (GivenBy (given_for s) t)) same_took (asked_end failed.since);
+            answer = (rose_since all_given.faults.reads failed.rose, (let m = longest in omega (arith, m)), raster.in_range, sym stands);
+          }

@@ -5,23 +5,23 @@ use Rattle.std.proofs.lemmas.Bool.{cases_lt}
 use Rattle.std.proofs.lemmas.List.{append-nil}
 use Rattle.port_122.specs.Outside.{Outside, NoRead}
 use Rattle.port_122.proofs.Stretches.{since_start, rose_since}
-use Rattle.base_122.specs.Ranges.{IsInRange}
+use Rattle.strip_coder.specs.Plans.{IsPlan, whole}
 use Rattle.base_122.specs.Sizes.{total_blocks, first_block, segment_blocks}
-use Rattle.base_122.specs.declared.setting.Setting.{Setting}
+use Rattle.strip_coder.specs.declared.plan.Plan.{Plan}
 use Rattle.base_122.proofs.SizeBounds.{first_block-lt, total-le-segments}
 use Rattle.packet_defs.specs.Packets.{joined}
 use Rattle.wave_defs.specs.Held.{block_at}
 use Rattle.block_families.specs.Places.{gathered}
 use Rattle.wave_strip.specs.Strip.{number_in}
-use Rattle.stream_defs.specs.Output.{packets_of, segments_of}
+use Rattle.stream_defs.specs.Output.{packets_of, segments_of, tells_last, used_before}
 use Rattle.space_packets.specs.Progress.{Progress}
 use Rattle.strip_coder.specs.declared.work.Work.{Work}
 use Rattle.strip_coder.specs.declared.work.ImageAt.{ImageAt}
 use Rattle.strip_coder.specs.SegmentsOut.{progress_at}
-use Rattle.strip_coder.specs.Works.{AreSmall, IsMadeFor, HasGathered, IsFull, HoldsBlocks, gathered_in}
+use Rattle.strip_coder.specs.Works.{AreSmall, IsMadeFor, KeepsShare, HasGathered, IsFull, HoldsBlocks, gathered_in}
 use Rattle.strip_coder.specs.Steps.{PutsBlock, GoesOn, BreaksOff, NextAre, HasGone, HasBroken, Gathers, PresentOut, PresentCut, WritesPresent}
-use Rattle.strip_coder.proofs.PacketStretches.{goes_then, breaks_then}
-use Rattle.strip_coder.proofs.SegmentSteps.{Rewritten, still_made}
+use Rattle.strip_coder.proofs.PacketStretches.{goes_then, breaks_then, breaks_more}
+use Rattle.strip_coder.proofs.SegmentSteps.{Rewritten, still_made, share_kept}
 
 -- one block more stands in a work
 pub record HasPut (old mid : Work) (numbers : List ℤ) : Type 0 where
@@ -30,9 +30,10 @@ pub record HasPut (old mid : Work) (numbers : List ℤ) : Type 0 where
   pub rows : mid.at.rows ≡ old.at.rows
   pub filled : mid.at.filled ≡ old.at.filled + 1
   pub index : mid.at.index ≡ old.at.index
+  pub used : mid.at.used ≡ old.at.used
   pub puts : PutsBlock old.at.filled old.blocks.items mid.blocks.items numbers
 
-pub put_in : (old mid : Work) (cells xs numbers : List ℤ) → Rewritten old mid → mid.packets ≡ old.packets → mid.at ≡ record { rows = old.at.rows; filled = old.at.filled + 1; index = old.at.index } →
+pub put_in : (old mid : Work) (cells xs numbers : List ℤ) → Rewritten old mid → mid.packets ≡ old.packets → mid.at ≡ record { rows = old.at.rows; filled = old.at.filled + 1; index = old.at.index; used = old.at.used } →
     cells ≡ old.blocks.items → mid.blocks.items ≡ xs → PutsBlock old.at.filled cells xs numbers → HasPut old mid numbers
 put_in old mid cells xs numbers same packets at before after puts = record {
   same = same;
@@ -40,66 +41,72 @@ put_in old mid cells xs numbers same packets at before after puts = record {
   rows = ap (λ (a : ImageAt). a.rows) at;
   filled = ap (λ (a : ImageAt). a.filled) at;
   index = ap (λ (a : ImageAt). a.index) at;
+  used = ap (λ (a : ImageAt). a.used) at;
   puts = subst (λ ys. PutsBlock old.at.filled old.blocks.items ys numbers) (sym after) (subst (λ ys. PutsBlock old.at.filled ys xs numbers) before puts);
 }
 
-module _ (s : Setting) (range : IsInRange s) where
-  some_blocks : 0 < s.segment
-  some_blocks = let segment = range.segment in omega (arith, segment)
+module _ (s : Plan) (range : IsPlan s) where
+  some_blocks : 0 < s.setting.segment
+  some_blocks = let segment = range.in_range.segment in omega (arith, segment)
 
   -- a block's place in the whole image
-  pub place_is : (w : Work) → w.at.index < segments_of s → gathered_in s w.at ≡ first_block s.segment w.at.index + w.at.filled
-  place_is w lt = let before = first_block-lt (total_blocks s.width s.rows) s.segment w.at.index some_blocks lt in omega (arith, before)
+  pub place_is : (w : Work) → w.at.index < segments_of (whole s) → gathered_in s w.at ≡ first_block s.setting.segment w.at.index + w.at.filled
+  place_is w lt = let before = first_block-lt (total_blocks s.setting.width s.rows) s.setting.segment w.at.index some_blocks lt in omega (arith, before)
 
   -- a place below all blocks lies in a segment
-  pub more_segments : (w : Work) → HasGathered s w → gathered_in s w.at < total_blocks s.width s.rows → w.at.index < segments_of s
-  more_segments w has lt = elim (cases_lt w.at.index (segments_of s)) [
+  pub more_segments : (w : Work) → HasGathered s w → gathered_in s w.at < total_blocks s.setting.width s.rows → w.at.index < segments_of (whole s)
+  more_segments w has lt = elim (cases_lt w.at.index (segments_of (whole s))) [
     | inl below ↦ below
     | inr above ↦
         let le = has.index in
-        let e : w.at.index ≡ segments_of s = omega (arith, above, le) in
-        let all = total-le-segments (total_blocks s.width s.rows) s.segment some_blocks in
-        let first : first_block s.segment w.at.index ≡ segments_of s * s.segment = ap (λ n. n * s.segment) e in
+        let e : w.at.index ≡ segments_of (whole s) = omega (arith, above, le) in
+        let all = total-le-segments (total_blocks s.setting.width s.rows) s.setting.segment some_blocks in
+        let first : first_block s.setting.segment w.at.index ≡ segments_of (whole s) * s.setting.segment = ap (λ n. n * s.setting.segment) e in
         absurd (omega (arith, lt, all, first))
   ]
 
-  put_holds : (old mid : Work) (numbers : List ℤ) → old.at.index < segments_of s → HasPut old mid numbers → (all : List (List ℤ)) → NextAre s old 1 (λ _. numbers) all →
+  put_holds : (old mid : Work) (numbers : List ℤ) → old.at.index < segments_of (whole s) → HasPut old mid numbers → (all : List (List ℤ)) → NextAre s old 1 (λ _. numbers) all →
       HoldsBlocks s all old → HoldsBlocks s all mid
   put_holds old mid numbers lt put all next holds = record {
     blocks = λ i few.
         let filled = put.filled in
-        let first : first_block s.segment mid.at.index ≡ first_block s.segment old.at.index = ap (λ n. n * s.segment) put.index in
-        let there : get_or all (first_block s.segment mid.at.index + i) [] ≡ get_or all (first_block s.segment old.at.index + i) [] = ap (λ n. get_or all (n + i) []) first in
+        let first : first_block s.setting.segment mid.at.index ≡ first_block s.setting.segment old.at.index = ap (λ n. n * s.setting.segment) put.index in
+        let there : get_or all (first_block s.setting.segment mid.at.index + i) [] ≡ get_or all (first_block s.setting.segment old.at.index + i) [] = ap (λ n. get_or all (n + i) []) first in
         elim (cases_lt i old.at.filled) [
           | inl before ↦ put.puts.before i before ∙ holds.blocks i before ∙ sym there
           | inr past ↦
               let e : i ≡ old.at.filled = omega (arith, past, few, filled) in
-              let place : gathered_in s old.at + 0 ≡ first_block s.segment old.at.index + i = omega (arith, place_is old lt, e) in
+              let place : gathered_in s old.at + 0 ≡ first_block s.setting.segment old.at.index + i = omega (arith, place_is old lt, e) in
               ap (block_at mid.blocks.items) e ∙ put.puts.here ∙ sym (next.next 0 (omega arith)) ∙ ap (λ n. get_or all n []) place ∙ sym there
         ];
     packets = put.packets ∙ holds.packets ∙ ap (progress_at s all) (sym put.index);
+    used = λ some. put.used ∙ holds.used some ∙ ap (used_before (whole s) all) (sym put.index);
   }
 
-  put_made : (old mid : Work) (numbers : List ℤ) → HasGathered s old → HasPut old mid numbers → IsMadeFor s mid
-  put_made old mid numbers has put = still_made s old mid has.made put.same (ap (λ (v : Progress). v.packet) put.packets)
+  put_made : (old mid : Work) (numbers : List ℤ) → HasGathered s old → HasPut old mid numbers → IsMadeFor s.setting mid
+  put_made old mid numbers has put = still_made s.setting old mid has.made put.same (ap (λ (v : Progress). v.packet) put.packets)
 
   put_small : (old mid : Work) (numbers : List ℤ) → HasPut old mid numbers → AreSmall mid.at.filled mid.blocks.items
   put_small old mid numbers put = subst (λ n. AreSmall n mid.blocks.items) (sym put.filled) put.puts.small
 
+  put_share : (old mid : Work) (numbers : List ℤ) → KeepsShare (whole s) old.at → HasPut old mid numbers → KeepsShare (whole s) mid.at
+  put_share old mid numbers share put = share_kept (whole s) old.at mid.at put.index put.used share
+
   -- the segment isn't full yet
-  pub put_part : {p : Outside} (old mid : Work) (numbers : List ℤ) → HasGathered s old → old.at.index < segments_of s → HasPut old mid numbers →
-      mid.at.filled < segment_blocks (total_blocks s.width s.rows) s.segment old.at.index → HasGone s (λ _. numbers) 1 p p old mid
+  pub put_part : {p : Outside} (old mid : Work) (numbers : List ℤ) → HasGathered s old → old.at.index < segments_of (whole s) → HasPut old mid numbers →
+      mid.at.filled < segment_blocks (total_blocks s.setting.width s.rows) s.setting.segment old.at.index → HasGone s (λ _. numbers) 1 p p old mid
   put_part {p = p} old mid numbers has lt put part =
       let index = put.index in
       let filled = put.filled in
-      let first : first_block s.segment mid.at.index ≡ first_block s.segment old.at.index = ap (λ n. n * s.segment) index in
+      let first : first_block s.setting.segment mid.at.index ≡ first_block s.setting.segment old.at.index = ap (λ n. n * s.setting.segment) index in
       let le = has.index in
       record {
         stays = record { strip = put.same.strip; row = put.same.row; rows = put.rows };
         gathered = record {
           made = put_made old mid numbers has put;
+          share = put_share old mid numbers has.share put;
           index = omega (arith, index, le);
-          present = λ h. subst (λ n. mid.at.filled < segment_blocks (total_blocks s.width s.rows) s.segment n) (sym index) part;
+          present = λ h. subst (λ n. mid.at.filled < segment_blocks (total_blocks s.setting.width s.rows) s.setting.segment n) (sym index) part;
           none = λ e. absurd (omega (arith, e, index, lt));
           small = put_small old mid numbers put;
           idle = ap (λ (v : Progress). v.stage) put.packets ∙ has.idle;
@@ -111,20 +118,21 @@ module _ (s : Setting) (range : IsInRange s) where
         goes = λ all next holds. record {
           gave = [];
           out = since_start p NoRead;
-          then_are = append-nil (joined (packets_of s all old.at.index)) ∙ ap (λ n. joined (packets_of s all n)) (sym index);
+          then_are = append-nil (joined (packets_of (tells_last s.setting) (whole s) all old.at.index)) ∙ ap (λ n. joined (packets_of (tells_last s.setting) (whole s) all n)) (sym index);
         };
       }
 
   -- it is full
-  pub put_full : (old mid : Work) (numbers : List ℤ) → HasGathered s old → old.at.index < segments_of s → HasPut old mid numbers →
-      segment_blocks (total_blocks s.width s.rows) s.segment old.at.index ≤ mid.at.filled → IsFull s mid
+  pub put_full : (old mid : Work) (numbers : List ℤ) → HasGathered s old → old.at.index < segments_of (whole s) → HasPut old mid numbers →
+      segment_blocks (total_blocks s.setting.width s.rows) s.setting.segment old.at.index ≤ mid.at.filled → IsFull s mid
   put_full old mid numbers has lt put ge =
       let index = put.index in
       let filled = put.filled in
       let before = has.present lt in
-      let first : first_block s.segment mid.at.index ≡ first_block s.segment old.at.index = ap (λ n. n * s.segment) index in
+      let first : first_block s.setting.segment mid.at.index ≡ first_block s.setting.segment old.at.index = ap (λ n. n * s.setting.segment) index in
       record {
         made = put_made old mid numbers has put;
+        share = put_share old mid numbers has.share put;
         index = omega (arith, index, lt);
         full = omega (arith, first, filled, before, ge);
         small = put_small old mid numbers put;
@@ -133,54 +141,60 @@ module _ (s : Setting) (range : IsInRange s) where
       }
 
   -- and was written
-  put_gone : {p q : Outside} (old mid new : Work) (numbers : List ℤ) → HasGathered s old → old.at.index < segments_of s → HasPut old mid numbers →
-      segment_blocks (total_blocks s.width s.rows) s.segment old.at.index ≤ mid.at.filled → PresentOut s p q mid new → HasGone s (λ _. numbers) 1 p q old new
+  put_gone : {p q : Outside} (old mid new : Work) (numbers : List ℤ) → HasGathered s old → old.at.index < segments_of (whole s) → HasPut old mid numbers →
+      segment_blocks (total_blocks s.setting.width s.rows) s.setting.segment old.at.index ≤ mid.at.filled → PresentOut s p q mid new → HasGone s (λ _. numbers) 1 p q old new
   put_gone {p = p} {q = q} old mid new numbers has lt put ge out =
       let index = put.index in
       let filled = put.filled in
       let before = has.present lt in
       let next_index = out.index in
       let none = out.filled in
-      let first : first_block s.segment new.at.index ≡ first_block s.segment old.at.index + s.segment =
-      ap (λ n. n * s.segment) (next_index ∙ ap (λ n. n + 1) index) ∙ (let t : (old.at.index + 1) * s.segment ≡ old.at.index * s.segment + s.segment = omega arith in t) in
+      let first : first_block s.setting.segment new.at.index ≡ first_block s.setting.segment old.at.index + s.setting.segment =
+      ap (λ n. n * s.setting.segment) (next_index ∙ ap (λ n. n + 1) index) ∙ (let t : (old.at.index + 1) * s.setting.segment ≡ old.at.index * s.setting.segment + s.setting.segment = omega arith in t) in
       record {
         stays = record { strip = out.stays.strip ∙ put.same.strip; row = out.stays.row ∙ put.same.row; rows = out.stays.rows ∙ put.rows };
         gathered = out.gathered;
-        count = omega (arith, first, filled, before, ge, none, first_block-lt (total_blocks s.width s.rows) s.segment old.at.index some_blocks lt);
+        count = omega (arith, first, filled, before, ge, none, first_block-lt (total_blocks s.setting.width s.rows) s.setting.segment old.at.index some_blocks lt);
         faults = out.faults;
         holds = λ all next holds. out.holds all next.whole (put_holds old mid numbers lt put all next holds);
         goes = λ all next holds. subst (λ n. GoesOn s all n new.at.index p q) index (out.goes all next.whole (put_holds old mid numbers lt put all next holds));
       }
 
-  put_broken : {p q : Outside} (old mid new : Work) (numbers : List ℤ) → old.at.index < segments_of s → HasPut old mid numbers →
+  put_broken : {p q : Outside} (old mid new : Work) (numbers : List ℤ) → old.at.index < segments_of (whole s) → HasPut old mid numbers →
       PresentCut s p q mid new → HasBroken s (λ _. numbers) 1 p q old new
   put_broken {p = p} {q = q} old mid new numbers lt put cut = record {
     made = cut.made;
     rose = cut.rose;
-    breaks = λ all next holds. subst (λ n. BreaksOff s all n p q) put.index (cut.breaks all next.whole (put_holds old mid numbers lt put all next holds));
+    breaks = λ all next holds.
+        let index = put.index in
+        let filled = put.filled in
+        let first : first_block s.setting.segment mid.at.index ≡ first_block s.setting.segment old.at.index = ap (λ n. n * s.setting.segment) index in
+        let count : gathered_in s mid.at ≤ gathered_in s old.at + 1 = omega (arith, first, filled) in
+        breaks_more s all old.at.index (gathered_in s mid.at) (gathered_in s old.at + 1) count
+        (subst (λ n. BreaksOff s all n (gathered_in s mid.at) p q) index (cut.breaks all next.whole (put_holds old mid numbers lt put all next holds)));
   }
 
-  pub put_written : {T E : Type 0} (p q : Outside) (r : Result T E) (old mid new : Work) (numbers : List ℤ) → HasGathered s old → old.at.index < segments_of s → HasPut old mid numbers →
-      segment_blocks (total_blocks s.width s.rows) s.segment old.at.index ≤ mid.at.filled → WritesPresent r s p q mid new → Gathers r s (λ _. numbers) 1 p q old new
+  pub put_written : {T E : Type 0} (p q : Outside) (r : Result T E) (old mid new : Work) (numbers : List ℤ) → HasGathered s old → old.at.index < segments_of (whole s) → HasPut old mid numbers →
+      segment_blocks (total_blocks s.setting.width s.rows) s.setting.segment old.at.index ≤ mid.at.filled → WritesPresent r s p q mid new → Gathers r s (λ _. numbers) 1 p q old new
   put_written p q (Ok x) old mid new numbers has lt put ge out = put_gone old mid new numbers has lt put ge out
   put_written p q (Err x) old mid new numbers has lt put ge cut = put_broken old mid new numbers lt put cut
 
 -- ---- one after another
 
-pub none_gone : {p : Outside} (s : Setting) (w : Work) (numbers : ℕ → List ℤ) → HasGathered s w → HasGone s numbers 0 p p w w
+pub none_gone : {p : Outside} (s : Plan) (w : Work) (numbers : ℕ → List ℤ) → HasGathered s w → HasGone s numbers 0 p p w w
 none_gone {p = p} s w numbers has = record {
   stays = record { strip = refl; row = refl; rows = refl };
   gathered = has;
   count = omega arith;
   faults = omega arith;
   holds = λ all next holds. holds;
-  goes = λ all next holds. record { gave = []; out = since_start p NoRead; then_are = append-nil (joined (packets_of s all w.at.index)) };
+  goes = λ all next holds. record { gave = []; out = since_start p NoRead; then_are = append-nil (joined (packets_of (tells_last s.setting) (whole s) all w.at.index)) };
 }
 
-next_front : (s : Setting) (old : Work) (numbers : ℕ → List ℤ) (n j : ℕ) (all : List (List ℤ)) → j ≤ n → NextAre s old n numbers all → NextAre s old j numbers all
+next_front : (s : Plan) (old : Work) (numbers : ℕ → List ℤ) (n j : ℕ) (all : List (List ℤ)) → j ≤ n → NextAre s old n numbers all → NextAre s old j numbers all
 next_front s old numbers n j all le next = record { whole = next.whole; next = λ i lt. next.next i (omega (arith, lt, le)) }
 
-next_one : (s : Setting) (old mid : Work) (numbers : ℕ → List ℤ) (n j : ℕ) (all : List (List ℤ)) → j < n → gathered_in s mid.at ≡ gathered_in s old.at + j →
+next_one : (s : Plan) (old mid : Work) (numbers : ℕ → List ℤ) (n j : ℕ) (all : List (List ℤ)) → j < n → gathered_in s mid.at ≡ gathered_in s old.at + j →
     NextAre s old n numbers all → NextAre s mid 1 (λ _. numbers j) all
 next_one s old mid numbers n j all lt count next = record {
   whole = next.whole;
@@ -189,7 +203,7 @@ next_one s old mid numbers n j all lt count next = record {
       ap (λ k. get_or all k []) place ∙ next.next j lt;
 }
 
-pub then_gone : {p q r : Outside} (s : Setting) (old mid new : Work) (numbers : ℕ → List ℤ) (j : ℕ) → HasGone s numbers j p q old mid → HasGone s (λ _. numbers j) 1 q r mid new →
+pub then_gone : {p q r : Outside} (s : Plan) (old mid new : Work) (numbers : ℕ → List ℤ) (j : ℕ) → HasGone s numbers j p q old mid → HasGone s (λ _. numbers j) 1 q r mid new →
     HasGone s numbers (j + 1) p r old new
 then_gone {p = p} {r = r} s old mid new numbers j before here =
     let count = before.count in
@@ -207,26 +221,28 @@ then_gone {p = p} {r = r} s old mid new numbers j before here =
           (here.goes all (next_one s old mid numbers (j + 1) j all (omega arith) count next) (before.holds all front holds));
     }
 
-pub then_broken : {p q r : Outside} (s : Setting) (old mid new : Work) (numbers : ℕ → List ℤ) (n j : ℕ) → j < n → HasGone s numbers j p q old mid → HasBroken s (λ _. numbers j) 1 q r mid new →
+pub then_broken : {p q r : Outside} (s : Plan) (old mid new : Work) (numbers : ℕ → List ℤ) (n j : ℕ) → j < n → HasGone s numbers j p q old mid → HasBroken s (λ _. numbers j) 1 q r mid new →
     HasBroken s numbers n p r old new
 then_broken {p = p} {r = r} s old mid new numbers n j lt before here = record {
   made = here.made;
   rose = rose_since before.faults here.rose;
   breaks = λ all next holds.
       let front = next_front s old numbers n j all (omega (arith, lt)) next in
-      breaks_then s all old.at.index mid.at.index (before.goes all front holds)
-      (here.breaks all (next_one s old mid numbers n j all lt before.count next) (before.holds all front holds));
+      let count = before.count in
+      let le : gathered_in s mid.at + 1 ≤ gathered_in s old.at + n = omega (arith, count, lt) in
+      breaks_then s all old.at.index mid.at.index (gathered_in s old.at + n) (before.goes all front holds)
+      (breaks_more s all mid.at.index (gathered_in s mid.at + 1) (gathered_in s old.at + n) le (here.breaks all (next_one s old mid numbers n j all lt count next) (before.holds all front holds)));
 }
 
-pub failed_gathers : {T E : Type 0} (p q : Outside) (r : Result T E) (s : Setting) (numbers : ℕ → List ℤ) (n : ℕ) (old new : Work) → IsErr r → HasBroken s numbers n p q old new → Gathers r s numbers n p q old new
+pub failed_gathers : {T E : Type 0} (p q : Outside) (r : Result T E) (s : Plan) (numbers : ℕ → List ℤ) (n : ℕ) (old new : Work) → IsErr r → HasBroken s numbers n p q old new → Gathers r s numbers n p q old new
 failed_gathers p q (Ok x) s numbers n old new h b = absurd cc
 failed_gathers p q (Err x) s numbers n old new h b = b
 
 -- the numbers of the next block are those of the strip as it stood at first
-pub as_at_first : {p q : Outside} (s : Setting) (column : ℕ) (old mid new : Work) → mid.strip ≡ old.strip →
-    HasGone s (λ _. gathered (number_in mid.strip) s.weights.shifts column) 1 p q mid new → HasGone s (λ _. gathered (number_in old.strip) s.weights.shifts column) 1 p q mid new
-as_at_first {p = p} {q = q} s column old mid new e h = subst (λ strip. HasGone s (λ _. gathered (number_in strip) s.weights.shifts column) 1 p q mid new) e h
+pub as_at_first : {p q : Outside} (s : Plan) (column : ℕ) (old mid new : Work) → mid.strip ≡ old.strip →
+    HasGone s (λ _. gathered (number_in mid.strip) s.setting.weights.shifts column) 1 p q mid new → HasGone s (λ _. gathered (number_in old.strip) s.setting.weights.shifts column) 1 p q mid new
+as_at_first {p = p} {q = q} s column old mid new e h = subst (λ strip. HasGone s (λ _. gathered (number_in strip) s.setting.weights.shifts column) 1 p q mid new) e h
 
-pub broken_as_at_first : {p q : Outside} (s : Setting) (column : ℕ) (old mid new : Work) → mid.strip ≡ old.strip →
-    HasBroken s (λ _. gathered (number_in mid.strip) s.weights.shifts column) 1 p q mid new → HasBroken s (λ _. gathered (number_in old.strip) s.weights.shifts column) 1 p q mid new
-broken_as_at_first {p = p} {q = q} s column old mid new e h = subst (λ strip. HasBroken s (λ _. gathered (number_in strip) s.weights.shifts column) 1 p q mid new) e h
+pub broken_as_at_first : {p q : Outside} (s : Plan) (column : ℕ) (old mid new : Work) → mid.strip ≡ old.strip →
+    HasBroken s (λ _. gathered (number_in mid.strip) s.setting.weights.shifts column) 1 p q mid new → HasBroken s (λ _. gathered (number_in old.strip) s.setting.weights.shifts column) 1 p q mid new
+broken_as_at_first {p = p} {q = q} s column old mid new e h = subst (λ strip. HasBroken s (λ _. gathered (number_in strip) s.setting.weights.shifts column) 1 p q mid new) e h

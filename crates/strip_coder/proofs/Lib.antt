@@ -1,3 +1,4 @@
+pub mod PlanLaws
 mod SegmentRuns
 mod SegmentTexts
 mod SegmentCounts
@@ -15,8 +16,10 @@ mod RowFinishes
 mod DoneCounts
 mod ImageEnds
 mod SettledCounts
-mod RowsGiven
+mod OtherHeights
+pub mod RowsGiven
 mod FrontsGiven
 mod RowsTakenLaws
 mod RowComes
+mod TallEnds
 mod EncodeRuns

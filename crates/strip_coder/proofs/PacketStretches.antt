@@ -1,23 +1,56 @@
 -- Two stretches of packets, one after the other.
-use Rattle.std.proofs.Common.{ℕ, ℤ, List, ◌++◌, sym, ap, ◌∙◌, append_assoc}
+use Rattle.std.proofs.Common.{ℕ, ℤ, ◌≤◌, List, ◌++◌, sym, ap, ◌∙◌, arith, append_assoc}
 use Rattle.port_122.specs.Outside.{Outside}
 use Rattle.port_122.proofs.Stretches.{since_out}
-use Rattle.base_122.specs.declared.setting.Setting.{Setting}
+use Rattle.strip_coder.specs.declared.plan.Plan.{Plan}
+use Rattle.strip_coder.specs.Plans.{IsPlan, whole}
+use Rattle.base_122.specs.Sizes.{total_blocks}
+use Rattle.base_122.proofs.SizeBounds.{first_block-lt}
 use Rattle.packet_defs.specs.Packets.{joined}
-use Rattle.stream_defs.specs.Output.{packets_of}
+use Rattle.stream_defs.specs.Output.{packets_of, tells_last}
 use Rattle.strip_coder.specs.Steps.{GoesOn, BreaksOff}
 
-pub goes_then : {p q r : Outside} (s : Setting) (all : List (List ℤ)) (a b c : ℕ) → GoesOn s all a b p q → GoesOn s all b c q r → GoesOn s all a c p r
+pub goes_then : {p q r : Outside} (s : Plan) (all : List (List ℤ)) (a b c : ℕ) → GoesOn s all a b p q → GoesOn s all b c q r → GoesOn s all a c p r
 goes_then s all a b c x y = record {
   gave = x.gave ++ y.gave;
   out = since_out x.out y.out;
-  then_are = sym (append_assoc (joined (packets_of s all a)) x.gave y.gave) ∙ ap (λ xs. xs ++ y.gave) x.then_are ∙ y.then_are;
+  then_are = sym (append_assoc (joined (packets_of (tells_last s.setting) (whole s) all a)) x.gave y.gave) ∙ ap (λ xs. xs ++ y.gave) x.then_are ∙ y.then_are;
 }
 
-pub breaks_then : {p q r : Outside} (s : Setting) (all : List (List ℤ)) (a b : ℕ) → GoesOn s all a b p q → BreaksOff s all b q r → BreaksOff s all a p r
-breaks_then s all a b x y = record {
+pub breaks_then : {p q r : Outside} (s : Plan) (all : List (List ℤ)) (a b n : ℕ) → GoesOn s all a b p q → BreaksOff s all b n q r → BreaksOff s all a n p r
+breaks_then s all a b n x y = record {
   gave = x.gave ++ y.gave;
   out = since_out x.out y.out;
+  index = y.index;
+  inside = y.inside;
+  there = y.there;
   some = y.some;
-  front = sym (append_assoc (joined (packets_of s all a)) x.gave y.gave) ∙ ap (λ xs. xs ++ y.gave) x.then_are ∙ y.front;
+  front = sym (append_assoc (joined (packets_of (tells_last s.setting) (whole s) all a)) x.gave y.gave) ∙ ap (λ xs. xs ++ y.gave) x.then_are ∙ y.front;
+}
+
+-- of more blocks that were gathered
+pub breaks_more : {p q : Outside} (s : Plan) (all : List (List ℤ)) (a n m : ℕ) → n ≤ m → BreaksOff s all a n p q → BreaksOff s all a m p q
+breaks_more s all a n m le x = record {
+  gave = x.gave;
+  out = x.out;
+  index = x.index;
+  inside = x.inside;
+  there = let there = x.there in omega (arith, there, le);
+  some = x.some;
+  front = x.front;
+}
+
+-- all segments have no more blocks than the image
+pub breaks_whole : {p q : Outside} (s : Plan) (all : List (List ℤ)) (a n : ℕ) → IsPlan s → BreaksOff s all a n p q → BreaksOff s all a (total_blocks s.setting.width s.rows) p q
+breaks_whole s all a n range x = record {
+  gave = x.gave;
+  out = x.out;
+  index = x.index;
+  inside = x.inside;
+  there =
+      let segment = range.in_range.segment in
+      let before = first_block-lt (total_blocks s.setting.width s.rows) s.setting.segment x.index (omega (arith, segment)) x.inside in
+      omega (arith, before);
+  some = x.some;
+  front = x.front;
 }

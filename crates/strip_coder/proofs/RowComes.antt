@@ -1,54 +1,62 @@
 -- A row of a raster more.
-use Rattle.std.proofs.Common.{◌≡◌, ℕ, ◌+◌, ◌-◌, ◌*◌, ◌<◌, ◌≤◌, ℤ, List, [], ◌++◌, length, take, refl, sym, ap, ◌∙◌, subst, arith, length-append}
-use Rattle.std.specs.Prelude.{Err, Vec}
+use Rattle.std.proofs.Common.{◌≡◌, ◌≢◌, ◌⊎◌, inl, inr, ◌/◌, ◌%◌, ◌==◌, Bool, true, false, ℕ, ◌+◌, ◌-◌, ◌*◌, ◌<◌, ◌≤◌, ℤ, List, [], ◌++◌, length, take, refl, sym, ap, ◌∙◌, subst, arith, length-append}
+use Rattle.std.specs.Prelude.{Err, Vec, ◌&&◌, nat_le}
+use Rattle.std.proofs.lemmas.Bool.{cases_lt}
+use Rattle.std.proofs.lemmas.Bool.Decides.{nat_tests}
+use Rattle.std.proofs.lemmas.Nat.{mod-mul-add}
 use Rattle.std.specs.Vec.{with_items}
-use Rattle.std.proofs.lemmas.List.{length-take-le, with_items_is}
-use Rattle.std.proofs.Math.Nat.{mul-le-mul_left, mul-le-mul_right}
+use Rattle.std.proofs.lemmas.List.{append-nil, nil_from_length, length-take-le, with_items_is}
+use Rattle.std.proofs.Math.Nat.{mul-le-mul_left, mul-le-mul_right, mul-div_left}
 use Rattle.port_122.specs.Outside.{Outside, Since, GivenBy}
 use Rattle.port_122.proofs.Stretches.{since_start, since_out, rose_since}
 use Rattle.port_122.proofs.ReadCalls.{since_prompt}
 use Rattle.wave_defs.specs.Held.{SameWithin, signal}
 use Rattle.base_122.specs.Ranges.{IsInRange}
+use Rattle.base_122.specs.Setting.{IsHeight, sized}
 use Rattle.base_122.specs.declared.setting.Setting.{Setting}
 use Rattle.packet_defs.specs.Packets.{joined}
-use Rattle.raster_rows.specs.Pixels.{IsPixel, pixel_at}
+use Rattle.raster_rows.specs.Pixels.{IsPixel, pixel_at, pixel_size, whole_pixels}
 use Rattle.raster_rows.specs.RowReads.{FirstInRange, BeginsWith, InRow, RowRead}
 use Rattle.raster_rows.specs.declared.reading.RowFault.{RowFault}
 use Rattle.raster_rows.specs.declared.reading.RowFault.TheVariants.{ReadFault, Short, BadPixel}
-use Rattle.raster_rows.proofs.PixelPlaces.{pixel_at-append_right}
-use Rattle.stream_defs.specs.Output.{image_blocks, packets_of}
-use Rattle.stream_defs.specs.Settled.{settled}
-use Rattle.stream_defs.proofs.ImageLaws.{images_settle}
+use Rattle.raster_rows.proofs.PixelPlaces.{pixel_at-append_right, size_some}
+use Rattle.stream_defs.specs.Output.{image_blocks, packets_of, tells_last}
+use Rattle.stream_defs.specs.SettledImages.{front_packets, settled_in}
+use Rattle.stream_defs.proofs.HeightLaws.{settled_alike}
+use Rattle.stream_defs.proofs.ImageLaws.{settled_rises}
 use Rattle.stream_defs.proofs.Outputs.{packets_of-none}
 use Rattle.strip_coder.specs.declared.encode.EncodeFault.TheVariants as encode_faults
 use Rattle.strip_coder.specs.declared.work.Work.{Work}
-use Rattle.strip_coder.specs.Rasters.{row_length, raster_length, image_of, AreInRange, settled_octets, given_for}
+use Rattle.strip_coder.specs.Rasters.{row_length, most_length, LacksRows, image_of, AreInRange, settled_octets, given_for}
 use Rattle.strip_coder.specs.Answers.{FirstBad, EncodesImage}
-use Rattle.strip_coder.specs.Works.{HasTaken, FollowsImage, StandsForNone, gathered_in}
+use Rattle.strip_coder.specs.Works.{HasTaken, FollowsRows, StandsForNone, gathered_in}
 use Rattle.strip_coder.specs.Steps.{IsRowInRange, RowIs, TakesRow, BreaksAt}
-use Rattle.strip_coder.specs.RowsIn.{fault_after, ShortOf, HasCome}
-use Rattle.strip_coder.proofs.RowTakes.{OnlyRow, row_follows}
-use Rattle.strip_coder.proofs.RowsGiven.{same_rows, same_octets, given_within}
+use Rattle.strip_coder.specs.RowsIn.{fault_after, ends_here, ShortOf, HasCome, HasAll}
+use Rattle.strip_coder.proofs.RowTakes.{OnlyRow, row_follows_any}
+use Rattle.strip_coder.proofs.RowsGiven.{same_rows, settled_same, same_octets, given_within}
 use Rattle.strip_coder.proofs.RowsTakenLaws.{row_pixels, all_whole, in_range-more, all_in_range-more, first_bad-more}
+use Rattle.strip_coder.specs.Plans.{plan_of, tallest}
+use Rattle.strip_coder.proofs.PlanLaws.{tall_height, tall_plan, open_last}
 use Rattle.strip_coder.proofs.SettledCounts.{count, few_gathered}
 use Rattle.strip_coder.proofs.FrontsGiven.{front_out, broke_off}
 
 -- ---- no row yet
 
 -- the first segment is present
-none_index : (s : Setting) (w : Work) → IsInRange s → HasTaken s 0 w → w.at.index ≡ 0
+none_index : (s : Setting) (w : Work) → IsInRange s → HasTaken (plan_of s (tallest s)) 0 w → w.at.index ≡ 0
 none_index s w range taken =
-    let rows = range.rows.0 in
-    let less : 0 < s.rows = omega (arith, rows) in
-    let few = few_gathered s range 0 w taken.running taken.strip_rows less in
-    let none : gathered_in s w.at ≡ 0 = omega (arith, count s range 0 w taken.running taken.strip_rows less) in
+    let tall = (tall_height s range).0.0 in
+    let less : 0 < tallest s = omega (arith, tall) in
+    let few = few_gathered (plan_of s (tallest s)) (tall_plan s range) 0 w taken.running taken.strip_rows (omega (arith, less)) in
+    let none : gathered_in (plan_of s (tallest s)) w.at ≡ 0 = omega (arith, count (plan_of s (tallest s)) (tall_plan s range) 0 w taken.running taken.strip_rows (omega (arith, less))) in
     let least : w.at.index * 16 ≤ w.at.index * s.segment = mul-le-mul_left {m = 16} {n = s.segment} w.at.index range.segment.0 in
     omega (arith, few, none, least)
 
 pub none_come : (s : Setting) (p : Outside) (w : Work) → IsInRange s → StandsForNone s w → HasCome s 0 p p w
 none_come s p w range start =
-    let none : joined (packets_of s (image_blocks s (image_of s [])) w.at.index) ≡ [] =
-    ap (λ n. joined (packets_of s (image_blocks s (image_of s [])) n)) (none_index s w range start.taken) ∙ ap joined (packets_of-none s (image_blocks s (image_of s []))) in
+    let all = image_blocks (sized s (tallest s)) (image_of s []) in
+    let none : joined (front_packets s (tallest s) (image_of s []) w.at.index) ≡ [] =
+    ap (λ n. joined (packets_of (tells_last s) (sized s (tallest s)) all n)) (none_index s w range start.taken) ∙ ap joined (packets_of-none (tells_last s) (sized s (tallest s)) all) in
     record {
       took = [];
       whole = omega arith;
@@ -76,18 +84,57 @@ row_holds s got v before after long begins = record { at = λ column lt. ap (λ 
 pub row_values : (s : Setting) (got : List ℕ) (row : List ℤ) → FirstInRange s.depth s.signed got s.width → HoldsRow s got row → IsRowInRange s row
 row_values s got row in_range holds = record { each = λ column lt. subst (IsPixel s.depth s.signed) (sym (holds.at column lt)) (in_range.each column lt) }
 
+-- ---- tests
+
+and_true : (a b : Bool) → (a && b) ≡ true → (a ≡ true) × (b ≡ true)
+and_true true b e = (refl, e)
+and_true false b e = absurd cc
+
+open_rows : (n : ℕ) → (n == 0) ≡ true → n ≡ 0
+open_rows n e = grind (arith, nat_tests)
+
+at_least : (n k : ℕ) → nat_le n k ≡ true → n ≤ k
+at_least n k e = grind (arith, nat_tests)
+
+fewer : (n k : ℕ) → nat_le n k ≡ false → k < n
+fewer n k e = grind (arith, nat_tests)
+
+-- ---- a raster that ends in a row
+
+below_all : (t size k octets total : ℕ) → k < t → octets < size → total ≡ k * size + octets → total < t * size
+below_all t size k octets total less few is =
+    let next : (k + 1) * size ≤ t * size = mul-le-mul_right {m = k + 1} {n = t} size (omega (arith, less)) in
+    let one : (k + 1) * size ≡ k * size + size = grind arith in
+    omega (arith, next, one, few, is)
+
+open_short : (k octets total size : ℕ) → octets < size → total ≡ k * size + octets → (nat_le 17 k && (octets == 0)) ≡ false → (total < 17 * size) ⊎ (total % size ≢ 0)
+open_short k octets total size few is h = elim (cases_lt 0 octets) [
+  | inl some ↦ inr (λ e. let rest : total % size ≡ octets = ap (λ n. n % size) is ∙ mod-mul-add k size octets few in omega (arith, e, rest, some))
+  | inr zero ↦ let none : (octets == 0) ≡ true = grind (arith, nat_tests) in inl (below_all 17 size k octets total (fewer 17 k (alone (nat_le 17 k) (octets == 0) none h)) few is)
+]
+  where
+    alone : (a b : Bool) → b ≡ true → (a && b) ≡ false → a ≡ false
+    alone true b e f = absurd cc
+    alone false b e f = refl
+
+row_short : (s : Setting) (k octets total : ℕ) → k < tallest s → octets < row_length s → total ≡ k * row_length s + octets → ends_here s k (Short octets) ≡ false → LacksRows s total
+row_short s k octets total less few is goes_on = record {
+  fewer = below_all (tallest s) (row_length s) k octets total less few is;
+  left_open = λ none. let e : (s.rows == 0) ≡ true = open_last s none in open_short k octets total (row_length s) few is (rw e at goes_on);
+}
+
 -- ---- after k rows
 
-module _ (s : Setting) (range : IsInRange s) (k : ℕ) (p q : Outside) (old : Work) (less : k < s.rows) (come : HasCome s k p q old) where
-  le : k ≤ s.rows
+module _ (s : Setting) (range : IsInRange s) (k : ℕ) (p q : Outside) (old : Work) (less : k < tallest s) (come : HasCome s k p q old) where
+  le : k ≤ tallest s
   le = omega (arith, less)
 
-  index : old.at.index ≡ settled s k
-  index = come.stands.taken.index less
+  index : old.at.index ≡ settled_in s (tallest s) k
+  index = come.stands.taken.index (inl less)
 
-  gave_is : joined (packets_of s (image_blocks s (image_of s come.took)) old.at.index) ≡ settled_octets s come.took k
+  gave_is : joined (front_packets s (tallest s) (image_of s come.took) old.at.index) ≡ settled_octets s come.took k
   unfolding settled_octets
-  gave_is = ap (λ n. joined (packets_of s (image_blocks s (image_of s come.took)) n)) index
+  gave_is = ap (λ n. joined (front_packets s (tallest s) (image_of s come.took) n)) index
 
   so_far : Since p q come.took (settled_octets s come.took k) [] (GivenBy (given_for s) come.took)
   so_far = subst (λ g. Since p q come.took g [] (GivenBy (given_for s) come.took)) gave_is come.since
@@ -102,15 +149,16 @@ module _ (s : Setting) (range : IsInRange s) (k : ℕ) (p q : Outside) (old : Wo
       let same = given_within s k come.took (take i got) range le come.whole short in
       omega (arith, r.1, ap length same))
 
-  row_below : k * row_length s + row_length s ≤ raster_length s
+  row_below : k * row_length s + row_length s ≤ most_length s
   row_below =
-      let next : (k + 1) * row_length s ≤ s.rows * row_length s = mul-le-mul_right {m = k + 1} {n = s.rows} (row_length s) (omega (arith, less)) in
-      omega (arith, next)
+      let next : (k + 1) * row_length s ≤ tallest s * row_length s = mul-le-mul_right {m = k + 1} {n = tallest s} (row_length s) (omega (arith, less)) in
+      let one : (k + 1) * row_length s ≡ k * row_length s + row_length s = grind arith in
+      subst (λ n. n ≤ tallest s * row_length s) one next
 
   -- the row wasn't read to its end
-  pub row_lacks : {T : Type 0} {m : Outside} (before after : List ℤ) (fault : RowFault) → RowRead {T = T} s.depth s.signed s.width k q m before after (Err fault) →
+  pub row_lacks : {T : Type 0} {m : Outside} (before after : List ℤ) (fault : RowFault) → RowRead {T = T} s.depth s.signed s.width k q m before after (Err fault) → ends_here s k fault ≡ false →
       EncodesImage s p m (Err (fault_after (k * row_length s) fault))
-  row_lacks before after ReadFault read =
+  row_lacks before after ReadFault read goes_on =
       let size = length-append come.took read.took in
       let inside = read.answer.1.inside in
       record {
@@ -124,7 +172,7 @@ module _ (s : Setting) (range : IsInRange s) (k : ℕ) (p q : Outside) (old : Wo
           sym (given_within s k come.took read.took range le come.whole inside),
         );
       }
-  row_lacks before after (Short octets) read =
+  row_lacks before after (Short octets) read goes_on =
       let size = length-append come.took read.took in
       let inside = read.answer.2.inside in
       let count = read.answer.0 in
@@ -134,13 +182,13 @@ module _ (s : Setting) (range : IsInRange s) (k : ℕ) (p q : Outside) (old : Wo
         since = part_taken read.took read.since;
         answer = (
           omega (arith, size, count, come.whole),
-          omega (arith, size, inside, come.whole, row_below),
+          row_short s k octets (length (come.took ++ read.took)) less (omega (arith, count, inside)) (omega (arith, size, count, come.whole)) goes_on,
           read.answer.1,
           all_in_range-more s k come.took read.took come.whole come.in_range read.answer.2.in_range,
           sym (given_within s k come.took read.took range le come.whole inside),
         );
       }
-  row_lacks before after (BadPixel row column value) read =
+  row_lacks before after (BadPixel row column value) read goes_on =
       let size = length-append come.took read.took in
       let most = read.answer.1 in
       let bad = first_bad-more s k column value come.took read.took come.whole come.in_range most read.answer.2 in
@@ -155,6 +203,45 @@ module _ (s : Setting) (range : IsInRange s) (k : ℕ) (p q : Outside) (old : Wo
           subst (λ r. settled_octets s come.took k ≡ settled_octets s (come.took ++ read.took) r) at (sym (same_octets s k come.took read.took range le come.whole)),
         );
       }
+
+  -- no octet of it was there, and the rows before are all
+  pub row_ends : {T : Type 0} {m : Outside} (mid : Work) (before after : List ℤ) (fault : RowFault) → RowRead {T = T} s.depth s.signed s.width k q m before after (Err fault) → ends_here s k fault ≡ true →
+      OnlyRow old mid → HasTaken (plan_of s (tallest s)) k mid → ((j : ℕ) → signal mid.row.items j ≡ signal after j) → ((j : ℕ) → signal before j ≡ signal old.row.items j) → (s.rows ≡ 0) × HasAll s p m mid
+  row_ends mid before after ReadFault read ends only taken here there = absurd cc
+  row_ends mid before after (BadPixel row column value) read ends only taken here there = absurd cc
+  row_ends {m = m} mid before after (Short octets) read ends only taken here there =
+      let tests = and_true (s.rows == 0) (nat_le 17 k && (octets == 0)) ends in
+      let more = and_true (nat_le 17 k) (octets == 0) tests.1 in
+      let left_open : s.rows ≡ 0 = open_rows s.rows tests.0 in
+      let least : 17 ≤ k = at_least 17 k more.0 in
+      let most = (tall_height s range).0.1 in
+      let empty : length read.took ≡ 0 = sym read.answer.0 ∙ open_rows octets more.1 in
+      let same_took : come.took ++ read.took ≡ come.took = ap (λ t. come.took ++ t) (nil_from_length read.took empty) ∙ append-nil come.took in
+      let pixels : whole_pixels s.depth read.took ≡ 0 =
+      ap (λ n. n / pixel_size s.depth) (empty ∙ (let z : 0 ≡ 0 * pixel_size s.depth = omega arith in z)) ∙ mul-div_left 0 {n = pixel_size s.depth} (size_some s.depth) in
+      let row : (j : ℕ) → signal mid.row.items j ≡ signal old.row.items j = λ j. here j ∙ read.answer.2.begins.others j (omega (arith, pixels)) ∙ there j in
+      let gave : settled_octets s come.took k ≡ joined (front_packets s (tallest s) (image_of s come.took) mid.at.index) =
+      sym gave_is ∙ ap (λ n. joined (front_packets s (tallest s) (image_of s come.took) n)) (sym (ap (λ a. a.index) only.at)) in
+      let so : Since p m come.took (settled_octets s come.took k) [] (GivenBy (given_for s) come.took) =
+      subst (λ t. Since p m t (settled_octets s come.took k) [] (GivenBy (given_for s) t)) same_took (part_taken read.took read.since) in
+      let now : HasCome s k p m mid = record {
+        took = come.took;
+        whole = come.whole;
+        in_range = come.in_range;
+        stands = record { taken = taken; follows = λ y same. row_follows_any s y old mid only (come.stands.follows y same) };
+        last = λ some. let l = come.last some in record {
+          in_range = record { each = λ column lt. subst (IsPixel s.depth s.signed) (sym (row column)) (l.in_range.each column lt) };
+          same = record { at = λ j lt. row j ∙ l.same.at j lt };
+        };
+        since = subst (λ g. Since p m come.took g [] (GivenBy (given_for s) come.took)) gave so;
+      } in (
+        left_open,
+        record {
+          height = subst (IsHeight s) (sym taken.rows) ((least, omega (arith, less, most)), inl left_open);
+          come = subst (λ n. HasCome s n p m mid) (sym taken.rows) now;
+          ended = λ none. read.answer.1;
+        },
+      )
 
   -- ---- the row was read
 
@@ -175,21 +262,22 @@ module _ (s : Setting) (range : IsInRange s) (k : ℕ) (p q : Outside) (old : Wo
       at = λ i j hi hj. sym ((same_rows s k come.took got come.whole).at i j hi hj) ∙ same.at i j (omega (arith, hi)) hj;
     }
 
-    follows : (y : ℕ → ℕ → ℤ) → SameWithin (k + 1) s.width (image_of s (come.took ++ got)) y → FollowsImage s y mid
-    follows y same = row_follows s y old mid only (come.stands.follows y (before_is y same))
+    follows : (y : ℕ → ℕ → ℤ) → SameWithin (k + 1) s.width (image_of s (come.took ++ got)) y → FollowsRows s y mid
+    follows y same = row_follows_any s y old mid only (come.stands.follows y (before_is y same))
 
     itself : SameWithin (k + 1) s.width (image_of s (come.took ++ got)) (image_of s (come.took ++ got))
     itself = record { at = λ i j hi hj. refl }
 
-    mid_index : mid.at.index ≡ settled s k
+    mid_index : mid.at.index ≡ settled_in s (tallest s) k
     mid_index = ap (λ a. a.index) only.at ∙ index
 
     -- what is given is that of each image that begins so
-    gave_same : (y : ℕ → ℕ → ℤ) → SameWithin (k + 1) s.width (image_of s (come.took ++ got)) y → settled_octets s come.took k ≡ joined (packets_of s (image_blocks s y) mid.at.index)
-    unfolding settled_octets
-    gave_same y same =
-        ap joined (images_settle s range k (image_of s come.took) y le (before_is y same))
-        ∙ ap (λ n. joined (packets_of s (image_blocks s y) n)) (sym mid_index)
+    gave_same : (rows : ℕ) (y : ℕ → ℕ → ℤ) → IsHeight s rows → k + 1 ≤ rows → SameWithin (k + 1) s.width (image_of s (come.took ++ got)) y →
+        settled_octets s come.took k ≡ joined (front_packets s rows y mid.at.index)
+    gave_same rows y height least same =
+        let le' : k ≤ rows = omega (arith, least) in
+        settled_same s rows k come.took y range height le le' (before_is y same)
+        ∙ ap (λ n. joined (front_packets s rows y n)) (sym (mid_index ∙ settled_alike s (tallest s) rows k range (tall_height s range) height le le'))
 
     rows_now : (k + 1) * row_length s ≡ k * row_length s + row_length s
     rows_now = grind arith
@@ -205,8 +293,8 @@ module _ (s : Setting) (range : IsInRange s) (k : ℕ) (p q : Outside) (old : Wo
     pub row_comes : {r : Outside} (new : Work) → TakesRow s k m r mid new → HasCome s (k + 1) p r new
     row_comes {r = r} new takes =
         let goes = takes.goes (image_of s (come.took ++ got)) (follows (image_of s (come.took ++ got)) itself) (row_is (image_of s (come.took ++ got)) itself) in
-        let gave : settled_octets s come.took k ++ goes.gave ≡ joined (packets_of s (image_blocks s (image_of s (come.took ++ got))) new.at.index) =
-        ap (λ g. g ++ goes.gave) (gave_same (image_of s (come.took ++ got)) itself) ∙ goes.then_are in
+        let gave : settled_octets s come.took k ++ goes.gave ≡ joined (front_packets s (tallest s) (image_of s (come.took ++ got)) new.at.index) =
+        ap (λ g. g ++ goes.gave) (gave_same (tallest s) (image_of s (come.took ++ got)) (tall_height s range) (omega (arith, less)) itself) ∙ goes.then_are in
         let back : (k + 1) - 1 ≡ k = omega arith in
         record {
           took = come.took ++ got;
@@ -222,10 +310,11 @@ module _ (s : Setting) (range : IsInRange s) (k : ℕ) (p q : Outside) (old : Wo
 
     pub row_breaks_off : {r : Outside} (new : Work) → BreaksAt s k m r mid new → EncodesImage s p r (Err encode_faults.WriteFault)
     row_breaks_off {r = r} new breaks =
-        let few = come.stands.taken.running.gathered.index in
-        let same = ap (λ a. a.index) only.at in
+        let rises = settled_rises (tells_last s) (sized s (tallest s)) k (k + 1) (omega arith) (omega (arith, less)) in
+        let here = mid_index in
+        let settled_now : mid.at.index ≤ settled_in s (tallest s) (k + 1) = omega (arith, here, rises) in
         broke_off s (come.took ++ got) (settled_octets s come.took k) (k + 1) mid.at.index (part_taken got read)
         (record { whole = took_whole; most = omega (arith, less); in_range = all_whole s (k + 1) (come.took ++ got) took_whole took_in_range })
         breaks.rose
-        (front_out s (k + 1) (image_of s (come.took ++ got)) mid.at.index (omega (arith, few, same)) (λ y h. breaks.breaks y (follows y h) (row_is y h)))
+        (front_out s range (k + 1) mid.at.index (omega (arith, less)) settled_now (image_of s (come.took ++ got)) (λ y h. breaks.breaks y (follows y h) (row_is y h)))
         gave_same

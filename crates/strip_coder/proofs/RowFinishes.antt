@@ -4,9 +4,9 @@ use Rattle.std.specs.Prelude.{MatchOption, is_some}
 use Rattle.std.specs.Result.{IsErr}
 use Rattle.std.proofs.Math.Nat.{mul-le-mul_left}
 use Rattle.port_122.specs.Outside.{Outside}
-use Rattle.base_122.specs.Ranges.{IsInRange}
+use Rattle.strip_coder.specs.Plans.{IsPlan, whole}
 use Rattle.base_122.specs.Sizes.{block_count, total_blocks}
-use Rattle.base_122.specs.declared.setting.Setting.{Setting}
+use Rattle.strip_coder.specs.declared.plan.Plan.{Plan}
 use Rattle.wave_defs.specs.Pyramid.{padded}
 use Rattle.block_families.specs.Places.{gathered}
 use Rattle.wave_strip.specs.declared.strip.StripWave.{StripWave}
@@ -17,6 +17,7 @@ use Rattle.strip_coder.specs.Works.{StripFollows, gathered_in}
 use Rattle.strip_coder.specs.Steps.{NextAre, HasGone, HasBroken, GoesOn, BreaksOff, IsEnding, HasFinished, Finishes}
 use Rattle.strip_coder.proofs.RowGathers.{next_are}
 use Rattle.strip_coder.proofs.RowPushes.{OnlyStrip, only_holds}
+use Rattle.strip_coder.proofs.PacketStretches.{breaks_whole}
 
 -- the next block row of so many stands
 pub record StripFinished (old new : StripWave) : Type 0 where
@@ -45,44 +46,44 @@ row_finished (Some r) old new e columns rows answer standing follows shows = rec
 row_finished None old new e columns rows answer standing follows shows = absurd cc
 
 -- there is room for it
-pub has_room : (s : Setting) (old : Work) (strip : StripWave) → IsEnding s old → StripFinished old.strip strip → gathered_in s old.at + block_count s.width ≤ total_blocks s.width s.rows
+pub has_room : (s : Plan) (old : Work) (strip : StripWave) → IsEnding s old → StripFinished old.strip strip → gathered_in s old.at + block_count s.setting.width ≤ total_blocks s.setting.width s.rows
 has_room s old strip ending finished =
     let lt = finished.below in
     let rows = ending.rows in
-    let next : block_count s.width * (answered_of old.strip + 1) ≤ block_count s.width * block_count s.rows = mul-le-mul_left (block_count s.width) (omega (arith, lt, rows)) in
-    let more : block_count s.width * (answered_of old.strip + 1) ≡ block_count s.width * answered_of old.strip + block_count s.width = grind arith in
+    let next : block_count s.setting.width * (answered_of old.strip + 1) ≤ block_count s.setting.width * block_count s.rows = mul-le-mul_left (block_count s.setting.width) (omega (arith, lt, rows)) in
+    let more : block_count s.setting.width * (answered_of old.strip + 1) ≡ block_count s.setting.width * answered_of old.strip + block_count s.setting.width = grind arith in
     let at = ending.count in
     omega (arith, next, at, more)
 
-module _ (s : Setting) (range : IsInRange s) (old mid : Work) (ending : IsEnding s old) (only : OnlyStrip old mid) (finished : StripFinished old.strip mid.strip) where
-  whole : rows_of old.strip ≡ 8 * block_count s.rows
-  whole = let rows = ending.rows in omega (arith, rows)
+module _ (s : Plan) (range : IsPlan s) (old mid : Work) (ending : IsEnding s old) (only : OnlyStrip old mid) (finished : StripFinished old.strip mid.strip) where
+  all_rows : rows_of old.strip ≡ 8 * block_count s.rows
+  all_rows = let rows = ending.rows in omega (arith, rows)
 
   below : answered_of old.strip < block_count s.rows
   below = let lt = finished.below in let rows = ending.rows in omega (arith, lt, rows)
 
-  place : gathered_in s mid.at ≡ block_count s.width * answered_of old.strip
+  place : gathered_in s mid.at ≡ block_count s.setting.width * answered_of old.strip
   place = ap (gathered_in s) only.at ∙ ending.count
 
-  more : block_count s.width * (answered_of old.strip + 1) ≡ block_count s.width * answered_of old.strip + block_count s.width
+  more : block_count s.setting.width * (answered_of old.strip + 1) ≡ block_count s.setting.width * answered_of old.strip + block_count s.setting.width
   more = grind arith
 
   mid_follows : (x : ℕ → ℕ → ℤ) → StripFollows s x old → StripFollows s x mid
-  mid_follows x follows = finished.follows (padded x s.rows s.width) (block_count s.rows) whole follows
+  mid_follows x follows = finished.follows (padded x s.rows s.setting.width) (block_count s.rows) all_rows follows
 
-  next_blocks : (x : ℕ → ℕ → ℤ) → StripFollows s x mid → NextAre s mid (block_count s.width) (gathered (number_in mid.strip) s.weights.shifts) (image_blocks s x)
+  next_blocks : (x : ℕ → ℕ → ℤ) → StripFollows s x mid → NextAre s mid (block_count s.setting.width) (gathered (number_in mid.strip) s.setting.weights.shifts) (image_blocks (whole s) x)
   next_blocks x follows =
       next_are s x mid (answered_of old.strip) range (finished.columns ∙ ending.gathered.made.strip) finished.answered below place
-      (finished.shows (padded x s.rows s.width) (block_count s.rows) finished.stands (finished.rows ∙ whole) follows)
+      (finished.shows (padded x s.rows s.setting.width) (block_count s.rows) finished.stands (finished.rows ∙ all_rows) follows)
 
   same_index : mid.at.index ≡ old.at.index
   same_index = ap (λ a. a.index) only.at
 
-  pub finished_gone : {p q : Outside} (new : Work) → HasGone s (gathered (number_in mid.strip) s.weights.shifts) (block_count s.width) p q mid new → HasFinished s p q old new
+  pub finished_gone : {p q : Outside} (new : Work) → HasGone s (gathered (number_in mid.strip) s.setting.weights.shifts) (block_count s.setting.width) p q mid new → HasFinished s p q old new
   finished_gone {p = p} {q = q} new gone =
       let strip = gone.stays.strip in
       let answered : answered_of new.strip ≡ answered_of old.strip + 1 = ap answered_of strip ∙ finished.answered in
-      let now : block_count s.width * answered_of new.strip ≡ block_count s.width * (answered_of old.strip + 1) = ap (λ n. block_count s.width * n) answered in
+      let now : block_count s.setting.width * answered_of new.strip ≡ block_count s.setting.width * (answered_of old.strip + 1) = ap (λ n. block_count s.setting.width * n) answered in
       let count = gone.count in
       let at = place in
       let e = more in
@@ -99,20 +100,21 @@ module _ (s : Setting) (range : IsInRange s) (old mid : Work) (ending : IsEnding
         follows = λ x f.
             let m = mid_follows x f.strip in
             record {
-              strip = subst (λ t. Follows (padded x s.rows s.width) (block_count s.rows) t) (sym strip) m;
-              holds = gone.holds (image_blocks s x) (next_blocks x m) (only_holds s old mid only (image_blocks s x) f.holds);
+              strip = subst (λ t. Follows (padded x s.rows s.setting.width) (block_count s.rows) t) (sym strip) m;
+              holds = gone.holds (image_blocks (whole s) x) (next_blocks x m) (only_holds s old mid only (image_blocks (whole s) x) f.holds);
             };
         goes = λ x f.
-            subst (λ n. GoesOn s (image_blocks s x) n new.at.index p q) same_index
-            (gone.goes (image_blocks s x) (next_blocks x (mid_follows x f.strip)) (only_holds s old mid only (image_blocks s x) f.holds));
+            subst (λ n. GoesOn s (image_blocks (whole s) x) n new.at.index p q) same_index
+            (gone.goes (image_blocks (whole s) x) (next_blocks x (mid_follows x f.strip)) (only_holds s old mid only (image_blocks (whole s) x) f.holds));
       }
 
-  pub finished_broken : {E : Type 0} (p q : Outside) (r : Result Bool E) (new : Work) → IsErr r → HasBroken s (gathered (number_in mid.strip) s.weights.shifts) (block_count s.width) p q mid new → Finishes r s p q old new
+  pub finished_broken : {E : Type 0} (p q : Outside) (r : Result Bool E) (new : Work) → IsErr r → HasBroken s (gathered (number_in mid.strip) s.setting.weights.shifts) (block_count s.setting.width) p q mid new → Finishes r s p q old new
   finished_broken p q (Ok x) new h broken = absurd cc
   finished_broken p q (Err x) new h broken = record {
     made = broken.made;
     rose = broken.rose;
     breaks = λ x f.
-        subst (λ n. BreaksOff s (image_blocks s x) n p q) same_index
-        (broken.breaks (image_blocks s x) (next_blocks x (mid_follows x f.strip)) (only_holds s old mid only (image_blocks s x) f.holds));
+        breaks_whole s (image_blocks (whole s) x) old.at.index (gathered_in s mid.at + block_count s.setting.width) range
+        (subst (λ n. BreaksOff s (image_blocks (whole s) x) n (gathered_in s mid.at + block_count s.setting.width) p q) same_index
+        (broken.breaks (image_blocks (whole s) x) (next_blocks x (mid_follows x f.strip)) (only_holds s old mid only (image_blocks (whole s) x) f.holds)));
   }

@@ -4,9 +4,9 @@ use Rattle.std.proofs.lemmas.List.{same_lists}
 use Rattle.std.proofs.lemmas.List.FromFn.{get_or-map-range_with_len, length-map-range_with_len}
 use Rattle.std.proofs.lemmas.Nat.{div-mul-add, mod-mul-add}
 use Rattle.std.proofs.Math.Nat.{mul-le-mul_left}
-use Rattle.base_122.specs.Ranges.{IsInRange}
+use Rattle.strip_coder.specs.Plans.{IsPlan, whole}
 use Rattle.base_122.specs.Sizes.{block_count, total_blocks}
-use Rattle.base_122.specs.declared.setting.Setting.{Setting}
+use Rattle.strip_coder.specs.declared.plan.Plan.{Plan}
 use Rattle.wave_defs.specs.Pyramid.{Pyramid, padded, pyramid, band_of}
 use Rattle.wave_defs.specs.Blocks.{block, coefficient, block_side, weight_at}
 use Rattle.wave_defs.proofs.BlockLaws.{length-block, get_or-block}
@@ -47,24 +47,24 @@ quotient c r j lt =
     let e : c * r + j ≡ r * c + j = grind arith in
     (ap (λ n. n / c) e ∙ div-mul-add r c j lt, ap (λ n. n % c) e ∙ mod-mul-add r c j lt)
 
-pub next_are : (s : Setting) (x : ℕ → ℕ → ℤ) (w : Work) (row : ℕ) → IsInRange s → columns_of w.strip ≡ block_count s.width → answered_of w.strip ≡ row + 1 → row < block_count s.rows →
-    gathered_in s w.at ≡ block_count s.width * row → ShowsBlockRow (padded x s.rows s.width) (block_count s.rows) w.strip →
-    NextAre s w (block_count s.width) (gathered (number_in w.strip) s.weights.shifts) (image_blocks s x)
+pub next_are : (s : Plan) (x : ℕ → ℕ → ℤ) (w : Work) (row : ℕ) → IsPlan s → columns_of w.strip ≡ block_count s.setting.width → answered_of w.strip ≡ row + 1 → row < block_count s.rows →
+    gathered_in s w.at ≡ block_count s.setting.width * row → ShowsBlockRow (padded x s.rows s.setting.width) (block_count s.rows) w.strip →
+    NextAre s w (block_count s.setting.width) (gathered (number_in w.strip) s.setting.weights.shifts) (image_blocks (whole s) x)
 next_are s x w row range columns answered lt count shows =
-    let c = block_count s.width in
+    let c = block_count s.setting.width in
     let r = block_count s.rows in
     record {
-      whole = length-image_blocks s x;
+      whole = length-image_blocks (whole s) x;
       next = λ j inside.
           let place : gathered_in s w.at + j ≡ c * row + j = omega (arith, count) in
           let next : c * (row + 1) ≤ c * r = mul-le-mul_left c (omega (arith, lt)) in
           let more : c * (row + 1) ≡ c * row + c = grind arith in
-          let below : c * row + j < total_blocks s.width s.rows = omega (arith, next, more, inside) in
+          let below : c * row + j < total_blocks s.setting.width s.rows = omega (arith, next, more, inside) in
           let q = quotient c row j inside in
-          ap (λ k. get_or (image_blocks s x) k []) place
-          ∙ image_block s x (c * row + j) [] below
-          ∙ ap (λ k. block (pyramid (padded x s.rows s.width) r c) s.weights.shifts k ((c * row + j) % c)) q.0
-          ∙ ap (λ k. block (pyramid (padded x s.rows s.width) r c) s.weights.shifts row k) q.1
-          ∙ sym (shown_block (padded x s.rows s.width) w.strip s.weights.shifts r row j shows answered (omega (arith, columns, inside))
-          ∙ ap (λ n. block (pyramid (padded x s.rows s.width) r n) s.weights.shifts row j) columns);
+          ap (λ k. get_or (image_blocks (whole s) x) k []) place
+          ∙ image_block (whole s) x (c * row + j) [] below
+          ∙ ap (λ k. block (pyramid (padded x s.rows s.setting.width) r c) s.setting.weights.shifts k ((c * row + j) % c)) q.0
+          ∙ ap (λ k. block (pyramid (padded x s.rows s.setting.width) r c) s.setting.weights.shifts row k) q.1
+          ∙ sym (shown_block (padded x s.rows s.setting.width) w.strip s.setting.weights.shifts r row j shows answered (omega (arith, columns, inside))
+          ∙ ap (λ n. block (pyramid (padded x s.rows s.setting.width) r n) s.setting.weights.shifts row j) columns);
     }

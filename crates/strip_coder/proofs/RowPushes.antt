@@ -4,9 +4,10 @@ use Rattle.std.specs.Prelude.{MatchOption, is_some}
 use Rattle.std.proofs.lemmas.List.{append-nil}
 use Rattle.port_122.specs.Outside.{Outside, NoRead}
 use Rattle.port_122.proofs.Stretches.{since_start}
-use Rattle.base_122.specs.Ranges.{IsInRange}
+use Rattle.strip_coder.specs.Plans.{IsPlan, plan_of, whole}
+use Rattle.base_122.specs.Ranges.{IsWithin, rows_range}
 use Rattle.base_122.specs.Sizes.{block_count, padded_size}
-use Rattle.base_122.specs.declared.setting.Setting.{Setting}
+use Rattle.strip_coder.specs.declared.plan.Plan.{Plan}
 use Rattle.base_122.proofs.SizeBounds.{three-le-block_count}
 use Rattle.packet_defs.specs.Packets.{joined}
 use Rattle.wave_defs.specs.Held.{Agrees, signal}
@@ -15,11 +16,12 @@ use Rattle.block_families.specs.Places.{gathered}
 use Rattle.wave_strip.specs.declared.strip.StripWave.{StripWave}
 use Rattle.wave_strip.specs.Strip.{rows_of, answered_of, columns_of, has_ended, is_standing, number_in, Follows, ShowsBlockRow}
 use Rattle.wave_strip.specs.Counts.{settled}
-use Rattle.stream_defs.specs.Output.{image_blocks, packets_of}
+use Rattle.stream_defs.specs.Output.{image_blocks, packets_of, tells_last}
 use Rattle.strip_coder.specs.declared.work.Work.{Work}
 use Rattle.strip_coder.specs.Works.{IsMadeFor, HasGathered, IsRunning, HoldsBlocks, StripFollows, gathered_in}
 use Rattle.strip_coder.specs.Steps.{NextAre, NextRowIs, HasGone, HasBroken, Gathers, GoesOn, BreaksOff, HasPushed, HasNotPushed, Pushes}
 use Rattle.strip_coder.proofs.RowGathers.{next_are}
+use Rattle.strip_coder.proofs.PacketStretches.{breaks_more}
 
 -- what push_row says of a strip
 pub record StripPushed (old new : StripWave) (row : List ℤ) : Type 0 where
@@ -39,10 +41,11 @@ pub record OnlyStrip (old mid : Work) : Type 0 where
   pub room : mid.room ≡ old.room
   pub at : mid.at ≡ old.at
 
-pub only_holds : (s : Setting) (old mid : Work) → OnlyStrip old mid → (all : List (List ℤ)) → HoldsBlocks s all old → HoldsBlocks s all mid
+pub only_holds : (s : Plan) (old mid : Work) → OnlyStrip old mid → (all : List (List ℤ)) → HoldsBlocks s all old → HoldsBlocks s all mid
 only_holds s old mid only all holds = record {
   blocks = rw (only.at, only.blocks) holds.blocks;
   packets = rw (only.at, only.packets) holds.packets;
+  used = rw only.at holds.used;
 }
 
 -- the block row that came: its rows, its number, and that it stands
@@ -60,15 +63,15 @@ pub none_came : (o : Option ℕ) (rows : ℕ) → is_some o ≡ false → MatchO
 none_came (Some r) rows e h = absurd cc
 none_came None rows e h = h
 
-module _ (s : Setting) (range : IsInRange s) (old mid : Work) (running : IsRunning s old) (few : rows_of old.strip < padded_size s.rows) (only : OnlyStrip old mid) (pushed : StripPushed old.strip mid.strip old.row.items) where
+module _ (s : Plan) (range : IsPlan s) (old mid : Work) (running : IsRunning s old) (few : rows_of old.strip < padded_size s.rows) (only : OnlyStrip old mid) (pushed : StripPushed old.strip mid.strip old.row.items) where
   tall : 3 ≤ block_count s.rows
-  tall = three-le-block_count s.rows range.rows.0
+  tall = three-le-block_count s.rows range.height.0.0
 
-  mid_made : IsMadeFor s mid
+  mid_made : IsMadeFor s.setting mid
   mid_made = let made = running.gathered.made in record {
     row = ap (λ v. vec_len v) only.row ∙ made.row;
-    blocks = ap (λ v. vec_len v) only.blocks ∙ made.blocks;
-    marks = ap (λ v. vec_len v) only.marks ∙ made.marks;
+    blocks = rw only.blocks made.blocks;
+    marks = rw only.marks made.marks;
     strip = pushed.columns ∙ made.strip;
     packet = ap (λ v. v.packet) only.packets ∙ made.packet;
     room = only.room ∙ made.room;
@@ -77,6 +80,7 @@ module _ (s : Setting) (range : IsInRange s) (old mid : Work) (running : IsRunni
   pub mid_gathered : HasGathered s mid
   mid_gathered = let has = running.gathered in record {
     made = mid_made;
+    share = rw only.at has.share;
     index = rw only.at has.index;
     present = rw only.at has.present;
     none = rw only.at has.none;
@@ -89,13 +93,19 @@ module _ (s : Setting) (range : IsInRange s) (old mid : Work) (running : IsRunni
   mid_holds all holds = record {
     blocks = rw (only.at, only.blocks) holds.blocks;
     packets = rw (only.at, only.packets) holds.packets;
+    used = rw only.at holds.used;
   }
 
+  -- the strip follows images of any height
+  mid_strip : (x : ℕ → ℕ → ℤ) (rows : ℕ) → IsWithin rows_range rows → rows_of old.strip < padded_size rows → StripFollows (plan_of s.setting rows) x old → NextRowIs (plan_of s.setting rows) x old →
+      StripFollows (plan_of s.setting rows) x mid
+  mid_strip x rows high below follows next =
+      let columns : 8 * columns_of old.strip ≡ padded_size s.setting.width = (let made = running.gathered.made.strip in omega (arith, made)) in
+      pushed.follows (padded x rows s.setting.width) (block_count rows) (three-le-block_count rows high.0) (omega (arith, below)) follows
+      (subst (λ n. Agrees n (signal old.row.items) (padded x rows s.setting.width (rows_of old.strip))) (sym columns) next)
+
   mid_follows : (x : ℕ → ℕ → ℤ) → StripFollows s x old → NextRowIs s x old → StripFollows s x mid
-  mid_follows x follows next =
-      let columns : 8 * columns_of old.strip ≡ padded_size s.width = (let made = running.gathered.made.strip in omega (arith, made)) in
-      pushed.follows (padded x s.rows s.width) (block_count s.rows) tall (omega (arith, few)) follows
-      (subst (λ n. Agrees n (signal old.row.items) (padded x s.rows s.width (rows_of old.strip))) (sym columns) next)
+  mid_follows x follows next = mid_strip x s.rows range.height.0 few follows next
 
   same_index : mid.at.index ≡ old.at.index
   same_index = ap (λ a. a.index) only.at
@@ -105,18 +115,19 @@ module _ (s : Setting) (range : IsInRange s) (old mid : Work) (running : IsRunni
   pushed_none {p = p} none =
       let rows = pushed.rows in
       let same : settled (rows_of mid.strip) ≡ settled (rows_of old.strip) = (let apart = none ((rows_of old.strip - 28) / 8) in omega (arith, apart, rows)) in
-      let count : gathered_in s mid.at ≡ block_count s.width * settled (rows_of mid.strip) = ap (gathered_in s) only.at ∙ running.count ∙ ap (λ n. block_count s.width * n) (sym same) in
+      let count : gathered_in s mid.at ≡ block_count s.setting.width * settled (rows_of mid.strip) = ap (gathered_in s) only.at ∙ running.count ∙ ap (λ n. block_count s.setting.width * n) (sym same) in
       record {
         running = record { gathered = mid_gathered; count = count; answered = pushed.answered; running = pushed.running };
         strip_rows = rows;
         row = only.row;
         rows = ap (λ a. a.rows) only.at;
         faults = omega arith;
-        follows = λ x follows next. record { strip = mid_follows x follows.strip next; holds = mid_holds (image_blocks s x) follows.holds };
+        follows = λ x follows next. record { strip = mid_follows x follows.strip next; holds = mid_holds (image_blocks (whole s) x) follows.holds };
+        strip = λ x rows high below follows next. mid_strip x rows high (omega (arith, below)) follows next;
         goes = λ x follows next. record {
           gave = [];
           out = since_start p NoRead;
-          then_are = append-nil (joined (packets_of s (image_blocks s x) old.at.index)) ∙ ap (λ n. joined (packets_of s (image_blocks s x) n)) (sym same_index);
+          then_are = append-nil (joined (packets_of (tells_last s.setting) (whole s) (image_blocks (whole s) x) old.at.index)) ∙ ap (λ n. joined (packets_of (tells_last s.setting) (whole s) (image_blocks (whole s) x) n)) (sym same_index);
         };
       }
 
@@ -127,19 +138,19 @@ module _ (s : Setting) (range : IsInRange s) (old mid : Work) (running : IsRunni
     settled_now : settled (rows_of mid.strip) ≡ came.block_row + 1
     settled_now = let e = came.rows in omega (arith, e)
 
-    next_blocks : (x : ℕ → ℕ → ℤ) → StripFollows s x mid → NextAre s mid (block_count s.width) (gathered (number_in mid.strip) s.weights.shifts) (image_blocks s x)
+    next_blocks : (x : ℕ → ℕ → ℤ) → StripFollows s x mid → NextAre s mid (block_count s.setting.width) (gathered (number_in mid.strip) s.setting.weights.shifts) (image_blocks (whole s) x)
     next_blocks x follows =
         let rows = pushed.rows in
         let e = came.rows in
         let last : rows_of mid.strip ≤ 8 * block_count s.rows = omega (arith, rows, few) in
         next_are s x mid came.block_row range mid_made.strip (pushed.answered ∙ settled_now) (omega (arith, e, last))
-        (ap (gathered_in s) only.at ∙ running.count ∙ ap (λ n. block_count s.width * n) settled_before)
-        (pushed.shows (padded x s.rows s.width) (block_count s.rows) came.stands tall last follows)
+        (ap (gathered_in s) only.at ∙ running.count ∙ ap (λ n. block_count s.setting.width * n) settled_before)
+        (pushed.shows (padded x s.rows s.setting.width) (block_count s.rows) came.stands tall last follows)
 
-    pushed_gone : {p q : Outside} (new : Work) → HasGone s (gathered (number_in mid.strip) s.weights.shifts) (block_count s.width) p q mid new → HasPushed s p q old new
+    pushed_gone : {p q : Outside} (new : Work) → HasGone s (gathered (number_in mid.strip) s.setting.weights.shifts) (block_count s.setting.width) p q mid new → HasPushed s p q old new
     pushed_gone {p = p} {q = q} new gone =
         let strip = gone.stays.strip in
-        let c = block_count s.width in
+        let c = block_count s.setting.width in
         let more : c * (came.block_row + 1) ≡ c * came.block_row + c = grind arith in
         let before : gathered_in s mid.at ≡ c * came.block_row = ap (gathered_in s) only.at ∙ running.count ∙ ap (λ n. c * n) settled_before in
         let now : c * settled (rows_of new.strip) ≡ c * (came.block_row + 1) = ap (λ t. c * settled (rows_of t)) strip ∙ ap (λ n. c * n) settled_now in
@@ -158,23 +169,30 @@ module _ (s : Setting) (range : IsInRange s) (old mid : Work) (running : IsRunni
           follows = λ x follows next.
               let f = mid_follows x follows.strip next in
               record {
-                strip = subst (λ t. Follows (padded x s.rows s.width) (block_count s.rows) t) (sym strip) f;
-                holds = gone.holds (image_blocks s x) (next_blocks x f) (mid_holds (image_blocks s x) follows.holds);
+                strip = subst (λ t. Follows (padded x s.rows s.setting.width) (block_count s.rows) t) (sym strip) f;
+                holds = gone.holds (image_blocks (whole s) x) (next_blocks x f) (mid_holds (image_blocks (whole s) x) follows.holds);
               };
+          strip = λ x rows high below follows next.
+              subst (λ t. Follows (padded x rows s.setting.width) (block_count rows) t) (sym strip) (mid_strip x rows high (omega (arith, below)) follows next);
           goes = λ x follows next.
-              subst (λ n. GoesOn s (image_blocks s x) n new.at.index p q) same_index
-              (gone.goes (image_blocks s x) (next_blocks x (mid_follows x follows.strip next)) (mid_holds (image_blocks s x) follows.holds));
+              subst (λ n. GoesOn s (image_blocks (whole s) x) n new.at.index p q) same_index
+              (gone.goes (image_blocks (whole s) x) (next_blocks x (mid_follows x follows.strip next)) (mid_holds (image_blocks (whole s) x) follows.holds));
         }
 
-    pushed_broken : {p q : Outside} (new : Work) → HasBroken s (gathered (number_in mid.strip) s.weights.shifts) (block_count s.width) p q mid new → HasNotPushed s p q old new
+    pushed_broken : {p q : Outside} (new : Work) → HasBroken s (gathered (number_in mid.strip) s.setting.weights.shifts) (block_count s.setting.width) p q mid new → HasNotPushed s p q old new
     pushed_broken {p = p} {q = q} new broken = record {
       made = broken.made;
       rose = broken.rose;
       breaks = λ x follows next.
-          subst (λ n. BreaksOff s (image_blocks s x) n p q) same_index
-          (broken.breaks (image_blocks s x) (next_blocks x (mid_follows x follows.strip next)) (mid_holds (image_blocks s x) follows.holds));
+          let c = block_count s.setting.width in
+          let more : c * (came.block_row + 1) ≡ c * came.block_row + c = grind arith in
+          let before : gathered_in s mid.at ≡ c * came.block_row = ap (gathered_in s) only.at ∙ running.count ∙ ap (λ n. c * n) settled_before in
+          let now : c * settled (rows_of old.strip + 1) ≡ c * (came.block_row + 1) = ap (λ n. c * n) (ap settled (sym pushed.rows) ∙ settled_now) in
+          breaks_more s (image_blocks (whole s) x) old.at.index (gathered_in s mid.at + c) (c * settled (rows_of old.strip + 1)) (omega (arith, before, more, now))
+          (subst (λ n. BreaksOff s (image_blocks (whole s) x) n (gathered_in s mid.at + c) p q) same_index
+          (broken.breaks (image_blocks (whole s) x) (next_blocks x (mid_follows x follows.strip next)) (mid_holds (image_blocks (whole s) x) follows.holds)));
     }
 
-    pub pushed_some : {T E : Type 0} (p q : Outside) (r : Result T E) (new : Work) → Gathers r s (gathered (number_in mid.strip) s.weights.shifts) (block_count s.width) p q mid new → Pushes r s p q old new
+    pub pushed_some : {T E : Type 0} (p q : Outside) (r : Result T E) (new : Work) → Gathers r s (gathered (number_in mid.strip) s.setting.weights.shifts) (block_count s.setting.width) p q mid new → Pushes r s p q old new
     pushed_some p q (Ok x) new gone = pushed_gone new gone
     pushed_some p q (Err x) new broken = pushed_broken new broken

@@ -1,18 +1,22 @@
 -- What is given for the rows so far grows by prefixes, and doesn't depend on rows that weren't taken.
-use Rattle.std.proofs.Common.{◌≡◌, ℕ, ◌+◌, ◌-◌, ◌*◌, ◌/◌, ◌<◌, ◌≤◌, List, ◌++◌, length, sym, ap, ◌∙◌, arith, length-append}
+use Rattle.std.proofs.Common.{◌≡◌, ◌≢◌, min, ℕ, ◌+◌, ◌*◌, ◌/◌, ◌<◌, ◌≤◌, ℤ, List, ◌++◌, length, sym, ap, subst, ◌∙◌, arith, length-append}
 use Rattle.std.proofs.lemmas.Nat.{div-mul-add, le-div}
 use Rattle.std.proofs.Math.Nat.{mul-le-mul, mul-le-mul_right, mul_assoc}
 use Rattle.base_122.specs.Ranges.{IsInRange}
+use Rattle.base_122.specs.Setting.{IsHeight, sized}
 use Rattle.base_122.specs.declared.setting.Setting.{Setting}
 use Rattle.packet_defs.specs.Packets.{joined}
 use Rattle.wave_defs.specs.Held.{SameWithin}
 use Rattle.raster_rows.specs.Pixels.{pixel_size}
 use Rattle.raster_rows.proofs.PixelPlaces.{size_some, pixel_at-append_left}
-use Rattle.stream_defs.specs.Output.{image_blocks, output, packets_of}
+use Rattle.stream_defs.specs.Output.{output}
 use Rattle.stream_defs.specs.Settled.{settled}
-use Rattle.stream_defs.proofs.ImageLaws.{images_settle, settled_rises, settled_whole}
-use Rattle.strip_coder.specs.Rasters.{row_length, raster_length, image_of, settled_octets, whole_rows, given_for}
-use Rattle.strip_coder.proofs.SegmentRuns.{front_of}
+use Rattle.stream_defs.specs.SettledImages.{front_packets, settled_in}
+use Rattle.stream_defs.proofs.ImageLaws.{settled_whole}
+use Rattle.stream_defs.proofs.HeightLaws.{images_settle}
+use Rattle.strip_coder.specs.Plans.{tallest}
+use Rattle.strip_coder.specs.Rasters.{row_length, most_length, image_of, settled_octets, whole_rows, given_for}
+use Rattle.strip_coder.proofs.PlanLaws.{tall_height, known_first, known_tallest}
 
 -- the octets of whole rows show the same image, whatever comes after them
 pub same_rows : (s : Setting) (k : ℕ) (took more : List ℕ) → length took ≡ k * row_length s → SameWithin k s.width (image_of s (took ++ more)) (image_of s took)
@@ -26,43 +30,53 @@ same_rows s k took more whole = record {
       pixel_at-append_left s.depth s.signed took more (i * s.width + j) (omega (arith, octets, size));
 }
 
--- so their settled packets are the same
-pub same_octets : (s : Setting) (k : ℕ) (took more : List ℕ) → IsInRange s → k ≤ s.rows → length took ≡ k * row_length s → settled_octets s (took ++ more) k ≡ settled_octets s took k
+-- so the packets that they settle are the same in each image that begins with them
+pub settled_same : (s : Setting) (rows k : ℕ) (taken : List ℕ) (y : ℕ → ℕ → ℤ) → IsInRange s → IsHeight s rows → k ≤ tallest s → k ≤ rows → SameWithin k s.width (image_of s taken) y →
+    settled_octets s taken k ≡ joined (front_packets s rows y (settled_in s rows k))
 unfolding settled_octets
-same_octets s k took more range le whole = ap joined (images_settle s range k (image_of s (took ++ more)) (image_of s took) le (same_rows s k took more whole))
+settled_same s rows k taken y range height le le' same = ap joined (images_settle s (tallest s) rows k range (tall_height s range) height le le' (image_of s taken) y same)
 
--- more rows settle more, behind what stands
-pub rows_more : (s : Setting) (k l : ℕ) (taken : List ℕ) → k ≤ l → l ≤ s.rows → (rest : List ℕ) × (settled_octets s taken l ≡ settled_octets s taken k ++ rest)
+pub same_octets : (s : Setting) (k : ℕ) (took more : List ℕ) → IsInRange s → k ≤ tallest s → length took ≡ k * row_length s → settled_octets s (took ++ more) k ≡ settled_octets s took k
 unfolding settled_octets
-rows_more s k l taken le most =
-    let all = image_blocks s (image_of s taken) in
-    let few = settled_rises s k l le most in
-    let front = front_of s all (settled s k) (settled s l - settled s k) in
-    let e : settled s k + (settled s l - settled s k) ≡ settled s l = omega (arith, few) in
-    (front.0, sym (ap (λ n. joined (packets_of s all n)) e) ∙ front.1)
+same_octets s k took more range le whole =
+    ap joined (images_settle s (tallest s) (tallest s) k range (tall_height s range) (tall_height s range) le le (image_of s (took ++ more)) (image_of s took) (same_rows s k took more whole))
 
--- all rows settle all packets
-pub rows_whole : (s : Setting) (taken : List ℕ) → settled_octets s taken s.rows ≡ output s (image_of s taken)
+-- all rows, where it is known that they are all, settle all packets
+pub rows_whole : (s : Setting) (taken : List ℕ) → s.rows ≢ 0 → settled_octets s taken (tallest s) ≡ output s (tallest s) (image_of s taken)
 unfolding settled_octets
-rows_whole s taken = ap (λ n. joined (packets_of s (image_blocks s (image_of s taken)) n)) (settled_whole s)
+rows_whole s taken known =
+    ap (λ n. joined (front_packets s (tallest s) (image_of s taken) n))
+    (ap (λ b. settled b (sized s (tallest s)) (tallest s)) (known_first s known) ∙ settled_whole (sized s (tallest s)))
+
+least_of : (t n k : ℕ) → n ≡ k → k ≤ t → min t n ≡ k
+least_of t n k e le = omega arith
+
+most_of : (t n : ℕ) → t ≤ n → min t n ≡ t
+most_of t n le = omega arith
 
 -- within a row that isn't whole, what the rows before it settle stands given
-pub given_within : (s : Setting) (k : ℕ) (took part : List ℕ) → IsInRange s → k ≤ s.rows → length took ≡ k * row_length s → length part < row_length s →
+pub given_within : (s : Setting) (k : ℕ) (took part : List ℕ) → IsInRange s → k ≤ tallest s → length took ≡ k * row_length s → length part < row_length s →
     given_for s (took ++ part) ≡ settled_octets s took k
 unfolding given_for
 given_within s k took part range le whole short =
     let size : length (took ++ part) ≡ k * row_length s + length part = length-append took part ∙ ap (λ n. n + length part) whole in
     let count : length (took ++ part) / row_length s ≡ k = ap (λ n. n / row_length s) size ∙ div-mul-add k (row_length s) (length part) short in
-    let rows : whole_rows s (took ++ part) ≡ k = (let e = count in omega (arith, e, le)) in
+    let rows : whole_rows s (took ++ part) ≡ k = least_of (tallest s) (length (took ++ part) / row_length s) k count le in
     ap (settled_octets s (took ++ part)) rows ∙ same_octets s k took part range le whole
 
--- once all rows were taken, all packets stand given
-pub given_whole : (s : Setting) (took more : List ℕ) → IsInRange s → length took ≡ raster_length s → given_for s (took ++ more) ≡ output s (image_of s took)
+-- once the tallest raster was taken, what it settles stands given
+pub given_whole : (s : Setting) (took more : List ℕ) → IsInRange s → length took ≡ most_length s → given_for s (took ++ more) ≡ settled_octets s took (tallest s)
 unfolding given_for
 given_whole s took more range whole =
     let size = size_some s.depth in
     let width = range.width.0 in
     let some : 1 * 1 ≤ s.width * pixel_size s.depth = mul-le-mul {n₁ = 1} {m₁ = 1} {n₂ = s.width} {m₂ = pixel_size s.depth} (omega (arith, width)) (omega (arith, size)) in
-    let count : s.rows ≤ length (took ++ more) / row_length s = le-div s.rows (length (took ++ more)) (row_length s) (omega (arith, some)) (omega (arith, length-append took more, whole)) in
-    let rows : whole_rows s (took ++ more) ≡ s.rows = omega (arith, count) in
-    ap (settled_octets s (took ++ more)) rows ∙ same_octets s s.rows took more range (omega arith) whole ∙ rows_whole s took
+    let long : tallest s * row_length s ≤ length (took ++ more) = subst (λ n. n ≤ length (took ++ more)) whole (let n = length-append took more in omega (arith, n)) in
+    let count : tallest s ≤ length (took ++ more) / row_length s = le-div (tallest s) (length (took ++ more)) (row_length s) (omega (arith, some)) long in
+    let rows : whole_rows s (took ++ more) ≡ tallest s = most_of (tallest s) (length (took ++ more) / row_length s) count in
+    ap (settled_octets s (took ++ more)) rows ∙ same_octets s (tallest s) took more range (omega arith) whole
+
+pub given_all : (s : Setting) (raster more : List ℕ) → IsInRange s → s.rows ≢ 0 → length raster ≡ s.rows * row_length s → given_for s (raster ++ more) ≡ output s s.rows (image_of s raster)
+given_all s raster more range known whole =
+    let tall = known_tallest s known in
+    given_whole s raster more range (whole ∙ ap (λ n. n * row_length s) (sym tall)) ∙ rows_whole s raster known ∙ ap (λ n. output s n (image_of s raster)) tall

@@ -1,9 +1,10 @@
 -- The packets of an image, segment after segment.
 use Rattle.std.proofs.Common.{◌≡◌, ℕ, zero, suc, ◌+◌, ℤ, List, [], ◌++◌, sym, ap, ◌∙◌, arith, append_assoc}
 use Rattle.std.proofs.lemmas.List.{append-nil}
-use Rattle.base_122.specs.declared.setting.Setting.{Setting}
+use Rattle.strip_coder.specs.declared.plan.Plan.{Plan}
+use Rattle.strip_coder.specs.Plans.{whole}
 use Rattle.packet_defs.specs.Packets.{joined}
-use Rattle.stream_defs.specs.Output.{packets_of, segment_packets}
+use Rattle.stream_defs.specs.Output.{packets_of, segment_packets, tells_last}
 use Rattle.packet_defs.proofs.Joins.{joined-append}
 use Rattle.stream_defs.proofs.Outputs.{packets_of-more}
 use Rattle.space_packets.specs.declared.stage.Stage.TheVariants.{Idle}
@@ -16,17 +17,17 @@ pub same_progress : (packet texts texts' packets packets' octets octets' : ℕ) 
 same_progress packet texts texts' packets packets' octets octets' e f g = cc
 
 -- the octets of one segment more
-pub octets-more : (s : Setting) (all : List (List ℤ)) (n : ℕ) → joined (packets_of s all (n + 1)) ≡ joined (packets_of s all n) ++ joined (segment_packets s all n)
-octets-more s all n = ap joined (packets_of-more s all n) ∙ joined-append (packets_of s all n) (segment_packets s all n)
+pub octets-more : (s : Plan) (all : List (List ℤ)) (n : ℕ) → joined (packets_of (tells_last s.setting) (whole s) all (n + 1)) ≡ joined (packets_of (tells_last s.setting) (whole s) all n) ++ joined (segment_packets (tells_last s.setting) (whole s) all n)
+octets-more s all n = ap joined (packets_of-more (tells_last s.setting) (whole s) all n) ∙ joined-append (packets_of (tells_last s.setting) (whole s) all n) (segment_packets (tells_last s.setting) (whole s) all n)
 
 -- the octets of the first segments stand first in those of more
-pub front_of : (s : Setting) (all : List (List ℤ)) (n more : ℕ) → (rest : List ℕ) × (joined (packets_of s all (n + more)) ≡ joined (packets_of s all n) ++ rest)
-front_of s all n zero = ([], let e : n + 0 ≡ n = omega arith in ap (λ k. joined (packets_of s all k)) e ∙ sym (append-nil (joined (packets_of s all n))))
+pub front_of : (s : Plan) (all : List (List ℤ)) (n more : ℕ) → (rest : List ℕ) × (joined (packets_of (tells_last s.setting) (whole s) all (n + more)) ≡ joined (packets_of (tells_last s.setting) (whole s) all n) ++ rest)
+front_of s all n zero = ([], let e : n + 0 ≡ n = omega arith in ap (λ k. joined (packets_of (tells_last s.setting) (whole s) all k)) e ∙ sym (append-nil (joined (packets_of (tells_last s.setting) (whole s) all n))))
 front_of s all n (suc more) =
     let before = front_of s all n more in
     let e : n + suc more ≡ (n + more) + 1 = omega arith in (
-      before.0 ++ joined (segment_packets s all (n + more)),
-      ap (λ k. joined (packets_of s all k)) e ∙ octets-more s all (n + more)
-          ∙ ap (λ xs. xs ++ joined (segment_packets s all (n + more))) before.1
-          ∙ append_assoc (joined (packets_of s all n)) before.0 (joined (segment_packets s all (n + more))),
+      before.0 ++ joined (segment_packets (tells_last s.setting) (whole s) all (n + more)),
+      ap (λ k. joined (packets_of (tells_last s.setting) (whole s) all k)) e ∙ octets-more s all (n + more)
+          ∙ ap (λ xs. xs ++ joined (segment_packets (tells_last s.setting) (whole s) all (n + more))) before.1
+          ∙ append_assoc (joined (packets_of (tells_last s.setting) (whole s) all n)) before.0 (joined (segment_packets (tells_last s.setting) (whole s) all (n + more))),
     )

@@ -1,28 +1,36 @@
 -- One segment of an image, written from the work that gathered it.
-use Rattle.std.proofs.Common.{◌≡◌, ℕ, ◌+◌, ◌-◌, ◌*◌, ◌/◌, ◌^◌, ◌<◌, ◌≤◌, ℤ, pos, List, [], ◌++◌, length, take, drop, refl, sym, ap, ◌∙◌, subst, arith, get_or, min, inl, vec_len, append_assoc, length-append, length-take, length-drop}
+use Rattle.std.proofs.Common.{◌≡◌, ◌≢◌, ℕ, ◌+◌, ◌-◌, ◌*◌, ◌/◌, ◌^◌, ◌<◌, ◌≤◌, ◌==◌, Bool, true, false, ℤ, pos, List, [], ◌++◌, length, take, drop, refl, sym, ap, ◌∙◌, subst, arith, get_or, min, inl, inr, vec_len, length-append, length-take, length-drop}
 use Rattle.std.specs.Prelude.{unsigned_abs}
-use Rattle.std.proofs.lemmas.List.{take-append-le, same_lists, get_or_default, get_or-take, get_or-drop, length-take-le}
+use Rattle.std.proofs.lemmas.Bool.{cases_lt}
+use Rattle.std.proofs.lemmas.Bool.Decides.{nat_tests}
+use Rattle.std.proofs.lemmas.List.{same_lists, get_or_default, get_or-take, get_or-drop, length-take-le}
 use Rattle.std.proofs.lemmas.List.FromFn.{get_or-map-range_with_len}
 use Rattle.std.proofs.Math.Seq.{take-append-add}
 use Rattle.port_122.specs.Outside.{Outside}
-use Rattle.base_122.specs.Ranges.{IsInRange}
+use Rattle.strip_coder.specs.Plans.{IsPlan, whole}
 use Rattle.base_122.specs.Sizes.{total_blocks, first_block}
+use Rattle.strip_coder.specs.declared.plan.Plan.{Plan}
+use Rattle.base_122.specs.Ranges.{IsInRange}
 use Rattle.base_122.specs.declared.setting.Setting.{Setting}
-use Rattle.base_122.proofs.SizeBounds.{one-le-segment_blocks}
+use Rattle.base_122.proofs.GeometryRanges.{in_range-sized}
+use Rattle.base_122.proofs.SizeBounds.{first_block-lt, one-le-segment_blocks}
+use Rattle.segment_defs.specs.Depths.{depth_dc_of, depth_ac_of}
+use Rattle.segment_defs.specs.Coded.{coded}
 use Rattle.packet_defs.specs.Packets.{joined, part_count, part_size}
 use Rattle.wave_defs.specs.Held.{block_at, blocks_in}
-use Rattle.stream_defs.specs.Output.{packets_before, packets_of, segment_packets, segment_text, segments_of}
-use Rattle.stream_defs.proofs.Outputs.{packets_before-more}
+use Rattle.stream_defs.specs.Output.{head_with, packets_before, packets_of, segment_of, segment_packets, segment_text, segments_of, share, tells_last, used_before}
+use Rattle.stream_defs.proofs.Outputs.{packets_before-more, used_before-more}
+use Rattle.stream_defs.proofs.ShareLaws.{left_next, segment_within, share_none}
 use Rattle.space_packets.specs.Progress.{Progress}
 use Rattle.space_packets.specs.Writes.{TextOut, TextCut}
 use Rattle.wave_strip.specs.Strip.{columns_of}
 use Rattle.segment_code.specs.Numbers.{AreBounded}
 use Rattle.strip_coder.specs.declared.work.Work.{Work}
-use Rattle.strip_coder.specs.declared.work.ImageAt.{ImageAt}
 use Rattle.strip_coder.specs.SegmentsOut.{text_of, text_for, progress_at}
-use Rattle.strip_coder.specs.Works.{AreSmall, IsMadeFor, IsFull, HoldsBlocks, most_blocks}
+use Rattle.strip_coder.specs.declared.work.ImageAt.{ImageAt}
+use Rattle.strip_coder.specs.Works.{AreSmall, IsMadeFor, KeepsShare, IsFull, HoldsBlocks, most_blocks}
 use Rattle.strip_coder.specs.Steps.{PresentOut, PresentCut}
-use Rattle.strip_coder.proofs.SegmentRuns.{same_progress, octets-more, front_of}
+use Rattle.strip_coder.proofs.SegmentRuns.{same_progress, octets-more}
 use Rattle.strip_coder.proofs.SegmentTexts.{length-blocks_in}
 use Rattle.strip_coder.proofs.BlockPuts.{block_cell, length-block_at}
 
@@ -69,50 +77,73 @@ small_part cells n small = record {
 
 -- ---- its packets
 
-progress_more : {a b : Outside} (s : Setting) (all : List (List ℤ)) (n : ℕ) (w : Progress) → TextOut (text_of s n) a b (progress_at s all n) w (segment_text s all n) → w ≡ progress_at s all (n + 1)
+progress_more : {a b : Outside} (s : Plan) (all : List (List ℤ)) (n : ℕ) (w : Progress) → TextOut (text_of s n) a b (progress_at s all n) w (segment_text (whole s) all n) → w ≡ progress_at s all (n + 1)
 progress_more s all n w at =
     at.stands
-    ∙ same_progress s.packet (n + 1) (n + 1) (packets_before s all n + part_count (part_size s.packet) (length (segment_text s all n))) (packets_before s all (n + 1))
-    (length (joined (packets_of s all n)) + length (joined (segment_packets s all n))) (length (joined (packets_of s all (n + 1))))
-    refl (sym (packets_before-more s all n)) (sym (ap length (octets-more s all n) ∙ length-append (joined (packets_of s all n)) (joined (segment_packets s all n))))
+    ∙ same_progress s.setting.packet (n + 1) (n + 1) (packets_before (whole s) all n + part_count (part_size s.setting.packet) (length (segment_text (whole s) all n))) (packets_before (whole s) all (n + 1))
+    (length (joined (packets_of (tells_last s.setting) (whole s) all n)) + length (joined (segment_packets (tells_last s.setting) (whole s) all n))) (length (joined (packets_of (tells_last s.setting) (whole s) all (n + 1))))
+    refl (sym (packets_before-more (whole s) all n)) (sym (ap length (octets-more s all n) ∙ length-append (joined (packets_of (tells_last s.setting) (whole s) all n)) (joined (segment_packets (tells_last s.setting) (whole s) all n))))
 
--- a front of the packets of one segment is a front of all after those before it
-front_is : (s : Setting) (all : List (List ℤ)) (n some : ℕ) → n < segments_of s → some ≤ length (joined (segment_packets s all n)) →
-    joined (packets_of s all n) ++ take some (joined (segment_packets s all n)) ≡ take (length (joined (packets_of s all n)) + some) (joined (packets_of s all (segments_of s)))
-front_is s all n some lt within =
-    let rest = front_of s all (n + 1) (segments_of s - (n + 1)) in
-    let e : (n + 1) + (segments_of s - (n + 1)) ≡ segments_of s = omega (arith, lt) in
-    let done = joined (packets_of s all n) in
-    let text = joined (segment_packets s all n) in
-    let whole : joined (packets_of s all (segments_of s)) ≡ done ++ (text ++ rest.0) =
-    sym (ap (λ k. joined (packets_of s all k)) e) ∙ rest.1 ∙ ap (λ xs. xs ++ rest.0) (octets-more s all n) ∙ append_assoc done text rest.0 in
-    sym (ap (take (length done + some)) whole ∙ take-append-add done (text ++ rest.0) some ∙ ap (λ xs. done ++ xs) (take-append-le some text rest.0 within))
+-- a front of the packets of one segment is a front of all up to it
+front_is : (s : Plan) (all : List (List ℤ)) (n some : ℕ) →
+    joined (packets_of (tells_last s.setting) (whole s) all n) ++ take some (joined (segment_packets (tells_last s.setting) (whole s) all n))
+    ≡ take (length (joined (packets_of (tells_last s.setting) (whole s) all n)) + some) (joined (packets_of (tells_last s.setting) (whole s) all (n + 1)))
+front_is s all n some =
+    let done = joined (packets_of (tells_last s.setting) (whole s) all n) in
+    let text = joined (segment_packets (tells_last s.setting) (whole s) all n) in
+    sym (ap (take (length done + some)) (octets-more s all n) ∙ take-append-add done text some)
+
+-- ---- shares
+
+-- what was counted matters only if there is a bound on all
+share_same : (s : Setting) (index a b : ℕ) → (s.total ≢ 0 → a ≡ b) → share s index a ≡ share s index b
+share_same s index a b same = elim (cases_lt 0 s.total) [
+  | inl lt ↦ ap (share s index) (same (λ none. omega (arith, none, lt)))
+  | inr le ↦ let none : s.total ≡ 0 = omega (arith, le) in share_none s index a none ∙ sym (share_none s index b none)
+]
+
+pub share_kept : (s : Setting) (a b : ImageAt) → b.index ≡ a.index → b.used ≡ a.used → KeepsShare s a → KeepsShare s b
+share_kept s a b index used keeps = record { left = rw (index, used) keeps.left }
+
+-- a count that goes on below its bound
+counted : (a n m c total : ℕ) → total ≤ 2 ^ 40 → c ≡ min (a + n) (2 ^ 64 - 1) → a + n + m ≤ total → c ≡ a + n
+counted a n m c total most is le = omega arith
 
 -- ---- the present segment of a work
 
-most_filled : (s : Setting) (old : Work) → IsFull s old → old.at.filled ≤ most_blocks s
-most_filled s old full = let f = full.full in omega (arith, f)
+most_filled : (s : Plan) (old : Work) → IsPlan s → IsFull s old → old.at.filled ≤ most_blocks s.setting
+most_filled s old range full = by (s.setting.rows == 0) refl
+  where
+    by : (b : Bool) → (s.setting.rows == 0) ≡ b → old.at.filled ≤ most_blocks s.setting
+    by true e = rw e (let f = full.full in omega (arith, f))
+    by false e =
+        let f = full.full in
+        let same : s.setting.rows ≡ s.rows = elim range.height.1 [ inl none ↦ absurd (grind (arith, nat_tests)) | inr here ↦ here ] in
+        rw e (rw same (omega (arith, f)))
 
-pub cells_fit : (s : Setting) (old : Work) → IsFull s old → 64 * old.at.filled ≤ length old.blocks.items
-cells_fit s old full = let most = most_filled s old full in let room = full.made.blocks in omega (arith, most, room, old.blocks.ok.0)
+pub cells_fit : (s : Plan) (old : Work) → IsPlan s → IsFull s old → 64 * old.at.filled ≤ length old.blocks.items
+cells_fit s old range full = let most = most_filled s old range full in let room = full.made.blocks in omega (arith, most, room, old.blocks.ok.0)
 
-pub marks_fit : (s : Setting) (old : Work) → IsFull s old → old.at.filled ≤ length old.marks.items
-marks_fit s old full = let most = most_filled s old full in let room = full.made.marks in omega (arith, most, room, old.marks.ok.0)
+pub marks_fit : (s : Plan) (old : Work) → IsPlan s → IsFull s old → old.at.filled ≤ length old.marks.items
+marks_fit s old range full = let most = most_filled s old range full in let room = full.made.marks in omega (arith, most, room, old.marks.ok.0)
 
-pub some_filled : (s : Setting) (old : Work) → IsInRange s → IsFull s old → 1 ≤ old.at.filled
+pub some_filled : (s : Plan) (old : Work) → IsPlan s → IsFull s old → 1 ≤ old.at.filled
 some_filled s old range full =
-    let segment = range.segment in
-    let some = one-le-segment_blocks (total_blocks s.width s.rows) s.segment old.at.index (omega (arith, segment)) full.index in
+    let segment = range.in_range.segment in
+    let some = one-le-segment_blocks (total_blocks s.setting.width s.rows) s.setting.segment old.at.index (omega (arith, segment)) full.index in
     let f = full.full in
     omega (arith, some, f)
 
-pub few_filled : (s : Setting) (old : Work) → IsInRange s → IsFull s old → old.at.filled ≤ 1048575
-few_filled s old range full = let f = full.full in let segment = range.segment in omega (arith, f, segment)
+pub few_filled : (s : Plan) (old : Work) → IsPlan s → IsFull s old → old.at.filled ≤ 1048575
+few_filled s old range full = let f = full.full in let segment = range.in_range.segment in omega (arith, f, segment)
 
-pub text_is : (s : Setting) (old : Work) → IsFull s old → (all : List (List ℤ)) → length all ≡ total_blocks s.width s.rows → HoldsBlocks s all old →
-    text_for s old.at.index (blocks_in (take (64 * old.at.filled) old.blocks.items)) ≡ segment_text s all old.at.index
-text_is s old full all whole holds =
-    ap (text_for s old.at.index) (segment_is old.blocks.items all old.at.filled (first_block s.segment old.at.index) s.segment (total_blocks s.width s.rows) whole full.full (cells_fit s old full) holds.blocks)
+pub text_is : (s : Plan) (old : Work) → IsPlan s → IsFull s old → (all : List (List ℤ)) → length all ≡ total_blocks s.setting.width s.rows → HoldsBlocks s all old →
+    text_for s old.at.index old.at.used (blocks_in (take (64 * old.at.filled) old.blocks.items)) ≡ segment_text (whole s) all old.at.index
+text_is s old range full all long holds =
+    let index = old.at.index in
+    let segment = segment_of (whole s) all index in
+    ap (text_for s index old.at.used) (segment_is old.blocks.items all old.at.filled (first_block s.setting.segment index) s.setting.segment (total_blocks s.setting.width s.rows) long full.full (cells_fit s old range full) holds.blocks)
+    ∙ ap (λ limit. coded (head_with (whole s) index limit (length segment) (depth_dc_of segment) (depth_ac_of segment)) segment) (share_same (whole s) index old.at.used (used_before (whole s) all index) holds.used)
 
 -- what differs in a work after its present segment was given to be written
 pub record Rewritten (old new : Work) : Type 0 where
@@ -125,71 +156,107 @@ pub record Rewritten (old new : Work) : Type 0 where
 pub still_made : (s : Setting) (old new : Work) → IsMadeFor s old → Rewritten old new → new.packets.packet ≡ old.packets.packet → IsMadeFor s new
 still_made s old new made same packet = record {
   row = ap (λ v. vec_len v) same.row ∙ made.row;
-  blocks = same.blocks ∙ made.blocks;
-  marks = same.marks ∙ made.marks;
+  blocks = subst (λ n. 64 * most_blocks s ≤ n) (sym same.blocks) made.blocks;
+  marks = subst (λ n. most_blocks s ≤ n) (sym same.marks) made.marks;
   strip = ap columns_of same.strip ∙ made.strip;
   packet = packet ∙ made.packet;
   room = same.room ∙ made.room;
 }
 
-sent_of : {a b : Outside} (s : Setting) (old : Work) (w : Progress) (full : IsFull s old) (all : List (List ℤ)) → length all ≡ total_blocks s.width s.rows → HoldsBlocks s all old →
-    TextOut (text_of s old.at.index) a b old.packets w (text_for s old.at.index (blocks_in (take (64 * old.at.filled) old.blocks.items))) →
-    TextOut (text_of s old.at.index) a b (progress_at s all old.at.index) w (segment_text s all old.at.index)
-sent_of {a = a} {b = b} s old w full all whole holds sent =
-    subst (λ v. TextOut (text_of s old.at.index) a b v w (segment_text s all old.at.index)) holds.packets
-    (subst (λ t. TextOut (text_of s old.at.index) a b old.packets w t) (text_is s old full all whole holds) sent)
+-- the blocks of the present segment, and its text
+abbrev present_blocks : Work → List (List ℤ)
+present_blocks w = blocks_in (take (64 * w.at.filled) w.blocks.items)
 
-pub present_out : {a b : Outside} (s : Setting) (old new : Work) → IsInRange s → IsFull s old → Rewritten old new →
-    new.at ≡ record { rows = old.at.rows; filled = 0; index = old.at.index + 1 } →
-    TextOut (text_of s old.at.index) a b old.packets new.packets (text_for s old.at.index (blocks_in (take (64 * old.at.filled) old.blocks.items))) →
-    PresentOut s a b old new
-present_out {a = a} {b = b} s old new range full same at sent =
-    let segment = range.segment in
-    let rows : new.at.rows ≡ old.at.rows = ap (λ (a : ImageAt). a.rows) at in
-    let filled : new.at.filled ≡ 0 = ap (λ (a : ImageAt). a.filled) at in
-    let index : new.at.index ≡ old.at.index + 1 = ap (λ (a : ImageAt). a.index) at in
-    let next = full.index in
-    record {
-      stays = record { strip = same.strip; row = same.row; rows = rows };
-      gathered = record {
-        made = still_made s old new full.made same (ap (λ (v : Progress). v.packet) sent.stands);
-        index = omega (arith, index, next);
-        present = λ lt.
-            let some = one-le-segment_blocks (total_blocks s.width s.rows) s.segment new.at.index (omega (arith, segment)) lt in
-            omega (arith, some, filled);
-        none = λ e. filled;
-        small = record { at = λ i lt. absurd (omega (arith, lt, filled)) };
-        idle = ap (λ (v : Progress). v.stage) sent.stands;
-        texts = ap (λ (v : Progress). v.texts) sent.stands ∙ ap (λ n. n + 1) full.texts ∙ sym index;
-      };
-      index = index;
-      filled = filled;
-      faults = sent.out.faults.writes;
-      holds = λ all whole holds. record {
-        blocks = λ i lt. absurd (omega (arith, lt, filled));
-        packets = progress_more s all old.at.index new.packets (sent_of s old new.packets full all whole holds sent) ∙ ap (progress_at s all) (sym index);
-      };
-      goes = λ all whole holds. record {
-        gave = joined (segment_packets s all old.at.index);
-        out = (sent_of s old new.packets full all whole holds sent).out;
-        then_are = sym (octets-more s all old.at.index) ∙ ap (λ n. joined (packets_of s all n)) (sym index);
-      };
-    }
+abbrev present_text : Plan → Work → List ℕ
+present_text s w = text_for s w.at.index w.at.used (present_blocks w)
 
-pub present_cut : {a b : Outside} (s : Setting) (old new : Work) → IsFull s old → Rewritten old new →
-    TextCut (text_of s old.at.index) a b old.packets new.packets (text_for s old.at.index (blocks_in (take (64 * old.at.filled) old.blocks.items))) →
-    PresentCut s a b old new
-present_cut {a = a} {b = b} s old new full same cut = record {
-  made = still_made s old new full.made same cut.packet;
-  rose = cut.rose;
-  breaks = λ all whole holds.
-      let at : TextCut (text_of s old.at.index) a b (progress_at s all old.at.index) new.packets (segment_text s all old.at.index) =
-      subst (λ v. TextCut (text_of s old.at.index) a b v new.packets (segment_text s all old.at.index)) holds.packets
-      (subst (λ t. TextCut (text_of s old.at.index) a b old.packets new.packets t) (text_is s old full all whole holds) cut) in
+module _ (s : Plan) (old new : Work) (range : IsPlan s) (full : IsFull s old) (same : Rewritten old new) where
+  sized_range : IsInRange (whole s)
+  sized_range = in_range-sized s.setting s.rows range.in_range range.height
+
+  -- what is left after its text
+  left_now : s.setting.total ≢ 0 → old.at.used + length (present_text s old) + 36 * (segments_of (whole s) - (old.at.index + 1)) ≤ s.setting.total
+  left_now some =
+      left_next (whole s) sized_range some old.at.index old.at.used (length (present_text s old)) full.index (full.share.left some)
+      (segment_within (whole s) sized_range some (present_blocks old) old.at.index old.at.used full.index (full.share.left some))
+
+  total_most : s.setting.total ≢ 0 → s.setting.total ≤ 2 ^ 40
+  total_most some = elim range.in_range.total [ inl none ↦ absurd (some none) | inr has ↦ let within = has.within in omega (arith, within) ]
+
+  used_now : (octets : ℕ) → octets ≡ length (present_text s old) → new.at.used ≡ min (old.at.used + octets) (2 ^ 64 - 1) → s.setting.total ≢ 0 → new.at.used ≡ old.at.used + length (present_text s old)
+  used_now octets e counts some =
+      counted old.at.used (length (present_text s old)) (36 * (segments_of (whole s) - (old.at.index + 1))) new.at.used s.setting.total (total_most some)
+      (subst (λ n. new.at.used ≡ min (old.at.used + n) (2 ^ 64 - 1)) e counts) (left_now some)
+
+  sent_of : {a b : Outside} (w : Progress) (all : List (List ℤ)) → length all ≡ total_blocks s.setting.width s.rows → HoldsBlocks s all old →
+      TextOut (text_of s old.at.index) a b old.packets w (present_text s old) → TextOut (text_of s old.at.index) a b (progress_at s all old.at.index) w (segment_text (whole s) all old.at.index)
+  sent_of {a = a} {b = b} w all long holds sent =
+      subst (λ v. TextOut (text_of s old.at.index) a b v w (segment_text (whole s) all old.at.index)) holds.packets
+      (subst (λ t. TextOut (text_of s old.at.index) a b old.packets w t) (text_is s old range full all long holds) sent)
+
+  pub present_out : {a b : Outside} (octets : ℕ) → new.at.rows ≡ old.at.rows → new.at.filled ≡ 0 → new.at.index ≡ old.at.index + 1 →
+      new.at.used ≡ min (old.at.used + octets) (2 ^ 64 - 1) → TextOut (text_of s old.at.index) a b old.packets new.packets (present_text s old) × (octets ≡ length (present_text s old)) →
+      PresentOut s a b old new
+  present_out {a = a} {b = b} octets rows filled index counts written =
+      let sent = written.0 in
+      let segment = range.in_range.segment in
+      let next = full.index in
       record {
-        gave = take at.some (joined (segment_packets s all old.at.index));
-        out = at.out;
-        some = length (joined (packets_of s all old.at.index)) + at.some;
-        front = front_is s all old.at.index at.some full.index at.within;
-      };
-}
+        stays = record { strip = same.strip; row = same.row; rows = rows };
+        gathered = record {
+          made = still_made s.setting old new full.made same (ap (λ (v : Progress). v.packet) sent.stands);
+          share = record {
+            left = λ some. let used = used_now octets written.1 counts some in let left = left_now some in
+                subst (λ n. new.at.used + 36 * (segments_of (whole s) - n) ≤ s.setting.total) (sym index) (subst (λ n. n + 36 * (segments_of (whole s) - (old.at.index + 1)) ≤ s.setting.total) (sym used) left);
+          };
+          index = omega (arith, index, next);
+          present = λ lt.
+              let some = one-le-segment_blocks (total_blocks s.setting.width s.rows) s.setting.segment new.at.index (omega (arith, segment)) lt in
+              omega (arith, some, filled);
+          none = λ e. filled;
+          small = record { at = λ i lt. absurd (omega (arith, lt, filled)) };
+          idle = ap (λ (v : Progress). v.stage) sent.stands;
+          texts = ap (λ (v : Progress). v.texts) sent.stands ∙ ap (λ n. n + 1) full.texts ∙ sym index;
+        };
+        index = index;
+        filled = filled;
+        faults = sent.out.faults.writes;
+        holds = λ all long holds. record {
+          blocks = λ i lt. absurd (omega (arith, lt, filled));
+          packets = progress_more s all old.at.index new.packets (sent_of new.packets all long holds sent) ∙ ap (progress_at s all) (sym index);
+          used = λ some.
+              used_now octets written.1 counts some
+              ∙ ap (λ n. n + length (present_text s old)) (holds.used some)
+              ∙ ap (λ t. used_before (whole s) all old.at.index + length t) (text_is s old range full all long holds)
+              ∙ sym (used_before-more (whole s) all old.at.index)
+              ∙ ap (used_before (whole s) all) (sym index);
+        };
+        goes = λ all long holds. record {
+          gave = joined (segment_packets (tells_last s.setting) (whole s) all old.at.index);
+          out = (sent_of new.packets all long holds sent).out;
+          then_are = sym (octets-more s all old.at.index) ∙ ap (λ n. joined (packets_of (tells_last s.setting) (whole s) all n)) (sym index);
+        };
+      }
+
+  pub present_cut : {a b : Outside} → TextCut (text_of s old.at.index) a b old.packets new.packets (present_text s old) → PresentCut s a b old new
+  present_cut {a = a} {b = b} cut = record {
+    made = still_made s.setting old new full.made same cut.packet;
+    rose = cut.rose;
+    breaks = λ all long holds.
+        let at : TextCut (text_of s old.at.index) a b (progress_at s all old.at.index) new.packets (segment_text (whole s) all old.at.index) =
+        subst (λ v. TextCut (text_of s old.at.index) a b v new.packets (segment_text (whole s) all old.at.index)) holds.packets
+        (subst (λ t. TextCut (text_of s old.at.index) a b old.packets new.packets t) (text_is s old range full all long holds) cut) in
+        record {
+          gave = take at.some (joined (segment_packets (tells_last s.setting) (whole s) all old.at.index));
+          out = at.out;
+          index = old.at.index;
+          inside = full.index;
+          there =
+              let segment = range.in_range.segment in
+              let before = first_block-lt (total_blocks s.setting.width s.rows) s.setting.segment old.at.index (omega (arith, segment)) full.index in
+              let filled = full.full in
+              omega (arith, before, filled);
+          some = length (joined (packets_of (tells_last s.setting) (whole s) all old.at.index)) + at.some;
+          front = front_is s all old.at.index at.some;
+        };
+  }

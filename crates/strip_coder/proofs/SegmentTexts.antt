@@ -1,11 +1,13 @@
 -- The text of one segment of an image.
-use Rattle.std.proofs.Common.{◌≡◌, ℕ, ◌+◌, ◌-◌, ◌*◌, ◌/◌, ◌<◌, ◌≤◌, ◌==◌, ℤ, Bool, true, false, if◌then◌else◌, List, length, refl, ap, ◌∙◌, arith, inl, inr, take, length-append, length-take}
+use Rattle.std.proofs.Common.{◌≡◌, ◌≢◌, ℕ, ◌+◌, ◌-◌, ◌*◌, ◌/◌, ◌<◌, ◌≤◌, ◌==◌, ℤ, Bool, true, false, if◌then◌else◌, List, length, refl, sym, ap, subst, ◌∙◌, arith, inl, inr, take, length-append, length-take}
+use Rattle.std.proofs.lemmas.Bool.{cases_lt}
 use Rattle.std.proofs.lemmas.Bool.Decides.{nat_tests}
 use Rattle.std.proofs.Math.Nat.{le-div_iff_mul-le, mul-le-mul_right}
 use Rattle.std.proofs.lemmas.List.FromFn.{length-map-range_with_len}
 use Rattle.base_122.specs.Sizes.{padded_size}
-use Rattle.base_122.specs.Ranges.{IsInRange}
-use Rattle.base_122.specs.declared.setting.Setting.{Setting}
+use Rattle.base_122.proofs.GeometryRanges.{in_range-sized}
+use Rattle.strip_coder.specs.Plans.{IsPlan, whole}
+use Rattle.strip_coder.specs.declared.plan.Plan.{Plan}
 use Rattle.item_defs.specs.Bits.{copies, octets_of, bits_of}
 use Rattle.item_defs.specs.Padding.{padded, padding, rounded}
 use Rattle.item_defs.specs.Items.{text}
@@ -18,7 +20,11 @@ use Rattle.segment_defs.specs.Head.{head_bits, head_fields, IsHead}
 use Rattle.segment_defs.specs.Text.{cut, text_octets}
 use Rattle.segment_defs.specs.SegmentItems.{segment_items}
 use Rattle.segment_defs.specs.Coded.{coded, coded_bits, chosen_options}
-use Rattle.stream_defs.specs.Output.{head_with, segments_of}
+use Rattle.stream_defs.specs.Output.{head_with, segments_of, share}
+use Rattle.stream_defs.specs.Shares.{CanBeSaid}
+use Rattle.stream_defs.proofs.ShareLaws.{said_by, share_none}
+use Rattle.strip_coder.specs.declared.work.ImageAt.{ImageAt}
+use Rattle.strip_coder.specs.Works.{KeepsShare}
 use Rattle.strip_coder.specs.SegmentsOut.{text_for}
 
 pub length-blocks_in : (cells : List ℤ) → length (blocks_in cells) ≡ length cells / 64
@@ -26,24 +32,24 @@ unfolding blocks_in
 length-blocks_in cells = length-map-range_with_len (block_at cells) 0 (length cells / 64)
 
 -- a head of a setting in range can be said
-pub head_is : (s : Setting) (index count depth_dc depth_ac : ℕ) → IsInRange s → 1 ≤ count → count ≤ 1048575 →
-    1 ≤ depth_dc → depth_dc ≤ 28 → depth_ac ≤ 27 → IsHead (head_with s index count depth_dc depth_ac)
-head_is s index count depth_dc depth_ac range some most least_dc most_dc most_ac = record {
+pub head_is : (s : Plan) (index limit count depth_dc depth_ac : ℕ) → IsPlan s → CanBeSaid (whole s) limit → 1 ≤ count → count ≤ 1048575 →
+    1 ≤ depth_dc → depth_dc ≤ 28 → depth_ac ≤ 27 → IsHead (head_with (whole s) index limit count depth_dc depth_ac)
+head_is s index limit count depth_dc depth_ac range said some most least_dc most_dc most_ac = record {
   depth_dc = (least_dc, most_dc);
   depth_ac = most_ac;
-  pad_rows = pads (index + 1 == segments_of s) s.rows;
-  pads_last = none (index + 1 == segments_of s) s.rows;
-  limit = elim range.limit [ inl none ↦ inl none | inr given ↦ inr (given.0.0, omega (arith, given.0), given.1) ];
-  plane = plane_least s.stop.dc s.stop.plane (omega (arith, range.plane));
-  stage = stage_least s.stop.dc s.stop.stage (omega (arith, range.stage));
-  stops_at_dc = λ dc. (ap (λ b. if b then 0 else s.stop.plane) dc, ap (λ b. if b then 3 else s.stop.stage) dc);
-  fill = range.fill;
+  pad_rows = pads (index + 1 == segments_of (whole s)) s.rows;
+  pads_last = none (index + 1 == segments_of (whole s)) s.rows;
+  limit = said.limit;
+  plane = plane_least s.setting.stop.dc s.setting.stop.plane (omega (arith, range.in_range.plane));
+  stage = stage_least s.setting.stop.dc s.setting.stop.stage (omega (arith, range.in_range.stage));
+  stops_at_dc = λ dc. (ap (λ b. if b then 0 else s.setting.stop.plane) dc, ap (λ b. if b then 3 else s.setting.stop.stage) dc);
+  fill = said.fill;
   blocks = (some, omega arith);
   image = record {
-    depth = range.depth;
-    width = (range.width.0, omega (arith, range.width));
-    word = range.word;
-    weights = range.weights;
+    depth = range.in_range.depth;
+    width = (range.in_range.width.0, omega (arith, range.in_range.width));
+    word = range.in_range.word;
+    weights = range.in_range.weights;
   };
 }
   where
@@ -93,6 +99,20 @@ coded_some h blocks word =
     one_word unit n some more = (le-div_iff_mul-le {k = unit} {x = 1} {y = n + (unit - 1)} (omega arith)).1 (omega arith)
 
 -- the head is the segment's own where its depths are those of the blocks
-pub text_same : (s : Setting) (index count depth_dc depth_ac : ℕ) (segment : List (List ℤ)) → count ≡ length segment →
-    depth_dc ≡ depth_dc_of segment → depth_ac ≡ depth_ac_of segment → coded (head_with s index count depth_dc depth_ac) segment ≡ text_for s index segment
-text_same s index count depth_dc depth_ac segment e f g = rw (e, f, g) refl
+pub text_same : (s : Plan) (index used count depth_dc depth_ac : ℕ) (segment : List (List ℤ)) → count ≡ length segment →
+    depth_dc ≡ depth_dc_of segment → depth_ac ≡ depth_ac_of segment → coded (head_with (whole s) index (share (whole s) index used) count depth_dc depth_ac) segment ≡ text_for s index used segment
+text_same s index used count depth_dc depth_ac segment e f g = rw (e, f, g) refl
+
+-- the share of what is left can be said
+pub share_said : (s : Plan) (at : ImageAt) → IsPlan s → KeepsShare (whole s) at → at.index < segments_of (whole s) → CanBeSaid (whole s) (share (whole s) at.index at.used)
+share_said s at range keeps lt = elim (cases_lt 0 s.setting.total) [
+  | inl some ↦
+      let bound : s.setting.total ≢ 0 = λ none. omega (arith, none, some) in
+      said_by (whole s) (in_range-sized s.setting s.rows range.in_range range.height) bound at.index at.used lt (keeps.left bound)
+  | inr le ↦
+      let none : s.setting.total ≡ 0 = omega (arith, le) in
+      subst (CanBeSaid (whole s)) (sym (share_none (whole s) at.index at.used none)) (record {
+        limit = elim range.in_range.limit [ inl unset ↦ inl unset | inr given ↦ inr (given.0.0, omega (arith, given.0), given.1) ];
+        fill = λ set. elim (range.in_range.fill set) [ inl some ↦ some | inr other ↦ absurd (other none) ];
+      })
+]

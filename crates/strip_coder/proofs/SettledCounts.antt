@@ -1,19 +1,20 @@
 -- The segments before the present one are those that the rows so far settle.
 use Rattle.std.proofs.Common.{◌≡◌, ℕ, zero, suc, ◌+◌, ◌-◌, ◌*◌, ◌<◌, ◌≤◌, refl, sym, ap, ◌∙◌, arith, inl, inr}
-use Rattle.std.specs.Prelude.{Bool, true, false, ◌==◌, ◌||◌, nat_lt, cond}
+use Rattle.std.specs.Prelude.{Bool, true, false, ◌==◌, ◌&&◌, ◌||◌, not, nat_lt, cond}
 use Rattle.std.specs.List.{count_by, range_with_len}
 use Rattle.std.proofs.lemmas.Bool.{cases_lt}
 use Rattle.std.proofs.lemmas.Bool.Decides.{nat_tests}
 use Rattle.std.proofs.lemmas.List.Sums.{sum_by-cons}
 use Rattle.std.proofs.lemmas.Nat.{le-div}
 use Rattle.std.proofs.Math.Nat.{div-lt_iff_lt-mul, mul-le-mul_right, mul-le-mul_left}
-use Rattle.base_122.specs.Ranges.{IsInRange}
+use Rattle.strip_coder.specs.Plans.{IsPlan, MoreMayCome, whole}
+use Rattle.strip_coder.proofs.PlanLaws.{open_last}
 use Rattle.base_122.specs.Sizes.{block_count, total_blocks, segment_blocks}
-use Rattle.base_122.specs.declared.setting.Setting.{Setting}
+use Rattle.strip_coder.specs.declared.plan.Plan.{Plan}
 use Rattle.base_122.proofs.SizeBounds.{three-le-block_count, one-le-segment_blocks}
 use Rattle.wave_strip.specs.Strip.{rows_of}
 use Rattle.wave_strip.specs.Counts.{settled as block_rows_in}
-use Rattle.stream_defs.specs.Output.{segments_of}
+use Rattle.stream_defs.specs.Output.{segments_of, tells_last}
 use Rattle.stream_defs.specs.Settled.{last_block_row, is_settled, settled}
 use Rattle.strip_coder.specs.declared.work.Work.{Work}
 use Rattle.strip_coder.specs.Works.{IsRunning, gathered_in}
@@ -40,81 +41,88 @@ count_first p (suc n) a (suc m) le holds fails =
     one true e = (omega arith, omega arith)
     one false e = absurd cc
 
-settled_so : (s : Setting) (k i : ℕ) → 8 * last_block_row s i + 28 < k → is_settled s k i ≡ true
-settled_so s k i near = by_test (k == s.rows) (let t : nat_lt (8 * last_block_row s i + 28) k ≡ true = grind (arith, nat_tests) in t)
+pub settled_so : (s : Plan) (k i : ℕ) → 8 * last_block_row (whole s) i + 28 < k → is_settled (tells_last s.setting) (whole s) k i ≡ true
+settled_so s k i near = by_test (not (tells_last s.setting) && (k == s.rows)) (let t : nat_lt (8 * last_block_row (whole s) i + 28) k ≡ true = grind (arith, nat_tests) in t)
   where
-    by_test : (b : Bool) → nat_lt (8 * last_block_row s i + 28) k ≡ true → (b || nat_lt (8 * last_block_row s i + 28) k) ≡ true
+    by_test : (b : Bool) → nat_lt (8 * last_block_row (whole s) i + 28) k ≡ true → (b || nat_lt (8 * last_block_row (whole s) i + 28) k) ≡ true
     by_test true t = refl
     by_test false t = t
 
-unsettled_so : (s : Setting) (k i : ℕ) → k < s.rows → k ≤ 8 * last_block_row s i + 28 → is_settled s k i ≡ false
-unsettled_so s k i less far =
-    let a : (k == s.rows) ≡ false = grind (arith, nat_tests) in
-    let b : nat_lt (8 * last_block_row s i + 28) k ≡ false = grind (arith, nat_tests) in
-    rw (a, b) refl
+unsettled_so : (s : Plan) (k i : ℕ) → MoreMayCome s k → k ≤ 8 * last_block_row (whole s) i + 28 → is_settled (tells_last s.setting) (whole s) k i ≡ false
+unsettled_so s k i more far =
+    let b : nat_lt (8 * last_block_row (whole s) i + 28) k ≡ false = grind (arith, nat_tests) in
+    elim more [
+      | inl less ↦ let a : (k == s.rows) ≡ false = grind (arith, nat_tests) in rw (a, b) (none (not (tells_last s.setting)))
+      | inr left_open ↦ let a = open_last s.setting left_open in rw (a, b) refl
+    ]
+  where
+    none : (t : Bool) → (t && false || false) ≡ false
+    none true = refl
+    none false = refl
 
-module _ (s : Setting) (range : IsInRange s) (k : ℕ) (w : Work) (running : IsRunning s w) (rows : rows_of w.strip ≡ k) (less : k < s.rows) where
-  some_columns : 0 < block_count s.width
-  some_columns = let three = three-le-block_count s.width range.width.0 in omega (arith, three)
+module _ (s : Plan) (range : IsPlan s) (k : ℕ) (w : Work) (running : IsRunning s w) (rows : rows_of w.strip ≡ k) (least : k ≤ s.rows) where
+  some_columns : 0 < block_count s.setting.width
+  some_columns = let three = three-le-block_count s.setting.width range.in_range.width.0 in omega (arith, three)
 
-  some_blocks : 0 < s.segment
-  some_blocks = let segment = range.segment in omega (arith, segment)
+  some_blocks : 0 < s.setting.segment
+  some_blocks = let segment = range.in_range.segment in omega (arith, segment)
 
-  pub count : gathered_in s w.at ≡ block_count s.width * block_rows_in k
-  count = running.count ∙ ap (λ n. block_count s.width * block_rows_in n) rows
+  pub count : gathered_in s w.at ≡ block_count s.setting.width * block_rows_in k
+  count = running.count ∙ ap (λ n. block_count s.setting.width * block_rows_in n) rows
 
-  pub few_gathered : gathered_in s w.at < total_blocks s.width s.rows
+  pub few_gathered : gathered_in s w.at < total_blocks s.setting.width s.rows
   few_gathered =
-      let below : block_rows_in k + 1 ≤ block_count s.rows = omega (arith, less) in
-      let next = mul-le-mul_left (block_count s.width) below in
-      let more : block_count s.width * (block_rows_in k + 1) ≡ block_count s.width * block_rows_in k + block_count s.width = grind arith in
+      let high = range.height.0.0 in
+      let below : block_rows_in k + 1 ≤ block_count s.rows = omega (arith, least, high) in
+      let next = mul-le-mul_left (block_count s.setting.width) below in
+      let more : block_count s.setting.width * (block_rows_in k + 1) ≡ block_count s.setting.width * block_rows_in k + block_count s.setting.width = grind arith in
       omega (arith, count, next, more, some_columns)
 
-  below : w.at.index < segments_of s
+  pub below : w.at.index < segments_of (whole s)
   below = more_segments s range w running.gathered few_gathered
 
-  place : w.at.index * s.segment + w.at.filled ≡ block_count s.width * block_rows_in k
+  pub place : w.at.index * s.setting.segment + w.at.filled ≡ block_count s.setting.width * block_rows_in k
   place = sym (place_is s range w below) ∙ count
 
   -- an earlier segment
-  before : (i : ℕ) → i < w.at.index → is_settled s k i ≡ true
+  before : (i : ℕ) → i < w.at.index → is_settled (tells_last s.setting) (whole s) k i ≡ true
   before i lt =
-      let total = total_blocks s.width s.rows in
-      let some = one-le-segment_blocks total s.segment i some_blocks (let b = below in omega (arith, lt, b)) in
-      let next : (i + 1) * s.segment ≤ w.at.index * s.segment = mul-le-mul_right s.segment (omega (arith, lt)) in
-      let more : (i + 1) * s.segment ≡ i * s.segment + s.segment = omega arith in
+      let total = total_blocks s.setting.width s.rows in
+      let some = one-le-segment_blocks total s.setting.segment i some_blocks (let b = below in omega (arith, lt, b)) in
+      let next : (i + 1) * s.setting.segment ≤ w.at.index * s.setting.segment = mul-le-mul_right s.setting.segment (omega (arith, lt)) in
+      let more : (i + 1) * s.setting.segment ≡ i * s.setting.segment + s.setting.segment = omega arith in
       let at = place in
-      let turned : block_count s.width * block_rows_in k ≡ block_rows_in k * block_count s.width = grind arith in
-      let last : i * s.segment + segment_blocks total s.segment i - 1 < block_rows_in k * block_count s.width = omega (arith, some, next, more, at, turned) in
-      let row : last_block_row s i < block_rows_in k = (div-lt_iff_lt-mul {k = block_count s.width} {x = i * s.segment + segment_blocks total s.segment i - 1} {y = block_rows_in k} some_columns).1 last in
+      let turned : block_count s.setting.width * block_rows_in k ≡ block_rows_in k * block_count s.setting.width = grind arith in
+      let last : i * s.setting.segment + segment_blocks total s.setting.segment i - 1 < block_rows_in k * block_count s.setting.width = omega (arith, some, next, more, at, turned) in
+      let row : last_block_row (whole s) i < block_rows_in k = (div-lt_iff_lt-mul {k = block_count s.setting.width} {x = i * s.setting.segment + segment_blocks total s.setting.segment i - 1} {y = block_rows_in k} some_columns).1 last in
       settled_so s k i (omega (arith, row))
 
   -- the present one or a later one
-  after : (i : ℕ) → w.at.index ≤ i → i < segments_of s → is_settled s k i ≡ false
-  after i le lt =
-      let total = total_blocks s.width s.rows in
-      let last : block_rows_in k * block_count s.width ≤ i * s.segment + segment_blocks total s.segment i - 1 = far in
-      let row : block_rows_in k ≤ last_block_row s i = le-div (block_rows_in k) (i * s.segment + segment_blocks total s.segment i - 1) (block_count s.width) some_columns last in
-      unsettled_so s k i less (omega (arith, row))
+  after : (i : ℕ) → MoreMayCome s k → w.at.index ≤ i → i < segments_of (whole s) → is_settled (tells_last s.setting) (whole s) k i ≡ false
+  after i more le lt =
+      let total = total_blocks s.setting.width s.rows in
+      let last : block_rows_in k * block_count s.setting.width ≤ i * s.setting.segment + segment_blocks total s.setting.segment i - 1 = far in
+      let row : block_rows_in k ≤ last_block_row (whole s) i = le-div (block_rows_in k) (i * s.setting.segment + segment_blocks total s.setting.segment i - 1) (block_count s.setting.width) some_columns last in
+      unsettled_so s k i more (omega (arith, row))
     where
-      far : block_rows_in k * block_count s.width ≤ i * s.segment + segment_blocks (total_blocks s.width s.rows) s.segment i - 1
+      far : block_rows_in k * block_count s.setting.width ≤ i * s.setting.segment + segment_blocks (total_blocks s.setting.width s.rows) s.setting.segment i - 1
       far =
-          let total = total_blocks s.width s.rows in
-          let some = one-le-segment_blocks total s.segment i some_blocks lt in
+          let total = total_blocks s.setting.width s.rows in
+          let some = one-le-segment_blocks total s.setting.segment i some_blocks lt in
           let present = running.gathered.present below in
           let at = place in
-          let turned : block_count s.width * block_rows_in k ≡ block_rows_in k * block_count s.width = grind arith in
+          let turned : block_count s.setting.width * block_rows_in k ≡ block_rows_in k * block_count s.setting.width = grind arith in
           elim (cases_lt w.at.index i) [
             | inl later ↦
-                let next : (w.at.index + 1) * s.segment ≤ i * s.segment = mul-le-mul_right s.segment (omega (arith, later)) in
-                let more : (w.at.index + 1) * s.segment ≡ w.at.index * s.segment + s.segment = omega arith in
+                let next : (w.at.index + 1) * s.setting.segment ≤ i * s.setting.segment = mul-le-mul_right s.setting.segment (omega (arith, later)) in
+                let more : (w.at.index + 1) * s.setting.segment ≡ w.at.index * s.setting.segment + s.setting.segment = omega arith in
                 omega (arith, some, present, at, turned, next, more)
             | inr same ↦
                 let e : i ≡ w.at.index = omega (arith, same, le) in
-                let f : i * s.segment + segment_blocks total s.segment i ≡ w.at.index * s.segment + segment_blocks total s.segment w.at.index = ap (λ n. n * s.segment + segment_blocks total s.segment n) e in
+                let f : i * s.setting.segment + segment_blocks total s.setting.segment i ≡ w.at.index * s.setting.segment + segment_blocks total s.setting.segment w.at.index = ap (λ n. n * s.setting.segment + segment_blocks total s.setting.segment n) e in
                 omega (arith, present, at, turned, f)
           ]
 
-  pub index_settled : w.at.index ≡ settled s k
+  pub index_settled : MoreMayCome s k → w.at.index ≡ settled (tells_last s.setting) (whole s) k
   unfolding settled
-  index_settled = sym (count_first (is_settled s k) (segments_of s) 0 w.at.index (let b = below in omega (arith, b)) (λ i low high. before i (omega (arith, high))) (λ i low high. after i (omega (arith, low)) (omega (arith, high))))
+  index_settled more = sym (count_first (is_settled (tells_last s.setting) (whole s) k) (segments_of (whole s)) 0 w.at.index (let b = below in omega (arith, b)) (λ i low high. before i (omega (arith, high))) (λ i low high. after i more (omega (arith, low)) (omega (arith, high))))

@@ -1,15 +1,17 @@
 -- How an encoder ends, by what it took and gave.
-use Rattle.std.specs.Prelude.{◌≡◌, ◌<◌, ◌≤◌, ◌+◌, ◌*◌, ℕ, ℤ, List, [], length, take, Result, Ok, Err}
+use Rattle.std.specs.Prelude.{◌≡◌, ◌≢◌, ◌⊎◌, ◌<◌, ◌≤◌, ◌+◌, ◌*◌, ℕ, ℤ, List, [], length, take, Result, Ok, Err}
 use Rattle.port_122.specs.Outside.{Outside, Since, GivenBy, AtEnd, Rose}
+use Rattle.base_122.specs.Setting.{IsHeight, sized}
 use Rattle.base_122.specs.declared.setting.Setting.{Setting}
 use Rattle.wave_defs.specs.Held.{SameWithin}
 use Rattle.raster_rows.specs.Pixels.{whole_pixels}
 use Rattle.raster_rows.specs.RowReads.{IsFirstBad}
-use Rattle.stream_defs.specs.Output.{output, image_packets, segments_of}
+use Rattle.stream_defs.specs.Output.{output, image_blocks, image_packets, segments_of, tells_last, used_before}
 use Rattle.strip_coder.specs.declared.encode.EncodeDone.{EncodeDone}
 use Rattle.strip_coder.specs.declared.encode.EncodeFault.{EncodeFault}
 use Rattle.strip_coder.specs.declared.encode.EncodeFault.TheVariants.{ReadFault, WriteFault, Short, Long, BadPixel}
-use Rattle.strip_coder.specs.Rasters.{row_length, raster_length, image_of, AreInRange, settled_octets, given_for}
+use Rattle.strip_coder.specs.Rasters.{row_length, most_length, LacksRows, image_of, AreInRange, settled_octets, given_for}
+use Rattle.strip_coder.specs.Plans.{tallest}
 
 -- every whole pixel that was taken is in range
 abbrev pub AllInRange : Setting → List ℕ → Type 0
@@ -20,43 +22,57 @@ pub record FirstBad (s : Setting) (taken : List ℕ) (row column : ℕ) (value :
   pub in_row : column < s.width
   pub first : IsFirstBad s.depth s.signed taken (row * s.width + column) value
 
--- the whole raster was taken, and its image is in range
-pub record TookRaster (s : Setting) (taken : List ℕ) : Type 0 where
-  pub whole : length taken ≡ raster_length s
+-- the whole raster of an image of so many rows was taken, and the image is in range
+pub record TookRaster (s : Setting) (rows : ℕ) (taken : List ℕ) : Type 0 where
+  pub height : IsHeight s rows
+  pub whole : length taken ≡ rows * row_length s
   pub in_range : AllInRange s taken
 
--- what was done for an image
-pub record DoneFor (s : Setting) (x : ℕ → ℕ → ℤ) (done : EncodeDone) : Type 0 where
-  pub segments : done.segments ≡ segments_of s
-  pub packets : done.packets ≡ length (image_packets s x)
-  pub octets : done.octets ≡ length (output s x)
+-- octets of all coded segments of an image
+abbrev pub coded_octets : Setting → (rows : ℕ) → (ℕ → ℕ → ℤ) → ℕ
+coded_octets s rows x = used_before (sized s rows) (image_blocks (sized s rows) x) (segments_of (sized s rows))
+
+-- what was done for an image; its coded segments keep to a total
+pub record DoneFor (s : Setting) (rows : ℕ) (x : ℕ → ℕ → ℤ) (done : EncodeDone) : Type 0 where
+  pub segments : done.segments ≡ segments_of (sized s rows)
+  pub packets : done.packets ≡ length (image_packets (tells_last s) (sized s rows) x)
+  pub octets : done.octets ≡ length (output s rows x)
+  pub total : s.total ≢ 0 → coded_octets s rows x ≤ s.total
 
 -- just the first k rows of the raster were taken, and each value is in range
 pub record TookRows (s : Setting) (taken : List ℕ) (k : ℕ) : Type 0 where
   pub whole : length taken ≡ k * row_length s
-  pub most : k ≤ s.rows
+  pub most : k ≤ tallest s
   pub in_range : AllInRange s taken
 
 -- these octets are a front of all packets of each image that begins with the first k rows of the raster
 pub record IsFrontOfEach (s : Setting) (taken : List ℕ) (k : ℕ) (gave : List ℕ) : Type 0 where
-  pub each : (x : ℕ → ℕ → ℤ) → SameWithin k s.width (image_of s taken) x → (n : ℕ) × (gave ≡ take n (output s x))
+  pub each : (rows : ℕ) (x : ℕ → ℕ → ℤ) → IsHeight s rows → k ≤ rows → SameWithin k s.width (image_of s taken) x → (n : ℕ) × (gave ≡ take n (output s rows x))
+
+-- or, where the rows were open and the end came, of the image of just these rows
+pub record IsFrontOfWhole (s : Setting) (new : Outside) (taken : List ℕ) (k : ℕ) (gave : List ℕ) : Type 0 where
+  pub left_open : s.rows ≡ 0
+  pub at_end : AtEnd new
+  pub height : IsHeight s k
+  pub some : ℕ
+  pub front : gave ≡ take some (output s k (image_of s taken))
 
 -- Why it was answered so. The answers exclude each other by what was taken, the end and the counts, so each comes exactly
 -- where its case holds, but for faults of the port. The row of a bad pixel is the number of whole rows in range before it.
 abbrev pub Answers : Setting → Outside → Outside → List ℕ → List ℕ → Result EncodeDone EncodeFault → Type 0
 Answers s old new took gave (Ok done) =
-    TookRaster s took × AtEnd new × (gave ≡ output s (image_of s took)) × DoneFor s (image_of s took) done
+    (rows : ℕ) × TookRaster s rows took × AtEnd new × (gave ≡ output s rows (image_of s took)) × DoneFor s rows (image_of s took) done
 Answers s old new took gave (Err (Short octets)) =
-    (octets ≡ length took) × (length took < raster_length s) × AtEnd new × AllInRange s took × (gave ≡ given_for s took)
+    (octets ≡ length took) × LacksRows s (length took) × AtEnd new × AllInRange s took × (gave ≡ given_for s took)
 Answers s old new took gave (Err Long) =
-    (length took ≡ raster_length s + 1) × TookRaster s (take (raster_length s) took)
-    × (gave ≡ output s (image_of s (take (raster_length s) took)))
+    (length took ≡ most_length s + 1) × AllInRange s (take (most_length s) took) × (gave ≡ given_for s took)
+    × (s.rows ≢ 0 → gave ≡ output s s.rows (image_of s (take (most_length s) took)))
 Answers s old new took gave (Err (BadPixel row column value)) =
-    (length took ≤ raster_length s) × FirstBad s took row column value × (gave ≡ settled_octets s took row)
+    (length took ≤ most_length s) × FirstBad s took row column value × (gave ≡ settled_octets s took row)
 Answers s old new took gave (Err ReadFault) =
-    Rose old.read_faults new.read_faults × (length took ≤ raster_length s) × AllInRange s took × (gave ≡ given_for s took)
+    Rose old.read_faults new.read_faults × (length took ≤ most_length s) × AllInRange s took × (gave ≡ given_for s took)
 Answers s old new took gave (Err WriteFault) =
-    Rose old.write_faults new.write_faults × ((k : ℕ) × TookRows s took k × IsFrontOfEach s took k gave)
+    Rose old.write_faults new.write_faults × ((k : ℕ) × TookRows s took k × (IsFrontOfEach s took k gave ⊎ IsFrontOfWhole s new took k gave))
 
 -- One run over a port: what it took and gave, when, and why it ended so. At each read call the packets of the segments that were
 -- settled by then are given, and nothing else.

@@ -1,18 +1,25 @@
 -- The raster that an encoder takes, and what it gives for it.
-use Rattle.std.specs.Prelude.{◌*◌, ◌/◌, ℕ, ℤ, List, length, min}
+use Rattle.std.specs.Prelude.{◌≡◌, ◌≢◌, ◌<◌, ◌⊎◌, ◌*◌, ◌/◌, ◌%◌, ℕ, ℤ, List, length, min}
+use Rattle.base_122.specs.Ranges.{rows_range}
 use Rattle.base_122.specs.declared.setting.Setting.{Setting}
 use Rattle.packet_defs.specs.Packets.{joined}
 use Rattle.raster_rows.specs.Pixels.{pixel_size, raster_pixel}
 use Rattle.raster_rows.specs.RowReads.{FirstInRange}
-use Rattle.stream_defs.specs.Output.{image_blocks, packets_of}
-use Rattle.stream_defs.specs.Settled.{settled}
+use Rattle.stream_defs.specs.SettledImages.{front_packets, settled_in}
+use Rattle.strip_coder.specs.Plans.{tallest}
 
--- octets of a row and of the whole raster
+-- octets of a row, and of the longest raster of a setting
 abbrev pub row_length : Setting → ℕ
 row_length s = s.width * pixel_size s.depth
 
-abbrev pub raster_length : Setting → ℕ
-raster_length s = s.rows * row_length s
+abbrev pub most_length : Setting → ℕ
+most_length s = tallest s * row_length s
+
+-- A raster of so many octets is no whole one, and may go on: it has fewer than the longest. If the rows are reported last, it ends inside a
+-- row, or has fewer rows than an image.
+pub record LacksRows (s : Setting) (octets : ℕ) : Type 0 where
+  pub fewer : octets < most_length s
+  pub left_open : s.rows ≡ 0 → (octets < rows_range.least * row_length s) ⊎ (octets % row_length s ≢ 0)
 
 -- the image that the octets of a raster show
 abbrev pub image_of : Setting → List ℕ → ℕ → ℕ → ℤ
@@ -22,13 +29,13 @@ image_of s octets = raster_pixel s.depth s.signed s.width octets
 abbrev pub AreInRange : Setting → List ℕ → ℕ → Type 0
 AreInRange s octets n = FirstInRange s.depth s.signed octets n
 
--- the packets of the segments that the first k rows of a raster settle
+-- the packets of the segments that the first k rows of a raster settle, however many rows more come
 unfoldable pub settled_octets : Setting → (taken : List ℕ) → (k : ℕ) → List ℕ
-settled_octets s taken k = joined (packets_of s (image_blocks s (image_of s taken)) (settled s k))
+settled_octets s taken k = joined (front_packets s (tallest s) (image_of s taken) (settled_in s (tallest s) k))
 
 -- the whole rows of a raster that these octets begin with
 abbrev pub whole_rows : Setting → List ℕ → ℕ
-whole_rows s taken = min s.rows (length taken / row_length s)
+whole_rows s taken = min (tallest s) (length taken / row_length s)
 
 -- what is given once these octets are taken: the packets of the segments that the whole rows settle
 unfoldable pub given_for : Setting → List ℕ → List ℕ

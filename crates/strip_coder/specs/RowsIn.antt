@@ -1,12 +1,15 @@
 -- The rows of a raster that a work took.
-use Rattle.std.specs.Prelude.{◌≡◌, ◌<◌, ◌+◌, ◌-◌, ◌*◌, ℕ, ℤ, List, [], length}
-use Rattle.port_122.specs.Outside.{Outside, Since, GivenBy}
+use Rattle.std.specs.Prelude.{◌≡◌, ◌<◌, ◌+◌, ◌-◌, ◌*◌, ◌==◌, ◌&&◌, nat_le, Bool, true, false, ℕ, ℤ, List, [], length}
+use Rattle.port_122.specs.Outside.{Outside, Since, GivenBy, AtEnd}
+use Rattle.base_122.specs.Ranges.{rows_range}
+use Rattle.base_122.specs.Setting.{IsHeight}
 use Rattle.wave_defs.specs.Held.{Agrees, signal}
 use Rattle.base_122.specs.declared.setting.Setting.{Setting}
 use Rattle.packet_defs.specs.Packets.{joined}
 use Rattle.raster_rows.specs.declared.reading.RowFault.{RowFault}
 use Rattle.raster_rows.specs.declared.reading.RowFault.TheVariants as row_faults
-use Rattle.stream_defs.specs.Output.{image_blocks, packets_of}
+use Rattle.stream_defs.specs.SettledImages.{front_packets}
+use Rattle.strip_coder.specs.Plans.{tallest}
 use Rattle.strip_coder.specs.declared.encode.EncodeFault.{EncodeFault}
 use Rattle.strip_coder.specs.declared.encode.EncodeFault.TheVariants.{ReadFault, Short, BadPixel}
 use Rattle.strip_coder.specs.declared.work.Work.{Work}
@@ -19,6 +22,12 @@ abbrev pub fault_after : ℕ → RowFault → EncodeFault
 fault_after before row_faults.ReadFault = ReadFault
 fault_after before (row_faults.Short octets) = Short (before + octets)
 fault_after before (row_faults.BadPixel row column value) = BadPixel row column value
+
+-- a fault of a row is the end of a raster whose rows are reported last: no octet of the row is there, and the rows before are enough
+abbrev pub ends_here : Setting → (row : ℕ) → RowFault → Bool
+ends_here s row row_faults.ReadFault = false
+ends_here s row (row_faults.Short octets) = (s.rows == 0) && (nat_le rows_range.least row && (octets == 0))
+ends_here s row (row_faults.BadPixel at column value) = false
 
 -- a row that is short has less than all of its octets
 abbrev pub ShortOf : RowFault → ℕ → Type 0
@@ -38,4 +47,15 @@ pub record HasCome (s : Setting) (k : ℕ) (p q : Outside) (w : Work) : Type 0 w
   pub in_range : AreInRange s took (k * s.width)
   pub stands : StandsFor s k (image_of s took) w
   pub last : 0 < k → LastStands s k took w.row.items
-  pub since : Since p q took (joined (packets_of s (image_blocks s (image_of s took)) w.at.index)) [] (GivenBy (given_for s) took)
+  pub since : Since p q took (joined (front_packets s (tallest s) (image_of s took) w.at.index)) [] (GivenBy (given_for s) took)
+
+-- All rows of a raster were taken. If their number is reported last, the input has ended.
+pub record HasAll (s : Setting) (p q : Outside) (w : Work) : Type 0 where
+  pub height : IsHeight s w.at.rows
+  pub come : HasCome s w.at.rows p q w
+  pub ended : s.rows ≡ 0 → AtEnd q
+
+-- after k rows one more was taken, or these are all, and their number is reported last
+abbrev pub TookOneMore : Bool → Setting → ℕ → Outside → Outside → Work → Type 0
+TookOneMore true s k p q w = HasCome s (k + 1) p q w
+TookOneMore false s k p q w = (s.rows ≡ 0) × HasAll s p q w

@@ -1,17 +1,22 @@
 -- What the steps of the encoder leave.
 use Rattle.std.specs.Prelude.{◌≡◌, ◌<◌, ◌≤◌, ◌+◌, ◌-◌, ◌*◌, ◌^◌, ℕ, ℤ, List, [], ◌++◌, length, take, Result, Ok, Err, MatchResult, slice_index_or, Bool, true, false}
 use Rattle.port_122.specs.Outside.{Outside, Since, NoRead, Rose}
-use Rattle.base_122.specs.Sizes.{block_count, padded_size, total_blocks}
+use Rattle.base_122.specs.Sizes.{block_count, padded_size, total_blocks, first_block, segment_blocks}
+use Rattle.base_122.specs.Ranges.{IsWithin, rows_range}
+use Rattle.base_122.specs.Setting.{sized}
 use Rattle.base_122.specs.declared.setting.Setting.{Setting}
+use Rattle.strip_coder.specs.declared.plan.Plan.{Plan}
+use Rattle.strip_coder.specs.Plans.{plan_of, whole, tallest}
 use Rattle.packet_defs.specs.Packets.{joined}
 use Rattle.wave_defs.specs.Held.{block_at, signal, Agrees}
 use Rattle.wave_defs.specs.Pyramid.{padded}
 use Rattle.wave_defs.specs.Within.{AllWithin}
 use Rattle.wave_strip.specs.Strip.{rows_of, answered_of}
+use Rattle.wave_strip.specs.Counts.{settled}
 use Rattle.raster_rows.specs.Pixels.{IsPixel}
-use Rattle.stream_defs.specs.Output.{image_blocks, packets_of, segments_of}
+use Rattle.stream_defs.specs.Output.{image_blocks, packets_of, segments_of, tells_last}
 use Rattle.strip_coder.specs.declared.work.Work.{Work}
-use Rattle.strip_coder.specs.Works.{AreSmall, IsMadeFor, HasGathered, IsRunning, HasTaken, HoldsBlocks, FollowsImage, gathered_in}
+use Rattle.strip_coder.specs.Works.{AreSmall, IsMadeFor, HasGathered, IsRunning, HasTaken, HoldsBlocks, StripFollows, FollowsImage, FollowsRows, gathered_in}
 use Rattle.strip_coder.specs.declared.encode.EncodeDone.{EncodeDone}
 use Rattle.strip_coder.specs.Answers.{DoneFor}
 use Rattle.strip_coder.specs.SegmentsOut.{progress_at}
@@ -30,29 +35,33 @@ pub record Stays (old new : Work) : Type 0 where
   pub rows : new.at.rows ≡ old.at.rows
 
 -- an image has room for so many blocks more
-abbrev pub HasRoom : Setting → ℕ → Work → Type 0
-HasRoom s n w = gathered_in s w.at + n ≤ total_blocks s.width s.rows
+abbrev pub HasRoom : Plan → ℕ → Work → Type 0
+HasRoom s n w = gathered_in s w.at + n ≤ total_blocks s.setting.width s.rows
 
 -- The packets of these blocks went on from the first segments before this index to those before that one.
-pub record GoesOn (s : Setting) (all : List (List ℤ)) (from to : ℕ) (p q : Outside) : Type 0 where
+pub record GoesOn (s : Plan) (all : List (List ℤ)) (from to : ℕ) (p q : Outside) : Type 0 where
   pub gave : List ℕ
   pub out : Since p q [] gave [] NoRead
-  pub then_are : joined (packets_of s all from) ++ gave ≡ joined (packets_of s all to)
+  pub then_are : joined (packets_of (tells_last s.setting) (whole s) all from) ++ gave ≡ joined (packets_of (tells_last s.setting) (whole s) all to)
 
--- Of the packets of these blocks, of which those before this index were out, no more than a front is.
-pub record BreaksOff (s : Setting) (all : List (List ℤ)) (from : ℕ) (p q : Outside) : Type 0 where
+-- A write failed in the packets of one segment, where those of the segments before an index were out: a front of them is out. Of the blocks of
+-- the image so many were gathered, those of that segment among them.
+pub record BreaksOff (s : Plan) (all : List (List ℤ)) (from gathered : ℕ) (p q : Outside) : Type 0 where
   pub gave : List ℕ
   pub out : Since p q [] gave [] NoRead
+  pub index : ℕ
+  pub inside : index < segments_of (whole s)
+  pub there : first_block s.setting.segment index + segment_blocks (total_blocks s.setting.width s.rows) s.setting.segment index ≤ gathered
   pub some : ℕ
-  pub front : joined (packets_of s all from) ++ gave ≡ take some (joined (packets_of s all (segments_of s)))
+  pub front : joined (packets_of (tells_last s.setting) (whole s) all from) ++ gave ≡ take some (joined (packets_of (tells_last s.setting) (whole s) all (index + 1)))
 
 -- these blocks are those of an image, and the next n of them after those gathered are these
-pub record NextAre (s : Setting) (w : Work) (n : ℕ) (numbers : ℕ → List ℤ) (all : List (List ℤ)) : Type 0 where
-  pub whole : length all ≡ total_blocks s.width s.rows
+pub record NextAre (s : Plan) (w : Work) (n : ℕ) (numbers : ℕ → List ℤ) (all : List (List ℤ)) : Type 0 where
+  pub whole : length all ≡ total_blocks s.setting.width s.rows
   pub next : (i : ℕ) → i < n → slice_index_or all (gathered_in s w.at + i) [] ≡ numbers i
 
 -- n blocks were gathered, and each segment that became full was written
-pub record HasGone (s : Setting) (numbers : ℕ → List ℤ) (n : ℕ) (p q : Outside) (old new : Work) : Type 0 where
+pub record HasGone (s : Plan) (numbers : ℕ → List ℤ) (n : ℕ) (p q : Outside) (old new : Work) : Type 0 where
   pub stays : Stays old new
   pub gathered : HasGathered s new
   pub count : gathered_in s new.at ≡ gathered_in s old.at + n
@@ -61,61 +70,63 @@ pub record HasGone (s : Setting) (numbers : ℕ → List ℤ) (n : ℕ) (p q : O
   pub goes : (all : List (List ℤ)) → NextAre s old n numbers all → HoldsBlocks s all old → GoesOn s all old.at.index new.at.index p q
 
 -- a write failed meanwhile
-pub record HasBroken (s : Setting) (numbers : ℕ → List ℤ) (n : ℕ) (p q : Outside) (old new : Work) : Type 0 where
-  pub made : IsMadeFor s new
+pub record HasBroken (s : Plan) (numbers : ℕ → List ℤ) (n : ℕ) (p q : Outside) (old new : Work) : Type 0 where
+  pub made : IsMadeFor s.setting new
   pub rose : Rose p.write_faults q.write_faults
-  pub breaks : (all : List (List ℤ)) → NextAre s old n numbers all → HoldsBlocks s all old → BreaksOff s all old.at.index p q
+  pub breaks : (all : List (List ℤ)) → NextAre s old n numbers all → HoldsBlocks s all old → BreaksOff s all old.at.index (gathered_in s old.at + n) p q
 
-abbrev pub Gathers : {T E : Type 0} → Result T E → Setting → (ℕ → List ℤ) → ℕ → Outside → Outside → Work → Work → Type 0
+abbrev pub Gathers : {T E : Type 0} → Result T E → Plan → (ℕ → List ℤ) → ℕ → Outside → Outside → Work → Work → Type 0
 Gathers result s numbers n p q old new = MatchResult result
     (λ _. HasGone s numbers n p q old new)
     (λ _. HasBroken s numbers n p q old new)
 
 -- the present segment was written, and none of the next is there yet
-pub record PresentOut (s : Setting) (p q : Outside) (old new : Work) : Type 0 where
+pub record PresentOut (s : Plan) (p q : Outside) (old new : Work) : Type 0 where
   pub stays : Stays old new
   pub gathered : HasGathered s new
   pub index : new.at.index ≡ old.at.index + 1
   pub filled : new.at.filled ≡ 0
   pub faults : p.write_faults ≤ q.write_faults
-  pub holds : (all : List (List ℤ)) → length all ≡ total_blocks s.width s.rows → HoldsBlocks s all old → HoldsBlocks s all new
-  pub goes : (all : List (List ℤ)) → length all ≡ total_blocks s.width s.rows → HoldsBlocks s all old → GoesOn s all old.at.index new.at.index p q
+  pub holds : (all : List (List ℤ)) → length all ≡ total_blocks s.setting.width s.rows → HoldsBlocks s all old → HoldsBlocks s all new
+  pub goes : (all : List (List ℤ)) → length all ≡ total_blocks s.setting.width s.rows → HoldsBlocks s all old → GoesOn s all old.at.index new.at.index p q
 
-pub record PresentCut (s : Setting) (p q : Outside) (old new : Work) : Type 0 where
-  pub made : IsMadeFor s new
+pub record PresentCut (s : Plan) (p q : Outside) (old new : Work) : Type 0 where
+  pub made : IsMadeFor s.setting new
   pub rose : Rose p.write_faults q.write_faults
-  pub breaks : (all : List (List ℤ)) → length all ≡ total_blocks s.width s.rows → HoldsBlocks s all old → BreaksOff s all old.at.index p q
+  pub breaks : (all : List (List ℤ)) → length all ≡ total_blocks s.setting.width s.rows → HoldsBlocks s all old → BreaksOff s all old.at.index (gathered_in s old.at) p q
 
-abbrev pub WritesPresent : {T E : Type 0} → Result T E → Setting → Outside → Outside → Work → Work → Type 0
+abbrev pub WritesPresent : {T E : Type 0} → Result T E → Plan → Outside → Outside → Work → Work → Type 0
 WritesPresent result s p q old new = MatchResult result (λ _. PresentOut s p q old new) (λ _. PresentCut s p q old new)
 
 -- ---- rows
 
 -- each number of the row is at most 2 ^ 16 in magnitude
-abbrev pub IsRowSmall : Setting → Work → Type 0
-IsRowSmall s w = AllWithin (2 ^ 16) (padded_size s.width) (signal w.row.items)
+abbrev pub IsRowSmall : Plan → Work → Type 0
+IsRowSmall s w = AllWithin (2 ^ 16) (padded_size s.setting.width) (signal w.row.items)
 
 -- the row is the next one that the strip takes of this image
-abbrev pub NextRowIs : Setting → (ℕ → ℕ → ℤ) → Work → Type 0
-NextRowIs s x w = Agrees (padded_size s.width) (signal w.row.items) (padded x s.rows s.width (rows_of w.strip))
+abbrev pub NextRowIs : Plan → (ℕ → ℕ → ℤ) → Work → Type 0
+NextRowIs s x w = Agrees (padded_size s.setting.width) (signal w.row.items) (padded x s.rows s.setting.width (rows_of w.strip))
 
 -- the row was pushed, and the block row that came with it was gathered
-pub record HasPushed (s : Setting) (p q : Outside) (old new : Work) : Type 0 where
+pub record HasPushed (s : Plan) (p q : Outside) (old new : Work) : Type 0 where
   pub running : IsRunning s new
   pub strip_rows : rows_of new.strip ≡ rows_of old.strip + 1
   pub row : new.row ≡ old.row
   pub rows : new.at.rows ≡ old.at.rows
   pub faults : p.write_faults ≤ q.write_faults
   pub follows : (x : ℕ → ℕ → ℤ) → FollowsImage s x old → NextRowIs s x old → FollowsImage s x new
-  pub goes : (x : ℕ → ℕ → ℤ) → FollowsImage s x old → NextRowIs s x old → GoesOn s (image_blocks s x) old.at.index new.at.index p q
+  pub strip : (x : ℕ → ℕ → ℤ) (rows : ℕ) → IsWithin rows_range rows → rows_of old.strip < rows → StripFollows (plan_of s.setting rows) x old → NextRowIs (plan_of s.setting rows) x old →
+      StripFollows (plan_of s.setting rows) x new
+  pub goes : (x : ℕ → ℕ → ℤ) → FollowsImage s x old → NextRowIs s x old → GoesOn s (image_blocks (whole s) x) old.at.index new.at.index p q
 
 -- a write failed meanwhile
-pub record HasNotPushed (s : Setting) (p q : Outside) (old new : Work) : Type 0 where
-  pub made : IsMadeFor s new
+pub record HasNotPushed (s : Plan) (p q : Outside) (old new : Work) : Type 0 where
+  pub made : IsMadeFor s.setting new
   pub rose : Rose p.write_faults q.write_faults
-  pub breaks : (x : ℕ → ℕ → ℤ) → FollowsImage s x old → NextRowIs s x old → BreaksOff s (image_blocks s x) old.at.index p q
+  pub breaks : (x : ℕ → ℕ → ℤ) → FollowsImage s x old → NextRowIs s x old → BreaksOff s (image_blocks (whole s) x) old.at.index (block_count s.setting.width * settled (rows_of old.strip + 1)) p q
 
-abbrev pub Pushes : {T E : Type 0} → Result T E → Setting → Outside → Outside → Work → Work → Type 0
+abbrev pub Pushes : {T E : Type 0} → Result T E → Plan → Outside → Outside → Work → Work → Type 0
 Pushes result s p q old new = MatchResult result (λ _. HasPushed s p q old new) (λ _. HasNotPushed s p q old new)
 
 -- ---- the engine
@@ -128,95 +139,107 @@ pub record IsRowInRange (s : Setting) (row : List ℤ) : Type 0 where
 abbrev pub RowIs : Setting → (ℕ → ℕ → ℤ) → ℕ → Work → Type 0
 RowIs s x k w = Agrees s.width (signal w.row.items) (x k)
 
+-- the blocks of the tallest image
+abbrev pub tall_blocks : Setting → (ℕ → ℕ → ℤ) → List (List ℤ)
+tall_blocks s x = image_blocks (sized s (tallest s)) x
+
 -- one more row was taken
 pub record TakesRow (s : Setting) (k : ℕ) (p q : Outside) (old new : Work) : Type 0 where
-  pub taken : HasTaken s (k + 1) new
+  pub taken : HasTaken (plan_of s (tallest s)) (k + 1) new
   pub row : Agrees s.width (signal new.row.items) (signal old.row.items)
   pub faults : p.write_faults ≤ q.write_faults
-  pub follows : (x : ℕ → ℕ → ℤ) → FollowsImage s x old → RowIs s x k old → FollowsImage s x new
-  pub goes : (x : ℕ → ℕ → ℤ) → FollowsImage s x old → RowIs s x k old → GoesOn s (image_blocks s x) old.at.index new.at.index p q
+  pub follows : (x : ℕ → ℕ → ℤ) → FollowsRows s x old → RowIs s x k old → FollowsRows s x new
+  pub goes : (x : ℕ → ℕ → ℤ) → FollowsRows s x old → RowIs s x k old → GoesOn (plan_of s (tallest s)) (tall_blocks s x) old.at.index new.at.index p q
 
 -- a write failed meanwhile
 pub record BreaksAt (s : Setting) (k : ℕ) (p q : Outside) (old new : Work) : Type 0 where
   pub made : IsMadeFor s new
   pub rose : Rose p.write_faults q.write_faults
-  pub breaks : (x : ℕ → ℕ → ℤ) → FollowsImage s x old → RowIs s x k old → BreaksOff s (image_blocks s x) old.at.index p q
+  pub breaks : (x : ℕ → ℕ → ℤ) → FollowsRows s x old → RowIs s x k old → BreaksOff (plan_of s (tallest s)) (tall_blocks s x) old.at.index (block_count s.width * settled (k + 1)) p q
 
--- all packets of the image are out
-pub record EndsImage (s : Setting) (p q : Outside) (old new : Work) (result : EncodeDone) : Type 0 where
+-- all packets of an image of so many rows are out
+pub record EndsImage (s : Setting) (rows : ℕ) (p q : Outside) (old new : Work) (result : EncodeDone) : Type 0 where
   pub made : IsMadeFor s new
   pub faults : p.write_faults ≤ q.write_faults
-  pub goes : (x : ℕ → ℕ → ℤ) → FollowsImage s x old → RowIs s x (s.rows - 1) old → GoesOn s (image_blocks s x) old.at.index (segments_of s) p q
-  pub done : (x : ℕ → ℕ → ℤ) → FollowsImage s x old → RowIs s x (s.rows - 1) old → DoneFor s x result
+  pub goes : (x : ℕ → ℕ → ℤ) → FollowsRows s x old → RowIs s x (rows - 1) old →
+      GoesOn (plan_of s rows) (image_blocks (sized s rows) x) old.at.index (segments_of (sized s rows)) p q
+  pub done : (x : ℕ → ℕ → ℤ) → FollowsRows s x old → RowIs s x (rows - 1) old → DoneFor s rows x result
+
+-- a write failed meanwhile
+pub record EndBreaks (s : Setting) (rows : ℕ) (p q : Outside) (old new : Work) : Type 0 where
+  pub made : IsMadeFor s new
+  pub rose : Rose p.write_faults q.write_faults
+  pub breaks : (x : ℕ → ℕ → ℤ) → FollowsRows s x old → RowIs s x (rows - 1) old →
+      BreaksOff (plan_of s rows) (image_blocks (sized s rows) x) old.at.index (total_blocks s.width rows) p q
 
 -- ---- the end of an image
 
 -- the row is the last one of this image
-abbrev pub LastRowIs : Setting → (ℕ → ℕ → ℤ) → Work → Type 0
-LastRowIs s x w = Agrees (padded_size s.width) (signal w.row.items) (padded x s.rows s.width (s.rows - 1))
+abbrev pub LastRowIs : Plan → (ℕ → ℕ → ℤ) → Work → Type 0
+LastRowIs s x w = Agrees (padded_size s.setting.width) (signal w.row.items) (padded x s.rows s.setting.width (s.rows - 1))
 
 -- the last row was pushed n times more
-pub record HasPushedOn (s : Setting) (n : ℕ) (p q : Outside) (old new : Work) : Type 0 where
+pub record HasPushedOn (s : Plan) (n : ℕ) (p q : Outside) (old new : Work) : Type 0 where
   pub running : IsRunning s new
   pub strip_rows : rows_of new.strip ≡ rows_of old.strip + n
   pub row : new.row ≡ old.row
   pub faults : p.write_faults ≤ q.write_faults
   pub follows : (x : ℕ → ℕ → ℤ) → FollowsImage s x old → LastRowIs s x old → FollowsImage s x new
-  pub goes : (x : ℕ → ℕ → ℤ) → FollowsImage s x old → LastRowIs s x old → GoesOn s (image_blocks s x) old.at.index new.at.index p q
+  pub goes : (x : ℕ → ℕ → ℤ) → FollowsImage s x old → LastRowIs s x old → GoesOn s (image_blocks (whole s) x) old.at.index new.at.index p q
 
 -- a write failed meanwhile
-pub record HasNotPushedOn (s : Setting) (p q : Outside) (old new : Work) : Type 0 where
-  pub made : IsMadeFor s new
+pub record HasNotPushedOn (s : Plan) (p q : Outside) (old new : Work) : Type 0 where
+  pub made : IsMadeFor s.setting new
   pub rose : Rose p.write_faults q.write_faults
-  pub breaks : (x : ℕ → ℕ → ℤ) → FollowsImage s x old → LastRowIs s x old → BreaksOff s (image_blocks s x) old.at.index p q
+  pub breaks : (x : ℕ → ℕ → ℤ) → FollowsImage s x old → LastRowIs s x old → BreaksOff s (image_blocks (whole s) x) old.at.index (total_blocks s.setting.width s.rows) p q
 
-abbrev pub PushesOn : {T E : Type 0} → Result T E → Setting → ℕ → Outside → Outside → Work → Work → Type 0
+abbrev pub PushesOn : {T E : Type 0} → Result T E → Plan → ℕ → Outside → Outside → Work → Work → Type 0
 PushesOn result s n p q old new = MatchResult result (λ _. HasPushedOn s n p q old new) (λ _. HasNotPushedOn s p q old new)
 
 -- all rows of the padded image were pushed, and the first block rows of it were gathered
-pub record IsEnding (s : Setting) (w : Work) : Type 0 where
+pub record IsEnding (s : Plan) (w : Work) : Type 0 where
   pub gathered : HasGathered s w
-  pub count : gathered_in s w.at ≡ block_count s.width * answered_of w.strip
+  pub count : gathered_in s w.at ≡ block_count s.setting.width * answered_of w.strip
   pub rows : rows_of w.strip ≡ padded_size s.rows
   pub most : answered_of w.strip ≤ block_count s.rows
 
 -- the next of these was gathered
-pub record HasFinished (s : Setting) (p q : Outside) (old new : Work) : Type 0 where
+pub record HasFinished (s : Plan) (p q : Outside) (old new : Work) : Type 0 where
   pub ending : IsEnding s new
   pub answered : answered_of new.strip ≡ answered_of old.strip + 1
   pub faults : p.write_faults ≤ q.write_faults
   pub follows : (x : ℕ → ℕ → ℤ) → FollowsImage s x old → FollowsImage s x new
-  pub goes : (x : ℕ → ℕ → ℤ) → FollowsImage s x old → GoesOn s (image_blocks s x) old.at.index new.at.index p q
+  pub goes : (x : ℕ → ℕ → ℤ) → FollowsImage s x old → GoesOn s (image_blocks (whole s) x) old.at.index new.at.index p q
 
 -- there is none
-pub record HasNoMore (s : Setting) (p q : Outside) (old new : Work) : Type 0 where
+pub record HasNoMore (s : Plan) (p q : Outside) (old new : Work) : Type 0 where
   pub all : answered_of old.strip ≡ block_count s.rows
   pub still : q ≡ p
   pub at : new.at ≡ old.at
   pub packets : new.packets ≡ old.packets
-  pub made : IsMadeFor s new
+  pub made : IsMadeFor s.setting new
 
 -- a write failed meanwhile
-pub record HasNotFinished (s : Setting) (p q : Outside) (old new : Work) : Type 0 where
-  pub made : IsMadeFor s new
+pub record HasNotFinished (s : Plan) (p q : Outside) (old new : Work) : Type 0 where
+  pub made : IsMadeFor s.setting new
   pub rose : Rose p.write_faults q.write_faults
-  pub breaks : (x : ℕ → ℕ → ℤ) → FollowsImage s x old → BreaksOff s (image_blocks s x) old.at.index p q
+  pub breaks : (x : ℕ → ℕ → ℤ) → FollowsImage s x old → BreaksOff s (image_blocks (whole s) x) old.at.index (total_blocks s.setting.width s.rows) p q
 
-abbrev pub Finishes : {E : Type 0} → Result Bool E → Setting → Outside → Outside → Work → Work → Type 0
+abbrev pub Finishes : {E : Type 0} → Result Bool E → Plan → Outside → Outside → Work → Work → Type 0
 Finishes (Ok true) s p q old new = HasFinished s p q old new
 Finishes (Ok false) s p q old new = HasNoMore s p q old new
 Finishes (Err e) s p q old new = HasNotFinished s p q old new
 
 -- some of these were gathered
-pub record HasFinishedOn (s : Setting) (p q : Outside) (old new : Work) : Type 0 where
+pub record HasFinishedOn (s : Plan) (p q : Outside) (old new : Work) : Type 0 where
   pub ending : IsEnding s new
   pub faults : p.write_faults ≤ q.write_faults
   pub follows : (x : ℕ → ℕ → ℤ) → FollowsImage s x old → FollowsImage s x new
-  pub goes : (x : ℕ → ℕ → ℤ) → FollowsImage s x old → GoesOn s (image_blocks s x) old.at.index new.at.index p q
+  pub goes : (x : ℕ → ℕ → ℤ) → FollowsImage s x old → GoesOn s (image_blocks (whole s) x) old.at.index new.at.index p q
 
 -- all of them were, and all packets are out
-pub record AllOut (s : Setting) (p q : Outside) (old new : Work) : Type 0 where
-  pub made : IsMadeFor s new
+pub record AllOut (s : Plan) (p q : Outside) (old new : Work) : Type 0 where
+  pub made : IsMadeFor s.setting new
   pub faults : p.write_faults ≤ q.write_faults
-  pub stands : (x : ℕ → ℕ → ℤ) → FollowsImage s x old → new.packets ≡ progress_at s (image_blocks s x) (segments_of s)
-  pub goes : (x : ℕ → ℕ → ℤ) → FollowsImage s x old → GoesOn s (image_blocks s x) old.at.index (segments_of s) p q
+  pub stands : (x : ℕ → ℕ → ℤ) → FollowsImage s x old → new.packets ≡ progress_at s (image_blocks (whole s) x) (segments_of (whole s))
+  pub goes : (x : ℕ → ℕ → ℤ) → FollowsImage s x old → GoesOn s (image_blocks (whole s) x) old.at.index (segments_of (whole s)) p q

@@ -1,101 +1,118 @@
 -- What a work holds, and for which images.
-use Rattle.std.specs.Prelude.{◌≡◌, ◌<◌, ◌≤◌, ◌+◌, ◌*◌, ◌^◌, ℕ, ℤ, pos, min, List, [], false, vec_len, slice_index_or, unsigned_abs}
+use Rattle.std.specs.Prelude.{◌≡◌, ◌≢◌, ◌<◌, ◌≤◌, ◌+◌, ◌-◌, ◌*◌, ◌^◌, ◌==◌, if◌then◌else◌, ℕ, ℤ, pos, min, List, [], false, vec_len, slice_index_or, unsigned_abs}
 use Rattle.base_122.specs.Sizes.{block_count, padded_size, total_blocks, first_block, segment_blocks, sample_need}
 use Rattle.base_122.specs.declared.setting.Setting.{Setting}
+use Rattle.strip_coder.specs.declared.plan.Plan.{Plan}
 use Rattle.wave_defs.specs.Pyramid.{padded}
 use Rattle.wave_defs.specs.Held.{SameWithin, block_at}
 use Rattle.wave_strip.specs.Strip.{rows_of, answered_of, columns_of, has_ended, Follows}
 use Rattle.wave_strip.specs.Counts.{settled}
 use Rattle.wave_strip.specs.Samples.{samples_of as strip_samples}
 use Rattle.space_packets.specs.declared.stage.Stage.TheVariants.{Idle}
-use Rattle.stream_defs.specs.Output.{image_blocks, segments_of}
+use Rattle.stream_defs.specs.Output.{image_blocks, segments_of, used_before, tells_last}
 use Rattle.stream_defs.specs.Settled.{settled as settled_segments}
 use Rattle.strip_coder.specs.declared.work.Work.{Work}
 use Rattle.strip_coder.specs.declared.work.ImageAt.{ImageAt}
+use Rattle.base_122.specs.Setting.{IsHeight}
+use Rattle.strip_coder.specs.Plans.{MoreMayCome, plan_of, tallest, whole}
 use Rattle.strip_coder.specs.SegmentsOut.{progress_at}
 
 -- the blocks that a segment has at most
 abbrev pub most_blocks : Setting → ℕ
-most_blocks s = segment_blocks (total_blocks s.width s.rows) s.segment 0
+most_blocks s = if s.rows == 0 then s.segment else segment_blocks (total_blocks s.width s.rows) s.segment 0
 
 -- the samples of all its lists
 abbrev pub samples_of : Work → ℕ
 samples_of w = strip_samples w.strip + (vec_len w.row + vec_len w.blocks + vec_len w.marks)
 
--- a work was made for this setting
+-- a work was made for this setting: it has room for its segments
 pub record IsMadeFor (s : Setting) (w : Work) : Type 0 where
   pub row : vec_len w.row ≡ padded_size s.width
-  pub blocks : vec_len w.blocks ≡ 64 * most_blocks s
-  pub marks : vec_len w.marks ≡ most_blocks s
+  pub blocks : 64 * most_blocks s ≤ vec_len w.blocks
+  pub marks : most_blocks s ≤ vec_len w.marks
   pub strip : columns_of w.strip ≡ block_count s.width
   pub packet : w.packets.packet ≡ s.packet
   pub room : w.room ≡ sample_need s.width s.segment
 
+-- what the coded segments so far leave of a bound on all: 36 octets at least for each of those that follow
+pub record KeepsShare (s : Setting) (at : ImageAt) : Type 0 where
+  pub left : s.total ≢ 0 → at.used + 36 * (segments_of s - at.index) ≤ s.total
+
 -- ---- how far it has come
 
 -- the blocks gathered so far, which are the first ones
-abbrev pub gathered_in : Setting → ImageAt → ℕ
-gathered_in s at = min (first_block s.segment at.index) (total_blocks s.width s.rows) + at.filled
+abbrev pub gathered_in : Plan → ImageAt → ℕ
+gathered_in s at = min (first_block s.setting.segment at.index) (total_blocks s.setting.width s.rows) + at.filled
 
 -- the numbers of the first n blocks are below 2 ^ 27 in magnitude
 pub record AreSmall (n : ℕ) (cells : List ℤ) : Type 0 where
   pub at : (i : ℕ) → i < 64 * n → unsigned_abs (slice_index_or cells i (pos 0)) < 2 ^ 27
 
 -- Some blocks of an image were gathered: the present segment isn't full, and no text is begun.
-pub record HasGathered (s : Setting) (w : Work) : Type 0 where
-  pub made : IsMadeFor s w
-  pub index : w.at.index ≤ segments_of s
-  pub present : w.at.index < segments_of s → w.at.filled < segment_blocks (total_blocks s.width s.rows) s.segment w.at.index
-  pub none : w.at.index ≡ segments_of s → w.at.filled ≡ 0
+pub record HasGathered (s : Plan) (w : Work) : Type 0 where
+  pub made : IsMadeFor s.setting w
+  pub share : KeepsShare (whole s) w.at
+  pub index : w.at.index ≤ segments_of (whole s)
+  pub present : w.at.index < segments_of (whole s) → w.at.filled < segment_blocks (total_blocks s.setting.width s.rows) s.setting.segment w.at.index
+  pub none : w.at.index ≡ segments_of (whole s) → w.at.filled ≡ 0
   pub small : AreSmall w.at.filled w.blocks.items
   pub idle : w.packets.stage ≡ Idle
   pub texts : w.packets.texts ≡ w.at.index
 
 -- The present segment is full, and no text is begun.
-pub record IsFull (s : Setting) (w : Work) : Type 0 where
-  pub made : IsMadeFor s w
-  pub index : w.at.index < segments_of s
-  pub full : w.at.filled ≡ segment_blocks (total_blocks s.width s.rows) s.segment w.at.index
+pub record IsFull (s : Plan) (w : Work) : Type 0 where
+  pub made : IsMadeFor s.setting w
+  pub share : KeepsShare (whole s) w.at
+  pub index : w.at.index < segments_of (whole s)
+  pub full : w.at.filled ≡ segment_blocks (total_blocks s.setting.width s.rows) s.setting.segment w.at.index
   pub small : AreSmall w.at.filled w.blocks.items
   pub idle : w.packets.stage ≡ Idle
   pub texts : w.packets.texts ≡ w.at.index
 
 -- The block rows that come with the rows pushed so far were gathered, and the strip takes more.
-pub record IsRunning (s : Setting) (w : Work) : Type 0 where
+pub record IsRunning (s : Plan) (w : Work) : Type 0 where
   pub gathered : HasGathered s w
-  pub count : gathered_in s w.at ≡ block_count s.width * settled (rows_of w.strip)
+  pub count : gathered_in s w.at ≡ block_count s.setting.width * settled (rows_of w.strip)
   pub answered : answered_of w.strip ≡ settled (rows_of w.strip)
   pub running : has_ended w.strip ≡ false
 
--- So many rows were taken. While more come, the segments before the present one are just those that these rows settle.
-pub record HasTaken (s : Setting) (k : ℕ) (w : Work) : Type 0 where
+-- So many rows were taken. While more may come, the segments before the present one are exactly those that these rows settle.
+pub record HasTaken (s : Plan) (k : ℕ) (w : Work) : Type 0 where
   pub running : IsRunning s w
   pub rows : w.at.rows ≡ k
   pub strip_rows : rows_of w.strip ≡ k
-  pub index : k < s.rows → w.at.index ≡ settled_segments s k
+  pub index : MoreMayCome s k → w.at.index ≡ settled_segments (tells_last s.setting) (whole s) k
 
 -- ---- and for which images
 
--- the present segment has its first blocks of these, and the packets of all segments before it were written, and nothing else
-pub record HoldsBlocks (s : Setting) (all : List (List ℤ)) (w : Work) : Type 0 where
-  pub blocks : (i : ℕ) → i < w.at.filled → block_at w.blocks.items i ≡ slice_index_or all (first_block s.segment w.at.index + i) []
+-- The present segment has its first blocks of these, and the packets of all segments before it were written, and nothing else. If
+-- there is a bound on all coded segments, the octets of these are counted.
+pub record HoldsBlocks (s : Plan) (all : List (List ℤ)) (w : Work) : Type 0 where
+  pub blocks : (i : ℕ) → i < w.at.filled → block_at w.blocks.items i ≡ slice_index_or all (first_block s.setting.segment w.at.index + i) []
   pub packets : w.packets ≡ progress_at s all w.at.index
+  pub used : s.setting.total ≢ 0 → w.at.used ≡ used_before (whole s) all w.at.index
 
 -- the strip stands as after the first rows of this image
-abbrev pub StripFollows : Setting → (ℕ → ℕ → ℤ) → Work → Type 0
-StripFollows s x w = Follows (padded x s.rows s.width) (block_count s.rows) w.strip
+abbrev pub StripFollows : Plan → (ℕ → ℕ → ℤ) → Work → Type 0
+StripFollows s x w = Follows (padded x s.rows s.setting.width) (block_count s.rows) w.strip
 
 -- a work follows an image, part by part
-pub record FollowsImage (s : Setting) (x : ℕ → ℕ → ℤ) (w : Work) : Type 0 where
+pub record FollowsImage (s : Plan) (x : ℕ → ℕ → ℤ) (w : Work) : Type 0 where
   pub strip : StripFollows s x w
-  pub holds : HoldsBlocks s (image_blocks s x) w
+  pub holds : HoldsBlocks s (image_blocks (whole s) x) w
+
+-- A work follows an image of which more rows may come: while it has the plan of the tallest one, its strip stands as after the first rows of
+-- the image of any height that it may still have.
+pub record FollowsRows (s : Setting) (x : ℕ → ℕ → ℤ) (w : Work) : Type 0 where
+  pub tall : FollowsImage (plan_of s (tallest s)) x w
+  pub any : (rows : ℕ) → IsHeight s rows → rows_of w.strip ≤ rows → StripFollows (plan_of s rows) x w
 
 -- A work stands for the first k rows of an image: it follows each image that has these.
 pub record StandsFor (s : Setting) (k : ℕ) (x : ℕ → ℕ → ℤ) (w : Work) : Type 0 where
-  pub taken : HasTaken s k w
-  pub follows : (y : ℕ → ℕ → ℤ) → SameWithin k s.width x y → FollowsImage s y w
+  pub taken : HasTaken (plan_of s (tallest s)) k w
+  pub follows : (y : ℕ → ℕ → ℤ) → SameWithin k s.width x y → FollowsRows s y w
 
 -- for no rows, so it follows each image
 pub record StandsForNone (s : Setting) (w : Work) : Type 0 where
-  pub taken : HasTaken s 0 w
-  pub follows : (x : ℕ → ℕ → ℤ) → FollowsImage s x w
+  pub taken : HasTaken (plan_of s (tallest s)) 0 w
+  pub follows : (x : ℕ → ℕ → ℤ) → FollowsRows s x w

@@ -1,14 +1,17 @@
 // The encoder row by row.
 ghost use Rattle.std.specs.Prelude.{◌≡◌, ◌<◌, ◌-◌, ◌*◌, MatchResult};
 ghost use Rattle.base_122.specs.Ranges.{IsInRange};
+ghost use Rattle.base_122.specs.Setting.{IsHeight};
+ghost use Rattle.strip_coder.specs.Plans.{IsPlan, plan_of, whole, tallest};
 ghost use Rattle.base_122.specs.Sizes.{padded_size};
 ghost use Rattle.wave_strip.specs.Strip.{rows_of};
 ghost use Rattle.strip_coder.specs.Works.{IsMadeFor, IsRunning, HasTaken, StandsForNone};
-ghost use Rattle.strip_coder.specs.Steps.{IsRowSmall, IsRowInRange, Pushes, PushesOn, IsEnding, Finishes, AllOut, HasNotFinished, TakesRow, BreaksAt, EndsImage};
+ghost use Rattle.strip_coder.specs.Steps.{IsRowSmall, IsRowInRange, Pushes, PushesOn, IsEnding, Finishes, AllOut, HasNotFinished, TakesRow, BreaksAt, EndsImage, EndBreaks};
 ghost use Rattle.stream_defs.specs.Output.{segments_of};
 
 use crate::encode::EncodeDone;
 use crate::gather::gather_row;
+use crate::plan::Plan;
 use crate::work::{ImageAt, Work};
 use base_122::Setting;
 use port_122::{Failed, Port};
@@ -28,115 +31,121 @@ pub fn start_image(setting: &Setting, work: &mut Work)
         rows: 0,
         filled: 0,
         index: 0,
+        used: 0,
     };
 }
 
 // Pushes the row into the strip, and gathers the block row that comes with it.
-fn push<X: Port>(port: &mut X, setting: &Setting, work: &mut Work) -> Result<(), Failed>
-    requires in_range { IsInRange setting.now }
-    requires running { IsRunning setting.now work.old }
-    requires few { rows_of work.old.strip < padded_size setting.now.rows }
-    requires small { IsRowSmall setting.now work.old }
-    ensures { Pushes result setting.now (X.outside port.old) (X.outside port.new) work.old work.new }
+fn push<X: Port>(port: &mut X, plan: &Plan, work: &mut Work) -> Result<(), Failed>
+    requires in_range { IsPlan plan.now }
+    requires running { IsRunning plan.now work.old }
+    requires few { rows_of work.old.strip < padded_size plan.now.rows }
+    requires small { IsRowSmall plan.now work.old }
+    ensures { Pushes result plan.now (X.outside port.old) (X.outside port.new) work.old work.new }
 {
     let came = work.strip.push_row(&work.row);
     if came.is_none() {
         return Ok(());
     }
-    gather_row(port, setting, work)
+    gather_row(port, plan, work)
 }
 
 // Pushes the last row once more for each row that pads the image.
-fn push_tail<X: Port>(port: &mut X, setting: &Setting, work: &mut Work) -> Result<(), Failed>
-    requires in_range { IsInRange setting.now }
-    requires running { IsRunning setting.now work.old }
-    requires rows { rows_of work.old.strip ≡ setting.now.rows }
-    requires small { IsRowSmall setting.now work.old }
-    ensures { PushesOn result setting.now (padded_size setting.now.rows - setting.now.rows) (X.outside port.old) (X.outside port.new) work.old work.new }
+fn push_tail<X: Port>(port: &mut X, plan: &Plan, work: &mut Work) -> Result<(), Failed>
+    requires in_range { IsPlan plan.now }
+    requires running { IsRunning plan.now work.old }
+    requires rows { rows_of work.old.strip ≡ plan.now.rows }
+    requires small { IsRowSmall plan.now work.old }
+    ensures { PushesOn result plan.now (padded_size plan.now.rows - plan.now.rows) (X.outside port.old) (X.outside port.new) work.old work.new }
 {
-    let more = setting.geometry().padded_rows() - setting.rows;
+    let more = plan.setting.geometry_for(plan.rows).padded_rows() - plan.rows;
     for _ in 0..more {
-        push(port, setting, work)?;
+        push(port, plan, work)?;
     }
     Ok(())
 }
 
 // Gathers the next of the block rows that come at the end, where there is one.
-fn finish_one<X: Port>(port: &mut X, setting: &Setting, work: &mut Work) -> Result<bool, Failed>
-    requires in_range { IsInRange setting.now }
-    requires ending { IsEnding setting.now work.old }
-    ensures { Finishes result setting.now (X.outside port.old) (X.outside port.new) work.old work.new }
+fn finish_one<X: Port>(port: &mut X, plan: &Plan, work: &mut Work) -> Result<bool, Failed>
+    requires in_range { IsPlan plan.now }
+    requires ending { IsEnding plan.now work.old }
+    ensures { Finishes result plan.now (X.outside port.old) (X.outside port.new) work.old work.new }
 {
     let came = work.strip.finish_row();
     if came.is_none() {
         return Ok(false);
     }
-    gather_row(port, setting, work)?;
+    gather_row(port, plan, work)?;
     Ok(true)
 }
 
 // Gathers all block rows that come at the end.
-fn finish<X: Port>(port: &mut X, setting: &Setting, work: &mut Work) -> Result<(), Failed>
-    requires in_range { IsInRange setting.now }
-    requires ending { IsEnding setting.now work.old }
+fn finish<X: Port>(port: &mut X, plan: &Plan, work: &mut Work) -> Result<(), Failed>
+    requires in_range { IsPlan plan.now }
+    requires ending { IsEnding plan.now work.old }
     ensures { MatchResult result
-        (λ _. AllOut setting.now (X.outside port.old) (X.outside port.new) work.old work.new)
-        (λ _. HasNotFinished setting.now (X.outside port.old) (X.outside port.new) work.old work.new) }
+        (λ _. AllOut plan.now (X.outside port.old) (X.outside port.new) work.old work.new)
+        (λ _. HasNotFinished plan.now (X.outside port.old) (X.outside port.new) work.old work.new) }
 {
-    while finish_one(port, setting, work)? {}
+    while finish_one(port, plan, work)? {}
     Ok(())
 }
 
-/// Takes the row that stands in the first `width` places of `row`, and gives the packets of the segments that it settles. Fewer
-/// rows were taken than the image has, and the values are in range. After `Failed` only `start_image` may follow.
+/// Takes the row in the first `width` places of `row`, and writes the packets of the segments that it settles. Fewer rows were taken
+/// than the image may have: the rows of the setting or, if it leaves them open, 262,144. The values are in range. After `Failed` only
+/// `start_image` may follow.
 pub fn row_in<X: Port>(port: &mut X, setting: &Setting, work: &mut Work) -> Result<(), Failed>
     requires in_range { IsInRange setting.now }
-    requires taken { HasTaken setting.now work.old.at.rows work.old }
-    requires few { work.old.at.rows < setting.now.rows }
+    requires taken { HasTaken (plan_of setting.now (tallest setting.now)) work.old.at.rows work.old }
+    requires few { work.old.at.rows < tallest setting.now }
     requires values { IsRowInRange setting.now work.old.row.items }
     ensures { MatchResult result
         (λ _. TakesRow setting.now work.old.at.rows (X.outside port.old) (X.outside port.new) work.old work.new)
         (λ _. BreaksAt setting.now work.old.at.rows (X.outside port.old) (X.outside port.new) work.old work.new) }
 {
+    let plan = Plan::tallest(setting);
     pad_row(setting.width, &mut work.row);
-    let Ok(()) = push(port, setting, work) else {
+    let Ok(()) = push(port, &plan, work) else {
         return Err(Failed);
     };
     work.at.rows += 1;
     Ok(())
 }
 
-/// Gives the rest of the packets of an image of which all rows were taken. The first `width` places of `row` are still the last
-/// of these. After either answer only `start_image` may follow.
+/// Writes the rest of the packets of an image of which all rows were taken. The first `width` places of `row` are still the last of
+/// these. There are as many as the setting has or, if it leaves their number open, 17 to 262,144. After either answer only
+/// `start_image` may follow.
 pub fn image_end<X: Port>(
     port: &mut X,
     setting: &Setting,
     work: &mut Work,
 ) -> Result<EncodeDone, Failed>
     requires in_range { IsInRange setting.now }
-    requires taken { HasTaken setting.now setting.now.rows work.old }
+    requires height { IsHeight setting.now work.old.at.rows }
+    requires taken { HasTaken (plan_of setting.now (tallest setting.now)) work.old.at.rows work.old }
     requires values { IsRowInRange setting.now work.old.row.items }
     ensures { MatchResult result
-        (λ done. EndsImage setting.now (X.outside port.old) (X.outside port.new) work.old work.new done)
-        (λ _. BreaksAt setting.now (setting.now.rows - 1) (X.outside port.old) (X.outside port.new) work.old work.new) }
+        (λ done. EndsImage setting.now work.old.at.rows (X.outside port.old) (X.outside port.new) work.old work.new done)
+        (λ _. EndBreaks setting.now work.old.at.rows (X.outside port.old) (X.outside port.new) work.old work.new) }
 {
+    let plan = Plan::new(setting, work.at.rows);
     pad_row(setting.width, &mut work.row);
-    let Ok(()) = push_tail(port, setting, work) else {
+    let Ok(()) = push_tail(port, &plan, work) else {
         return Err(Failed);
     };
-    let Ok(()) = finish(port, setting, work) else {
+    let Ok(()) = finish(port, &plan, work) else {
         return Err(Failed);
     };
-    Ok(done_so_far(setting, &work.packets))
+    Ok(done_so_far(&plan, &work.packets))
 }
 
 /// What a packetiser that wrote all segments has done.
-pub fn done_so_far(setting: &Setting, packets: &Packetiser) -> EncodeDone
-    requires { IsInRange setting.now }
-    ensures { result ≡ record { segments = segments_of setting.now; packets = packets.now.packets; octets = packets.now.octets } }
+pub fn done_so_far(plan: &Plan, packets: &Packetiser) -> EncodeDone
+    requires { IsPlan plan.now }
+    ensures { result ≡ record { segments = segments_of (whole plan.now); packets = packets.now.packets; octets = packets.now.octets } }
 {
     EncodeDone {
-        segments: setting.geometry().segments(),
+        segments: plan.setting.geometry_for(plan.rows).segments(),
         packets: packets.packets(),
         octets: packets.octets(),
     }

@@ -1,6 +1,6 @@
 // The blocks of a block row, into segments that are written as they become full.
 ghost use Rattle.std.specs.Prelude.{◌≡◌, ◌≤◌, ◌<◌, ◌+◌, ◌*◌, ◌^◌, All, length, take, true, MatchResult};
-ghost use Rattle.base_122.specs.Ranges.{IsInRange};
+ghost use Rattle.strip_coder.specs.Plans.{IsPlan, whole};
 ghost use Rattle.base_122.specs.Sizes.{block_count};
 ghost use Rattle.base_122.specs.Weights.{IsShift};
 ghost use Rattle.block_families.specs.Places.{gathered};
@@ -10,12 +10,13 @@ ghost use Rattle.space_packets.specs.Writes.{TextOut, TextCut};
 ghost use Rattle.space_packets.specs.declared.stage.Stage.TheVariants.{Idle};
 ghost use Rattle.stream_defs.specs.Output.{segments_of};
 ghost use Rattle.strip_coder.specs.SegmentsOut.{text_of, text_for};
-ghost use Rattle.strip_coder.specs.Works.{AreSmall, HasGathered, IsFull};
+ghost use Rattle.strip_coder.specs.Works.{AreSmall, KeepsShare, HasGathered, IsFull};
 ghost use Rattle.strip_coder.specs.Steps.{PutsBlock, Gathers, HasRoom, WritesPresent};
 
+use crate::plan::Plan;
 use crate::segments::write_segment;
-use crate::work::Work;
-use base_122::{Setting, Weights};
+use crate::work::{ImageAt, Work};
+use base_122::Weights;
 use block_families::gather;
 use port_122::{Failed, Port};
 use space_packets::Packetiser;
@@ -41,31 +42,33 @@ fn put_block(strip: &StripWave, weights: &Weights, column: u32, place: usize, bl
 // Writes the packets of the segment of which so many blocks stand first.
 fn write_front<X: Port>(
     port: &mut X,
-    setting: &Setting,
-    index: u32,
+    plan: &Plan,
+    at: &ImageAt,
     count: usize,
     blocks: &[i32],
     marks: &mut [i32],
     packets: &mut Packetiser,
-) -> Result<(), Failed>
-    requires in_range { IsInRange setting.now }
-    requires index { index < segments_of setting.now }
+) -> Result<u64, Failed>
+    requires in_range { IsPlan plan.now }
+    requires index { at.now.index < segments_of (whole plan.now) }
+    requires share { KeepsShare (whole plan.now) at.now }
     requires some { 1 ≤ count }
     requires most { count ≤ 1048575 }
     requires blocks { 64 * count ≤ length blocks.now }
     requires marks { count ≤ length marks.old }
     requires small { AreSmall count blocks.now }
-    requires packet { packets.old.packet ≡ setting.now.packet }
+    requires packet { packets.old.packet ≡ plan.now.setting.packet }
     requires idle { packets.old.stage ≡ Idle }
     requires texts { packets.old.texts < 2 ^ 28 }
     ensures { MatchResult result
-        (λ _. TextOut (text_of setting.now index) (X.outside port.old) (X.outside port.new) packets.old packets.new (text_for setting.now index (blocks_in (take (64 * count) blocks.now))))
-        (λ _. TextCut (text_of setting.now index) (X.outside port.old) (X.outside port.new) packets.old packets.new (text_for setting.now index (blocks_in (take (64 * count) blocks.now)))) }
+        (λ octets. TextOut (text_of plan.now at.now.index) (X.outside port.old) (X.outside port.new) packets.old packets.new (text_for plan.now at.now.index at.now.used (blocks_in (take (64 * count) blocks.now)))
+        × (octets ≡ length (text_for plan.now at.now.index at.now.used (blocks_in (take (64 * count) blocks.now)))))
+        (λ _. TextCut (text_of plan.now at.now.index) (X.outside port.old) (X.outside port.new) packets.old packets.new (text_for plan.now at.now.index at.now.used (blocks_in (take (64 * count) blocks.now)))) }
 {
     write_segment(
         port,
-        setting,
-        index,
+        plan,
+        at,
         &blocks[..64 * count],
         &mut marks[..count],
         packets,
@@ -73,16 +76,16 @@ fn write_front<X: Port>(
 }
 
 // Writes the present segment, which is full, and goes on to the next.
-fn write_present<X: Port>(port: &mut X, setting: &Setting, work: &mut Work) -> Result<(), Failed>
-    requires in_range { IsInRange setting.now }
-    requires full { IsFull setting.now work.old }
-    ensures { WritesPresent result setting.now (X.outside port.old) (X.outside port.new) work.old work.new }
+fn write_present<X: Port>(port: &mut X, plan: &Plan, work: &mut Work) -> Result<(), Failed>
+    requires in_range { IsPlan plan.now }
+    requires full { IsFull plan.now work.old }
+    ensures { WritesPresent result plan.now (X.outside port.old) (X.outside port.new) work.old work.new }
 {
     let count = work.at.filled as usize;
-    let Ok(()) = write_front(
+    let Ok(octets) = write_front(
         port,
-        setting,
-        work.at.index,
+        plan,
+        &work.at,
         count,
         &work.blocks,
         &mut work.marks,
@@ -92,49 +95,56 @@ fn write_present<X: Port>(port: &mut X, setting: &Setting, work: &mut Work) -> R
     };
     work.at.index += 1;
     work.at.filled = 0;
+    // A bound on all texts is at most 2^40, so what is counted for it never reaches 2^64.
+    work.at.used = work.at.used.saturating_add(octets);
     Ok(())
 }
 
 // Gathers the block of this column of the block row that stands, and writes the present segment where that makes it full.
 fn gather_column<X: Port>(
     port: &mut X,
-    setting: &Setting,
+    plan: &Plan,
     work: &mut Work,
     column: u32,
 ) -> Result<(), Failed>
-    requires in_range { IsInRange setting.now }
-    requires gathered { HasGathered setting.now work.old }
-    requires more { work.old.at.index < segments_of setting.now }
+    requires in_range { IsPlan plan.now }
+    requires gathered { HasGathered plan.now work.old }
+    requires more { work.old.at.index < segments_of (whole plan.now) }
     requires stands { is_standing work.old.strip ≡ true }
-    requires column { column < block_count setting.now.width }
-    ensures { Gathers result setting.now (λ _. gathered (number_in work.old.strip) setting.now.weights.shifts column) 1 (X.outside port.old) (X.outside port.new) work.old work.new }
+    requires column { column < block_count plan.now.setting.width }
+    ensures { Gathers result plan.now (λ _. gathered (number_in work.old.strip) plan.now.setting.weights.shifts column) 1 (X.outside port.old) (X.outside port.new) work.old work.new }
 {
     let place = work.at.filled as usize;
     put_block(
         &work.strip,
-        &setting.weights,
+        &plan.setting.weights,
         column,
         place,
         &mut work.blocks,
     );
     work.at.filled += 1;
-    if work.at.filled < setting.geometry().blocks_of(work.at.index) {
+    if work.at.filled
+        < plan
+            .setting
+            .geometry_for(plan.rows)
+            .blocks_of(work.at.index)
+    {
         return Ok(());
     }
-    write_present(port, setting, work)
+    write_present(port, plan, work)
 }
 
 /// Gathers the block row that stands, block by block, and writes each segment that becomes full.
-pub fn gather_row<X: Port>(port: &mut X, setting: &Setting, work: &mut Work) -> Result<(), Failed>
-    requires in_range { IsInRange setting.now }
-    requires gathered { HasGathered setting.now work.old }
-    requires room { HasRoom setting.now (block_count setting.now.width) work.old }
+pub fn gather_row<X: Port>(port: &mut X, plan: &Plan, work: &mut Work) -> Result<(), Failed>
+    requires in_range { IsPlan plan.now }
+    requires gathered { HasGathered plan.now work.old }
+    requires room { HasRoom plan.now (block_count plan.now.setting.width) work.old }
     requires stands { is_standing work.old.strip ≡ true }
-    ensures { Gathers result setting.now (gathered (number_in work.old.strip) setting.now.weights.shifts) (block_count setting.now.width) (X.outside port.old) (X.outside port.new) work.old work.new }
+    ensures { Gathers result plan.now (gathered (number_in work.old.strip) plan.now.setting.weights.shifts) (block_count plan.now.setting.width) (X.outside port.old) (X.outside port.new) work.old work.new }
 {
-    let columns = setting.geometry().padded_width() / 8;
+    let columns = plan.setting.geometry_for(plan.rows).padded_width() / 8;
     for column in 0..columns {
-        gather_column(port, setting, work, column)?;
+        gather_column(port, plan, work, column)?;
     }
     Ok(())
 }

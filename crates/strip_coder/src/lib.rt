@@ -3,12 +3,18 @@
 
 mod encode;
 mod engine;
+#[cfg(test)]
+mod examples;
 mod gather;
+mod laws;
+mod plan;
+mod room;
 mod rows;
 mod segments;
 mod work;
 
 pub use encode::{EncodeDone, EncodeFault};
 pub use engine::{image_end, row_in, start_image};
+pub use laws::last_row_settles_all;
 pub use rows::encode_rows;
 pub use work::{ImageAt, Work};

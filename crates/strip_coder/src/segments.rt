@@ -6,45 +6,80 @@ ghost use Rattle.space_packets.specs.declared.stage.Stage.TheVariants.{Idle};
 ghost use Rattle.segment_code.specs.Numbers.{AreBounded};
 ghost use Rattle.strip_coder.specs.SegmentsOut.{text_of, text_for};
 ghost use Rattle.base_122.specs.Sizes.{padded_size};
-ghost use Rattle.base_122.specs.Ranges.{IsInRange};
-ghost use Rattle.stream_defs.specs.Output.{ancillary_of, head_with, image_part, segments_of, written_stop};
+ghost use Rattle.strip_coder.specs.Plans.{IsPlan, whole};
+ghost use Rattle.strip_coder.specs.Works.{KeepsShare};
+ghost use Rattle.stream_defs.specs.Output.{ancillary_of, head_with, image_part, segments_of, share, tells_last, written_stop};
 
-use base_122::{Select, Setting, Stop};
+use crate::plan::Plan;
+use crate::work::ImageAt;
+use base_122::{FieldRange, Select, Setting, Stop};
 use port_122::{Failed, Port};
 use segment_code::{encode_segment, segment_depths};
 use segment_head::{ImagePart, SegmentHead};
 use space_packets::{Ancillary, Packetiser};
 
-/// Writes the packets of one segment.
+/// Writes the packets of the present segment, and returns the octets of its text.
 pub fn write_segment<X: Port>(
     port: &mut X,
-    setting: &Setting,
-    index: u32,
+    plan: &Plan,
+    at: &ImageAt,
     blocks: &[i32],
     marks: &mut [i32],
     packets: &mut Packetiser,
-) -> Result<(), Failed>
-    requires in_range { IsInRange setting.now }
-    requires index { index < segments_of setting.now }
+) -> Result<u64, Failed>
+    requires in_range { IsPlan plan.now }
+    requires index { at.now.index < segments_of (whole plan.now) }
+    requires share { KeepsShare (whole plan.now) at.now }
     requires some { 1 ≤ length marks.old }
     requires most { length marks.old ≤ 1048575 }
     requires blocks { length blocks.now ≡ 64 * length marks.old }
     requires bounded { AreBounded blocks.now }
-    requires packet { packets.old.packet ≡ setting.now.packet }
+    requires packet { packets.old.packet ≡ plan.now.setting.packet }
     requires idle { packets.old.stage ≡ Idle }
     requires texts { packets.old.texts < 2 ^ 28 }
     ensures { MatchResult result
-        (λ _. TextOut (text_of setting.now index) (X.outside port.old) (X.outside port.new) packets.old packets.new (text_for setting.now index (blocks_in blocks.now)))
-        (λ _. TextCut (text_of setting.now index) (X.outside port.old) (X.outside port.new) packets.old packets.new (text_for setting.now index (blocks_in blocks.now))) }
+        (λ octets. TextOut (text_of plan.now at.now.index) (X.outside port.old) (X.outside port.new) packets.old packets.new (text_for plan.now at.now.index at.now.used (blocks_in blocks.now))
+        × (octets ≡ length (text_for plan.now at.now.index at.now.used (blocks_in blocks.now))))
+        (λ _. TextCut (text_of plan.now at.now.index) (X.outside port.old) (X.outside port.new) packets.old packets.new (text_for plan.now at.now.index at.now.used (blocks_in blocks.now))) }
 {
     let (depth_dc, depth_ac) = segment_depths(blocks, marks);
-    let head = make_head(setting, index, marks.len() as u32, depth_dc, depth_ac);
-    packets.begin(setting.apid, ancillary(setting, index));
+    let limit = share(plan, at);
+    let head = make_head(
+        plan,
+        at.index,
+        limit,
+        marks.len() as u32,
+        depth_dc,
+        depth_ac,
+    );
+    packets.begin(plan.setting.apid, ancillary(plan, at.index));
     let mut sink = packets.sink(port);
-    let Ok(_) = encode_segment(&mut sink, &head, blocks, marks) else {
+    let Ok(octets) = encode_segment(&mut sink, &head, blocks, marks) else {
         return Err(Failed);
     };
-    packets.close(port)
+    let Ok(()) = packets.close(port) else {
+        return Err(Failed);
+    };
+    Ok(octets)
+}
+
+// Returns the octets that the text of the present segment has at most; 0 is no bound. Of a bound on all texts it is an even share of
+// what is left, in whole code words.
+fn share(plan: &Plan, at: &ImageAt) -> u32
+    requires in_range { IsPlan plan.now }
+    requires index { at.now.index < segments_of (whole plan.now) }
+    requires left { KeepsShare (whole plan.now) at.now }
+    ensures { result ≡ share (whole plan.now) at.now.index at.now.used }
+{
+    let setting = &plan.setting;
+    if setting.total == 0 {
+        return setting.limit;
+    }
+    let left = setting.total - at.used;
+    let segments = u64::from(setting.geometry_for(plan.rows).segments() - at.index);
+    let word = u64::from(setting.word);
+    let octets = (left / segments).min(FieldRange::LIMIT.most) / word * word;
+    octets as u32
 }
 
 // What each head says of the image.
@@ -61,11 +96,11 @@ fn image_part(setting: &Setting) -> ImagePart
 }
 
 // Rows that pad the image.
-fn pad_rows(setting: &Setting) -> u8
-    requires { IsInRange setting.now }
-    ensures { result ≡ padded_size setting.now.rows - setting.now.rows }
+fn pad_rows(plan: &Plan) -> u8
+    requires { IsPlan plan.now }
+    ensures { result ≡ padded_size plan.now.rows - plan.now.rows }
 {
-    (setting.geometry().padded_rows() - setting.rows) as u8
+    (plan.setting.geometry_for(plan.rows).padded_rows() - plan.rows) as u8
 }
 
 // The stop as a head says it.
@@ -84,12 +119,20 @@ fn written_stop(stop: Stop) -> Stop
 }
 
 // The head of a segment of so many blocks with these depths.
-fn make_head(setting: &Setting, index: u32, count: u32, depth_dc: u8, depth_ac: u8) -> SegmentHead
-    requires in_range { IsInRange setting.now }
-    requires index { index < segments_of setting.now }
-    ensures { result ≡ head_with setting.now index count depth_dc depth_ac }
+fn make_head(
+    plan: &Plan,
+    index: u32,
+    limit: u32,
+    count: u32,
+    depth_dc: u8,
+    depth_ac: u8,
+) -> SegmentHead
+    requires in_range { IsPlan plan.now }
+    requires index { index < segments_of (whole plan.now) }
+    ensures { result ≡ head_with (whole plan.now) index limit count depth_dc depth_ac }
 {
-    let last = index + 1 == setting.geometry().segments();
+    let setting = &plan.setting;
+    let last = index + 1 == setting.geometry_for(plan.rows).segments();
     let best = setting.select == Select::Optimal;
     SegmentHead {
         first: index == 0,
@@ -97,8 +140,8 @@ fn make_head(setting: &Setting, index: u32, count: u32, depth_dc: u8, depth_ac: 
         count: (index % 256) as u8,
         depth_dc,
         depth_ac,
-        pad_rows: if last { pad_rows(setting) } else { 0 },
-        limit: setting.limit,
+        pad_rows: if last { pad_rows(plan) } else { 0 },
+        limit,
         stop: written_stop(setting.stop),
         fill: setting.fill,
         blocks: count,
@@ -109,12 +152,14 @@ fn make_head(setting: &Setting, index: u32, count: u32, depth_dc: u8, depth_ac: 
 }
 
 // What the packets of a segment say of it.
-fn ancillary(setting: &Setting, index: u32) -> Ancillary
-    requires in_range { IsInRange setting.now }
-    requires index { index < segments_of setting.now }
-    ensures { result ≡ ancillary_of setting.now index }
+fn ancillary(plan: &Plan, index: u32) -> Ancillary
+    requires in_range { IsPlan plan.now }
+    requires index { index < segments_of (whole plan.now) }
+    ensures { result ≡ ancillary_of (tells_last plan.now.setting) (whole plan.now) index }
 {
+    let setting = &plan.setting;
     Ancillary {
+        told_last: setting.rows == 0,
         image: setting.image,
         rows: setting.rows,
         segment: setting.segment,

@@ -2,17 +2,21 @@
 ghost use Rattle.std.specs.Prelude.{◌≡◌, ◌+◌, ◌*◌, ◌≤◌, vec_len};
 ghost use Rattle.wave_strip.specs.Strip.{columns_of};
 
+use crate::plan::Plan;
+use crate::room::most_blocks;
 use base_122::{Setting, need};
 use space_packets::Packetiser;
 use std::alloc::{AllocError, Global};
 use wave_strip::StripWave;
 
-/// How far an image has come: rows taken, blocks gathered of the present segment, and its index.
+/// How far an image is encoded: rows taken, blocks gathered of the present segment, its index, and the octets of the coded segments
+/// before it (`used`), which count against a bound on all of them.
 #[derive(Clone, Copy, Debug, PartialEq, Eq)]
 pub struct ImageAt {
     pub rows: u32,
     pub filled: u32,
     pub index: u32,
+    pub used: u64,
 }
 
 /// The transform, one padded row, the blocks of one segment with their marks, one packet, and how far the image has come.
@@ -30,20 +34,22 @@ pub struct Work {
 }
 
 impl Work {
-    ghost use Rattle.std.specs.Prelude.{◌≡◌, ◌≤◌, IfOk};
+    ghost use Rattle.std.specs.Prelude.{◌≡◌, ◌≤◌, ◌*◌, IfOk, vec_len};
     ghost use Rattle.base_122.specs.Ranges.{IsInRange};
-    ghost use Rattle.strip_coder.specs.Works.{IsMadeFor, samples_of, StandsForNone};
+    ghost use Rattle.strip_coder.specs.Works.{IsMadeFor, most_blocks, samples_of, StandsForNone};
 
     /// Takes all memory that images of this setting need (docs/architecture.md, "The encoder"). The one error is want of
     /// memory.
     pub fn new(alloc: Global, setting: &Setting) -> Result<Work, AllocError>
         requires { IsInRange setting.now }
         ensures made { IfOk result (IsMadeFor setting.now) }
+        ensures blocks { IfOk result (λ made. vec_len made.blocks ≡ 64 * most_blocks setting.now) }
+        ensures marks { IfOk result (λ made. vec_len made.marks ≡ most_blocks setting.now) }
         ensures start { IfOk result (StandsForNone setting.now) }
     {
-        let geometry = setting.geometry();
+        let geometry = setting.geometry_for(Plan::tallest(setting).rows);
         let width = geometry.padded_width();
-        let count = geometry.blocks_of(0) as usize;
+        let count = most_blocks(setting) as usize;
         let row = vec![in alloc; 0; width as usize]?;
         let blocks = vec![in alloc; 0; 64 * count]?;
         let marks = vec![in alloc; 0; count]?;
@@ -60,6 +66,7 @@ impl Work {
                 rows: 0,
                 filled: 0,
                 index: 0,
+                used: 0,
             },
         })
     }

@@ -5,7 +5,7 @@ use Rattle.strip_coder.specs.Steps.{HasFinishedOn}
 use Rattle.strip_coder.proofs.engine.finish.Given as goal
 
 abbrev pub invariant-loop : goal.invariant-loop
-invariant-loop g l = HasFinishedOn l.setting (g.X.Port.outside l.initial.port) (g.X.Port.outside l.port) l.initial.work l.work
+invariant-loop g l = HasFinishedOn l.plan (g.X.Port.outside l.initial.port) (g.X.Port.outside l.port) l.initial.work l.work
 
 abbrev pub decreases-loop : goal.decreases-loop
-decreases-loop g l = block_count l.setting.rows - answered_of l.work.strip
+decreases-loop g l = block_count l.plan.rows - answered_of l.work.strip

@@ -6,14 +6,14 @@ pub gather_row-requires-clause-room : goal.gather_row-requires-clause-room
 gather_row-requires-clause-room g c =
     let w = c.args.work.now in
     let e = c.finish_row-came.ensures in
-    has_room c.args.setting.now w c.finish_row-came.new.self c.requires.ending
+    has_room c.args.plan.now w c.finish_row-came.new.self c.requires.ending
     (row_finished c.finish_row-came.result w.strip c.finish_row-came.new.self c.if-is_none.ensures e.columns e.rows e.answer e.standing e.follows e.shows)
 
 pub returns-in_err-gather_row : goal.returns-in_err-gather_row
 returns-in_err-gather_row g c =
     let w = c.args.work.now in
     let e = c.finish_row-came.ensures in
-    finished_broken c.args.setting.now c.requires.in_range w _ c.requires.ending
+    finished_broken c.args.plan.now c.requires.in_range w _ c.requires.ending
     (record { row = refl; blocks = refl; marks = refl; packets = refl; room = refl; at = refl })
     (row_finished c.finish_row-came.result w.strip c.finish_row-came.new.self c.if-is_none.ensures e.columns e.rows e.answer e.standing e.follows e.shows)
     (g.X.Port.outside c.args.port.now) (g.X.Port.outside c.gather_row.new.port) c.from_residual.result c.gather_row.new.work c.from_residual.ensures.0 c.in_err-gather_row.ensures
@@ -22,7 +22,7 @@ pub returns : goal.returns
 returns g c =
     let w = c.args.work.now in
     let e = c.finish_row-came.ensures in
-    finished_gone c.args.setting.now c.requires.in_range w _ c.requires.ending
+    finished_gone c.args.plan.now c.requires.in_range w _ c.requires.ending
     (record { row = refl; blocks = refl; marks = refl; packets = refl; room = refl; at = refl })
     (row_finished c.finish_row-came.result w.strip c.finish_row-came.new.self c.if-is_none.ensures e.columns e.rows e.answer e.standing e.follows e.shows)
     c.gather_row.new.work c.in_ok-gather_row.ensures

@@ -1,45 +1,96 @@
 use Rattle.std.proofs.Common.{refl, ◌∙◌}
 use Rattle.base_122.specs.Sizes.{padded_size}
+use Rattle.strip_coder.specs.Plans.{plan_of}
 use Rattle.strip_coder.proofs.RowTakes.{padded_small}
 use Rattle.strip_coder.proofs.PaddedRows.{pads, long_as}
-use Rattle.strip_coder.proofs.ImageEnds.{all_pushed, image_ends, tail_breaks, finish_breaks}
+use Rattle.strip_coder.proofs.ImageEnds.{all_running, all_follows, all_pushed, image_ends, tail_breaks, finish_breaks}
 use Rattle.strip_coder.proofs.engine.image_end.Goals as goal
+
+pub push_tail-requires-clause-in_range : goal.push_tail-requires-clause-in_range
+push_tail-requires-clause-in_range g c = rw c.new-plan.ensures (record { in_range = c.requires.in_range; height = c.requires.height })
+
+pub push_tail-requires-clause-running : goal.push_tail-requires-clause-running
+push_tail-requires-clause-running g c =
+    let s = c.args.setting.now in
+    let w = c.args.work.now in
+    let run = all_running s w.at.rows w c.requires.in_range c.requires.height c.requires.taken in
+    let has = run.gathered in
+    let made = has.made in
+    rw c.new-plan.ensures record {
+      gathered = record {
+        made = record {
+          row = made.row;
+          blocks = made.blocks;
+          marks = made.marks;
+          strip = made.strip;
+          packet = made.packet;
+          room = made.room;
+        };
+        share = has.share;
+        index = has.index;
+        present = has.present;
+        none = has.none;
+        small = has.small;
+        idle = has.idle;
+        texts = has.texts;
+      };
+      count = run.count;
+      answered = run.answered;
+      running = run.running;
+    }
+
+pub push_tail-requires-clause-rows : goal.push_tail-requires-clause-rows
+push_tail-requires-clause-rows g c = rw c.new-plan.ensures c.requires.taken.strip_rows
 
 pub push_tail-requires-clause-small : goal.push_tail-requires-clause-small
 push_tail-requires-clause-small g c =
     let s = c.args.setting.now in
     let w = c.args.work.now in
     let long = c.pad_row.auto.row ∙ c.deref_mut.ensures.len in
-    padded_small s c.requires.in_range w.row.items _ (pads s.width w.row _ c.pad_row.new.row c.deref_mut.ensures.value long c.pad_row.ensures)
-    (long_as w.row c.pad_row.new.row (padded_size s.width) long c.requires.taken.running.gathered.made.row) c.requires.values
+    rw c.new-plan.ensures
+    (padded_small (plan_of s w.at.rows) (record { in_range = c.requires.in_range; height = c.requires.height }) w.row.items _
+    (pads s.width w.row _ c.pad_row.new.row c.deref_mut.ensures.value long c.pad_row.ensures)
+    (long_as w.row c.pad_row.new.row (padded_size s.width) long c.requires.taken.running.gathered.made.row) c.requires.values)
+
+pub finish-requires-clause-in_range : goal.finish-requires-clause-in_range
+finish-requires-clause-in_range g c = rw c.new-plan.ensures (record { in_range = c.requires.in_range; height = c.requires.height })
 
 pub finish-requires-clause-ending : goal.finish-requires-clause-ending
-finish-requires-clause-ending g c = all_pushed c.args.setting.now _ c.push_tail.new.work c.requires.taken.strip_rows c.in-Ok.ensures
+finish-requires-clause-ending g c =
+    let s = c.args.setting.now in
+    let w = c.args.work.now in
+    rw c.new-plan.ensures (all_pushed (plan_of s w.at.rows) _ c.push_tail.new.work c.requires.taken.strip_rows (rw c.new-plan.ensures at c.in-Ok.ensures))
+
+pub done_so_far-requires : goal.done_so_far-requires
+done_so_far-requires g c = rw c.new-plan.ensures (record { in_range = c.requires.in_range; height = c.requires.height })
 
 pub returns-in_default : goal.returns-in_default
 returns-in_default g c =
     let s = c.args.setting.now in
     let w = c.args.work.now in
     let long = c.pad_row.auto.row ∙ c.deref_mut.ensures.len in
-    tail_breaks s c.requires.in_range w _ (record { strip = refl; blocks = refl; packets = refl; at = refl })
+    tail_breaks s w.at.rows (record { in_range = c.requires.in_range; height = c.requires.height }) w _ (record { strip = refl; blocks = refl; packets = refl; at = refl })
     (pads s.width w.row _ c.pad_row.new.row c.deref_mut.ensures.value long c.pad_row.ensures)
-    (long_as w.row c.pad_row.new.row (padded_size s.width) long c.requires.taken.running.gathered.made.row) c.push_tail.new.work c.in_default.ensures
+    (long_as w.row c.pad_row.new.row (padded_size s.width) long c.requires.taken.running.gathered.made.row)
+    (all_follows s w.at.rows w c.requires.in_range c.requires.height c.requires.taken) c.push_tail.new.work (rw c.new-plan.ensures at c.in_default.ensures)
 
 pub returns-in_default-finish : goal.returns-in_default-finish
 returns-in_default-finish g c =
     let s = c.args.setting.now in
     let w = c.args.work.now in
     let long = c.pad_row.auto.row ∙ c.deref_mut.ensures.len in
-    finish_breaks s c.requires.in_range w _ (record { strip = refl; blocks = refl; packets = refl; at = refl })
+    finish_breaks s w.at.rows (record { in_range = c.requires.in_range; height = c.requires.height }) w _ (record { strip = refl; blocks = refl; packets = refl; at = refl })
     (pads s.width w.row _ c.pad_row.new.row c.deref_mut.ensures.value long c.pad_row.ensures)
-    (long_as w.row c.pad_row.new.row (padded_size s.width) long c.requires.taken.running.gathered.made.row) _ c.push_tail.new.work c.finish.new.work c.in-Ok.ensures c.in_default-finish.ensures
+    (long_as w.row c.pad_row.new.row (padded_size s.width) long c.requires.taken.running.gathered.made.row)
+    (all_follows s w.at.rows w c.requires.in_range c.requires.height c.requires.taken) _ c.push_tail.new.work c.finish.new.work (rw c.new-plan.ensures at c.in-Ok.ensures) (rw c.new-plan.ensures at c.in_default-finish.ensures)
 
 pub returns : goal.returns
 returns g c =
     let s = c.args.setting.now in
     let w = c.args.work.now in
     let long = c.pad_row.auto.row ∙ c.deref_mut.ensures.len in
-    image_ends s c.requires.in_range w _ (record { strip = refl; blocks = refl; packets = refl; at = refl })
+    image_ends s w.at.rows (record { in_range = c.requires.in_range; height = c.requires.height }) w _ (record { strip = refl; blocks = refl; packets = refl; at = refl })
     (pads s.width w.row _ c.pad_row.new.row c.deref_mut.ensures.value long c.pad_row.ensures)
-    (long_as w.row c.pad_row.new.row (padded_size s.width) long c.requires.taken.running.gathered.made.row) _ c.push_tail.new.work c.finish.new.work c.done_so_far.result
-    c.in-Ok.ensures c.in-Ok-finish.ensures c.done_so_far.ensures
+    (long_as w.row c.pad_row.new.row (padded_size s.width) long c.requires.taken.running.gathered.made.row)
+    (all_follows s w.at.rows w c.requires.in_range c.requires.height c.requires.taken) _ c.push_tail.new.work c.finish.new.work c.done_so_far.result
+    (rw c.new-plan.ensures at c.in-Ok.ensures) (rw c.new-plan.ensures at c.in-Ok-finish.ensures) (rw c.new-plan.ensures at c.done_so_far.ensures)

@@ -5,7 +5,7 @@ use Rattle.strip_coder.proofs.engine.push.Goals as goal
 
 pub returns-then-is_none : goal.returns-then-is_none
 returns-then-is_none g c =
-    let s = c.args.setting.now in
+    let s = c.args.plan.now in
     let w = c.args.work.now in
     let e = c.push_row-came.ensures in
     pushed_none s c.requires.in_range w _ c.requires.running c.requires.few
@@ -15,7 +15,7 @@ returns-then-is_none g c =
 
 pub returns : goal.returns
 returns g c =
-    let s = c.args.setting.now in
+    let s = c.args.plan.now in
     let w = c.args.work.now in
     let e = c.push_row-came.ensures in
     pushed_some s c.requires.in_range w _ c.requires.running c.requires.few

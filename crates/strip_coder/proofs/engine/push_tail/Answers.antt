@@ -6,33 +6,33 @@ use Rattle.strip_coder.proofs.TailPushes.{none_pushed, then_pushed, then_unpushe
 use Rattle.strip_coder.proofs.engine.push_tail.Goals as goal
 
 pub loop-init : goal.loop-init
-loop-init g c = none_pushed c.args.setting.now c.args.work.now c.requires.running
+loop-init g c = none_pushed c.args.plan.now c.args.work.now c.requires.running
 
 pub push-requires-clause-running : goal.push-requires-clause-running
 push-requires-clause-running g c = c.loop.invariant.running
 
 pub push-requires-clause-few : goal.push-requires-clause-few
 push-requires-clause-few g c =
-    let size = rw c.geometry.ensures at c.padded_rows.ensures in
+    let size = rw c.geometry_for.ensures at c.padded_rows.ensures in
     let so_far = c.loop.invariant.strip_rows in
     omega (arith, size, so_far, c.loop-test.true, c.requires.rows)
 
 pub push-requires-clause-small : goal.push-requires-clause-small
 push-requires-clause-small g c =
-    subst (λ v. AllWithin 65536 (padded_size c.args.setting.now.width) (signal v.items)) (sym c.loop.invariant.row) c.requires.small
+    subst (λ v. AllWithin 65536 (padded_size c.args.plan.now.setting.width) (signal v.items)) (sym c.loop.invariant.row) c.requires.small
 
 pub returns-in_err-push : goal.returns-in_err-push
 returns-in_err-push g c =
-    let s = c.args.setting.now in
+    let s = c.args.plan.now in
     then_unpushed (g.X.Port.outside c.args.port.now) (g.X.Port.outside c.loop.port) (g.X.Port.outside c.push.new.port) c.from_residual.result s c.loop.counter (padded_size s.rows - s.rows)
-    c.args.work.now c.loop.work c.push.new.work c.from_residual.ensures.0 c.requires.rows c.loop.invariant c.in_err-push.ensures
+    c.args.work.now c.loop.work c.push.new.work c.requires.in_range c.from_residual.ensures.0 c.requires.rows c.loop.invariant c.in_err-push.ensures
 
 pub loop-preserved : goal.loop-preserved
-loop-preserved g c = then_pushed c.args.setting.now c.loop.counter c.args.work.now c.loop.work c.push.new.work c.requires.rows c.loop.invariant c.in_ok-push.ensures
+loop-preserved g c = then_pushed c.args.plan.now c.loop.counter c.args.work.now c.loop.work c.push.new.work c.requires.rows c.loop.invariant c.in_ok-push.ensures
 
 pub returns : goal.returns
 returns g c =
-    let s = c.args.setting.now in
-    let size = rw c.geometry.ensures at c.padded_rows.ensures in
+    let s = c.args.plan.now in
+    let size = rw c.geometry_for.ensures at c.padded_rows.ensures in
     let all : c.loop.counter ≡ padded_size s.rows - s.rows = omega (arith, size, c.loop-test.false, c.loop.auto.counter-end) in
     rw all at c.loop.invariant

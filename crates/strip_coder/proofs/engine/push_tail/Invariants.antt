@@ -2,4 +2,4 @@ use Rattle.strip_coder.specs.Steps.{HasPushedOn}
 use Rattle.strip_coder.proofs.engine.push_tail.Given as goal
 
 abbrev pub invariant-loop : goal.invariant-loop
-invariant-loop g l = HasPushedOn l.setting l.counter (g.X.Port.outside l.initial.port) (g.X.Port.outside l.port) l.initial.work l.work
+invariant-loop g l = HasPushedOn l.plan l.counter (g.X.Port.outside l.initial.port) (g.X.Port.outside l.port) l.initial.work l.work

@@ -7,10 +7,10 @@ use Rattle.strip_coder.proofs.gather.gather_column.Goals as goal
 
 pub returns-then-work-blocks_of : goal.returns-then-work-blocks_of
 returns-then-work-blocks_of g c =
-    let s = c.args.setting.now in
+    let s = c.args.plan.now in
     let w = c.args.work.now in
-    let numbers = gathered (number_in w.strip) s.weights.shifts c.args.column in
-    let size = rw c.geometry.ensures at c.blocks_of.ensures in
+    let numbers = gathered (number_in w.strip) s.setting.weights.shifts c.args.column in
+    let size = rw c.geometry_for.ensures at c.blocks_of.ensures in
     put_part s c.requires.in_range w _ numbers c.requires.gathered c.requires.more
     (put_in w _ w.blocks.items c.put_block.new.blocks numbers (record { strip = refl; row = refl; blocks = refl; marks = refl; room = refl }) refl refl refl
     (with_items_is w.blocks c.put_block.new.blocks (c.put_block.auto.blocks ∙ c.deref_mut.ensures.len)) (rw c.deref_mut.ensures.value at c.put_block.ensures))
@@ -18,10 +18,10 @@ returns-then-work-blocks_of g c =
 
 pub write_present-requires-clause-full : goal.write_present-requires-clause-full
 write_present-requires-clause-full g c =
-    let s = c.args.setting.now in
+    let s = c.args.plan.now in
     let w = c.args.work.now in
-    let numbers = gathered (number_in w.strip) s.weights.shifts c.args.column in
-    let size = rw c.geometry.ensures at c.blocks_of.ensures in
+    let numbers = gathered (number_in w.strip) s.setting.weights.shifts c.args.column in
+    let size = rw c.geometry_for.ensures at c.blocks_of.ensures in
     put_full s c.requires.in_range w _ numbers c.requires.gathered c.requires.more
     (put_in w _ w.blocks.items c.put_block.new.blocks numbers (record { strip = refl; row = refl; blocks = refl; marks = refl; room = refl }) refl refl refl
     (with_items_is w.blocks c.put_block.new.blocks (c.put_block.auto.blocks ∙ c.deref_mut.ensures.len)) (rw c.deref_mut.ensures.value at c.put_block.ensures))
@@ -29,10 +29,10 @@ write_present-requires-clause-full g c =
 
 pub returns : goal.returns
 returns g c =
-    let s = c.args.setting.now in
+    let s = c.args.plan.now in
     let w = c.args.work.now in
-    let numbers = gathered (number_in w.strip) s.weights.shifts c.args.column in
-    let size = rw c.geometry.ensures at c.blocks_of.ensures in
+    let numbers = gathered (number_in w.strip) s.setting.weights.shifts c.args.column in
+    let size = rw c.geometry_for.ensures at c.blocks_of.ensures in
     put_written s c.requires.in_range (g.X.Port.outside c.args.port.now) (g.X.Port.outside c.write_present.new.port) c.write_present.result w _ c.write_present.new.work numbers c.requires.gathered c.requires.more
     (put_in w _ w.blocks.items c.put_block.new.blocks numbers (record { strip = refl; row = refl; blocks = refl; marks = refl; room = refl }) refl refl refl
     (with_items_is w.blocks c.put_block.new.blocks (c.put_block.auto.blocks ∙ c.deref_mut.ensures.len)) (rw c.deref_mut.ensures.value at c.put_block.ensures))

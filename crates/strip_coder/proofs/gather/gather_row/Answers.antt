@@ -6,46 +6,46 @@ use Rattle.strip_coder.proofs.GatherSteps.{none_gone, then_gone, then_broken, fa
 use Rattle.strip_coder.proofs.gather.gather_row.Goals as goal
 
 pub loop-column-init : goal.loop-column-init
-loop-column-init g c = none_gone c.args.setting.now c.args.work.now (gathered (number_in c.args.work.now.strip) c.args.setting.now.weights.shifts) c.requires.gathered
+loop-column-init g c = none_gone c.args.plan.now c.args.work.now (gathered (number_in c.args.work.now.strip) c.args.plan.now.setting.weights.shifts) c.requires.gathered
 
 pub gather_column-requires-clause-gathered : goal.gather_column-requires-clause-gathered
 gather_column-requires-clause-gathered g c = c.loop-column.invariant.gathered
 
 pub gather_column-requires-clause-more : goal.gather_column-requires-clause-more
 gather_column-requires-clause-more g c =
-    let columns = rw c.geometry.ensures at c.padded_width-columns.ensures in
+    let columns = rw c.geometry_for.ensures at c.padded_width-columns.ensures in
     let so_far = c.loop-column.invariant in
     let count = so_far.count in
-    more_segments c.args.setting.now c.requires.in_range c.loop-column.work so_far.gathered (omega (arith, columns, c.loop-column-test.true, c.requires.room, count))
+    more_segments c.args.plan.now c.requires.in_range c.loop-column.work so_far.gathered (omega (arith, columns, c.loop-column-test.true, c.requires.room, count))
 
 pub gather_column-requires-clause-stands : goal.gather_column-requires-clause-stands
 gather_column-requires-clause-stands g c = ap is_standing c.loop-column.invariant.stays.strip ∙ c.requires.stands
 
 pub gather_column-requires-clause-column : goal.gather_column-requires-clause-column
 gather_column-requires-clause-column g c =
-    let columns = rw c.geometry.ensures at c.padded_width-columns.ensures in
+    let columns = rw c.geometry_for.ensures at c.padded_width-columns.ensures in
     omega (arith, columns, c.loop-column-test.true)
 
 pub returns-in_err-gather_column : goal.returns-in_err-gather_column
 returns-in_err-gather_column g c =
-    let s = c.args.setting.now in
-    let columns = rw c.geometry.ensures at c.padded_width-columns.ensures in
-    let lt : c.loop-column.column < block_count s.width = omega (arith, columns, c.loop-column-test.true) in
+    let s = c.args.plan.now in
+    let columns = rw c.geometry_for.ensures at c.padded_width-columns.ensures in
+    let lt : c.loop-column.column < block_count s.setting.width = omega (arith, columns, c.loop-column-test.true) in
     let so_far = c.loop-column.invariant in
-    failed_gathers (g.X.Port.outside c.args.port.now) (g.X.Port.outside c.gather_column.new.port) c.from_residual.result s (gathered (number_in c.args.work.now.strip) s.weights.shifts) (block_count s.width) c.args.work.now c.gather_column.new.work c.from_residual.ensures.0
-    (then_broken s c.args.work.now c.loop-column.work c.gather_column.new.work (gathered (number_in c.args.work.now.strip) s.weights.shifts) (block_count s.width) c.loop-column.column lt so_far
+    failed_gathers (g.X.Port.outside c.args.port.now) (g.X.Port.outside c.gather_column.new.port) c.from_residual.result s (gathered (number_in c.args.work.now.strip) s.setting.weights.shifts) (block_count s.setting.width) c.args.work.now c.gather_column.new.work c.from_residual.ensures.0
+    (then_broken s c.args.work.now c.loop-column.work c.gather_column.new.work (gathered (number_in c.args.work.now.strip) s.setting.weights.shifts) (block_count s.setting.width) c.loop-column.column lt so_far
     (broken_as_at_first s c.loop-column.column c.args.work.now c.loop-column.work c.gather_column.new.work so_far.stays.strip c.in_err-gather_column.ensures))
 
 pub loop-column-preserved : goal.loop-column-preserved
 loop-column-preserved g c =
-    let s = c.args.setting.now in
+    let s = c.args.plan.now in
     let so_far = c.loop-column.invariant in
-    then_gone s c.args.work.now c.loop-column.work c.gather_column.new.work (gathered (number_in c.args.work.now.strip) s.weights.shifts) c.loop-column.column so_far
+    then_gone s c.args.work.now c.loop-column.work c.gather_column.new.work (gathered (number_in c.args.work.now.strip) s.setting.weights.shifts) c.loop-column.column so_far
     (as_at_first s c.loop-column.column c.args.work.now c.loop-column.work c.gather_column.new.work so_far.stays.strip c.in_ok-gather_column.ensures)
 
 pub returns : goal.returns
 returns g c =
-    let s = c.args.setting.now in
-    let columns = rw c.geometry.ensures at c.padded_width-columns.ensures in
-    let all : c.loop-column.column ≡ block_count s.width = omega (arith, columns, c.loop-column-test.false, c.loop-column.auto.column-end) in
+    let s = c.args.plan.now in
+    let columns = rw c.geometry_for.ensures at c.padded_width-columns.ensures in
+    let all : c.loop-column.column ≡ block_count s.setting.width = omega (arith, columns, c.loop-column-test.false, c.loop-column.auto.column-end) in
     rw all at c.loop-column.invariant

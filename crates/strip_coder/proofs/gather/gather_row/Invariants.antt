@@ -5,4 +5,4 @@ use Rattle.strip_coder.proofs.gather.gather_row.Given as goal
 
 abbrev pub invariant-loop-column : goal.invariant-loop-column
 invariant-loop-column g l =
-    HasGone l.setting (gathered (number_in l.initial.work.strip) l.setting.weights.shifts) l.column (g.X.Port.outside l.initial.port) (g.X.Port.outside l.port) l.initial.work l.work
+    HasGone l.plan (gathered (number_in l.initial.work.strip) l.plan.setting.weights.shifts) l.column (g.X.Port.outside l.initial.port) (g.X.Port.outside l.port) l.initial.work l.work

@@ -1,12 +1,58 @@
-use Rattle.std.proofs.Common.{refl, ◌∙◌}
-use Rattle.strip_coder.proofs.RowComes.{row_holds, row_values, row_lacks, row_comes, row_breaks_off}
+use Rattle.std.proofs.Common.{arith, refl, sym, ap, ◌∙◌}
+use Rattle.std.proofs.lemmas.List.{with_items_is}
+use Rattle.wave_defs.specs.Held.{signal}
+use Rattle.strip_coder.proofs.PlanLaws.{tall_height}
+use Rattle.strip_coder.proofs.RowComes.{row_holds, row_values, row_lacks, row_ends, row_comes, row_breaks_off}
 use Rattle.strip_coder.proofs.rows.take_row.Goals as goal
+
+pub row_fault-requires-clause-row : goal.row_fault-requires-clause-row
+row_fault-requires-clause-row g c = let most = (tall_height c.args.setting.now c.requires.in_range).0.1 in let few = c.requires.few in omega (arith, few, most)
 
 pub returns-in-Err-clause-row : goal.returns-in-Err-clause-row
 returns-in-Err-clause-row g c start come =
     rw c.row_fault.ensures
     (row_lacks c.args.setting.now c.requires.in_range c.args.work.now.at.rows start (g.X.Port.outside c.args.port.now) c.args.work.now c.requires.few come
-    c.deref_mut.result.now c.read_row.new.into c.in-Err.fault c.in-Err.ensures)
+    c.deref_mut.result.now c.read_row.new.into c.in-Err.fault c.in-Err.ensures (sym c.ends_here.ensures ∙ c.if-ends_here.false))
+
+pub returns-then-ends_here-clause-row : goal.returns-then-ends_here-clause-row
+returns-then-ends_here-clause-row g c start come =
+    let s = c.args.setting.now in
+    let w = c.args.work.now in
+    let t = c.requires.taken in
+    let run = t.running in
+    let has = run.gathered in
+    let made = has.made in
+    let long = c.read_row.auto.into ∙ c.deref_mut.ensures.len in
+    row_ends s c.requires.in_range w.at.rows start (g.X.Port.outside c.args.port.now) w c.requires.few come _ c.deref_mut.result.now c.read_row.new.into c.in-Err.fault c.in-Err.ensures
+    (sym c.ends_here.ensures ∙ c.if-ends_here.true) (record { strip = refl; blocks = refl; packets = refl; at = refl })
+    (record {
+      running = record {
+        gathered = record {
+          made = record {
+            row = made.row;
+            blocks = made.blocks;
+            marks = made.marks;
+            strip = made.strip;
+            packet = made.packet;
+            room = made.room;
+          };
+          share = has.share;
+          index = has.index;
+          present = has.present;
+          none = has.none;
+          small = has.small;
+          idle = has.idle;
+          texts = has.texts;
+        };
+        count = run.count;
+        answered = run.answered;
+        running = run.running;
+      };
+      rows = t.rows;
+      strip_rows = t.strip_rows;
+      index = t.index;
+    })
+    (λ j. ap (λ xs. signal xs j) (with_items_is w.row c.read_row.new.into long)) (λ j. ap (λ xs. signal xs j) c.deref_mut.ensures.value)
 
 pub row_in-requires-clause-values : goal.row_in-requires-clause-values
 row_in-requires-clause-values g c =

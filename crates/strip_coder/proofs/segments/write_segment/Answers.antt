@@ -1,13 +1,14 @@
-use Rattle.std.proofs.Common.{rules, ◌≡◌, ◌<◌, ◌≤◌, ◌*◌, ◌∙◌, ◌++◌, ℕ, ℤ, List, length, refl, sym, ap, subst, arith}
+use Rattle.std.proofs.Common.{rules, Ok, Err, ◌≡◌, ◌<◌, ◌≤◌, ◌*◌, ◌∙◌, ◌++◌, ℕ, ℤ, List, length, refl, sym, ap, subst, arith}
 use Rattle.port_122.specs.Outside.{Outside}
-use Rattle.base_122.specs.Ranges.{IsInRange}
-use Rattle.base_122.specs.declared.setting.Setting.{Setting}
+use Rattle.strip_coder.specs.Plans.{IsPlan, whole}
+use Rattle.strip_coder.specs.declared.plan.Plan.{Plan}
 use Rattle.segment_defs.specs.declared.head.SegmentHead.{SegmentHead}
 use Rattle.wave_defs.specs.Held.{blocks_in}
 use Rattle.segment_defs.specs.Depths.{depth_dc_of, depth_ac_of}
 use Rattle.segment_defs.specs.Coded.{coded}
 use Rattle.packet_defs.specs.declared.ancillary.Ancillary.{Ancillary}
-use Rattle.stream_defs.specs.Output.{ancillary_of, head_with}
+use Rattle.stream_defs.specs.Output.{ancillary_of, head_with, share, tells_last}
+use Rattle.stream_defs.specs.Shares.{CanBeSaid}
 use Rattle.space_packets.specs.declared.stage.Text.{Text}
 use Rattle.space_packets.specs.declared.stage.Stage.{Stage}
 use Rattle.space_packets.specs.declared.stage.Stage.TheVariants.{Begun}
@@ -17,7 +18,7 @@ use Rattle.space_packets.specs.Writes.{GoesOn, TextCut}
 use Rattle.space_packets.proofs.WholeCalls.{some_wait, text_cut, text_closed}
 use Rattle.space_packets.proofs.SinkCalls.{sink_goes_on, sink_breaks_off}
 use Rattle.strip_coder.specs.SegmentsOut.{text_of, text_for}
-use Rattle.strip_coder.proofs.SegmentTexts.{length-blocks_in, coded_some, text_same}
+use Rattle.strip_coder.proofs.SegmentTexts.{length-blocks_in, head_is, coded_some, text_same, share_said}
 use Rattle.strip_coder.proofs.segments.write_segment.Goals as goal
 
 -- what is behind a loan is the last value under its name
@@ -34,78 +35,111 @@ cut_to outside x y w u {t = t} {p = p} {v = v} {text = text} e f cut =
 begun_stands : (stage : Stage) (t : Text) → stage ≡ Begun t → IsBegun stage
 begun_stands stage t e = subst IsBegun (sym e) tt
 
-begun_with : (s : Setting) (index : ℕ) (v : Progress) (a : Ancillary) → a ≡ ancillary_of s index →
-    begun v (record { apid = s.apid; ancillary = a }) ≡ begun v (text_of s index)
-begun_with s index v a e = ap (λ a. begun v (record { apid = s.apid; ancillary = a })) e
+begun_with : (s : Plan) (index : ℕ) (v : Progress) (a : Ancillary) → a ≡ ancillary_of (tells_last s.setting) (whole s) index →
+    begun v (record { apid = s.setting.apid; ancillary = a }) ≡ begun v (text_of s index)
+begun_with s index v a e = ap (λ a. begun v (record { apid = s.setting.apid; ancillary = a })) e
 
 begun_to : (a b : Stage) → a ≡ b → IsBegun b → IsBegun a
 begun_to a b e begun = subst IsBegun (sym e) begun
 
 -- the text of the head that was made
-made : (s : Setting) (index count depth_dc depth_ac : ℕ) (head : SegmentHead) (cells : List ℤ) → head ≡ head_with s index count depth_dc depth_ac →
-    length cells ≡ 64 * count → depth_dc ≡ depth_dc_of (blocks_in cells) → depth_ac ≡ depth_ac_of (blocks_in cells) →
-    coded head (blocks_in cells) ≡ text_for s index (blocks_in cells)
-made s index count depth_dc depth_ac head cells e f dc ac =
-    ap (λ h. coded h (blocks_in cells)) e
-    ∙ text_same s index count depth_dc depth_ac (blocks_in cells) (omega (arith, length-blocks_in cells, f)) dc ac
+made : (s : Plan) (index used limit count depth_dc depth_ac : ℕ) (head : SegmentHead) (cells : List ℤ) → head ≡ head_with (whole s) index limit count depth_dc depth_ac →
+    limit ≡ share (whole s) index used → length cells ≡ 64 * count → depth_dc ≡ depth_dc_of (blocks_in cells) → depth_ac ≡ depth_ac_of (blocks_in cells) →
+    coded head (blocks_in cells) ≡ text_for s index used (blocks_in cells)
+made s index used limit count depth_dc depth_ac head cells e l f dc ac =
+    ap (λ h. coded h (blocks_in cells)) (e ∙ ap (λ n. head_with (whole s) index n count depth_dc depth_ac) l)
+    ∙ text_same s index used count depth_dc depth_ac (blocks_in cells) (omega (arith, length-blocks_in cells, f)) dc ac
 
 -- and it isn't empty
-some_text : (s : Setting) (index : ℕ) (cells : List ℤ) → IsInRange s → 0 < length (text_for s index (blocks_in cells))
-some_text s index cells range =
-    coded_some (head_with s index (length (blocks_in cells)) (depth_dc_of (blocks_in cells)) (depth_ac_of (blocks_in cells))) (blocks_in cells) range.word.0
+some_text : (s : Plan) (index used : ℕ) (cells : List ℤ) → IsPlan s → 0 < length (text_for s index used (blocks_in cells))
+some_text s index used cells range =
+    coded_some (head_with (whole s) index (share (whole s) index used) (length (blocks_in cells)) (depth_dc_of (blocks_in cells)) (depth_ac_of (blocks_in cells))) (blocks_in cells) range.in_range.word.0
+
+-- it can be said
+pub encode_segment-requires-clause-fits : goal.encode_segment-requires-clause-fits
+encode_segment-requires-clause-fits g c =
+    let s = c.args.plan.now in
+    let depths = c.segment_depths-depth_dc in
+    let long = depths.auto.marks in
+    let said = subst (CanBeSaid (whole s)) (sym c.share-limit.ensures) (share_said s c.args.at.now c.requires.in_range c.requires.share c.requires.index) in
+    rw c.make_head-head.ensures
+    (head_is s c.args.at.now.index c.share-limit.result _ depths.result.0 depths.result.1 c.requires.in_range said (omega (arith, c.requires.some, long)) (omega (arith, c.requires.most, long))
+    depths.ensures.least_dc depths.ensures.most_dc depths.ensures.most_ac)
 
 pub returns-in_default : goal.returns-in_default
 returns-in_default g c =
-    let s = c.args.setting.now in
+    let s = c.args.plan.now in
     let cells = c.args.blocks.now in
-    let least : 64 ≤ c.args.packets.now.packet = omega (arith, c.requires.packet, c.requires.in_range.packet) in
-    let begins = c.sink-sink.ensures.same_packets ∙ c.begin.ensures.begun ∙ begun_with s c.args.index c.args.packets.now c.ancillary.result c.ancillary.ensures in
+    let least : 64 ≤ c.args.packets.now.packet = omega (arith, c.requires.packet, c.requires.in_range.in_range.packet) in
+    let begins = c.sink-sink.ensures.same_packets ∙ c.begin.ensures.begun ∙ begun_with s c.args.at.now.index c.args.packets.now c.ancillary.result c.ancillary.ensures in
     let broken = c.in_default.ensures.text in
     let depths = c.segment_depths-depth_dc in
     let long : length cells ≡ 64 * length depths.new.marks = omega (arith, c.requires.blocks, depths.auto.marks) in
-    let same = made s c.args.index _ depths.result.0 depths.result.1 c.make_head-head.result cells c.make_head-head.ensures long depths.ensures.dc depths.ensures.ac in
-    let off = sink_breaks_off g.X.Port.outside c.sink-sink.result c.encode_segment.new.out c.args.packets.now (text_of s c.args.index) c.args.port.now broken.front begins c.sink-sink.ensures.same_port least broken.broke in
-    let whole : broken.front ++ broken.more ≡ text_for s c.args.index (blocks_in cells) = sym broken.parts ∙ same in
-    let some : 0 < length (broken.front ++ broken.more) = subst (λ xs. 0 < length xs) (sym whole) (some_text s c.args.index cells c.requires.in_range) in
+    let same = made s c.args.at.now.index c.args.at.now.used c.share-limit.result _ depths.result.0 depths.result.1 c.make_head-head.result cells c.make_head-head.ensures c.share-limit.ensures long depths.ensures.dc depths.ensures.ac in
+    let off = sink_breaks_off g.X.Port.outside c.sink-sink.result c.encode_segment.new.out c.args.packets.now (text_of s c.args.at.now.index) c.args.port.now broken.front begins c.sink-sink.ensures.same_port least broken.broke in
+    let whole : broken.front ++ broken.more ≡ text_for s c.args.at.now.index c.args.at.now.used (blocks_in cells) = sym broken.parts ∙ same in
+    let some : 0 < length (broken.front ++ broken.more) = subst (λ xs. 0 < length xs) (sym whole) (some_text s c.args.at.now.index c.args.at.now.used cells c.requires.in_range) in
     let cut = rw whole at (text_cut c.args.packets.now broken.front broken.more least refl some off) in
     cut_to g.X.Port.outside _ c.encode_segment.new.out.port.now _ c.encode_segment.new.out.packets.now (search rules) (search rules) cut
 
 pub close-requires-clause-begun : goal.close-requires-clause-begun
 close-requires-clause-begun g c =
-    let s = c.args.setting.now in
-    let least : 64 ≤ c.args.packets.now.packet = omega (arith, c.requires.packet, c.requires.in_range.packet) in
-    let begins = c.sink-sink.ensures.same_packets ∙ c.begin.ensures.begun ∙ begun_with s c.args.index c.args.packets.now c.ancillary.result c.ancillary.ensures in
+    let s = c.args.plan.now in
+    let least : 64 ≤ c.args.packets.now.packet = omega (arith, c.requires.packet, c.requires.in_range.in_range.packet) in
+    let begins = c.sink-sink.ensures.same_packets ∙ c.begin.ensures.begun ∙ begun_with s c.args.at.now.index c.args.packets.now c.ancillary.result c.ancillary.ensures in
     let given = c.in-Ok.ensures.text in
-    let sent = sink_goes_on g.X.Port.outside c.sink-sink.result c.encode_segment.new.out c.args.packets.now (text_of s c.args.index) c.args.port.now _ begins c.sink-sink.ensures.same_port least given.gave in
+    let sent = sink_goes_on g.X.Port.outside c.sink-sink.result c.encode_segment.new.out c.args.packets.now (text_of s c.args.at.now.index) c.args.port.now _ begins c.sink-sink.ensures.same_port least given.gave in
     begun_to _ c.encode_segment.new.out.packets.now.stage (search rules) (begun_stands _ _ (ap (λ (w : Progress). w.stage) sent.stands))
 
 pub close-requires-clause-some : goal.close-requires-clause-some
 close-requires-clause-some g c =
-    let s = c.args.setting.now in
+    let s = c.args.plan.now in
     let cells = c.args.blocks.now in
-    let least : 64 ≤ c.args.packets.now.packet = omega (arith, c.requires.packet, c.requires.in_range.packet) in
-    let begins = c.sink-sink.ensures.same_packets ∙ c.begin.ensures.begun ∙ begun_with s c.args.index c.args.packets.now c.ancillary.result c.ancillary.ensures in
+    let least : 64 ≤ c.args.packets.now.packet = omega (arith, c.requires.packet, c.requires.in_range.in_range.packet) in
+    let begins = c.sink-sink.ensures.same_packets ∙ c.begin.ensures.begun ∙ begun_with s c.args.at.now.index c.args.packets.now c.ancillary.result c.ancillary.ensures in
     let given = c.in-Ok.ensures.text in
     let depths = c.segment_depths-depth_dc in
     let long : length cells ≡ 64 * length depths.new.marks = omega (arith, c.requires.blocks, depths.auto.marks) in
-    let same = made s c.args.index _ depths.result.0 depths.result.1 c.make_head-head.result cells c.make_head-head.ensures long depths.ensures.dc depths.ensures.ac in
+    let same = made s c.args.at.now.index c.args.at.now.used c.share-limit.result _ depths.result.0 depths.result.1 c.make_head-head.result cells c.make_head-head.ensures c.share-limit.ensures long depths.ensures.dc depths.ensures.ac in
     let gave = rw same at given.gave in
-    let sent = sink_goes_on g.X.Port.outside c.sink-sink.result c.encode_segment.new.out c.args.packets.now (text_of s c.args.index) c.args.port.now _ begins c.sink-sink.ensures.same_port least gave in
-    let waits : 0 < length c.encode_segment.new.out.packets.now.pending = some_wait c.args.packets.now (text_for s c.args.index (blocks_in cells)) (some_text s c.args.index cells c.requires.in_range) sent in
+    let sent = sink_goes_on g.X.Port.outside c.sink-sink.result c.encode_segment.new.out c.args.packets.now (text_of s c.args.at.now.index) c.args.port.now _ begins c.sink-sink.ensures.same_port least gave in
+    let waits : 0 < length c.encode_segment.new.out.packets.now.pending = some_wait c.args.packets.now (text_for s c.args.at.now.index c.args.at.now.used (blocks_in cells)) (some_text s c.args.at.now.index c.args.at.now.used cells c.requires.in_range) sent in
     grind (arith, waits)
+
+pub returns-in_default-close : goal.returns-in_default-close
+returns-in_default-close g c =
+    let s = c.args.plan.now in
+    let cells = c.args.blocks.now in
+    let index = c.args.at.now.index in
+    let used = c.args.at.now.used in
+    let least : 64 ≤ c.args.packets.now.packet = omega (arith, c.requires.packet, c.requires.in_range.in_range.packet) in
+    let begins = c.sink-sink.ensures.same_packets ∙ c.begin.ensures.begun ∙ begun_with s index c.args.packets.now c.ancillary.result c.ancillary.ensures in
+    let given = c.in-Ok.ensures.text in
+    let depths = c.segment_depths-depth_dc in
+    let long : length cells ≡ 64 * length depths.new.marks = omega (arith, c.requires.blocks, depths.auto.marks) in
+    let same = made s index used c.share-limit.result _ depths.result.0 depths.result.1 c.make_head-head.result cells c.make_head-head.ensures c.share-limit.ensures long depths.ensures.dc depths.ensures.ac in
+    let gave = rw same at given.gave in
+    let sent = sink_goes_on g.X.Port.outside c.sink-sink.result c.encode_segment.new.out c.args.packets.now (text_of s index) c.args.port.now _ begins c.sink-sink.ensures.same_port least gave in
+    text_closed {T = Unit {0}} {E = Unit {0}} (Err tt) c.args.packets.now _ c.close.new.self (text_of s index) (text_for s index used (blocks_in cells)) (g.X.Port.outside c.args.port.now) _ (g.X.Port.outside c.close.new.port) least refl
+    (some_text s index used cells c.requires.in_range)
+    (sent_to g.X.Port.outside _ c.encode_segment.new.out.port.now _ c.encode_segment.new.out.packets.now (search rules) (search rules) sent) c.in_default-close.ensures
 
 pub returns : goal.returns
 returns g c =
-    let s = c.args.setting.now in
+    let s = c.args.plan.now in
     let cells = c.args.blocks.now in
-    let least : 64 ≤ c.args.packets.now.packet = omega (arith, c.requires.packet, c.requires.in_range.packet) in
-    let begins = c.sink-sink.ensures.same_packets ∙ c.begin.ensures.begun ∙ begun_with s c.args.index c.args.packets.now c.ancillary.result c.ancillary.ensures in
+    let index = c.args.at.now.index in
+    let used = c.args.at.now.used in
+    let least : 64 ≤ c.args.packets.now.packet = omega (arith, c.requires.packet, c.requires.in_range.in_range.packet) in
+    let begins = c.sink-sink.ensures.same_packets ∙ c.begin.ensures.begun ∙ begun_with s index c.args.packets.now c.ancillary.result c.ancillary.ensures in
     let given = c.in-Ok.ensures.text in
     let depths = c.segment_depths-depth_dc in
     let long : length cells ≡ 64 * length depths.new.marks = omega (arith, c.requires.blocks, depths.auto.marks) in
-    let same = made s c.args.index _ depths.result.0 depths.result.1 c.make_head-head.result cells c.make_head-head.ensures long depths.ensures.dc depths.ensures.ac in
+    let same = made s index used c.share-limit.result _ depths.result.0 depths.result.1 c.make_head-head.result cells c.make_head-head.ensures c.share-limit.ensures long depths.ensures.dc depths.ensures.ac in
     let gave = rw same at given.gave in
-    let sent = sink_goes_on g.X.Port.outside c.sink-sink.result c.encode_segment.new.out c.args.packets.now (text_of s c.args.index) c.args.port.now _ begins c.sink-sink.ensures.same_port least gave in
-    text_closed c.close.result c.args.packets.now _ c.close.new.self (text_of s c.args.index) (text_for s c.args.index (blocks_in cells)) (g.X.Port.outside c.args.port.now) _ (g.X.Port.outside c.close.new.port) least refl
-    (some_text s c.args.index cells c.requires.in_range)
-    (sent_to g.X.Port.outside _ c.encode_segment.new.out.port.now _ c.encode_segment.new.out.packets.now (search rules) (search rules) sent) c.close.ensures
+    let sent = sink_goes_on g.X.Port.outside c.sink-sink.result c.encode_segment.new.out c.args.packets.now (text_of s index) c.args.port.now _ begins c.sink-sink.ensures.same_port least gave in (
+      text_closed {T = Unit {0}} {E = Unit {0}} (Ok tt) c.args.packets.now _ c.close.new.self (text_of s index) (text_for s index used (blocks_in cells)) (g.X.Port.outside c.args.port.now) _ (g.X.Port.outside c.close.new.port) least refl
+          (some_text s index used cells c.requires.in_range)
+          (sent_to g.X.Port.outside _ c.encode_segment.new.out.port.now _ c.encode_segment.new.out.packets.now (search rules) (search rules) sent) c.in-Ok-close.ensures,
+      given.count ∙ ap length same,
+    )
