@@ -1,7 +1,8 @@
 -- The ranges of damaged rows, one after another.
 use Rattle.std.proofs.Common.{◌≡◌, ◌≤◌, ◌<◌, ◌+◌, ℕ, List, [], ◌∷◌, ◌++◌, refl, sym, ◌∙◌, ap, arith, append_assoc}
-use Rattle.std.specs.Prelude.{Bool, true, false, ◌&&◌, ◌||◌, nat_le, None, Some, find}
+use Rattle.std.specs.Prelude.{true, false, ◌&&◌, nat_le, None, Some, find}
 use Rattle.std.proofs.lemmas.Bool.Decides.{nat_tests}
+use Rattle.std.proofs.lemmas.Bool.{or_right}
 use Rattle.stream_defs.specs.declared.range.RowRange.{RowRange}
 use Rattle.stream_defs.specs.Damage.{is_damaged, ranges, is_covered, LieApart}
 use Rattle.stream_defs.specs.Marks.{Marks, next_range}
@@ -56,11 +57,7 @@ covered_there [] rest r le = let e : (nat_le r.first r.last && nat_le r.last r.l
   where
     both : (a b : ℕ) → a ≤ b → (nat_le a b && nat_le b b) ≡ true
     both a b le = grind (arith, nat_tests)
-covered_there (x ∷ before) rest r le = or_true (nat_le x.first r.last && nat_le r.last x.last) (is_covered (before ++ r ∷ rest) r.last) (covered_there before rest r le)
-  where
-    or_true : (a b : Bool) → b ≡ true → (a || b) ≡ true
-    or_true true b e = refl
-    or_true false b e = e
+covered_there (x ∷ before) rest r le = or_right (nat_le x.first r.last && nat_le r.last x.last) (is_covered (before ++ r ∷ rest) r.last) (covered_there before rest r le)
 
 -- a range stands next, and others after it
 pub record StandsNext (m : Marks) (from : ℕ) (after : List RowRange) (range : RowRange) : Type 0 where

@@ -5,19 +5,12 @@ use Rattle.std.specs.Int.{bit_at, w64}
 use Rattle.std.specs.Int.Bits.{bit_or}
 use Rattle.std.specs.List.{range_with_len, list_any}
 use Rattle.std.proofs.lemmas.Bool.Decides.{nat_tests}
-use Rattle.std.proofs.lemmas.Bool.{cases_lt}
+use Rattle.std.proofs.lemmas.Bool.{cases_lt, or_left, or_right}
 use Rattle.std.proofs.lemmas.Grind.{get_or-set_at}
 use Rattle.std.proofs.lemmas.List.{get_or-replicate, get_or_past, length-replicate}
 use Rattle.std.proofs.lemmas.Nat.Bits.{bit_at_set_same, bit_at_set_other, bit_at-zero, shr_and_one}
 use Rattle.stream_defs.specs.Marks.{Marks, most_block_rows, and_missing, marked}
 use Rattle.damage_rows.specs.Table.{is_missing, is_set, set_rows}
-
-true_or : (a b : Bool) → a ≡ true → (a || b) ≡ true
-true_or a b e = rw e refl
-
-or_true : (a b : Bool) → b ≡ true → (a || b) ≡ true
-or_true true b e = refl
-or_true false b e = e
 
 or_false : (a : Bool) → (a || false) ≡ a
 or_false true = refl
@@ -25,9 +18,6 @@ or_false false = refl
 
 false_or : (a b c : Bool) → a ≡ false → b ≡ c → (a || b) ≡ c
 false_or a b c e f = rw e f
-
-or_is : (a b c : Bool) → a ≡ c → b ≡ false → (a || b) ≡ c
-or_is a b c e f = rw (e, f) (or_false c)
 
 equal_true : (m n : ℕ) → m ≡ n → (m == n) ≡ true
 equal_true m n e = grind (arith, nat_tests)
@@ -49,14 +39,14 @@ any_listed f [] i h e = h
 any_listed f (x ∷ xs) i h e = at (x == i) refl h (λ later. any_listed f xs i later e)
   where
     at : (b : Bool) → (x == i) ≡ b → (b || list_any (λ k. k == i) xs) ≡ true → (list_any (λ k. k == i) xs ≡ true → list_any f xs ≡ true) → (f x || list_any f xs) ≡ true
-    at true same h on = true_or (f x) _ (ap f (equal_from x i same) ∙ e)
-    at false other h on = or_true (f x) _ (on h)
+    at true same h on = or_left (f x) _ (ap f (equal_from x i same) ∙ e)
+    at false other h on = or_right (f x) _ (on h)
 
 -- none of them passes it
 pub none_listed : (f : ℕ → Bool) (xs : List ℕ) → ((i : ℕ) → is_missing xs i ≡ true → f i ≡ false) → list_any f xs ≡ false
 none_listed f [] none = refl
 none_listed f (x ∷ xs) none =
-    false_or (f x) _ false (none x (true_or (x == x) _ (equal_true x x refl))) (none_listed f xs (λ i h. none i (or_true (x == i) _ h)))
+    false_or (f x) _ false (none x (or_left (x == x) _ (equal_true x x refl))) (none_listed f xs (λ i h. none i (or_right (x == i) _ h)))
 
 -- ---- the numbers from a on that pass a test
 
@@ -79,11 +69,11 @@ any_there f p (suc n) a i low high e h = elim (cases_lt a i) [
 ]
   where
     past : (b : Bool) → list_any f (filter p (range_with_len (a + 1) n)) ≡ true → list_any f (cond b (a ∷ filter p (range_with_len (a + 1) n)) (filter p (range_with_len (a + 1) n))) ≡ true
-    past true rest = or_true (f a) _ rest
+    past true rest = or_right (f a) _ rest
     past false rest = rest
 
     first : (b : Bool) → b ≡ true → f a ≡ true → list_any f (cond b (a ∷ filter p (range_with_len (a + 1) n)) (filter p (range_with_len (a + 1) n))) ≡ true
-    first b e h = rw e (true_or (f a) _ h)
+    first b e h = rw e (or_left (f a) _ h)
 
 -- tests that agree on them choose the same
 pub filter_same : (p q : ℕ → Bool) (n a : ℕ) → ((i : ℕ) → a ≤ i → i < a + n → p i ≡ q i) → filter p (range_with_len a n) ≡ filter q (range_with_len a n)
@@ -195,7 +185,7 @@ marked_by_bit words rows r long low =
   where
     at : (i : ℕ) → i < 32768 → (b : Bool) → (i == r) ≡ b → is_set (with_bit words r) i ≡ (is_missing (set_rows words) i || b)
     at i small true same =
-        ap (is_set (with_bit words r)) (equal_from i r same) ∙ bit_same words r (omega (arith, long, low)) ∙ sym (or_true (is_missing (set_rows words) i) true refl)
+        ap (is_set (with_bit words r)) (equal_from i r same) ∙ bit_same words r (omega (arith, long, low)) ∙ sym (or_right (is_missing (set_rows words) i) true refl)
     at i small false other =
         bit_other words r i (omega (arith, long, low)) (unequal_from i r other) ∙ sym (missing_is_set words i small) ∙ sym (or_false (is_missing (set_rows words) i))
 

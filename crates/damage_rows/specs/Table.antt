@@ -1,4 +1,4 @@
--- How missing block rows stand in a table of bits. This project's own.
+-- Missing block rows as a table of bits. This project's own.
 use Rattle.std.specs.Prelude.{ℕ, ◌≤◌, ◌/◌, ◌%◌, ◌==◌, Bool, List, filter, slice_index}
 use Rattle.std.specs.Int.{bit_at}
 use Rattle.std.specs.List.{range_with_len, list_any}

@@ -37,7 +37,7 @@ impl Damage {
     ghost use Rattle.stream_defs.specs.Damage.{is_damaged, begins_range, run_length};
     ghost use Rattle.damage_rows.specs.Table.{is_missing};
 
-    /// No block row of an image of so many rows is missing: 17 to 262,144.
+    /// Returns the table of an image of `rows` rows, 17 to 262,144, of which no block row is missing.
     pub fn new(rows: u32) -> Damage
         requires least { 17 ≤ rows }
         requires most { rows ≤ 262144 }
@@ -49,7 +49,7 @@ impl Damage {
         }
     }
 
-    /// A block row of the image is missing; it may have been so before.
+    /// Marks a block row of the image as missing; it may have been missing before.
     pub fn miss(&mut self, block_row: u32)
         requires { block_row < block_count self.old.rows }
         ensures { self.new ≡ marked self.old block_row }
@@ -57,8 +57,8 @@ impl Damage {
         self.words[(block_row / 64) as usize] |= 1 << (block_row % 64);
     }
 
-    /// From now on the image has so many rows, at most 262,144: no range goes on past its last row, and none is left where it
-    /// has no rows. The missing block rows stay.
+    /// Sets the number of rows of the image, at most 262,144: from now on each range ends at its last row at the latest, and an
+    /// image of no rows has no range. The missing block rows stay.
     pub fn end_at(&mut self, rows: u32)
         requires { rows ≤ 262144 }
         ensures { self.new ≡ ended_at self.old rows }
@@ -66,7 +66,7 @@ impl Damage {
         self.rows = rows;
     }
 
-    /// The first range of damaged rows that begins at a row or later. Ranges that meet or touch are one (docs/formats.md,
+    /// Returns the first range of damaged rows that begins at `from` or later. Ranges that meet or touch are one (docs/formats.md,
     /// "Picture and damage").
     pub fn next_range(&self, from: u32) -> Option<RowRange>
         ensures { result ≡ next_range self.now from }

@@ -1,4 +1,4 @@
-//! The rows of an image that missing block rows damage. The rules stand in docs/formats.md, "Picture and damage".
+//! The rows of an image that missing block rows damage. The rules are in docs/formats.md, "Picture and damage".
 #![tactic(auto)]
 
 mod damage;

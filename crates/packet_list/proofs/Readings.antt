@@ -1,8 +1,8 @@
 -- A list goes on by one packet, or by none.
-use Rattle.std.proofs.Common.{◌≡◌, ◌≤◌, ◌<◌, ◌+◌, ℕ, zero, suc, List, [], ◌∷◌, ◌++◌, length, take, refl, sym, ap, subst, ◌∙◌, inl, inr, arith, append_assoc, length-append}
+use Rattle.std.proofs.Common.{◌≡◌, ◌≤◌, ◌<◌, ◌+◌, ℕ, List, [], ◌∷◌, ◌++◌, length, take, refl, sym, ap, subst, ◌∙◌, inl, inr, arith, append_assoc, length-append}
 use Rattle.std.specs.Prelude.{◌⊎◌, true, Option, None, Some, Result, Ok, Err}
 use Rattle.std.proofs.lemmas.Bool.{false≢true}
-use Rattle.std.proofs.lemmas.List.{append-nil, take-append-le}
+use Rattle.std.proofs.lemmas.List.{append-nil, take-append-le, take_all}
 use Rattle.std.proofs.Math.Seq.{take-append-add}
 use Rattle.base_122.specs.declared.wish.DecodeWish.{DecodeWish}
 use Rattle.bit_pipe.specs.declared.fault.InFault.{InFault}
@@ -31,12 +31,6 @@ use Rattle.packet_list.proofs.LineLaws.{lines-none, lines-more}
 -- of a state nothing is asked
 abbrev pub Anywhere : FateState → Type 0
 Anywhere s = Unit {0}
-
-take_all : (k : ℕ) (xs : List ℕ) → length xs ≤ k → take k xs ≡ xs
-take_all zero [] le = refl
-take_all (suc k) [] le = refl
-take_all zero (x ∷ xs) le = absurd (omega arith)
-take_all (suc k) (x ∷ xs) le = ap (λ zs. x ∷ zs) (take_all k xs (omega (arith, le)))
 
 -- ---- what was given
 

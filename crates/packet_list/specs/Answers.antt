@@ -28,7 +28,7 @@ Answers wish old new took gave (Err WriteFault) = Rose old.write_faults new.writ
 Answers wish old new took gave (Err Memory) = (old ≡ new) × (took ≡ []) × (gave ≡ [])
 
 -- One run over a port: what it took and gave, when, and why it ended so. However it ends, it takes at most as many octets as are
--- wished. At each read call what is given are just the lines of the packets that are whole in the octets taken by then.
+-- wished. At each read call what is given are exactly the lines of the packets that are whole in the octets taken by then.
 pub record Lists (wish : DecodeWish) (old new : Outside) (result : Result ListDone ListFault) : Type 0 where
   pub took : List ℕ
   pub gave : List ℕ

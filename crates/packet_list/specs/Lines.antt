@@ -34,13 +34,13 @@ abbrev pub place_text : Fate → PacketNote → List ℕ
 place_text Kept note = codes " " ++ decimal note.index ++ codes " " ++ decimal note.part ++ codes " " ++ decimal note.octets
 place_text other note = []
 
--- the line for what is told of a packet
+-- the line of a packet
 abbrev pub line_of : PacketNote → List ℕ
 line_of note = decimal note.number ++ codes " " ++ fate_text note.fate ++ place_text note.fate note ++ codes "\n"
 
 -- ---- all lines
 
--- what is told of the packet of this number
+-- the report of the packet of this number
 abbrev pub note_at : (apid : ℕ) → List (List ℕ) → (number : ℕ) → PacketNote
 note_at apid packets number = note_of number (slice_index_or (fates apid fresh packets) number Kept) (slice_index_or packets number [])
 

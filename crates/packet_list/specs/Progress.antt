@@ -1,4 +1,4 @@
--- How far a list has come since it began: what it took, and for which packets it gave the lines. This project's own.
+-- The progress of a list since it began: what it took, and for which packets it gave the lines. This project's own.
 use Rattle.std.specs.Prelude.{◌≡◌, ◌≤◌, ℕ, List, [], ◌++◌, length, take}
 use Rattle.port_122.specs.Outside.{Outside, Since}
 use Rattle.base_122.specs.declared.wish.DecodeWish.{DecodeWish}
@@ -10,7 +10,7 @@ use Rattle.packet_list.specs.Lines.{lines_of, listing}
 abbrev pub AsksListed : (apid : ℕ) → (took gave : List ℕ) → ℕ → ℕ → Type 0
 AsksListed apid took gave i j = (j ≤ length gave) × (take j gave ≡ listing apid (take i took))
 
--- So many packets were listed. Of their lines some were given, and the others wait.
+-- A number of packets were listed. Of their lines some were given, and the others wait.
 pub record HasListed (wish : DecodeWish) (start now : Outside) (a : Assembling) (packets : ℕ) (waiting : List ℕ) : Type 0 where
   pub took : List ℕ
   pub passed : List (List ℕ)

@@ -1,4 +1,4 @@
-// Packets in, lines out.
+// The packets of a stream, listed as lines.
 ghost use Rattle.std.specs.Prelude.{◌≡◌, ◌≤◌, ◌+◌, length};
 ghost use Rattle.packet_list.specs.Steps.{GivesDue, ListsNext};
 ghost use Rattle.packet_list.specs.Answers.{Lists};
@@ -16,12 +16,12 @@ use std::alloc::Global;
 type Lines = ArrayString<4096>;
 
 /// Reads the packets of a stream and gives one line for each, at the latest before the next read call (docs/formats.md,
-/// "Packets" and "Fates"). It reads to the end, or to what can't be read on, and at most the octets that are wished. A line is the
+/// "Packets" and "Fates"). It reads to the end, or to what can't be read on, and at most the octets of the wish. A line is the
 /// packet's number from 0, a space and its fate: `kept` with the segment's index, the part and the octets of the text, each after
 /// a space, or `idle`, `not-telemetry`, `other-apid`, `no-secondary`, `short-ancillary`, `other-mark`, `foreign`, `late`,
 /// `out-of-place` or `bad-head`. After `Memory` nothing was read or given, after `WriteFault` a prefix of the lines is given, and
-/// else those of all packets of the octets that were taken. `ReadFault` and `WriteFault` come only where the port's count rose. The
-/// most pixels that are wished don't matter.
+/// else those of all packets of the octets that were taken. `ReadFault` and `WriteFault` are returned only if the port's count
+/// rose. The most pixels of the wish don't matter.
 pub fn list_packets<X: Port>(
     alloc: Global,
     port: &mut X,
@@ -48,8 +48,8 @@ pub fn list_packets<X: Port>(
     }
 }
 
-// Reads the next packet, and adds its line to those that wait. They are given first where the packet isn't at hand or there is no room
-// for its line. Answers false at the end and at what can't be read on; then no line waits.
+// Reads the next packet, and adds its line to those that wait. They are given first if the packet wasn't read yet or there is no
+// room for its line. Returns false at the end and at what can't be read on; then no line waits.
 fn list_next<X: Port>(
     port: &mut X,
     assembly: &mut Assembly,

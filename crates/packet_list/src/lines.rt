@@ -70,7 +70,7 @@ fn other_line(number: u64, name: &str) -> Line
     line
 }
 
-/// The line for what is told of a packet: its number and its fate, and of a kept one its segment's index, its part and the octets
+/// Returns the line of a packet: its number and its fate, and of a kept one its segment's index, its part and the octets
 /// of its text.
 pub fn line_of(note: &PacketNote) -> Line
     ensures { result.bytes ≡ line_of note.now }

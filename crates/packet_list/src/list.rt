@@ -2,7 +2,7 @@
 use packet_defs::Framing;
 use thiserror::Error;
 
-/// What was listed: how many packets, and why the stream can't be read on, where that was found.
+/// What was listed: the number of packets, and why the stream can't be read on, if that was found.
 #[derive(Clone, Copy, Debug, PartialEq, Eq)]
 pub struct ListDone {
     pub packets: u64,

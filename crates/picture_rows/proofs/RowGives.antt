@@ -17,7 +17,7 @@ use Rattle.wave_defs.proofs.BlockLaws.{table_of}
 use Rattle.raster_rows.specs.Pixels.{pixel_octets, clamped, raster_octets}
 use Rattle.raster_rows.proofs.RasterLaws.{row_pixels, rows_from}
 use Rattle.raster_rows.proofs.MadeLaws.{raster_octets-more, rows_from-append}
-use Rattle.stream_defs.specs.Picture.{picture_with}
+use Rattle.stream_defs.specs.Picture.{picture_of, whole_with}
 use Rattle.inverse_strip.specs.declared.strip.StripInverse.{StripInverse}
 use Rattle.inverse_strip.specs.Strip.{columns_of, height_of, taken_of, next_of, numbers_of, row_of, FollowStrip}
 use Rattle.inverse_strip.specs.Kept.{IsCompletion, HasNext, IsIdle}
@@ -29,7 +29,7 @@ use Rattle.picture_rows.specs.Steps.{GoesOn, BreaksOff, StoodFor, SameBut, HasGi
 
 module _ (g : Geometry) (numbers : ℕ → ℕ → ℤ) (n : ℕ) where
   abbrev row_octets : List ℕ
-  row_octets = pixel_octets g.depth (row_pixels g.width (picture_with g numbers n))
+  row_octets = pixel_octets g.depth (row_pixels g.width (whole_with g numbers n))
 
   -- one row more
   pub front-more : n < g.rows → rows_of g numbers (n + 1) ≡ rows_of g numbers n ++ row_octets
@@ -37,23 +37,23 @@ module _ (g : Geometry) (numbers : ℕ → ℕ → ℤ) (n : ℕ) where
   front-more lt =
       let now : min n g.rows ≡ n = omega arith in
       let next : min (n + 1) g.rows ≡ n + 1 = omega arith in
-      ap (λ k. raster_octets g.depth k g.width (picture_with g numbers)) next
-      ∙ raster_octets-more g.depth n g.width (picture_with g numbers)
-      ∙ ap (λ k. raster_octets g.depth k g.width (picture_with g numbers) ++ row_octets) (sym now)
+      ap (λ k. raster_octets g.depth k g.width (whole_with g numbers)) next
+      ∙ raster_octets-more g.depth n g.width (whole_with g numbers)
+      ∙ ap (λ k. raster_octets g.depth k g.width (whole_with g numbers) ++ row_octets) (sym now)
 
   -- rows that pad the picture aren't given
   pub front-same : g.rows ≤ n → rows_of g numbers (n + 1) ≡ rows_of g numbers n
   unfolding rows_of
   front-same le =
       let e : min (n + 1) g.rows ≡ min n g.rows = omega arith in
-      ap (λ k. raster_octets g.depth k g.width (picture_with g numbers)) e
+      ap (λ k. raster_octets g.depth k g.width (whole_with g numbers)) e
 
 -- the first rows begin the picture
 pub front-begins : (g : Geometry) (numbers : ℕ → ℕ → ℤ) (n : ℕ) → (more : List ℕ) × (rows_of g numbers g.rows ≡ rows_of g numbers n ++ more)
 unfolding rows_of
 front-begins g numbers n =
     let k = min n g.rows in
-    let image = picture_with g numbers in
+    let image = whole_with g numbers in
     let all : min g.rows g.rows ≡ k + (g.rows - k) = omega arith in
     (rows_from g.depth g.width image (0 + k) (g.rows - k), ap (λ m. raster_octets g.depth m g.width image) all ∙ rows_from-append g.depth g.width image 0 k (g.rows - k))
 
@@ -69,8 +69,8 @@ front-part g numbers n m octets more whole le =
 -- the octets of the row that was made are those of the picture
 made_octets : (g : Geometry) (numbers : ℕ → ℕ → ℤ) (n columns : ℕ) (row : List ℤ) → columns ≡ block_count g.width → length row ≡ 8 * columns →
     Agrees (8 * columns) (signal row) (rebuilt (bands_of g numbers) (block_count g.rows) columns n) →
-    pixel_octets g.depth (map (clamped g.depth g.signed) (take g.width row)) ≡ pixel_octets g.depth (row_pixels g.width (picture_with g numbers n))
-unfolding picture_with
+    pixel_octets g.depth (map (clamped g.depth g.signed) (take g.width row)) ≡ pixel_octets g.depth (row_pixels g.width (whole_with g numbers n))
+unfolding picture_of
 made_octets g numbers n columns row wide long made =
     let c = block_count g.width in
     let f = rebuilt (bands_of g numbers) (block_count g.rows) columns n in
@@ -156,7 +156,7 @@ module _ (p : Shown) (t : StripInverse) (sized : IsSized p) (made : RowMade p.st
   -- the octets of the row
   octets_next : length (row_of t) ≡ 8 * columns_of t → (numbers : ℕ → ℕ → ℤ) → StandsFor numbers p →
       pixel_octets p.geometry.depth (map (clamped p.geometry.depth p.geometry.signed) (take p.geometry.width (row_of t)))
-      ≡ pixel_octets p.geometry.depth (row_pixels p.geometry.width (picture_with p.geometry numbers p.at.next))
+      ≡ pixel_octets p.geometry.depth (row_pixels p.geometry.width (whole_with p.geometry numbers p.at.next))
   octets_next long numbers stands =
       let value = made.value _ _ (completes p sized) stands.strip in
       let at : Agrees (8 * columns_of p.strip) (signal (row_of t)) (rebuilt (bands_of p.geometry numbers) (block_count p.geometry.rows) (columns_of p.strip) p.at.next) =

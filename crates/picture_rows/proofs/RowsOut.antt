@@ -8,7 +8,7 @@ use Rattle.std.proofs.lemmas.Nat.{div_below}
 use Rattle.base_122.specs.Sizes.{block_count}
 use Rattle.base_122.specs.declared.geometry.Geometry.{Geometry}
 use Rattle.raster_rows.specs.Pixels.{raster_octets}
-use Rattle.stream_defs.specs.Picture.{picture_with}
+use Rattle.stream_defs.specs.Picture.{whole_with}
 use Rattle.stream_defs.specs.Settled.{rows_through, block_rows_before}
 use Rattle.picture_rows.specs.Fronts.{rows_of}
 use Rattle.picture_rows.specs.Pictures.{Shown, IsStanding, passed_in}
@@ -48,7 +48,7 @@ rows_low p block standing le = by (block / block_count p.geometry.width == block
 -- rows that pad the picture give nothing
 few_rows : (g : Geometry) (numbers : ℕ → ℕ → ℤ) (n : ℕ) → rows_of g numbers n ≡ rows_of g numbers (min n g.rows)
 unfolding rows_of
-few_rows g numbers n = let e : min n g.rows ≡ min (min n g.rows) g.rows = omega arith in ap (λ k. raster_octets g.depth k g.width (picture_with g numbers)) e
+few_rows g numbers n = let e : min n g.rows ≡ min (min n g.rows) g.rows = omega arith in ap (λ k. raster_octets g.depth k g.width (whole_with g numbers)) e
 
 -- what is given past n blocks
 pub rows_out : (p : Shown) (g : Geometry) (n : ℕ) (numbers : ℕ → ℕ → ℤ) (gave : List ℕ) → IsStanding p → p.geometry ≡ g → passed_in p ≡ n → gave ≡ rows_of g numbers p.at.next →
@@ -72,11 +72,11 @@ front_of g numbers n gave is =
     take_all (x ∷ xs) = ap (λ zs. x ∷ zs) (take_all xs)
 
 -- all rows are the whole picture
-pub all_rows : (g : Geometry) (numbers : ℕ → ℕ → ℤ) → rows_of g numbers g.rows ≡ raster_octets g.depth g.rows g.width (picture_with g numbers)
+pub all_rows : (g : Geometry) (numbers : ℕ → ℕ → ℤ) → rows_of g numbers g.rows ≡ raster_octets g.depth g.rows g.width (whole_with g numbers)
 unfolding rows_of
-all_rows g numbers = let e : min g.rows g.rows ≡ g.rows = omega arith in ap (λ k. raster_octets g.depth k g.width (picture_with g numbers)) e
+all_rows g numbers = let e : min g.rows g.rows ≡ g.rows = omega arith in ap (λ k. raster_octets g.depth k g.width (whole_with g numbers)) e
 
 -- none is given before the first
 pub no_rows : (g : Geometry) (numbers : ℕ → ℕ → ℤ) (n : ℕ) → n ≡ 0 → [] ≡ rows_of g numbers n
 unfolding rows_of
-no_rows g numbers n none = let e : min n g.rows ≡ 0 = omega (arith, none) in sym (ap (λ k. raster_octets g.depth k g.width (picture_with g numbers)) e)
+no_rows g numbers n none = let e : min n g.rows ≡ 0 = omega (arith, none) in sym (ap (λ k. raster_octets g.depth k g.width (whole_with g numbers)) e)

@@ -27,12 +27,13 @@ pub struct Picture {
 
 impl Picture {
     ghost use Rattle.std.specs.Prelude.{◌≡◌, ◌≤◌, ◌*◌, IfOk};
-    ghost use Rattle.base_122.specs.Ranges.{IsGeometryInRange};
+    ghost use Rattle.base_122.specs.Ranges.{IsGeometryInRange, IsWithin, rows_range};
     ghost use Rattle.picture_rows.specs.Pictures.{shown, samples_of, IsFresh};
 
-    /// Takes all memory that a picture of this geometry needs (docs/architecture.md, "The decoder"). The one error is want of memory.
+    /// Takes all memory that a picture of this geometry, whose height is known, needs (docs/architecture.md, "The decoder"). The one error is want of memory.
     pub fn new(alloc: Global, geometry: &Geometry) -> Result<Picture, AllocError>
-        requires { IsGeometryInRange geometry.now }
+        requires range { IsGeometryInRange geometry.now }
+        requires height { IsWithin rows_range geometry.now.rows }
         ensures { IfOk result (λ p. IsFresh geometry.now (shown p)) }
     {
         let strip = StripInverse::new(alloc, geometry.padded_width(), geometry.padded_rows())?;

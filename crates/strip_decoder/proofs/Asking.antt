@@ -1,12 +1,13 @@
 -- What is given at each read call.
 use Rattle.std.proofs.Common.{◌≡◌, ◌≤◌, ◌<◌, ◌+◌, ◌*◌, ◌/◌, ℕ, ℤ, List, [], ◌∷◌, ◌++◌, length, take, drop, refl, sym, ap, subst, ◌∙◌, inl, inr, arith, append_assoc, length-append}
-use Rattle.std.specs.Prelude.{if◌then◌else◌, Option, None, Some, is_some, MatchOption}
-use Rattle.std.proofs.lemmas.Bool.{cases_lt}
+use Rattle.std.specs.Prelude.{◌==◌, if◌then◌else◌, Option, None, Some, is_some, MatchOption}
+use Rattle.std.proofs.lemmas.Bool.{cases_lt, ne_eqb}
 use Rattle.std.proofs.lemmas.List.{append-nil, take-append-le, take-append-drop}
 use Rattle.std.proofs.lemmas.Nat.{div_below}
 use Rattle.std.proofs.Math.Seq.{take-append-add}
 use Rattle.port_122.specs.Outside.{Outside, Since, NoRead}
 use Rattle.port_122.proofs.Stretches.{since_then, since_out, since_weaker}
+use Rattle.base_122.specs.Ranges.{IsWithin, rows_range}
 use Rattle.base_122.specs.Sizes.{first_block, segment_blocks}
 use Rattle.base_122.specs.declared.geometry.Geometry.{Geometry}
 use Rattle.packet_defs.specs.Packets.{joined}
@@ -17,7 +18,7 @@ use Rattle.stream_defs.specs.declared.fate.LastPart.{LastPart}
 use Rattle.stream_defs.specs.Agreement.{blocks_of}
 use Rattle.stream_defs.specs.Fates.{fresh, after_all, kept, kept_in, state_after, geometry_in}
 use Rattle.stream_defs.specs.Received.{IsReceived, ReceivedIn}
-use Rattle.stream_defs.specs.Settled.{blocks_through}
+use Rattle.stream_defs.specs.Settled.{blocks_in, blocks_through}
 use Rattle.stream_defs.proofs.ChosenLaws.{after_all-append}
 use Rattle.packet_assembly.specs.Comings.{coming}
 use Rattle.packet_assembly.specs.Assembling.{Assembling, Passes, state_with}
@@ -154,11 +155,15 @@ of_received g sofar received n bound some few same = record {
   at = λ block lt. block_by g received sofar block (same (block / g.segment) (div_below block g.segment bound some (omega (arith, lt, few))));
 }
 
+-- the blocks of a segment of an image whose height is known
+pub blocks_known : (g : Geometry) (index : ℕ) → IsWithin rows_range g.rows → blocks_in g index ≡ segment_blocks (blocks_of g) g.segment index
+blocks_known g index height = ap (λ b. if b then g.segment else segment_blocks (blocks_of g) g.segment index) (ne_eqb g.rows 0 (λ none. omega (arith, none, height)))
+
 -- the blocks that a state settles
 settled_is : (s : FateState) (received : Numbers) (g : Geometry) (l : LastPart) → s.geometry ≡ Some g → s.last ≡ Some l → settled_blocks s received ≡ blocks_through g received l.index
 settled_is s received g l geometry last =
-    let known : FateState = record { geometry = Some g; last = Some l } in
-    let same : s ≡ known = λ i. record { geometry = geometry i; last = last i } in
+    let known : FateState = record { geometry = Some g; told_last = s.told_last; last = Some l } in
+    let same : s ≡ known = λ i. record { geometry = geometry i; told_last = s.told_last; last = last i } in
     ap (λ s. settled_blocks s received) same
 
 -- ---- what is given is right
@@ -214,7 +219,7 @@ module _ {S : Type 0} (k : SinkOf S) (w : Run) (a : Assembling) (p : Walking S) 
         let stands : (state_with a octets).geometry ≡ Some p.geometry = geometry_stays a.apid a.state next p.geometry geometry in
         let settled : settled_blocks (state_after w.apid (took ++ octets)) received ≡ blocks_through p.geometry sofar l.index =
         ap (λ s. settled_blocks s received) state ∙ settled_is (state_with a octets) received p.geometry l stands last_is
-        ∙ ap (λ o. first_block p.geometry.segment l.index + (if is_some o then segment_blocks (blocks_of p.geometry) p.geometry.segment l.index else 0)) (all_same received are l.index) in
+        ∙ ap (λ o. first_block p.geometry.segment l.index + (if is_some o then blocks_in p.geometry l.index else 0)) (all_same received are l.index) in
         (passed_in p, standing.few, omega (arith, settled, reached), given_then shows received are));
   }
     where

@@ -12,7 +12,7 @@ use Rattle.packet_defs.specs.declared.ancillary.Ancillary.{Ancillary}
 use Rattle.packet_defs.specs.Reading.{ancillary_in, text_in}
 use Rattle.stream_defs.specs.declared.fate.FateState.{FateState}
 use Rattle.stream_defs.specs.declared.fate.LastPart.{LastPart}
-use Rattle.stream_defs.specs.Agreement.{geometry_for}
+use Rattle.stream_defs.specs.Agreement.{geometry_for, geometry_past}
 use Rattle.stream_defs.specs.Fates.{fresh, fate, after, after_all, is_kept, geometry_with}
 use Rattle.stream_defs.proofs.FateLaws.{after_as_kept, after_as_other}
 use Rattle.stream_defs.proofs.KeptOrder.{is_kept_so}
@@ -24,22 +24,22 @@ use Rattle.packet_assembly.proofs.KeptPackets.{stays}
 use Rattle.strip_decoder.specs.Sinks.{SinkOf}
 use Rattle.strip_decoder.specs.Steps.{Walking, IsFresh, passed_in}
 use Rattle.strip_decoder.specs.Segments.{FitsImage, FitsNext, IsAt, IsBetween}
-use Rattle.strip_decoder.proofs.Fits.{geometry_at, begun_by}
+use Rattle.strip_decoder.proofs.Fits.{kept_height, same_past, geometry_at, begun_by}
 
 -- ---- states
 
 -- a geometry that stands stays
-geometry_kept : (g : Geometry) (a : Ancillary) (r : Result SegmentHead HeadFault) (standing : Option Geometry) (b : Bool) → standing ≡ Some g → (if b then geometry_with standing a r else standing) ≡ Some g
-geometry_kept g a (Ok head) standing true e = ap (λ o. Some (geometry_for o a head.image)) e
-geometry_kept g a (Err fault) standing true e = e
-geometry_kept g a r standing false e = e
+geometry_kept : (g : Geometry) (a : Ancillary) (r : Result SegmentHead HeadFault) (standing : Option Geometry) (b : Bool) → a.told_last ≡ false → standing ≡ Some g → (if b then geometry_with standing a r else standing) ≡ Some g
+geometry_kept g a (Ok head) standing true known e = ap (λ o. Some (geometry_past (geometry_for o a head.image) a head)) e ∙ ap Some (same_past g a head known)
+geometry_kept g a (Err fault) standing true known e = e
+geometry_kept g a r standing false known e = e
 
 pub geometry_on : (apid : ℕ) (s : FateState) (packet : List ℕ) (g : Geometry) → s.geometry ≡ Some g → (after apid s packet).geometry ≡ Some g
 geometry_on apid s packet g e = by (is_kept (fate apid s packet)) refl
   where
     by : (b : Bool) → is_kept (fate apid s packet) ≡ b → (after apid s packet).geometry ≡ Some g
     by true keeps = ap (λ (s : FateState). s.geometry) (after_as_kept apid s packet (is_kept_so (fate apid s packet) keeps))
-        ∙ geometry_kept g (ancillary_in packet) (head_read (text_in packet)) s.geometry ((ancillary_in packet).part == 0) e
+        ∙ geometry_kept g (ancillary_in packet) (head_read (text_in packet)) s.geometry ((ancillary_in packet).part == 0) (kept_height apid s packet keeps) e
     by false lost = ap (λ (s : FateState). s.geometry) (after_as_other apid s packet lost) ∙ e
 
 pub geometry_stays : (apid : ℕ) (s : FateState) (packets : List (List ℕ)) (g : Geometry) → s.geometry ≡ Some g → (after_all apid s packets).geometry ≡ Some g

@@ -114,6 +114,7 @@ module _ {S : Type 0} (k : SinkOf S) (v : Option (List ℤ)) (p z : Walking S) (
   one_passed takes on = subst (λ z. HasPassed k (λ i. v) 1 a b p z) (sym on.same) (record {
     standing = record {
       range = standing.range;
+      height = standing.height;
       column = on.column;
       few = omega (arith, on.count, room);
       damage = past_rows v p.damage p.at.row ∙ standing.damage;

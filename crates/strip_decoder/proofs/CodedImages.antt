@@ -5,7 +5,7 @@ use Rattle.std.proofs.lemmas.Bool.{cases_lt}
 use Rattle.std.proofs.lemmas.Bool.Decides.{nat_tests}
 use Rattle.std.proofs.lemmas.List.{take_all, take_at, take-append-drop, take-take, length-take, length-take-le}
 use Rattle.std.proofs.Math.Seq.{take-append-add}
-use Rattle.base_122.specs.Ranges.{IsInRange}
+use Rattle.base_122.specs.Ranges.{IsInRange, IsWithin, rows_range}
 use Rattle.base_122.specs.declared.setting.Setting.{Setting}
 use Rattle.item_defs.specs.Bits.{copies, octets_of}
 use Rattle.item_defs.specs.Items.{text}
@@ -26,7 +26,7 @@ use Rattle.segment_code.specs.Laws.{TextsAreShort}
 use Rattle.segment_code.proofs.CodedOptions.{numbers_are}
 use Rattle.packet_assembly.proofs.HeadLengths.{head_within}
 use Rattle.packet_defs.specs.Packets.{part_of, part_size}
-use Rattle.stream_defs.specs.Output.{head_of, image_blocks, segment_of, segment_text, segments_of}
+use Rattle.stream_defs.specs.Output.{head_for, image_blocks, segment_of, segment_text, segments_of}
 use Rattle.stream_defs.specs.Places.{AreCoded}
 use Rattle.strip_decoder.specs.Containment.{ArePixels}
 use Rattle.strip_decoder.proofs.SpelledImages.{length-segment, head_fits, spells}
@@ -129,30 +129,31 @@ module _ (h : SegmentHead) (blocks : List (List ℤ)) (ok : IsHead h) (ten : len
       by true = all_few
       by false = omega (arith, all_few, length-take h.limit all)
 
-pub images_coded : TextsAreShort → (s : Setting) (x : ℕ → ℕ → ℤ) → IsInRange s → length s.weights.shifts ≡ 10 → ArePixels s x → AreCoded s (image_blocks s x)
-images_coded short s x range ten pixels = record {
+pub images_coded : TextsAreShort → (s : Setting) (x : ℕ → ℕ → ℤ) → IsInRange s → IsWithin rows_range s.rows → length s.weights.shifts ≡ 10 → ArePixels s x → AreCoded s (image_blocks s x)
+images_coded short s x range height ten pixels = record {
   setting = range;
+  rows = height;
   heads = heads;
   some = λ index lt.
       let within = head_within _ _ (heads index lt) in
-      let least = head_least (head_of s index (segment_of s (image_blocks s x) index)).last in
+      let least = head_least (head_for s (image_blocks s x) index).last in
       let packet = range.packet in
       omega (arith, within, least, length-take (part_size s.packet) (drop (0 * part_size s.packet) (segment_text s (image_blocks s x) index)), length-drop (0 * part_size s.packet) (segment_text s (image_blocks s x) index));
   long = λ index lt.
       let blocks = segment_of s (image_blocks s x) index in
-      let h = head_of s index blocks in
-      let ok = head_fits s x range pixels index lt in
-      text_short h blocks ok ten (count_small index) (short h blocks (block_depths blocks) (chosen_options h blocks) ok ten (spells s x range pixels index lt) (numbers_are h blocks ok));
-  blocks = λ index lt. length-segment s x range pixels index;
+      let h = head_for s (image_blocks s x) index in
+      let ok = head_fits s x range height pixels index lt in
+      text_short h blocks ok ten (count_small index) (short h blocks (block_depths blocks) (chosen_options h blocks) ok ten (spells s x range height pixels index lt) (numbers_are h blocks ok));
+  blocks = λ index lt. length-segment s x range height pixels index;
 }
   where
     count_small : (index : ℕ) → index % 256 < 256
     count_small index = omega arith
 
-    heads : (index : ℕ) → index < segments_of s → head_read (part_of (part_size s.packet) 0 (segment_text s (image_blocks s x) index)) ≡ Ok (head_of s index (segment_of s (image_blocks s x) index))
+    heads : (index : ℕ) → index < segments_of s → head_read (part_of (part_size s.packet) 0 (segment_text s (image_blocks s x) index)) ≡ Ok (head_for s (image_blocks s x) index)
     heads index lt =
         let blocks = segment_of s (image_blocks s x) index in
         let packet = range.packet in
         let none : 0 * part_size s.packet ≡ 0 = omega arith in
         ap (λ n. head_read (take (part_size s.packet) (drop n (segment_text s (image_blocks s x) index)))) none
-        ∙ text_tells (head_of s index blocks) blocks (head_fits s x range pixels index lt) ten (count_small index) (part_size s.packet) (omega (arith, packet))
+        ∙ text_tells (head_for s (image_blocks s x) index) blocks (head_fits s x range height pixels index lt) ten (count_small index) (part_size s.packet) (omega (arith, packet))

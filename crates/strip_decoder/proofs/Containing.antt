@@ -6,7 +6,7 @@ use Rattle.std.proofs.lemmas.Bool.{false≢true}
 use Rattle.std.proofs.lemmas.Bool.Decides.{nat_tests}
 use Rattle.std.proofs.Math.Nat.{mul-le-mul_right}
 use Rattle.base_122.specs.Sizes.{block_count}
-use Rattle.base_122.specs.Ranges.{IsGeometryInRange}
+use Rattle.base_122.specs.Ranges.{IsGeometryInRange, IsWithin, rows_range}
 use Rattle.base_122.specs.declared.geometry.Geometry.{Geometry}
 use Rattle.base_122.proofs.SizeBounds.{three-le-block_count}
 use Rattle.raster_rows.specs.Pixels.{clamped}
@@ -15,9 +15,9 @@ use Rattle.wave_defs.specs.Blocks.{place_of}
 use Rattle.wave_defs.specs.Reach.{reaches, Reaches, SameBlock, SameReceived}
 use Rattle.wave_defs.proofs.ReachLaws.{rows-reach}
 use Rattle.stream_defs.specs.Agreement.{blocks_of}
-use Rattle.stream_defs.specs.Damage.{is_missing, missing_rows, is_damaged, damage, is_covered}
-use Rattle.stream_defs.specs.Picture.{number_at, picture, picture_with}
-use Rattle.stream_defs.proofs.DamageLaws.{whole_damage}
+use Rattle.stream_defs.specs.Damage.{is_missing, whole_missing, is_damaged, whole_damage, is_covered, missing_below}
+use Rattle.stream_defs.specs.Picture.{number_at, whole_picture, whole_with, picture_of}
+use Rattle.stream_defs.proofs.DamageLaws.{whole_damage as damage_whole}
 use Rattle.damage_rows.proofs.TableLaws.{any_there}
 use Rattle.picture_rows.specs.Fronts.{bands_of}
 use Rattle.strip_decoder.specs.Runs.{Numbers}
@@ -25,7 +25,7 @@ use Rattle.strip_decoder.specs.Containment.{AreWith, SameOutside}
 use Rattle.picture_rows.proofs.BandBlocks.{coefficient_with}
 use Rattle.strip_decoder.proofs.RunEnds.{any_at}
 
-module _ (g : Geometry) (received : Numbers) (numbers : ℕ → ℕ → ℤ) (range : IsGeometryInRange g) (are : AreWith g received numbers) where
+module _ (g : Geometry) (received : Numbers) (numbers : ℕ → ℕ → ℤ) (range : IsGeometryInRange g) (height : IsWithin rows_range g.rows) (are : AreWith g received numbers) where
   abbrev r : ℕ
   r = block_count g.rows
 
@@ -61,23 +61,23 @@ module _ (g : Geometry) (received : Numbers) (numbers : ℕ → ℕ → ℤ) (ra
   }
 
   -- a row that no range has is reached by no missing block row
-  unreached : (i t : ℕ) → i < g.rows → is_covered (damage g received) i ≡ false → t < r → missing t ≡ true → Reaches t i → ⊥
-  unfolding missing_rows
+  unreached : (i t : ℕ) → i < g.rows → is_covered (whole_damage g received) i ≡ false → t < r → missing t ≡ true → Reaches t i → ⊥
+  unfolding missing_below
   unreached i t inside uncovered low lost reached =
       let rows : nat_lt i g.rows ≡ true = grind (arith, nat_tests) in
-      let undamaged : is_damaged g.rows (missing_rows g received) i ≡ false = sym ((whole_damage g.rows (missing_rows g received)).0.each i) ∙ uncovered in
+      let undamaged : is_damaged g.rows (whole_missing g received) i ≡ false = sym ((damage_whole g.rows (whole_missing g received)).0.each i) ∙ uncovered in
       let some = any_there (λ t. reaches t i) missing r 0 t (omega arith) (omega (arith, low)) lost reached in
-      absurd (false≢true (sym undamaged ∙ both (nat_lt i g.rows) (list_any (λ t. reaches t i) (missing_rows g received)) rows some))
+      absurd (false≢true (sym undamaged ∙ both (nat_lt i g.rows) (list_any (λ t. reaches t i) (whole_missing g received)) rows some))
     where
       both : (a b : Bool) → a ≡ true → b ≡ true → (a && b) ≡ true
       both true b e h = h
       both false b e h = e
 
-  pub contained : SameOutside g.rows g.width (damage g received) (picture_with g numbers) (picture g received)
-  unfolding picture_with
+  pub contained : SameOutside g.rows g.width (whole_damage g received) (whole_with g numbers) (whole_picture g received)
+  unfolding picture_of
   contained = record {
     at = λ i j inside across uncovered.
-        let tall = three-le-block_count g.rows range.rows.0 in
+        let tall = three-le-block_count g.rows height.0 in
         let wide = three-le-block_count g.width range.width.0 in
         let same : SameReceived (λ t s. missing t) r c (bands_of g numbers) (bands_of g (number_at g received)) = record { block = λ t s low lt kept. block_same t s low lt kept } in
         ap (clamped g.depth g.signed)

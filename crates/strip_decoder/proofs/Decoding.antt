@@ -138,6 +138,7 @@ walk_done k wish old new q g found told whole same is few = subst (λ g. Walks k
   answer = record {
     geometry = whole.geometry;
     range = whole.standing.range;
+    height = whole.standing.height;
     few = small;
     framing_is = is ∙ whole.framing_is;
     out = whole.out;

@@ -44,6 +44,7 @@ found_later : {g : List ℕ} (wish : DecodeWish) (old mid new : Outside) (took g
 found_later wish old mid new took gave walked found out = record {
   geometry = found.geometry;
   range = found.range;
+  height = found.height;
   few = found.few;
   framing_is = found.framing_is;
   out = out_later wish.octets mid new took out found.out;

@@ -1,6 +1,6 @@
 -- A segment that begins fits the image.
 use Rattle.std.proofs.Common.{◌≡◌, ◌<◌, ◌-◌, ◌*◌, ℕ, List, [], ◌∷◌, refl, sym, ap, subst, ◌∙◌, inl, inr, arith}
-use Rattle.std.specs.Prelude.{Bool, true, false, ◌==◌, ◌&&◌, ◌||◌, not, nat_le, min, Option, None, Some}
+use Rattle.std.specs.Prelude.{Bool, true, false, ◌==◌, ◌&&◌, ◌||◌, not, nat_lt, min, if◌then◌else◌, Option, None, Some}
 use Rattle.std.specs.Str.{bytes_eq}
 use Rattle.std.proofs.lemmas.Bool.{false≢true}
 use Rattle.std.proofs.lemmas.Bool.Decides.{nat_tests}
@@ -15,8 +15,8 @@ use Rattle.packet_defs.specs.Reading.{ancillary_in, text_in}
 use Rattle.packet_defs.specs.Tests.{when, first_of}
 use Rattle.stream_defs.specs.declared.fate.FateState.{FateState}
 use Rattle.stream_defs.specs.declared.fate.LastPart.{LastPart}
-use Rattle.stream_defs.specs.Agreement.{geometry_for, blocks_of, same_flag, is_of_image, disagreement}
-use Rattle.stream_defs.specs.Fates.{fate, after, differs, is_kept, geometry_after, part_in}
+use Rattle.stream_defs.specs.Agreement.{geometry_for, geometry_past, blocks_of, same_flag, is_of_image, has_blocks, may_have_blocks, disagreement}
+use Rattle.stream_defs.specs.Fates.{reads, tells_rows, fate, after, differs, is_kept, geometry_after, part_in}
 use Rattle.stream_defs.specs.Received.{index_in}
 use Rattle.stream_defs.proofs.FateLaws.{after_as_kept}
 use Rattle.stream_defs.proofs.KeptOrder.{is_kept_so, kept_tests, Begins, does}
@@ -45,8 +45,8 @@ and_rest false b e = absurd (false≢true e)
 equal_so : (m n : ℕ) → (m == n) ≡ true → m ≡ n
 equal_so m n e = grind (arith, nat_tests)
 
-above_so : (m n : ℕ) → nat_le m n ≡ false → n < m
-above_so m n e = grind (arith, nat_tests)
+below_so : (m n : ℕ) → nat_lt m n ≡ true → m < n
+below_so m n e = grind (arith, nat_tests)
 
 pub bytes_so : (xs ys : List ℕ) → bytes_eq xs ys ≡ true → xs ≡ ys
 bytes_so [] [] e = refl
@@ -71,24 +71,46 @@ six_pass false false false false false false v w x y z u h = (refl, refl)
 
 -- ---- what they say
 
+and_first : (a b : Bool) → (a && b) ≡ true → a ≡ true
+and_first true b e = refl
+and_first false b e = absurd (false≢true e)
+
+-- a kept packet has the height of its image
+height_known : (a : Ancillary) → tells_rows a ≡ true → a.told_last ≡ false
+height_known a e = not_set a.told_last (and_first (reads a.told_last) _ e)
+  where
+    not_set : (b : Bool) → reads b ≡ true → b ≡ false
+    not_set true e = absurd (false≢true e)
+    not_set false e = refl
+
+pub kept_height : (apid : ℕ) (s : FateState) (packet : List ℕ) → is_kept (fate apid s packet) ≡ true → (ancillary_in packet).told_last ≡ false
+kept_height apid s packet keeps =
+    let tests = kept_tests apid s packet (is_kept_so (fate apid s packet) keeps) in
+    height_known (ancillary_in packet) (not_true (tells_rows (ancillary_in packet)) (or_first (not (tells_rows (ancillary_in packet))) _ tests.own))
+
+-- its head leaves the geometry as it was
+pub same_past : (g : Geometry) (a : Ancillary) (head : SegmentHead) → a.told_last ≡ false → geometry_past g a head ≡ g
+same_past g a head known = rw known refl
+
 -- the first block is that of the index, in the geometry
-first_so : (standing : Option Geometry) (a : Ancillary) (image : ImagePart) → a.first ≡ a.index * a.segment → differs standing a ≡ false → a.first ≡ first_block (geometry_for standing a image).segment a.index
-first_so None a image e same = e
-first_so (Some g) a image e same =
-    let rest = or_rest (not (a.rows == g.rows)) _ (or_rest (not (a.image == g.image)) _ same) in
+first_so : (standing : Option Geometry) (told_last : Bool) (a : Ancillary) (image : ImagePart) → a.first ≡ a.index * a.segment → differs standing told_last a ≡ false → a.first ≡ first_block (geometry_for standing a image).segment a.index
+first_so None told_last a image e same = e
+first_so (Some g) told_last a image e same =
+    let rest = or_rest (not (a.rows == (if told_last then 0 else g.rows))) _ (or_rest (not (a.image == g.image)) _ (or_rest (not (same_flag a.told_last told_last)) _ same)) in
     let segment = equal_so a.segment g.segment (not_true (a.segment == g.segment) (or_first (not (a.segment == g.segment)) _ rest)) in
     e ∙ ap (λ n. a.index * n) segment
 
 -- the blocks and the weights are those of the geometry
-agrees_so : (g : Geometry) (a : Ancillary) (head : SegmentHead) → disagreement g a head ≡ None →
+agrees_so : (g : Geometry) (a : Ancillary) (head : SegmentHead) → a.told_last ≡ false → disagreement g a head ≡ None →
     (a.first < blocks_of g) × (head.blocks ≡ min g.segment (blocks_of g - a.first)) × (head.image.weights.shifts ≡ g.weights.shifts)
 unfolding disagreement
-agrees_so g a head e =
+agrees_so g a head known e =
     let six = six_pass _ _ _ _ _ _ _ _ _ _ _ _ e in
+    let blocks : has_blocks g a head ≡ true = ap (λ b. if b then may_have_blocks g head else has_blocks g a head) (sym known) ∙ not_true _ six.0 in
     let image = not_true (is_of_image g head.image) six.1 in
     let last = and_rest (head.image.word == g.word) _ (and_rest (head.image.width == g.width) _ (and_rest (head.image.depth == g.depth) _ (and_rest (same_flag head.image.signed g.signed) _ image))) in (
-      above_so (blocks_of g) a.first (or_first (nat_le (blocks_of g) a.first) _ six.0),
-      equal_so head.blocks (min g.segment (blocks_of g - a.first)) (not_true _ (or_rest (nat_le (blocks_of g) a.first) _ six.0)),
+      below_so a.first (blocks_of g) (and_first (nat_lt a.first (blocks_of g)) _ blocks),
+      equal_so head.blocks (min g.segment (blocks_of g - a.first)) (and_rest (nat_lt a.first (blocks_of g)) _ blocks),
       bytes_so head.image.weights.shifts g.weights.shifts last,
     )
 
@@ -134,10 +156,12 @@ begun_by apid s packet start starts =
     let b = begins_so apid s packet starts.first in
     let same = sym starts.ancillary_is in
     let refusal : disagreement (geometry_for s.geometry a start.head.image) a start.head ≡ None = rw (k.1, starts.head_is) at tests.head in
-    let agrees = agrees_so (geometry_for s.geometry a start.head.image) a start.head refusal in
+    let known = kept_height apid s packet k.0 in
+    let agrees = agrees_so (geometry_for s.geometry a start.head.image) a start.head known refusal in
     let own = or_rest _ _ (or_rest _ _ tests.own) in
-    let first = first_so s.geometry a start.head.image (equal_so a.first (a.index * a.segment) (not_true _ (or_first (not (a.first == a.index * a.segment)) _ own))) (or_rest (not (a.first == a.index * a.segment)) _ own) in
-    let made : geometry_after s.geometry packet ≡ Some (geometry_for s.geometry a start.head.image) = rw (k.1, starts.head_is) refl in
+    let first = first_so s.geometry s.told_last a start.head.image (equal_so a.first (a.index * a.segment) (not_true _ (or_first (not (a.first == a.index * a.segment)) _ own))) (or_rest (not (a.first == a.index * a.segment)) _ own) in
+    let made : geometry_after s.geometry packet ≡ Some (geometry_for s.geometry a start.head.image) =
+    rw (k.1, starts.head_is) (ap Some (same_past (geometry_for s.geometry a start.head.image) a start.head known)) in
     record {
       fits = subst (λ (a : Ancillary). FitsImage (geometry_for s.geometry a start.head.image) (record { ancillary = a; head = start.head })) same record {
         first = first;

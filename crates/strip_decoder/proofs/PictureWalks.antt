@@ -13,7 +13,7 @@ use Rattle.stream_defs.specs.declared.fate.FateState.{FateState}
 use Rattle.stream_defs.specs.declared.fate.LastPart.{LastPart}
 use Rattle.stream_defs.specs.Agreement.{blocks_of}
 use Rattle.stream_defs.specs.Fates.{state_after}
-use Rattle.stream_defs.specs.Picture.{number_at, picture_octets}
+use Rattle.stream_defs.specs.Picture.{number_at, whole_octets}
 use Rattle.stream_defs.specs.Settled.{ready, rows_through, block_rows_before}
 use Rattle.picture_rows.specs.declared.picture.Picture.{Picture}
 use Rattle.picture_rows.specs.Fronts.{rows_of}
@@ -43,7 +43,7 @@ numbers_same g received = λ j block i. by (received (block / g.segment)) block 
 rows_same : (g : Geometry) (received : Numbers) (n : ℕ) → rows_of g (numbers_in (blocks_with g received)) n ≡ rows_of g (number_at g received) n
 rows_same g received n = ap (λ numbers. rows_of g numbers n) (numbers_same g received)
 
-whole_same : (g : Geometry) (received : Numbers) → rows_of g (numbers_in (blocks_with g received)) g.rows ≡ picture_octets g received
+whole_same : (g : Geometry) (received : Numbers) → rows_of g (numbers_in (blocks_with g received)) g.rows ≡ whole_octets g received
 whole_same g received = rows_same g received g.rows ∙ all_rows g (number_at g received)
 
 -- ---- a block
@@ -101,8 +101,8 @@ picture_begins (Ok p) g fresh = record {
 ready_settled : (s : FateState) (received : Numbers) (g : Geometry) → s.geometry ≡ Some g → (rows : ℕ) → rows_through g (block_rows_before g (settled_blocks s received)) ≤ rows → ready s received ≤ rows
 ready_settled s received g geometry rows le = by s.last refl
   where
-    state : (o : Option LastPart) → s.last ≡ o → s ≡ record { geometry = Some g; last = o }
-    state o e = λ i. record { geometry = geometry i; last = e i }
+    state : (o : Option LastPart) → s.last ≡ o → s ≡ record { geometry = Some g; told_last = s.told_last; last = o }
+    state o e = λ i. record { geometry = geometry i; told_last = s.told_last; last = e i }
 
     by : (o : Option LastPart) → s.last ≡ o → ready s received ≤ rows
     by None e = subst (λ n. n ≤ rows) (sym (ap (λ s. ready s received) (state None e))) (omega arith)
@@ -136,7 +136,7 @@ asks_by wish old took gave i j asks = ((asks.0.0, λ all told. prompt_by wish.ap
 -- ---- the answers
 
 -- past all blocks all rows are given
-whole_rows : (g : Geometry) (received : Numbers) (gave : List ℕ) → 0 < block_count g.width → GivesRows g (blocks_with g received) (blocks_of g) gave → gave ≡ picture_octets g received
+whole_rows : (g : Geometry) (received : Numbers) (gave : List ℕ) → 0 < block_count g.width → GivesRows g (blocks_with g received) (blocks_of g) gave → gave ≡ whole_octets g received
 whole_rows g received gave wide given =
     let c = block_count g.width in
     let turned : c * block_count g.rows ≡ block_count g.rows * c + 0 = grind arith in
@@ -153,6 +153,7 @@ is_picture : (wish : DecodeWish) (old new : Outside) (took gave : List ℕ) (wal
 is_picture wish old new took gave walked x = record {
   geometry = x.geometry;
   range = x.range;
+  height = x.height;
   few = x.few;
   framing_is = x.framing_is;
   out = x.out;

@@ -17,11 +17,12 @@ use Rattle.packet_defs.specs.Streams.{framing}
 use Rattle.raster_rows.specs.Pixels.{clamped, pixel_octets, raster_octets}
 use Rattle.raster_rows.proofs.Numbers.{clamped_is}
 use Rattle.segment_code.specs.Laws.{CodedHolds, CodedHoldsExactly, TextsAreShort}
-use Rattle.stream_defs.specs.Damage.{missing_rows}
+use Rattle.stream_defs.specs.Damage.{whole_missing}
 use Rattle.stream_defs.specs.Fates.{geometry_in}
-use Rattle.stream_defs.specs.Output.{head_of, image_blocks, output, segment_of, segments_of}
-use Rattle.stream_defs.specs.Picture.{number_at, picture, picture_octets, picture_with, pyramid_with}
+use Rattle.stream_defs.specs.Output.{head_for, image_blocks, output, segment_of, segments_of, used_before}
+use Rattle.stream_defs.specs.Picture.{number_at, whole_picture, whole_octets, whole_with, pyramid_with, picture_of}
 use Rattle.stream_defs.specs.Received.{ReceivedIn}
+use Rattle.stream_defs.proofs.ShareLaws.{share_none}
 use Rattle.stream_defs.proofs.ImageLaws.{image_block}
 use Rattle.wave_defs.specs.Blocks.{block, coefficient, weight_at}
 use Rattle.wave_defs.specs.Pyramid.{Pyramid, padded, pyramid}
@@ -60,7 +61,7 @@ raster_same depth rows width a b same =
     (λ i from inside. ap (pixel_octets depth) (map_same (a i) (b i) 0 width (λ j first across. same i j (omega (arith, inside)) (omega (arith, across)))))
 
 module _ (short : TextsAreShort) (holds : CodedHolds) (exact : CodedHoldsExactly) (s : Setting) (x : ℕ → ℕ → ℤ) (is : IsImageFor s x) (received : Numbers)
-    (received_is : ReceivedIn holds_after s.apid (output s x) received) where
+    (received_is : ReceivedIn holds_after s.apid (output s s.rows x) received) where
   abbrev all : List (List ℤ)
   all = image_blocks s x
 
@@ -88,10 +89,10 @@ module _ (short : TextsAreShort) (holds : CodedHolds) (exact : CodedHoldsExactly
         by None e some = absurd (false≢true some)
         by (Some w) e some =
             let blocks = segment_of s all index in
-            let h = head_of s index blocks in
+            let h = head_for s all index in
             let plane : h.stop.plane ≡ 0 = ap (λ b. if b then 0 else s.stop.plane) sends.goes_on ∙ sends.plane in
             let stage : h.stop.stage ≡ 3 = ap (λ b. if b then 3 else s.stop.stage) sends.goes_on ∙ sends.stage in
-            e ∙ ap Some ((exact h blocks (head_fits s x is.range is.pixels index lt) is.weights (spells s x is.range is.pixels index lt) refl sends.limit
+            e ∙ ap Some ((exact h blocks (head_fits s x is.range is.height is.pixels index lt) is.weights (spells s x is.range is.height is.pixels index lt) refl (share_none s index (used_before s all index) sends.total ∙ sends.limit)
             (record { goes_on = sends.goes_on; plane = plane; stage = stage }) w).0 (held_by short s x is received received_is index w lt e))
 
     -- so each block is there with its numbers
@@ -125,10 +126,10 @@ module _ (short : TextsAreShort) (holds : CodedHolds) (exact : CodedHoldsExactly
           ∙ sym (part_is weights i (coefficient bands t k i) (number_at g received (t * c + k) i) is.range.weights (weighted t k i row column small));
     }
 
-    pixel_same : (i j : ℕ) → i < s.rows → j < s.width → picture g received i j ≡ x i j
-    unfolding picture_with
+    pixel_same : (i j : ℕ) → i < s.rows → j < s.width → whole_picture g received i j ≡ x i j
+    unfolding picture_of
     pixel_same i j inside across =
-        let tall = three-le-block_count s.rows is.range.rows.0 in
+        let tall = three-le-block_count s.rows is.height.0 in
         let wide = three-le-block_count s.width is.range.width.0 in
         let row : min i (s.rows - 1) ≡ i = omega (arith, inside) in
         let column : min j (s.width - 1) ≡ j = omega (arith, across) in
@@ -141,22 +142,22 @@ module _ (short : TextsAreShort) (holds : CodedHolds) (exact : CodedHoldsExactly
         ∙ (clamped_is s.depth s.signed (x i j) is.range.depth).2 pixel.low pixel.high
 
     pub comes_same : ComesSame s x received
-    comes_same = record { at = pixel_same; octets = raster_same s.depth s.rows s.width (picture g received) x pixel_same }
+    comes_same = record { at = pixel_same; octets = raster_same s.depth s.rows s.width (whole_picture g received) x pixel_same }
 
 -- ---- what a decoder gives
 
 pub decoded_back : TextsAreShort → CodedHolds → CodedHoldsExactly → (wish : DecodeWish) (start new : Outside) (took gave every : List ℕ) (done : DecodeDone) (s : Setting) (x : ℕ → ℕ → ℤ) →
-    IsPicture wish start new took gave done → start.rest ≡ Some every → wish.apid ≡ s.apid → took ≡ output s x → IsImageFor s x → GivesBack s x gave done
+    IsPicture wish start new took gave done → start.rest ≡ Some every → wish.apid ≡ s.apid → took ≡ output s s.rows x → IsImageFor s x → GivesBack s x gave done
 decoded_back short holds exact wish start new took gave every done s x found told apid took_is is =
     let t = found.told every told in
     let received = t.0 in
-    let there : geometry_in s.apid (output s x) ≡ Some done.geometry = subst (λ octets. geometry_in s.apid octets ≡ Some done.geometry) took_is (subst (λ n. geometry_in n took ≡ Some done.geometry) apid found.geometry) in
+    let there : geometry_in s.apid (output s s.rows x) ≡ Some done.geometry = subst (λ octets. geometry_in s.apid octets ≡ Some done.geometry) took_is (subst (λ n. geometry_in n took ≡ Some done.geometry) apid found.geometry) in
     let size : done.geometry ≡ geometry_of s = some_geometry (sym there ∙ geometry_told short s x is) in
-    let mine : ReceivedIn holds_after s.apid (output s x) received = subst (λ octets. ReceivedIn holds_after s.apid octets received) took_is (subst (λ n. ReceivedIn holds_after n took received) apid t.1) in
+    let mine : ReceivedIn holds_after s.apid (output s s.rows x) received = subst (λ octets. ReceivedIn holds_after s.apid octets received) took_is (subst (λ n. ReceivedIn holds_after n took received) apid t.1) in
     let whole = comes_whole short s x is received mine holds in
     record {
       geometry = size;
-      missing = t.3 ∙ ap (λ g. missing_rows g received) size ∙ whole.missing;
+      missing = t.3 ∙ ap (λ g. whole_missing g received) size ∙ whole.missing;
       framing_is = found.framing_is ∙ ap framing took_is ∙ whole.framing_is;
-      same = λ sends. t.2 ∙ ap (λ g. picture_octets g received) size ∙ (comes_same short holds exact s x is received mine sends).octets;
+      same = λ sends. t.2 ∙ ap (λ g. whole_octets g received) size ∙ (comes_same short holds exact s x is received mine sends).octets;
     }

@@ -16,7 +16,7 @@ use Rattle.packet_defs.specs.Streams.{whole_packets}
 use Rattle.stream_defs.specs.declared.fate.FateState.{FateState}
 use Rattle.stream_defs.specs.Fates.{fresh, after_all, kept}
 use Rattle.stream_defs.specs.Received.{IsReceived, ReceivedIn, packets_at}
-use Rattle.stream_defs.specs.Damage.{is_missing, missing_rows}
+use Rattle.stream_defs.specs.Damage.{is_missing, whole_missing, missing_below}
 use Rattle.stream_defs.specs.Marks.{most_block_rows}
 use Rattle.stream_defs.proofs.KeptOrder.{before_none}
 use Rattle.damage_rows.proofs.TableLaws.{any_none, filter_front, most_is}
@@ -151,13 +151,13 @@ missing_is g sofar row wide = any_same (range_with_len 0 (block_count g.width))
         ap (λ b. b || list_any f xs) (some_same (row * block_count g.width + x) (sofar ((row * block_count g.width + x) / g.segment))) ∙ ap (λ b. h x || b) (any_same xs)
 
 -- what is marked once all blocks were passed
-pub all_missing : {S : Type 0} (k : SinkOf S) (p : Walking S) (sofar : Numbers) (gave : List ℕ) → IsStanding k p → Follows k p (blocks_with p.geometry sofar) gave → passed_in p ≡ total_in p → p.damage.missing ≡ missing_rows p.geometry sofar
-unfolding missing_rows
+pub all_missing : {S : Type 0} (k : SinkOf S) (p : Walking S) (sofar : Numbers) (gave : List ℕ) → IsStanding k p → Follows k p (blocks_with p.geometry sofar) gave → passed_in p ≡ total_in p → p.damage.missing ≡ whole_missing p.geometry sofar
+unfolding missing_below
 all_missing k p sofar gave standing follows all =
     let g = p.geometry in
     let blocks = blocks_with g sofar in
     let r = block_count g.rows in
-    let few = block_count-rows g.rows standing.range.rows in
+    let few = block_count-rows g.rows standing.height in
     let column = standing.column in
     let wide : 0 < block_count g.width = omega (arith, column) in
     follows.listed

@@ -10,7 +10,7 @@ use Rattle.stream_defs.specs.declared.fate.FateState.{FateState}
 use Rattle.stream_defs.specs.declared.fate.LastPart.{LastPart}
 use Rattle.stream_defs.specs.Fates.{fresh, after_all, kept}
 use Rattle.stream_defs.specs.Received.{IsReceived}
-use Rattle.stream_defs.specs.Settled.{blocks_through}
+use Rattle.stream_defs.specs.Settled.{blocks_in, blocks_through}
 use Rattle.stream_defs.proofs.KeptOrder.{before_none}
 use Rattle.stream_defs.proofs.ChosenLaws.{after_all-append}
 use Rattle.packet_assembly.specs.declared.note.SegmentStart.{SegmentStart}
@@ -25,7 +25,7 @@ use Rattle.strip_decoder.specs.Runs.{Run, holds_after, PassedBy, Knows, HasKnown
 use Rattle.strip_decoder.proofs.TextReads.{left_after}
 use Rattle.strip_decoder.proofs.Between.{index_stays, comes_next, found_at}
 use Rattle.strip_decoder.proofs.Receiving.{none_received, knows_to}
-use Rattle.strip_decoder.proofs.Asking.{future_past, future_part, knows_on, took_on, packets_then, state_then, is_prompt}
+use Rattle.strip_decoder.proofs.Asking.{blocks_known, future_past, future_part, knows_on, took_on, packets_then, state_then, is_prompt}
 
 pub last_there : (o : Option LastPart) (n : ℕ) → last_index o ≡ Some n → (l : LastPart) × (o ≡ Some l) × (l.index ≡ n)
 last_there None n e = absurd (let never : None ≡ Some n = e in cc)
@@ -169,8 +169,8 @@ stays_come k w now new a b p went standing between past unheld q =
     (λ octets more all parts stays told. right_at k w now new a b p (past.index + 1) past.index went come q standing between.geometry octets more all parts told (stays ∙ last) (through (is_some (come.known.sofar past.index)))
     (λ i v le near x. absurd (omega (arith, le, near))))
   where
-    through : (b : Bool) → first_block p.geometry.segment past.index + (if b then segment_blocks (total_in p) p.geometry.segment past.index else 0) ≤ passed_in p
-    through true = past.reached
+    through : (b : Bool) → first_block p.geometry.segment past.index + (if b then blocks_in p.geometry past.index else 0) ≤ passed_in p
+    through true = subst (λ n. first_block p.geometry.segment past.index + n ≤ passed_in p) (sym (blocks_known p.geometry past.index standing.height)) past.reached
     through false = omega (arith, past.reached)
 
 -- that was found

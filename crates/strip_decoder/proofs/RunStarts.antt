@@ -6,7 +6,7 @@ use Rattle.std.proofs.lemmas.Bool.{false≢true}
 use Rattle.port_122.specs.Outside.{Outside, Since}
 use Rattle.port_122.proofs.Stretches.{since_weaker}
 use Rattle.base_122.specs.Sizes.{block_count}
-use Rattle.base_122.specs.Ranges.{IsGeometryInRange}
+use Rattle.base_122.specs.Ranges.{IsGeometryInRange, IsWithin, rows_range}
 use Rattle.base_122.specs.declared.geometry.Geometry.{Geometry}
 use Rattle.packet_defs.specs.Streams.{whole_packets}
 use Rattle.stream_defs.specs.declared.fate.FateState.{FateState}
@@ -132,12 +132,13 @@ shows_nothing k g p fresh_walk blocks of =
     }
 
 -- a walk that begins stands
-pub first_stands : {S : Type 0} (k : SinkOf S) (g : Geometry) (p : Walking S) → IsGeometryInRange g → IsFresh k g p → IsStanding k p
-first_stands k g p range fresh_walk =
+pub first_stands : {S : Type 0} (k : SinkOf S) (g : Geometry) (p : Walking S) → IsGeometryInRange g → IsWithin rows_range g.rows → IsFresh k g p → IsStanding k p
+first_stands k g p range height fresh_walk =
     let none : passed_in p ≡ 0 = rw (fresh_walk.row, fresh_walk.column) (omega arith) in
     let wide = range.width in
     record {
       range = subst IsGeometryInRange (sym fresh_walk.geometry) range;
+      height = subst (λ (g : Geometry). IsWithin rows_range g.rows) (sym fresh_walk.geometry) height;
       column = subst (λ (g : Geometry). p.at.column < block_count g.width) (sym fresh_walk.geometry) (omega (arith, fresh_walk.column, wide));
       few = omega (arith, none);
       damage = ap (λ (m : Marks). m.rows) fresh_walk.damage ∙ ap (λ (g : Geometry). g.rows) (sym fresh_walk.geometry);

@@ -5,7 +5,7 @@ use Rattle.std.proofs.lemmas.Bool.{cases_lt}
 use Rattle.std.proofs.lemmas.Bool.Decides.{nat_tests}
 use Rattle.std.proofs.lemmas.Nat.{div_below}
 use Rattle.port_122.specs.Outside.{Outside}
-use Rattle.base_122.specs.Sizes.{first_block, segment_blocks}
+use Rattle.base_122.specs.Sizes.{first_block}
 use Rattle.wave_defs.specs.Held.{blocks_in}
 use Rattle.segment_defs.specs.declared.head.SegmentHead.{SegmentHead}
 use Rattle.text_defs.specs.Outcomes.{Holds}
@@ -13,7 +13,7 @@ use Rattle.packet_defs.specs.Streams.{whole_packets}
 use Rattle.stream_defs.specs.declared.fate.FateState.{FateState}
 use Rattle.stream_defs.specs.Fates.{fresh, after_all, kept}
 use Rattle.stream_defs.specs.Received.{IsReceived}
-use Rattle.stream_defs.specs.Settled.{blocks_through}
+use Rattle.stream_defs.specs.Settled.{blocks_through, blocks_in as segment_blocks_in}
 use Rattle.stream_defs.proofs.ChosenLaws.{after_all-append}
 use Rattle.packet_assembly.specs.declared.note.SegmentStart.{SegmentStart}
 use Rattle.packet_assembly.specs.Assembling.{Assembling, StaysOpen, Starts, last_index, is_closed, state_with}
@@ -66,7 +66,7 @@ module _ {S : Type 0} (k : SinkOf S) (w : Run) (now new : Outside) (a b : Assemb
   right octets more all parts stays told =
       let none = come.known.above index (omega arith) in
       let through : blocks_through p.geometry come.known.sofar index ≤ passed_in p =
-      subst (λ o. first_block p.geometry.segment index + (if is_some o then segment_blocks (total_in p) p.geometry.segment index else 0) ≤ passed_in p) (sym none) (omega (arith, reached, fits.first)) in
+      subst (λ o. first_block p.geometry.segment index + (if is_some o then segment_blocks_in p.geometry index else 0) ≤ passed_in p) (sym none) (omega (arith, reached, fits.first)) in
       right_at k w now new a b p index index goes.passed come goes.passes standing geometry octets more all parts told (stays.same ∙ last) through
       (λ i v le near x.
       let same : i ≡ index = omega (arith, le, near) in

@@ -11,7 +11,7 @@ use Rattle.std.proofs.lemmas.Nat.{div_below}
 use Rattle.std.proofs.lemmas.List.{get_or_past, get_or-drop, get_or-map, get_or_default, length-map, length-take}
 use Rattle.std.proofs.lemmas.List.Elements.{All-drop, All-take}
 use Rattle.std.proofs.lemmas.List.FromFn.{get_or-map-range_with_len, length-map-range_with_len}
-use Rattle.base_122.specs.Ranges.{IsInRange}
+use Rattle.base_122.specs.Ranges.{IsInRange, rows_range, IsWithin as IsWithinRange}
 use Rattle.base_122.specs.Sizes.{block_count, padded_size, total_blocks, segment_blocks, first_block}
 use Rattle.base_122.specs.declared.setting.Setting.{Setting}
 use Rattle.base_122.proofs.SizeBounds.{three-le-block_count, one-le-segment_blocks}
@@ -29,29 +29,34 @@ use Rattle.number_defs.proofs.DcRange.{dc_fits}
 use Rattle.plane_defs.specs.Laws.{IsMultiple}
 use Rattle.plane_defs.specs.Sets.{magnitude, shift}
 use Rattle.segment_defs.specs.Depths.{dc_of, dcs_of, block_depth, block_depths, depth_dc_of, depth_ac_of, signed_size}
+use Rattle.segment_defs.specs.declared.head.SegmentHead.{SegmentHead}
 use Rattle.segment_defs.specs.Head.{IsHead}
 use Rattle.segment_defs.specs.SegmentItems.{dc_shift}
 use Rattle.segment_defs.proofs.DepthLaws.{each_above, range_of_size, depths_law}
 use Rattle.segment_code.proofs.CodedOptions.{within_greatest}
 use Rattle.text_defs.specs.Spellable.{IsSpellable}
 use Rattle.text_defs.proofs.GivenParts.{shift_low}
-use Rattle.stream_defs.specs.Output.{head_of, head_with, image_blocks, segment_of, segments_of}
+use Rattle.stream_defs.proofs.Small.{pixel_small, within_small}
+use Rattle.stream_defs.specs.Output.{head_for, head_with, image_blocks, segment_of, segments_of}
+use Rattle.stream_defs.specs.Shares.{CanBeSaid}
+use Rattle.stream_defs.proofs.ShareLaws.{share_said}
 use Rattle.stream_defs.proofs.ImageLaws.{image_block, length-image_blocks}
 use Rattle.strip_decoder.specs.Containment.{ArePixels}
 
 -- ---- a head that can be said
 
-pub head_said : (s : Setting) (index count depth_dc depth_ac : ℕ) → IsInRange s → 1 ≤ count → count ≤ 1048575 → 1 ≤ depth_dc → depth_dc ≤ 28 → depth_ac ≤ 27 → IsHead (head_with s index count depth_dc depth_ac)
-head_said s index count depth_dc depth_ac range some most least_dc most_dc most_ac = record {
+pub head_said : (s : Setting) (index limit count depth_dc depth_ac : ℕ) → IsInRange s → CanBeSaid s limit → 1 ≤ count → count ≤ 1048575 → 1 ≤ depth_dc → depth_dc ≤ 28 → depth_ac ≤ 27 →
+    IsHead (head_with s index limit count depth_dc depth_ac)
+head_said s index limit count depth_dc depth_ac range said some most least_dc most_dc most_ac = record {
   depth_dc = (least_dc, most_dc);
   depth_ac = most_ac;
   pad_rows = pads (index + 1 == segments_of s) s.rows;
   pads_last = none (index + 1 == segments_of s) s.rows;
-  limit = elim range.limit [ inl none ↦ inl none | inr given ↦ inr (given.0.0, omega (arith, given.0), given.1) ];
+  limit = said.limit;
   plane = plane_least s.stop.dc s.stop.plane (omega (arith, range.plane));
   stage = stage_least s.stop.dc s.stop.stage (omega (arith, range.stage));
   stops_at_dc = λ dc. (ap (λ b. if b then 0 else s.stop.plane) dc, ap (λ b. if b then 3 else s.stop.stage) dc);
-  fill = range.fill;
+  fill = said.fill;
   blocks = (some, omega arith);
   image = record { depth = range.depth; width = (range.width.0, omega (arith, range.width)); word = range.word; weights = range.weights };
 }
@@ -73,18 +78,6 @@ head_said s index count depth_dc depth_ac range some most least_dc most_dc most_
     none false rows e = refl
 
 -- ---- numbers that are small and multiples of their weights
-
-pixel_small : (depth : ℕ) (signed : Bool) (z : ℤ) → 1 ≤ depth → depth ≤ 16 → IsPixel depth signed z → IsWithin (2 ^ 16) z
-pixel_small depth true z some most p =
-    let half = pow_mono {i = depth - 1} {j = 16} (omega arith) in
-    record { above = omega (arith, ints, p.low, half); below = omega (arith, ints, p.high, half) }
-pixel_small depth false z some most p =
-    let whole = pow_mono {i = depth} {j = 16} most in
-    record { above = omega (arith, ints, p.low); below = omega (arith, ints, p.high, whole) }
-
-within_small : (z : ℤ) → IsWithin 128000000 z → unsigned_abs z < 2 ^ 27
-within_small (pos a) h = omega (arith, ints, h.above, h.below)
-within_small (negsuc a) h = omega (arith, ints, h.above, h.below)
 
 -- a block of 64 numbers that are small and multiples of their weights
 pub record IsSound (weights : List ℕ) (xs : List ℤ) : Type 0 where
@@ -134,7 +127,7 @@ module _ (p : Pyramid) (weights : List ℕ) (r c t k : ℕ) (within : PyramidWit
 
 -- ---- the blocks of an image
 
-module _ (s : Setting) (x : ℕ → ℕ → ℤ) (range : IsInRange s) (pixels : ArePixels s x) where
+module _ (s : Setting) (x : ℕ → ℕ → ℤ) (range : IsInRange s) (height : IsWithinRange rows_range s.rows) (pixels : ArePixels s x) where
   abbrev r : ℕ
   r = block_count s.rows
 
@@ -144,14 +137,14 @@ module _ (s : Setting) (x : ℕ → ℕ → ℤ) (range : IsInRange s) (pixels :
   image_small : EachWithin (2 ^ 16) (8 * r) (8 * c) (padded x s.rows s.width)
   image_small = record {
     at = λ i j hi hj.
-        let rows = range.rows.0 in
+        let rows = height.0 in
         let width = range.width.0 in
         pixel_small s.depth s.signed _ range.depth.0 range.depth.1 (pixels.at (min i (s.rows - 1)) (min j (s.width - 1)) (omega (arith, rows)) (omega (arith, width)));
   }
 
   all_sound : All (IsSound s.weights.shifts) (image_blocks s x)
   all_sound b d lt =
-      let tall = three-le-block_count s.rows range.rows.0 in
+      let tall = three-le-block_count s.rows height.0 in
       let wide = three-le-block_count s.width range.width.0 in
       let inside : b < total_blocks s.width s.rows = omega (arith, lt, length-image_blocks s x) in
       let column : b % c < c = omega (arith, wide) in
@@ -206,18 +199,23 @@ module _ (s : Setting) (x : ℕ → ℕ → ℤ) (range : IsInRange s) (pixels :
     depth_ac_most : depth_ac_of blocks ≤ 27
     depth_ac_most = depths_law.ac_least blocks 27 (λ k d lt. rest_small (get_or blocks k d) (segment_sound index k d lt))
 
-    pub head_fits : IsHead (head_of s index blocks)
-    head_fits = head_said s index (length blocks) (depth_dc_of blocks) (depth_ac_of blocks) range some_blocks few_blocks depth_dc_some depth_dc_most depth_ac_most
+    abbrev head : SegmentHead
+    head = head_for s (image_blocks s x) index
+
+    pub head_fits : IsHead head
+    head_fits =
+        head_said s index head.limit (length blocks) (depth_dc_of blocks) (depth_ac_of blocks) range (share_said s (image_blocks s x) index range inside) some_blocks few_blocks depth_dc_some depth_dc_most
+        depth_ac_most
 
     -- ---- they can be spelled
 
-    dcs_fit : DcsFit (depth_dc_of blocks) (depth_ac_of blocks) (dc_shift (head_of s index blocks)) (dcs_of blocks)
+    dcs_fit : DcsFit (depth_dc_of blocks) (depth_ac_of blocks) (dc_shift head) (dcs_of blocks)
     dcs_fit i lt =
         let inside : i < length blocks = omega (arith, lt, length-map blocks dc_of) in
         let above = each_above (λ b. signed_size (dc_of b)) 0 blocks i [] inside in
         let here : get_or (map dc_of blocks) i (pos 0) ≡ dc_of (get_or blocks i []) = get_or-map dc_of blocks i [] (pos 0) inside in
-        subst (λ z. IsNumber true (dc_bits (depth_dc_of blocks) (depth_ac_of blocks) (dc_shift (head_of s index blocks))) (int_shr z (dc_q (depth_dc_of blocks) (depth_ac_of blocks) (dc_shift (head_of s index blocks))))) (sym here)
-        (dc_fits (depth_dc_of blocks) (depth_ac_of blocks) (dc_shift (head_of s index blocks)) (dc_of (get_or blocks i [])) depth_dc_some (range_of_size (dc_of (get_or blocks i [])) (depth_dc_of blocks) above))
+        subst (λ z. IsNumber true (dc_bits (depth_dc_of blocks) (depth_ac_of blocks) (dc_shift head)) (int_shr z (dc_q (depth_dc_of blocks) (depth_ac_of blocks) (dc_shift head)))) (sym here)
+        (dc_fits (depth_dc_of blocks) (depth_ac_of blocks) (dc_shift head) (dc_of (get_or blocks i [])) depth_dc_some (range_of_size (dc_of (get_or blocks i [])) (depth_dc_of blocks) above))
 
     no_block : (n : ℕ) → length blocks ≤ n → get_or blocks n [] ≡ []
     no_block n ge = get_or_past blocks n [] ge
@@ -266,7 +264,7 @@ module _ (s : Setting) (x : ℕ → ℕ → ℤ) (range : IsInRange s) (pixels :
     depths_few : AreFew (depth_bits (depth_ac_of blocks)) (block_depths blocks)
     depths_few i lt = let most = within_greatest block_depth blocks 0 i in let fits = room (depth_ac_of blocks) depth_ac_most in omega (arith, most, fits)
 
-    pub spells : IsSpellable (head_of s index blocks) blocks (block_depths blocks)
+    pub spells : IsSpellable head blocks (block_depths blocks)
     spells = record {
       blocks_all = refl;
       depths_all = length-map blocks block_depth;

@@ -1,30 +1,36 @@
 -- Which segments are received of some packets of an image: exactly those whose packets are all there.
 use Rattle.std.proofs.Common.{◌≡◌, ◌<◌, ℕ, ℤ, List, refl, sym, ap, subst}
-use Rattle.std.specs.Prelude.{true, Option, None, Some, is_some, MatchOption}
+use Rattle.std.specs.Prelude.{Bool, true, Option, None, Some, is_some, MatchOption}
 use Rattle.std.proofs.lemmas.Bool.{false≢true}
 use Rattle.base_122.specs.declared.setting.Setting.{Setting}
 use Rattle.packet_defs.specs.Streams.{whole_packets}
 use Rattle.segment_code.specs.Laws.{CodedHolds, TextsAreShort}
 use Rattle.stream_defs.specs.Chosen.{chosen, all_parts}
-use Rattle.stream_defs.specs.Fates.{fresh, kept}
-use Rattle.stream_defs.specs.Output.{head_of, image_blocks, segment_of, segment_text, segments_of}
+use Rattle.stream_defs.specs.Fates.{fresh, reads, kept}
+use Rattle.stream_defs.specs.Output.{head_for, image_blocks, segment_of, segment_text, segments_of, tells_last}
 use Rattle.stream_defs.specs.Places.{AreCoded}
 use Rattle.stream_defs.specs.Received.{IsReceived, ReceivedIn}
 use Rattle.stream_defs.proofs.SublistLaws.{received_only, received_each}
 use Rattle.strip_decoder.specs.Runs.{Numbers, holds_after}
 use Rattle.strip_decoder.specs.Containment.{some_output, AreSome, ReceivesThose}
 use Rattle.strip_decoder.proofs.SpelledImages.{head_fits, spells}
-use Rattle.strip_decoder.proofs.SublistPictures.{chosen_whole, coded_for}
+use Rattle.strip_decoder.proofs.SublistPictures.{chosen_whole, coded_for, known_read}
 
 module _ (short : TextsAreShort) (s : Setting) (x : ℕ → ℕ → ℤ) (parts : ℕ → List ℕ) (are : AreSome s x parts) where
   abbrev all : List (List ℤ)
   all = image_blocks s x
 
+  abbrev told : Bool
+  told = tells_last s
+
   coded : AreCoded s all
   coded = coded_for short s x are.image
 
-  packets_are : whole_packets (some_output s x parts) ≡ chosen s all parts (segments_of s)
-  packets_are = chosen_whole s all coded parts are.choice
+  read : reads told ≡ true
+  read = known_read s are.image.height
+
+  packets_are : whole_packets (some_output s x parts) ≡ chosen told s all parts (segments_of s)
+  packets_are = chosen_whole told s all coded read parts are.choice
 
   abbrev Here : (index : ℕ) → List (List ℤ) → Type 0
   Here index w = IsReceived holds_after (kept s.apid fresh (whole_packets (some_output s x parts))) index w
@@ -35,9 +41,9 @@ module _ (short : TextsAreShort) (s : Setting) (x : ℕ → ℕ → ℤ) (parts 
 
     -- a received segment has all its packets, and is what they carry
     pub only_whole : (index : ℕ) (w : List (List ℤ)) → index < segments_of s → received index ≡ Some w →
-        (parts index ≡ all_parts s all index) × holds_after (head_of s index (segment_of s all index)) (segment_text s all index) w
+        (parts index ≡ all_parts s all index) × holds_after (head_for s all index) (segment_text s all index) w
     only_whole index w lt e =
-        received_only s all coded parts are.choice holds_after index w lt
+        received_only told s all coded read parts are.choice holds_after index w lt
         (subst (λ ps. IsReceived holds_after (kept s.apid fresh ps) index w) packets_are (answered index (Some w) e))
 
     -- a segment with all its packets is received
@@ -49,9 +55,9 @@ module _ (short : TextsAreShort) (s : Setting) (x : ℕ → ℕ → ℤ) (parts 
         by None e =
             let blocks = segment_of s all index in
             let image = are.image in
-            let held = holds (head_of s index blocks) blocks (head_fits s x image.range image.pixels index lt) image.weights (spells s x image.range image.pixels index lt) refl in
+            let held = holds (head_for s all index) blocks (head_fits s x image.range image.height image.pixels index lt) image.weights (spells s x image.range image.height image.pixels index lt) refl in
             absurd (answered index None e held.0 (subst (λ ps. IsReceived holds_after (kept s.apid fresh ps) index held.0) (sym packets_are)
-            (received_each s all coded parts are.choice holds_after index held.0 lt whole held.1)))
+            (received_each told s all coded read parts are.choice holds_after index held.0 lt whole held.1)))
 
     pub receives_those : CodedHolds → ReceivesThose s x parts received
     receives_those holds = record { at = λ index lt. (λ some. from_some index (received index) lt refl some, each_whole holds index lt) }

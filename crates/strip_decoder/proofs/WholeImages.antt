@@ -14,16 +14,16 @@ use Rattle.packet_defs.specs.Streams.{left_over, place_after, framing, framing_a
 use Rattle.packet_defs.proofs.Splits.{joined_splits, splits_left}
 use Rattle.segment_code.specs.Laws.{CodedHolds, TextsAreShort}
 use Rattle.stream_defs.specs.Chosen.{IsChoice, chosen, all_parts}
-use Rattle.stream_defs.specs.Damage.{is_missing, missing_rows}
-use Rattle.stream_defs.specs.Fates.{geometry_in}
-use Rattle.stream_defs.specs.Output.{head_of, image_blocks, output, segment_of, segment_text, segments_of}
+use Rattle.stream_defs.specs.Damage.{is_missing, whole_missing, missing_below}
+use Rattle.stream_defs.specs.Fates.{reads, geometry_in}
+use Rattle.stream_defs.specs.Output.{head_for, image_blocks, output, segment_text, segments_of, tells_last}
 use Rattle.stream_defs.specs.Places.{parts_of, AreCoded}
 use Rattle.stream_defs.specs.Received.{ReceivedIn}
 use Rattle.strip_decoder.specs.Runs.{Numbers, holds_after}
 use Rattle.strip_decoder.specs.Containment.{some_output, BeginsOne, AreSome, IsImageFor}
 use Rattle.strip_decoder.specs.RoundTrip.{ComesWhole}
 use Rattle.strip_decoder.proofs.RunEnds.{any_miss}
-use Rattle.strip_decoder.proofs.SublistPictures.{all_packets, choice_all, coded_for, geometry_there, whole_choice}
+use Rattle.strip_decoder.proofs.SublistPictures.{all_packets, choice_all, coded_for, geometry_there, known_read, whole_choice}
 use Rattle.strip_decoder.proofs.SublistSegments.{only_whole, each_whole}
 
 -- ---- none of a range
@@ -35,8 +35,8 @@ filter_miss p a (suc n) none =
     ∙ filter_miss p (a + 1) n (λ i low high. none i (omega (arith, low)) (omega (arith, high)))
 
 -- where each block is received, no block row is missing
-none_missing : (g : Geometry) (received : Numbers) → ((block : ℕ) → block < block_count g.rows * block_count g.width → is_some (received (block / g.segment)) ≡ true) → missing_rows g received ≡ []
-unfolding missing_rows
+none_missing : (g : Geometry) (received : Numbers) → ((block : ℕ) → block < block_count g.rows * block_count g.width → is_some (received (block / g.segment)) ≡ true) → whole_missing g received ≡ []
+unfolding missing_below
 none_missing g received all =
     let c = block_count g.width in
     filter_miss (is_missing g received) 0 (block_count g.rows) (λ row low inside.
@@ -55,25 +55,31 @@ module _ (short : TextsAreShort) (s : Setting) (x : ℕ → ℕ → ℤ) (is : I
   abbrev all : List (List ℤ)
   all = image_blocks s x
 
+  abbrev told : Bool
+  told = tells_last s
+
   coded : AreCoded s all
   coded = coded_for short s x is
+
+  read : reads told ≡ true
+  read = known_read s is.height
 
   choice : IsChoice s all (all_parts s all)
   choice = choice_all short s x is
 
   abbrev packets : List (List ℕ)
-  packets = chosen s all (all_parts s all) (segments_of s)
+  packets = chosen told s all (all_parts s all) (segments_of s)
 
-  all_are : output s x ≡ joined packets
-  all_are = ap joined (whole_choice s all (segments_of s))
+  all_are : output s s.rows x ≡ joined packets
+  all_are = ap joined (whole_choice told s all (segments_of s))
 
   -- nothing is left over
-  none_left : left_over (output s x) ≡ []
-  none_left = ap left_over all_are ∙ splits_left (joined_splits packets (all_packets s all coded (all_parts s all) choice (segments_of s) (omega arith)))
+  pub none_left : left_over (output s s.rows x) ≡ []
+  none_left = ap left_over all_are ∙ splits_left (joined_splits packets (all_packets told s all coded read (all_parts s all) choice (segments_of s) (omega arith)))
 
-  pub framed : framing (output s x) ≡ None
+  pub framed : framing (output s s.rows x) ≡ None
   unfolding framing_at
-  framed = ap (λ left. framing_at (place_after (output s x)) left) none_left
+  framed = ap (λ left. framing_at (place_after (output s s.rows x)) left) none_left
 
   -- ---- its geometry
 
@@ -81,7 +87,7 @@ module _ (short : TextsAreShort) (s : Setting) (x : ℕ → ℕ → ℤ) (is : I
   some_segments = by (segments_of s) (total-le-segments (total_blocks s.width s.rows) s.segment (omega (arith, is.range.segment.0)))
     where
       by : (n : ℕ) → total_blocks s.width s.rows ≤ n * s.segment → 0 < n
-      by zero le = absurd (omega (arith, le, nine-le-total_blocks s.width s.rows is.range.width.0 is.range.rows.0))
+      by zero le = absurd (omega (arith, le, nine-le-total_blocks s.width s.rows is.range.width.0 is.height.0))
       by (suc n) le = omega arith
 
   some_parts : 1 ≤ parts_of s all 0
@@ -101,18 +107,18 @@ module _ (short : TextsAreShort) (s : Setting) (x : ℕ → ℕ → ℤ) (is : I
   are : AreSome s x (all_parts s all)
   are = record { image = is; choice = choice }
 
-  pub geometry_told : geometry_in s.apid (output s x) ≡ Some (geometry_of s)
+  pub geometry_told : geometry_in s.apid (output s s.rows x) ≡ Some (geometry_of s)
   geometry_told = ap (geometry_in s.apid) all_are ∙ geometry_there short s x (all_parts s all) are begins
 
   -- ---- what is received
 
-  module _ (received : Numbers) (received_is : ReceivedIn holds_after s.apid (output s x) received) where
+  module _ (received : Numbers) (received_is : ReceivedIn holds_after s.apid (output s s.rows x) received) where
     of_all : ReceivedIn holds_after s.apid (some_output s x (all_parts s all)) received
     of_all = subst (λ octets. ReceivedIn holds_after s.apid octets received) all_are received_is
 
     -- a segment that is received is the one that its packets carry
     pub held_by : (index : ℕ) (w : List (List ℤ)) → index < segments_of s → received index ≡ Some w →
-        holds_after (head_of s index (segment_of s all index)) (segment_text s all index) w
+        holds_after (head_for s all index) (segment_text s all index) w
     held_by index w lt e = (only_whole short s x (all_parts s all) are received of_all index w lt e).1
 
     -- and each is received

@@ -1,15 +1,15 @@
 -- How a decoder ends, by what it took and gave. This project's own.
 use Rattle.std.specs.Prelude.{◌≡◌, ◌≤◌, ◌<◌, ◌*◌, ℕ, Bool, true, List, [], length, take, false, None, Some, Result, Ok, Err}
 use Rattle.port_122.specs.Outside.{Outside, Since, Rose}
-use Rattle.base_122.specs.Ranges.{IsGeometryInRange}
+use Rattle.base_122.specs.Ranges.{IsGeometryInRange, IsWithin, rows_range}
 use Rattle.base_122.specs.declared.geometry.Geometry.{Geometry}
 use Rattle.base_122.specs.declared.wish.DecodeWish.{DecodeWish}
 use Rattle.packet_defs.specs.Streams.{left_over, has_bad_version, framing}
 use Rattle.stream_defs.specs.Fates.{geometry_in, state_after}
 use Rattle.stream_defs.specs.Received.{ReceivedIn}
-use Rattle.stream_defs.specs.Picture.{number_at, picture_octets}
+use Rattle.stream_defs.specs.Picture.{number_at, whole_octets}
 use Rattle.stream_defs.specs.Settled.{ready}
-use Rattle.stream_defs.specs.Damage.{missing_rows}
+use Rattle.stream_defs.specs.Damage.{whole_missing}
 use Rattle.picture_rows.specs.Fronts.{rows_of}
 use Rattle.packet_assembly.specs.Readings.{IsReadOut}
 use Rattle.strip_decoder.specs.declared.decode.DecodeDone.{DecodeDone}
@@ -34,11 +34,11 @@ AsksBy apid start took gave i j = (j ≤ length gave) × ((all : List ℕ) → s
 pub record FrontBy (apid : ℕ) (taken given : List ℕ) : Type 0 where
   pub none : geometry_in apid taken ≡ None → given ≡ []
   pub some : (g : Geometry) (received : Numbers) → geometry_in apid taken ≡ Some g → ReceivedIn holds_after apid taken received →
-      (n : ℕ) × (given ≡ take n (picture_octets g received))
+      (n : ℕ) × (given ≡ take n (whole_octets g received))
 
 -- what is given of a whole picture
 abbrev pub octets_of : (gives : Bool) → Geometry → Numbers → List ℕ
-octets_of true g received = picture_octets g received
+octets_of true g received = whole_octets g received
 octets_of false g received = []
 
 -- ---- the decoder
@@ -48,12 +48,13 @@ octets_of false g received = []
 pub record PictureBy (gives : Bool) (wish : DecodeWish) (start new : Outside) (took gave : List ℕ) (done : DecodeDone) : Type 0 where
   pub geometry : geometry_in wish.apid took ≡ Some done.geometry
   pub range : IsGeometryInRange done.geometry
+  pub height : IsWithin rows_range done.geometry.rows
   pub few : done.geometry.width * done.geometry.rows ≤ wish.pixels
   pub framing_is : done.framing ≡ framing took
   pub out : IsReadOut wish.octets new took
   pub rows : done.damage.rows ≡ done.geometry.rows
   pub told : (all : List ℕ) → start.rest ≡ Some all → (received : Numbers) × ReceivedIn holds_after wish.apid took received
-      × (gave ≡ octets_of gives done.geometry received) × (done.damage.missing ≡ missing_rows done.geometry received)
+      × (gave ≡ octets_of gives done.geometry received) × (done.damage.missing ≡ whole_missing done.geometry received)
 
 abbrev pub IsPicture : (wish : DecodeWish) (start new : Outside) (took gave : List ℕ) (done : DecodeDone) → Type 0
 IsPicture = PictureBy true

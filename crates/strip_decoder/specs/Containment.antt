@@ -1,7 +1,7 @@
 -- Losses are contained: no pixel outside the damaged rows hangs on what was lost. This project's own.
 use Rattle.std.specs.Prelude.{◌≡◌, ◌<◌, ◌↔◌, ◌/◌, ℕ, ℤ, true, false, List, ◌∷◌, length, Some, is_some}
 use Rattle.port_122.specs.Outside.{Outside}
-use Rattle.base_122.specs.Ranges.{IsInRange, IsGeometryInRange}
+use Rattle.base_122.specs.Ranges.{IsInRange, IsGeometryInRange, IsWithin, rows_range}
 use Rattle.base_122.specs.Setting.{geometry_of}
 use Rattle.base_122.specs.declared.geometry.Geometry.{Geometry}
 use Rattle.base_122.specs.declared.setting.Setting.{Setting}
@@ -11,10 +11,10 @@ use Rattle.raster_rows.specs.Pixels.{IsPixel}
 use Rattle.stream_defs.specs.declared.range.RowRange.{RowRange}
 use Rattle.stream_defs.specs.Agreement.{blocks_of}
 use Rattle.stream_defs.specs.Chosen.{IsChoice, chosen, all_parts}
-use Rattle.stream_defs.specs.Damage.{damage, is_covered, ranges}
+use Rattle.stream_defs.specs.Damage.{whole_damage, is_covered, ranges}
 use Rattle.stream_defs.specs.Fates.{geometry_in}
-use Rattle.stream_defs.specs.Output.{image_blocks, output, segments_of}
-use Rattle.stream_defs.specs.Picture.{number_at, picture, picture_octets, picture_with}
+use Rattle.stream_defs.specs.Output.{image_blocks, output, segments_of, tells_last}
+use Rattle.stream_defs.specs.Picture.{number_at, whole_picture, whole_octets, whole_with}
 use Rattle.stream_defs.specs.Received.{ReceivedIn}
 use Rattle.strip_decoder.specs.declared.decode.DecodeDone.{DecodeDone}
 use Rattle.strip_decoder.specs.Answers.{IsPicture}
@@ -30,7 +30,7 @@ pub record AreWith (g : Geometry) (received : Numbers) (numbers : ℕ → ℕ �
 
 -- the octets of some packets of an image's, in order
 abbrev pub some_output : Setting → (ℕ → ℕ → ℤ) → (parts : ℕ → List ℕ) → List ℕ
-some_output s x parts = joined (chosen s (image_blocks s x) parts (segments_of s))
+some_output s x parts = joined (chosen (tells_last s) s (image_blocks s x) parts (segments_of s))
 
 -- a packet among them begins a segment
 pub record BeginsOne (s : Setting) (parts : ℕ → List ℕ) : Type 0 where
@@ -43,9 +43,10 @@ pub record BeginsOne (s : Setting) (parts : ℕ → List ℕ) : Type 0 where
 pub record ArePixels (s : Setting) (x : ℕ → ℕ → ℤ) : Type 0 where
   pub at : (i j : ℕ) → i < s.rows → j < s.width → IsPixel s.depth s.signed (x i j)
 
--- an image with this setting, whose ten weights, other fields and pixels are in range
+-- an image with this setting, whose height is known, and whose ten weights, other fields and pixels are in range
 pub record IsImageFor (s : Setting) (x : ℕ → ℕ → ℤ) : Type 0 where
   pub range : IsInRange s
+  pub height : IsWithin rows_range s.rows
   pub weights : length s.weights.shifts ≡ 10
   pub pixels : ArePixels s x
 
@@ -62,14 +63,14 @@ pub record ReceivesThose (s : Setting) (x : ℕ → ℕ → ℤ) (parts : ℕ �
 -- read, each pixel outside their damage is that of the picture for all of them; and the damage is that of the segments which lack a
 -- packet.
 pub record LossesContained : Type 0 where
-  pub whatever : (g : Geometry) (received : Numbers) (numbers : ℕ → ℕ → ℤ) → IsGeometryInRange g → AreWith g received numbers →
-      SameOutside g.rows g.width (damage g received) (picture_with g numbers) (picture g received)
+  pub whatever : (g : Geometry) (received : Numbers) (numbers : ℕ → ℕ → ℤ) → IsGeometryInRange g → IsWithin rows_range g.rows → AreWith g received numbers →
+      SameOutside g.rows g.width (whole_damage g received) (whole_with g numbers) (whole_picture g received)
   pub geometry : (s : Setting) (x : ℕ → ℕ → ℤ) (parts : ℕ → List ℕ) → AreSome s x parts → BeginsOne s parts → geometry_in s.apid (some_output s x parts) ≡ Some (geometry_of s)
   pub those : (s : Setting) (x : ℕ → ℕ → ℤ) (parts : ℕ → List ℕ) (received : Numbers) → AreSome s x parts →
       ReceivedIn holds_after s.apid (some_output s x parts) received → ReceivesThose s x parts received
   pub sublists : (s : Setting) (x : ℕ → ℕ → ℤ) (parts : ℕ → List ℕ) (received whole : Numbers) → AreSome s x parts →
-      ReceivedIn holds_after s.apid (some_output s x parts) received → ReceivedIn holds_after s.apid (output s x) whole →
-      SameOutside s.rows s.width (damage (geometry_of s) received) (picture (geometry_of s) received) (picture (geometry_of s) whole)
+      ReceivedIn holds_after s.apid (some_output s x parts) received → ReceivedIn holds_after s.apid (output s s.rows x) whole →
+      SameOutside s.rows s.width (whole_damage (geometry_of s) received) (whole_picture (geometry_of s) received) (whole_picture (geometry_of s) whole)
 
 -- the ranges of rows that a decoder's answer tells as damaged
 abbrev pub told_damage : DecodeDone → List RowRange
@@ -79,9 +80,9 @@ told_damage done = ranges done.damage.rows done.damage.missing
 pub record GivesContained (wish : DecodeWish) (took gave : List ℕ) (done : DecodeDone) : Type 0 where
   pub received : Numbers
   pub received_is : ReceivedIn holds_after wish.apid took received
-  pub gave_is : gave ≡ picture_octets done.geometry received
+  pub gave_is : gave ≡ whole_octets done.geometry received
   pub whatever : (numbers : ℕ → ℕ → ℤ) → AreWith done.geometry received numbers →
-      SameOutside done.geometry.rows done.geometry.width (told_damage done) (picture_with done.geometry numbers) (picture done.geometry received)
+      SameOutside done.geometry.rows done.geometry.width (told_damage done) (whole_with done.geometry numbers) (whole_picture done.geometry received)
 
 -- What is given is the picture of some packets of an image's, and each pixel outside the damage is that of the picture for all of them.
 pub record GivesAlike (s : Setting) (x : ℕ → ℕ → ℤ) (parts : ℕ → List ℕ) (gave : List ℕ) (done : DecodeDone) : Type 0 where
@@ -89,9 +90,9 @@ pub record GivesAlike (s : Setting) (x : ℕ → ℕ → ℤ) (parts : ℕ → L
   pub received : Numbers
   pub received_is : ReceivedIn holds_after s.apid (some_output s x parts) received
   pub those : ReceivesThose s x parts received
-  pub gave_is : gave ≡ picture_octets (geometry_of s) received
-  pub same : (whole : Numbers) → ReceivedIn holds_after s.apid (output s x) whole →
-      SameOutside s.rows s.width (told_damage done) (picture (geometry_of s) received) (picture (geometry_of s) whole)
+  pub gave_is : gave ≡ whole_octets (geometry_of s) received
+  pub same : (whole : Numbers) → ReceivedIn holds_after s.apid (output s s.rows x) whole →
+      SameOutside s.rows s.width (told_damage done) (whole_picture (geometry_of s) received) (whole_picture (geometry_of s) whole)
 
 -- So it is where a decoder gave a whole picture; and where it took some packets of an image's, of which one begins a segment.
 pub record DecodedContained : Type 0 where

@@ -6,33 +6,34 @@ use Rattle.base_122.specs.declared.setting.Setting.{Setting}
 use Rattle.base_122.specs.declared.wish.DecodeWish.{DecodeWish}
 use Rattle.packet_defs.specs.Streams.{framing}
 use Rattle.raster_rows.specs.Pixels.{raster_octets}
-use Rattle.stream_defs.specs.Damage.{missing_rows}
+use Rattle.stream_defs.specs.Damage.{whole_missing}
 use Rattle.stream_defs.specs.Fates.{geometry_in}
 use Rattle.stream_defs.specs.Output.{output}
-use Rattle.stream_defs.specs.Picture.{picture, picture_octets}
+use Rattle.stream_defs.specs.Picture.{whole_picture, whole_octets}
 use Rattle.stream_defs.specs.Received.{ReceivedIn}
 use Rattle.strip_decoder.specs.declared.decode.DecodeDone.{DecodeDone}
 use Rattle.strip_decoder.specs.Answers.{IsPicture}
 use Rattle.strip_decoder.specs.Containment.{IsImageFor}
 use Rattle.strip_decoder.specs.Runs.{Numbers, holds_after}
 
--- nothing is left out: the stop is the last stage of plane 0, and there is no limit
+-- nothing is left out: the stop is the last stage of plane 0, and there is neither a limit nor a total
 pub record SendsAll (s : Setting) : Type 0 where
   pub goes_on : s.stop.dc ≡ false
   pub plane : s.stop.plane ≡ 0
   pub stage : s.stop.stage ≡ 3
   pub limit : s.limit ≡ 0
+  pub total : s.total ≡ 0
 
 -- its packets tell its size, each block row is received, and they can be read to their end
 pub record ComesWhole (s : Setting) (x : ℕ → ℕ → ℤ) (received : Numbers) : Type 0 where
-  pub geometry : geometry_in s.apid (output s x) ≡ Some (geometry_of s)
-  pub missing : missing_rows (geometry_of s) received ≡ []
-  pub framing_is : framing (output s x) ≡ None
+  pub geometry : geometry_in s.apid (output s s.rows x) ≡ Some (geometry_of s)
+  pub missing : whole_missing (geometry_of s) received ≡ []
+  pub framing_is : framing (output s s.rows x) ≡ None
 
 -- the picture of these segments is the image
 pub record ComesSame (s : Setting) (x : ℕ → ℕ → ℤ) (received : Numbers) : Type 0 where
-  pub at : (i j : ℕ) → i < s.rows → j < s.width → picture (geometry_of s) received i j ≡ x i j
-  pub octets : picture_octets (geometry_of s) received ≡ raster_octets s.depth s.rows s.width x
+  pub at : (i j : ℕ) → i < s.rows → j < s.width → whole_picture (geometry_of s) received i j ≡ x i j
+  pub octets : whole_octets (geometry_of s) received ≡ raster_octets s.depth s.rows s.width x
 
 -- A decoder found the size of the image and nothing missing, and read the packets to their end; where nothing was left out, it gave
 -- the image's raster.
@@ -45,7 +46,7 @@ pub record GivesBack (s : Setting) (x : ℕ → ℕ → ℤ) (gave : List ℕ) (
 -- All packets of an image, in order, give it whole, and where nothing was left out they give just its pixels. So it is where a
 -- decoder took them and gave a whole picture.
 pub record RoundTrip : Type 0 where
-  pub whole : (s : Setting) (x : ℕ → ℕ → ℤ) (received : Numbers) → IsImageFor s x → ReceivedIn holds_after s.apid (output s x) received → ComesWhole s x received
-  pub same : (s : Setting) (x : ℕ → ℕ → ℤ) (received : Numbers) → IsImageFor s x → SendsAll s → ReceivedIn holds_after s.apid (output s x) received → ComesSame s x received
+  pub whole : (s : Setting) (x : ℕ → ℕ → ℤ) (received : Numbers) → IsImageFor s x → ReceivedIn holds_after s.apid (output s s.rows x) received → ComesWhole s x received
+  pub same : (s : Setting) (x : ℕ → ℕ → ℤ) (received : Numbers) → IsImageFor s x → SendsAll s → ReceivedIn holds_after s.apid (output s s.rows x) received → ComesSame s x received
   pub decoded : (wish : DecodeWish) (start new : Outside) (took gave all : List ℕ) (done : DecodeDone) (s : Setting) (x : ℕ → ℕ → ℤ) →
-      IsPicture wish start new took gave done → start.rest ≡ Some all → wish.apid ≡ s.apid → took ≡ output s x → IsImageFor s x → GivesBack s x gave done
+      IsPicture wish start new took gave done → start.rest ≡ Some all → wish.apid ≡ s.apid → took ≡ output s s.rows x → IsImageFor s x → GivesBack s x gave done

@@ -3,7 +3,7 @@ use Rattle.std.specs.Prelude.{◌≡◌, ◌≤◌, ◌<◌, ◌+◌, ◌*◌, �
 use Rattle.std.specs.List.{list_any, range_with_len}
 use Rattle.port_122.specs.Outside.{Outside, Since, NoRead, Rose}
 use Rattle.base_122.specs.Sizes.{block_count}
-use Rattle.base_122.specs.Ranges.{IsGeometryInRange}
+use Rattle.base_122.specs.Ranges.{IsGeometryInRange, IsWithin, rows_range}
 use Rattle.base_122.specs.declared.geometry.Geometry.{Geometry}
 use Rattle.wave_defs.specs.Held.{block_at}
 use Rattle.stream_defs.specs.Agreement.{blocks_of}
@@ -36,6 +36,7 @@ HasRoom n p = passed_in p + n ≤ total_in p
 -- its parts are those of its geometry, and stand at the place that it has come to
 pub record IsStanding {S : Type 0} (k : SinkOf S) (p : Walking S) : Type 0 where
   pub range : IsGeometryInRange p.geometry
+  pub height : IsWithin rows_range p.geometry.rows
   pub column : p.at.column < block_count p.geometry.width
   pub few : passed_in p ≤ total_in p
   pub damage : p.damage.rows ≡ p.geometry.rows

@@ -1,7 +1,7 @@
 -- How a walk over the segments of a stream ends, by what it took and gave, whatever its sink makes of the blocks. This project's own.
 use Rattle.std.specs.Prelude.{◌≡◌, ◌⊎◌, ◌≤◌, ◌<◌, ◌-◌, ◌*◌, ℕ, List, [], length, take, false, Option, None, Some, Result, Ok, Err}
 use Rattle.port_122.specs.Outside.{Outside, Since, Rose, NoFewerFaults}
-use Rattle.base_122.specs.Ranges.{IsGeometryInRange}
+use Rattle.base_122.specs.Ranges.{IsGeometryInRange, IsWithin, rows_range}
 use Rattle.base_122.specs.declared.geometry.Geometry.{Geometry}
 use Rattle.base_122.specs.declared.wish.DecodeWish.{DecodeWish}
 use Rattle.packet_defs.specs.declared.packet.Framing.{Framing}
@@ -9,7 +9,7 @@ use Rattle.packet_defs.specs.Streams.{left_over, has_bad_version, framing}
 use Rattle.stream_defs.specs.Agreement.{blocks_of}
 use Rattle.stream_defs.specs.Fates.{geometry_in}
 use Rattle.stream_defs.specs.Received.{ReceivedIn}
-use Rattle.stream_defs.specs.Damage.{missing_rows}
+use Rattle.stream_defs.specs.Damage.{whole_missing}
 use Rattle.packet_assembly.specs.Assembling.{Assembling}
 use Rattle.packet_assembly.specs.Segments.{StandsEnded, StandsLong}
 use Rattle.packet_assembly.specs.Readings.{IsReadOut}
@@ -61,7 +61,7 @@ pub record HasPassedAll {S : Type 0} (k : SinkOf S) (w : Run) (now : Outside) (p
   pub all : passed_in p ≡ total_in p
   pub for_some : IsPartOfSome k gave
   pub told : (every : List ℕ) → w.start.rest ≡ Some every → (received : Numbers) × ReceivedIn holds_after w.apid took received
-      × k.Follows p.sink p.geometry (blocks_with p.geometry received) (blocks_of p.geometry) gave × (p.damage.missing ≡ missing_rows p.geometry received)
+      × k.Follows p.sink p.geometry (blocks_with p.geometry received) (blocks_of p.geometry) gave × (p.damage.missing ≡ whole_missing p.geometry received)
 
 abbrev pub RunsWalk : {S : Type 0} → SinkOf S → Run → Outside → Assembling → Walking S → Result (Unit {0}) DecodeFault → Type 0
 RunsWalk k w now a p (Ok done) = HasPassedAll k w now p a.framing
@@ -74,6 +74,7 @@ RunsWalk k w now a p (Err fault) = BreaksRun k w now fault
 pub record IsWalked {S : Type 0} (k : SinkOf S) (wish : DecodeWish) (start new : Outside) (took gave : List ℕ) (walked : Walked S) : Type 0 where
   pub geometry : geometry_in wish.apid took ≡ Some walked.done.geometry
   pub range : IsGeometryInRange walked.done.geometry
+  pub height : IsWithin rows_range walked.done.geometry.rows
   pub few : walked.done.geometry.width * walked.done.geometry.rows ≤ wish.pixels
   pub framing_is : walked.done.framing ≡ framing took
   pub out : IsReadOut wish.octets new took
@@ -81,7 +82,7 @@ pub record IsWalked {S : Type 0} (k : SinkOf S) (wish : DecodeWish) (start new :
   pub stands : k.Stands walked.sink walked.done.geometry (blocks_of walked.done.geometry)
   pub told : (all : List ℕ) → start.rest ≡ Some all → (received : Numbers) × ReceivedIn holds_after wish.apid took received
       × k.Follows walked.sink walked.done.geometry (blocks_with walked.done.geometry received) (blocks_of walked.done.geometry) gave
-      × (walked.done.damage.missing ≡ missing_rows walked.done.geometry received)
+      × (walked.done.damage.missing ≡ whole_missing walked.done.geometry received)
 
 -- a part of what the sink gives for the octets that were taken, where the port tells what is left
 abbrev pub GivesPart : {S : Type 0} → SinkOf S → DecodeWish → Outside → (took gave : List ℕ) → Type 0

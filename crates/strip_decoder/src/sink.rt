@@ -1,6 +1,6 @@
 // What takes the blocks of an image.
 ghost use Rattle.std.specs.Prelude.{None, Some, IfOk};
-ghost use Rattle.base_122.specs.Ranges.{IsGeometryInRange};
+ghost use Rattle.base_122.specs.Ranges.{IsGeometryInRange, IsWithin, rows_range};
 ghost use Rattle.strip_decoder.specs.Sinks.{SinkOf, Begins, IsNext, TakesBlock};
 
 use base_122::Geometry;
@@ -16,7 +16,8 @@ pub trait BlockSink {
 
     /// A sink for an image of this geometry. It takes all of its memory, the want of which is the one error.
     fn begin(alloc: Global, geometry: &Geometry) -> Result<Self, AllocError>
-        requires { IsGeometryInRange geometry.now }
+        requires range { IsGeometryInRange geometry.now }
+        requires height { IsWithin rows_range geometry.now.rows }
         ensures { IfOk result (Begins sink geometry.now) };
 
     /// Takes the next block, which has these 64 numbers.

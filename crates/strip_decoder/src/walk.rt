@@ -1,6 +1,6 @@
 // What a walk over segments holds.
 ghost use Rattle.std.specs.Prelude.{◌≡◌, ◌≤◌, ◌+◌, ◌*◌, IfOk, vec_len};
-ghost use Rattle.base_122.specs.Ranges.{IsGeometryInRange};
+ghost use Rattle.base_122.specs.Ranges.{IsGeometryInRange, IsWithin, rows_range};
 ghost use Rattle.strip_decoder.specs.Steps.{walking, passed_in, IsStanding, IsFresh};
 ghost use Rattle.strip_decoder.specs.Rooms.{IsRoom};
 
@@ -28,7 +28,8 @@ pub struct Walk<S> {
 
 /// A walk that begins. The one error is want of memory for the sink.
 pub fn begin_walk<S: BlockSink>(alloc: Global, geometry: &Geometry) -> Result<Walk<S>, AllocError>
-    requires { IsGeometryInRange geometry.now }
+    requires range { IsGeometryInRange geometry.now }
+    requires height { IsWithin rows_range geometry.now.rows }
     ensures { IfOk result (λ p. IsFresh S.sink geometry.now (walking p)) }
 {
     let sink = S::begin(alloc, geometry)?;
@@ -60,12 +61,13 @@ pub struct SegmentRoom {
 
 impl SegmentRoom {
     ghost use Rattle.std.specs.Prelude.{◌≤◌, ◌+◌, ◌*◌, IfOk, vec_len};
-    ghost use Rattle.base_122.specs.Ranges.{IsGeometryInRange};
+    ghost use Rattle.base_122.specs.Ranges.{IsGeometryInRange, IsWithin, rows_range};
     ghost use Rattle.strip_decoder.specs.Rooms.{IsRoom};
 
     /// Takes the memory for the segments of an image. The one error is want of memory.
     pub fn new(alloc: Global, geometry: &Geometry) -> Result<SegmentRoom, AllocError>
-        requires { IsGeometryInRange geometry.now }
+        requires range { IsGeometryInRange geometry.now }
+        requires height { IsWithin rows_range geometry.now.rows }
         ensures { IfOk result (λ room. IsRoom geometry.now (vec_len room.blocks) (vec_len room.marks)) }
     {
         let count = geometry.blocks_of(0) as usize;

@@ -47,7 +47,7 @@ returns-in_default-begin_walk g c =
     no_memory k c.args.wish.now (g.X.Port.outside c.args.port.now) (g.X.Port.outside c.find_next.new.port) c.find_next.new.assembly c.in-Ok-Some.start found
 
 pub pass_all-requires-clause-standing : goal.pass_all-requires-clause-standing
-pass_all-requires-clause-standing g c = first_stands g.S.BlockSink.sink c.in-Some.geometry (walking c.in-Ok-begin_walk.walk) c.in-Some.ensures.in_range c.in-Ok-begin_walk.ensures
+pass_all-requires-clause-standing g c = first_stands g.S.BlockSink.sink c.in-Some.geometry (walking c.in-Ok-begin_walk.walk) c.in-Some.ensures.in_range c.in-Some.ensures.height c.in-Ok-begin_walk.ensures
 
 pub pass_all-requires-clause-at : goal.pass_all-requires-clause-at
 pass_all-requires-clause-at g c =
