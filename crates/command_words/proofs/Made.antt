@@ -1,9 +1,9 @@
 -- What the values make is in range.
 use Rattle.std.proofs.Common.{◌≡◌, ◌*◌, List, [], ◌∷◌, refl, arith, true, false}
-use Rattle.std.specs.Prelude.{Option, Some, None, Result, Ok, IfOk, Bool, not, cond, find, nat_le}
-use Rattle.std.proofs.lemmas.Bool.{and_parts}
+use Rattle.std.specs.Prelude.{Option, Some, None, Result, Ok, IfOk, Bool, not, cond, find, nat_le, ◌==◌}
+use Rattle.std.proofs.lemmas.Bool.{and_parts, or_right}
 use Rattle.std.proofs.lemmas.Bool.Decides.{nat_tests}
-use Rattle.base_122.specs.Ranges.{width_range, rows_range, depth_range, apid_range, pixels_range, octets_range, is_within, field_test, fields, IsInRange as IsSettingInRange, IsWishInRange}
+use Rattle.base_122.specs.Ranges.{width_range, rows_range, depth_range, apid_range, pixels_range, octets_range, IsWithin, is_within, field_test, fields, IsInRange as IsSettingInRange, IsWishInRange}
 use Rattle.base_122.specs.declared.field.Field.{Field}
 use Rattle.base_122.specs.declared.field.Field.TheVariants as field
 use Rattle.base_122.proofs.RangeChecks.{within, in_range-from_none}
@@ -40,6 +40,7 @@ none_fails p (field ∷ fields) all = skipped (p field) field (find (λ field. n
 -- All that is made of values in range.
 record AllInRange (task : Task) (finds : Finds) : Type 0 where
   setting : IsSettingInRange (setting_of finds)
+  rows : IsWithin rows_range (setting_of finds).rows
   wish : IsWishInRange (wish_of finds)
   made_image : IsMadeInRange (made_image_of finds)
   small : is_small task finds ≡ true
@@ -63,9 +64,11 @@ all_in_range task finds e =
     let k = passed (passes task finds key.Packet) key.Packet field.Packet _ refl i.1 in
     let x = passed (passes task finds key.Pixels) key.Pixels field.Pixels _ refl k.1 in
     let y = passed (passes task finds key.Octets) key.Octets field.Octets _ refl x.1 in
+    let t = passed (passes task finds key.Total) key.Total field.Total _ refl y.1 in
     let rows = and_parts (is_within rows_range s.rows) (is_small task finds) r.0 in
     record {
-      setting = in_range-from_none s (none_fails (field_test s) fields (w.0, (rows.0, (d.0, (g.0, (l.0, (f.0, (o.0, (p.0, (h.0, (a.0, (i.0, (k.0, tt)))))))))))));
+      setting = in_range-from_none s (none_fails (field_test s) fields (w.0, (or_right (s.rows == 0) _ rows.0, (d.0, (g.0, (l.0, (f.0, (o.0, (p.0, (h.0, (a.0, (i.0, (k.0, (t.0, tt))))))))))))));
+      rows = (within rows_range s.rows).0 rows.0;
       wish = record {
         apid = (within apid_range wish.apid).0 a.0;
         pixels = (within pixels_range wish.pixels).0 x.0;
@@ -81,13 +84,13 @@ all_in_range task finds e =
 
 -- no key that is tested is out of range
 pub command_in_range : (task : Task) (finds : Finds) → field_of (first_refused task finds) ≡ None → IsInRange (command_of task finds)
-command_in_range Encode finds e = (all_in_range Encode finds e).setting
+command_in_range Encode finds e = let all = all_in_range Encode finds e in (all.setting, all.rows)
 command_in_range (Read reading) finds e = (all_in_range (Read reading) finds e).wish
 command_in_range Make finds e = (all_in_range Make finds e).made_image
 command_in_range Trial finds e =
     let all = all_in_range Trial finds e in
     let small : nat_le (number_at finds key.Width * number_at finds key.Rows) 16777216 ≡ true = all.small in
-    (all.setting, grind (arith, nat_tests, small))
+    (all.setting, all.rows, grind (arith, nat_tests, small))
 
 ok_after : (fault : Field → WordFault) (first : Option Field) (result : Result Command WordFault) → (first ≡ None → IfOk result IsInRange) → IfOk (after fault first result) IsInRange
 ok_after fault None result ok = ok refl

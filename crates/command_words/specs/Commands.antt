@@ -2,22 +2,22 @@
 use Rattle.std.specs.Prelude.{◌≤◌, ◌*◌, ◌&&◌, ◌||◌, ◌==◌, nat_le, Bool, true, not, List, find, is_some, option_and_then, Option, Some, None, Result, Ok, Err}
 use Rattle.std.specs.List.{list_all}
 use Rattle.base_122.specs.Weights.{is_shift}
-use Rattle.base_122.specs.Ranges.{IsWithin, is_within, width_range, rows_range, depth_range, plane_range, stage_range, limit_test, IsInRange as IsSettingInRange, IsWishInRange}
+use Rattle.base_122.specs.Ranges.{IsWithin, is_within, width_range, rows_range, depth_range, plane_range, stage_range, limit_test, total_test, IsInRange as IsSettingInRange, IsWishInRange}
 use Rattle.base_122.specs.declared.field.Field.{Field}
 use Rattle.raster_rows.specs.declared.made.MadeImage.{MadeImage}
 use Rattle.command_words.specs.declared.tables.Task.{Task}
 use Rattle.command_words.specs.declared.tables.Task.TheVariants.{Trial as to_try}
 use Rattle.command_words.specs.declared.tables.Key.{Key}
-use Rattle.command_words.specs.declared.tables.Key.TheVariants.{Width, Rows, Limit, Word}
+use Rattle.command_words.specs.declared.tables.Key.TheVariants.{Width, Rows, Limit, Word, Total}
 use Rattle.command_words.specs.declared.tables.Range.{Range}
-use Rattle.command_words.specs.declared.tables.Range.TheVariants.{All as any_value, Number as number_range, Cap as cap_range, Rows as few_rows, Limit as limit_range, Fill as fill_range, Stop as stop_range, Weights as weights_range}
+use Rattle.command_words.specs.declared.tables.Range.TheVariants.{All as any_value, Number as number_range, Cap as cap_range, Rows as few_rows, Limit as limit_range, Total as total_range, Fill as fill_range, Stop as stop_range, Weights as weights_range}
 use Rattle.command_words.specs.declared.tables.TheConstants.{ALL}
 use Rattle.command_words.specs.declared.command.Command.{Command}
 use Rattle.command_words.specs.declared.command.Command.TheVariants.{Encode, Read, Make, Trial}
 use Rattle.command_words.specs.declared.command.WordFault.{WordFault}
 use Rattle.command_words.specs.declared.command.WordFault.TheVariants.{MissingKey, OutOfRange}
 use Rattle.command_words.specs.Values.{cap_of, flag_of, stop_of, weights_of}
-use Rattle.command_words.specs.Tables.{Finds, row_of, value_at, number_at, command_of}
+use Rattle.command_words.specs.Tables.{Finds, row_of, value_at, number_at, setting_of, command_of}
 
 -- an image that isn't too great for a trial has at most 2^24 pixels
 abbrev pub is_small : Task → Finds → Bool
@@ -31,7 +31,8 @@ range_test (number_range range) task finds key = is_within range (number_at find
 range_test (cap_range range) task finds key = is_within range (cap_of (value_at finds key))
 range_test (few_rows range) task finds key = is_within range (number_at finds key) && is_small task finds
 range_test limit_range task finds key = limit_test (number_at finds key) (number_at finds Word)
-range_test fill_range task finds key = not (flag_of (value_at finds key)) || not (number_at finds Limit == 0)
+range_test total_range task finds key = total_test (setting_of finds)
+range_test fill_range task finds key = not (flag_of (value_at finds key)) || (not (number_at finds Limit == 0) || not (cap_of (value_at finds Total) == 0))
 range_test stop_range task finds key = is_within plane_range (stop_of (value_at finds key)).plane && is_within stage_range (stop_of (value_at finds key)).stage
 range_test weights_range task finds key = list_all is_shift (weights_of (value_at finds key)).shifts
 
@@ -67,9 +68,9 @@ pub record IsMadeInRange (made : MadeImage) : Type 0 where
   pub rows : IsWithin rows_range made.rows
   pub depth : IsWithin depth_range made.depth
 
--- the command's fields are in range
+-- The command's fields are in range. The rows of a setting are never 0: no command has an image whose height is reported last.
 abbrev pub IsInRange : Command → Type 0
-IsInRange (Encode setting) = IsSettingInRange setting
+IsInRange (Encode setting) = IsSettingInRange setting × IsWithin rows_range setting.rows
 IsInRange (Read reading wish) = IsWishInRange wish
 IsInRange (Make made) = IsMadeInRange made
-IsInRange (Trial setting seed) = IsSettingInRange setting × (setting.width * setting.rows ≤ 16777216)
+IsInRange (Trial setting seed) = IsSettingInRange setting × IsWithin rows_range setting.rows × (setting.width * setting.rows ≤ 16777216)

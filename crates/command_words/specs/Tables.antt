@@ -10,9 +10,8 @@ use Rattle.command_words.specs.declared.tables.Task.TheVariants.{Encode as to_en
 use Rattle.command_words.specs.declared.command.Command.{Command}
 use Rattle.command_words.specs.declared.command.Command.TheVariants.{Encode, Read, Make, Trial}
 use Rattle.command_words.specs.declared.tables.Key.{Key}
-use Rattle.command_words.specs.declared.tables.Key.TheVariants.{Width, Rows, Depth, Signed, Segment, Limit, Fill, Word, Stop, Weights, Select, Apid, Image, Packet, Pixels, Octets, Seed}
+use Rattle.command_words.specs.declared.tables.Key.TheVariants.{Width, Rows, Depth, Signed, Segment, Limit, Fill, Word, Stop, Weights, Select, Apid, Image, Packet, Pixels, Octets, Total, Seed}
 use Rattle.command_words.specs.declared.tables.Range.TheVariants.{All as any_value}
-use Rattle.command_words.specs.declared.tables.Group.TheVariants.{What}
 use Rattle.command_words.specs.declared.tables.KeyRow.{KeyRow}
 use Rattle.command_words.specs.declared.values.Value.{Value}
 use Rattle.command_words.specs.declared.values.Value.TheVariants.{Flag}
@@ -37,10 +36,11 @@ key_place Image = 12
 key_place Packet = 13
 key_place Pixels = 14
 key_place Octets = 15
-key_place Seed = 16
+key_place Total = 16
+key_place Seed = 17
 
 abbrev pub no_row : KeyRow
-no_row = record { default = Flag false; required = false; field = None; range = any_value; group = What }
+no_row = record { default = Flag false; required = false; field = None; range = any_value }
 
 -- a key's row, and its name
 abbrev pub row_of : Key → KeyRow
@@ -94,6 +94,7 @@ setting_of finds = record {
   apid = number_at finds Apid;
   image = number_at finds Image;
   packet = number_at finds Packet;
+  total = cap_of (value_at finds Total);
 }
 
 -- what is asked of a decoder

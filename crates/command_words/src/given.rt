@@ -2,7 +2,9 @@
 use crate::entries::Entry;
 use crate::tables::{COUNT, Key, Range, Task};
 use crate::values::Value;
-use base_122::{DecodeWish, FieldRange, Select, Setting, Stop, Weights, is_limit_in_range};
+use base_122::{
+    DecodeWish, FieldRange, Select, Setting, Stop, Weights, is_limit_in_range, is_total_in_range,
+};
 use raster_rows::MadeImage;
 
 // The most pixels of a trial.
@@ -16,7 +18,7 @@ pub struct Given {
 
 impl Given {
     ghost use Rattle.std.specs.Prelude.{◌≡◌, ◌<◌, ◌^◌, is_some};
-    ghost use Rattle.base_122.specs.Ranges.{IsInRange, IsWishInRange};
+    ghost use Rattle.base_122.specs.Ranges.{IsInRange, IsWishInRange, total_test};
     ghost use Rattle.command_words.specs.Tables.{value_at, number_at, setting_of, wish_of, made_image_of};
     ghost use Rattle.command_words.specs.Entries.{nothing, with_entry};
     ghost use Rattle.command_words.specs.Values.{cap_of, flag_of, stop_of, weights_of, select_of};
@@ -145,6 +147,24 @@ impl Given {
         }
     }
 
+    // Whether there is no bound on all texts together, or it is in its range for the number of segments, and there is no limit.
+    // If a segment has no blocks, the bound needn't be in its range, so that `segment` is named.
+    fn keeps_total_range(&self) -> bool
+        ensures { result ≡ total_test (setting_of (finds_of self.now)) }
+    {
+        let total = self.cap(Key::Total);
+        if total == 0 {
+            return true;
+        }
+        let rows = self.number(Key::Rows);
+        if rows == 0 || self.number(Key::Limit) != 0 {
+            return false;
+        }
+        let blocks = u64::from(self.number(Key::Width).div_ceil(8)) * u64::from(rows.div_ceil(8));
+        let segment = u64::from(self.number(Key::Segment));
+        segment == 0 || is_total_in_range(total, blocks.div_ceil(segment))
+    }
+
     /// Whether the key's value, or its default, is in its range.
     pub fn is_in_range(&self, task: Task, key: Key) -> bool
         ensures { result ≡ passes task (finds_of self.now) key }
@@ -160,7 +180,10 @@ impl Given {
                 u64::from(self.number(key)),
                 u64::from(self.number(Key::Word)),
             ),
-            Range::Fill => !self.flag(key) || self.number(Key::Limit) != 0,
+            Range::Total => self.keeps_total_range(),
+            Range::Fill => {
+                !self.flag(key) || self.number(Key::Limit) != 0 || self.cap(Key::Total) != 0
+            }
             Range::Stop => self.is_stop_in_range(key, task),
             Range::Weights => self.weights(key).are_in_range(),
         }
@@ -191,6 +214,7 @@ impl Given {
             apid: self.number(Key::Apid) as u16,
             image: self.number(Key::Image) as u16,
             packet: self.number(Key::Packet),
+            total: self.cap(Key::Total),
         }
     }
 

@@ -44,6 +44,7 @@ pub enum Key {
     Packet,
     Pixels,
     Octets,
+    Total,
     Seed,
 }
 
@@ -69,28 +70,13 @@ pub enum Range {
     Rows(FieldRange),
     /// A limit: 0, or a multiple of the word in its range.
     Limit,
-    /// Whether texts are filled up to the limit, so there must be one.
+    /// A bound on all texts together: 0, or at least 36 octets for each segment, without a limit.
+    Total,
+    /// Whether texts are filled up to their limits, so there must be a limit or a total.
     Fill,
     Stop,
     Weights,
 }
-
-/// The part of the usage text in which a key is listed.
-#[derive(Clone, Copy, PartialEq, Eq)]
-pub enum Group {
-    What,
-    HowMuch,
-    Packets,
-    Reading,
-}
-
-/// The groups in their order, with their titles.
-pub const GROUPS: [(Group, &str); 4] = [
-    (Group::What, "what\n"),
-    (Group::HowMuch, "how much to keep\n"),
-    (Group::Packets, "packets\n"),
-    (Group::Reading, "reading\n"),
-];
 
 /// A row of the table of keys.
 #[derive(Clone, Copy)]
@@ -102,11 +88,10 @@ pub struct KeyRow {
     /// The field that is named where the key is missing or out of range.
     pub field: Option<Field>,
     pub range: Range,
-    pub group: Group,
 }
 
 /// How many keys there are.
-pub const COUNT: usize = 17;
+pub const COUNT: usize = 18;
 
 /// All keys in the order in which their ranges are tested, which is that of `Field`.
 pub const ALL: [Key; COUNT] = [
@@ -126,6 +111,7 @@ pub const ALL: [Key; COUNT] = [
     Key::Packet,
     Key::Pixels,
     Key::Octets,
+    Key::Total,
     Key::Seed,
 ];
 
@@ -134,35 +120,49 @@ const USUAL: Weights = Weights {
     shifts: [0, 1, 1, 1, 2, 2, 2, 3, 3, 3],
 };
 
-// A row of the table of keys: the name; the default, of a required key after that word; the field; the range; and the group.
+// A row of the table of keys: the name; the default, of a required key after that word; the field; and the range.
 macro_rules! key_row {
-    ($text:literal: required $default:expr, $field:expr, $range:expr, $group:ident) => {
-        ($text, KeyRow { default: $default, required: true, field: $field, range: $range, group: Group::$group })
+    ($text:literal: required $default:expr, $field:expr, $range:expr) => {
+        ($text, KeyRow { default: $default, required: true, field: $field, range: $range })
     };
-    ($text:literal: $default:expr, $field:expr, $range:expr, $group:ident) => {
-        ($text, KeyRow { default: $default, required: false, field: $field, range: $range, group: Group::$group })
+    ($text:literal: $default:expr, $field:expr, $range:expr) => {
+        ($text, KeyRow { default: $default, required: false, field: $field, range: $range })
     };
 }
 
 // The table of keys: of each its name and its row, in the order of `Key`.
 const KEYS: [(&str, KeyRow); COUNT] = [
-    key_row! { "width": required Value::Number(17), Some(Field::Width), Range::Number(FieldRange::WIDTH), What },
-    key_row! { "rows": required Value::Number(17), Some(Field::Rows), Range::Rows(FieldRange::ROWS), What },
-    key_row! { "depth": Value::Number(8), Some(Field::Depth), Range::Number(FieldRange::DEPTH), What },
-    key_row! { "signed": Value::Flag(false), None, Range::All, What },
-    key_row! { "segment": Value::Number(64), Some(Field::Segment), Range::Number(FieldRange::SEGMENT), Packets },
-    key_row! { "limit": Value::Number(0), Some(Field::Limit), Range::Limit, HowMuch },
-    key_row! { "fill": Value::Flag(false), Some(Field::Fill), Range::Fill, HowMuch },
-    key_row! { "word": Value::Number(1), Some(Field::Word), Range::Number(FieldRange::WORD), Packets },
-    key_row! { "stop": Value::StopAt { plane: 0, stage: 3 }, Some(Field::Stop), Range::Stop, HowMuch },
-    key_row! { "weights": Value::Weights(USUAL), Some(Field::Weights), Range::Weights, HowMuch },
-    key_row! { "select": Value::Select(Select::Optimal), None, Range::All, HowMuch },
-    key_row! { "apid": Value::Number(100), Some(Field::Apid), Range::Number(FieldRange::APID), Packets },
-    key_row! { "image": Value::Number(0), Some(Field::Image), Range::Number(FieldRange::IMAGE), Packets },
-    key_row! { "packet": Value::Number(1024), Some(Field::Packet), Range::Number(FieldRange::PACKET), Packets },
-    key_row! { "pixels": Value::Cap(1 << 32), Some(Field::Pixels), Range::Cap(FieldRange::PIXELS), Reading },
-    key_row! { "octets": Value::Cap(1 << 40), Some(Field::Octets), Range::Cap(FieldRange::OCTETS), Reading },
-    key_row! { "seed": Value::Number(0), None, Range::All, What },
+    key_row! { "width": required Value::Number(17), Some(Field::Width), Range::Number(FieldRange::WIDTH) },
+    key_row! { "rows": required Value::Number(17), Some(Field::Rows), Range::Rows(FieldRange::ROWS) },
+    key_row! { "depth": Value::Number(8), Some(Field::Depth), Range::Number(FieldRange::DEPTH) },
+    key_row! { "signed": Value::Flag(false), None, Range::All },
+    key_row! { "segment": Value::Number(64), Some(Field::Segment), Range::Number(FieldRange::SEGMENT) },
+    key_row! { "limit": Value::Number(0), Some(Field::Limit), Range::Limit },
+    key_row! { "fill": Value::Flag(false), Some(Field::Fill), Range::Fill },
+    key_row! { "word": Value::Number(1), Some(Field::Word), Range::Number(FieldRange::WORD) },
+    key_row! { "stop": Value::StopAt { plane: 0, stage: 3 }, Some(Field::Stop), Range::Stop },
+    key_row! { "weights": Value::Weights(USUAL), Some(Field::Weights), Range::Weights },
+    key_row! { "select": Value::Select(Select::Optimal), None, Range::All },
+    key_row! { "apid": Value::Number(100), Some(Field::Apid), Range::Number(FieldRange::APID) },
+    key_row! { "image": Value::Number(0), Some(Field::Image), Range::Number(FieldRange::IMAGE) },
+    key_row! { "packet": Value::Number(1024), Some(Field::Packet), Range::Number(FieldRange::PACKET) },
+    key_row! { "pixels": Value::Cap(1 << 32), Some(Field::Pixels), Range::Cap(FieldRange::PIXELS) },
+    key_row! { "octets": Value::Cap(1 << 40), Some(Field::Octets), Range::Cap(FieldRange::OCTETS) },
+    key_row! { "total": Value::Cap(0), Some(Field::Total), Range::Total },
+    key_row! { "seed": Value::Number(0), None, Range::All },
+];
+
+// A group of keys: its title and the keys.
+macro_rules! key_group {
+    ($title:literal: $($key:ident)+) => { ($title, &[$(Key::$key),+]) };
+}
+
+/// The groups of keys in the usage text, in the order in which they are listed there: of each its title and its keys.
+pub const GROUPS: [(&str, &[Key]); 4] = [
+    key_group! { "what\n": Width Rows Depth Signed Seed },
+    key_group! { "how much to keep\n": Limit Total Fill Stop Weights Select },
+    key_group! { "packets\n": Segment Word Apid Image Packet },
+    key_group! { "reading\n": Pixels Octets },
 ];
 
 /// A command's name, what it does, its keys, and what a user is told of it.
@@ -175,7 +175,7 @@ macro_rules! command_row {
 /// The table of commands.
 pub const COMMANDS: [CommandRow; 6] = [
     command_row! { "encode": Task::Encode, "raster in, space packets out, each as soon as the rows determine it",
-        Width Rows Depth Signed Segment Limit Fill Word Stop Weights Select Apid Image Packet },
+        Width Rows Depth Signed Segment Limit Fill Word Stop Weights Select Apid Image Packet Total },
     command_row! { "decode": Task::Read(Reading::Decode), "packets in, raster out, each row as soon as the packets determine it",
         Apid Pixels Octets },
     command_row! { "damage": Task::Read(Reading::Damage), "packets in, one line FIRST-LAST out for each range of damaged rows",
@@ -185,7 +185,7 @@ pub const COMMANDS: [CommandRow; 6] = [
     command_row! { "make": Task::Make, "a made raster out; it reads no input",
         Width Rows Depth Signed Seed },
     command_row! { "trial": Task::Trial, "encodes and decodes a made image in memory; one line out with the counts",
-        Width Rows Depth Signed Segment Limit Fill Word Stop Weights Select Apid Image Packet Seed },
+        Width Rows Depth Signed Segment Limit Fill Word Stop Weights Select Apid Image Packet Total Seed },
 ];
 
 /// What the command with this name does, and its keys.

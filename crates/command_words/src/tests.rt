@@ -1,4 +1,5 @@
 // What words say, and which fault of theirs comes first.
+use crate::tables::{ALL, GROUPS};
 use crate::{Command, Reading, WordFault, read_words};
 use base_122::{DecodeWish, Field, Select, Setting, Stop, Weights};
 use raster_rows::MadeImage;
@@ -16,26 +17,15 @@ fn said(rt: &HostRuntime, text: &str) -> Result<Result<Command, WordFault>, Fail
 #[test]
 fn defaults_stand_for_the_other_keys(rt: HostRuntime) -> Result<(), Fail> {
     let setting = Setting {
-        width: 1_048_575,
-        rows: 48,
         depth: 12,
         signed: true,
-        segment: 64,
-        limit: 0,
-        fill: false,
-        word: 1,
         stop: Stop {
             dc: true,
             plane: 0,
             stage: 3,
         },
-        weights: Weights {
-            shifts: [0, 1, 1, 1, 2, 2, 2, 3, 3, 3],
-        },
         select: Select::Heuristic,
-        apid: 100,
-        image: 0,
-        packet: 1024,
+        ..Setting::usual(1_048_575, 48)
     };
     let text = "encode rows=48 stop=dc select=heuristic depth=12 width=1048575 signed=1";
     assert_eq!(rt; said(&rt, text)?, Ok(Command::Encode(setting)));
@@ -65,6 +55,7 @@ fn each_key_has_its_field(rt: HostRuntime) -> Result<(), Fail> {
         apid: 2046,
         image: 65_535,
         packet: 65_536,
+        total: 0,
     };
     let text = "encode packet=65536 image=65535 apid=2046 weights=3210321032 stop=27.1 word=2 \
                 fill=1 limit=66 segment=16 depth=16 rows=262144 width=17";
@@ -91,14 +82,9 @@ fn a_made_image_has_a_seed(rt: HostRuntime) -> Result<(), Fail> {
 
 #[test]
 fn a_decoder_has_caps(rt: HostRuntime) -> Result<(), Fail> {
-    let usual = DecodeWish {
-        apid: 100,
-        pixels: 4_294_967_296,
-        octets: 1_099_511_627_776,
-    };
     assert_eq!(rt;
         said(&rt, "decode")?,
-        Ok(Command::Read(Reading::Decode, usual))
+        Ok(Command::Read(Reading::Decode, DecodeWish::usual()))
     );
     let wish = DecodeWish {
         apid: 7,
@@ -110,8 +96,9 @@ fn a_decoder_has_caps(rt: HostRuntime) -> Result<(), Fail> {
     let text = "damage octets=1 pixels=1099511627776 apid=7";
     assert_eq!(rt; said(&rt, text)?, Ok(Command::Read(Reading::Damage, wish)));
     let listed = DecodeWish {
-        pixels: 4_294_967_296,
-        ..wish
+        apid: 7,
+        octets: 1,
+        ..DecodeWish::usual()
     };
     assert_eq!(rt;
         said(&rt, "list octets=1 apid=7")?,
@@ -142,6 +129,9 @@ fn bad_words_have_a_place(rt: HostRuntime) -> Result<(), Fail> {
         ("decode octets=5 pixels=1099511627777", 2),
         ("encode pixels=5", 1),
         ("list pixels=5", 1),
+        ("decode total=1", 1),
+        ("make total=0", 1),
+        ("encode total=1099511627777", 1),
     ] {
         assert_eq!(rt;
             said(&rt, text)?,
@@ -154,14 +144,128 @@ fn bad_words_have_a_place(rt: HostRuntime) -> Result<(), Fail> {
 
 #[test]
 fn a_trial_has_a_setting_and_a_seed(rt: HostRuntime) -> Result<(), Fail> {
-    let text = "encode width=4096 rows=4096 depth=12 packet=65536";
-    let setting = match said(&rt, text)? {
-        Ok(Command::Encode(setting)) => setting,
-        other => panic!(rt; "{other:?}"),
+    let setting = Setting {
+        depth: 12,
+        packet: 65_536,
+        total: 147_456,
+        ..Setting::usual(4096, 4096)
     };
-    let text = "trial width=4096 rows=4096 depth=12 packet=65536 seed=7";
+    let text = "trial width=4096 rows=4096 depth=12 packet=65536 total=147456 seed=7";
     assert_eq!(rt; said(&rt, text)?, Ok(Command::Trial(setting, 7)));
     Ok(())
+}
+
+// An image of 128 blocks in 8 segments, and one of 2^32 blocks in 2^28.
+#[test]
+fn a_total_has_36_octets_for_each_segment(rt: HostRuntime) -> Result<(), Fail> {
+    let image = Setting {
+        segment: 16,
+        ..Setting::usual(64, 128)
+    };
+    let words = "encode width=64 rows=128 segment=16";
+    for (more, setting) in [
+        (
+            "total=288",
+            Setting {
+                total: 288,
+                ..image
+            },
+        ),
+        (
+            "fill=1 total=400",
+            Setting {
+                fill: true,
+                total: 400,
+                ..image
+            },
+        ),
+        (
+            "total=1099511627776",
+            Setting {
+                total: 1_099_511_627_776,
+                ..image
+            },
+        ),
+        (
+            "total=0 limit=32 fill=1",
+            Setting {
+                limit: 32,
+                fill: true,
+                ..image
+            },
+        ),
+    ] {
+        let text = format!(in rt.alloc(); "{words} {more}")?;
+        assert_eq!(rt;
+            said(&rt, text.as_str())?,
+            Ok(Command::Encode(setting)),
+            "{more}"
+        );
+    }
+    let setting = Setting {
+        segment: 16,
+        total: 9_663_676_416,
+        ..Setting::usual(1_048_575, 262_144)
+    };
+    let text = "encode width=1048575 rows=262144 segment=16 total=9663676416";
+    assert_eq!(rt; said(&rt, text)?, Ok(Command::Encode(setting)));
+    Ok(())
+}
+
+#[test]
+fn a_total_out_of_range_is_named_last(rt: HostRuntime) -> Result<(), Fail> {
+    for (text, field) in [
+        (
+            "encode width=64 rows=128 segment=16 total=287",
+            Field::Total,
+        ),
+        (
+            "encode width=1048575 rows=262144 segment=16 total=9663676415",
+            Field::Total,
+        ),
+        ("encode width=17 rows=17 total=400 limit=40", Field::Total),
+        ("encode width=17 rows=17 total=35 fill=1", Field::Total),
+        ("trial width=17 rows=17 total=35 seed=7", Field::Total),
+        ("encode width=17 rows=17 total=1 segment=0", Field::Segment),
+        (
+            "encode width=17 rows=17 total=35 limit=33 word=2",
+            Field::Limit,
+        ),
+        ("encode width=17 rows=17 total=35 packet=63", Field::Packet),
+        ("encode width=17 rows=17 total=0 fill=1", Field::Fill),
+    ] {
+        assert_eq!(rt;
+            said(&rt, text)?,
+            Err(WordFault::OutOfRange(field)),
+            "{text}"
+        );
+    }
+    Ok(())
+}
+
+#[test]
+fn no_command_leaves_the_rows_open(rt: HostRuntime) -> Result<(), Fail> {
+    for text in [
+        "encode width=17 rows=0 depth=17",
+        "encode width=17 rows=0 total=400",
+        "trial width=17 rows=0",
+        "make width=17 rows=0",
+    ] {
+        assert_eq!(rt;
+            said(&rt, text)?,
+            Err(WordFault::OutOfRange(Field::Rows)),
+            "{text}"
+        );
+    }
+    Ok(())
+}
+
+#[test]
+fn each_key_is_listed(rt: HostRuntime) {
+    for key in ALL {
+        let listed = GROUPS.iter().any(|group| key.is_among(group.1));
+        assert!(rt; listed, "{}", key.text());
+    }
 }
 
 #[test]

@@ -1,5 +1,5 @@
 // The usage text's parts on commands and keys.
-use crate::tables::{ALL, COMMANDS, Form, GROUPS, Key, KeyRow, Range};
+use crate::tables::{COMMANDS, Form, GROUPS, Key, KeyRow, Range};
 use crate::values::Value;
 use base_122::{FieldRange, Select};
 use itoa::Buffer;
@@ -29,12 +29,10 @@ pub fn commands_usage(alloc: Global) -> Result<String, AllocError> {
 /// What a user is told of all keys, by groups: of each key its range, its default and the commands that have it.
 pub fn keys_usage(alloc: Global) -> Result<String, AllocError> {
     let mut text = String::new(alloc);
-    for (group, title) in GROUPS {
+    for (title, keys) in GROUPS {
         text.push_str(title)?;
-        for key in ALL {
-            if key.row().group == group {
-                push_key(&mut text, key)?;
-            }
+        for key in keys {
+            push_key(&mut text, *key)?;
         }
     }
     Ok(text)
@@ -87,7 +85,8 @@ fn push_range(text: &mut String, row: KeyRow) -> Result<(), AllocError> {
             push_numbers(text, FieldRange::LIMIT)?;
             text.push_str(", a multiple of word")
         }
-        Range::Fill => text.push_str("0|1, 1 with a limit"),
+        Range::Total => text.push_str("0|36n..2^40, n segments, no limit"),
+        Range::Fill => text.push_str("0|1, 1 with a limit or a total"),
         Range::Stop => {
             text.push_str("dc|P.S, P ")?;
             push_numbers(text, FieldRange::PLANE)?;

@@ -231,6 +231,46 @@ fn a_limit_fills_and_cuts(rt: HostRuntime) -> Result<(), Fail> {
     limit_cuts(&rt)
 }
 
+// Of 400 octets for eight coded segments of 21 octets each has an even share of what the ones before it leave.
+fn expect_shares(rt: &impl Abort, given: &[u8]) {
+    let limits: [u32; 8] = [50, 54, 59, 67, 79, 98, 137, 253];
+    for (index, limit) in limits.iter().enumerate() {
+        // The limit is the first 27 bits of Part 2, which follows Part 1 of 3 octets, or of 4 in the last segment.
+        let at = 51 * index + if index == 7 { 34 } else { 33 };
+        let octets = (limit << 5).to_be_bytes();
+        assert_eq!(rt;
+            part(given, at, at + 4),
+            octets.as_slice(),
+            "segment {index}"
+        );
+    }
+}
+
+#[test]
+fn a_total_is_shared(rt: HostRuntime) -> Result<(), Fail> {
+    let mut text = TWO_HUNDRED;
+    text[6] = 0x08;
+    let one = packet(&rt, &text)?;
+    expect(
+        &rt,
+        "encode width=17 rows=17 total=64",
+        &[200; 289],
+        0,
+        &one,
+        "",
+    )?;
+    expect(&rt, "decode", &one, 0, &[200; 289], "")?;
+    let words = "encode width=64 rows=128 segment=16 total=400";
+    let given = done(&rt, words, &[0; 8192])?;
+    assert_eq!(rt; given.len(), 409);
+    expect_shares(&rt, &given);
+    expect(&rt, "decode", &given, 0, &[0; 8192], "")?;
+    let words = "encode width=64 rows=128 segment=16 total=287";
+    expect(&rt, words, &[], 2, &[], "strip122: out of range: total\n")?;
+    let words = "encode width=64 rows=0 segment=16";
+    expect(&rt, words, &[], 2, &[], "strip122: out of range: rows\n")
+}
+
 #[test]
 fn code_words_of_four_octets(rt: HostRuntime) -> Result<(), Fail> {
     let text = [

@@ -28,7 +28,8 @@ what
   seed=0..4294967295 (0)                        make trial
 how much to keep
   limit=0|32..134217724, a multiple of word (0) encode trial
-  fill=0|1, 1 with a limit (0)                  encode trial
+  total=0|36n..2^40, n segments, no limit (0)   encode trial
+  fill=0|1, 1 with a limit or a total (0)       encode trial
   stop=dc|P.S, P 0..27, S 0..3 (0.3)            encode trial
   weights=ten digits 0..3 (0111222333)          encode trial
   select=heuristic|optimal (optimal)            encode trial

@@ -13,7 +13,7 @@ use Rattle.base_122.specs.declared.wish.DecodeWish.{DecodeWish}
 use Rattle.packet_defs.specs.Streams.{left_over, has_bad_version}
 use Rattle.packet_defs.specs.declared.packet.Framing.{Framing}
 use Rattle.stream_defs.specs.declared.range.RowRange.{RowRange}
-use Rattle.stream_defs.specs.Damage.{is_covered, is_damaged, missing_rows, is_missing as is_missing_of}
+use Rattle.stream_defs.specs.Damage.{is_covered, is_damaged, whole_missing, is_missing as is_missing_of, missing_below}
 use Rattle.stream_defs.specs.Fates.{geometry_in}
 use Rattle.stream_defs.specs.Marks.{Marks}
 use Rattle.stream_defs.proofs.DamageLaws.{whole_damage}
@@ -50,6 +50,7 @@ picture_later : (gives : Bool) (wish : DecodeWish) (a b c : Outside) (took gave 
 picture_later gives wish a b c took gave wrote done n p = record {
   geometry = p.geometry;
   range = p.range;
+  height = p.height;
   few = p.few;
   framing_is = p.framing_is;
   out = out_later wish.octets b c took wrote n p.out;
@@ -156,7 +157,7 @@ undamaged m none row = sym ((whole_damage m.rows m.missing).0.each row) ∙ ap (
 
 missing_listed : (gives : Bool) (wish : DecodeWish) (a b : Outside) (took gave : List ℕ) (done : DecodeDone) → PictureBy gives wish a b took gave done → damaged done.damage ≡ [] →
     (all : List ℕ) → a.rest ≡ Some all → done.damage.missing ≡ []
-unfolding missing_rows
+unfolding missing_below
 missing_listed gives wish a b took gave done p none all told =
     let t = p.told all told in
     none_listed done.damage.rows (is_missing_of done.geometry t.0) done.damage.missing

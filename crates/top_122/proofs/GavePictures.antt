@@ -57,7 +57,7 @@ gave_picture contains trip wish old new status run picture = by run.answer run.c
     low (inr some) = omega (arith, some)
 
     back : (done : DecodeDone) → Answers wish old new run.took run.gave (Ok done) → status ≡ decode_status (Ok done) → (all : List ℕ) → old.rest ≡ Some all → (s : Setting) (x : ℕ → ℕ → ℤ) →
-        wish.apid ≡ s.apid → run.took ≡ output s x → IsImageFor s x → (status ≡ 0) × GivesBack s x run.gave done
+        wish.apid ≡ s.apid → run.took ≡ output s s.rows x → IsImageFor s x → (status ≡ 0) × GivesBack s x run.gave done
     back done k is all told s x apid took image =
         let b = trip.decoded wish old new run.took run.gave all done s x k told apid took image in
         (is ∙ whole_status (damaged done.damage) done.framing (none_damaged done.damage b.missing) b.framing_is, b)

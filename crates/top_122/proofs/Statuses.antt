@@ -30,12 +30,22 @@ refuses words fault p q n = record { wrote = n.0; since = n.1; status_is = refl;
 -- the cause stands after a note too
 causes_later : (s : Setting) (a b c : Outside) (took gave wrote : List ℕ) (r : Result EncodeDone EncodeFault) → Since b c [] [] wrote NoRead →
     Answers s a b took gave r → Answers s a c took gave r
-causes_later s a b c took gave wrote (Ok done) n k = (k.0, at_end_later n k.1, k.2, k.3)
+causes_later s a b c took gave wrote (Ok done) n k = (k.0, k.1, at_end_later n k.2, k.3, k.4)
 causes_later s a b c took gave wrote (Err (Short octets)) n k = (k.0, k.1, at_end_later n k.2, k.3, k.4)
 causes_later s a b c took gave wrote (Err Long) n k = k
 causes_later s a b c took gave wrote (Err (BadPixel row column value)) n k = k
 causes_later s a b c took gave wrote (Err ReadFault) n k = (omega (arith, k.0, n.faults.reads), k.1, k.2, k.3)
-causes_later s a b c took gave wrote (Err WriteFault) n k = (omega (arith, k.0, n.faults.writes), k.1)
+causes_later s a b c took gave wrote (Err WriteFault) n k = (
+  omega (arith, k.0, n.faults.writes),
+  (
+    k.1.0,
+    k.1.1,
+    elim k.1.2 [
+      | inl each ↦ inl each
+      | inr whole ↦ inr (record { left_open = whole.left_open; at_end = at_end_later n whole.at_end; height = whole.height; some = whole.some; front = whole.front })
+    ],
+  ),
+)
 
 -- no memory, and its note
 pub lacks_memory : (s : Setting) (a b : Outside) → Notes a b memory_line → Encodes s a b 6
@@ -99,10 +109,12 @@ encode_ends s old new status (inr run) = subst (AtStatus (encodes s) old new) (s
     by : (r : Result EncodeDone EncodeFault) → IsNoted old new run.wrote (encode_line r) → Answers s old new run.took run.gave r → AtStatus (encodes s) old new (encode_status r)
     by (Ok done) noted k = record {
       took = run.took;
-      since = subst (λ g. Since old new run.took g [] (GivenBy (given_for s) run.took)) k.2
+      rows = k.0;
+      since = subst (λ g. Since old new run.took g [] (GivenBy (given_for s) run.took)) k.3
           (subst (λ w. Since old new run.took run.gave w (GivenBy (given_for s) run.took)) (nothing_noted old new run.wrote [] refl noted) run.since);
-      raster = k.0;
-      ended = k.1;
+      raster = k.1;
+      total = k.4.total;
+      ended = k.2;
     }
     by (Err (Short octets)) noted k = refuses (Short octets) refl noted k
     by (Err Long) noted k = refuses Long refl noted k

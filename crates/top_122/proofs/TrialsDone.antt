@@ -1,5 +1,5 @@
 -- A trial from its parts: the raster, its packets, and their picture.
-use Rattle.std.proofs.Common.{◌≡◌, ◌≤◌, ◌<◌, ◌+◌, ◌-◌, ◌*◌, ◌^◌, ◌∙◌, ℕ, ℤ, ◌≤ℤ◌, Bool, List, [], length, min, refl, sym, ap, subst, arith}
+use Rattle.std.proofs.Common.{◌≡◌, ◌≤◌, ◌<◌, ◌+◌, ◌-◌, ◌*◌, ◌^◌, ◌∙◌, ℕ, ℤ, ◌≤ℤ◌, Bool, List, [], length, min, refl, sym, ap, subst, inl, inr, arith}
 use Rattle.std.specs.Prelude.{Some, Result, Ok, Err, IfOk}
 use Rattle.std.specs.Int.{int_min, int_max}
 use Rattle.std.proofs.lemmas.Int.{ints, clamps}
@@ -7,7 +7,7 @@ use Rattle.port_122.specs.Outside.{Outside}
 use Rattle.port_122.specs.Memory.{outside_of, IsFresh}
 use Rattle.port_122.specs.declared.memory.MemoryPort.{MemoryPort}
 use Rattle.port_122.proofs.Told.{end_told, given_told}
-use Rattle.base_122.specs.Ranges.{IsInRange}
+use Rattle.base_122.specs.Ranges.{IsInRange, IsWithin, rows_range}
 use Rattle.base_122.specs.Setting.{geometry_of}
 use Rattle.base_122.specs.Sizes.{block_count}
 use Rattle.base_122.specs.declared.geometry.Geometry.{Geometry}
@@ -24,20 +24,20 @@ use Rattle.packet_defs.specs.Packets.{joined}
 use Rattle.packet_defs.specs.Streams.{left_over}
 use Rattle.segment_code.specs.Laws.{TextsAreShort}
 use Rattle.stream_defs.specs.Fates.{geometry_in}
-use Rattle.stream_defs.specs.Output.{image_blocks, output, packets_of, segments_of}
-use Rattle.stream_defs.specs.Picture.{picture, picture_octets, picture_with}
+use Rattle.stream_defs.specs.Output.{image_blocks, output, packets_of, segments_of, tells_last}
+use Rattle.stream_defs.specs.Picture.{whole_picture, whole_octets, whole_with, picture_of}
 use Rattle.stream_defs.specs.Received.{ReceivedIn}
 use Rattle.strip_coder.specs.declared.encode.EncodeDone.{EncodeDone}
 use Rattle.strip_coder.specs.Answers.{EncodesImage, DoneFor, TookRaster}
-use Rattle.strip_coder.specs.Rasters.{image_of, raster_length}
-use Rattle.strip_decoder.specs.Containment.{ArePixels}
+use Rattle.strip_coder.specs.Rasters.{image_of}
+use Rattle.strip_decoder.specs.Containment.{ArePixels, IsImageFor}
 use Rattle.strip_decoder.specs.Runs.{Numbers, holds_after}
-use Rattle.strip_decoder.proofs.CodedImages.{images_coded}
+use Rattle.strip_decoder.proofs.WholeImages.{none_left, geometry_told}
 use Rattle.top_122.specs.declared.trial.TrialDone.{TrialDone}
 use Rattle.top_122.specs.MadeRasters.{made_raster}
-use Rattle.top_122.specs.Trials.{made_with, equal_places, HasDecoded, AreEqualIn, IsTried}
+use Rattle.top_122.specs.Trials.{made_with, raster_length, equal_places, HasDecoded, AreEqualIn, IsTried}
 use Rattle.top_122.proofs.TrialsCounted.{places-same}
-use Rattle.top_122.proofs.TrialsDecoded.{took_all, output_left, output_tells}
+use Rattle.top_122.proofs.TrialsDecoded.{took_all}
 
 -- ---- rasters
 
@@ -50,8 +50,8 @@ clamped_in_range depth signed value is =
     let within = nearest_within (least_pixel depth signed) (greatest_pixel depth signed) value (least_most depth signed is) in
     record { low = within.0; high = within.1 }
 
-pub picture_in_range : (g : Geometry) (received : Numbers) (i j : ℕ) → IsDepth g.depth → IsPixel g.depth g.signed (picture g received i j)
-unfolding picture_with
+pub picture_in_range : (g : Geometry) (received : Numbers) (i j : ℕ) → IsDepth g.depth → IsPixel g.depth g.signed (whole_picture g received i j)
+unfolding picture_of
 picture_in_range g received i j is = clamped_in_range g.depth g.signed _ is
 
 -- the image of a raster's octets
@@ -60,7 +60,7 @@ shown_is s x octets range pixels is i j row column =
     ap (λ zs. image_of s zs i j) is ∙ raster_pixel-raster_octets s.depth s.signed s.rows s.width x i j range.depth pixels.at row column
 
 -- the pixels of a raster that was taken are in range
-raster_pixels : (s : Setting) (raster : List ℕ) → IsInRange s → TookRaster s raster → ArePixels s (image_of s raster)
+raster_pixels : (s : Setting) (raster : List ℕ) → IsInRange s → TookRaster s s.rows raster → ArePixels s (image_of s raster)
 raster_pixels s raster range whole = record {
   at = λ i j row column.
       let size = pixel_size s.depth in
@@ -76,10 +76,10 @@ raster_pixels s raster range whole = record {
 -- ---- packets
 
 -- an image's blocks are settled by its rows and columns
-blocks_same : (s : Setting) (x y : ℕ → ℕ → ℤ) → IsInRange s → ((i j : ℕ) → i < s.rows → j < s.width → x i j ≡ y i j) → image_blocks s x ≡ image_blocks s y
+blocks_same : (s : Setting) (x y : ℕ → ℕ → ℤ) → IsInRange s → IsWithin rows_range s.rows → ((i j : ℕ) → i < s.rows → j < s.width → x i j ≡ y i j) → image_blocks s x ≡ image_blocks s y
 unfolding image_blocks
-blocks_same s x y range same =
-    let rows = range.rows in
+blocks_same s x y range height same =
+    let rows = height in
     let width = range.width in
     let padded_same : padded x s.rows s.width ≡ padded y s.rows s.width =
     λ t i j. same (min i (s.rows - 1)) (min j (s.width - 1)) (omega (arith, rows)) (omega (arith, width)) t in
@@ -87,21 +87,22 @@ blocks_same s x y range same =
 
 -- what an encoder gives for a raster, which was whole and in range, and its counts
 pub record HasEncoded (s : Setting) (raster packets : List ℕ) (done : EncodeDone) : Type 0 where
-  pub whole : TookRaster s raster
-  pub done_for : DoneFor s (image_of s raster) done
-  pub gave : packets ≡ output s (image_of s raster)
+  pub whole : TookRaster s s.rows raster
+  pub done_for : DoneFor s s.rows (image_of s raster) done
+  pub gave : packets ≡ output s s.rows (image_of s raster)
 
-pub has_encoded : (s : Setting) (raster packets fail : List ℕ) (piece : ℕ) (port : MemoryPort) (new : Outside) (done : EncodeDone) → IsFresh port raster fail piece →
+pub has_encoded : (s : Setting) (raster packets fail : List ℕ) (piece : ℕ) (port : MemoryPort) (new : Outside) (done : EncodeDone) → IsWithin rows_range s.rows → IsFresh port raster fail piece →
     EncodesImage s (outside_of port) new (Ok done) → new.given ≡ Some packets → HasEncoded s raster packets done
-has_encoded s raster packets fail piece port new done fresh encodes gives =
+has_encoded s raster packets fail piece port new done height fresh encodes gives =
     let rest = ap (λ (o : Outside). o.rest) fresh.outside in
     let given = ap (λ (o : Outside). o.given) fresh.outside in
     let answer = encodes.answer in
-    let took : encodes.took ≡ raster = end_told raster encodes.since rest answer.1 in
+    let took : encodes.took ≡ raster = end_told raster encodes.since rest answer.2 in
+    let rows : answer.0 ≡ s.rows = elim answer.1.height.1 [ inl none ↦ absurd (omega (arith, none, height)) | inr same ↦ sym same ] in
     record {
-      whole = subst (TookRaster s) took answer.0;
-      done_for = subst (λ octets. DoneFor s (image_of s octets) done) took answer.3;
-      gave = given_told [] packets encodes.since given gives ∙ answer.2 ∙ ap (λ octets. output s (image_of s octets)) took;
+      whole = subst (λ n. TookRaster s n raster) rows (subst (TookRaster s answer.0) took answer.1);
+      done_for = subst (λ n. DoneFor s n (image_of s raster) done) rows (subst (λ octets. DoneFor s answer.0 (image_of s octets) done) took answer.4);
+      gave = given_told [] packets encodes.since given gives ∙ answer.3 ∙ ap (λ octets. output s answer.0 (image_of s octets)) took ∙ ap (λ n. output s n (image_of s raster)) rows;
     }
 
 -- ---- the picture
@@ -113,35 +114,35 @@ some_geometry e = cc
 pub record HasPicture (s : Setting) (packets given : List ℕ) : Type 0 where
   pub received : Numbers
   pub received_are : ReceivedIn holds_after s.apid packets received
-  pub gave : given ≡ picture_octets (geometry_of s) received
+  pub gave : given ≡ whole_octets (geometry_of s) received
 
-pub has_picture : (s : Setting) (raster packets given fail : List ℕ) (piece : ℕ) (port : MemoryPort) (new : Outside) → TextsAreShort → IsInRange s → length s.weights.shifts ≡ 10 → TookRaster s raster →
-    packets ≡ output s (image_of s raster) → IsFresh port packets fail piece → HasDecoded s (outside_of port) new → new.given ≡ Some given → HasPicture s packets given
-has_picture s raster packets given fail piece port new short range ten whole packets_are fresh has gives =
+pub has_picture : (s : Setting) (raster packets given fail : List ℕ) (piece : ℕ) (port : MemoryPort) (new : Outside) → TextsAreShort → IsInRange s → IsWithin rows_range s.rows → length s.weights.shifts ≡ 10 → TookRaster s s.rows raster →
+    packets ≡ output s s.rows (image_of s raster) → IsFresh port packets fail piece → HasDecoded s (outside_of port) new → new.given ≡ Some given → HasPicture s packets given
+has_picture s raster packets given fail piece port new short range height ten whole packets_are fresh has gives =
     let rest = ap (λ (o : Outside). o.rest) fresh.outside in
     let none = ap (λ (o : Outside). o.given) fresh.outside in
     let x = image_of s raster in
-    let coded = images_coded short s x range ten (raster_pixels s raster range whole) in
+    let image : IsImageFor s x = record { range = range; height = height; weights = ten; pixels = raster_pixels s raster range whole } in
     let run = has.decodes in
     let is = run.answer in
-    let took : run.took ≡ packets = took_all (2 ^ 40) run.took packets (outside_of port) new run.since rest (ap left_over packets_are ∙ output_left s x coded) is.out in
+    let took : run.took ≡ packets = took_all (2 ^ 40) run.took packets (outside_of port) new run.since rest (ap left_over packets_are ∙ none_left short s x image) is.out in
     let there : geometry_in s.apid packets ≡ Some has.done.geometry = subst (λ octets. geometry_in s.apid octets ≡ Some has.done.geometry) took is.geometry in
-    let same : has.done.geometry ≡ geometry_of s = some_geometry (sym there ∙ ap (geometry_in s.apid) packets_are ∙ output_tells s x coded) in
+    let same : has.done.geometry ≡ geometry_of s = some_geometry (sym there ∙ ap (geometry_in s.apid) packets_are ∙ geometry_told short s x image) in
     let told = is.told packets rest in
     record {
       received = told.0;
       received_are = subst (λ octets. ReceivedIn holds_after s.apid octets told.0) took told.1;
-      gave = given_told [] given run.since none gives ∙ told.2 ∙ ap (λ g. picture_octets g told.0) same;
+      gave = given_told [] given run.since none gives ∙ told.2 ∙ ap (λ g. whole_octets g told.0) same;
     }
 
 pub picture_size : (s : Setting) (packets given : List ℕ) → HasPicture s packets given → length given ≡ raster_length s
-picture_size s packets given has = ap length has.gave ∙ length-raster_octets s.depth s.rows s.width (picture (geometry_of s) has.received)
+picture_size s packets given has = ap length has.gave ∙ length-raster_octets s.depth s.rows s.width (whole_picture (geometry_of s) has.received)
 
 -- the pixels that are the same in it
 pub are_equal : (s : Setting) (raster packets given : List ℕ) (equal : ℕ) → IsInRange s → HasPicture s packets given →
     equal ≡ equal_places s.rows s.width (image_of s raster) (image_of s given) → AreEqualIn s (image_of s raster) packets equal
 are_equal s raster packets given equal range has is =
-    let shows = picture (geometry_of s) has.received in
+    let shows = whole_picture (geometry_of s) has.received in
     let width = range.width in
     let pixels : ArePixels s shows = record { at = λ i j row column. picture_in_range (geometry_of s) has.received i j range.depth } in
     record {
@@ -163,15 +164,15 @@ raster_tried s raster packets done equal has are = record {
 -- ---- the made image
 
 -- of images that are the same in the rows and columns of a setting the same is tried
-tried_same : (s : Setting) (x y : ℕ → ℕ → ℤ) (done : TrialDone) → IsInRange s → ((i j : ℕ) → i < s.rows → j < s.width → x i j ≡ y i j) → IsTried s x done → IsTried s y done
-tried_same s x y done range same tried =
-    let all = blocks_same s x y range same in
-    let shows = picture (geometry_of s) tried.equal.received in
+tried_same : (s : Setting) (x y : ℕ → ℕ → ℤ) (done : TrialDone) → IsInRange s → IsWithin rows_range s.rows → ((i j : ℕ) → i < s.rows → j < s.width → x i j ≡ y i j) → IsTried s x done → IsTried s y done
+tried_same s x y done range height same tried =
+    let all = blocks_same s x y range height same in
+    let shows = whole_picture (geometry_of s) tried.equal.received in
     let width = range.width in
-    let packets : output s x ≡ output s y = ap (λ all. joined (packets_of s all (segments_of s))) all in
+    let packets : output s s.rows x ≡ output s s.rows y = ap (λ all. joined (packets_of (tells_last s) s all (segments_of s))) all in
     record {
       segments = tried.segments;
-      packets = tried.packets ∙ ap (λ all. length (packets_of s all (segments_of s))) all;
+      packets = tried.packets ∙ ap (λ all. length (packets_of (tells_last s) s all (segments_of s))) all;
       octets = tried.octets ∙ ap length packets;
       equal = record {
         received = tried.equal.received;
@@ -180,10 +181,10 @@ tried_same s x y done range same tried =
       };
     }
 
-pub made_tried : {E : Type 0} (s : Setting) (seed : ℕ) (raster : List ℕ) (result : Result TrialDone E) → IsInRange s → raster ≡ made_raster (made_with s seed) →
+pub made_tried : {E : Type 0} (s : Setting) (seed : ℕ) (raster : List ℕ) (result : Result TrialDone E) → IsInRange s → IsWithin rows_range s.rows → raster ≡ made_raster (made_with s seed) →
     IfOk result (IsTried s (image_of s raster)) → IfOk result (IsTried s (made_value (made_with s seed)))
-made_tried s seed raster (Ok done) range is tried =
+made_tried s seed raster (Ok done) range height is tried =
     let made = made_with s seed in
-    tried_same s (image_of s raster) (made_value made) done range
+    tried_same s (image_of s raster) (made_value made) done range height
     (shown_is s (made_value made) raster range (record { at = λ i j row column. made_in_range made i j range.depth }) is) tried
-made_tried s seed raster (Err fault) range is tried = tried
+made_tried s seed raster (Err fault) range height is tried = tried

@@ -3,7 +3,7 @@ use Rattle.std.specs.Prelude.{◌≡◌, ◌⊎◌, ◌≤◌, ℕ, zero, suc, L
 use Rattle.std.specs.Fmt.{signed_decimal}
 use Rattle.port_122.specs.Outside.{Outside, Since, NoRead, Rose}
 use Rattle.base_122.specs.declared.field.Field.{Field}
-use Rattle.base_122.specs.declared.field.Field.TheVariants.{Width, Rows, Depth, Segment, Limit, Fill, Word, Stop, Weights, Apid, Image, Packet, Pixels, Octets}
+use Rattle.base_122.specs.declared.field.Field.TheVariants.{Width, Rows, Depth, Segment, Limit, Fill, Word, Stop, Weights, Apid, Image, Packet, Pixels, Octets, Total, Cameras}
 use Rattle.strip_coder.specs.declared.encode.EncodeFault.{EncodeFault}
 use Rattle.strip_coder.specs.declared.encode.EncodeFault.TheVariants.{ReadFault, WriteFault, Short, Long, BadPixel}
 use Rattle.strip_decoder.specs.declared.decode.DecodeFault.{DecodeFault}
@@ -43,6 +43,8 @@ field_text Image = codes "image"
 field_text Packet = codes "packet"
 field_text Pixels = codes "pixels"
 field_text Octets = codes "octets"
+field_text Total = codes "total"
+field_text Cameras = codes "cameras"
 
 -- the note on words that are refused
 abbrev pub word_line : List (List ℕ) → WordFault → List ℕ

@@ -21,5 +21,5 @@ pub record GavePicture (wish : DecodeWish) (old new : Outside) (status : ℕ) : 
   pub contained : (all : List ℕ) → old.rest ≡ Some all → GivesContained wish took gave done
   pub alike : (all : List ℕ) → old.rest ≡ Some all → (s : Setting) (x : ℕ → ℕ → ℤ) (parts : ℕ → List ℕ) → wish.apid ≡ s.apid → took ≡ some_output s x parts →
       AreSome s x parts → BeginsOne s parts → GivesAlike s x parts gave done
-  pub back : (all : List ℕ) → old.rest ≡ Some all → (s : Setting) (x : ℕ → ℕ → ℤ) → wish.apid ≡ s.apid → took ≡ output s x → IsImageFor s x →
+  pub back : (all : List ℕ) → old.rest ≡ Some all → (s : Setting) (x : ℕ → ℕ → ℤ) → wish.apid ≡ s.apid → took ≡ output s s.rows x → IsImageFor s x →
       (status ≡ 0) × GivesBack s x gave done

@@ -1,5 +1,5 @@
 -- What a run of the program leaves, for each command. This project's own.
-use Rattle.std.specs.Prelude.{◌≡◌, ◌⊎◌, ◌≤◌, ℕ, List, [], length, take, codes, Result, Ok, Err, Some}
+use Rattle.std.specs.Prelude.{◌≡◌, ◌≢◌, ◌⊎◌, ◌≤◌, ℕ, List, [], length, take, codes, Result, Ok, Err, Some}
 use Rattle.port_122.specs.Outside.{Outside, GivenBy, Since, NoRead, AtEnd, Rose}
 use Rattle.base_122.specs.declared.setting.Setting.{Setting}
 use Rattle.raster_rows.specs.declared.made.MadeImage.{MadeImage}
@@ -7,7 +7,7 @@ use Rattle.stream_defs.specs.Output.{output}
 use Rattle.strip_coder.specs.declared.encode.EncodeDone.{EncodeDone}
 use Rattle.strip_coder.specs.declared.encode.EncodeFault.{EncodeFault}
 use Rattle.strip_coder.specs.Rasters.{image_of, given_for}
-use Rattle.strip_coder.specs.Answers.{Answers, TookRaster}
+use Rattle.strip_coder.specs.Answers.{Answers, TookRaster, coded_octets}
 use Rattle.command_words.specs.declared.command.Command.{Command}
 use Rattle.command_words.specs.declared.command.Command.TheVariants.{Encode, Read, Make, Trial}
 use Rattle.command_words.specs.declared.command.WordFault.{WordFault}
@@ -86,11 +86,14 @@ Tries setting seed old new status = LacksMemory old new status ⊎ TriedImage se
 
 -- ---- what follows for one status
 
--- The whole raster was taken and the end read, and the packets of its image are given.
+-- The whole raster of an image of these rows was taken and the end read, and the packets of its image are given. Its coded segments keep to
+-- a total.
 pub record EncodedWhole (setting : Setting) (old new : Outside) : Type 0 where
   pub took : List ℕ
-  pub since : Since old new took (output setting (image_of setting took)) [] (GivenBy (given_for setting) took)
-  pub raster : TookRaster setting took
+  pub rows : ℕ
+  pub since : Since old new took (output setting rows (image_of setting took)) [] (GivenBy (given_for setting) took)
+  pub raster : TookRaster setting rows took
+  pub total : setting.total ≢ 0 → coded_octets setting rows (image_of setting took) ≤ setting.total
   pub ended : AtEnd new
 
 -- the line of a trial is given, and nothing else
@@ -120,8 +123,8 @@ encodes setting = record {
   part = Never;
   refuses = EncoderRefuses setting;
   nothing = OnlyNotes;
-  right = λ old. (input : List ℕ) × (old.rest ≡ Some input) × TookRaster setting input;
-  wrong = λ old. (input : List ℕ) × (old.rest ≡ Some input) × (TookRaster setting input → ⊥);
+  right = λ old. (input : List ℕ) × (old.rest ≡ Some input) × (rows : ℕ) × TookRaster setting rows input;
+  wrong = λ old. (input : List ℕ) × (old.rest ≡ Some input) × ((rows : ℕ) → TookRaster setting rows input → ⊥);
 }
 
 -- `make` takes no input and no memory

@@ -51,6 +51,8 @@ fn field_name(field: Field) -> &'static str
         Field::Packet => "packet",
         Field::Pixels => "pixels",
         Field::Octets => "octets",
+        Field::Total => "total",
+        Field::Cameras => "cameras",
     }
 }
 

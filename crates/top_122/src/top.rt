@@ -1,7 +1,7 @@
 // The top call.
 ghost use Rattle.std.specs.Prelude.{◌≡◌, ◌≤◌, ◌*◌, ◌⊎◌, ◌↔◌, length, Result, Ok, Err};
 ghost use Rattle.port_122.specs.Outside.{Rose};
-ghost use Rattle.base_122.specs.Ranges.{IsInRange as IsSettingInRange};
+ghost use Rattle.base_122.specs.Ranges.{IsInRange as IsSettingInRange, IsWithin, rows_range};
 ghost use Rattle.base_122.specs.declared.setting.Setting.{Setting};
 ghost use Rattle.raster_rows.specs.Pixels.{IsDepth};
 ghost use Rattle.command_words.specs.declared.command.WordFault.{WordFault};
@@ -48,7 +48,8 @@ fn fault_status(fault: EncodeFault) -> u8
 
 // The command `encode`. The memory is taken first, so where there is none nothing was read.
 fn encode<X: Port>(alloc: Global, setting: &Setting, port: &mut X) -> u8
-    requires { IsSettingInRange setting.now }
+    requires range { IsSettingInRange setting.now }
+    requires height { IsWithin rows_range setting.now.rows }
     ensures { Encodes setting.now (X.outside port.old) (X.outside port.new) result }
 {
     let Ok(mut work) = Work::new(alloc, setting) else {
@@ -81,6 +82,7 @@ fn make<X: Port>(made: &MadeImage, port: &mut X) -> u8
 // The command `trial`. It is done in memory, so nothing is read.
 fn trial<X: Port>(alloc: Global, setting: &Setting, seed: u32, port: &mut X) -> u8
     requires range { IsSettingInRange setting.now }
+    requires height { IsWithin rows_range setting.now.rows }
     requires few { setting.now.width * setting.now.rows ≤ 16777216 }
     ensures { Tries setting.now seed (X.outside port.old) (X.outside port.new) result }
 {

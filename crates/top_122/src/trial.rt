@@ -3,14 +3,14 @@ ghost use Rattle.std.specs.Prelude.{◌≡◌, ◌<◌, ◌≤◌, ◌+◌, ◌*
 ghost use Rattle.std.specs.Ordering.{int_eq};
 ghost use Rattle.port_122.specs.Outside.{WritesAll};
 ghost use Rattle.port_122.specs.Memory.{outside_of, IsFresh};
-ghost use Rattle.base_122.specs.Ranges.{IsInRange};
+ghost use Rattle.base_122.specs.Ranges.{IsInRange, IsWithin, rows_range};
 ghost use Rattle.raster_rows.specs.Pixels.{IsDepth, pixel_size, pixel_at};
 ghost use Rattle.raster_rows.specs.Made.{made_value};
 ghost use Rattle.stream_defs.specs.Output.{output};
 ghost use Rattle.strip_coder.specs.Answers.{EncodesImage, TookRaster};
-ghost use Rattle.strip_coder.specs.Rasters.{raster_length, image_of};
+ghost use Rattle.strip_coder.specs.Rasters.{image_of};
 ghost use Rattle.top_122.specs.MadeRasters.{made_raster};
-ghost use Rattle.top_122.specs.Trials.{made_with, equal_places, trial_line, HasDecoded, AreEqualIn, IsTried};
+ghost use Rattle.top_122.specs.Trials.{made_with, raster_length, equal_places, trial_line, HasDecoded, AreEqualIn, IsTried};
 
 use crate::make::write_made;
 use crate::notes::Line;
@@ -42,6 +42,7 @@ const PIECE: usize = 65_536;
 /// of memory, or 2^40 octets of packets or more.
 pub fn run_trial(alloc: Global, setting: &Setting, seed: u32) -> Result<TrialDone, AllocError>
     requires range { IsInRange setting.now }
+    requires height { IsWithin rows_range setting.now.rows }
     requires few { setting.now.width * setting.now.rows ≤ 2 ^ 24 }
     ensures { IfOk result (IsTried setting.now (made_value (made_with setting.now seed))) }
 {
@@ -51,7 +52,8 @@ pub fn run_trial(alloc: Global, setting: &Setting, seed: u32) -> Result<TrialDon
 
 // Encodes a raster, decodes its packets, and counts the pixels that come back as they were.
 fn try_raster(alloc: Global, setting: &Setting, raster: &[u8]) -> Result<TrialDone, AllocError>
-    requires { IsInRange setting.now }
+    requires range { IsInRange setting.now }
+    requires height { IsWithin rows_range setting.now.rows }
     ensures { IfOk result (IsTried setting.now (image_of setting.now raster.now)) }
 {
     let mut port = port_with(alloc, raster)?;
@@ -73,8 +75,9 @@ fn count_decoded(
     packets: &[u8],
 ) -> Result<u64, AllocError>
     requires range { IsInRange setting.now }
-    requires raster { TookRaster setting.now raster.now }
-    requires packets { packets.now ≡ output setting.now (image_of setting.now raster.now) }
+    requires height { IsWithin rows_range setting.now.rows }
+    requires raster { TookRaster setting.now setting.now.rows raster.now }
+    requires packets { packets.now ≡ output setting.now setting.now.rows (image_of setting.now raster.now) }
     ensures { IfOk result (AreEqualIn setting.now (image_of setting.now raster.now) packets.now) }
 {
     texts_are_short();
@@ -125,7 +128,8 @@ fn make_raster(alloc: Global, made: &MadeImage) -> Result<MemoryPort, AllocError
 
 // Encodes the raster that a port has, and gives its packets to the port.
 fn encode(alloc: Global, setting: &Setting, port: &mut MemoryPort) -> Result<EncodeDone, AllocError>
-    requires { IsInRange setting.now }
+    requires range { IsInRange setting.now }
+    requires height { IsWithin rows_range setting.now.rows }
     ensures { IfOk result (λ done. EncodesImage setting.now (outside_of port.old) (outside_of port.new) (Ok done)) }
 {
     let Ok(mut work) = Work::new(alloc, setting) else {
