@@ -1,25 +1,31 @@
 -- Rows that go in, and packets that go out.
-use Rattle.std.proofs.Common.{◌≡◌, ◌<◌, ◌≤◌, ◌+◌, ◌-◌, ◌*◌, ℕ, ℤ, pos, false, List, [], length, take, drop, sym, ap, subst, ◌∙◌, arith}
+use Rattle.std.proofs.Common.{◌≡◌, ◌≢◌, ◌<◌, ◌≤◌, ◌+◌, ◌-◌, ◌*◌, min, ℕ, zero, suc, ℤ, pos, Bool, false, List, [], ◌++◌, length, take, drop, refl, sym, ap, subst, ◌∙◌, arith, inl, inr, append_assoc}
 use Rattle.std.specs.Prelude.{Result, Ok, Err, MatchResult, OnOk, Vec}
 use Rattle.std.specs.Vec.{with_items}
-use Rattle.std.proofs.lemmas.List.{with_items_is, get_or-take, get_or-drop}
+use Rattle.std.proofs.lemmas.List.{append-nil, with_items_is, get_or-take, get_or-drop, take_min, take-append-le}
 use Rattle.std.proofs.Math.Nat.{mul-le-mul_left, mul-le-mul_right}
 use Rattle.port_122.specs.Outside.{Outside, Since, NoRead, Rose}
 use Rattle.port_122.proofs.Stretches.{since_start, since_out, rose_since}
 use Rattle.base_122.specs.Ranges.{IsInRange}
+use Rattle.base_122.specs.Setting.{IsHeight, sized}
 use Rattle.base_122.specs.declared.setting.Setting.{Setting}
 use Rattle.base_122.proofs.SizeBounds.{nine-le-total_blocks}
 use Rattle.wave_defs.specs.Held.{Agrees, signal}
 use Rattle.raster_rows.specs.Pixels.{IsPixel, pixel_at, raster_pixel}
 use Rattle.raster_rows.specs.RowReads.{FirstInRange}
 use Rattle.packet_defs.specs.Packets.{joined}
-use Rattle.stream_defs.specs.Output.{image_blocks, packets_of, segments_of}
-use Rattle.stream_defs.proofs.Outputs.{packets_of-none}
+use Rattle.packet_defs.proofs.Joins.{joined-append}
+use Rattle.stream_defs.specs.Output.{image_blocks, output, packets_of, segment_packets, segments_of, tells_last}
+use Rattle.stream_defs.specs.SettledImages.{front_packets}
+use Rattle.stream_defs.proofs.Outputs.{packets_of-none, packets_of-more}
 use Rattle.strip_coder.specs.declared.encode.EncodeDone.{EncodeDone}
 use Rattle.strip_coder.specs.declared.work.Work.{Work}
-use Rattle.strip_coder.specs.Works.{IsMadeFor, HasTaken, FollowsImage, StandsForNone}
-use Rattle.strip_coder.specs.Steps.{GoesOn, BreaksOff, IsRowInRange, RowIs, TakesRow, BreaksAt, EndsImage}
-use Rattle.crate_examples.specs.Frames.{HasOctets, HasGiven, GaveAll, BrokeOff}
+use Rattle.strip_coder.specs.Answers.{DoneFor}
+use Rattle.strip_coder.specs.Plans.{plan_of, tallest}
+use Rattle.strip_coder.proofs.PlanLaws.{known_tallest}
+use Rattle.strip_coder.specs.Works.{IsMadeFor, HasTaken, FollowsRows, StandsForNone}
+use Rattle.strip_coder.specs.Steps.{GoesOn, BreaksOff, IsRowInRange, RowIs, TakesRow, BreaksAt, EndsImage, EndBreaks}
+use Rattle.crate_examples.specs.Frames.{HasOctets, LastStands, HasGiven, GaveAll, BrokeOff}
 
 -- ---- octets in a row
 
@@ -47,35 +53,81 @@ frame_row row width at frame same = record {
       ap pos (get_or-take _ (drop (row * width) frame) k 0 inside ∙ get_or-drop (row * width) frame k 0) ∙ ap (λ n. raster_pixel 8 false width frame n k) (sym same);
 }
 
+-- ---- an image whose height is known
+
+pub known_height : (s : Setting) → IsInRange s → s.rows ≢ 0 → IsHeight s s.rows
+known_height s range some = elim range.rows [ inl none ↦ absurd (some none) | inr within ↦ (within, inr refl) ]
+
+pub some_rows : (rows row : ℕ) → row < rows → rows ≢ 0
+some_rows rows row less none = omega (arith, less, none)
+
 -- ---- octets that go out
 
-module _ (s : Setting) (image : ℕ → ℕ → ℤ) (start now next : Outside) (index : ℕ) (since : Since start now [] (joined (packets_of s (image_blocks s image) index)) [] NoRead) where
-  gave_on : (to : ℕ) → GoesOn s (image_blocks s image) index to now next → Since start next [] (joined (packets_of s (image_blocks s image) to)) [] NoRead
-  gave_on to goes = subst (λ gave. Since start next [] gave [] NoRead) goes.then_are (since_out since goes.out)
+-- the packets of the first segments are a front of those of more
+front_of : (last : Bool) (s : Setting) (all : List (List ℤ)) (n more : ℕ) → (rest : List ℕ) × (joined (packets_of last s all (n + more)) ≡ joined (packets_of last s all n) ++ rest)
+front_of last s all n zero =
+    let e : n + 0 ≡ n = omega arith in
+    ([], ap (λ k. joined (packets_of last s all k)) e ∙ sym (append-nil (joined (packets_of last s all n))))
+front_of last s all n (suc more) =
+    let before = front_of last s all n more in
+    let e : n + suc more ≡ (n + more) + 1 = omega arith in
+    let next = joined (segment_packets last s all (n + more)) in (
+      before.0 ++ next,
+      ap (λ k. joined (packets_of last s all k)) e ∙ ap joined (packets_of-more last s all (n + more))
+          ∙ joined-append (packets_of last s all (n + more)) (segment_packets last s all (n + more))
+          ∙ ap (λ xs. xs ++ next) before.1 ∙ append_assoc (joined (packets_of last s all n)) before.0 next,
+    )
 
-  broke : Rose now.write_faults next.write_faults → BreaksOff s (image_blocks s image) index now next → BrokeOff s image start next
-  broke rose part = record {
-    rose = rose_since since.faults.writes rose;
-    some = part.some;
-    since = subst (λ gave. Since start next [] gave [] NoRead) part.front (since_out since part.out);
-  }
+take_front : (some : ℕ) (xs rest : List ℕ) → (n : ℕ) × (take some xs ≡ take n (xs ++ rest))
+take_front some xs rest =
+    let n = min some (length xs) in
+    (n, sym (take_min some xs) ∙ sym (take-append-le n xs rest (omega arith)))
+
+module _ (s : Setting) (rows : ℕ) (image : ℕ → ℕ → ℤ) where
+  -- a front of the packets of some segments is one of all packets
+  segments_front : (index some : ℕ) → index < segments_of (sized s rows) → (n : ℕ) × (take some (joined (front_packets s rows image (index + 1))) ≡ take n (output s rows image))
+  segments_front index some inside =
+      let all = image_blocks (sized s rows) image in
+      let more = segments_of (sized s rows) - (index + 1) in
+      let rest = front_of (tells_last s) (sized s rows) all (index + 1) more in
+      let e : (index + 1) + more ≡ segments_of (sized s rows) = omega (arith, inside) in
+      let front = take_front some (joined (front_packets s rows image (index + 1))) rest.0 in
+      (front.0, front.1 ∙ ap (take front.0) (sym rest.1 ∙ ap (λ k. joined (packets_of (tells_last s) (sized s rows) all k)) e))
+
+  module _ (start now next : Outside) (index : ℕ) (since : Since start now [] (joined (front_packets s rows image index)) [] NoRead) where
+    gave_on : (to : ℕ) → GoesOn (plan_of s rows) (image_blocks (sized s rows) image) index to now next → Since start next [] (joined (front_packets s rows image to)) [] NoRead
+    gave_on to goes = subst (λ gave. Since start next [] gave [] NoRead) goes.then_are (since_out since goes.out)
+
+    broke : (gathered : ℕ) → rows ≡ s.rows → Rose now.write_faults next.write_faults → BreaksOff (plan_of s rows) (image_blocks (sized s rows) image) index gathered now next →
+        BrokeOff s image start next
+    broke gathered known rose part =
+        let front = segments_front part.index part.some part.inside in
+        let gave = part.front ∙ front.1 ∙ ap (λ n. take front.0 (output s n image)) known in
+        record {
+          rose = rose_since since.faults.writes rose;
+          some = front.0;
+          since = subst (λ gave. Since start next [] gave [] NoRead) gave (since_out since part.out);
+        }
 
 -- ---- no row yet
 
 -- no segment is out
-none_out : (s : Setting) (w : Work) → IsInRange s → HasTaken s 0 w → w.at.index ≡ 0
-none_out s w range taken =
+none_out : (s : Setting) (rows : ℕ) (w : Work) → IsInRange s → 17 ≤ rows → HasTaken (plan_of s rows) 0 w → w.at.index ≡ 0
+none_out s rows w range least_rows taken =
     let none = rw taken.strip_rows at taken.running.count in
-    let blocks = nine-le-total_blocks s.width s.rows range.width.0 range.rows.0 in
+    let blocks = nine-le-total_blocks s.width rows range.width.0 least_rows in
     let least : w.at.index * 16 ≤ w.at.index * s.segment = mul-le-mul_left {m = 16} {n = s.segment} w.at.index range.segment.0 in
     omega (arith, none, blocks, least)
 
-pub none_given : (s : Setting) (image : ℕ → ℕ → ℤ) (start : Outside) (w : Work) → IsInRange s → StandsForNone s w → HasGiven s image start start w
-none_given s image start w range stands =
-    let all = image_blocks s image in
-    let none : joined (packets_of s all w.at.index) ≡ [] = ap (λ n. joined (packets_of s all n)) (none_out s w range stands.taken) ∙ ap joined (packets_of-none s all) in
+pub none_given : (s : Setting) (image : ℕ → ℕ → ℤ) (start : Outside) (w : Work) → IsInRange s → s.rows ≢ 0 → StandsForNone s w → HasGiven s image start start w
+none_given s image start w range known stands =
+    let all = image_blocks (sized s (tallest s)) image in
+    let height = known_height s range known in
+    let least : 17 ≤ tallest s = let rows = height.0.0 in omega (arith, rows, known_tallest s known) in
+    let none : joined (front_packets s (tallest s) image w.at.index) ≡ [] =
+    ap (λ n. joined (front_packets s (tallest s) image n)) (none_out s (tallest s) w range least stands.taken) ∙ ap joined (packets_of-none (tells_last s) (sized s (tallest s)) all) in
     record {
-      taken = subst (λ k. HasTaken s k w) (sym stands.taken.rows) stands.taken;
+      taken = subst (λ k. HasTaken (plan_of s (tallest s)) k w) (sym stands.taken.rows) stands.taken;
       follows = stands.follows image;
       last = λ some. absurd (omega (arith, some, stands.taken.rows));
       since = subst (λ gave. Since start start [] gave [] NoRead) (sym none) (since_start start NoRead);
@@ -99,42 +151,55 @@ module _ {T E : Type 0} (s : Setting) (now next : Outside) (w new : Work) (resul
       by (Ok done) takes = takes.taken.rows
       by (Err failed) breaks = tt
 
-module _ (s : Setting) (image : ℕ → ℕ → ℤ) (start now next : Outside) (w new : Work) (follows : FollowsImage s image w)
-    (since : Since start now [] (joined (packets_of s (image_blocks s image) w.at.index)) [] NoRead) (is : RowIs s image w.at.rows w) where
+module _ (s : Setting) (image : ℕ → ℕ → ℤ) (start now next : Outside) (w new : Work) (known : s.rows ≢ 0) (follows : FollowsRows s image w)
+    (since : Since start now [] (joined (front_packets s (tallest s) image w.at.index)) [] NoRead) (is : RowIs s image w.at.rows w) where
   pub row_given : {T E : Type 0} (result : Result T E) → IsRowInRange s w.row.items → MatchResult result (λ _. TakesRow s w.at.rows now next w new) (λ _. BreaksAt s w.at.rows now next w new) →
       MatchResult result (λ _. HasGiven s image start next new) (λ _. BrokeOff s image start next)
   row_given (Ok done) in_range takes =
       let back : new.at.rows - 1 ≡ w.at.rows = let count = takes.taken.rows in omega (arith, count) in
       record {
-        taken = subst (λ k. HasTaken s k new) (sym takes.taken.rows) takes.taken;
+        taken = subst (λ k. HasTaken (plan_of s (tallest s)) k new) (sym takes.taken.rows) takes.taken;
         follows = takes.follows image follows is;
         last = λ some. (
           record { each = λ k lt. subst (IsPixel s.depth s.signed) (sym (takes.row.at k lt)) (in_range.each k lt) },
           record { at = λ k lt. takes.row.at k lt ∙ is.at k lt ∙ ap (λ i. image i k) (sym back) },
         );
-        since = gave_on s image start now next w.at.index since new.at.index (takes.goes image follows is);
+        since = gave_on s (tallest s) image start now next w.at.index since new.at.index (takes.goes image follows is);
       }
-  row_given (Err failed) in_range breaks = broke s image start now next w.at.index since breaks.rose (breaks.breaks image follows is)
+  row_given (Err failed) in_range breaks = broke s (tallest s) image start now next w.at.index since _ (known_tallest s known) breaks.rose (breaks.breaks image follows is)
 
 -- ---- the rest
 
-pub end_made : {E : Type 0} (s : Setting) (now next : Outside) (w new : Work) (result : Result EncodeDone E) →
-    MatchResult result (λ done. EndsImage s now next w new done) (λ _. BreaksAt s (s.rows - 1) now next w new) → IsMadeFor s new
-end_made s now next w new (Ok done) ends = ends.made
-end_made s now next w new (Err failed) breaks = breaks.made
+pub end_made : {E : Type 0} (s : Setting) (rows : ℕ) (now next : Outside) (w new : Work) (result : Result EncodeDone E) →
+    MatchResult result (λ done. EndsImage s rows now next w new done) (λ _. EndBreaks s rows now next w new) → IsMadeFor s new
+end_made s rows now next w new (Ok done) ends = ends.made
+end_made s rows now next w new (Err failed) breaks = breaks.made
 
-pub all_given : {E : Type 0} (s : Setting) (image : ℕ → ℕ → ℤ) (start now next : Outside) (w new : Work) (result : Result EncodeDone E) → IsInRange s →
-    HasGiven s image start now w → w.at.rows ≡ s.rows → MatchResult result (λ done. EndsImage s now next w new done) (λ _. BreaksAt s (s.rows - 1) now next w new) →
-    MatchResult result (λ done. GaveAll s image start next done) (λ _. BrokeOff s image start next)
-all_given s image start now next w new result range given all = by result
+pub last_row : (s : Setting) (image : ℕ → ℕ → ℤ) (start now : Outside) (w : Work) → IsInRange s → s.rows ≢ 0 → HasGiven s image start now w → w.at.rows ≡ s.rows → LastStands s image w
+last_row s image start now w range known given all = given.last (omega (arith, known_least s range known, all))
   where
-    is : RowIs s image (s.rows - 1) w
-    is = let rows = range.rows.0 in subst (λ n. RowIs s image (n - 1) w) all (given.last (omega (arith, rows, all))).1
+    known_least : (s : Setting) → IsInRange s → s.rows ≢ 0 → 17 ≤ s.rows
+    known_least s range known = let rows = (known_height s range known).0.0 in omega (arith, rows)
 
-    by : {E : Type 0} (r : Result EncodeDone E) → MatchResult r (λ done. EndsImage s now next w new done) (λ _. BreaksAt s (s.rows - 1) now next w new) →
+pub all_given : {E : Type 0} (s : Setting) (image : ℕ → ℕ → ℤ) (start now next : Outside) (w new : Work) (result : Result EncodeDone E) → IsInRange s → s.rows ≢ 0 →
+    HasGiven s image start now w → w.at.rows ≡ s.rows → MatchResult result (λ done. EndsImage s w.at.rows now next w new done) (λ _. EndBreaks s w.at.rows now next w new) →
+    MatchResult result (λ done. GaveAll s image start next done) (λ _. BrokeOff s image start next)
+all_given s image start now next w new result range known given all = by result
+  where
+    rows : ℕ
+    rows = w.at.rows
+
+    is : RowIs s image (rows - 1) w
+    is = (last_row s image start now w range known given all).1
+
+    since : Since start now [] (joined (front_packets s rows image w.at.index)) [] NoRead
+    since = subst (λ n. Since start now [] (joined (front_packets s n image w.at.index)) [] NoRead) (known_tallest s known ∙ sym all) given.since
+
+    by : {E : Type 0} (r : Result EncodeDone E) → MatchResult r (λ done. EndsImage s rows now next w new done) (λ _. EndBreaks s rows now next w new) →
         MatchResult r (λ done. GaveAll s image start next done) (λ _. BrokeOff s image start next)
     by (Ok done) ends = record {
-      counts = ends.done image given.follows is;
-      since = gave_on s image start now next w.at.index given.since (segments_of s) (ends.goes image given.follows is);
+      counts = subst (λ n. DoneFor s n image done) all (ends.done image given.follows is);
+      since = subst (λ n. Since start next [] (output s n image) [] NoRead) all
+          (gave_on s rows image start now next w.at.index since (segments_of (sized s rows)) (ends.goes image given.follows is));
     }
-    by (Err failed) breaks = broke s image start now next w.at.index given.since breaks.rose (breaks.breaks image given.follows is)
+    by (Err failed) breaks = broke s rows image start now next w.at.index since _ all breaks.rose (breaks.breaks image given.follows is)

@@ -1,10 +1,11 @@
 // Rows that stand in memory, as packets.
-ghost use Rattle.std.specs.Prelude.{◌≡◌, ◌<◌, ◌≤◌, ◌+◌, ◌*◌, ℕ, ℤ, false, length, MatchResult, OnOk};
+ghost use Rattle.std.specs.Prelude.{◌≡◌, ◌≢◌, ◌<◌, ◌≤◌, ◌+◌, ◌*◌, ℕ, ℤ, false, length, MatchResult, OnOk};
 ghost use Rattle.port_122.specs.Outside.{Outside};
 ghost use Rattle.base_122.specs.Ranges.{IsInRange};
 ghost use Rattle.wave_defs.specs.Held.{Agrees, signal};
 ghost use Rattle.raster_rows.specs.Pixels.{pixel_at, raster_pixel};
 ghost use Rattle.raster_rows.specs.RowReads.{FirstInRange};
+ghost use Rattle.strip_coder.specs.Plans.{plan_of, tallest};
 ghost use Rattle.strip_coder.specs.Works.{HasTaken, IsMadeFor};
 ghost use Rattle.crate_examples.specs.Frames.{HasOctets, HasGiven, BrokeOff, GaveAll};
 
@@ -24,7 +25,7 @@ fn put_row(octets: &[u8], row: &mut [i32])
 }
 
 /// Hands in the next row of an image, an octet a pixel, and gives the packets of the segments that it settles. Fewer rows were
-/// taken than the image has. After `Failed` a front of all packets is given, and only `start_image` may follow.
+/// taken than the image has, whose height is known. After `Failed` a front of all packets is given, and only `start_image` may follow.
 pub fn hand_in<X: Port>(
     port: &mut X,
     setting: &Setting,
@@ -33,7 +34,7 @@ pub fn hand_in<X: Port>(
 ) -> Result<(), Failed>
     requires in_range { IsInRange setting.now }
     requires octets { HasOctets setting.now }
-    requires taken { HasTaken setting.now work.old.at.rows work.old }
+    requires taken { HasTaken (plan_of setting.now (tallest setting.now)) work.old.at.rows work.old }
     requires few { work.old.at.rows < setting.now.rows }
     requires row { length row.now ≡ setting.now.width }
     ensures made { IsMadeFor setting.now work.new }
@@ -48,7 +49,7 @@ pub fn hand_in<X: Port>(
 }
 
 /// Encodes an image that stands in memory, an octet a pixel and row after row. All of its packets are given, after `Failed` a
-/// front of them. The work was made for an equal setting, and serves again after either answer.
+/// front of them. The work was made for an equal setting, whose rows are known, and serves again after either answer.
 pub fn encode_frame<X: Port>(
     port: &mut X,
     setting: &Setting,
@@ -56,6 +57,7 @@ pub fn encode_frame<X: Port>(
     frame: &[u8],
 ) -> Result<EncodeDone, Failed>
     requires in_range { IsInRange setting.now }
+    requires known { setting.now.rows ≢ 0 }
     requires octets { HasOctets setting.now }
     requires made { IsMadeFor setting.now work.old }
     requires frame { length frame.now ≡ setting.now.rows * setting.now.width }

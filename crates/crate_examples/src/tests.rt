@@ -1,10 +1,10 @@
 // The three examples on one picture, worked by hand from the rules.
-ghost use Rattle.std.specs.Prelude.{◌≡◌, ◌*◌, length};
+ghost use Rattle.std.specs.Prelude.{◌≡◌, ◌≢◌, ◌*◌, length};
 ghost use Rattle.base_122.specs.Ranges.{IsInRange};
 ghost use Rattle.crate_examples.specs.Frames.{HasOctets};
 
 use crate::{NotRead, encode_frame, list_octets, read_text};
-use base_122::{Select, Setting, Stop, Weights};
+use base_122::Setting;
 use bit_pipe::Part;
 use port_122::MemoryPort;
 use segment_code::SegmentFault;
@@ -28,26 +28,7 @@ fn camera(width: u32, rows: u32) -> Setting
     ensures width { result.width ≡ width }
     ensures rows { result.rows ≡ rows }
 {
-    Setting {
-        width,
-        rows,
-        depth: 8,
-        signed: false,
-        segment: 64,
-        limit: 0,
-        fill: false,
-        word: 1,
-        stop: Stop {
-            dc: false,
-            plane: 0,
-            stage: 3,
-        },
-        weights: Weights::usual(),
-        select: Select::Optimal,
-        apid: 100,
-        image: 0,
-        packet: 1024,
-    }
+    Setting::usual(width, rows)
 }
 
 // Encodes a frame, and answers what was done.
@@ -58,6 +39,7 @@ fn encode_to(
     frame: &[u8],
 ) -> Option<EncodeDone>
     requires in_range { IsInRange setting.now }
+    requires known { setting.now.rows ≢ 0 }
     requires octets { HasOctets setting.now }
     requires frame { length frame.now ≡ setting.now.rows * setting.now.width }
 {
@@ -77,6 +59,7 @@ fn packet_of(
     requires frame { length frame.now ≡ setting.now.rows * setting.now.width }
 {
     assert_eq!(rt; setting.check(), Ok(()));
+    assert!(rt; setting.rows != 0);
     let mut port = MemoryPort::new(rt.alloc(), Vec::new(rt.alloc()), Vec::new(rt.alloc()), 4096)?;
     let done = encode_to(rt.alloc(), &mut port, setting, frame).expect(rt, "packets");
     assert_eq!(rt; done.segments, 1);

@@ -9,10 +9,10 @@ use Rattle.base_122.specs.declared.geometry.Geometry.{Geometry}
 use Rattle.base_122.specs.declared.setting.Setting.{Setting}
 use Rattle.packet_defs.specs.Streams.{framing}
 use Rattle.raster_rows.proofs.RasterLaws.{length-raster_octets}
-use Rattle.stream_defs.specs.Damage.{missing_rows}
+use Rattle.stream_defs.specs.Damage.{whole_missing}
 use Rattle.stream_defs.specs.Fates.{fresh, after_all, kept, geometry_in}
 use Rattle.stream_defs.specs.Output.{output}
-use Rattle.stream_defs.specs.Picture.{picture, picture_octets}
+use Rattle.stream_defs.specs.Picture.{whole_picture, whole_octets}
 use Rattle.stream_defs.specs.Received.{AreReceived, ReceivedIn}
 use Rattle.strip_decoder.specs.declared.decode.DecodeDone.{DecodeDone}
 use Rattle.strip_decoder.specs.declared.decode.DecodeFault.TheVariants as faults
@@ -38,7 +38,7 @@ is_shown apid packets given old new done rest none gives run =
     let same = reads_all (length packets + 1) run.took packets old new run.since rest is.out in
     let told = is.told packets rest in
     record {
-      tells = record { geometry = sym (tells_same apid run.took packets same) ∙ is.geometry; range = is.range };
+      tells = record { geometry = sym (tells_same apid run.took packets same) ∙ is.geometry; range = is.range; height = is.height };
       framing_is = is.framing_is ∙ same.framing_is;
       rows = is.rows;
       received = told.0;
@@ -49,13 +49,13 @@ is_shown apid packets given old new done rest none gives run =
 
 pub picture_size : (apid : ℕ) (packets picture : List ℕ) (done : DecodeDone) → IsShown apid packets picture done → length picture ≡ picture_length done.geometry
 picture_size apid packets picture_given done shown =
-    let g = done.geometry in ap length shown.picture_is ∙ length-raster_octets g.depth g.rows g.width (picture g shown.received)
+    let g = done.geometry in ap length shown.picture_is ∙ length-raster_octets g.depth g.rows g.width (whole_picture g shown.received)
 
 pub has_geometry : (apid : ℕ) (packets : List ℕ) (old new : Outside) (done : DecodeDone) → old.rest ≡ Some packets → RunsDecoder (wish_for apid packets) old new (Ok done) → HasGeometry apid packets done.geometry
 has_geometry apid packets old new done rest run =
     let is = run.answer in
     let same = reads_all (length packets + 1) run.took packets old new run.since rest is.out in
-    record { geometry = sym (tells_same apid run.took packets same) ∙ is.geometry; range = is.range }
+    record { geometry = sym (tells_same apid run.took packets same) ∙ is.geometry; range = is.range; height = is.height }
 
 no_segment : (apid : ℕ) (packets : List ℕ) (old new : Outside) → old.rest ≡ Some packets → RunsDecoder (wish_for apid packets) old new (Err faults.NoSegment) → geometry_in apid packets ≡ None
 no_segment apid packets old new rest run =
@@ -74,18 +74,18 @@ some_geometry e = cc
 
 module _ (trip : RoundTrip) (told : ReceivedIsTold) (s : Setting) (x : ℕ → ℕ → ℤ) (image : IsImageFor s x) where
   -- all packets of an image tell its geometry
-  tells_image : geometry_in s.apid (output s x) ≡ Some (geometry_of s)
+  tells_image : geometry_in s.apid (output s s.rows x) ≡ Some (geometry_of s)
   tells_image =
-      let some = told.some s.apid (output s x) in
+      let some = told.some s.apid (output s s.rows x) in
       (trip.whole s x some.0 image some.1).geometry
 
-  of_image : (apid : ℕ) (packets : List ℕ) → apid ≡ s.apid → packets ≡ output s x → geometry_in apid packets ≡ Some (geometry_of s)
+  of_image : (apid : ℕ) (packets : List ℕ) → apid ≡ s.apid → packets ≡ output s s.rows x → geometry_in apid packets ≡ Some (geometry_of s)
   of_image apid packets mine are = ap (λ n. geometry_in n packets) mine ∙ ap (geometry_in s.apid) are ∙ tells_image
 
-  brings_image : (apid : ℕ) (packets old new : List ℕ) (result : Result DecodeDone DecodeRefusal) → Decodes apid packets old new result → apid ≡ s.apid → packets ≡ output s x → BringsImage s x new result
+  brings_image : (apid : ℕ) (packets old new : List ℕ) (result : Result DecodeDone DecodeRefusal) → Decodes apid packets old new result → apid ≡ s.apid → packets ≡ output s s.rows x → BringsImage s x new result
   brings_image apid packets old new (Ok done) has mine are =
       let shown = has.shown in
-      let got : ReceivedIn holds_after s.apid (output s x) shown.received =
+      let got : ReceivedIn holds_after s.apid (output s s.rows x) shown.received =
       subst (λ octets. ReceivedIn holds_after s.apid octets shown.received) are (subst (λ n. ReceivedIn holds_after n packets shown.received) mine shown.received_are) in
       let whole = trip.whole s x shown.received image got in
       let geometry : done.geometry ≡ geometry_of s = some_geometry (sym shown.tells.geometry ∙ of_image apid packets mine are) in
@@ -93,9 +93,9 @@ module _ (trip : RoundTrip) (told : ReceivedIsTold) (s : Setting) (x : ℕ → �
       ap (λ n. take n new) (sym has.octets) ∙ ap (take (length has.picture)) has.room ∙ take-append_seam has.picture (drop (length has.picture) old) in
       record {
         geometry = geometry;
-        missing = shown.missing ∙ ap (λ g. missing_rows g shown.received) geometry ∙ whole.missing;
+        missing = shown.missing ∙ ap (λ g. whole_missing g shown.received) geometry ∙ whole.missing;
         framing_is = shown.framing_is ∙ ap framing are ∙ whole.framing_is;
-        same = λ all. front ∙ shown.picture_is ∙ ap (λ g. picture_octets g shown.received) geometry ∙ (trip.same s x shown.received image all got).octets;
+        same = λ all. front ∙ shown.picture_is ∙ ap (λ g. whole_octets g shown.received) geometry ∙ (trip.same s x shown.received image all got).octets;
       }
   brings_image apid packets old new (Err NoSegment) refused mine are =
       absurd (let both : None ≡ Some (geometry_of s) = sym refused.1 ∙ of_image apid packets mine are in cc)

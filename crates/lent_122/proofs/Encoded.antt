@@ -2,15 +2,14 @@
 use Rattle.std.proofs.Common.{◌≡◌, ◌≤◌, ◌<◌, ◌+◌, ◌*◌, ◌∙◌, ℕ, ℤ, Bool, List, [], ◌++◌, length, take, refl, sym, ap, subst, arith, inl, inr, length-append}
 use Rattle.std.specs.Prelude.{Option, Some, None, Result, Ok, Err}
 use Rattle.std.proofs.lemmas.Bool.{cases_lt}
-use Rattle.std.proofs.lemmas.List.{take-append-le}
+use Rattle.std.proofs.lemmas.List.{take-append-le, length-take-le}
 use Rattle.std.proofs.Math.Nat.{div-mul-le_self, mul-le-mul_right}
 use Rattle.port_122.specs.Outside.{Outside}
 use Rattle.port_122.proofs.Told.{end_told, given_told}
-use Rattle.base_122.specs.Ranges.{IsInRange, first_out_of_range, refusal}
+use Rattle.base_122.specs.Ranges.{IsInRange, refusal}
 use Rattle.base_122.specs.declared.field.Field.{Field}
 use Rattle.base_122.specs.declared.field.OutOfRange.{OutOfRange}
 use Rattle.base_122.specs.declared.setting.Setting.{Setting}
-use Rattle.base_122.proofs.RangeChecks.{none-from_in_range}
 use Rattle.raster_rows.specs.Pixels.{IsPixel, pixel_at, pixel_size, whole_pixels}
 use Rattle.raster_rows.specs.RowReads.{IsFirstBad}
 use Rattle.raster_rows.proofs.PixelPlaces.{size_some, pixel_at-append_left, whole_before, whole_pixels-is, whole_pixels-above}
@@ -19,11 +18,12 @@ use Rattle.stream_defs.specs.Output.{output}
 use Rattle.strip_coder.specs.declared.encode.EncodeDone.{EncodeDone}
 use Rattle.strip_coder.specs.declared.encode.EncodeFault.TheVariants as faults
 use Rattle.strip_coder.specs.Answers.{EncodesImage, AllInRange, DoneFor, TookRaster, FirstBad}
-use Rattle.strip_coder.specs.Rasters.{image_of, raster_length}
+use Rattle.strip_coder.specs.Rasters.{image_of, most_length}
 use Rattle.strip_decoder.specs.Containment.{IsImageFor, ArePixels}
 use Rattle.lent_122.specs.declared.encode.EncodeRefusal.{EncodeRefusal}
 use Rattle.lent_122.specs.declared.encode.EncodeRefusal.TheVariants.{OutOfRange as Refused, Short, Long, BadPixel, SmallRoom, Memory}
-use Rattle.lent_122.specs.Encoding.{HasRun, HasBadPixel, Encodes, Accepts}
+use Rattle.lent_122.specs.Encoding.{IsAdmitted, first_refused, raster_length, HasRun, HasBadPixel, Encodes, Accepts}
+use Rattle.lent_122.proofs.Admitted.{own_height, only_height, own_most, own_lacks, none_refused}
 use Rattle.lent_122.proofs.Fronts.{took_front}
 
 -- ---- the setting
@@ -35,21 +35,29 @@ field_named (Some field) out e = let same : Err (record { field = field }) ≡ E
 
 -- ---- the raster
 
-short_raster : (s : Setting) (raster : List ℕ) (old new : Outside) (octets : ℕ) → old.rest ≡ Some raster → EncodesImage s old new (Err (faults.Short octets)) →
+short_raster : (s : Setting) (raster : List ℕ) (old new : Outside) (octets : ℕ) → IsAdmitted s → old.rest ≡ Some raster → EncodesImage s old new (Err (faults.Short octets)) →
     (length raster < raster_length s) × AllInRange s raster
-short_raster s raster old new octets rest run =
+short_raster s raster old new octets admits rest run =
     let answer = run.answer in
     let took : run.took ≡ raster = end_told raster run.since rest answer.2 in
-    (omega (arith, ap length took, answer.1), subst (AllInRange s) took answer.3)
+    (subst (λ octets. length octets < raster_length s) took (own_lacks s (length run.took) admits answer.1), subst (AllInRange s) took answer.3)
 
-long_raster : (s : Setting) (raster : List ℕ) (old new : Outside) → old.rest ≡ Some raster → EncodesImage s old new (Err faults.Long) →
-    (raster_length s < length raster) × TookRaster s (take (raster_length s) raster)
-long_raster s raster old new rest run =
+long_raster : (s : Setting) (raster : List ℕ) (old new : Outside) → IsAdmitted s → old.rest ≡ Some raster → EncodesImage s old new (Err faults.Long) →
+    (raster_length s < length raster) × TookRaster s s.rows (take (raster_length s) raster)
+long_raster s raster old new admits rest run =
     let answer = run.answer in
+    let most = own_most s admits in
     let front = took_front old.rest new.rest raster run.took rest run.since.rest in
-    let same : take (raster_length s) raster ≡ take (raster_length s) run.took =
-    ap (take (raster_length s)) front.1 ∙ take-append-le (raster_length s) run.took front.0 (omega (arith, answer.0)) in
-    (omega (arith, ap length front.1, length-append run.took front.0, answer.0), subst (TookRaster s) (sym same) answer.1)
+    let same : take (raster_length s) raster ≡ take (most_length s) run.took =
+    ap (take (raster_length s)) front.1 ∙ take-append-le (raster_length s) run.took front.0 (omega (arith, answer.0, most)) ∙ ap (λ n. take n run.took) (sym most) in
+    let longer : raster_length s < length raster = omega (arith, ap length front.1, length-append run.took front.0, answer.0, most) in (
+      longer,
+      record {
+        height = own_height s admits;
+        whole = length-take-le (raster_length s) raster (omega (arith, longer));
+        in_range = subst (AllInRange s) (sym same) answer.1;
+      },
+    )
 
 -- ---- a value out of range
 
@@ -84,17 +92,17 @@ in_rows rows width size row column some le = elim (cases_lt row rows) [
     flat : (rows width size : ℕ) → (rows * width + 1) * size ≡ rows * (width * size) + size
     flat rows width size = grind arith
 
-bad_pixel : (s : Setting) (raster : List ℕ) (old new : Outside) (row column : ℕ) (value : ℤ) → IsInRange s → old.rest ≡ Some raster →
+bad_pixel : (s : Setting) (raster : List ℕ) (old new : Outside) (row column : ℕ) (value : ℤ) → IsAdmitted s → old.rest ≡ Some raster →
     EncodesImage s old new (Err (faults.BadPixel row column value)) → HasBadPixel s raster row column value
-bad_pixel s raster old new row column value range rest run =
+bad_pixel s raster old new row column value admits rest run =
     let answer = run.answer in
     let front = took_front old.rest new.rest raster run.took rest run.since.rest in
     let bad = answer.1 in
     let place = row * s.width + column in
     let whole = whole_octets s.depth run.took place bad.first.whole in
     record {
-      range = range;
-      inside = in_rows s.rows s.width (pixel_size s.depth) row column (size_some s.depth) (omega (arith, whole, answer.0));
+      admitted = admits;
+      inside = in_rows s.rows s.width (pixel_size s.depth) row column (size_some s.depth) (omega (arith, whole, answer.0, own_most s admits));
       bad = subst (λ octets. FirstBad s octets row column value) (sym front.1)
           (record { in_row = bad.in_row; first = bad_on s.depth s.signed run.took front.0 place value bad.first });
     }
@@ -102,7 +110,7 @@ bad_pixel s raster old new row column value range rest run =
 -- ---- the image
 
 -- the pixels of a raster that was taken are in range
-raster_pixels : (s : Setting) (raster : List ℕ) → TookRaster s raster → ArePixels s (image_of s raster)
+raster_pixels : (s : Setting) (raster : List ℕ) → TookRaster s s.rows raster → ArePixels s (image_of s raster)
 raster_pixels s raster whole = record {
   at = λ i j row column.
       let size = pixel_size s.depth in
@@ -117,41 +125,43 @@ raster_pixels s raster whole = record {
 
 -- the whole raster was taken, and its packets given
 pub record HasEncoded (s : Setting) (raster : List ℕ) (new : Outside) (done : EncodeDone) : Type 0 where
-  pub took : TookRaster s raster
+  pub took : TookRaster s s.rows raster
   pub image : IsImageFor s (image_of s raster)
-  pub done_for : DoneFor s (image_of s raster) done
-  pub gave : (packets : List ℕ) → new.given ≡ Some packets → packets ≡ output s (image_of s raster)
+  pub done_for : DoneFor s s.rows (image_of s raster) done
+  pub gave : (packets : List ℕ) → new.given ≡ Some packets → packets ≡ output s s.rows (image_of s raster)
 
-pub has_encoded : (s : Setting) (raster : List ℕ) (old new : Outside) (done : EncodeDone) → IsInRange s → length s.weights.shifts ≡ 10 → old.rest ≡ Some raster → old.given ≡ Some [] →
+pub has_encoded : (s : Setting) (raster : List ℕ) (old new : Outside) (done : EncodeDone) → IsAdmitted s → length s.weights.shifts ≡ 10 → old.rest ≡ Some raster → old.given ≡ Some [] →
     EncodesImage s old new (Ok done) → HasEncoded s raster new done
-has_encoded s raster old new done range ten rest none run =
+has_encoded s raster old new done admits ten rest none run =
     let answer = run.answer in
-    let took : run.took ≡ raster = end_told raster run.since rest answer.1 in
-    let whole : TookRaster s raster = subst (TookRaster s) took answer.0 in
+    let took : run.took ≡ raster = end_told raster run.since rest answer.2 in
+    let rows : answer.0 ≡ s.rows = only_height s answer.0 admits answer.1.height in
+    let whole : TookRaster s s.rows raster = subst (λ rows. TookRaster s rows raster) rows (subst (TookRaster s answer.0) took answer.1) in
     record {
       took = whole;
-      image = record { range = range; weights = ten; pixels = raster_pixels s raster whole };
-      done_for = subst (λ octets. DoneFor s (image_of s octets) done) took answer.3;
-      gave = λ packets gives. given_told [] packets run.since none gives ∙ answer.2 ∙ ap (λ octets. output s (image_of s octets)) took;
+      image = record { range = admits.range; height = admits.height; weights = ten; pixels = raster_pixels s raster whole };
+      done_for = subst (λ rows. DoneFor s rows (image_of s raster) done) rows (subst (λ octets. DoneFor s answer.0 (image_of s octets) done) took answer.4);
+      gave = λ packets gives. given_told [] packets run.since none gives ∙ answer.3 ∙ ap (λ octets. output s answer.0 (image_of s octets)) took
+          ∙ ap (λ rows. output s rows (image_of s raster)) rows;
     }
 
-pub refused : (s : Setting) (raster room : List ℕ) (old new : Outside) (refusal : EncodeRefusal) → IsInRange s → old.rest ≡ Some raster → HasRun s old new (Err refusal) → Encodes s raster room room (Err refusal)
-refused s raster room old new (Refused field) range rest run = absurd run
-refused s raster room old new Short range rest run = let short = short_raster s raster old new run.0 rest run.1 in (refl, (range, short.0, short.1))
-refused s raster room old new Long range rest run = let long = long_raster s raster old new rest run in (refl, (range, long.0, long.1))
-refused s raster room old new (BadPixel row column value) range rest run = (refl, bad_pixel s raster old new row column value range rest run)
-refused s raster room old new (SmallRoom octets) range rest run = absurd run
-refused s raster room old new Memory range rest run = (refl, tt)
+pub refused : (s : Setting) (raster room : List ℕ) (old new : Outside) (refusal : EncodeRefusal) → IsAdmitted s → old.rest ≡ Some raster → HasRun s old new (Err refusal) → Encodes s raster room room (Err refusal)
+refused s raster room old new (Refused field) admits rest run = absurd run
+refused s raster room old new Short admits rest run = let short = short_raster s raster old new run.0 admits rest run.1 in (refl, (admits, short.0, short.1))
+refused s raster room old new Long admits rest run = let long = long_raster s raster old new admits rest run in (refl, (admits, long.0, long.1))
+refused s raster room old new (BadPixel row column value) admits rest run = (refl, bad_pixel s raster old new row column value admits rest run)
+refused s raster room old new (SmallRoom octets) admits rest run = absurd run
+refused s raster room old new Memory admits rest run = (refl, tt)
 
 -- ---- what is right
 
-none_named : (s : Setting) (field : Field) → IsInRange s → first_out_of_range s ≡ Some field → ⊥
-none_named s field range named = let none = none-from_in_range s range in let both : None ≡ Some field = sym none ∙ named in cc
+none_named : (s : Setting) (field : Field) → IsAdmitted s → first_refused s ≡ Some field → ⊥
+none_named s field admits named = let none = none_refused s admits in let both : None ≡ Some field = sym none ∙ named in cc
 
 -- a raster that is whole and in range isn't refused
-pub accepts : (s : Setting) (raster old new : List ℕ) (result : Result EncodeDone EncodeRefusal) → Encodes s raster old new result → IsInRange s → TookRaster s raster → Accepts result
+pub accepts : (s : Setting) (raster old new : List ℕ) (result : Result EncodeDone EncodeRefusal) → Encodes s raster old new result → IsInRange s → TookRaster s s.rows raster → Accepts result
 accepts s raster old new (Ok done) encodes range took = tt
-accepts s raster old new (Err (Refused field)) encodes range took = absurd (none_named s field range encodes.1)
+accepts s raster old new (Err (Refused field)) encodes range took = absurd (none_named s field (record { range = range; height = took.height.0 }) encodes.1)
 accepts s raster old new (Err Short) encodes range took = absurd (omega (arith, encodes.1.1, took.whole))
 accepts s raster old new (Err Long) encodes range took = absurd (omega (arith, encodes.1.1, took.whole))
 accepts s raster old new (Err (BadPixel row column value)) encodes range took = absurd (none_bad took.in_range encodes.1.bad.first)

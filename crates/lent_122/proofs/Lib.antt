@@ -1,4 +1,5 @@
 pub mod Fronts
+pub mod Admitted
 pub mod Encoded
 pub mod ReadOut
 pub mod Found

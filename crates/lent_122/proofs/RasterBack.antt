@@ -71,9 +71,9 @@ raster-same depth signed rows width raster are size =
 
 -- ---- there and back
 
-packets_are : (s : Setting) (raster old new : List ℕ) (done : EncodeDone) → HasPackets s raster old new done → take done.octets new ≡ output s (image_of s raster)
+packets_are : (s : Setting) (raster old new : List ℕ) (done : EncodeDone) → HasPackets s raster old new done → take done.octets new ≡ output s s.rows (image_of s raster)
 packets_are s raster old new done has =
-    ap (take done.octets) has.room ∙ ap (λ n. take n (output s (image_of s raster) ++ drop done.octets old)) has.done_for.octets ∙ take-append_seam (output s (image_of s raster)) (drop done.octets old)
+    ap (take done.octets) has.room ∙ ap (λ n. take n (output s s.rows (image_of s raster) ++ drop done.octets old)) has.done_for.octets ∙ take-append_seam (output s s.rows (image_of s raster)) (drop done.octets old)
 
 pub comes_back : (s : Setting) (raster old new room : List ℕ) (done : EncodeDone) (result : Result DecodeDone DecodeRefusal) → AreOctets raster → HasPackets s raster old new done →
     BringsBack s.apid (take done.octets new) room result → BringsRaster s raster room result

@@ -1,17 +1,17 @@
 -- What is answered where all packets are decoded at once. This project's own.
 use Rattle.std.specs.Prelude.{◌≡◌, ◌<◌, ◌+◌, ◌*◌, ◌^◌, ◌-◌, ◌++◌, ℕ, ℤ, List, length, take, drop, Some, None, Result, Ok, Err, ⊤}
 use Rattle.port_122.specs.Outside.{Outside}
-use Rattle.base_122.specs.Ranges.{IsGeometryInRange}
+use Rattle.base_122.specs.Ranges.{IsGeometryInRange, IsWithin, rows_range}
 use Rattle.base_122.specs.Setting.{geometry_of}
 use Rattle.base_122.specs.declared.geometry.Geometry.{Geometry}
 use Rattle.base_122.specs.declared.setting.Setting.{Setting}
 use Rattle.base_122.specs.declared.wish.DecodeWish.{DecodeWish}
 use Rattle.packet_defs.specs.Streams.{framing}
 use Rattle.raster_rows.specs.Pixels.{pixel_size}
-use Rattle.stream_defs.specs.Damage.{missing_rows}
+use Rattle.stream_defs.specs.Damage.{whole_missing}
 use Rattle.stream_defs.specs.Fates.{geometry_in}
 use Rattle.stream_defs.specs.Output.{output}
-use Rattle.stream_defs.specs.Picture.{picture_octets}
+use Rattle.stream_defs.specs.Picture.{whole_octets}
 use Rattle.stream_defs.specs.Received.{ReceivedIn}
 use Rattle.strip_decoder.specs.declared.decode.DecodeDone.{DecodeDone}
 use Rattle.strip_decoder.specs.declared.decode.DecodeFault.TheVariants as faults
@@ -26,10 +26,11 @@ use Rattle.lent_122.specs.declared.decode.DecodeRefusal.TheVariants.{NoSegment, 
 abbrev pub picture_length : Geometry → ℕ
 picture_length g = g.rows * (g.width * pixel_size g.depth)
 
--- the geometry in these packets
+-- the geometry in these packets, of an image whose height is known
 pub record HasGeometry (apid : ℕ) (packets : List ℕ) (g : Geometry) : Type 0 where
   pub geometry : geometry_in apid packets ≡ Some g
   pub range : IsGeometryInRange g
+  pub height : IsWithin rows_range g.rows
 
 -- ---- a run over a port
 
@@ -54,8 +55,8 @@ pub record IsShown (apid : ℕ) (packets picture : List ℕ) (done : DecodeDone)
   pub rows : done.damage.rows ≡ done.geometry.rows
   pub received : Numbers
   pub received_are : ReceivedIn holds_after apid packets received
-  pub picture_is : picture ≡ picture_octets done.geometry received
-  pub missing : done.damage.missing ≡ missing_rows done.geometry received
+  pub picture_is : picture ≡ whole_octets done.geometry received
+  pub missing : done.damage.missing ≡ whole_missing done.geometry received
 
 -- the room begins with it, and the rest of the room is unchanged
 pub record HasPicture (apid : ℕ) (packets old new : List ℕ) (done : DecodeDone) : Type 0 where
@@ -88,4 +89,4 @@ BringsImage s x new (Err other) = ⊥
 -- the same for each image
 abbrev pub BringsBack : (apid : ℕ) (packets new : List ℕ) → Result DecodeDone DecodeRefusal → Type 0
 BringsBack apid packets new result =
-    (s : Setting) (x : ℕ → ℕ → ℤ) → apid ≡ s.apid → packets ≡ output s x → IsImageFor s x → BringsImage s x new result
+    (s : Setting) (x : ℕ → ℕ → ℤ) → apid ≡ s.apid → packets ≡ output s s.rows x → IsImageFor s x → BringsImage s x new result

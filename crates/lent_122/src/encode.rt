@@ -1,19 +1,19 @@
 // Whole rasters in, packets out.
-ghost use Rattle.std.specs.Prelude.{◌≡◌, length};
+ghost use Rattle.std.specs.Prelude.{◌≡◌, length, Some, MatchResult};
 ghost use Rattle.base_122.specs.Ranges.{IsInRange};
 ghost use Rattle.lent_122.specs.Lent.{outside_of};
-ghost use Rattle.lent_122.specs.Encoding.{HasRun, Encodes, Accepts};
+ghost use Rattle.lent_122.specs.Encoding.{IsAdmitted, first_refused, HasRun, Encodes, Accepts};
 ghost use Rattle.strip_coder.specs.Answers.{TookRaster};
 
 use crate::port::LentPort;
-use base_122::{Field, Setting};
+use base_122::{Field, FieldRange, Setting};
 use std::alloc::Global;
 use strip_coder::{EncodeDone, EncodeFault, Work, encode_rows};
 
 /// Why no packets of a raster are given.
 #[derive(Clone, Copy, Debug, PartialEq, Eq)]
 pub enum EncodeRefusal {
-    /// This is the first field of the setting that is out of range.
+    /// This is the first field of the setting that is out of range. Rows are too if they are 0.
     OutOfRange(Field),
     /// The raster has fewer octets than the setting's width, rows and depth need.
     Short,
@@ -28,7 +28,8 @@ pub enum EncodeRefusal {
 }
 
 /// Encodes a raster, and puts all of its packets at the start of the room; the rest of the room is unchanged, and so is all of it
-/// after a refusal. The causes of the answers exclude each other, so each answer except `Memory` is given exactly if its cause holds.
+/// after a refusal. The causes of the answers exclude each other, so each answer except `Memory` is given exactly if its cause holds. The
+/// image's height has to be known: a setting that leaves its rows open is refused by the name of the rows.
 pub fn encode_whole(
     alloc: Global,
     setting: &Setting,
@@ -36,7 +37,7 @@ pub fn encode_whole(
     room: &mut [u8],
 ) -> Result<EncodeDone, EncodeRefusal>
     ensures encodes { Encodes setting.now raster.now room.old room.new result }
-    ensures accepts { IsInRange setting.now → TookRaster setting.now raster.now → Accepts result }
+    ensures accepts { IsInRange setting.now → TookRaster setting.now setting.now.rows raster.now → Accepts result }
 {
     put_packets(alloc, setting, raster, room)
 }
@@ -51,8 +52,8 @@ fn put_packets(
     ensures { Encodes setting.now raster.now room.old room.new result }
 {
     ten_weights(&setting.weights.shifts);
-    if let Err(out) = setting.check() {
-        return Err(EncodeRefusal::OutOfRange(out.field));
+    if let Err(field) = admit(setting) {
+        return Err(EncodeRefusal::OutOfRange(field));
     }
     let Ok(mut port) = LentPort::new(alloc, raster, room.len()) else {
         return Err(EncodeRefusal::Memory);
@@ -74,13 +75,28 @@ fn put_packets(
     Ok(done)
 }
 
+// Refuses a setting by its first field out of range, and one that leaves its rows open by these.
+fn admit(setting: &Setting) -> Result<(), Field>
+    ensures { MatchResult result
+        (λ _. IsAdmitted setting.now)
+        (λ field. first_refused setting.now ≡ Some field) }
+{
+    if setting.rows == 0 && FieldRange::WIDTH.contains(u64::from(setting.width)) {
+        return Err(Field::Rows);
+    }
+    match setting.check() {
+        Ok(()) => Ok(()),
+        Err(out) => Err(out.field),
+    }
+}
+
 // Encodes the raster that a port has.
 fn encode(
     alloc: Global,
     setting: &Setting,
     port: &mut LentPort,
 ) -> Result<EncodeDone, EncodeRefusal>
-    requires { IsInRange setting.now }
+    requires { IsAdmitted setting.now }
     ensures { HasRun setting.now (outside_of port.old) (outside_of port.new) result }
 {
     let Ok(mut work) = Work::new(alloc, setting) else {

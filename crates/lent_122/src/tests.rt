@@ -1,29 +1,18 @@
+ghost use Rattle.std.specs.Prelude.{◌≡◌};
+
 use crate::{DecodeRefusal, EncodeRefusal, decode_whole, encode_whole};
-use base_122::{Select, Setting, Stop, Weights};
+use base_122::{Field, Setting};
 use std::alloc::Global;
 use std::test::Fail;
 
 // A setting for an image of 17 rows of 24 pixels, of so many bits.
-fn setting(depth: u8) -> Setting {
+fn setting(depth: u8) -> Setting
+    ensures { result.rows ≡ 17 }
+{
     Setting {
-        width: 24,
-        rows: 17,
         depth,
-        signed: false,
         segment: 16,
-        limit: 0,
-        fill: false,
-        word: 1,
-        stop: Stop {
-            dc: false,
-            plane: 0,
-            stage: 3,
-        },
-        weights: Weights::usual(),
-        select: Select::Optimal,
-        apid: 100,
-        image: 0,
-        packet: 1024,
+        ..Setting::usual(24, 17)
     }
 }
 
@@ -78,4 +67,15 @@ fn small_rooms(rt: HostRuntime) -> Result<(), Fail> {
     let geometry = setting(12).geometry();
     assert_eq!(rt; refusal, DecodeRefusal::SmallRoom { geometry });
     Ok(())
+}
+
+// A setting that leaves its rows open is refused by these, and by its width first if that is out of range.
+#[test]
+fn open_rows(rt: HostRuntime) {
+    let alloc = rt.alloc();
+    for (width, field) in [(17, Field::Rows), (16, Field::Width)] {
+        let setting = Setting::usual(width, 0);
+        let ended = encode_whole(alloc, &setting, &[], &mut []);
+        assert_eq!(rt; ended, Err(EncodeRefusal::OutOfRange(field)));
+    }
 }

@@ -104,6 +104,7 @@ fn one_octet_changes_the_fate(rt: HostRuntime) -> Result<(), Fail> {
         (0, 0x00, Fate::Skipped(Skip::NoSecondary)),
         (1, 0x65, Fate::Skipped(Skip::OtherApid)),
         (7, 0x22, Fate::Skipped(Skip::OtherMark)),
+        (7, 0x21, Fate::Foreign),
         (13, 16, Fate::Foreign),
         (17, 15, Fate::Foreign),
         (25, 1, Fate::Foreign),
@@ -120,6 +121,15 @@ fn one_octet_changes_the_fate(rt: HostRuntime) -> Result<(), Fail> {
         expect_fate(&rt, place, octet, bad(field))?;
     }
     Ok(())
+}
+
+// No packet of an image whose height is reported last is of an image that is read.
+#[test]
+fn a_height_reported_last_is_foreign(rt: HostRuntime) -> Result<(), Fail> {
+    let mut packet = changed(7, 0x21);
+    packet[13] = 0;
+    let notes = [told(0, Fate::Foreign), told(1, Fate::Kept)];
+    expect(&rt, &[&packet, &BLACK], 51, &notes, None)
 }
 
 #[test]

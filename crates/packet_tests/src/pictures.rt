@@ -1,9 +1,9 @@
 // Made images, encoded, and the pictures of their packets.
-ghost use Rattle.std.specs.Prelude.{◌≤◌, length};
+ghost use Rattle.std.specs.Prelude.{◌≢◌, ◌≤◌, length};
 ghost use Rattle.base_122.specs.Ranges.{IsInRange};
 
-use crate::examples::port_of;
-use base_122::{DecodeWish, Select, Setting, Stop, Weights};
+use crate::examples::{changed, port_of};
+use base_122::{DecodeWish, Setting};
 use damage_rows::{Damage, RowRange};
 use packet_assembly::Framing;
 use port_122::MemoryPort;
@@ -23,31 +23,16 @@ const WISH: DecodeWish = DecodeWish {
 };
 
 // The usual setting for an image of 8 bits, but for segments of 16 blocks.
-fn usual(width: u32, rows: u32, packet: u32) -> Setting {
+pub fn usual(width: u32, rows: u32, packet: u32) -> Setting {
     Setting {
-        width,
-        rows,
-        depth: 8,
-        signed: false,
         segment: 16,
-        limit: 0,
-        fill: false,
-        word: 1,
-        stop: Stop {
-            dc: false,
-            plane: 0,
-            stage: 3,
-        },
-        weights: Weights::usual(),
-        select: Select::Optimal,
-        apid: 100,
-        image: 0,
         packet,
+        ..Setting::usual(width, rows)
     }
 }
 
 // An image of 3 by 16 blocks in three segments: blocks 0 to 15, 16 to 31 and 32 to 47. Each segment is one packet.
-fn tall() -> Setting {
+pub fn tall() -> Setting {
     usual(17, 128, 65_536)
 }
 
@@ -72,9 +57,9 @@ fn put_row(raster: &mut Vec<u8>, setting: &Setting, row: u32) -> Result<(), Fail
 
 // A raster and its packets.
 #[derive(Drop)]
-struct MadeStream {
-    raster: Vec<u8>,
-    packets: Vec<u8>,
+pub struct MadeStream {
+    pub raster: Vec<u8>,
+    pub packets: Vec<u8>,
 }
 
 // The raster of the made image of a setting.
@@ -90,7 +75,8 @@ fn make_raster(rt: &impl AllocGlobal, setting: &Setting) -> Result<Vec<u8>, Fail
 
 // Encodes the raster that this port has, and answers whether that was done.
 fn encode_port(alloc: Global, setting: &Setting, port: &mut MemoryPort) -> bool
-    requires { IsInRange setting.now }
+    requires in_range { IsInRange setting.now }
+    requires known { setting.now.rows ≢ 0 }
 {
     let Ok(mut work) = Work::new(alloc, setting) else {
         return false;
@@ -102,20 +88,20 @@ fn encode_port(alloc: Global, setting: &Setting, port: &mut MemoryPort) -> bool
 }
 
 // The packets of a raster.
-fn make_packets(
+pub fn make_packets(
     rt: &(impl Abort + AllocGlobal),
     setting: &Setting,
     raster: &[u8],
-) -> Result<Vec<u8>, Fail>
-    requires { IsInRange setting.now }
-{
+) -> Result<Vec<u8>, Fail> {
+    assert_eq!(rt; setting.check(), Ok(()));
+    assert!(rt; setting.rows != 0);
     let mut port = port_of(rt.alloc(), &[raster], &[], 65_536)?;
     assert!(rt; encode_port(rt.alloc(), setting, &mut port));
     Ok(port.given().to_vec(rt.alloc())?)
 }
 
 // The made image of a setting, and its packets.
-fn encode_made(rt: &(impl Abort + AllocGlobal), setting: &Setting) -> Result<MadeStream, Fail> {
+pub fn encode_made(rt: &(impl Abort + AllocGlobal), setting: &Setting) -> Result<MadeStream, Fail> {
     assert_eq!(rt; setting.check(), Ok(()));
     let raster = make_raster(rt, setting)?;
     let packets = make_packets(rt, setting, &raster)?;
@@ -123,7 +109,7 @@ fn encode_made(rt: &(impl Abort + AllocGlobal), setting: &Setting) -> Result<Mad
 }
 
 // Where the first packet of a stream ends.
-fn packet_end(rt: &impl Abort, octets: &[u8]) -> usize
+pub fn packet_end(rt: &impl Abort, octets: &[u8]) -> usize
     ensures { result ≤ length octets.now }
 {
     assert!(rt; octets.len() >= 6);
@@ -227,6 +213,7 @@ fn expect_done(
 ) {
     match answer {
         Ok(done) => {
+            assert!(rt; setting.rows != 0);
             assert_eq!(rt; done.geometry, setting.geometry());
             assert_eq!(rt; done.framing, framing);
             expect_damage(rt, &done.damage, damaged);
@@ -236,7 +223,7 @@ fn expect_done(
 }
 
 // The input has a picture of this setting's geometry, in which just these rows are damaged; the others are those of the raster.
-fn expect_picture(
+pub fn expect_picture(
     rt: &(impl Abort + AllocGlobal),
     setting: &Setting,
     raster: &[u8],
@@ -247,6 +234,17 @@ fn expect_picture(
     let outcome = decoded(rt, &WISH, input, &[], 100)?;
     expect_rows(rt, setting.width, raster, outcome.port.given(), damaged);
     expect_done(rt, setting, &outcome.answer, damaged, framing);
+    Ok(())
+}
+
+// The input has a picture of this setting's geometry, in which no row is damaged.
+pub fn expect_whole(
+    rt: &(impl Abort + AllocGlobal),
+    setting: &Setting,
+    input: &[u8],
+) -> Result<(), Fail> {
+    let outcome = decoded(rt, &WISH, input, &[], 100)?;
+    expect_done(rt, setting, &outcome.answer, None, None);
     Ok(())
 }
 
@@ -371,6 +369,13 @@ fn no_picture_without_a_segment_or_of_too_many_pixels(rt: HostRuntime) -> Result
     wish.pixels = 2_176;
     assert!(rt; is_decoded(&rt, &wish, &made.packets)?);
     Ok(())
+}
+
+#[test]
+fn no_segment_of_an_image_whose_height_is_reported_last(rt: HostRuntime) -> Result<(), Fail> {
+    let mut packet = changed(7, 0x21);
+    packet[13] = 0;
+    expect_fault(&rt, &WISH, &packet, DecodeFault::NoSegment)
 }
 
 // The decoder took this number of octets, and stopped there.

@@ -1,7 +1,7 @@
 -- The report on an encoding. This project's own.
 use Rattle.std.specs.Prelude.{◌≡◌, ◌⊎◌, ℕ, pos, List, Result, Ok, Err}
 use Rattle.base_122.specs.declared.field.Field.{Field}
-use Rattle.base_122.specs.declared.field.Field.TheVariants.{Width, Rows, Depth, Segment, Limit, Fill, Word, Stop, Weights, Apid, Image, Packet, Pixels, Octets}
+use Rattle.base_122.specs.declared.field.Field.TheVariants.{Width, Rows, Depth, Segment, Limit, Fill, Word, Stop, Weights, Apid, Image, Packet, Pixels, Octets, Total, Cameras}
 use Rattle.base_122.specs.declared.setting.Setting.{Setting}
 use Rattle.strip_coder.specs.declared.encode.EncodeDone.{EncodeDone}
 use Rattle.lent_122.specs.declared.encode.EncodeRefusal.{EncodeRefusal}
@@ -9,7 +9,7 @@ use Rattle.lent_122.specs.declared.encode.EncodeRefusal.TheVariants.{OutOfRange,
 use Rattle.lent_122.specs.Encoding.{Encodes}
 use Rattle.strip122_c.specs.declared.encoded.Strip122Encoded.{Strip122Encoded}
 
--- the fields of a setting from 1 on, in the order in which they are tested; a setting has neither of the last two
+-- the fields from 1 on, in the order of `Field`; a setting as C has it has none of the last four
 abbrev pub field_number : Field → ℕ
 field_number Width = 1
 field_number Rows = 2
@@ -25,6 +25,8 @@ field_number Image = 11
 field_number Packet = 12
 field_number Pixels = 13
 field_number Octets = 14
+field_number Total = 15
+field_number Cameras = 16
 
 abbrev pub nothing : Strip122Encoded
 nothing = record { octets = 0; packets = 0; segments = 0; field = 0; row = 0; column = 0; value = pos 0 }

@@ -1,5 +1,5 @@
 -- Ranges of damaged rows for C. This project's own.
-use Rattle.std.specs.Prelude.{ℕ, List, [], ◌++◌, length, map, take, drop, Result, Ok, Err}
+use Rattle.std.specs.Prelude.{List, [], ◌++◌, length, map, take, drop, Result, Ok, Err}
 use Rattle.stream_defs.specs.declared.range.RowRange.{RowRange}
 use Rattle.stream_defs.specs.Damage.{ranges}
 use Rattle.stream_defs.specs.Marks.{Marks}

@@ -28,4 +28,5 @@ setting_of c = record {
   apid = c.apid;
   image = c.image;
   packet = c.packet;
+  total = 0;
 }

@@ -40,7 +40,7 @@ pub extern "C" fn strip122_encode(
     encoded: &mut Strip122Encoded,
 ) -> u32
     ensures reports { ReportsEncoding (setting_of setting.now) raster.now room.old room.new encoded.new result }
-    ensures accepts { IsInRange (setting_of setting.now) → TookRaster (setting_of setting.now) raster.now → IsAccepted result }
+    ensures accepts { IsInRange (setting_of setting.now) → TookRaster (setting_of setting.now) (setting_of setting.now).rows raster.now → IsAccepted result }
 {
     let ended = encode_whole(alloc, &setting::setting_of(setting), raster, room);
     *encoded = encoded::report_of(&ended);

@@ -26,7 +26,7 @@ pub struct Strip122Setting {
     pub weights: [u8; 10],
 }
 
-/// The setting of an encoder.
+/// The setting of an encoder, without a total.
 pub fn setting_of(setting: &Strip122Setting) -> Setting
     ensures { result ≡ setting_of setting.now }
 {
@@ -53,6 +53,7 @@ pub fn setting_of(setting: &Strip122Setting) -> Setting
         apid: setting.apid,
         image: setting.image,
         packet: setting.packet,
+        total: 0,
     }
 }
 

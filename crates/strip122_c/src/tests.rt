@@ -68,6 +68,9 @@ fn rasters(rt: HostRuntime) {
     expect(&rt, alloc, 8, &raster, &mut room, 4);
     expect(&rt, alloc, 6, &raster[..408], &mut room, 5);
     expect(&rt, alloc, 8, &raster[..408], &mut room[..3], 7);
+    // Rows that are left open are refused by their number in the order of fields.
+    let (answer, report) = encode(alloc, &setting(0, 8), &[], &mut room);
+    assert_eq!(rt; (answer, report.field), (2, 2));
 }
 
 const NO_RANGE: Strip122Range = Strip122Range { first: 9, last: 9 };

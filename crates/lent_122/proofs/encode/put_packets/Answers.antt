@@ -1,24 +1,21 @@
-use Rattle.std.proofs.Common.{rules, ◌≡◌, ◌∙◌, ◌++◌, drop, refl, sym, ap}
+use Rattle.std.proofs.Common.{rules, ◌≡◌, ◌∙◌, ◌++◌, drop, ap}
 use Rattle.port_122.specs.Outside.{Outside}
-use Rattle.base_122.specs.Ranges.{IsInRange, first_out_of_range}
 use Rattle.lent_122.specs.Lent.{outside_of}
-use Rattle.lent_122.proofs.Encoded.{field_named, has_encoded, refused}
+use Rattle.lent_122.specs.Encoding.{IsAdmitted}
+use Rattle.lent_122.proofs.Encoded.{has_encoded, refused}
 use Rattle.lent_122.proofs.encode.put_packets.Goals as goal
-
-pub returns-in-Err : goal.returns-in-Err
-returns-in-Err c = (refl, field_named (first_out_of_range c.args.setting.now) c.in-Err.out (sym c.in-Err.ensures.first))
 
 pub returns-in-Err-encode : goal.returns-in-Err-encode
 returns-in-Err-encode c =
-    let range : IsInRange c.args.setting.now = search rules in
-    refused c.args.setting.now c.args.raster.now c.args.room.now (outside_of c.in-Ok.port) (outside_of c.encode.new.port) c.in-Err-encode.refusal range
+    let admits : IsAdmitted c.args.setting.now = search rules in
+    refused c.args.setting.now c.args.raster.now c.args.room.now (outside_of c.in-Ok.port) (outside_of c.encode.new.port) c.in-Err-encode.refusal admits
     (ap (λ (o : Outside). o.rest) c.in-Ok.ensures.outside) c.in-Err-encode.ensures
 
 pub returns : goal.returns
 returns c =
-    let range : IsInRange c.args.setting.now = search rules in
+    let admits : IsAdmitted c.args.setting.now = search rules in
     let copied : c.copy_from_slice.new.self ≡ c.in-Some.packets.now = search rules in
-    let has = has_encoded c.args.setting.now c.args.raster.now (outside_of c.in-Ok.port) (outside_of c.encode.new.port) c.in-Ok-encode.done range c.ten_weights.ensures
+    let has = has_encoded c.args.setting.now c.args.raster.now (outside_of c.in-Ok.port) (outside_of c.encode.new.port) c.in-Ok-encode.done admits c.ten_weights.ensures
     (ap (λ (o : Outside). o.rest) c.in-Ok.ensures.outside) (ap (λ (o : Outside). o.given) c.in-Ok.ensures.outside) c.in-Ok-encode.ensures in
     record {
       took = has.took;
