@@ -41,7 +41,7 @@ def settings(chance):
     words += [f"word={chance.randint(1, 4)}", f"select={chance.choice(['optimal', 'heuristic'])}"]
     if chance.random() < 0.3:
         words.append("weights=" + "".join(chance.choice("0123") for _ in range(10)))
-    ends = chance.choice([[], [], ["limit=480"], ["limit=960", "fill=1"], ["stop=dc"], [f"stop={chance.randint(0, 9)}.{chance.randint(0, 3)}"]])
+    ends = chance.choice([[], [], ["limit=480"], ["limit=960", "fill=1"], ["total=20000"], ["total=60000", "fill=1"], ["stop=dc"], [f"stop={chance.randint(0, 9)}.{chance.randint(0, 3)}"]])
     return words + ends, not ends
 
 
