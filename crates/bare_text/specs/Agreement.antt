@@ -2,6 +2,8 @@
 use Rattle.std.specs.Prelude.{ℕ, ◌+◌, ◌-◌, ◌*◌, ◌/◌, ◌%◌, ◌==◌, ◌&&◌, ◌||◌, Bool, not, nat_lt, nat_le, if◌then◌else◌, List, [], ◌∷◌, Option}
 use Rattle.std.specs.Str.{bytes_eq}
 use mathlib.Core.Bool.{beq}
+use Rattle.base_122.specs.Ranges.{is_within, rows_range}
+use Rattle.base_122.specs.Sizes.{block_count}
 use Rattle.segment_defs.specs.declared.head.SegmentHead.{SegmentHead}
 use Rattle.segment_defs.specs.declared.head.ImagePart.{ImagePart}
 use Rattle.segment_defs.specs.declared.fault.HeadFault.{HeadFault}
@@ -11,7 +13,7 @@ use Rattle.segment_defs.specs.Reading.{refused_where}
 
 -- blocks in a row of blocks: the width is padded to a multiple of 8
 abbrev pub columns : SegmentHead → ℕ
-columns first = (first.image.width + 7) / 8
+columns first = block_count first.image.width
 
 -- blocks before the segment of this index: each segment before has those of the first
 abbrev pub blocks_before : SegmentHead → ℕ → ℕ
@@ -34,7 +36,7 @@ height_at first index h = 8 * ((blocks_before first index + h.blocks) / columns 
 abbrev pub last_agrees : SegmentHead → ℕ → SegmentHead → Bool
 last_agrees first index h =
     if h.last
-    then ((blocks_before first index + h.blocks) % columns first == 0) && (nat_le 17 (height_at first index h) && nat_le (height_at first index h) 262144)
+    then ((blocks_before first index + h.blocks) % columns first == 0) && is_within rows_range (height_at first index h)
     else nat_lt (blocks_before first index + first.blocks) (32768 * columns first)
 
 -- the count is the index modulo 256
