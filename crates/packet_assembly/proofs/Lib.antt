@@ -13,6 +13,12 @@ pub mod Filling
 pub mod Giving
 pub mod TailParts
 pub mod Ranges
+pub mod Agreed
+pub mod OwnPackets
+pub mod Begun
+pub mod Ends
+pub mod Images
+pub mod ReachedRows
 pub mod Framings
 pub mod Ready
 pub mod Readings

@@ -1,5 +1,5 @@
 -- A geometry that stands is in range.
-use Rattle.std.proofs.Common.{◌≡◌, inr, ◌≤◌, ◌+◌, ◌*◌, ◌%◌, ℕ, List, [], ◌∷◌, refl, sym, subst, arith}
+use Rattle.std.proofs.Common.{◌≡◌, ◌⊎◌, inl, inr, ◌≤◌, ◌+◌, ◌*◌, ◌%◌, ℕ, List, [], ◌∷◌, refl, sym, subst, arith}
 use Rattle.std.specs.Prelude.{Bool, true, false, not, ◌&&◌, ◌||◌, ◌==◌, nat_lt, if◌then◌else◌, Option, Some, None, Result, Ok, Err, IfSome}
 use Rattle.std.proofs.lemmas.Bool.{false≢true, and_parts}
 use Rattle.std.proofs.lemmas.Bool.Decides.{nat_tests}
@@ -19,12 +19,12 @@ use Rattle.std.specs.Option.{option_map}
 use Rattle.stream_defs.specs.declared.fate.FateState.{FateState}
 use Rattle.stream_defs.specs.declared.fate.Fate.TheVariants.{Foreign, Late, OutOfPlace, BadHead}
 use Rattle.stream_defs.specs.Agreement.{geometry_told, geometry_for, same_flag, is_of_image, head_refusal, has_blocks, pads_as_told, may_have_blocks, ends_where_told, told_height, may_end, disagreement, geometry_past}
-use Rattle.stream_defs.specs.Fates.{reads, tells_rows, differs, is_foreign, is_late, is_out_of_place}
+use Rattle.stream_defs.specs.Fates.{tells_rows, differs, is_foreign, is_late, is_out_of_place}
 use Rattle.packet_assembly.specs.Classification.{unkept, refusal_told, ok_of, head_told, classified, past_kept}
 use Rattle.packet_assembly.specs.Ranged.{IsRanged, TellsHeight}
 use Rattle.packet_assembly.proofs.FateSteps.{classified_ok}
 
-within_from : (range : FieldRange) (n : ℕ) → is_within range n ≡ true → IsWithin range n
+pub within_from : (range : FieldRange) (n : ℕ) → is_within range n ≡ true → IsWithin range n
 within_from range n e =
     let low : range.least ≤ n = grind (arith, nat_tests) in
     let high : n ≤ range.most = grind (arith, nat_tests) in
@@ -35,12 +35,12 @@ both_true true true c e = (refl, refl)
 both_true true false c e = absurd (false≢true (sym e))
 both_true false b c e = absurd (false≢true (sym e))
 
-rows_from : (told_last : Bool) (rows : ℕ) → (reads told_last && (if told_last then rows == 0 else is_within rows_range rows)) ≡ true → IsWithin rows_range rows
-rows_from true rows e = absurd (false≢true e)
-rows_from false rows e = within_from rows_range rows e
+rows_from : (told_last : Bool) (rows : ℕ) → (if told_last then rows == 0 else is_within rows_range rows) ≡ true → (rows ≡ 0) ⊎ IsWithin rows_range rows
+rows_from true rows e = inl (grind (arith, nat_tests))
+rows_from false rows e = inr (within_from rows_range rows e)
 
 -- the sizes in a packet that isn't foreign
-own_sizes : (s : FateState) (a : Ancillary) → is_foreign s a ≡ false → IsWithin rows_range a.rows × IsWithin segment_range a.segment
+own_sizes : (s : FateState) (a : Ancillary) → is_foreign s a ≡ false → ((a.rows ≡ 0) ⊎ IsWithin rows_range a.rows) × IsWithin segment_range a.segment
 own_sizes s a e =
     let t = both_true (tells_rows a) (is_within segment_range a.segment) (not (a.first == a.index * a.segment) || differs s.geometry s.told_last a) e in
     (rows_from a.told_last a.rows t.0, within_from segment_range a.segment t.1)
@@ -51,23 +51,21 @@ own_by false c d o e = refl
 
 -- a geometry that is made of a packet that is kept
 made_ranged : (s : FateState) (flags : ℕ) (a : Ancillary) (text : List ℕ) (head : SegmentHead) → classified s flags a text ≡ Ok (Some head) → IsHead head → a.image ≤ 65535 →
-    IsGeometryInRange (geometry_told a head.image) × IsWithin rows_range a.rows
+    IsGeometryInRange (geometry_told a head.image)
 made_ranged s flags a text head e fits image =
     let x = classified_ok (unkept s flags a text) (head_told a text) (Some head) e in
     let own = own_sizes s a (own_by (is_foreign s a) (is_late s.last a) (is_out_of_place s.last flags a) (refusal_told s.geometry a text) x.0) in
     let part = fits.image in
-    let width = part.width in (
-      record {
-        width = (width.0, omega (arith, width.1));
-        rows = inr own.0;
-        depth = part.depth;
-        segment = own.1;
-        image = (omega arith, image);
-        word = part.word;
-        weights = part.weights;
-      },
-      own.0,
-    )
+    let width = part.width in
+    record {
+      width = (width.0, omega (arith, width.1));
+      rows = own.0;
+      depth = part.depth;
+      segment = own.1;
+      image = (omega arith, image);
+      word = part.word;
+      weights = part.weights;
+    }
 
 -- ---- the height that a last head tells
 
@@ -117,33 +115,27 @@ pub heights_told : (s : FateState) (flags : ℕ) (a : Ancillary) (text : List �
 heights_told s flags a text None e = tt
 heights_told s flags a text (Some head) e = height_told s flags a text head e
 
--- a geometry in range whose height is known
-abbrev IsKnown : Geometry → Type 0
-IsKnown g = IsGeometryInRange g × IsWithin rows_range g.rows
-
 -- with such a height a geometry in range is in range
-past_ranged : (told last : Bool) (g : Geometry) (rows : ℕ) → IsKnown g → ((told && last) ≡ true → IsWithin rows_range rows) → IsKnown (if told && last then record g { rows = rows } else g)
-past_ranged true true g rows known height =
-    let r = known.0 in
-    (record { width = r.width; rows = inr (height refl); depth = r.depth; segment = r.segment; image = r.image; word = r.word; weights = r.weights }, height refl)
-past_ranged true false g rows known height = known
-past_ranged false last g rows known height = known
+past_ranged : (told last : Bool) (g : Geometry) (rows : ℕ) → IsGeometryInRange g → ((told && last) ≡ true → IsWithin rows_range rows) → IsGeometryInRange (if told && last then record g { rows = rows } else g)
+past_ranged true true g rows r height = record { width = r.width; rows = inr (height refl); depth = r.depth; segment = r.segment; image = r.image; word = r.word; weights = r.weights }
+past_ranged true false g rows r height = r
+past_ranged false last g rows r height = r
 
 -- so it is after a packet that is kept
 pub ranged_past : (s : FateState) (flags : ℕ) (a : Ancillary) (text : List ℕ) (found : Option SegmentHead) → classified s flags a text ≡ Ok found → IfSome found IsHead → a.image ≤ 65535 →
     IsRanged s → IsRanged (past_kept s flags a found)
-ranged_past s flags a text found e fits image r = record { geometry = λ g made. (by found e fits g made).0; height = λ g made. (by found e fits g made).1 }
+ranged_past s flags a text found e fits image r = record { geometry = by found e fits }
   where
     by_standing : (standing : Option Geometry) (head : SegmentHead) → s.geometry ≡ standing → classified s flags a text ≡ Ok (Some head) → IsHead head →
-        IsKnown (geometry_for standing a head.image)
+        IsGeometryInRange (geometry_for standing a head.image)
     by_standing None head is e fits = made_ranged s flags a text head e fits image
-    by_standing (Some other) head is e fits = (r.geometry other is, r.height other is)
+    by_standing (Some other) head is e fits = r.geometry other is
 
-    past : (head : SegmentHead) → classified s flags a text ≡ Ok (Some head) → IsHead head → IsKnown (geometry_past (geometry_for s.geometry a head.image) a head)
+    past : (head : SegmentHead) → classified s flags a text ≡ Ok (Some head) → IsHead head → IsGeometryInRange (geometry_past (geometry_for s.geometry a head.image) a head)
     past head e fits =
         let g = geometry_for s.geometry a head.image in
         past_ranged a.told_last head.last g (told_height g a head) (by_standing s.geometry head refl e fits) (height_told s flags a text head e)
 
-    by : (found : Option SegmentHead) → classified s flags a text ≡ Ok found → IfSome found IsHead → (g : Geometry) → (past_kept s flags a found).geometry ≡ Some g → IsKnown g
-    by None e fits g made = (r.geometry g made, r.height g made)
-    by (Some head) e fits g made = let same : geometry_past (geometry_for s.geometry a head.image) a head ≡ g = cc in subst IsKnown same (past head e fits)
+    by : (found : Option SegmentHead) → classified s flags a text ≡ Ok found → IfSome found IsHead → (g : Geometry) → (past_kept s flags a found).geometry ≡ Some g → IsGeometryInRange g
+    by None e fits g made = r.geometry g made
+    by (Some head) e fits g made = let same : geometry_past (geometry_for s.geometry a head.image) a head ≡ g = cc in subst IsGeometryInRange same (past head e fits)

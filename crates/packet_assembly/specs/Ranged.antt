@@ -7,11 +7,9 @@ use Rattle.packet_defs.specs.declared.ancillary.Ancillary.{Ancillary}
 use Rattle.stream_defs.specs.declared.fate.FateState.{FateState}
 use Rattle.stream_defs.specs.Agreement.{geometry_for, told_height}
 
--- The geometry of this state, if there is one, is in range. Its height is known, since packets whose image reports its height last are
--- not read.
+-- the geometry of this state, if there is one, is in range
 pub record IsRanged (s : FateState) : Type 0 where
   pub geometry : (g : Geometry) → s.geometry ≡ Some g → IsGeometryInRange g
-  pub height : (g : Geometry) → s.geometry ≡ Some g → IsWithin rows_range g.rows
 
 -- a height that a last header reports is in range
 abbrev pub TellsHeight : FateState → Ancillary → SegmentHead → Type 0

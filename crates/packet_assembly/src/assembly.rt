@@ -55,7 +55,7 @@ impl Assembly {
     ghost use Rattle.packet_assembly.specs.Segments.{FindsSegment};
     ghost use Rattle.packet_assembly.specs.TextSource.{text_ready};
     ghost use Rattle.packet_assembly.specs.Texts.{TakesOctet, FillsText};
-    ghost use Rattle.base_122.specs.Ranges.{IsGeometryInRange, IsWithin, rows_range};
+    ghost use Rattle.base_122.specs.Ranges.{IsGeometryInRange};
 
     /// Returns an assembly for the packets with an APID, of at most `octets` octets. It takes the memory of a `PacketReader`, and
     /// no call takes more.
@@ -78,11 +78,11 @@ impl Assembly {
         })
     }
 
-    /// Returns the geometry of the image, from its first kept packet on. Each of its fields is in range.
+    /// Returns the geometry of the image, from its first kept packet on. Each of its fields is in range; its rows are 0 while the
+    /// height isn't reported.
     pub fn geometry(&self) -> Option<Geometry>
         ensures standing { result ≡ self.now.state.geometry }
         ensures in_range { IfSome result IsGeometryInRange }
-        ensures height { IfSome result (λ g. IsWithin rows_range g.rows) }
     {
         self.state.geometry
     }
@@ -93,6 +93,13 @@ impl Assembly {
         ensures met { IfSome result (StandsAtFault self.now.apid self.now.intake) }
     {
         self.framing
+    }
+
+    /// Returns the start of the segment whose first packet ended the text before it, until `next_segment` returns it.
+    pub fn held(&self) -> Option<SegmentStart>
+        ensures { result ≡ self.now.held }
+    {
+        self.held
     }
 
     /// Returns whether the octets that were taken hold the whole next packet. Then `next_packet` returns its fate and reads

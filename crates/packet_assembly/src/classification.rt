@@ -112,11 +112,14 @@ fn is_foreign(state: &FateState, ancillary: &Ancillary) -> bool
     }
 }
 
-// Returns whether the rows are those of an image. A packet of an image that reports its height last is not read yet.
+// Returns whether the rows are those of an image, or 0 if its height is reported last.
 fn tells_rows(ancillary: &Ancillary) -> bool
     ensures { result ≡ tells_rows ancillary.now }
 {
-    !ancillary.told_last && FieldRange::ROWS.contains(u64::from(ancillary.rows))
+    if ancillary.told_last {
+        return ancillary.rows == 0;
+    }
+    FieldRange::ROWS.contains(u64::from(ancillary.rows))
 }
 
 // Returns whether the packet is one of another image than this, or has a block past its last.

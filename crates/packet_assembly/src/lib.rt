@@ -7,6 +7,8 @@ mod assembly;
 mod classification;
 mod laws;
 mod note;
+#[cfg(test)]
+mod tests;
 mod text;
 
 pub use assembly::Assembly;

@@ -11,7 +11,7 @@ use Rattle.stream_defs.specs.declared.fate.Fate.TheVariants.{Kept, OutOfPlace}
 use Rattle.stream_defs.specs.declared.fate.LastPart.{LastPart}
 use Rattle.stream_defs.specs.declared.fate.FateState.{FateState}
 use Rattle.stream_defs.specs.Output.{segments_of}
-use Rattle.stream_defs.specs.Fates.{fresh, fate, is_kept, follows, after, after_all, kept, reads}
+use Rattle.stream_defs.specs.Fates.{fresh, fate, is_kept, follows, after, after_all, kept}
 use Rattle.stream_defs.specs.Places.{parts_of, packet_at, place_at, AreCoded}
 use Rattle.stream_defs.specs.Chosen.{IsRising, IsChoice, chosen, run}
 use Rattle.stream_defs.specs.StreamLaws.{geometry_by, IsLastBegun}
@@ -78,7 +78,7 @@ far_index last index part told_last s far = let e : (index == last.index) ≡ fa
 
 -- ---- one segment
 
-module _ (told_last : Bool) (s : Setting) (all : List (List ℤ)) (coded : AreCoded s all) (read : reads told_last ≡ true) (index : ℕ) (lt : index < segments_of s) where
+module _ (told_last : Bool) (s : Setting) (all : List (List ℤ)) (coded : AreCoded s all) (index : ℕ) (lt : index < segments_of s) where
   -- the state after part k
   abbrev after_part : ℕ → FateState
   after_part k = state_by told_last s (place_at s all index k)
@@ -98,7 +98,7 @@ module _ (told_last : Bool) (s : Setting) (all : List (List ℤ)) (coded : AreCo
       let few = rising.1 in
       let here = gap k (omega (arith, low)) in
       let fate_is : fate s.apid st (packet_at told_last s all index (suc k)) ≡ OutOfPlace =
-      subst (λ m. fate s.apid st (packet_at told_last s all index m) ≡ OutOfPlace) e (gap_not_kept told_last s all coded read st index k lt (omega (arith, few)) here.0 here.1) in
+      subst (λ m. fate s.apid st (packet_at told_last s all index m) ≡ OutOfPlace) e (gap_not_kept told_last s all coded st index k lt (omega (arith, few)) here.0 here.1) in
       let dropped = kept_is s.apid st (packet_at told_last s all index (suc k)) fate_is in
       let same : after s.apid st (packet_at told_last s all index (suc k)) ≡ st = after_as_other s.apid st (packet_at told_last s all index (suc k)) dropped in
       let rest = gap_drops st (suc k + 1) ks (omega arith) rising.2 (λ j later. gap j (omega (arith, later, low))) in (
@@ -115,9 +115,9 @@ module _ (told_last : Bool) (s : Setting) (all : List (List ℤ)) (coded : AreCo
   unfolding GoesOnTo
   takes_next k ks few rest =
       let packet = packet_at told_last s all index (k + 1) in
-      let leaves = next_leaves told_last s all coded read index k lt few in
+      let leaves = next_leaves told_last s all coded index k lt few in
       let here : (k + 1 == k + 1) ≡ true = equal (k + 1) (k + 1) refl in (
-        kept_more s.apid (after_part k) packet (map (packet_at told_last s all index) ks) (next_kept told_last s all coded read index k lt few)
+        kept_more s.apid (after_part k) packet (map (packet_at told_last s all index) ks) (next_kept told_last s all coded index k lt few)
             ∙ ap (λ t. packet ∷ kept s.apid t (map (packet_at told_last s all index) ks)) leaves
             ∙ ap (λ ps. packet ∷ ps) rest.0
             ∙ ap (λ b. map (packet_at told_last s all index) (if b then (k + 1) ∷ run (k + 1 + 1) ks else [])) (sym here),
@@ -167,7 +167,7 @@ module _ (told_last : Bool) (s : Setting) (all : List (List ℤ)) (coded : AreCo
   unfolding GoesOnTo
   segment_touched st ks left rising =
       let rest = goes_on 0 ks rising.1 rising.2 in
-      (place_at s all index rest.1.0, refl, ap (λ t. after_all s.apid t (map (packet_at told_last s all index) ks)) (first_leaves told_last s all coded read st index lt rising.1 left) ∙ rest.1.2)
+      (place_at s all index rest.1.0, refl, ap (λ t. after_all s.apid t (map (packet_at told_last s all index) ks)) (first_leaves told_last s all coded st index lt rising.1 left) ∙ rest.1.2)
 
   -- where it doesn't, all stays as it was
   pub segment_passed : (st : FateState) (k : ℕ) (ks : List ℕ) → LeftBefore told_last s index 0 st → IsRising 0 (parts_of s all index) (suc k ∷ ks) →
@@ -183,9 +183,9 @@ module _ (told_last : Bool) (s : Setting) (all : List (List ℤ)) (coded : AreCo
   segment_kept st (zero ∷ ks) left rising =
       let packet = packet_at told_last s all index 0 in
       let some = rising.1 in
-      let leaves = first_leaves told_last s all coded read st index lt some left in
+      let leaves = first_leaves told_last s all coded st index lt some left in
       let rest = goes_on 0 ks some rising.2 in (
-        kept_more s.apid st packet (map (packet_at told_last s all index) ks) (first_kept told_last s all coded read st index lt some left)
+        kept_more s.apid st packet (map (packet_at told_last s all index) ks) (first_kept told_last s all coded st index lt some left)
             ∙ ap (λ t. packet ∷ kept s.apid t (map (packet_at told_last s all index) ks)) leaves ∙ ap (λ ps. packet ∷ ps) rest.0,
         inr (place_at s all index rest.1.0, ap (λ t. after_all s.apid t (map (packet_at told_last s all index) ks)) leaves ∙ rest.1.2, inl (omega arith)),
       )
@@ -205,7 +205,7 @@ pub record LastBegun (parts : ℕ → List ℕ) (n : ℕ) (last : LastPart) : Ty
   pub few : last.index < n
   pub none_after : (later : ℕ) → last.index < later → later < n → (rest : List ℕ) → parts later ≡ 0 ∷ rest → ⊥
 
-module _ (told_last : Bool) (s : Setting) (all : List (List ℤ)) (coded : AreCoded s all) (read : reads told_last ≡ true) (parts : ℕ → List ℕ) (choice : IsChoice s all parts) where
+module _ (told_last : Bool) (s : Setting) (all : List (List ℤ)) (coded : AreCoded s all) (parts : ℕ → List ℕ) (choice : IsChoice s all parts) where
   chosen_none : (p : ℕ → List ℕ) → chosen told_last s all p 0 ≡ []
   unfolding chosen
   chosen_none p = refl
@@ -229,7 +229,7 @@ module _ (told_last : Bool) (s : Setting) (all : List (List ℤ)) (coded : AreCo
       let rest = chosen_kept n (omega (arith, few)) in
       let lt : n < segments_of s = omega (arith, few) in
       let st = after_all s.apid fresh (chosen told_last s all parts n) in
-      let here = segment_kept told_last s all coded read n lt st (parts n) rest.1 (choice.each n lt) in
+      let here = segment_kept told_last s all coded n lt st (parts n) rest.1 (choice.each n lt) in
       let first : kept s.apid fresh (chosen told_last s all parts (n + 1)) ≡ chosen told_last s all (λ index. run 0 (parts index)) (n + 1) =
       ap (kept s.apid fresh) (chosen_more parts n) ∙ kept-append s.apid fresh (chosen told_last s all parts n) (map (packet_at told_last s all n) (parts n))
       ∙ ap (λ zs. zs ++ kept s.apid st (map (packet_at told_last s all n) (parts n))) rest.0 ∙ ap (λ zs. chosen told_last s all (λ index. run 0 (parts index)) n ++ zs) here.0
@@ -280,7 +280,7 @@ module _ (told_last : Bool) (s : Setting) (all : List (List ℤ)) (coded : AreCo
       subst (LeftBy (n + 1)) (sym (ap (λ ks. after_all s.apid st (map (packet_at told_last s all n) ks)) is))
       (still_left n st (λ rest f. let g : [] ≡ 0 ∷ rest = sym is ∙ f in cc) before)
   by_parts n lt st left before (zero ∷ ks) is rising =
-      let here = segment_touched told_last s all coded read n lt st ks left (subst (IsRising 0 (parts_of s all n)) is rising) in
+      let here = segment_touched told_last s all coded n lt st ks left (subst (IsRising 0 (parts_of s all n)) is rising) in
       let at = here.1 in
       inr (
         here.0,
@@ -294,7 +294,7 @@ module _ (told_last : Bool) (s : Setting) (all : List (List ℤ)) (coded : AreCo
       )
   by_parts n lt st left before (suc k ∷ ks) is rising =
       subst (LeftBy (n + 1))
-      (sym (ap (λ ks. after_all s.apid st (map (packet_at told_last s all n) ks)) is ∙ segment_passed told_last s all coded read n lt st k ks left (subst (IsRising 0 (parts_of s all n)) is rising)))
+      (sym (ap (λ ks. after_all s.apid st (map (packet_at told_last s all n) ks)) is ∙ segment_passed told_last s all coded n lt st k ks left (subst (IsRising 0 (parts_of s all n)) is rising)))
       (still_left n st (λ rest f. let g : suc k ∷ ks ≡ 0 ∷ rest = sym is ∙ f in cc) before)
 
   left_by : (n : ℕ) → n ≤ segments_of s → LeftBy n (after_all s.apid fresh (chosen told_last s all parts n))

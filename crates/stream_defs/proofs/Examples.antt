@@ -18,7 +18,7 @@ use Rattle.stream_defs.specs.declared.fate.Fate.{Fate}
 use Rattle.stream_defs.specs.declared.fate.Fate.TheVariants.{Kept, Skipped, Foreign, Late, OutOfPlace, BadHead}
 use Rattle.stream_defs.specs.Output.{segments_of, share}
 use Rattle.stream_defs.specs.Agreement.{disagreement}
-use Rattle.stream_defs.specs.Fates.{fresh, refusal_in, geometry_after, fate, after, fates}
+use Rattle.stream_defs.specs.Fates.{fresh, fate, after, fates}
 use Rattle.stream_defs.specs.Damage.{ranges}
 
 -- the packet of the only segment of a black image of 17 by 17 pixels of 8 bits
@@ -61,19 +61,18 @@ refusals : map alone (
 unfolding alone fate skip_of head_read presence_tests support_tests depth_tests value_tests number_in disagreement value_of bits_of_octets bits_of
 refusals = refl
 
--- The same image with its height reported last: its only head reports it. Its packet is not read yet.
+-- the same image with its height reported last: its only head reports it
 told_last : (blocks pads : ℕ) → List ℕ
 told_last blocks pads =
     (0x08 ∷ 0x64 ∷ 0xC0 ∷ 0 ∷ 0 ∷ 0x2D ∷ []) ++ (0x12 ∷ 0x21 ∷ drop 2 (ancillary 0 0 0) ++ text 0xC0 0x02 pads blocks)
 
 -- The rows that pad are not tested, but the height has to be in range. A packet with this mark has no rows in its ancillary data.
-height_told : (fates 100 fresh (told_last 0x9C 0xE0 ∷ black ∷ []) ≡ Foreign ∷ Kept ∷ [])
-    × (map (λ packet. option_map (λ (g : Geometry). g.rows) (geometry_after None packet)) (told_last 0x9C 0xE0 ∷ told_last 0x9C 0xC0 ∷ []) ≡ Some 17 ∷ Some 18 ∷ [])
-    × (refusal_in None (told_last 0x8C 0xE0) ≡ Some (BadValue fields.Last))
-    × (refusal_in None (told_last 0x9C 0xE0) ≡ None)
+height_told : (fates 100 fresh (told_last 0x9C 0xE0 ∷ black ∷ []) ≡ Kept ∷ Foreign ∷ [])
+    × (map (λ packet. option_map (λ (g : Geometry). g.rows) (after 100 fresh packet).geometry) (told_last 0x9C 0xE0 ∷ told_last 0x9C 0xC0 ∷ []) ≡ Some 17 ∷ Some 18 ∷ [])
+    × (alone (told_last 0x8C 0xE0) ≡ BadHead (BadValue fields.Last))
     × (alone (changed 0x08 0x64 0xC0 0 0 0 0xC0 0x02 0xE0 0x9C) ≡ Foreign)
 unfolding told_last alone fates fate after skip_of head_read presence_tests support_tests depth_tests value_tests number_in disagreement value_of bits_of_octets bits_of
-height_told = (refl, refl, refl, refl, refl)
+height_told = (refl, refl, refl, refl)
 
 -- the shares of 400 octets that eight texts have of which each has 21
 evenly : Setting → (i : ℕ) → ℕ

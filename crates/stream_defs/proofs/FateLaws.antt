@@ -28,7 +28,7 @@ use Rattle.stream_defs.specs.declared.fate.LastPart.{LastPart}
 use Rattle.stream_defs.specs.declared.fate.FateState.{FateState}
 use Rattle.stream_defs.specs.Output.{head_for, image_part, segments_of}
 use Rattle.stream_defs.specs.Agreement.{geometry_for, same_flag, is_of_image, has_blocks, ends_where_told, pads_as_told, may_have_blocks, may_end, disagreement, head_refusal, geometry_past}
-use Rattle.stream_defs.specs.Fates.{fresh, reads, tells_rows, is_past, differs, is_foreign, is_late, begins, follows, is_out_of_place, refusal_in, fate, is_kept, geometry_with, geometry_after, part_in, after_kept, after}
+use Rattle.stream_defs.specs.Fates.{fresh, tells_rows, is_past, differs, is_foreign, is_late, begins, follows, is_out_of_place, refusal_in, fate, is_kept, geometry_with, geometry_after, part_in, after_kept, after}
 use Rattle.stream_defs.specs.Places.{parts_of, packet_at, place_at, AreCoded}
 use Rattle.stream_defs.specs.StreamLaws.{geometry_by}
 use Rattle.stream_defs.proofs.OutPackets.{written_at, some_blocks, block_before, part_reads, part_begins, part_closes}
@@ -278,13 +278,10 @@ module _ (s : Setting) (all : List (List ℤ)) (coded : AreCoded s all) (index :
   past true = past_by (index + 1 == segments_of s) refl
   past false = refl
 
-module _ (told_last : Bool) (s : Setting) (all : List (List ℤ)) (coded : AreCoded s all) (read : reads told_last ≡ true) where
-  tells : (told : Bool) → reads told ≡ true → (reads told && (if told then (if told then 0 else s.rows) == 0 else is_within rows_range (if told then 0 else s.rows))) ≡ true
-  tells told are = both (reads told) _ are (by told)
-    where
-      by : (told : Bool) → (if told then (if told then 0 else s.rows) == 0 else is_within rows_range (if told then 0 else s.rows)) ≡ true
-      by true = equal 0 0 refl
-      by false = within rows_range s.rows coded.rows
+module _ (told_last : Bool) (s : Setting) (all : List (List ℤ)) (coded : AreCoded s all) where
+  tells : (told : Bool) → (if told then (if told then 0 else s.rows) == 0 else is_within rows_range (if told then 0 else s.rows)) ≡ true
+  tells true = equal 0 0 refl
+  tells false = within rows_range s.rows coded.rows
 
   -- the rows field is as before, and the block isn't past the last one
   same_rows : (told over : Bool) → ((if told then 0 else s.rows) == (if told then 0 else (if told && over then 0 else s.rows))) ≡ true
@@ -306,7 +303,7 @@ module _ (told_last : Bool) (s : Setting) (all : List (List ℤ)) (coded : AreCo
       let range = coded.setting in
       let a = written_at told_last s index part in
       own_tests (tells_rows a) (is_within segment_range s.segment) (index * s.segment == index * s.segment) (differs st.geometry st.told_last a)
-      (tells told_last read) (within segment_range s.segment range.segment) (equal (index * s.segment) (index * s.segment) refl)
+      (tells told_last) (within segment_range s.segment range.segment) (equal (index * s.segment) (index * s.segment) refl)
       (elim left [
         | inl none ↦ ap (λ st. differs st.geometry st.told_last a) none
         | inr kept ↦

@@ -13,3 +13,8 @@ pub mod HeightLaws
 pub mod KeptOrder
 pub mod ShareLaws
 pub mod Small
+pub mod PlacedLaws
+pub mod BandPlaces
+pub mod RangeLaws
+pub mod HeightPictures
+pub mod OpenContaining

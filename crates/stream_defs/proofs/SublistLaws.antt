@@ -15,7 +15,7 @@ use Rattle.segment_defs.specs.Reading.{head_read}
 use Rattle.packet_defs.specs.Packets.{part_size}
 use Rattle.packet_defs.specs.Reading.{flags_in, text_in}
 use Rattle.stream_defs.specs.Output.{head_for, segment_text, segments_of}
-use Rattle.stream_defs.specs.Fates.{closes, fresh, kept, reads}
+use Rattle.stream_defs.specs.Fates.{closes, fresh, kept}
 use Rattle.stream_defs.specs.Received.{Acceptance, index_in, number_of_part, packets_at, IsComplete, text_of_parts, IsReceived}
 use Rattle.stream_defs.specs.Places.{parts_of, packet_at, AreCoded}
 use Rattle.stream_defs.specs.Chosen.{IsRising, IsChoice, chosen, run, all_parts}
@@ -53,7 +53,7 @@ ends (w ∷ v ∷ zs) z = ends (v ∷ zs) z
 last_is : (front back : List (List ℕ)) (x y : List ℕ) → front ++ x ∷ [] ≡ back ++ y ∷ [] → x ≡ y
 last_is front back x y e = sym (ends front x) ∙ ap last_of e ∙ ends back y
 
-module _ (told_last : Bool) (s : Setting) (all : List (List ℤ)) (coded : AreCoded s all) (read : reads told_last ≡ true) where
+module _ (told_last : Bool) (s : Setting) (all : List (List ℤ)) (coded : AreCoded s all) where
   -- ---- one segment's packets
 
   own_index : (index part : ℕ) → index < segments_of s → part < parts_of s all index → index_in (packet_at told_last s all index part) ≡ index
@@ -174,7 +174,7 @@ module _ (told_last : Bool) (s : Setting) (all : List (List ℤ)) (coded : AreCo
         let e : n + 1 ≡ suc n = omega arith in
         let test : (n == at) ≡ false = apart n at (λ e. omega (arith, e, far)) in
         ap (λ m. packets_at at (chosen told_last s all parts m)) (sym e)
-        ∙ ap (packets_at at) (chosen_more told_last s all coded read parts choice parts n)
+        ∙ ap (packets_at at) (chosen_more told_last s all coded parts choice parts n)
         ∙ filter-append (λ packet. index_in packet == at) (chosen told_last s all parts n) (map (packet_at told_last s all n) (parts n))
         ∙ ap (λ zs. zs ++ packets_at at (map (packet_at told_last s all n) (parts n))) (others at n (omega (arith, few)) (omega (arith, far)))
         ∙ picks at n 0 (parts n) (omega (arith, few)) (choice.each n (omega (arith, few)))
@@ -188,7 +188,7 @@ module _ (told_last : Bool) (s : Setting) (all : List (List ℤ)) (coded : AreCo
         let front = packets_at at (chosen told_last s all parts n) in
         let parted : packets_at at (chosen told_last s all parts (suc n)) ≡ front ++ (if n == at then map (packet_at told_last s all n) (parts n) else []) =
         ap (λ m. packets_at at (chosen told_last s all parts m)) (sym e)
-        ∙ ap (packets_at at) (chosen_more told_last s all coded read parts choice parts n)
+        ∙ ap (packets_at at) (chosen_more told_last s all coded parts choice parts n)
         ∙ filter-append (λ packet. index_in packet == at) (chosen told_last s all parts n) (map (packet_at told_last s all n) (parts n))
         ∙ ap (λ zs. front ++ zs) (picks at n 0 (parts n) (omega (arith, few)) (choice.each n (omega (arith, few)))) in
         elim (cases_lt at n) [
@@ -205,7 +205,7 @@ module _ (told_last : Bool) (s : Setting) (all : List (List ℤ)) (coded : AreCo
 
 -- ---- the segments that are received
 
-module _ (told_last : Bool) (s : Setting) (all : List (List ℤ)) (coded : AreCoded s all) (read : reads told_last ≡ true) (parts : ℕ → List ℕ) (choice : IsChoice s all parts) where
+module _ (told_last : Bool) (s : Setting) (all : List (List ℤ)) (coded : AreCoded s all) (parts : ℕ → List ℕ) (choice : IsChoice s all parts) where
   abbrev goes : ℕ → List ℕ
   goes index = run 0 (parts index)
 
@@ -213,10 +213,10 @@ module _ (told_last : Bool) (s : Setting) (all : List (List ℤ)) (coded : AreCo
   go_on = record { each = λ index lt. run_rises 0 0 (parts_of s all index) (parts index) (choice.each index lt) }
 
   kept_at : (index : ℕ) → index < segments_of s → packets_at index (kept s.apid fresh (chosen told_last s all parts (segments_of s))) ≡ map (packet_at told_last s all index) (goes index)
-  kept_at index lt = ap (packets_at index) (chosen_kept told_last s all coded read parts choice (segments_of s) (omega arith)).0 ∙ picked told_last s all coded read goes go_on index (segments_of s) (omega arith) lt
+  kept_at index lt = ap (packets_at index) (chosen_kept told_last s all coded parts choice (segments_of s) (omega arith)).0 ∙ picked told_last s all coded goes go_on index (segments_of s) (omega arith) lt
 
   head_at : (index : ℕ) → index < segments_of s → head_read (text_in (slice_index_or (map (packet_at told_last s all index) (all_parts s all index)) 0 [])) ≡ Ok (head_for s all index)
-  head_at index lt = by_count (parts_of s all index) refl (some_parts told_last s all coded read index lt)
+  head_at index lt = by_count (parts_of s all index) refl (some_parts told_last s all coded index lt)
     where
       by_count : (n : ℕ) → parts_of s all index ≡ n → 1 ≤ n → head_read (text_in (slice_index_or (map (packet_at told_last s all index) (range_with_len 0 n)) 0 [])) ≡ Ok (head_for s all index)
       by_count zero e some = absurd (omega (arith, some))
@@ -224,7 +224,7 @@ module _ (told_last : Bool) (s : Setting) (all : List (List ℤ)) (coded : AreCo
 
   pub complete_where_all : (index : ℕ) → index < segments_of s → IsComplete (packets_at index (kept s.apid fresh (chosen told_last s all parts (segments_of s)))) → parts index ≡ all_parts s all index
   complete_where_all index lt whole =
-      let run_all : goes index ≡ all_parts s all index = complete_only told_last s all coded read index (goes index) lt (go_on.each index lt) (subst IsComplete (kept_at index lt) whole) in
+      let run_all : goes index ≡ all_parts s all index = complete_only told_last s all coded index (goes index) lt (go_on.each index lt) (subst IsComplete (kept_at index lt) whole) in
       let e : 0 + parts_of s all index ≡ parts_of s all index = omega arith in
       run_whole 0 (parts_of s all index) (parts index) (subst (λ m. IsRising 0 m (parts index)) (sym e) (choice.each index lt)) run_all
 
@@ -234,10 +234,10 @@ module _ (told_last : Bool) (s : Setting) (all : List (List ℤ)) (coded : AreCo
   all_there index lt whole = kept_at index lt ∙ ap (λ ks. map (packet_at told_last s all index) (run 0 ks)) whole ∙ ap (map (packet_at told_last s all index)) (run-range 0 (parts_of s all index))
 
   pub complete_there : (index : ℕ) → index < segments_of s → parts index ≡ all_parts s all index → IsComplete (packets_at index (kept s.apid fresh (chosen told_last s all parts (segments_of s))))
-  complete_there index lt whole = subst IsComplete (sym (all_there index lt whole)) (complete_by told_last s all coded read index (parts_of s all index) lt refl (some_parts told_last s all coded read index lt))
+  complete_there index lt whole = subst IsComplete (sym (all_there index lt whole)) (complete_by told_last s all coded index (parts_of s all index) lt refl (some_parts told_last s all coded index lt))
 
   pub text_there : (index : ℕ) → index < segments_of s → parts index ≡ all_parts s all index → text_of_parts (packets_at index (kept s.apid fresh (chosen told_last s all parts (segments_of s)))) ≡ segment_text s all index
-  text_there index lt whole = ap text_of_parts (all_there index lt whole) ∙ whole_text told_last s all coded read index lt
+  text_there index lt whole = ap text_of_parts (all_there index lt whole) ∙ whole_text told_last s all coded index lt
 
   pub head_there : (index : ℕ) → index < segments_of s → parts index ≡ all_parts s all index →
       head_read (text_in (slice_index_or (packets_at index (kept s.apid fresh (chosen told_last s all parts (segments_of s)))) 0 [])) ≡ Ok (head_for s all index)

@@ -1,11 +1,11 @@
 -- All packets of an image, and some of them.
 use Rattle.std.proofs.Common.{◌≡◌, ◌<◌, ◌+◌, ℕ, zero, suc, ℤ, List, ◌++◌, length, refl, sym, ap, subst, ◌∙◌, arith}
-use Rattle.std.specs.Prelude.{Bool, true}
+use Rattle.std.specs.Prelude.{Bool}
 use Rattle.base_122.specs.declared.setting.Setting.{Setting}
 use Rattle.segment_defs.specs.Coded.{coded}
 use Rattle.packet_defs.specs.Packets.{part_count, part_size, text_packets}
 use Rattle.stream_defs.specs.Output.{ancillary_of, head_of, packets_before, packets_of, segment_of, segment_packets, segment_text, segments_of, text_with, used_before}
-use Rattle.stream_defs.specs.Fates.{fresh, reads, kept}
+use Rattle.stream_defs.specs.Fates.{fresh, kept}
 use Rattle.stream_defs.specs.Places.{parts_of, AreCoded}
 use Rattle.stream_defs.specs.Chosen.{IsChoice, chosen, all_parts}
 use Rattle.stream_defs.specs.StreamLaws.{SublistsKept}
@@ -19,23 +19,23 @@ whole_choice : (told_last : Bool) (s : Setting) (all : List (List ℤ)) (n : ℕ
 unfolding chosen packets_of text_packets
 whole_choice told_last s all n = refl
 
-pub all_kept : (told_last : Bool) (s : Setting) (all : List (List ℤ)) → AreCoded s all → reads told_last ≡ true → kept s.apid fresh (packets_of told_last s all (segments_of s)) ≡ packets_of told_last s all (segments_of s)
-all_kept told_last s all are read =
+pub all_kept : (told_last : Bool) (s : Setting) (all : List (List ℤ)) → AreCoded s all → kept s.apid fresh (packets_of told_last s all (segments_of s)) ≡ packets_of told_last s all (segments_of s)
+all_kept told_last s all are =
     let n = segments_of s in
-    let choice : IsChoice s all (all_parts s all) = record { each = λ index lt. all_rise told_last s all are read index } in
+    let choice : IsChoice s all (all_parts s all) = record { each = λ index lt. all_rise told_last s all are index } in
     ap (kept s.apid fresh) (sym (whole_choice told_last s all n))
-    ∙ (chosen_kept told_last s all are read (all_parts s all) choice n (omega arith)).0
+    ∙ (chosen_kept told_last s all are (all_parts s all) choice n (omega arith)).0
     ∙ (λ i. chosen told_last s all (λ index. run-range 0 (parts_of s all index) i) n)
     ∙ whole_choice told_last s all n
 
-pub sublist_kept : (told_last : Bool) (s : Setting) (all : List (List ℤ)) (parts : ℕ → List ℕ) → AreCoded s all → reads told_last ≡ true → IsChoice s all parts → SublistsKept told_last s all parts
-sublist_kept told_last s all parts are read choice = record {
-  those_kept = (chosen_kept told_last s all are read parts choice (segments_of s) (omega arith)).0;
-  geometry = geometry_left told_last s all are read parts choice;
-  only = complete_where_all told_last s all are read parts choice;
-  each = complete_there told_last s all are read parts choice;
-  text = text_there told_last s all are read parts choice;
-  head = head_there told_last s all are read parts choice;
+pub sublist_kept : (told_last : Bool) (s : Setting) (all : List (List ℤ)) (parts : ℕ → List ℕ) → AreCoded s all → IsChoice s all parts → SublistsKept told_last s all parts
+sublist_kept told_last s all parts are choice = record {
+  those_kept = (chosen_kept told_last s all are parts choice (segments_of s) (omega arith)).0;
+  geometry = geometry_left told_last s all are parts choice;
+  only = complete_where_all told_last s all are parts choice;
+  each = complete_there told_last s all are parts choice;
+  text = text_there told_last s all are parts choice;
+  head = head_there told_last s all are parts choice;
 }
 
 -- ---- packets by blocks

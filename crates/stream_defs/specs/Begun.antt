@@ -1,6 +1,8 @@
 -- How far an image goes as the kept packets tell: its height, or what their heads reach while it isn't told. This project's own.
-use Rattle.std.specs.Prelude.{ℕ, ◌+◌, ◌-◌, ◌*◌, ◌/◌, ◌==◌, max, if◌then◌else◌, List, fold, Option, None, Some, Result, Ok, Err}
+use Rattle.std.specs.Prelude.{◌≡◌, ◌≤◌, ℕ, ◌+◌, ◌-◌, ◌*◌, ◌/◌, ◌==◌, max, if◌then◌else◌, List, fold, Option, None, Some, Result, Ok, Err}
+use Rattle.std.specs.Int.{div_ceil}
 use Rattle.base_122.specs.Sizes.{block_count}
+use Rattle.base_122.specs.Ranges.{rows_range}
 use Rattle.base_122.specs.declared.geometry.Geometry.{Geometry}
 use Rattle.segment_defs.specs.declared.head.SegmentHead.{SegmentHead}
 use Rattle.segment_defs.specs.declared.fault.HeadFault.{HeadFault}
@@ -49,3 +51,21 @@ block_rows g n = if g.rows == 0 then n else block_count g.rows
 -- block rows of the bands: while the height isn't told, as many as an image has at least of which the first n don't end it
 abbrev pub band_rows : Geometry → (n : ℕ) → ℕ
 band_rows g n = if g.rows == 0 then n + 3 else block_count g.rows
+
+-- ---- while the height isn't reported
+
+-- the rows by which blocks are placed: the height, or that of the tallest image
+abbrev pub placed_rows : Geometry → ℕ
+placed_rows g = if g.rows == 0 then rows_range.most else g.rows
+
+-- the geometry by which blocks are placed
+abbrev pub placed : Geometry → Geometry
+placed g = record g { rows = placed_rows g }
+
+-- the height, or the least height of an image that has the blocks before this one
+abbrev pub rows_reached : Geometry → (ended : ℕ) → ℕ
+rows_reached g ended = if g.rows == 0 then max rows_range.least (8 * div_ceil ended (block_count g.width) - 7) else g.rows
+
+-- the kept heads of a stream of octets reach at most so many pixels
+abbrev pub HasFewPixels : (pixels apid : ℕ) → List ℕ → Type 0
+HasFewPixels pixels apid octets = (g : Geometry) → geometry_in apid octets ≡ Some g → g.width * rows_reached g (end_of (kept_in apid octets)) ≤ pixels

@@ -22,13 +22,9 @@ fresh = record { geometry = None; told_last = false; last = None }
 
 -- ---- the tests, in their order
 
--- Packets of this kind are read. A packet whose image reports its height last is not read yet, so it is foreign to any image.
-abbrev pub reads : (told_last : Bool) → Bool
-reads told_last = not told_last
-
 -- the rows field of a packet has the rows of an image, or 0 if the height is reported last
 abbrev pub tells_rows : Ancillary → Bool
-tells_rows a = reads a.told_last && (if a.told_last then a.rows == 0 else is_within rows_range a.rows)
+tells_rows a = if a.told_last then a.rows == 0 else is_within rows_range a.rows
 
 -- a block past the last one, where the height is told
 abbrev pub is_past : Geometry → Ancillary → Bool

@@ -62,6 +62,10 @@ picture g received n = picture_with g (number_at g received) n
 abbrev pub picture_octets : Geometry → (ℕ → Option (List (List ℤ))) → (n : ℕ) → List ℕ
 picture_octets g received n = raster_octets g.depth (height g n) g.width (picture g received n)
 
+-- the octets of its first k rows
+abbrev pub first_rows : Geometry → (ℕ → Option (List (List ℤ))) → (n k : ℕ) → List ℕ
+first_rows g received n k = raster_octets g.depth k g.width (picture g received n)
+
 -- ---- of an image whose height is known
 
 abbrev pub whole_with : Geometry → (ℕ → ℕ → ℤ) → ℕ → ℕ → ℤ

@@ -1,19 +1,19 @@
 -- The laws of an image's packets where they are read. This project's own.
-use Rattle.std.specs.Prelude.{◌≡◌, ℕ, ◌<◌, ◌+◌, ◌==◌, ◌&&◌, not, Bool, true, if◌then◌else◌, ℤ, List, [], ◌∷◌, slice_index_or, Some, Ok}
+use Rattle.std.specs.Prelude.{◌≡◌, ℕ, ◌<◌, ◌+◌, ◌==◌, ◌&&◌, not, Bool, if◌then◌else◌, ℤ, List, [], ◌∷◌, slice_index_or, Some, Ok}
 use Rattle.base_122.specs.Setting.{image_geometry}
 use Rattle.base_122.specs.declared.geometry.Geometry.{Geometry}
 use Rattle.base_122.specs.declared.setting.Setting.{Setting}
 use Rattle.segment_defs.specs.Reading.{head_read}
 use Rattle.packet_defs.specs.Reading.{text_in}
 use Rattle.stream_defs.specs.Output.{head_for, packets_of, segment_of, segment_text, segments_of}
-use Rattle.stream_defs.specs.Fates.{fresh, reads, kept, after_all}
+use Rattle.stream_defs.specs.Fates.{fresh, kept, after_all}
 use Rattle.stream_defs.specs.Received.{packets_at, IsComplete, text_of_parts}
 use Rattle.stream_defs.specs.Places.{AreCoded}
 use Rattle.stream_defs.specs.Chosen.{IsChoice, chosen, run, all_parts}
 
 -- all packets of an image, in order, are kept
 pub record ImagesKept : Type 0 where
-  pub all_kept : (told_last : Bool) (s : Setting) (all : List (List ℤ)) → AreCoded s all → reads told_last ≡ true →
+  pub all_kept : (told_last : Bool) (s : Setting) (all : List (List ℤ)) → AreCoded s all →
       kept s.apid fresh (packets_of told_last s all (segments_of s)) ≡ packets_of told_last s all (segments_of s)
 
 -- the packets that are kept of those chosen
@@ -44,7 +44,7 @@ pub record SublistsKept (told_last : Bool) (s : Setting) (all : List (List ℤ))
       head_read (text_in (slice_index_or (packets_at index (kept_of told_last s all parts)) 0 [])) ≡ Ok (head_for s all index)
 
 pub record SublistsAreKept : Type 0 where
-  pub each_choice : (told_last : Bool) (s : Setting) (all : List (List ℤ)) (parts : ℕ → List ℕ) → AreCoded s all → reads told_last ≡ true → IsChoice s all parts → SublistsKept told_last s all parts
+  pub each_choice : (told_last : Bool) (s : Setting) (all : List (List ℤ)) (parts : ℕ → List ℕ) → AreCoded s all → IsChoice s all parts → SublistsKept told_last s all parts
 
 -- the packets of the first segments are determined by the blocks of these
 pub record PacketsOfBlocks : Type 0 where

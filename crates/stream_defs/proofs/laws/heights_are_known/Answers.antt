@@ -1,8 +1,7 @@
-use Rattle.std.proofs.Common.{◌≡◌, ◌≢◌, ap, ℕ, ℤ, List}
-use Rattle.std.specs.Prelude.{◌==◌, ◌+◌, ◌*◌, ◌-◌, false, if◌then◌else◌, Option}
+use Rattle.std.proofs.Common.{ap}
+use Rattle.std.specs.Prelude.{◌+◌, ◌*◌, ◌-◌, if◌then◌else◌}
 use Rattle.std.proofs.lemmas.Bool.{ne_eqb}
 use Rattle.base_122.specs.Sizes.{block_count}
-use Rattle.base_122.specs.declared.geometry.Geometry.{Geometry}
 use Rattle.raster_rows.specs.Pixels.{raster_octets}
 use Rattle.stream_defs.specs.Picture.{number_at, picture_of}
 use Rattle.stream_defs.specs.Damage.{missing_below, ranges}

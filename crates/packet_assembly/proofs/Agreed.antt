@@ -1,0 +1,184 @@
+-- What a segment header that agrees says of its segment and of the image.
+use Rattle.std.proofs.Common.{◌≡◌, ◌⊎◌, inl, inr, ◌≤◌, ◌<◌, ◌+◌, ◌-◌, ◌*◌, ◌/◌, ◌%◌, ℕ, List, [], ◌∷◌, refl, sym, ap, subst, ◌∙◌, arith}
+use Rattle.std.specs.Prelude.{Bool, true, false, ◌==◌, ◌&&◌, not, nat_le, nat_lt, min, if◌then◌else◌}
+use Rattle.std.specs.Str.{bytes_eq}
+use Rattle.std.proofs.lemmas.Bool.{false≢true, and_parts}
+use Rattle.std.proofs.lemmas.Bool.Decides.{nat_tests}
+use Rattle.base_122.specs.Sizes.{block_count}
+use Rattle.base_122.specs.Ranges.{IsWithin, is_within, rows_range}
+use Rattle.base_122.specs.declared.geometry.Geometry.{Geometry}
+use Rattle.segment_defs.specs.Head.{IsHead}
+use Rattle.segment_defs.specs.declared.head.SegmentHead.{SegmentHead}
+use Rattle.segment_defs.specs.declared.fault.HeadFault.{HeadFault}
+use Rattle.packet_defs.specs.declared.ancillary.Ancillary.{Ancillary}
+use Rattle.packet_defs.specs.Tests.{when, first_of}
+use Rattle.std.specs.Prelude.{None}
+use Rattle.stream_defs.specs.Agreement.{geometry_past, blocks_of, same_flag, is_of_image, has_blocks, may_have_blocks, ends_where_told, may_end, told_height, disagreement}
+use Rattle.stream_defs.specs.Begun.{placed}
+use Rattle.packet_assembly.proofs.Ranges.{within_from}
+use Rattle.stream_defs.proofs.PlacedLaws.{blocks_open, blocks_known, within_not}
+
+-- ---- tests that pass
+
+pub not_true : (b : Bool) → not b ≡ false → b ≡ true
+not_true true e = refl
+not_true false e = absurd (false≢true (sym e))
+
+pub equal_so : (m n : ℕ) → (m == n) ≡ true → m ≡ n
+equal_so m n e = grind (arith, nat_tests)
+
+below_so : (m n : ℕ) → nat_lt m n ≡ true → m < n
+below_so m n e = grind (arith, nat_tests)
+
+most_so : (m n : ℕ) → nat_le m n ≡ true → m ≤ n
+most_so m n e = grind (arith, nat_tests)
+
+pub bytes_so : (xs ys : List ℕ) → bytes_eq xs ys ≡ true → xs ≡ ys
+bytes_so [] [] e = refl
+bytes_so [] (y ∷ ys) e = absurd (false≢true e)
+bytes_so (x ∷ xs) [] e = absurd (false≢true e)
+bytes_so (x ∷ xs) (y ∷ ys) e =
+    let both = and_parts (x == y) (bytes_eq xs ys) e in
+    ap (λ n. n ∷ xs) (equal_so x y both.0) ∙ ap (λ zs. y ∷ zs) (bytes_so xs ys both.1)
+
+-- none of six tests refuses
+six_pass : (a b c d e f : Bool) (v w x y z u : HeadFault) → first_of (when a v ∷ when b w ∷ when c x ∷ when d y ∷ when e z ∷ when f u ∷ []) ≡ None →
+    (b ≡ false) × (c ≡ false) × (f ≡ false)
+six_pass true b c d e f v w x y z u h = absurd cc
+six_pass false true c d e f v w x y z u h = absurd cc
+six_pass false false true d e f v w x y z u h = absurd cc
+six_pass false false false true e f v w x y z u h = absurd cc
+six_pass false false false false true f v w x y z u h = absurd cc
+six_pass false false false false false true v w x y z u h = absurd cc
+six_pass false false false false false false v w x y z u h = (refl, refl, refl)
+
+-- the tests on blocks, on the end and on the image
+record Passes (g : Geometry) (a : Ancillary) (head : SegmentHead) : Type 0 where
+  blocks : (if a.told_last then may_have_blocks g head else has_blocks g a head) ≡ true
+  ends : (if a.told_last then may_end g a head else ends_where_told g a head) ≡ true
+  width : head.image.width ≡ g.width
+  shifts : head.image.weights.shifts ≡ g.weights.shifts
+
+passes : (g : Geometry) (a : Ancillary) (head : SegmentHead) → disagreement g a head ≡ None → Passes g a head
+unfolding disagreement
+passes g a head e =
+    let six = six_pass _ _ _ _ _ _ _ _ _ _ _ _ e in
+    let image = not_true (is_of_image g head.image) six.2 in
+    let depth = (and_parts (same_flag head.image.signed g.signed) _ image).1 in
+    let width = and_parts (head.image.width == g.width) _ (and_parts (head.image.depth == g.depth) _ depth).1 in
+    record {
+      blocks = not_true _ six.0;
+      ends = not_true _ six.1;
+      width = equal_so head.image.width g.width width.0;
+      shifts = bytes_so head.image.weights.shifts g.weights.shifts (and_parts (head.image.word == g.word) _ width.1).1;
+    }
+
+-- ---- what they say
+
+-- With the geometry that is known or made before a header, and the one after it: its segment is in the image as it is placed. If the
+-- height isn't reported by it, there is room for a segment after it; if it is, the image ends with it.
+pub record Agrees (g : Geometry) (a : Ancillary) (head : SegmentHead) (past : Geometry) : Type 0 where
+  pub same : past ≡ record g { rows = past.rows }
+  pub height : (past.rows ≡ 0) ⊎ IsWithin rows_range past.rows
+  pub told : a.told_last ≡ false → past ≡ g
+  pub wide : 17 ≤ g.width
+  pub first : a.first < blocks_of (placed past)
+  pub blocks : head.blocks ≡ min g.segment (blocks_of (placed past) - a.first)
+  pub shifts : head.image.weights.shifts ≡ g.weights.shifts
+  pub room : past.rows ≡ 0 → a.first + g.segment < 32768 * block_count g.width
+  pub shut : a.told_last ≡ true → (past.rows ≡ 0 → ⊥) → blocks_of past ≡ a.first + head.blocks
+
+-- before it the height is known from the packets, or isn't known since it is reported last
+abbrev pub IsBefore : Geometry → Ancillary → Type 0
+IsBefore g a = ((a.told_last ≡ true) × (g.rows ≡ 0)) ⊎ ((a.told_last ≡ false) × IsWithin rows_range g.rows)
+
+-- the height that a last header reports has the block rows that it ends
+ends_rows : (columns ended pads : ℕ) → 0 < columns → pads < 8 → ended % columns ≡ 0 → 17 ≤ 8 * (ended / columns) - pads →
+    columns * block_count (8 * (ended / columns) - pads) ≡ ended
+ends_rows columns ended pads some few whole tall =
+    let rows : block_count (8 * (ended / columns) - pads) ≡ ended / columns = omega arith in
+    let all : columns * (ended / columns) ≡ ended = omega (arith, whole, some) in
+    ap (λ n. columns * n) rows ∙ all
+
+module _ (g : Geometry) (a : Ancillary) (head : SegmentHead) (is : IsHead head) (p : Passes g a head) where
+  wide_there : 17 ≤ g.width
+  wide_there = let w = is.image.width.0 in omega (arith, w, p.width)
+
+  some_columns : 0 < block_count g.width
+  some_columns = let w = wide_there in omega (arith, w)
+
+  -- of a height that the packets have
+  told_each : a.told_last ≡ false → IsWithin rows_range g.rows → Agrees g a head g
+  told_each told within =
+      let not_open = within_not g.rows within in
+      let blocks : has_blocks g a head ≡ true = rw told at p.blocks in
+      let both = and_parts (nat_lt a.first (blocks_of g)) _ blocks in
+      let total = blocks_known g not_open in
+      record {
+        same = refl;
+        height = inr within;
+        told = λ e. refl;
+        wide = wide_there;
+        first = let lt = below_so a.first (blocks_of g) both.0 in subst (λ n. a.first < n) (sym total) lt;
+        blocks = equal_so head.blocks (min g.segment (blocks_of g - a.first)) both.1 ∙ ap (λ n. min g.segment (n - a.first)) (sym total);
+        shifts = p.shifts;
+        room = λ e. absurd (not_open e);
+        shut = λ e. absurd (false≢true (sym told ∙ e));
+      }
+
+  -- of one that is reported last, by a header that isn't the last
+  told_later : a.told_last ≡ true → g.rows ≡ 0 → head.last ≡ false → Agrees g a head g
+  told_later told untold last =
+      let blocks : (head.blocks == g.segment) ≡ true = rw (told, last) at p.blocks in
+      let room : nat_lt (a.first + g.segment) (32768 * block_count g.width) ≡ true = rw (told, last) at p.ends in
+      let size = equal_so head.blocks g.segment blocks in
+      let lt = below_so (a.first + g.segment) (32768 * block_count g.width) room in
+      let total = blocks_open g untold in
+      record {
+        same = refl;
+        height = inl untold;
+        told = λ e. absurd (false≢true (sym e ∙ told));
+        wide = wide_there;
+        first = omega (arith, lt, total);
+        blocks = omega (arith, size, lt, total);
+        shifts = p.shifts;
+        room = λ e. lt;
+        shut = λ e some. absurd (some untold);
+      }
+
+  -- and by the last
+  told_here : a.told_last ≡ true → head.last ≡ true → Agrees g a head (record g { rows = told_height g a head })
+  told_here told last =
+      let past : Geometry = record g { rows = told_height g a head } in
+      let blocks : (nat_le 1 head.blocks && nat_le head.blocks g.segment) ≡ true = rw (told, last) at p.blocks in
+      let ends : (((a.first + head.blocks) % block_count g.width == 0) && is_within rows_range (told_height g a head)) ≡ true = rw (told, last) at p.ends in
+      let size = and_parts (nat_le 1 head.blocks) _ blocks in
+      let some = most_so 1 head.blocks size.0 in
+      let most = most_so head.blocks g.segment size.1 in
+      let both = and_parts ((a.first + head.blocks) % block_count g.width == 0) _ ends in
+      let whole = equal_so ((a.first + head.blocks) % block_count g.width) 0 both.0 in
+      let within = within_from rows_range (told_height g a head) both.1 in
+      let not_open = within_not (told_height g a head) within in
+      let all : blocks_of past ≡ a.first + head.blocks = ends_rows (block_count g.width) (a.first + head.blocks) head.pad_rows some_columns is.pad_rows whole within.0 in
+      let total = blocks_known past not_open in
+      record {
+        same = refl;
+        height = inr within;
+        told = λ e. absurd (false≢true (sym e ∙ told));
+        wide = wide_there;
+        first = omega (arith, total, all, some);
+        blocks = omega (arith, total, all, some, most);
+        shifts = p.shifts;
+        room = λ e. absurd (not_open e);
+        shut = λ e other. all;
+      }
+
+  agrees_by : (told last : Bool) → a.told_last ≡ told → head.last ≡ last → IsBefore g a → Agrees g a head (if told && last then record g { rows = told_height g a head } else g)
+  agrees_by true true told last before = told_here told last
+  agrees_by true false told last (inl untold) = told_later told untold.1 last
+  agrees_by true false told last (inr known) = absurd (false≢true (sym known.0 ∙ told))
+  agrees_by false last told is_last (inl untold) = absurd (false≢true (sym told ∙ untold.0))
+  agrees_by false last told is_last (inr known) = told_each told known.1
+
+pub agrees : (g : Geometry) (a : Ancillary) (head : SegmentHead) → IsHead head → IsBefore g a → disagreement g a head ≡ None → Agrees g a head (geometry_past g a head)
+agrees g a head is before none = agrees_by g a head is (passes g a head none) a.told_last head.last refl refl before

@@ -1,0 +1,206 @@
+-- How far the heads of kept packets reach, and the geometry, from one packet on to another.
+use Rattle.std.proofs.Common.{◌≡◌, inl, inr, ◌≤◌, ◌<◌, ◌+◌, ◌*◌, ℕ, List, [], ◌∷◌, refl, sym, ap, subst, ◌∙◌, arith}
+use Rattle.std.specs.Prelude.{Bool, true, false, ◌==◌, max, if◌then◌else◌, Option, None, Some, fold, not, Result, Ok, Err}
+use Rattle.std.proofs.lemmas.Bool.{false≢true}
+use Rattle.std.proofs.lemmas.Bool.Decides.{nat_tests}
+use Rattle.std.proofs.lemmas.Grind.{fold-append}
+use Rattle.base_122.specs.declared.geometry.Geometry.{Geometry}
+use Rattle.segment_defs.specs.Reading.{head_read}
+use Rattle.packet_defs.specs.declared.ancillary.Ancillary.{Ancillary}
+use Rattle.packet_defs.specs.Reading.{ancillary_in, text_in}
+use Rattle.stream_defs.specs.declared.fate.FateState.{FateState}
+use Rattle.stream_defs.specs.declared.fate.LastPart.{LastPart}
+use Rattle.segment_defs.specs.declared.head.SegmentHead.{SegmentHead}
+use Rattle.segment_defs.specs.declared.fault.HeadFault.{HeadFault}
+use Rattle.stream_defs.specs.Agreement.{geometry_for, geometry_past, head_refusal}
+use Rattle.stream_defs.specs.Fates.{fresh, fate, is_kept, differs, geometry_with, after, after_all, kept, part_in}
+use Rattle.stream_defs.specs.Begun.{end_in, end_of}
+use Rattle.stream_defs.specs.Received.{index_in}
+use Rattle.stream_defs.proofs.ChosenLaws.{kept-append}
+use Rattle.stream_defs.proofs.FateLaws.{after_as_kept, after_as_other}
+use Rattle.stream_defs.proofs.KeptOrder.{is_kept_so, kept_tests, Begins, Follows, does, reached_on}
+use Rattle.packet_assembly.specs.declared.note.SegmentStart.{SegmentStart}
+use Rattle.packet_assembly.specs.Assembling.{Starts, BeginsNone, is_first, last_index}
+use Rattle.packet_assembly.proofs.KeptPackets.{stays}
+use Rattle.packet_assembly.proofs.OwnPackets.{own_so, or_rest}
+use Rattle.packet_assembly.proofs.Begun.{Leaves, IsLeft, fresh_left, first_leaves, first_keeps, begins_so}
+
+-- the greatest of a number and the ends of packets
+abbrev pub end_from : (ended : ℕ) → List (List ℕ) → ℕ
+end_from ended packets = fold (λ most packet. max most (end_in packet)) ended packets
+
+-- ---- packets that begin no segment
+
+-- where they end nothing is reached
+pub none_reaches : (apid : ℕ) (s : FateState) (packet : List ℕ) → is_first apid s packet ≡ false →
+    ((after apid s packet).geometry ≡ s.geometry) × ((n : ℕ) → end_from n (kept apid s (packet ∷ [])) ≡ n)
+unfolding kept
+none_reaches apid s packet none = by_kept (is_kept (fate apid s packet)) refl
+  where
+    by_kept : (b : Bool) → is_kept (fate apid s packet) ≡ b →
+        ((after apid s packet).geometry ≡ s.geometry) × ((n : ℕ) → end_from n (if is_kept (fate apid s packet) then packet ∷ [] else []) ≡ n)
+    by_kept false e = (ap (λ (s : FateState). s.geometry) (after_as_other apid s packet e), λ n. rw e refl)
+    by_kept true e =
+        let part : ((ancillary_in packet).part == 0) ≡ false = rw e at none in
+        let is = is_kept_so (fate apid s packet) e in
+        let end : end_in packet ≡ 0 = rw part refl in
+        (ap (λ (s : FateState). s.geometry) (after_as_kept apid s packet is) ∙ rw part refl, λ n. rw e (omega (arith, end)))
+
+kept_more : (apid : ℕ) (s : FateState) (x : List ℕ) (xs : List (List ℕ)) (n : ℕ) →
+    end_from n (kept apid s (x ∷ xs)) ≡ end_from (end_from n (kept apid s (x ∷ []))) (kept apid (after apid s x) xs)
+kept_more apid s x xs n =
+    ap (end_from n) (kept-append apid s (x ∷ []) xs) ∙ fold-append (λ most packet. max most (end_in packet)) n (kept apid s (x ∷ [])) (kept apid (after apid s x) xs)
+
+kept_nothing : (apid : ℕ) (s : FateState) → kept apid s [] ≡ []
+unfolding kept
+kept_nothing apid s = refl
+
+-- what packets leave that begin no segment
+pub record StaysSo (apid : ℕ) (s : FateState) (packets : List (List ℕ)) : Type 0 where
+  pub geometry : (after_all apid s packets).geometry ≡ s.geometry
+  pub last : last_index (after_all apid s packets).last ≡ last_index s.last
+  pub ended : (n : ℕ) → end_from n (kept apid s packets) ≡ n
+
+pub none_begun : (apid : ℕ) (s : FateState) (packets : List (List ℕ)) → BeginsNone apid s packets → StaysSo apid s packets
+none_begun apid s [] none = record { geometry = refl; last = refl; ended = λ n. ap (end_from n) (kept_nothing apid s) }
+none_begun apid s (x ∷ xs) none =
+    let one = none_reaches apid s x none.0 in
+    let rest = none_begun apid (after apid s x) xs none.1 in
+    record {
+      geometry = rest.geometry ∙ one.0;
+      last = rest.last ∙ stays apid s x none.0;
+      ended = λ n. kept_more apid s x xs n ∙ rest.ended (end_from n (kept apid s (x ∷ []))) ∙ one.1 n;
+    }
+
+-- a later segment isn't the same one
+not_back : (last : Option LastPart) (i j : ℕ) → ((l : LastPart) → last ≡ Some l → l.index < i) → i ≤ j → Some j ≡ last_index last → ⊥
+not_back None i j later least before = absurd cc
+not_back (Some l) i j later least before = let same : j ≡ l.index = cc in let lt = later l refl in absurd (omega (arith, same, lt, least))
+
+-- Packets begin no segment if the last place is in the same one after them, or if there is none.
+pub stays_none : (apid : ℕ) (s : FateState) (packets : List (List ℕ)) → last_index (after_all apid s packets).last ≡ last_index s.last → BeginsNone apid s packets
+stays_none apid s [] same = tt
+stays_none apid s (x ∷ xs) same = by (λ e. stays_none apid (after apid s x) xs (same ∙ sym (stays apid s x e))) (is_first apid s x) refl
+  where
+    by : ((is_first apid s x ≡ false) → BeginsNone apid (after apid s x) xs) → (b : Bool) → is_first apid s x ≡ b → (is_first apid s x ≡ false) × BeginsNone apid (after apid s x) xs
+    by rest false e = (e, rest e)
+    by rest true e =
+        let b = begins_so apid s x e in
+        let r = reached_on (index_in x) apid (after apid s x) xs record { last = part_in x; last_is = b.last; least = omega arith } in
+        let before : Some r.last.index ≡ last_index s.last = ap last_index (sym r.last_is) ∙ same in
+        absurd (not_back s.last (index_in x) r.last.index b.later r.least before)
+
+-- ---- what any packets leave
+
+some_same : {a b : LastPart} → Some a ≡ Some b → a ≡ b
+some_same e = cc
+
+-- a part that isn't the first of its segment
+next_left : (apid : ℕ) (s : FateState) (x : List ℕ) (n : ℕ) → IsLeft s n → Follows apid s x → IsLeft (after apid s x) n
+next_left apid s x n left next = elim left.by [
+  | inl none ↦ absurd (let no : None ≡ Some next.before = sym none.last ∙ next.before_is in cc)
+  | inr begun ↦
+      let is = is_kept_so (fate apid s x) next.is_kept in
+      let tests = kept_tests apid s x is in
+      let a = ancillary_in x in
+      let part : (a.part == 0) ≡ false = let e = next.part in grind (arith, nat_tests) in
+      let differ = or_rest (not (a.first == a.index * a.segment)) _ (or_rest _ _ (or_rest _ _ tests.own)) in
+      let own = own_so begun.g s.told_last a (ap (λ (o : Option Geometry). differs o s.told_last a) (sym begun.geometry) ∙ differ) in
+      let told : (after apid s x).told_last ≡ s.told_last = ap (λ (s : FateState). s.told_last) (after_as_kept apid s x is) ∙ own.told in
+      let same : next.before ≡ begun.l = some_same (sym next.before_is ∙ begun.last) in
+      let index : begun.l.index ≡ (part_in x).index = ap (λ (l : LastPart). l.index) (sym same) ∙ sym next.index in
+      record {
+        by = inr record {
+          g = begun.g;
+          geometry = ap (λ (s : FateState). s.geometry) (after_as_kept apid s x is) ∙ rw part begun.geometry;
+          l = part_in x;
+          last = next.last;
+          leaves = subst (λ i. Leaves begun.g (after apid s x).told_last i n) index (subst (λ t. Leaves begun.g t begun.l.index n) (sym told) begun.leaves);
+        };
+      }
+]
+
+first_left : (apid : ℕ) (s : FateState) (x : List ℕ) (n : ℕ) (start : SegmentStart) → IsLeft s n → Starts apid s x start → IsLeft (after apid s x) (start.ancillary.first + start.head.blocks)
+first_left apid s x n start left starts =
+    let f = first_leaves apid s x n start left starts in
+    let ended = start.ancillary.first + start.head.blocks in
+    record {
+      by = inr record {
+        g = f.g;
+        geometry = f.geometry;
+        l = part_in x;
+        last = f.last;
+        leaves = subst (λ i. Leaves f.g (after apid s x).told_last i ended) (sym f.index) (subst (λ t. Leaves f.g t start.ancillary.index ended) (sym f.told) f.begun.leaves);
+      };
+    }
+
+-- what a packet that begins a segment reaches
+pub first_reaches : (apid : ℕ) (s : FateState) (x : List ℕ) (start : SegmentStart) (n : ℕ) → Starts apid s x start → n ≤ start.ancillary.first →
+    end_from n (kept apid s (x ∷ [])) ≡ start.ancillary.first + start.head.blocks
+unfolding kept
+first_reaches apid s x start n starts low =
+    let k = first_keeps apid s x starts.first in
+    let first : (ancillary_in x).first ≡ start.ancillary.first = ap (λ (a : Ancillary). a.first) (sym starts.ancillary_is) in
+    let end : end_in x ≡ (ancillary_in x).first + start.head.blocks = rw (k.1, starts.head_is) refl in
+    rw k.0 (omega (arith, end, first, low))
+
+-- a head was read where a segment begins
+pub starts_with : (apid : ℕ) (s : FateState) (x : List ℕ) → is_first apid s x ≡ true → (start : SegmentStart) × Starts apid s x start
+starts_with apid s x first =
+    let k = first_keeps apid s x first in
+    let tests = kept_tests apid s x (is_kept_so (fate apid s x) k.0) in
+    let refused : head_refusal s.geometry (ancillary_in x) (head_read (text_in x)) ≡ None = rw k.1 at tests.head in
+    by (head_read (text_in x)) refl refused
+  where
+    by : (r : Result SegmentHead HeadFault) → head_read (text_in x) ≡ r → head_refusal s.geometry (ancillary_in x) r ≡ None → (start : SegmentStart) × Starts apid s x start
+    by (Ok head) is none = (record { ancillary = ancillary_in x; head = head }, record { first = first; head_is = is; ancillary_is = refl })
+    by (Err fault) is none = absurd cc
+
+pub one_left : (apid : ℕ) (s : FateState) (x : List ℕ) (n : ℕ) → IsLeft s n → IsLeft (after apid s x) (end_from n (kept apid s (x ∷ [])))
+one_left apid s x n left = by (is_first apid s x) refl
+  where
+    by : (b : Bool) → is_first apid s x ≡ b → IsLeft (after apid s x) (end_from n (kept apid s (x ∷ [])))
+    by true e =
+        let some = starts_with apid s x e in
+        let f = first_leaves apid s x n some.0 left some.1 in
+        subst (IsLeft (after apid s x)) (sym (first_reaches apid s x some.0 n some.1 f.begun.through)) (first_left apid s x n some.0 left some.1)
+    by false e = subst (IsLeft (after apid s x)) (sym ((none_reaches apid s x e).1 n)) (elim (does apid s x) [
+      | inl lost ↦ subst (λ s. IsLeft s n) (sym lost.same) left
+      | inr here ↦ elim here [
+        | inl b ↦ absurd (let no : is_first apid s x ≡ true = is_first_so b in false≢true (sym e ∙ no))
+        | inr next ↦ next_left apid s x n left next
+      ]
+    ])
+      where
+        is_first_so : Begins apid s x → is_first apid s x ≡ true
+        is_first_so b = let kept = b.is_kept in let part = b.part in rw kept (grind (arith, nat_tests))
+
+pub more_left : (apid : ℕ) (s : FateState) (packets : List (List ℕ)) (n : ℕ) → IsLeft s n → IsLeft (after_all apid s packets) (end_from n (kept apid s packets))
+more_left apid s [] n left = subst (λ zs. IsLeft s (end_from n zs)) (sym (kept_nothing apid s)) left
+more_left apid s (x ∷ xs) n left =
+    subst (IsLeft (after_all apid (after apid s x) xs)) (sym (kept_more apid s x xs n)) (more_left apid (after apid s x) xs (end_from n (kept apid s (x ∷ []))) (one_left apid s x n left))
+
+-- what any packets leave, and how far their heads reach
+pub all_left : (apid : ℕ) (packets : List (List ℕ)) → IsLeft (after_all apid fresh packets) (end_of (kept apid fresh packets))
+unfolding end_of
+all_left apid packets = more_left apid fresh packets 0 fresh_left
+
+-- whether the height is reported last stays so from the first kept packet on
+pub told_one : (apid : ℕ) (s : FateState) (x : List ℕ) (g : Geometry) → s.geometry ≡ Some g → (h : Geometry) × ((after apid s x).geometry ≡ Some h) × ((after apid s x).told_last ≡ s.told_last)
+told_one apid s x g is = by (is_kept (fate apid s x)) refl
+  where
+    some_after : (o : Option Geometry) → o ≡ Some g → (b : Bool) (r : Result SegmentHead HeadFault) → (h : Geometry) × ((if b then geometry_with o (ancillary_in x) r else o) ≡ Some h)
+    some_after o is true (Ok head) = (geometry_past (geometry_for o (ancillary_in x) head.image) (ancillary_in x) head, refl)
+    some_after o is true (Err fault) = (g, is)
+    some_after o is false r = (g, is)
+
+    by : (b : Bool) → is_kept (fate apid s x) ≡ b → (h : Geometry) × ((after apid s x).geometry ≡ Some h) × ((after apid s x).told_last ≡ s.told_last)
+    by false e = let same = after_as_other apid s x e in (g, ap (λ (s : FateState). s.geometry) same ∙ is, ap (λ (s : FateState). s.told_last) same)
+    by true e =
+        let kept = is_kept_so (fate apid s x) e in
+        let tests = kept_tests apid s x kept in
+        let differ = or_rest (not ((ancillary_in x).first == (ancillary_in x).index * (ancillary_in x).segment)) _ (or_rest _ _ (or_rest _ _ tests.own)) in
+        let own = own_so g s.told_last (ancillary_in x) (ap (λ (o : Option Geometry). differs o s.told_last (ancillary_in x)) (sym is) ∙ differ) in
+        let some = some_after s.geometry is ((ancillary_in x).part == 0) (head_read (text_in x)) in
+        let same = after_as_kept apid s x kept in
+        (some.0, ap (λ (s : FateState). s.geometry) same ∙ some.1, ap (λ (s : FateState). s.told_last) same ∙ own.told)

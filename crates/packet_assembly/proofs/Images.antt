@@ -1,0 +1,249 @@
+-- The laws of an image's geometry and of what the kept heads reach, whether its height is known or reported last.
+use Rattle.std.proofs.Common.{◌≡◌, ◌⊎◌, inl, inr, ◌≤◌, ◌<◌, ◌+◌, ◌-◌, ◌*◌, ℕ, List, [], ◌∷◌, ◌++◌, refl, sym, ap, subst, ◌∙◌, arith}
+use Rattle.std.specs.Prelude.{◌≢◌, Bool, true, false, ◌==◌, min, if◌then◌else◌, Option, None, Some, is_some, ℤ}
+use Rattle.std.proofs.lemmas.Grind.{fold-append}
+use Rattle.std.specs.Prelude.{max}
+use Rattle.base_122.specs.Sizes.{first_block, segment_blocks}
+use Rattle.base_122.specs.Ranges.{IsGeometryInRange, IsWithin, rows_range}
+use Rattle.base_122.specs.declared.geometry.Geometry.{Geometry}
+use Rattle.segment_defs.specs.Head.{IsHead}
+use Rattle.stream_defs.specs.declared.fate.FateState.{FateState}
+use Rattle.stream_defs.specs.declared.fate.LastPart.{LastPart}
+use Rattle.stream_defs.specs.Agreement.{blocks_of}
+use Rattle.stream_defs.specs.Fates.{fresh, after, after_all, kept, part_in}
+use Rattle.stream_defs.specs.Begun.{end_in, end_of, placed}
+use Rattle.stream_defs.specs.Received.{index_in}
+use Rattle.stream_defs.specs.Settled.{blocks_in, blocks_through}
+use Rattle.stream_defs.proofs.ChosenLaws.{kept-append}
+use Rattle.stream_defs.proofs.PlacedLaws.{is_open, blocks_open, blocks_known, placed_open, placed_known, within_not}
+use Rattle.packet_assembly.specs.declared.note.SegmentStart.{SegmentStart}
+use Rattle.packet_assembly.specs.Assembling.{Starts, BeginsNone, is_first, last_index}
+use Rattle.packet_assembly.proofs.Begun.{Leaves, HasBegun, IsLeft, first_leaves, told_if}
+use Rattle.packet_assembly.proofs.Ends.{end_from, none_begun, stays_none, first_reaches, starts_with, one_left, all_left, told_one}
+
+-- ---- the last place
+
+-- what packets leave, at a geometry and a last place
+pub leaves_at : (s : FateState) (n : ℕ) (g : Geometry) (l : LastPart) → IsLeft s n → s.geometry ≡ Some g → s.last ≡ Some l → Leaves g s.told_last l.index n
+leaves_at s n g l left geometry last = elim left.by [
+  | inl none ↦ absurd (let no : None ≡ Some g = sym none.geometry ∙ geometry in cc)
+  | inr begun ↦
+      let same : begun.g ≡ g = let e : Some begun.g ≡ Some g = sym begun.geometry ∙ geometry in cc in
+      let place : begun.l ≡ l = let e : Some begun.l ≡ Some l = sym begun.last ∙ last in cc in
+      subst (λ (l : LastPart). Leaves g s.told_last l.index n) place (subst (λ (g : Geometry). Leaves g s.told_last begun.l.index n) same begun.leaves)
+]
+
+-- at the index of the last place
+record IsAt (o : Option LastPart) (index : ℕ) : Type 0 where
+  l : LastPart
+  is : o ≡ Some l
+  same : l.index ≡ index
+
+at_index : (o : Option LastPart) (index : ℕ) → last_index o ≡ Some index → IsAt o index
+at_index None index e = absurd cc
+at_index (Some l) index e = record { l = l; is = refl; same = cc }
+
+module _ (apid : ℕ) (packets : List (List ℕ)) (g : Geometry) (geometry : (after_all apid fresh packets).geometry ≡ Some g) where
+  there : HasBegun (after_all apid fresh packets) (end_of (kept apid fresh packets))
+  there = elim (all_left apid packets).by [
+    | inl none ↦ absurd (let no : None ≡ Some g = sym none.geometry ∙ geometry in cc)
+    | inr begun ↦ begun
+  ]
+
+  leaves_there : Leaves g (after_all apid fresh packets).told_last there.l.index (end_of (kept apid fresh packets))
+  leaves_there = leaves_at (after_all apid fresh packets) (end_of (kept apid fresh packets)) g there.l (all_left apid packets) geometry there.last
+
+  -- the kept heads reach no further than the image
+  pub end_few : end_of (kept apid fresh packets) ≤ blocks_of (placed g)
+  end_few = leaves_there.within
+
+  -- the image is wide, and its height is one of an image if it is known
+  pub image_wide : 17 ≤ g.width
+  image_wide = leaves_there.wide
+
+  -- while the height isn't reported, the kept heads don't reach the last block
+  pub end_room : g.rows ≡ 0 → end_of (kept apid fresh packets) < blocks_of (placed g)
+  end_room untold =
+      let room = leaves_there.room untold in
+      let through = leaves_there.through in
+      let more : (there.l.index + 1) * g.segment ≡ there.l.index * g.segment + g.segment = grind arith in
+      omega (arith, room, through, more, blocks_open g untold)
+
+module _ (apid : ℕ) (packets : List (List ℕ)) (g : Geometry) (index : ℕ) (geometry : (after_all apid fresh packets).geometry ≡ Some g)
+    (last : last_index (after_all apid fresh packets).last ≡ Some index) where
+  leaves : Leaves g (after_all apid fresh packets).told_last index (end_of (kept apid fresh packets))
+  leaves =
+      let place = at_index (after_all apid fresh packets).last index last in
+      subst (λ i. Leaves g (after_all apid fresh packets).told_last i (end_of (kept apid fresh packets))) place.same
+      (leaves_at (after_all apid fresh packets) (end_of (kept apid fresh packets)) g place.l (all_left apid packets) geometry place.is)
+
+  -- and no further than the last segment
+  pub end_within : end_of (kept apid fresh packets) ≤ first_block g.segment (index + 1)
+  end_within = leaves.through
+
+  -- while the height isn't reported, there is room for a segment after the last one
+  pub untold_room : g.rows ≡ 0 → first_block g.segment index + g.segment < blocks_of (placed g)
+  untold_room untold = let room = leaves.room untold in omega (arith, room, blocks_open g untold)
+
+  blocks_there : blocks_in g index ≡ blocks_in (placed g) index
+  blocks_there = elim leaves.height [
+    | inl untold ↦
+        let room = untold_room untold in
+        let whole : segment_blocks (blocks_of (placed g)) g.segment index ≡ g.segment = omega (arith, room) in
+        let here : blocks_in g index ≡ g.segment = rw (is_open g.rows untold) refl in
+        let there : blocks_in (placed g) index ≡ segment_blocks (blocks_of (placed g)) g.segment index =
+        ap (λ n. if n == 0 then g.segment else segment_blocks (blocks_of (placed g)) g.segment index) (placed_open g untold) in
+        here ∙ sym whole ∙ sym there
+    | inr known ↦ sym (ap (λ n. blocks_in (record g { rows = n }) index) (placed_known g (within_not g.rows known)))
+  ]
+
+-- so blocks are passed as in the image that they are placed in
+pub through_open : (apid : ℕ) (packets : List (List ℕ)) (g : Geometry) (received : ℕ → Option (List (List ℤ))) (index : ℕ) → (after_all apid fresh packets).geometry ≡ Some g →
+    last_index (after_all apid fresh packets).last ≡ Some index → blocks_through g received index ≡ blocks_through (placed g) received index
+through_open apid packets g received index geometry last =
+    ap (λ n. first_block g.segment index + (if is_some (received index) then n else 0)) (blocks_there apid packets g index geometry last)
+
+-- ---- what the kept heads reach, from one packet to another
+
+end_joined : (apid : ℕ) (before packets : List (List ℕ)) →
+    end_of (kept apid fresh (before ++ packets)) ≡ end_from (end_of (kept apid fresh before)) (kept apid (after_all apid fresh before) packets)
+unfolding end_of
+end_joined apid before packets =
+    ap (end_from 0) (kept-append apid fresh before packets)
+    ∙ fold-append (λ most packet. max most (end_in packet)) 0 (kept apid fresh before) (kept apid (after_all apid fresh before) packets)
+
+end_rises : (n : ℕ) (packets : List (List ℕ)) → n ≤ end_from n packets
+end_rises n [] = omega arith
+end_rises n (x ∷ xs) = let rest = end_rises (max n (end_in x)) xs in omega (arith, rest)
+
+pub end_more : (apid : ℕ) (before packets : List (List ℕ)) → end_of (kept apid fresh before) ≤ end_of (kept apid fresh (before ++ packets))
+end_more apid before packets = let most = end_rises (end_of (kept apid fresh before)) (kept apid (after_all apid fresh before) packets) in omega (arith, most, end_joined apid before packets)
+
+-- a segment that begins: they reach its end
+pub end_begun : (apid : ℕ) (before : List (List ℕ)) (packet : List ℕ) (start : SegmentStart) → Starts apid (after_all apid fresh before) packet start →
+    end_of (kept apid fresh (before ++ packet ∷ [])) ≡ start.ancillary.first + start.head.blocks
+end_begun apid before packet start starts =
+    let s = after_all apid fresh before in
+    let f = first_leaves apid s packet (end_of (kept apid fresh before)) start (all_left apid before) starts in
+    end_joined apid before (packet ∷ []) ∙ first_reaches apid s packet start (end_of (kept apid fresh before)) starts f.begun.through
+
+-- packets that begin none leave the end, the geometry and the index of the last place
+pub end_none : (apid : ℕ) (before packets : List (List ℕ)) → BeginsNone apid (after_all apid fresh before) packets →
+    end_of (kept apid fresh (before ++ packets)) ≡ end_of (kept apid fresh before)
+end_none apid before packets none = end_joined apid before packets ∙ (none_begun apid (after_all apid fresh before) packets none).ended (end_of (kept apid fresh before))
+
+pub geometry_none : (apid : ℕ) (s : FateState) (packets : List (List ℕ)) → BeginsNone apid s packets → (after_all apid s packets).geometry ≡ s.geometry
+geometry_none apid s packets none = (none_begun apid s packets none).geometry
+
+pub index_none : (apid : ℕ) (s : FateState) (packets : List (List ℕ)) → BeginsNone apid s packets → last_index (after_all apid s packets).last ≡ last_index s.last
+index_none apid s packets none = (none_begun apid s packets none).last
+
+-- so do packets after which the last place is in the same segment
+pub geometry_same : (apid : ℕ) (s : FateState) (packets : List (List ℕ)) → last_index (after_all apid s packets).last ≡ last_index s.last →
+    (after_all apid s packets).geometry ≡ s.geometry
+geometry_same apid s packets same = geometry_none apid s packets (stays_none apid s packets same)
+
+pub end_same : (apid : ℕ) (before packets : List (List ℕ)) → last_index (after_all apid (after_all apid fresh before) packets).last ≡ last_index (after_all apid fresh before).last →
+    end_of (kept apid fresh (before ++ packets)) ≡ end_of (kept apid fresh before)
+end_same apid before packets same = end_none apid before packets (stays_none apid (after_all apid fresh before) packets same)
+
+-- ---- from the first kept packet on
+
+-- a height that is known stays so
+one_known : (apid : ℕ) (s : FateState) (n : ℕ) (x : List ℕ) (g : Geometry) → IsLeft s n → s.geometry ≡ Some g → g.rows ≢ 0 → (after apid s x).geometry ≡ Some g
+one_known apid s n x g left is known = by (is_first apid s x) refl
+  where
+    by : (b : Bool) → is_first apid s x ≡ b → (after apid s x).geometry ≡ Some g
+    by false e = geometry_none apid s (x ∷ []) (e, tt) ∙ is
+    by true e =
+        let some = starts_with apid s x e in
+        let f = first_leaves apid s x n some.0 left some.1 in
+        f.geometry ∙ ap Some (f.begun.known g is known)
+
+known_on : (apid : ℕ) (s : FateState) (n : ℕ) (packets : List (List ℕ)) (g : Geometry) → IsLeft s n → s.geometry ≡ Some g → g.rows ≢ 0 → (after_all apid s packets).geometry ≡ Some g
+known_on apid s n [] g left is known = is
+known_on apid s n (x ∷ xs) g left is known =
+    known_on apid (after apid s x) (end_from n (kept apid s (x ∷ []))) xs g (one_left apid s x n left) (one_known apid s n x g left is known) known
+
+pub geometry_known : (apid : ℕ) (before packets : List (List ℕ)) (g : Geometry) → (after_all apid fresh before).geometry ≡ Some g → g.rows ≢ 0 →
+    (after_all apid (after_all apid fresh before) packets).geometry ≡ Some g
+geometry_known apid before packets g = known_on apid (after_all apid fresh before) (end_of (kept apid fresh before)) packets g (all_left apid before)
+
+-- so does that it is reported last
+told_on : (apid : ℕ) (s : FateState) (packets : List (List ℕ)) (g : Geometry) → s.geometry ≡ Some g → (after_all apid s packets).told_last ≡ s.told_last
+told_on apid s [] g is = refl
+told_on apid s (x ∷ xs) g is =
+    let one = told_one apid s x g is in
+    told_on apid (after apid s x) xs one.0 one.1 ∙ one.2
+
+pub told_last_open : (apid : ℕ) (packets more : List (List ℕ)) (g : Geometry) → (after_all apid fresh packets).geometry ≡ Some g → g.rows ≡ 0 →
+    (after_all apid (after_all apid fresh packets) more).told_last ≡ true
+told_last_open apid packets more g geometry untold =
+    told_on apid (after_all apid fresh packets) more g geometry ∙ (elim (all_left apid packets).by [
+      | inl none ↦ absurd (let no : None ≡ Some g = sym none.geometry ∙ geometry in cc)
+      | inr begun ↦
+          let leaves = leaves_at (after_all apid fresh packets) (end_of (kept apid fresh packets)) g begun.l (all_left apid packets) geometry begun.last in
+          told_if g (after_all apid fresh packets).told_last begun.l.index (end_of (kept apid fresh packets)) leaves untold
+    ])
+
+-- ---- a segment that begins
+
+-- What its first packet leaves, after any packets. The geometry after it is in range if that before it was, or if the image's number is.
+pub record Begun (apid : ℕ) (s : FateState) (packet : List ℕ) (start : SegmentStart) : Type 0 where
+  pub image : Geometry
+  pub geometry : (after apid s packet).geometry ≡ Some image
+  pub range : (s.geometry ≡ None → start.ancillary.image ≤ 65535) → ((g : Geometry) → s.geometry ≡ Some g → IsGeometryInRange g) → IsGeometryInRange image
+  pub segment : start.ancillary.segment ≡ image.segment
+  pub first : start.ancillary.first ≡ first_block image.segment start.ancillary.index
+  pub within : start.ancillary.first < blocks_of (placed image)
+  pub within_told : image.rows ≢ 0 → start.ancillary.first < blocks_of image
+  pub blocks : start.head.blocks ≡ min image.segment (blocks_of (placed image) - start.ancillary.first)
+  pub head : IsHead start.head
+  pub weights : start.head.image.weights.shifts ≡ image.weights.shifts
+  pub last : (after apid s packet).last ≡ Some (part_in packet)
+  pub index : index_in packet ≡ start.ancillary.index
+  pub later : (l : LastPart) → s.last ≡ Some l → l.index < start.ancillary.index
+  pub known : (g : Geometry) → s.geometry ≡ Some g → g.rows ≢ 0 → image ≡ g
+  pub same : (g : Geometry) → s.geometry ≡ Some g → image ≡ record g { rows = image.rows }
+  pub height : image.rows ≢ 0 → IsWithin rows_range image.rows
+  -- the segments before it are wholly before it
+  pub past : (l : LastPart) → s.last ≡ Some l → first_block image.segment (l.index + 1) ≤ start.ancillary.first
+  pub whole : (l : LastPart) → s.last ≡ Some l → image.rows ≢ 0 → min image.segment (blocks_of image - first_block image.segment l.index) ≡ image.segment
+
+known_height : (g : Geometry) → (g.rows ≡ 0) ⊎ IsWithin rows_range g.rows → g.rows ≢ 0 → IsWithin rows_range g.rows
+known_height g (inl none) some = absurd (some none)
+known_height g (inr within) some = within
+
+pub begun_by : (apid : ℕ) (before : List (List ℕ)) (packet : List ℕ) (start : SegmentStart) → Starts apid (after_all apid fresh before) packet start →
+    Begun apid (after_all apid fresh before) packet start
+begun_by apid before packet start starts =
+    let s = after_all apid fresh before in
+    let f = first_leaves apid s packet (end_of (kept apid fresh before)) start (all_left apid before) starts in
+    let b = f.begun in
+    let g = f.g in
+    let low = b.first in
+    let told : g.rows ≢ 0 → start.ancillary.first < blocks_of g = λ some. omega (arith, low, blocks_known g some) in
+    record {
+      image = g;
+      geometry = f.geometry;
+      range = b.range;
+      segment = b.segment;
+      first = b.first_is;
+      within = b.first;
+      within_told = told;
+      blocks = b.blocks;
+      head = b.head;
+      weights = b.shifts;
+      last = f.last;
+      index = f.index;
+      later = b.later;
+      known = b.known;
+      same = b.same;
+      height = known_height g b.height;
+      past = b.after_last;
+      whole = λ l last some.
+          let far = b.after_last l last in
+          let lt = told some in
+          let next : (l.index + 1) * g.segment ≡ l.index * g.segment + g.segment = grind arith in
+          omega (arith, far, next, lt);
+    }

@@ -1,0 +1,91 @@
+-- Of a geometry only the height changes, and the rows that the kept heads reach don't fall.
+use Rattle.std.proofs.Common.{◌≡◌, ◌⊎◌, inl, inr, ◌≤◌, ◌<◌, ℕ, List, [], ◌∷◌, ◌++◌, refl, sym, ap, subst, ◌∙◌, arith}
+use Rattle.std.specs.Prelude.{◌≢◌, Bool, true, false, ◌==◌, None, Some}
+use Rattle.std.proofs.lemmas.Bool.{false≢true}
+use Rattle.base_122.specs.Sizes.{block_count, total_blocks}
+use Rattle.base_122.specs.Ranges.{IsWithin, rows_range}
+use Rattle.base_122.specs.declared.geometry.Geometry.{Geometry}
+use Rattle.stream_defs.specs.declared.fate.FateState.{FateState}
+use Rattle.stream_defs.specs.Agreement.{blocks_of}
+use Rattle.stream_defs.specs.Fates.{fresh, after, after_all, kept}
+use Rattle.stream_defs.specs.Begun.{end_of, placed, rows_reached}
+use Rattle.stream_defs.proofs.ChosenLaws.{after_all-append}
+use Rattle.stream_defs.proofs.PlacedLaws.{is_open, blocks_known, within_not, reached_known, reached_rises, reached_few}
+use Rattle.packet_assembly.specs.Assembling.{is_first}
+use Rattle.packet_assembly.proofs.Agreed.{equal_so}
+use Rattle.packet_assembly.proofs.Begun.{Leaves, HasBegun, IsLeft, first_leaves}
+use Rattle.packet_assembly.proofs.Ends.{end_from, starts_with, one_left, all_left}
+use Rattle.packet_assembly.proofs.Images.{leaves_at, geometry_none, geometry_known, end_more}
+
+-- of the geometry only the height changes
+one_more : (apid : ℕ) (s : FateState) (n : ℕ) (x : List ℕ) (g : Geometry) → IsLeft s n → s.geometry ≡ Some g → (h : Geometry) × ((after apid s x).geometry ≡ Some h) × (h ≡ record g { rows = h.rows })
+one_more apid s n x g left is = by (is_first apid s x) refl
+  where
+    by : (b : Bool) → is_first apid s x ≡ b → (h : Geometry) × ((after apid s x).geometry ≡ Some h) × (h ≡ record g { rows = h.rows })
+    by false e = (g, geometry_none apid s (x ∷ []) (e, tt) ∙ is, refl)
+    by true e =
+        let some = starts_with apid s x e in
+        let f = first_leaves apid s x n some.0 left some.1 in
+        (f.g, f.geometry, f.begun.same g is)
+
+more_on : (apid : ℕ) (s : FateState) (n : ℕ) (packets : List (List ℕ)) (g : Geometry) → IsLeft s n → s.geometry ≡ Some g →
+    (h : Geometry) × ((after_all apid s packets).geometry ≡ Some h) × (h ≡ record g { rows = h.rows })
+more_on apid s n [] g left is = (g, is, refl)
+more_on apid s n (x ∷ xs) g left is =
+    let one = one_more apid s n x g left is in
+    let rest = more_on apid (after apid s x) (end_from n (kept apid s (x ∷ []))) xs one.0 (one_left apid s x n left) one.1 in
+    (rest.0, rest.1, rest.2 ∙ ap (λ (k : Geometry). record k { rows = (rest.0).rows }) one.2)
+
+pub geometry_more : (apid : ℕ) (before packets : List (List ℕ)) (g : Geometry) → (after_all apid fresh before).geometry ≡ Some g →
+    (h : Geometry) × ((after_all apid (after_all apid fresh before) packets).geometry ≡ Some h) × (h ≡ record g { rows = h.rows })
+geometry_more apid before packets g = more_on apid (after_all apid fresh before) (end_of (kept apid fresh before)) packets g (all_left apid before)
+
+-- ---- rows
+
+reached_by : (g h : Geometry) (m n : ℕ) → h ≡ record g { rows = h.rows } → 0 < block_count g.width → m ≤ n → n ≤ blocks_of (placed h) → (h.rows ≡ 0) ⊎ IsWithin rows_range h.rows →
+    (g.rows ≢ 0 → h ≡ g) → rows_reached g m ≤ rows_reached h n
+reached_by g h m n sized some le few height stays = by (g.rows == 0) refl
+  where
+    reported : g.rows ≡ 0 → (h.rows ≡ 0) ⊎ IsWithin rows_range h.rows → rows_reached g m ≤ rows_reached h n
+    reported untold (inl still) =
+        let same : h ≡ g = sized ∙ ap (λ k. record g { rows = k }) (still ∙ sym untold) in
+        subst (λ (k : Geometry). rows_reached g m ≤ rows_reached k n) (sym same) (reached_rises g m n some le)
+    reported untold (inr within) =
+        let known = within_not h.rows within in
+        let width : h.width ≡ g.width = ap (λ (k : Geometry). k.width) sized in
+        let all : blocks_of (placed h) ≡ total_blocks g.width h.rows = blocks_known h known ∙ ap (λ w. total_blocks w h.rows) width in
+        let low = reached_few g h.rows m untold some within (omega (arith, le, few, all)) in
+        omega (arith, low, reached_known h n known)
+
+    by : (b : Bool) → (g.rows == 0) ≡ b → rows_reached g m ≤ rows_reached h n
+    by true e = reported (equal_so g.rows 0 e) height
+    by false e =
+        let same : h ≡ g = stays (λ none. false≢true (sym e ∙ is_open g.rows none)) in
+        subst (λ (k : Geometry). rows_reached g m ≤ rows_reached k n) (sym same) (reached_rises g m n some le)
+
+-- the rows that the kept heads reach don't fall
+pub reached_more : (apid : ℕ) (before packets : List (List ℕ)) (g h : Geometry) → (after_all apid fresh before).geometry ≡ Some g → (after_all apid fresh (before ++ packets)).geometry ≡ Some h →
+    rows_reached g (end_of (kept apid fresh before)) ≤ rows_reached h (end_of (kept apid fresh (before ++ packets)))
+reached_more apid before packets g h first last = by (geometry_more apid before packets g first)
+  where
+    joined : after_all apid fresh (before ++ packets) ≡ after_all apid (after_all apid fresh before) packets
+    joined = after_all-append apid fresh before packets
+
+    leaves : (begun : HasBegun (after_all apid fresh (before ++ packets)) (end_of (kept apid fresh (before ++ packets)))) → Leaves h (after_all apid fresh (before ++ packets)).told_last begun.l.index (end_of (kept apid fresh (before ++ packets)))
+    leaves begun = leaves_at (after_all apid fresh (before ++ packets)) (end_of (kept apid fresh (before ++ packets))) h begun.l (all_left apid (before ++ packets)) last begun.last
+
+    by : (k : Geometry) × ((after_all apid (after_all apid fresh before) packets).geometry ≡ Some k) × (k ≡ record g { rows = k.rows }) →
+        rows_reached g (end_of (kept apid fresh before)) ≤ rows_reached h (end_of (kept apid fresh (before ++ packets)))
+    by there = elim (all_left apid (before ++ packets)).by [
+      | inl none ↦ absurd (let no : None ≡ Some h = sym none.geometry ∙ last in cc)
+      | inr begun ↦
+          let left = leaves begun in
+          let at : (after_all apid (after_all apid fresh before) packets).geometry ≡ Some h = ap (λ (s : FateState). s.geometry) (sym joined) ∙ last in
+          let same : there.0 ≡ h = let e : Some there.0 ≡ Some h = sym there.1 ∙ at in cc in
+          let sized : h ≡ record g { rows = h.rows } = subst (λ (k : Geometry). k ≡ record g { rows = k.rows }) same there.2 in
+          let width : h.width ≡ g.width = ap (λ (k : Geometry). k.width) sized in
+          let wide = left.wide in
+          let rise : end_of (kept apid fresh before) ≤ end_of (kept apid fresh (before ++ packets)) = end_more apid before packets in
+          reached_by g h (end_of (kept apid fresh before)) (end_of (kept apid fresh (before ++ packets))) sized (omega (arith, wide, width)) rise left.within left.height
+          (λ some. let e : Some h ≡ Some g = sym at ∙ geometry_known apid before packets g first some in cc)
+    ]

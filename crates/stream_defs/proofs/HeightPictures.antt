@@ -1,0 +1,83 @@
+-- The first rows of a picture, whatever the height, and what the blocks that aren't received change of them.
+use Rattle.std.proofs.Common.{◌≡◌, ◌≤◌, ◌<◌, ◌+◌, ◌-◌, ◌*◌, ℕ, zero, suc, ℤ, List, map, ◌++◌, refl, sym, ap, ◌∙◌, arith}
+use Rattle.std.specs.Prelude.{Option}
+use Rattle.std.specs.List.{range_with_len, flat_map}
+use Rattle.base_122.specs.Sizes.{block_count}
+use Rattle.base_122.specs.Ranges.{IsWithin, rows_range}
+use Rattle.base_122.specs.declared.geometry.Geometry.{Geometry}
+use Rattle.raster_rows.specs.Pixels.{clamped, raster_octets, pixel_octets}
+use Rattle.wave_defs.proofs.ReachLaws.{rising-reach}
+use Rattle.stream_defs.specs.Begun.{band_rows, placed, placed_rows}
+use Rattle.stream_defs.specs.Picture.{number_at, pyramid_with, picture_of, picture_with, whole_with}
+use Rattle.stream_defs.proofs.PlacedLaws.{is_open, placed_open}
+
+-- ---- octets
+
+row_same : (a b : ℕ → ℤ) (width from : ℕ) → ((j : ℕ) → from ≤ j → j < from + width → a j ≡ b j) → map a (range_with_len from width) ≡ map b (range_with_len from width)
+row_same a b zero from same = refl
+row_same a b (suc n) from same =
+    let first = same from (omega arith) (omega arith) in
+    let rest = row_same a b n (from + 1) (λ j low high. same j (omega (arith, low)) (omega (arith, high))) in
+    cc
+
+rows_same : (depth width : ℕ) (a b : ℕ → ℕ → ℤ) (rows from : ℕ) → ((i j : ℕ) → from ≤ i → i < from + rows → j < width → a i j ≡ b i j) →
+    flat_map (λ row. pixel_octets depth (map (a row) (range_with_len 0 width))) (range_with_len from rows) ≡ flat_map (λ row. pixel_octets depth (map (b row) (range_with_len 0 width))) (range_with_len from rows)
+rows_same depth width a b zero from same = refl
+rows_same depth width a b (suc n) from same =
+    let row = λ (x : ℕ → ℕ → ℤ) (i : ℕ). pixel_octets depth (map (x i) (range_with_len 0 width)) in
+    let first = row_same (a from) (b from) width 0 (λ j low high. same from j (omega arith) (omega arith) (omega (arith, high))) in
+    let rest = rows_same depth width a b n (from + 1) (λ i j low high lt. same i j (omega (arith, low)) (omega (arith, high)) lt) in
+    ap (λ zs. zs ++ flat_map (row a) (range_with_len (from + 1) n)) (ap (pixel_octets depth) first) ∙ ap (λ zs. row b from ++ zs) rest
+
+-- images whose first rows are the same have the same octets of them
+pub raster_same : (depth rows width : ℕ) (a b : ℕ → ℕ → ℤ) → ((i j : ℕ) → i < rows → j < width → a i j ≡ b i j) → raster_octets depth rows width a ≡ raster_octets depth rows width b
+raster_same depth rows width a b same = rows_same depth width a b rows 0 (λ i j low high lt. same i j (omega (arith, high)) lt)
+
+-- ---- any two heights
+
+column_within : (width j : ℕ) → j < width → j < 8 * block_count width
+column_within width j lt = omega (arith, lt)
+
+-- The rows below 8 * n - 21 of a picture are the same for any two heights of at least n block rows.
+pub heights_alike : (g : Geometry) (numbers : ℕ → ℕ → ℤ) (r r' n i j : ℕ) → 2 ≤ block_count g.width → n ≤ r → n ≤ r' → i < 8 * n - 21 → j < g.width →
+    picture_of g numbers r i j ≡ picture_of g numbers r' i j
+unfolding picture_of
+heights_alike g numbers r r' n i j wide least least' low across =
+    let c = block_count g.width in
+    let p = pyramid_with numbers c g.weights.shifts in
+    ap (clamped g.depth g.signed) (rising-reach p p r r' c n i j least least' wide (omega (arith, low)) (column_within g.width j across) (λ t s row column. record { at = λ k small. refl }))
+
+-- the height in a geometry doesn't count
+pub sized_same : (g : Geometry) (rows : ℕ) (numbers : ℕ → ℕ → ℤ) (r : ℕ) → picture_of (record g { rows = rows }) numbers r ≡ picture_of g numbers r
+unfolding picture_of
+sized_same g rows numbers r = refl
+
+-- nor does it for the numbers of its blocks
+pub number_sized : (g : Geometry) (rows : ℕ) (received : ℕ → Option (List (List ℤ))) → number_at (record g { rows = rows }) received ≡ number_at g received
+unfolding number_at
+number_sized g rows received = refl
+
+band_open : (g : Geometry) (n : ℕ) → g.rows ≡ 0 → band_rows g n ≡ n + 3
+band_open g n e = rw (is_open g.rows e) refl
+
+module _ (g : Geometry) (numbers : ℕ → ℕ → ℤ) (untold : g.rows ≡ 0) (wide : 2 ≤ block_count g.width) (n k : ℕ) (low : k ≤ 8 * n - 21) where
+  -- while the height isn't reported they are those of the tallest image
+  pub placed_pixels : n ≤ block_count (placed_rows g) → (i j : ℕ) → i < k → j < g.width → whole_with (placed g) numbers i j ≡ picture_with g numbers n i j
+  placed_pixels few i j row column =
+      ap (λ (f : ℕ → ℕ → ℤ). f i j) (sized_same g (placed_rows g) numbers (block_count (placed_rows g)))
+      ∙ heights_alike g numbers (block_count (placed_rows g)) (band_rows g n) n i j wide few (omega (arith, band_open g n untold)) (omega (arith, row, low)) column
+
+  pub placed_octets : n ≤ block_count (placed_rows g) → raster_octets g.depth k g.width (whole_with (placed g) numbers) ≡ raster_octets g.depth k g.width (picture_with g numbers n)
+  placed_octets few = raster_same g.depth k g.width (whole_with (placed g) numbers) (picture_with g numbers n) (placed_pixels few)
+
+  -- and those of the image, once it is
+  pub sized_pixels : (rows : ℕ) → IsWithin rows_range rows → n ≤ block_count rows → (i j : ℕ) → i < k → j < g.width → whole_with (placed g) numbers i j ≡ whole_with (record g { rows = rows }) numbers i j
+  sized_pixels rows within few i j row column =
+      let most : block_count rows ≤ block_count (placed_rows g) = let high = within.1 in omega (arith, high, placed_open g untold) in
+      ap (λ (f : ℕ → ℕ → ℤ). f i j) (sized_same g (placed_rows g) numbers (block_count (placed_rows g)))
+      ∙ heights_alike g numbers (block_count (placed_rows g)) (block_count rows) n i j wide (omega (arith, few, most)) few (omega (arith, row, low)) column
+      ∙ sym (ap (λ (f : ℕ → ℕ → ℤ). f i j) (sized_same g rows numbers (block_count rows)))
+
+  pub sized_octets : (rows : ℕ) → IsWithin rows_range rows → n ≤ block_count rows →
+      raster_octets g.depth k g.width (whole_with (placed g) numbers) ≡ raster_octets g.depth k g.width (whole_with (record g { rows = rows }) numbers)
+  sized_octets rows within few = raster_same g.depth k g.width (whole_with (placed g) numbers) (whole_with (record g { rows = rows }) numbers) (sized_pixels rows within few)
