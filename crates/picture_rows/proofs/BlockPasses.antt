@@ -11,8 +11,10 @@ use Rattle.base_122.specs.declared.geometry.Geometry.{Geometry}
 use Rattle.wave_defs.specs.Pyramid.{Pyramid}
 use Rattle.wave_defs.specs.Blocks.{Place, place_of, block_side, weight_at}
 use Rattle.wave_defs.proofs.BlockLaws.{place_of-is_place}
+use Rattle.stream_defs.specs.Settled.{rows_through, block_rows_before}
 use Rattle.block_families.specs.Places.{place_in, Scatters}
 use Rattle.inverse_strip.specs.declared.strip.StripInverse.{StripInverse}
+use Rattle.inverse_strip.specs.Kept.{IsCompletion}
 use Rattle.inverse_strip.specs.Strip.{columns_of, height_of, taken_of, next_of, numbers_of, FollowStrip, IsNext, Keeps}
 use Rattle.inverse_strip.proofs.NextLemmas.{IsNext-blocks}
 use Rattle.picture_rows.specs.declared.picture.PictureAt.{PictureAt}
@@ -20,7 +22,7 @@ use Rattle.picture_rows.specs.Fronts.{bands_of, rows_of}
 use Rattle.picture_rows.specs.Pictures.{Shown, IsSized, IsStanding, StandsFor, HasRoom, passed_in}
 use Rattle.picture_rows.specs.Steps.{GoesOn, BreaksOff, StoodFor, HasNone, HasNextSet, HasNextNumbers, HasPassed, PassesBlock, GivesRows}
 use Rattle.picture_rows.proofs.BandBlocks.{coefficient_with, part_is, zero_is}
-use Rattle.picture_rows.proofs.RowGives.{goes_then, breaks_then}
+use Rattle.picture_rows.proofs.RowGives.{completes_before, goes_then, breaks_then}
 
 -- ---- past one block
 
@@ -63,8 +65,10 @@ column_passed p a standing room lt =
           rows = sized.rows;
           column = lt;
           none = λ e. absurd (omega (arith, e, inside));
+          next_most = sized.next_most;
         };
-        idle = standing.idle;
+        next_settled = standing.next_settled;
+        all_made = standing.all_made;
       };
       geometry = refl;
       count = omega arith;
@@ -95,13 +99,21 @@ module _ (p : Shown) (t : StripInverse) (standing : IsStanding p) (room : HasRoo
   full : p.at.column + 1 ≡ block_count p.geometry.width
   full = let column = standing.sized.column in omega (arith, column, last)
 
+  -- an image that may go on from it may go on from the block row before
+  completes : (r : ℕ) → IsCompletion (taken_of t) (height_of t) r → IsCompletion (taken_of p.strip) (height_of p.strip) r
+  completes r is =
+      let sized = standing.sized in
+      let inside = row_there p sized room in
+      let more = is.more in
+      record { more = omega (arith, more, pushed.taken); whole = λ e. absurd (omega (arith, e, sized.taken, sized.height, inside)) }
+
   row_stands : (numbers : ℕ → ℕ → ℤ) → HasNextSet p numbers → StandsFor numbers (past_row p t)
   row_stands numbers set =
       let sized = standing.sized in
       let bands = bands_of p.geometry numbers in
       let next : IsNext bands p.at.row p.strip = IsNext-blocks bands p.at.row p.strip (λ column i lt small. set.set column i (omega (arith, lt, p.strip.next_wide, sized.columns, full)) small) in
       record {
-        strip = pushed.follows bands (block_count p.geometry.rows) set.strip (subst (λ n. IsNext bands n p.strip) (sym sized.taken) next);
+        strip = λ r is. pushed.follows bands r (set.strip r (completes r is)) (subst (λ n. IsNext bands n p.strip) (sym sized.taken) next);
         set = λ column i lt small. absurd (omega (arith, lt));
         unset = λ column i le lt small. pushed.zero _;
       }
@@ -129,14 +141,27 @@ module _ (p : Shown) (t : StripInverse) (standing : IsStanding p) (room : HasRoo
         goes = goes_then refl (λ numbers before stands. stands) (row_goes a) rows.goes;
       }
 
-  pub row_broke : (a b : Outside) → BreaksOff (StoodFor (past_row p t)) a b (past_row p t) → BreaksOff (HasNextSet p) a b p
-  row_broke a b broken = breaks_then refl (λ numbers before stands. stands) (row_goes a) broken
+  -- those are the whole block rows past its last block
+  rows_whole : p.at.row + 1 ≡ block_rows_before p.geometry (passed_in p + 1)
+  rows_whole =
+      let c = block_count p.geometry.width in
+      let more : (p.at.row + 1) * c ≡ p.at.row * c + c = grind arith in
+      let count : (p.at.row + 1) * c + 0 ≡ passed_in p + 1 = omega (arith, more, full) in
+      let column = standing.sized.column in
+      sym (div-mul-add (p.at.row + 1) c 0 (omega (arith, column))) ∙ ap (λ n. n / c) count
+
+  pub row_broke : (a b : Outside) → BreaksOff (StoodFor (past_row p t)) (p.at.row + 1) a b (past_row p t) → BreaksOff (HasNextSet p) (block_rows_before p.geometry (passed_in p + 1)) a b p
+  row_broke a b broken = subst (λ r. BreaksOff (HasNextSet p) r a b p) rows_whole (breaks_then refl (λ numbers before stands. stands) (row_goes a) broken)
 
   pub rows_passed : {T E : Type 0} (r : Result T E) (a b : Outside) (z : Shown) → GivesRows r a b (past_row p t) z → PassesBlock r (HasNextSet p) a b p z
   rows_passed (Ok x) a b z rows = row_passed a b z rows
   rows_passed (Err e) a b z broken = row_broke a b broken
 
 -- ---- a block whose numbers are known
+
+-- the rows that the block rows past the next block determine
+abbrev through : Geometry → PictureAt → ℕ
+through g at = rows_through g (block_rows_before g (at.row * block_count g.width + at.column + 1))
 
 -- so they are set
 passes_set : {T E : Type 0} {B C : (ℕ → ℕ → ℤ) → Type 0} (r : Result T E) (p q z : Shown) (a b : Outside) → q.geometry ≡ p.geometry → q.at ≡ p.at → ((numbers : ℕ → ℕ → ℤ) → B numbers → C numbers) → PassesBlock r C a b q z → PassesBlock r B a b p z
@@ -160,8 +185,8 @@ passes_set {B = B} {C = C} (Err e) p q z a b same at f broken = record {
   given = λ numbers known.
       let there = broken.given numbers (f numbers known) in (
         there.0,
-        subst (λ (x : PictureAt). rows_of p.geometry numbers x.next ++ broken.gave ≡ take there.0 (rows_of p.geometry numbers p.geometry.rows)) at
-            (subst (λ (g : Geometry). rows_of g numbers q.at.next ++ broken.gave ≡ take there.0 (rows_of g numbers g.rows)) same there.1),
+        subst (λ (x : PictureAt). rows_of p.geometry numbers x.next ++ broken.gave ≡ take there.0 (rows_of p.geometry numbers (through p.geometry x))) at
+            (subst (λ (g : Geometry). rows_of g numbers q.at.next ++ broken.gave ≡ take there.0 (rows_of g numbers (through g q.at))) same there.1),
       );
 }
 
@@ -222,7 +247,7 @@ module _ (p : Shown) (t : StripInverse) (xs : List ℤ) (standing : IsStanding p
       let g = p.geometry in
       let stands = held.stands in
       record {
-        strip = keeps.follows _ _ stands.strip;
+        strip = λ r is. keeps.follows _ _ (stands.strip r (completes_before p.strip t r keeps.taken keeps.height is));
         set = λ column i lt small. elim (cases_lt column p.at.column) [
           | inl before ↦ stays column i small (λ e. absurd (omega (arith, e, before))) ∙ stands.set column i before small
           | inr from ↦

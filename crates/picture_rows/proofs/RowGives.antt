@@ -1,7 +1,8 @@
 -- A row of a picture that is made and given.
-use Rattle.std.proofs.Common.{◌≡◌, ◌<◌, ◌≤◌, ◌+◌, ◌-◌, ◌*◌, ℕ, ℤ, Bool, List, [], ◌∷◌, ◌++◌, length, take, map, refl, sym, ap, subst, ◌∙◌, arith, ⊎_elim, append_assoc}
-use Rattle.std.specs.Prelude.{min, Result, Ok, Err, IsErr}
+use Rattle.std.proofs.Common.{◌≡◌, ◌<◌, ◌≤◌, ◌+◌, ◌-◌, ◌*◌, ◌==◌, ℕ, ℤ, Bool, List, [], ◌∷◌, ◌++◌, length, take, map, refl, sym, ap, subst, ◌∙◌, arith, ⊎_elim, append_assoc}
+use Rattle.std.specs.Prelude.{true, false, min, if◌then◌else◌, Result, Ok, Err, IsErr}
 use Rattle.std.proofs.lemmas.Bool.{false≢true}
+use Rattle.std.proofs.lemmas.Bool.Decides.{nat_tests}
 use Rattle.std.specs.List.{range_with_len}
 use Rattle.std.proofs.lemmas.List.{append-nil, take-append-le}
 use Rattle.std.proofs.Math.Seq.{take-append-add}
@@ -18,6 +19,7 @@ use Rattle.raster_rows.specs.Pixels.{pixel_octets, clamped, raster_octets}
 use Rattle.raster_rows.proofs.RasterLaws.{row_pixels, rows_from}
 use Rattle.raster_rows.proofs.MadeLaws.{raster_octets-more, rows_from-append}
 use Rattle.stream_defs.specs.Picture.{picture_of, whole_with}
+use Rattle.stream_defs.specs.Settled.{rows_through}
 use Rattle.inverse_strip.specs.declared.strip.StripInverse.{StripInverse}
 use Rattle.inverse_strip.specs.Strip.{columns_of, height_of, taken_of, next_of, numbers_of, row_of, FollowStrip}
 use Rattle.inverse_strip.specs.Kept.{IsCompletion, HasNext, IsIdle}
@@ -48,19 +50,20 @@ module _ (g : Geometry) (numbers : ℕ → ℕ → ℤ) (n : ℕ) where
       let e : min (n + 1) g.rows ≡ min n g.rows = omega arith in
       ap (λ k. raster_octets g.depth k g.width (whole_with g numbers)) e
 
--- the first rows begin the picture
-pub front-begins : (g : Geometry) (numbers : ℕ → ℕ → ℤ) (n : ℕ) → (more : List ℕ) × (rows_of g numbers g.rows ≡ rows_of g numbers n ++ more)
+-- the first rows begin with fewer of them
+pub front-begins : (g : Geometry) (numbers : ℕ → ℕ → ℤ) (m n : ℕ) → m ≤ n → (more : List ℕ) × (rows_of g numbers n ≡ rows_of g numbers m ++ more)
 unfolding rows_of
-front-begins g numbers n =
-    let k = min n g.rows in
+front-begins g numbers m n le =
+    let k = min m g.rows in
+    let l = min n g.rows - k in
     let image = whole_with g numbers in
-    let all : min g.rows g.rows ≡ k + (g.rows - k) = omega arith in
-    (rows_from g.depth g.width image (0 + k) (g.rows - k), ap (λ m. raster_octets g.depth m g.width image) all ∙ rows_from-append g.depth g.width image 0 k (g.rows - k))
+    let all : min n g.rows ≡ k + l = omega (arith, le) in
+    (rows_from g.depth g.width image (0 + k) l, ap (λ i. raster_octets g.depth i g.width image) all ∙ rows_from-append g.depth g.width image 0 k l)
 
 -- a part of what comes after the first rows
-pub front-part : (g : Geometry) (numbers : ℕ → ℕ → ℤ) (n m : ℕ) (octets more : List ℕ) → rows_of g numbers g.rows ≡ rows_of g numbers n ++ (octets ++ more) → m ≤ length octets →
-    (some : ℕ) × (rows_of g numbers n ++ take m octets ≡ take some (rows_of g numbers g.rows))
-front-part g numbers n m octets more whole le =
+pub front-part : (g : Geometry) (numbers : ℕ → ℕ → ℤ) (n m all : ℕ) (octets more : List ℕ) → rows_of g numbers all ≡ rows_of g numbers n ++ (octets ++ more) → m ≤ length octets →
+    (some : ℕ) × (rows_of g numbers n ++ take m octets ≡ take some (rows_of g numbers all))
+front-part g numbers n m all octets more whole le =
     let before = rows_of g numbers n in
     (length before + m, sym (ap (take (length before + m)) whole ∙ take-append-add before (octets ++ more) m ∙ ap (λ zs. before ++ zs) (take-append-le m octets more le)))
 
@@ -119,8 +122,15 @@ completes p sized =
     let taken = sized.taken in
     record { more = omega (arith, rows, taken); whole = λ _. sym sized.height }
 
-sized_on : (p : Shown) (t : StripInverse) (next : ℕ) → IsSized p → height_of t ≡ height_of p.strip → columns_of t ≡ columns_of p.strip → taken_of t ≡ taken_of p.strip → next_of t ≡ next → IsSized (stepped p t next)
-sized_on p t next sized height width taken given = record {
+-- an image that a strip may have begun, of another strip that took the same block rows
+pub completes_before : (s t : StripInverse) (r : ℕ) → taken_of t ≡ taken_of s → height_of t ≡ height_of s → IsCompletion (taken_of t) (height_of t) r → IsCompletion (taken_of s) (height_of s) r
+completes_before s t r taken height is =
+    let more = is.more in
+    record { more = omega (arith, more, taken); whole = λ e. is.whole (taken ∙ e ∙ sym height) ∙ height }
+
+sized_on : (p : Shown) (t : StripInverse) (next : ℕ) → IsSized p → height_of t ≡ height_of p.strip → columns_of t ≡ columns_of p.strip → taken_of t ≡ taken_of p.strip → next_of t ≡ next →
+    (p.at.row < block_count p.geometry.rows → next ≤ 8 * p.at.row - 21) → IsSized (stepped p t next)
+sized_on p t next sized height width taken given most = record {
   range = sized.range;
   columns = width ∙ sized.columns;
   height = height ∙ sized.height;
@@ -129,9 +139,10 @@ sized_on p t next sized height width taken given = record {
   rows = sized.rows;
   column = sized.column;
   none = sized.none;
+  next_most = most;
 }
 
-stands_on : (p : Shown) (t : StripInverse) (next columns : ℕ) (numbers : ℕ → ℕ → ℤ) → FollowStrip (bands_of p.geometry numbers) (block_count p.geometry.rows) t →
+stands_on : (p : Shown) (t : StripInverse) (next columns : ℕ) (numbers : ℕ → ℕ → ℤ) → ((r : ℕ) → IsCompletion (taken_of t) (height_of t) r → FollowStrip (bands_of p.geometry numbers) r t) →
     ((q : Place) → numbers_of t q ≡ numbers_of p.strip q) → StandsTo columns numbers p → StandsTo columns numbers (stepped p t next)
 stands_on p t next columns numbers strip same stands = record {
   strip = strip;
@@ -143,22 +154,37 @@ pub same_but : (p : Shown) (t : StripInverse) (next : ℕ) → SameBut p (steppe
 same_but p t next = record { geometry = refl; row = refl; column = refl }
 
 module _ (p : Shown) (t : StripInverse) (sized : IsSized p) (made : RowMade p.strip t) where
+  could_next : HasNext p.at.row p.at.next (block_count p.geometry.rows)
+  could_next = subst (λ h. HasNext p.at.row p.at.next h) sized.height (subst (λ n. HasNext p.at.row n (height_of p.strip)) sized.next (subst (λ k. HasNext k (next_of p.strip) (height_of p.strip)) sized.taken made.could))
+
+  most_next : p.at.row < block_count p.geometry.rows → p.at.next + 1 ≤ 8 * p.at.row - 21
+  most_next lt = ⊎_elim (λ (few : _). omega (arith, few)) (λ (whole : _). absurd (omega (arith, whole.0, lt))) could_next.made
+
   sized_next : IsSized (stepped p t (p.at.next + 1))
-  sized_next = sized_on p t (p.at.next + 1) sized made.height made.width made.taken (made.next ∙ ap (λ n. n + 1) sized.next)
+  sized_next = sized_on p t (p.at.next + 1) sized made.height made.width made.taken (made.next ∙ ap (λ n. n + 1) sized.next) most_next
+
+  -- it is one of the rows that the block rows so far determine
+  next_through : p.at.next < p.geometry.rows → p.at.next + 1 ≤ rows_through p.geometry p.at.row
+  next_through lt = by (p.at.row == block_count p.geometry.rows) refl
+    where
+      by : (b : Bool) → (p.at.row == block_count p.geometry.rows) ≡ b → p.at.next + 1 ≤ (if b then p.geometry.rows else 8 * p.at.row - 21)
+      by true e = omega (arith, lt)
+      by false e =
+          let other : p.at.row ≡ block_count p.geometry.rows → ⊥ = λ all. (let hit : (p.at.row == block_count p.geometry.rows) ≡ true = grind (arith, nat_tests) in absurd (let both : true ≡ false = sym hit ∙ e in cc)) in
+          let within = sized.rows in
+          most_next (omega (arith, other, within))
 
   follows_next : (numbers : ℕ → ℕ → ℤ) → StandsFor numbers p → StandsFor numbers (stepped p t (p.at.next + 1))
   follows_next numbers stands =
-      stands_on p t (p.at.next + 1) p.at.column numbers (made.follows _ _ (completes p sized) stands.strip) made.numbers stands
-
-  could_next : HasNext p.at.row p.at.next (block_count p.geometry.rows)
-  could_next = subst (λ h. HasNext p.at.row p.at.next h) sized.height (subst (λ n. HasNext p.at.row n (height_of p.strip)) sized.next (subst (λ k. HasNext k (next_of p.strip) (height_of p.strip)) sized.taken made.could))
+      stands_on p t (p.at.next + 1) p.at.column numbers
+      (λ r is. let before = completes_before p.strip t r made.taken made.height is in made.follows _ r before (stands.strip r before)) made.numbers stands
 
   -- the octets of the row
   octets_next : length (row_of t) ≡ 8 * columns_of t → (numbers : ℕ → ℕ → ℤ) → StandsFor numbers p →
       pixel_octets p.geometry.depth (map (clamped p.geometry.depth p.geometry.signed) (take p.geometry.width (row_of t)))
       ≡ pixel_octets p.geometry.depth (row_pixels p.geometry.width (whole_with p.geometry numbers p.at.next))
   octets_next long numbers stands =
-      let value = made.value _ _ (completes p sized) stands.strip in
+      let value = made.value _ _ (completes p sized) (stands.strip _ (completes p sized)) in
       let at : Agrees (8 * columns_of p.strip) (signal (row_of t)) (rebuilt (bands_of p.geometry numbers) (block_count p.geometry.rows) (columns_of p.strip) p.at.next) =
       subst (λ n. Agrees (8 * columns_of p.strip) (signal (row_of t)) (rebuilt (bands_of p.geometry numbers) (block_count p.geometry.rows) (columns_of p.strip) n)) sized.next value in
       made_octets p.geometry numbers p.at.next (columns_of p.strip) (row_of t) sized.columns (long ∙ ap (λ n. 8 * n) made.width) at
@@ -197,7 +223,7 @@ module _ (p : Shown) (t : StripInverse) (sized : IsSized p) (made : RowMade p.st
   -- a part of a row of the picture was given
   pub row_broken : length (row_of t) ≡ 8 * columns_of t → (a b : Outside) (m : ℕ) → p.at.next < p.geometry.rows → Rose a.write_faults b.write_faults →
       let octets = pixel_octets p.geometry.depth (map (clamped p.geometry.depth p.geometry.signed) (take p.geometry.width (row_of t))) in
-      m ≤ length octets → Since a b [] (take m octets) [] NoRead → BreaksOff (StoodFor p) a b p
+      m ≤ length octets → Since a b [] (take m octets) [] NoRead → BreaksOff (StoodFor p) p.at.row a b p
   row_broken long a b m lt rose le out = record {
     gave = _;
     out = out;
@@ -205,30 +231,42 @@ module _ (p : Shown) (t : StripInverse) (sized : IsSized p) (made : RowMade p.st
     given = λ numbers stands.
         let g = p.geometry in
         let octets = pixel_octets g.depth (map (clamped g.depth g.signed) (take g.width (row_of t))) in
-        let later = front-begins g numbers (p.at.next + 1) in
-        let whole : rows_of g numbers g.rows ≡ rows_of g numbers p.at.next ++ (octets ++ later.0) =
+        let all = rows_through g p.at.row in
+        let later = front-begins g numbers (p.at.next + 1) all (next_through lt) in
+        let whole : rows_of g numbers all ≡ rows_of g numbers p.at.next ++ (octets ++ later.0) =
         later.1 ∙ ap (λ zs. zs ++ later.0) (front-more g numbers p.at.next lt) ∙ append_assoc (rows_of g numbers p.at.next) (row_octets g numbers p.at.next) later.0
         ∙ ap (λ zs. rows_of g numbers p.at.next ++ (zs ++ later.0)) (sym (octets_next long numbers stands)) in
-        front-part g numbers p.at.next m octets later.0 whole le;
+        front-part g numbers p.at.next m all octets later.0 whole le;
   }
 
-pub row_failed : {E : Type 0} {a b : Outside} {p : Shown} (q : Shown) (r : Result Bool E) → IsErr r → BreaksOff (StoodFor p) a b p → GivesRow r a b p q
+pub row_failed : {E : Type 0} {a b : Outside} {p : Shown} (q : Shown) (r : Result Bool E) → IsErr r → BreaksOff (StoodFor p) p.at.row a b p → GivesRow r a b p q
 row_failed q (Ok x) is broken = absurd (false≢true is)
 row_failed q (Err e) is broken = broken
 
-pub rows_failed : {T E : Type 0} {a b : Outside} {p : Shown} (q : Shown) (r : Result T E) → IsErr r → BreaksOff (StoodFor p) a b p → GivesRows r a b p q
+pub rows_failed : {T E : Type 0} {a b : Outside} {p : Shown} (q : Shown) (r : Result T E) → IsErr r → BreaksOff (StoodFor p) p.at.row a b p → GivesRows r a b p q
 rows_failed q (Ok x) is broken = absurd (false≢true is)
 rows_failed q (Err e) is broken = broken
 
 -- none was left
 pub row_none : (p : Shown) (t : StripInverse) (a : Outside) → IsSized p → NoneMade p.strip t → HasNone a a p (stepped p t p.at.next)
 row_none p t a sized none = record {
-  standing = record { sized = sized_on p t p.at.next sized none.height none.width none.taken (none.next ∙ sized.next); idle = none.idle };
+  standing = record {
+    sized = sized_on p t p.at.next sized none.height none.width none.taken (none.next ∙ sized.next) sized.next_most;
+    next_settled = λ lt.
+        let waits = none.idle.next_waits (omega (arith, lt, none.taken, none.height, sized.taken, sized.height)) in
+        let most = sized.next_most lt in
+        omega (arith, waits, most, none.taken, none.next, sized.taken, sized.next);
+    all_made = λ e.
+        let all = none.idle.all_given (none.taken ∙ sized.taken ∙ e ∙ sym (none.height ∙ sized.height)) in
+        omega (arith, all, none.taken, none.next, sized.taken, sized.next);
+  };
   same = same_but p t p.at.next;
   goes = record {
     gave = [];
     out = since_start a NoRead;
-    follows = λ numbers stands. stands_on p t p.at.next p.at.column numbers (none.follows _ _ (completes p sized) stands.strip) none.numbers stands;
+    follows = λ numbers stands.
+        stands_on p t p.at.next p.at.column numbers
+        (λ r is. let before = completes_before p.strip t r none.taken none.height is in none.follows _ r before (stands.strip r before)) none.numbers stands;
     given = λ numbers stands. append-nil (rows_of p.geometry numbers p.at.next);
   };
 }
@@ -250,16 +288,16 @@ goes_then {B = B} {C = C} {a = a} {b = b} {c = c} {x = x} {y = y} {z = z} same f
 }
 
 -- rows go on, and then a write fails
-pub breaks_then : {B C : (ℕ → ℕ → ℤ) → Type 0} {a b c : Outside} {x y : Shown} → y.geometry ≡ x.geometry → ((numbers : ℕ → ℕ → ℤ) → B numbers → StandsFor numbers y → C numbers) →
-    GoesOn B a b x y → BreaksOff C b c y → BreaksOff B a c x
-breaks_then {B = B} {C = C} {a = a} {b = b} {c = c} {x = x} {y = y} same f u v = record {
+pub breaks_then : {B C : (ℕ → ℕ → ℤ) → Type 0} {r : ℕ} {a b c : Outside} {x y : Shown} → y.geometry ≡ x.geometry → ((numbers : ℕ → ℕ → ℤ) → B numbers → StandsFor numbers y → C numbers) →
+    GoesOn B a b x y → BreaksOff C r b c y → BreaksOff B r a c x
+breaks_then {B = B} {C = C} {r = r} {a = a} {b = b} {c = c} {x = x} {y = y} same f u v = record {
   gave = u.gave ++ v.gave;
   out = since_out u.out v.out;
   rose = rose_since u.out.faults.writes v.rose;
   given = λ numbers before.
       let later = v.given numbers (f numbers before (u.follows numbers before)) in
-      let there : rows_of x.geometry numbers y.at.next ++ v.gave ≡ take later.0 (rows_of x.geometry numbers x.geometry.rows) =
-      subst (λ (g : Geometry). rows_of g numbers y.at.next ++ v.gave ≡ take later.0 (rows_of g numbers g.rows)) same later.1 in
+      let there : rows_of x.geometry numbers y.at.next ++ v.gave ≡ take later.0 (rows_of x.geometry numbers (rows_through x.geometry r)) =
+      subst (λ (g : Geometry). rows_of g numbers y.at.next ++ v.gave ≡ take later.0 (rows_of g numbers (rows_through g r))) same later.1 in
       (later.0, sym (append_assoc (rows_of x.geometry numbers x.at.next) u.gave v.gave) ∙ ap (λ zs. zs ++ v.gave) (u.given numbers before) ∙ there);
 }
 
@@ -290,5 +328,5 @@ given_then u v = record { sized = v.sized; same = same_then u.same v.same; goes 
 pub given_all : {a b c : Outside} {x y z : Shown} → HasGivenSome a b x y → HasNone b c y z → HasNone a c x z
 given_all u v = record { standing = v.standing; same = same_then u.same v.same; goes = goes_then u.same.geometry (λ numbers before stands. stands) u.goes v.goes }
 
-pub given_broken : {a b c : Outside} {x y : Shown} → HasGivenSome a b x y → BreaksOff (StoodFor y) b c y → BreaksOff (StoodFor x) a c x
-given_broken u v = breaks_then u.same.geometry (λ numbers before stands. stands) u.goes v
+pub given_broken : {a b c : Outside} {x y : Shown} → HasGivenSome a b x y → BreaksOff (StoodFor y) y.at.row b c y → BreaksOff (StoodFor x) x.at.row a c x
+given_broken {a = a} {c = c} {x = x} u v = subst (λ r. BreaksOff (StoodFor x) r a c x) u.same.row (breaks_then u.same.geometry (λ numbers before stands. stands) u.goes v)

@@ -1,11 +1,11 @@
 -- What a picture holds, and for which blocks. This project's own.
-use Rattle.std.specs.Prelude.{◌≡◌, ◌≤◌, ◌<◌, ◌+◌, ◌*◌, ℕ, ℤ, pos}
+use Rattle.std.specs.Prelude.{◌≡◌, ◌≤◌, ◌<◌, ◌+◌, ◌-◌, ◌*◌, ℕ, ℤ, pos}
 use Rattle.base_122.specs.Sizes.{block_count, total_blocks}
 use Rattle.base_122.specs.Ranges.{IsGeometryInRange}
 use Rattle.base_122.specs.declared.geometry.Geometry.{Geometry}
 use Rattle.wave_defs.specs.Blocks.{coefficient}
 use Rattle.block_families.specs.Places.{place_in}
-use Rattle.inverse_strip.specs.Kept.{IsIdle}
+use Rattle.inverse_strip.specs.Kept.{IsCompletion}
 use Rattle.inverse_strip.specs.Samples.{strip_samples}
 use Rattle.inverse_strip.specs.Strip.{columns_of, height_of, taken_of, next_of, numbers_of, FollowStrip}
 use Rattle.inverse_strip.specs.declared.strip.StripInverse.{StripInverse}
@@ -37,7 +37,8 @@ passed_in p = p.at.row * block_count p.geometry.width + p.at.column
 abbrev pub HasRoom : Shown → Type 0
 HasRoom p = passed_in p < total_in p
 
--- its parts are those of its geometry, and stand at the place that it has come to
+-- Its parts are those of its geometry, and are at the place that it has reached. Until all block rows were taken, at most the rows
+-- were made that the block rows so far determine.
 pub record IsSized (p : Shown) : Type 0 where
   pub range : IsGeometryInRange p.geometry
   pub columns : columns_of p.strip ≡ block_count p.geometry.width
@@ -47,18 +48,21 @@ pub record IsSized (p : Shown) : Type 0 where
   pub rows : p.at.row ≤ block_count p.geometry.rows
   pub column : p.at.column < block_count p.geometry.width
   pub none : p.at.row ≡ block_count p.geometry.rows → p.at.column ≡ 0
+  pub next_most : p.at.row < block_count p.geometry.rows → p.at.next ≤ 8 * p.at.row - 21
 
--- and no row is left to be given before the next block row
+-- Exactly the rows were made that the r block rows so far determine: the first 8 * r - 21, or all if these are all block rows.
 pub record IsStanding (p : Shown) : Type 0 where
   pub sized : IsSized p
-  pub idle : IsIdle (taken_of p.strip) (next_of p.strip) (height_of p.strip)
+  pub next_settled : p.at.row < block_count p.geometry.rows → p.at.next ≡ 8 * p.at.row - 21
+  pub all_made : p.at.row ≡ block_count p.geometry.rows → p.at.next ≡ 8 * p.at.row
 
 -- ---- for which blocks
 
--- Blocks with these numbers, counted in raster order, whatever those are that come later: the strip took the whole block rows of
--- them, and the next block row has the numbers of the blocks in its first columns, and else zeros.
+-- Blocks with these numbers, counted in raster order, whatever the later ones are: the strip took the whole block rows of them,
+-- of an image of any height that it may still have, and the next block row has the numbers of the blocks in its first columns,
+-- and else zeros.
 pub record StandsTo (columns : ℕ) (numbers : ℕ → ℕ → ℤ) (p : Shown) : Type 0 where
-  pub strip : FollowStrip (bands_of p.geometry numbers) (block_count p.geometry.rows) p.strip
+  pub strip : (r : ℕ) → IsCompletion (taken_of p.strip) (height_of p.strip) r → FollowStrip (bands_of p.geometry numbers) r p.strip
   pub set : (column i : ℕ) → column < columns → i < 64 →
       numbers_of p.strip (place_in column i) ≡ coefficient (bands_of p.geometry numbers) p.at.row column i
   pub unset : (column i : ℕ) → columns ≤ column → column < block_count p.geometry.width → i < 64 →

@@ -2,6 +2,7 @@
 use Rattle.std.specs.Prelude.{◌≡◌, ◌<◌, ◌+◌, ℕ, ℤ, pos, List, ◌++◌, [], Bool, true, false, Result, Ok, Err, MatchResult, slice_index_or, take}
 use Rattle.port_122.specs.Outside.{Outside, Since, NoRead, Rose}
 use Rattle.base_122.specs.Sizes.{block_count}
+use Rattle.stream_defs.specs.Settled.{rows_through, block_rows_before}
 use Rattle.inverse_strip.specs.Kept.{HasNext}
 use Rattle.picture_rows.specs.Fronts.{rows_of}
 use Rattle.picture_rows.specs.Pictures.{Shown, IsSized, IsStanding, StandsTo, StandsFor, passed_in}
@@ -16,13 +17,13 @@ pub record GoesOn (Before : (ℕ → ℕ → ℤ) → Type 0) (p q : Outside) (o
   pub follows : (numbers : ℕ → ℕ → ℤ) → Before numbers → StandsFor numbers new
   pub given : (numbers : ℕ → ℕ → ℤ) → Before numbers → rows_of old.geometry numbers old.at.next ++ gave ≡ rows_of old.geometry numbers new.at.next
 
--- a write failed meanwhile, and a part of the picture is given
-pub record BreaksOff (Before : (ℕ → ℕ → ℤ) → Type 0) (p q : Outside) (old : Shown) : Type 0 where
+-- a write failed meanwhile, and a prefix is given of the rows of the picture that r whole block rows determine
+pub record BreaksOff (Before : (ℕ → ℕ → ℤ) → Type 0) (r : ℕ) (p q : Outside) (old : Shown) : Type 0 where
   pub gave : List ℕ
   pub out : Since p q [] gave [] NoRead
   pub rose : Rose p.write_faults q.write_faults
   pub given : (numbers : ℕ → ℕ → ℤ) → Before numbers →
-      (some : ℕ) × (rows_of old.geometry numbers old.at.next ++ gave ≡ take some (rows_of old.geometry numbers old.geometry.rows))
+      (some : ℕ) × (rows_of old.geometry numbers old.at.next ++ gave ≡ take some (rows_of old.geometry numbers (rows_through old.geometry r)))
 
 abbrev pub StoodFor : Shown → (ℕ → ℕ → ℤ) → Type 0
 StoodFor p numbers = StandsFor numbers p
@@ -50,7 +51,7 @@ pub record HasNone (p q : Outside) (old new : Shown) : Type 0 where
 abbrev pub GivesRow : {E : Type 0} → Result Bool E → (p q : Outside) (old new : Shown) → Type 0
 GivesRow (Ok true) p q old new = HasGiven p q old new
 GivesRow (Ok false) p q old new = HasNone p q old new
-GivesRow (Err e) p q old new = BreaksOff (StoodFor old) p q old
+GivesRow (Err e) p q old new = BreaksOff (StoodFor old) old.at.row p q old
 
 -- some were made
 pub record HasGivenSome (p q : Outside) (old new : Shown) : Type 0 where
@@ -59,7 +60,7 @@ pub record HasGivenSome (p q : Outside) (old new : Shown) : Type 0 where
   pub goes : GoesOn (StoodFor old) p q old new
 
 abbrev pub GivesRows : {T E : Type 0} → Result T E → (p q : Outside) (old new : Shown) → Type 0
-GivesRows result p q old new = MatchResult result (λ _. HasNone p q old new) (λ _. BreaksOff (StoodFor old) p q old)
+GivesRows result p q old new = MatchResult result (λ _. HasNone p q old new) (λ _. BreaksOff (StoodFor old) old.at.row p q old)
 
 -- ---- blocks
 
@@ -80,4 +81,15 @@ pub record HasPassed (Before : (ℕ → ℕ → ℤ) → Type 0) (p q : Outside)
   pub goes : GoesOn Before p q old new
 
 abbrev pub PassesBlock : {T E : Type 0} → Result T E → ((ℕ → ℕ → ℤ) → Type 0) → (p q : Outside) (old new : Shown) → Type 0
-PassesBlock result Before p q old new = MatchResult result (λ _. HasPassed Before p q old new) (λ _. BreaksOff Before p q old)
+PassesBlock result Before p q old new = MatchResult result (λ _. HasPassed Before p q old new) (λ _. BreaksOff Before (block_rows_before old.geometry (passed_in old + 1)) p q old)
+
+-- ---- the height
+
+-- The image has this number of rows now, and all else is as before: the rows that were given are the first ones of the image of
+-- either height.
+pub record HasEnded (rows : ℕ) (old new : Shown) : Type 0 where
+  pub standing : IsStanding new
+  pub geometry : new.geometry ≡ record old.geometry { rows = rows }
+  pub at : new.at ≡ old.at
+  pub follows : (numbers : ℕ → ℕ → ℤ) → StandsFor numbers old → StandsFor numbers new
+  pub given : (numbers : ℕ → ℕ → ℤ) → rows_of new.geometry numbers new.at.next ≡ rows_of old.geometry numbers old.at.next

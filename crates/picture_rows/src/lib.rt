@@ -5,6 +5,8 @@
 mod blocks;
 mod picture;
 mod rows;
+#[cfg(test)]
+mod tests;
 
 pub use blocks::{lose_block, put_block};
 pub use picture::{Picture, PictureAt};

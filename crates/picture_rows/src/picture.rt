@@ -26,11 +26,14 @@ pub struct Picture {
 }
 
 impl Picture {
-    ghost use Rattle.std.specs.Prelude.{◌≡◌, ◌≤◌, ◌*◌, IfOk};
+    ghost use Rattle.std.specs.Prelude.{◌≡◌, ◌≤◌, ◌<◌, ◌*◌, IfOk};
     ghost use Rattle.base_122.specs.Ranges.{IsGeometryInRange, IsWithin, rows_range};
-    ghost use Rattle.picture_rows.specs.Pictures.{shown, samples_of, IsFresh};
+    ghost use Rattle.base_122.specs.Sizes.{total_blocks};
+    ghost use Rattle.picture_rows.specs.Pictures.{shown, samples_of, passed_in, IsFresh, IsStanding};
+    ghost use Rattle.picture_rows.specs.Steps.{HasEnded};
 
-    /// Takes all memory that a picture of this geometry, whose height is known, needs (docs/architecture.md, "The decoder"). The one error is want of memory.
+    /// Takes all memory that a picture of this geometry needs (docs/architecture.md, "The decoder"). If its height is reported last, it
+    /// has the greatest height until `end_at` is called. The one error is want of memory.
     pub fn new(alloc: Global, geometry: &Geometry) -> Result<Picture, AllocError>
         requires range { IsGeometryInRange geometry.now }
         requires height { IsWithin rows_range geometry.now.rows }
@@ -46,6 +49,19 @@ impl Picture {
             },
             strip,
         })
+    }
+
+    /// Sets the number of rows of the image, 17 to 262,144 and at most the number that it had (docs/formats.md, "Levels and padding").
+    /// At least one block of an image of this height is still to be passed. The rows that were given are its first rows too.
+    pub fn end_at(&mut self, rows: u32)
+        requires standing { IsStanding (shown self.old) }
+        requires range { IsWithin rows_range rows }
+        requires fewer { rows ≤ self.old.geometry.rows }
+        requires more { passed_in (shown self.old) < total_blocks self.old.geometry.width rows }
+        ensures { HasEnded rows (shown self.old) (shown self.new) }
+    {
+        self.geometry.rows = rows;
+        self.strip.end_at(self.geometry.padded_rows());
     }
 
     /// The samples that it holds.
