@@ -1,14 +1,14 @@
 -- What is given at each read call.
 use Rattle.std.proofs.Common.{◌≡◌, ◌≤◌, ◌<◌, ◌+◌, ◌*◌, ◌/◌, ℕ, ℤ, List, [], ◌∷◌, ◌++◌, length, take, drop, refl, sym, ap, subst, ◌∙◌, inl, inr, arith, append_assoc, length-append}
-use Rattle.std.specs.Prelude.{◌==◌, if◌then◌else◌, Option, None, Some, is_some, MatchOption}
-use Rattle.std.proofs.lemmas.Bool.{cases_lt, ne_eqb}
+use Rattle.std.specs.Prelude.{◌%◌, if◌then◌else◌, true, false, Option, None, Some, is_some, slice_index_or, MatchOption}
+use Rattle.std.specs.Option.{option_map}
+use Rattle.std.proofs.lemmas.Bool.{cases_lt, false≢true}
 use Rattle.std.proofs.lemmas.List.{append-nil, take-append-le, take-append-drop}
 use Rattle.std.proofs.lemmas.Nat.{div_below}
 use Rattle.std.proofs.Math.Seq.{take-append-add}
 use Rattle.port_122.specs.Outside.{Outside, Since, NoRead}
 use Rattle.port_122.proofs.Stretches.{since_then, since_out, since_weaker}
-use Rattle.base_122.specs.Ranges.{IsWithin, rows_range}
-use Rattle.base_122.specs.Sizes.{first_block, segment_blocks}
+use Rattle.base_122.specs.Sizes.{first_block}
 use Rattle.base_122.specs.declared.geometry.Geometry.{Geometry}
 use Rattle.packet_defs.specs.Packets.{joined}
 use Rattle.packet_defs.specs.Streams.{whole_packets, left_over}
@@ -16,18 +16,21 @@ use Rattle.packet_defs.proofs.Splits.{whole_splits}
 use Rattle.stream_defs.specs.declared.fate.FateState.{FateState}
 use Rattle.stream_defs.specs.declared.fate.LastPart.{LastPart}
 use Rattle.stream_defs.specs.Agreement.{blocks_of}
-use Rattle.stream_defs.specs.Fates.{fresh, after_all, kept, kept_in, state_after, geometry_in}
+use Rattle.stream_defs.specs.Fates.{fresh, after_all, kept, kept_in, state_after}
 use Rattle.stream_defs.specs.Received.{IsReceived, ReceivedIn}
 use Rattle.stream_defs.specs.Settled.{blocks_in, blocks_through}
+use Rattle.stream_defs.specs.Begun.{HasFewPixels, end_of, placed, rows_reached}
 use Rattle.stream_defs.proofs.ChosenLaws.{after_all-append}
+use Rattle.stream_defs.proofs.PlacedLaws.{is_open, is_not_open, blocks_known, reached_known}
 use Rattle.packet_assembly.specs.Comings.{coming}
-use Rattle.packet_assembly.specs.Assembling.{Assembling, Passes, state_with}
+use Rattle.packet_assembly.specs.Assembling.{Assembling, Passes, last_index, state_with}
 use Rattle.packet_assembly.specs.Passing.{whole_after}
 use Rattle.packet_assembly.specs.Readings.{HasRead}
-use Rattle.strip_decoder.specs.Sinks.{Numbers, SinkOf, blocks_with}
-use Rattle.strip_decoder.specs.Steps.{Walking, IsStanding, passed_in}
-use Rattle.strip_decoder.specs.Runs.{Run, holds_after, PassedBy, AsksPassed, HasFew, PartBy, Knows, AreOf, Shows, settled_blocks, future}
-use Rattle.strip_decoder.proofs.Between.{geometry_stays}
+use Rattle.packet_assembly.proofs.Images.{end_more, end_same, geometry_known, geometry_same, through_open, told_last_open}
+use Rattle.strip_decoder.specs.Sinks.{Numbers, Blocks, SinkOf, MayEnd, blocks_with}
+use Rattle.strip_decoder.specs.Steps.{Walking, IsStanding, passed_in, total_in}
+use Rattle.strip_decoder.specs.Runs.{Run, holds_after, PassedBy, AsksPassed, HasFew, PartBy, Knows, AreOf, Shows, blocks_passed, settled_blocks, future}
+use Rattle.strip_decoder.proofs.Staying.{StaysIn, known_or_not, stays_on, ends_segment, ends_fewer, part_ends}
 use Rattle.strip_decoder.proofs.Receiving.{one_received}
 use Rattle.strip_decoder.proofs.Showing.{block_by}
 
@@ -53,28 +56,6 @@ state_then w a took octets passed read =
     let more = whole_packets (a.intake.pending ++ octets) in
     ap (after_all w.apid fresh) (packets_then w a took octets passed read) ∙ after_all-append w.apid fresh passed more
     ∙ ap (λ s. after_all w.apid s more) (sym read.state) ∙ ap (λ n. after_all n a.state more) (sym read.apid)
-
--- the geometry that its octets tell
-pub geometry_read : (w : Run) (a : Assembling) (took : List ℕ) (passed : List (List ℕ)) (g : Geometry) → HasRead w.apid w.cap a took passed → a.state.geometry ≡ Some g → geometry_in w.apid took ≡ Some g
-geometry_read w a took passed g read told =
-    ap (λ zs. geometry_in w.apid zs) (sym (append-nil took)) ∙ ap (λ (s : FateState). s.geometry) (state_then w a took [] passed read) ∙ geometry_stays a.apid a.state (whole_packets (a.intake.pending ++ [])) g told
-
--- its pixels are few
-pub geometry_small : (pixels apid : ℕ) (octets : List ℕ) (g : Geometry) → geometry_in apid octets ≡ Some g → g.width * g.rows ≤ pixels → HasFew pixels apid octets
-geometry_small pixels apid octets g told small h there =
-    let same : g ≡ h = (let both : Some g ≡ Some h = sym told ∙ there in cc) in
-    subst (λ (g : Geometry). g.width * g.rows ≤ pixels) same small
-
-pub small_read : (w : Run) (a : Assembling) (g : Geometry) (took : List ℕ) (passed : List (List ℕ)) → HasRead w.apid w.cap a took passed → a.state.geometry ≡ Some g → g.width * g.rows ≤ w.pixels → HasFew w.pixels w.apid took
-small_read w a g took passed read told small = geometry_small w.pixels w.apid took g (geometry_read w a took passed g read told) small
-
--- and so they are in the first octets
-pub few_before : (pixels apid : ℕ) (took : List ℕ) (i : ℕ) → HasFew pixels apid took → HasFew pixels apid (take i took)
-few_before pixels apid took i few g there =
-    let early = take i took in
-    let parts = front_packets early (drop i took) in
-    few g (ap (λ zs. geometry_in apid zs) (sym (take-append-drop i took)) ∙ ap (λ xs. (after_all apid fresh xs).geometry) parts.1 ∙ ap (λ (s : FateState). s.geometry) (after_all-append apid fresh (whole_packets early) parts.0)
-    ∙ geometry_stays apid (after_all apid fresh (whole_packets early)) parts.0 g there)
 
 -- what was passed is the first of what was to come
 pub future_past : {P : FateState → Type 0} {old new : Outside} {a b : Assembling} {went : List (List ℕ)} → (q : Passes P old new a b went) → (rest : List ℕ) → new.rest ≡ Some rest → future a (q.took ++ rest) ≡ went ++ future b rest
@@ -105,39 +86,76 @@ knows_on apid passed went later bound sofar knows = record {
       subst (λ xs. MatchOption (sofar index) ((numbers : List (List ℤ)) → IsReceived holds_after (kept apid fresh xs) index numbers → ⊥) (IsReceived holds_after (kept apid fresh xs) index)) (sym (append_assoc passed went next)) here;
 }
 
-asks_more : {S : Type 0} (k : SinkOf S) (apid : ℕ) (start : Outside) (took t gave g : List ℕ) (i j : ℕ) → i ≤ length took → AsksPassed k apid start took gave i j → AsksPassed k apid start (took ++ t) (gave ++ g) i j
-asks_more k apid start took t gave g i j le asks = (
-  omega (arith, asks.0, length-append gave g),
-  λ all told. subst (λ zs. PassedBy k apid zs (take j (gave ++ g))) (sym (take-append-le i took t le)) (subst (PassedBy k apid (take i took)) (sym (take-append-le j gave g asks.0)) (asks.1 all told)),
-)
+asks_more : {S : Type 0} (k : SinkOf S) (w : Run) (took t gave g : List ℕ) (i j : ℕ) → i ≤ length took → AsksPassed k w took gave i j → AsksPassed k w (took ++ t) (gave ++ g) i j
+asks_more k w took t gave g i j le asks =
+    let early : take i took ≡ take i (took ++ t) = sym (take-append-le i took t le) in (
+      omega (arith, asks.0, length-append gave g),
+      subst (HasFewPixels w.pixels w.apid) early asks.1,
+      λ all told. subst (λ zs. PassedBy k w.apid zs (take j (gave ++ g))) early (subst (PassedBy k w.apid (take i took)) (sym (take-append-le j gave g asks.0)) (asks.2 all told)),
+    )
 
 -- by what was given
-pub wrote_on : {S : Type 0} {start old new : Outside} (k : SinkOf S) (apid : ℕ) (took gave g : List ℕ) → Since start old took gave [] (AsksPassed k apid start took gave) → Since old new [] g [] NoRead → Since start new took (gave ++ g) [] (AsksPassed k apid start took (gave ++ g))
-wrote_on {start = start} k apid took gave g since out =
-    since_out (since_weaker since (λ i j le asks. subst (λ zs. AsksPassed k apid start zs (gave ++ g) i j) (append-nil took) (asks_more k apid start took [] gave g i j le asks))) out
+pub wrote_on : {S : Type 0} {old new : Outside} (k : SinkOf S) (w : Run) (took gave g : List ℕ) → Since w.start old took gave [] (AsksPassed k w took gave) → Since old new [] g [] NoRead → Since w.start new took (gave ++ g) [] (AsksPassed k w took (gave ++ g))
+wrote_on k w took gave g since out =
+    since_out (since_weaker since (λ i j le asks. subst (λ zs. AsksPassed k w zs (gave ++ g) i j) (append-nil took) (asks_more k w took [] gave g i j le asks))) out
+
+-- what is right of these octets, if the port tells what is left
+abbrev pub IsRight : {S : Type 0} → SinkOf S → Run → (taken given : List ℕ) → Type 0
+IsRight k w taken given = HasFewPixels w.pixels w.apid taken × ((all : List ℕ) → w.start.rest ≡ Some all → PassedBy k w.apid taken given)
 
 -- by what was taken, where at each read call what is given is right
-pub took_on : {S : Type 0} {P : FateState → Type 0} {start old new : Outside} {a b : Assembling} {went : List (List ℕ)} (k : SinkOf S) (apid : ℕ) (took gave : List ℕ) → Since start old took gave [] (AsksPassed k apid start took gave) → (q : Passes P old new a b went) →
-    ((octets more all : List ℕ) → q.took ≡ octets ++ more → P (state_with a octets) → start.rest ≡ Some all → PassedBy k apid (took ++ octets) gave) →
-    Since start new (took ++ q.took) gave [] (AsksPassed k apid start (took ++ q.took) gave)
-took_on {P = P} {start = start} {new = new} {a = a} k apid took gave since q right =
+pub took_on : {S : Type 0} {P : FateState → Type 0} {old new : Outside} {a b : Assembling} {went : List (List ℕ)} (k : SinkOf S) (w : Run) (took gave : List ℕ) → Since w.start old took gave [] (AsksPassed k w took gave) → (q : Passes P old new a b went) →
+    ((octets more : List ℕ) → q.took ≡ octets ++ more → P (state_with a octets) → IsRight k w (took ++ octets) gave) →
+    Since w.start new (took ++ q.took) gave [] (AsksPassed k w (took ++ q.took) gave)
+took_on {P = P} {new = new} {a = a} k w took gave since q right =
     let all = took ++ q.took in
-    let first : Since start _ took gave [] (AsksPassed k apid start all gave) =
-    since_weaker since (λ i j le asks. subst (λ zs. AsksPassed k apid start all zs i j) (append-nil gave) (asks_more k apid start took q.took gave [] i j le asks)) in
-    let both : Since start new (took ++ q.took) (gave ++ []) [] (AsksPassed k apid start all gave) =
-    since_then first q.since (λ i j le asks. (
+    let first : Since w.start _ took gave [] (AsksPassed k w all gave) =
+    since_weaker since (λ i j le asks. subst (λ zs. AsksPassed k w all zs i j) (append-nil gave) (asks_more k w took q.took gave [] i j le asks)) in
+    let both : Since w.start new (took ++ q.took) (gave ++ []) [] (AsksPassed k w all gave) =
+    since_then first q.since (λ i j le asks.
+    let here = right (take i q.took) (drop i q.took) (sym (take-append-drop i q.took)) asks.0 in
+    let early = sym (take-append-add took q.took i) in
+    let none : length gave + j ≡ length gave = omega (arith, asks.1) in
+    let whole : take (length gave + j) gave ≡ gave = ap (λ n. take n gave) none ∙ take_whole gave in (
       omega (arith, asks.1),
-      λ every told.
-          let none : length gave + j ≡ length gave = omega (arith, asks.1) in
-          let whole : take (length gave + j) gave ≡ gave = ap (λ n. take n gave) none ∙ take_whole gave in
-          subst (λ zs. PassedBy k apid zs (take (length gave + j) gave)) (sym (take-append-add took q.took i)) (subst (PassedBy k apid (took ++ take i q.took)) (sym whole)
-          (right (take i q.took) (drop i q.took) every (sym (take-append-drop i q.took)) asks.0 told)),
+      subst (HasFewPixels w.pixels w.apid) early here.0,
+      λ every told. subst (λ zs. PassedBy k w.apid zs (take (length gave + j) gave)) early (subst (PassedBy k w.apid (took ++ take i q.took)) (sym whole) (here.1 every told)),
     )) in
-    subst (λ zs. Since start new all zs [] (AsksPassed k apid start all gave)) (append-nil gave) both
+    subst (λ zs. Since w.start new all zs [] (AsksPassed k w all gave)) (append-nil gave) both
   where
     take_whole : (xs : List ℕ) → take (length xs) xs ≡ xs
     take_whole [] = refl
     take_whole (x ∷ xs) = ap (λ zs. x ∷ zs) (take_whole xs)
+
+-- an image stays the one that it was, whatever packets are at hand
+pub stays_with : (w : Run) (a : Assembling) (took octets : List ℕ) (passed : List (List ℕ)) → HasRead w.apid w.cap a took passed → (g : Geometry) (n : ℕ) → StaysIn a.state g n → StaysIn (state_with a octets) g n
+stays_with w a took octets passed read g n stays =
+    let next = whole_packets (a.intake.pending ++ octets) in
+    let there : after_all w.apid fresh (passed ++ next) ≡ state_with a octets = after_all-append w.apid fresh passed next ∙ ap (λ s. after_all w.apid s next) (sym read.state) ∙ ap (λ n. after_all n a.state next) (sym read.apid) in
+    subst (λ s. StaysIn s g n) there (stays_on w.apid passed next g n (subst (λ s. StaysIn s g n) read.state stays))
+
+-- ---- few pixels
+
+-- packets that begin no segment report none
+pub few_same : (pixels apid : ℕ) (passed next : List (List ℕ)) → HasFew pixels apid passed → last_index (after_all apid (after_all apid fresh passed) next).last ≡ last_index (after_all apid fresh passed).last → HasFew pixels apid (passed ++ next)
+few_same pixels apid passed next few same g there =
+    let geometry : (after_all apid fresh passed).geometry ≡ Some g = sym (geometry_same apid (after_all apid fresh passed) next same) ∙ ap (λ (s : FateState). s.geometry) (sym (after_all-append apid fresh passed next)) ∙ there in
+    subst (λ n. g.width * rows_reached g n ≤ pixels) (sym (end_same apid passed next same)) (few g geometry)
+
+-- if the height is reported from the first head on, later heads report the same pixels
+pub few_known : (pixels apid : ℕ) (passed next : List (List ℕ)) (g : Geometry) → (after_all apid fresh passed).geometry ≡ Some g → HasFew pixels apid passed → (after_all apid fresh (passed ++ next)).told_last ≡ false → HasFew pixels apid (passed ++ next)
+few_known pixels apid passed next g geometry few known h there = elim (known_or_not g.rows) [
+  | inl none ↦ absurd (
+      let told : (after_all apid fresh (passed ++ next)).told_last ≡ true = ap (λ (s : FateState). s.told_last) (after_all-append apid fresh passed next) ∙ told_last_open apid passed next g geometry none in
+      false≢true (sym known ∙ told))
+  | inr some ↦
+      let stays : (after_all apid fresh (passed ++ next)).geometry ≡ Some g = ap (λ (s : FateState). s.geometry) (after_all-append apid fresh passed next) ∙ geometry_known apid passed next g geometry some in
+      let same : g ≡ h = (let both : Some g ≡ Some h = sym stays ∙ there in cc) in
+      subst (λ (h : Geometry). h.width * rows_reached h (end_of (kept apid fresh (passed ++ next))) ≤ pixels) same
+      (let here = reached_known g (end_of (kept apid fresh passed)) some in
+      let later = reached_known g (end_of (kept apid fresh (passed ++ next))) some in
+      subst (λ n. g.width * n ≤ pixels) (here ∙ sym later) (few g geometry))
+]
 
 -- ---- the segments that are received
 
@@ -155,10 +173,6 @@ of_received g sofar received n bound some few same = record {
   at = λ block lt. block_by g received sofar block (same (block / g.segment) (div_below block g.segment bound some (omega (arith, lt, few))));
 }
 
--- the blocks of a segment of an image whose height is known
-pub blocks_known : (g : Geometry) (index : ℕ) → IsWithin rows_range g.rows → blocks_in g index ≡ segment_blocks (blocks_of g) g.segment index
-blocks_known g index height = ap (λ b. if b then g.segment else segment_blocks (blocks_of g) g.segment index) (ne_eqb g.rows 0 (λ none. omega (arith, none, height)))
-
 -- the blocks that a state settles
 settled_is : (s : FateState) (received : Numbers) (g : Geometry) (l : LastPart) → s.geometry ≡ Some g → s.last ≡ Some l → settled_blocks s received ≡ blocks_through g received l.index
 settled_is s received g l geometry last =
@@ -166,24 +180,39 @@ settled_is s received g l geometry last =
     let same : s ≡ known = λ i. record { geometry = geometry i; told_last = s.told_last; last = last i } in
     ap (λ s. settled_blocks s received) same
 
+-- blocks that were passed are no more than are passed in the end
+pub within_passed : (g h : Geometry) (n ended : ℕ) → MayEnd g (placed h) n → n ≤ blocks_of g → (h.rows ≡ 0 → n ≤ ended) → n ≤ blocks_passed h ended
+within_passed g h n ended ends few begun = elim (known_or_not h.rows) [
+  | inl none ↦ subst (λ b. n ≤ (if b then ended else blocks_of h)) (sym (is_open h.rows none)) (begun none)
+  | inr some ↦
+      let same = blocks_known h some in
+      subst (λ b. n ≤ (if b then ended else blocks_of h)) (sym (is_not_open h.rows some)) (elim ends [
+        | inl here ↦ let total : blocks_of (placed h) ≡ blocks_of g = ap blocks_of here in omega (arith, same, total, few)
+        | inr e ↦ omega (arith, same, e.more)
+      ])
+]
+
+-- the blocks of segments of this size
+abbrev pub blocks_by : (size : ℕ) → Numbers → Blocks
+blocks_by size received block = option_map (λ numbers. slice_index_or numbers (block % size) []) (received (block / size))
+
 -- ---- what is given is right
 
-module _ {S : Type 0} (k : SinkOf S) (w : Run) (a : Assembling) (p : Walking S) (took gave octets : List ℕ) (passed : List (List ℕ)) (bound : ℕ) (sofar : Numbers) (read : HasRead w.apid w.cap a took passed) (geometry : a.state.geometry ≡ Some p.geometry)
-    (standing : IsStanding k p) (few : passed_in p ≤ first_block p.geometry.segment bound) (later beyond : List (List ℕ)) (parts : later ≡ whole_packets (a.intake.pending ++ octets) ++ beyond) (knows : Knows w.apid passed later bound sofar) where
+module _ {S : Type 0} (k : SinkOf S) (w : Run) (a : Assembling) (p : Walking S) (took gave octets : List ℕ) (passed : List (List ℕ)) (bound : ℕ) (sofar : Numbers) (read : HasRead w.apid w.cap a took passed)
+    (standing : IsStanding k p) (few : passed_in p ≤ first_block p.geometry.segment bound) (begun : passed_in p ≤ end_of (kept w.apid fresh passed))
+    (later beyond : List (List ℕ)) (parts : later ≡ whole_packets (a.intake.pending ++ octets) ++ beyond) (knows : Knows w.apid passed later bound sofar) where
   abbrev next : List (List ℕ)
   next = whole_packets (a.intake.pending ++ octets)
 
-  there : geometry_in w.apid (took ++ octets) ≡ Some p.geometry
-  there = ap (λ (s : FateState). s.geometry) (state_then w a took octets passed read) ∙ geometry_stays a.apid a.state next p.geometry geometry
-
-  pub geometry_then : (g : Geometry) → geometry_in w.apid (took ++ octets) ≡ Some g → p.geometry ≡ g
-  geometry_then g told = let same : Some p.geometry ≡ Some g = sym there ∙ told in cc
-
-  pub not_none : geometry_in w.apid (took ++ octets) ≡ None → ⊥
-  not_none none = let both : None ≡ Some p.geometry = sym none ∙ there in cc
+  state_is : state_after w.apid (took ++ octets) ≡ state_with a octets
+  state_is = state_then w a took octets passed read
 
   kept_are : kept_in w.apid (took ++ octets) ≡ kept w.apid fresh (passed ++ next)
   kept_are = ap (kept w.apid fresh) (packets_then w a took octets passed read)
+
+  -- the kept heads reach no less than before
+  reach_more : (n : ℕ) → n ≤ end_of (kept w.apid fresh passed) → n ≤ end_of (kept_in w.apid (took ++ octets))
+  reach_more n le = let more = end_more w.apid passed next in omega (arith, le, more, ap end_of kept_are)
 
   pub known_same : (received : Numbers) → ReceivedIn holds_after w.apid (took ++ octets) received → (index : ℕ) → index < bound → received index ≡ sofar index
   known_same received are index lt =
@@ -200,27 +229,49 @@ module _ {S : Type 0} (k : SinkOf S) (w : Run) (a : Assembling) (p : Walking S) 
       let blocks = blocks_with p.geometry received in
       k.given_of p.sink p.geometry blocks (passed_in p) gave standing.stands (shows blocks (first_received (passed_in p) few received are)).sink
 
-  -- a part of what the sink gives
-  pub is_part : Shows k p sofar gave → PartBy k w.apid (took ++ octets) gave
-  is_part shows = record {
-    none = λ none. absurd (not_none none);
+  -- a part of what the sink gives of the first n blocks
+  pub part_at : (given : List ℕ) (n : ℕ) → (stays : StaysIn (state_with a octets) p.geometry n) → n ≤ total_in p → (stays.image.rows ≡ 0 → n ≤ end_of (kept w.apid fresh passed)) →
+      ((received : Numbers) → ReceivedIn holds_after w.apid (took ++ octets) received → (m : ℕ) × (m ≤ n) × k.Part p.geometry (blocks_with p.geometry received) m given) → PartBy k w.apid (took ++ octets) given
+  part_at given n stays most reached parted = record {
+    none = λ none. absurd (let both : None ≡ Some stays.image = sym none ∙ ap (λ (s : FateState). s.geometry) state_is ∙ stays.geometry in cc);
     some = λ g received told are.
-        subst (λ g. k.Part g (blocks_with g received) gave) (geometry_then g told) (k.part_of p.geometry (blocks_with p.geometry received) (passed_in p) gave (given_then shows received are));
+        let same : stays.image ≡ g = (let both : Some stays.image ≡ Some g = sym stays.geometry ∙ ap (λ (s : FateState). s.geometry) (sym state_is) ∙ told in cc) in
+        let x = parted received are in
+        let ends = ends_fewer p.geometry (placed stays.image) x.0 n x.1 stays.ends in
+        let segment = ends_segment p.geometry (placed stays.image) n stays.ends in
+        let blocks : blocks_with p.geometry received ≡ blocks_with stays.image received = ap (λ m. blocks_by m received) (sym segment) in
+        subst (λ (g : Geometry). (m : ℕ) × (m ≤ blocks_passed g (end_of (kept_in w.apid (took ++ octets)))) × k.Part (placed g) (blocks_with g received) m given) same (
+          x.0,
+          within_passed p.geometry stays.image x.0 (end_of (kept_in w.apid (took ++ octets))) ends (omega (arith, x.1, most)) (λ none. reach_more x.0 (omega (arith, x.1, reached none))),
+          subst (λ blocks. k.Part (placed stays.image) blocks x.0 given) blocks (part_ends k p.geometry (placed stays.image) (blocks_with p.geometry received) x.0 given ends x.2),
+        );
   }
 
+  pub is_part : StaysIn (state_with a octets) p.geometry (passed_in p) → Shows k p sofar gave → PartBy k w.apid (took ++ octets) gave
+  is_part stays shows = part_at gave (passed_in p) stays standing.few (λ none. begun)
+      (λ received are. (passed_in p, omega arith, k.part_of p.geometry (blocks_with p.geometry received) (passed_in p) gave (given_then shows received are)))
+
   -- and at least past the blocks that are settled
-  pub is_prompt : Shows k p sofar gave → ((index : ℕ) → bound ≤ index → sofar index ≡ None) → ((index : ℕ) (v : List (List ℤ)) → bound ≤ index → IsReceived holds_after (kept w.apid fresh (passed ++ next)) index v → ⊥) →
+  pub is_prompt : (image : Geometry) → (state_with a octets).geometry ≡ Some image → p.geometry ≡ placed image → Shows k p sofar gave → ((index : ℕ) → bound ≤ index → sofar index ≡ None) →
+      ((index : ℕ) (v : List (List ℤ)) → bound ≤ index → IsReceived holds_after (kept w.apid fresh (passed ++ next)) index v → ⊥) →
       (l : LastPart) → (state_with a octets).last ≡ Some l → blocks_through p.geometry sofar l.index ≤ passed_in p → PassedBy k w.apid (took ++ octets) gave
-  is_prompt shows above beyond_none l last_is reached = record {
-    none = λ none. absurd (not_none none);
+  is_prompt image geometry goes_by shows above beyond_none l last_is reached = record {
+    none = λ none. absurd (let both : None ≡ Some image = sym none ∙ ap (λ (s : FateState). s.geometry) state_is ∙ geometry in cc);
     some = λ g received told are.
-        subst (λ g. (n : ℕ) × (n ≤ blocks_of g) × (settled_blocks (state_after w.apid (took ++ octets)) received ≤ n) × k.Given g (blocks_with g received) n gave) (geometry_then g told)
-        (let state = state_then w a took octets passed read in
-        let stands : (state_with a octets).geometry ≡ Some p.geometry = geometry_stays a.apid a.state next p.geometry geometry in
+        let same : image ≡ g = (let both : Some image ≡ Some g = sym geometry ∙ ap (λ (s : FateState). s.geometry) (sym state_is) ∙ told in cc) in
+        subst (λ (g : Geometry). (n : ℕ) × (n ≤ blocks_passed g (end_of (kept_in w.apid (took ++ octets)))) × (settled_blocks (state_after w.apid (took ++ octets)) received ≤ n) × k.Given (placed g) (blocks_with g received) n gave) same
+        (let there : (state_after w.apid (took ++ octets)).geometry ≡ Some image = ap (λ (s : FateState). s.geometry) state_is ∙ geometry in
+        let last : (state_after w.apid (took ++ octets)).last ≡ Some l = ap (λ (s : FateState). s.last) state_is ∙ last_is in
         let settled : settled_blocks (state_after w.apid (took ++ octets)) received ≡ blocks_through p.geometry sofar l.index =
-        ap (λ s. settled_blocks s received) state ∙ settled_is (state_with a octets) received p.geometry l stands last_is
-        ∙ ap (λ o. first_block p.geometry.segment l.index + (if is_some o then blocks_in p.geometry l.index else 0)) (all_same received are l.index) in
-        (passed_in p, standing.few, omega (arith, settled, reached), given_then shows received are));
+        settled_is (state_after w.apid (took ++ octets)) received image l there last
+        ∙ through_open w.apid (whole_packets (took ++ octets)) image received l.index there (ap last_index last)
+        ∙ ap (λ h. blocks_through h received l.index) (sym goes_by)
+        ∙ ap (λ o. first_block p.geometry.segment l.index + (if is_some o then blocks_in p.geometry l.index else 0)) (all_same received are l.index) in (
+          passed_in p,
+          within_passed p.geometry image (passed_in p) (end_of (kept_in w.apid (took ++ octets))) (inl (sym goes_by)) standing.few (λ none. reach_more (passed_in p) begun),
+          omega (arith, settled, reached),
+          subst (λ h. k.Given h (blocks_with h received) (passed_in p) gave) goes_by (given_then shows received are),
+        ));
   }
     where
       all_same : (received : Numbers) → ReceivedIn holds_after w.apid (took ++ octets) received → (index : ℕ) → received index ≡ sofar index

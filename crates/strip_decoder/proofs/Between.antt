@@ -1,134 +1,210 @@
--- Where an assembly stands between the segments of an image.
+-- From one segment to the next.
 use Rattle.std.proofs.Common.{◌≡◌, ◌≤◌, ◌<◌, ◌+◌, ◌*◌, ℕ, List, [], ◌∷◌, ◌++◌, refl, sym, ap, subst, ◌∙◌, inl, inr, arith}
-use Rattle.std.specs.Prelude.{Bool, true, false, ◌==◌, if◌then◌else◌, Option, None, Some, Result, Ok, Err}
-use Rattle.std.proofs.Math.Nat.{mul-le-mul_right}
+use Rattle.std.specs.Prelude.{Option, None, Some, Ok}
+use Rattle.std.proofs.Math.Nat.{mul-le-mul_left, mul-le-mul_right}
 use Rattle.port_122.specs.Outside.{Outside, NoFewerFaults}
-use Rattle.base_122.specs.Sizes.{first_block}
+use Rattle.base_122.specs.Sizes.{block_count, first_block}
+use Rattle.base_122.specs.Ranges.{IsGeometryInRange}
 use Rattle.base_122.specs.declared.geometry.Geometry.{Geometry}
-use Rattle.segment_defs.specs.declared.head.SegmentHead.{SegmentHead}
-use Rattle.segment_defs.specs.declared.fault.HeadFault.{HeadFault}
-use Rattle.segment_defs.specs.Reading.{head_read}
-use Rattle.packet_defs.specs.declared.ancillary.Ancillary.{Ancillary}
-use Rattle.packet_defs.specs.Reading.{ancillary_in, text_in}
 use Rattle.stream_defs.specs.declared.fate.FateState.{FateState}
-use Rattle.stream_defs.specs.declared.fate.LastPart.{LastPart}
-use Rattle.stream_defs.specs.Agreement.{geometry_for, geometry_past}
-use Rattle.stream_defs.specs.Fates.{fresh, fate, after, after_all, is_kept, geometry_with}
-use Rattle.stream_defs.proofs.FateLaws.{after_as_kept, after_as_other}
-use Rattle.stream_defs.proofs.KeptOrder.{is_kept_so}
+use Rattle.stream_defs.specs.Agreement.{blocks_of}
+use Rattle.stream_defs.specs.Begun.{placed}
+use Rattle.stream_defs.specs.Fates.{fresh, after, after_all}
 use Rattle.stream_defs.proofs.ChosenLaws.{after_all-append}
 use Rattle.packet_assembly.specs.declared.note.SegmentStart.{SegmentStart}
 use Rattle.packet_assembly.specs.Assembling.{Assembling, Starts, BeginsNone, last_index, unread_assembly}
 use Rattle.packet_assembly.specs.Segments.{GoesOn, FindsSegment}
-use Rattle.packet_assembly.proofs.KeptPackets.{stays}
-use Rattle.strip_decoder.specs.Sinks.{SinkOf}
-use Rattle.strip_decoder.specs.Steps.{Walking, IsFresh, passed_in}
-use Rattle.strip_decoder.specs.Segments.{FitsImage, FitsNext, IsAt, IsBetween}
-use Rattle.strip_decoder.proofs.Fits.{kept_height, same_past, geometry_at, begun_by}
+use Rattle.packet_assembly.proofs.Images.{begun_by, geometry_none, index_none}
+use Rattle.strip_decoder.specs.Sinks.{SinkOf, MayEnd}
+use Rattle.strip_decoder.specs.Steps.{Walking, IsFresh, passed_in, total_in}
+use Rattle.strip_decoder.specs.Segments.{FitsImage, HasImage, IsAt, IsBetween, MayFollow, MayFollowHeld, IsFound}
+use Rattle.strip_decoder.proofs.Staying.{last_some, fits_begun, stays_here, stays_begun, stays_at}
+
+-- ---- geometries
+
+-- an image of fewer rows has no more blocks
+pub fewer_blocks : (g h : Geometry) → h ≡ record g { rows = h.rows } → h.rows ≤ g.rows → blocks_of h ≤ blocks_of g
+fewer_blocks g h same fewer =
+    let width : block_count h.width ≡ block_count g.width = ap (λ (g : Geometry). block_count g.width) same in
+    let rows : block_count h.rows ≤ block_count g.rows = omega (arith, fewer) in
+    let most : block_count g.width * block_count h.rows ≤ block_count g.width * block_count g.rows = mul-le-mul_left (block_count g.width) rows in
+    omega (arith, ap (λ n. n * block_count h.rows) width, most)
+
+-- a segment that is followed by one in an image that ends earlier is one of that
+pub fits_ended : (g h : Geometry) (n : ℕ) (start next : SegmentStart) → MayEnd g h n → FitsImage g start → FitsImage h next → start.ancillary.index < next.ancillary.index → FitsImage h start
+fits_ended g h n start next ends fits after lt = elim ends [
+  | inl same ↦ subst (λ g. FitsImage g start) (sym same) fits
+  | inr e ↦
+      let segment : h.segment ≡ g.segment = ap (λ (g : Geometry). g.segment) e.same in
+      let first : start.ancillary.first ≡ start.ancillary.index * h.segment = fits.first ∙ ap (λ n. start.ancillary.index * n) (sym segment) in
+      let more : (start.ancillary.index + 1) * h.segment ≤ next.ancillary.index * h.segment = mul-le-mul_right h.segment (omega (arith, lt)) in
+      let one : (start.ancillary.index + 1) * h.segment ≡ start.ancillary.index * h.segment + h.segment = grind arith in
+      let fewer = fewer_blocks g h e.same e.fewer in
+      record {
+        first = first;
+        within = omega (arith, after.within, after.first, first, more, one);
+        blocks = omega (arith, fits.blocks, after.within, after.first, first, more, one, segment, fewer);
+        head = fits.head;
+        weights = fits.weights ∙ ap (λ (g : Geometry). g.weights.shifts) (sym e.same);
+      }
+]
 
 -- ---- states
-
--- a geometry that stands stays
-geometry_kept : (g : Geometry) (a : Ancillary) (r : Result SegmentHead HeadFault) (standing : Option Geometry) (b : Bool) → a.told_last ≡ false → standing ≡ Some g → (if b then geometry_with standing a r else standing) ≡ Some g
-geometry_kept g a (Ok head) standing true known e = ap (λ o. Some (geometry_past (geometry_for o a head.image) a head)) e ∙ ap Some (same_past g a head known)
-geometry_kept g a (Err fault) standing true known e = e
-geometry_kept g a r standing false known e = e
-
-pub geometry_on : (apid : ℕ) (s : FateState) (packet : List ℕ) (g : Geometry) → s.geometry ≡ Some g → (after apid s packet).geometry ≡ Some g
-geometry_on apid s packet g e = by (is_kept (fate apid s packet)) refl
-  where
-    by : (b : Bool) → is_kept (fate apid s packet) ≡ b → (after apid s packet).geometry ≡ Some g
-    by true keeps = ap (λ (s : FateState). s.geometry) (after_as_kept apid s packet (is_kept_so (fate apid s packet) keeps))
-        ∙ geometry_kept g (ancillary_in packet) (head_read (text_in packet)) s.geometry ((ancillary_in packet).part == 0) (kept_height apid s packet keeps) e
-    by false lost = ap (λ (s : FateState). s.geometry) (after_as_other apid s packet lost) ∙ e
-
-pub geometry_stays : (apid : ℕ) (s : FateState) (packets : List (List ℕ)) (g : Geometry) → s.geometry ≡ Some g → (after_all apid s packets).geometry ≡ Some g
-geometry_stays apid s [] g e = e
-geometry_stays apid s (x ∷ xs) g e = geometry_stays apid (after apid s x) xs g (geometry_on apid s x g e)
-
--- the last place stays in its segment where none is begun
-pub index_stays : (apid : ℕ) (s : FateState) (packets : List (List ℕ)) → BeginsNone apid s packets → last_index (after_all apid s packets).last ≡ last_index s.last
-index_stays apid s [] none = refl
-index_stays apid s (x ∷ xs) none = index_stays apid (after apid s x) xs none.1 ∙ stays apid s x none.0
 
 -- packets and then one more
 pub after_more : (apid : ℕ) (s : FateState) (front : List (List ℕ)) (packet : List ℕ) → after_all apid s (front ++ packet ∷ []) ≡ after apid (after_all apid s front) packet
 after_more apid s front packet = after_all-append apid s front (packet ∷ [])
 
-last_some : (o : Option LastPart) (n : ℕ) → last_index o ≡ Some n → (l : LastPart) × (o ≡ Some l) × (l.index ≡ n)
-last_some None n e = absurd (let no : None ≡ Some n = e in cc)
-last_some (Some l) n e = (l, refl, let same : Some l.index ≡ Some n = e in cc)
+-- what an assembly has passed, and some packets more
+pub state_past : (a : Assembling) (image : Geometry) (packets : List (List ℕ)) → (has : HasImage a image) → after_all a.apid a.state packets ≡ after_all a.apid fresh (has.passed ++ packets)
+state_past a image packets has = ap (λ s. after_all a.apid s packets) has.state ∙ sym (after_all-append a.apid fresh has.passed packets)
 
--- ---- the segment that comes next
+-- packets were passed that begin no segment
+pub image_on : (a b : Assembling) (image : Geometry) (packets : List (List ℕ)) → HasImage a image → b.apid ≡ a.apid → b.state ≡ after_all a.apid a.state packets → BeginsNone a.apid a.state packets → HasImage b image
+image_on a b image packets has apid state none = record {
+  passed = has.passed ++ packets;
+  state = state ∙ state_past a image packets has ∙ ap (λ n. after_all n fresh (has.passed ++ packets)) (sym apid);
+  geometry = ap (λ (s : FateState). s.geometry) state ∙ geometry_none a.apid a.state packets none ∙ has.geometry;
+  range = has.range;
+}
 
--- a geometry that stands is that of the image
-same_geometry : (s : FateState) (start : SegmentStart) (g : Geometry) → s.geometry ≡ Some g → geometry_at s start ≡ g
-same_geometry s start g e = ap (λ o. geometry_for o start.ancillary start.head.image) e
+-- ---- the segment that follows
 
--- what is known of a segment that comes after the one of this index
+-- what is known of a segment that follows the one of this index, in an image that was of this geometry
 pub record ComesNext (g : Geometry) (index : ℕ) (s : FateState) (start : SegmentStart) : Type 0 where
-  pub fits : FitsImage g start
+  pub image : Geometry
+  pub geometry : s.geometry ≡ Some image
+  pub range : IsGeometryInRange image
+  pub segment : image.segment ≡ g.segment
+  pub fits : FitsImage (placed image) start
   pub later : index < start.ancillary.index
   pub last : last_index s.last ≡ Some start.ancillary.index
-  pub geometry : s.geometry ≡ Some g
+  pub ends : (n : ℕ) → n ≤ first_block g.segment (index + 1) → MayEnd (placed g) (placed image) n
 
-pub comes_next : (apid : ℕ) (s : FateState) (front : List (List ℕ)) (packet : List ℕ) (start : SegmentStart) (g : Geometry) (index : ℕ) → s.geometry ≡ Some g → last_index s.last ≡ Some index →
-    BeginsNone apid s front → Starts apid (after_all apid s front) packet start → ComesNext g index (after_all apid s (front ++ packet ∷ [])) start
-comes_next apid s front packet start g index geometry last none starts =
-    let there = after_all apid s front in
-    let b = begun_by apid there packet start starts in
-    let stands = geometry_stays apid s front g geometry in
-    let same = same_geometry there start g stands in
-    let l = last_some there.last index (index_stays apid s front none ∙ last) in
-    let more = after_more apid s front packet in
+pub comes_next : (a : Assembling) (front : List (List ℕ)) (packet : List ℕ) (start : SegmentStart) (g : Geometry) (index : ℕ) → HasImage a g → last_index a.state.last ≡ Some index →
+    BeginsNone a.apid a.state front → Starts a.apid (after_all a.apid a.state front) packet start → ComesNext g index (after_all a.apid a.state (front ++ packet ∷ [])) start
+comes_next a front packet start g index has last none starts =
+    let there = has.passed ++ front in
+    let state = state_past a g front has in
+    let started : Starts a.apid (after_all a.apid fresh there) packet start = subst (λ s. Starts a.apid s packet start) state starts in
+    let b = begun_by a.apid there packet start started in
+    let geometry : (after_all a.apid fresh there).geometry ≡ Some g = ap (λ (s : FateState). s.geometry) (sym state) ∙ geometry_none a.apid a.state front none ∙ has.geometry in
+    let here : last_index (after_all a.apid fresh there).last ≡ Some index = ap (λ (s : FateState). last_index s.last) (sym state) ∙ index_none a.apid a.state front none ∙ last in
+    let l = last_some (after_all a.apid fresh there).last index here in
+    let more : after_all a.apid a.state (front ++ packet ∷ []) ≡ after a.apid (after_all a.apid fresh there) packet = after_more a.apid a.state front packet ∙ ap (λ s. after a.apid s packet) state in
+    let stays = λ (n : ℕ) (le : n ≤ first_block g.segment (index + 1)). stays_begun a.apid there (placed g) n (stays_here (after_all a.apid fresh there) (placed g) g n index geometry has.range refl here le) packet start started in
     record {
-      fits = subst (λ g. FitsImage g start) same b.fits;
+      image = b.image;
+      geometry = ap (λ (s : FateState). s.geometry) more ∙ b.geometry;
+      range = (stays_at (after a.apid (after_all a.apid fresh there) packet) (placed g) 0 b.image (stays 0 (omega arith)) b.geometry).0;
+      segment = ap (λ (h : Geometry). h.segment) (b.same g geometry);
+      fits = fits_begun a.apid (after_all a.apid fresh there) packet start b;
       later = omega (arith, b.later l.0 l.1, l.2);
       last = ap (λ (s : FateState). last_index s.last) more ∙ ap last_index b.last ∙ ap Some b.index;
-      geometry = geometry_stays apid s (front ++ packet ∷ []) g geometry;
+      ends = λ n le. (stays_at (after a.apid (after_all a.apid fresh there) packet) (placed g) n b.image (stays n le) b.geometry).1;
     }
 
+-- the image after it
+pub image_next : (a b : Assembling) (passed front : List (List ℕ)) (packet : List ℕ) (start : SegmentStart) (g : Geometry) (index : ℕ) → HasImage a g → b.apid ≡ a.apid → b.state ≡ after_all a.apid a.state passed → passed ≡ front ++ packet ∷ [] →
+    (next : ComesNext g index (after_all a.apid a.state (front ++ packet ∷ [])) start) → HasImage b next.image
+image_next a b passed front packet start g index has apid state are next = record {
+  passed = has.passed ++ passed;
+  state = state ∙ state_past a g passed has ∙ ap (λ n. after_all n fresh (has.passed ++ passed)) (sym apid);
+  geometry = ap (λ (s : FateState). s.geometry) state ∙ ap (λ xs. (after_all a.apid a.state xs).geometry) are ∙ next.geometry;
+  range = next.range;
+}
+
 -- its first block isn't before the end of the segment of that index
-reached_next : {S : Type 0} (p : Walking S) (index : ℕ) (s : FateState) (start : SegmentStart) → passed_in p ≤ first_block p.geometry.segment (index + 1) → ComesNext p.geometry index s start → FitsNext p start
-reached_next p index s start le next =
-    let more : (index + 1) * p.geometry.segment ≤ start.ancillary.index * p.geometry.segment = mul-le-mul_right p.geometry.segment (omega (arith, next.later)) in
-    record { fits = next.fits; reached = omega (arith, le, more, next.fits.first) }
+follow_next : {S : Type 0} (p : Walking S) (g : Geometry) (index : ℕ) (s : FateState) (start : SegmentStart) → p.geometry ≡ placed g → passed_in p ≤ first_block g.segment (index + 1) → (next : ComesNext g index s start) → MayFollow next.image p start
+follow_next p g index s start same le next =
+    let more : (index + 1) * g.segment ≤ start.ancillary.index * g.segment = mul-le-mul_right g.segment (omega (arith, next.later)) in
+    let first : start.ancillary.first ≡ start.ancillary.index * g.segment = next.fits.first ∙ ap (λ n. start.ancillary.index * n) next.segment in
+    record {
+      range = next.range;
+      ends = subst (λ h. MayEnd h (placed next.image) (passed_in p)) (sym same) (next.ends (passed_in p) le);
+      fits = next.fits;
+      reached = omega (arith, le, more, first);
+    }
 
 -- ---- from one segment to the next
 
+-- the segment of the walk was gone through, and one was begun after it
+pub held_next : {old new : Outside} (a b : Assembling) (g : Geometry) (index : ℕ) (next : SegmentStart) → HasImage a g → a.held ≡ None → last_index a.state.last ≡ Some index → (goes : GoesOn old new a b) → b.held ≡ Some next →
+    (c : ComesNext g index b.state next) × HasImage b c.image
+held_next a b g index next has unheld last goes held =
+    let began = goes.began unheld next held in
+    let state : b.state ≡ after_all a.apid a.state (began.front ++ began.packet ∷ []) = goes.passes.state ∙ ap (after_all a.apid a.state) began.passed_are in
+    let c = comes_next a began.front began.packet next g index has last began.none_before began.starts in
+    let d : ComesNext g index b.state next = record {
+      image = c.image;
+      geometry = ap (λ (s : FateState). s.geometry) state ∙ c.geometry;
+      range = c.range;
+      segment = c.segment;
+      fits = c.fits;
+      later = c.later;
+      last = ap (λ (s : FateState). last_index s.last) state ∙ c.last;
+      ends = c.ends;
+    } in
+    (d, image_next a b goes.passed began.front began.packet next g index has goes.passes.apid goes.passes.state began.passed_are c)
+
+-- whatever was passed, the walk may follow the segment that an assembly holds
+pub may_follow : {S : Type 0} {old new : Outside} (a b : Assembling) (p : Walking S) (start : SegmentStart) → IsAt a p start → GoesOn old new a b → passed_in p ≤ first_block p.geometry.segment (start.ancillary.index + 1) → MayFollowHeld b p
+may_follow a b p start at goes le = by b.held refl
+  where
+    few : passed_in p ≤ first_block at.image.segment (start.ancillary.index + 1)
+    few = subst (λ (g : Geometry). passed_in p ≤ first_block g.segment (start.ancillary.index + 1)) at.goes_by le
+
+    by : (o : Option SegmentStart) → b.held ≡ o → MayFollowHeld b p
+    by None e = record {
+      image = at.image;
+      has = image_on a b at.image goes.passed at.has goes.passes.apid goes.passes.state (goes.begins_none e);
+      next = λ start' held. absurd (let no : None ≡ Some start' = sym e ∙ held in cc);
+    }
+    by (Some next) e =
+        let c = held_next a b at.image start.ancillary.index next at.has at.unheld at.last goes e in
+        record {
+          image = c.0.image;
+          has = c.1;
+          next = λ start' held. subst (MayFollow c.0.image p) (let same : Some next ≡ Some start' = sym e ∙ held in cc) (follow_next p at.image start.ancillary.index b.state next at.goes_by few c.0);
+        }
+
+-- a walk at a segment's first block is before the next segment
+pub segment_low : {S : Type 0} (p : Walking S) (start : SegmentStart) → FitsImage p.geometry start → passed_in p ≡ start.ancillary.first → passed_in p ≤ first_block p.geometry.segment (start.ancillary.index + 1)
+segment_low p start fits there =
+    let more : (start.ancillary.index + 1) * p.geometry.segment ≡ start.ancillary.index * p.geometry.segment + p.geometry.segment = grind arith in
+    omega (arith, there, fits.first, more)
+
 -- a segment was answered
-pub found_at : {S : Type 0} {old new : Outside} (a b : Assembling) (p : Walking S) (start : SegmentStart) → IsBetween a p → FindsSegment old new a b (Ok (Some start)) → IsAt b p start
+pub found_at : {S : Type 0} {old new : Outside} (a b : Assembling) (p : Walking S) (start : SegmentStart) → IsBetween a p → FindsSegment old new a b (Ok (Some start)) → IsFound b p start
 found_at {old = old} {new = new} a b p start between finds = elim finds.ends [
   | inl held ↦
       let h = between.held start held.held in
-      subst (λ b. IsAt b p start) (sym held.stands) record { geometry = between.geometry; unheld = refl; last = h.0; next = h.1 }
+      subst (λ b. IsFound b p start) (sym held.stands) record {
+        image = between.image;
+        has = record { passed = between.has.passed; state = between.has.state; geometry = between.has.geometry; range = between.has.range };
+        unheld = refl;
+        last = h.0;
+        next = record { range = between.has.range; ends = inl (sym between.goes_by); fits = subst (λ g. FitsImage g start) between.goes_by h.1.fits; reached = h.1.reached };
+      }
   | inr found ↦
       let u = between.unheld found.none_held in
-      let next = comes_next a.apid a.state found.front found.packet start p.geometry u.0 between.geometry u.1 found.none_before found.starts in
-      let state = found.passed.state in
+      let next = comes_next a found.front found.packet start between.image u.0 between.has u.1 found.none_before found.starts in
+      let few : passed_in p ≤ first_block between.image.segment (u.0 + 1) = subst (λ (g : Geometry). passed_in p ≤ first_block g.segment (u.0 + 1)) between.goes_by u.2 in
       record {
-        geometry = ap (λ (s : FateState). s.geometry) state ∙ next.geometry;
+        image = next.image;
+        has = image_next a b (found.front ++ found.packet ∷ []) found.front found.packet start between.image u.0 between.has found.passed.apid found.passed.state refl next;
         unheld = found.none_after;
-        last = ap (λ (s : FateState). last_index s.last) state ∙ next.last;
-        next = reached_next p u.0 _ start u.2 next;
+        last = ap (λ (s : FateState). last_index s.last) found.passed.state ∙ next.last;
+        next = follow_next p between.image u.0 _ start between.goes_by few next;
       }
 ]
 
--- past the blocks of a segment, its text was gone through
-pub past_at : {S : Type 0} {old new : Outside} (a b : Assembling) (p q : Walking S) (start : SegmentStart) → IsAt a p start → GoesOn old new a b → q.geometry ≡ p.geometry → passed_in q ≤ first_block p.geometry.segment (start.ancillary.index + 1) →
-    IsBetween b q
-past_at a b p q start at goes same le = record {
-  geometry = ap (λ (s : FateState). s.geometry) goes.passes.state ∙ geometry_stays a.apid a.state goes.passed p.geometry at.geometry ∙ ap Some (sym same);
-  unheld = λ e. (start.ancillary.index, (goes.still e).1 ∙ at.last, subst (λ (g : Geometry). passed_in q ≤ first_block g.segment (start.ancillary.index + 1)) (sym same) le);
-  held = λ next held.
-      let began = goes.began at.unheld next held in
-      let c = comes_next a.apid a.state began.front began.packet next p.geometry start.ancillary.index at.geometry at.last began.none_before began.starts in
-      let state : b.state ≡ after_all a.apid a.state (began.front ++ began.packet ∷ []) = goes.passes.state ∙ ap (after_all a.apid a.state) began.passed_are in
-      let d : ComesNext q.geometry start.ancillary.index (after_all a.apid a.state (began.front ++ began.packet ∷ [])) next = subst (λ g. ComesNext g start.ancillary.index (after_all a.apid a.state (began.front ++ began.packet ∷ [])) next) (sym same) c in (
-        ap (λ (s : FateState). last_index s.last) state ∙ d.last,
-        reached_next q start.ancillary.index _ next (subst (λ (g : Geometry). passed_in q ≤ first_block g.segment (start.ancillary.index + 1)) (sym same) le) d,
-      );
-}
+-- it begins in the image that the walk goes by
+pub found_within : {S : Type 0} {a : Assembling} (p : Walking S) (start : SegmentStart) → IsFound a p start → start.ancillary.first ≤ total_in p
+found_within p start found = elim found.next.ends [
+  | inl same ↦ let total : blocks_of (placed found.image) ≡ total_in p = ap blocks_of same in omega (arith, total, found.next.fits.within)
+  | inr e ↦ omega (arith, found.next.fits.within, fewer_blocks p.geometry (placed found.image) e.same e.fewer)
+]
 
 -- no count of faults fell meanwhile
 pub finds_faults : {old new : Outside} (a b : Assembling) (found : Option SegmentStart) → FindsSegment old new a b (Ok found) → NoFewerFaults old new
@@ -144,23 +220,25 @@ some_geometry : {x y : Geometry} → Some x ≡ Some y → x ≡ y
 some_geometry e = cc
 
 -- the first segment was answered
-pub found_first : {S : Type 0} {old new : Outside} (k : SinkOf S) (apid cap : ℕ) (a b : Assembling) (p : Walking S) (start : SegmentStart) (g : Geometry) → a ≡ unread_assembly apid cap → FindsSegment old new a b (Ok (Some start)) → b.state.geometry ≡ Some g →
-    IsFresh k g p → IsAt b p start
-found_first {old = old} {new = new} k apid cap a b p start g unread finds geometry fresh_walk =
+pub found_first : {S : Type 0} {old new : Outside} (k : SinkOf S) (apid cap : ℕ) (a b : Assembling) (p : Walking S) (start : SegmentStart) (g : Geometry) → a ≡ unread_assembly apid cap → FindsSegment old new a b (Ok (Some start)) → b.state.geometry ≡ Some g → IsGeometryInRange g →
+    IsFresh k (placed g) p → IsAt b p start
+found_first {old = old} {new = new} k apid cap a b p start g unread finds geometry range fresh_walk =
     let here : FindsSegment old new (unread_assembly apid cap) b (Ok (Some start)) = subst (λ a. FindsSegment old new a b (Ok (Some start))) unread finds in
     elim here.ends [
       | inl held ↦ absurd (let no : None ≡ Some start = held.held in cc)
       | inr found ↦
           let there = after_all apid fresh found.front in
-          let b' = begun_by apid there found.packet start found.starts in
+          let b' = begun_by apid found.front found.packet start found.starts in
           let state = found.passed.state ∙ after_more apid fresh found.front found.packet in
-          let made : geometry_at there start ≡ g = some_geometry (sym b'.geometry ∙ sym (ap (λ (s : FateState). s.geometry) state) ∙ geometry) in
+          let made : b'.image ≡ g = some_geometry (sym b'.geometry ∙ sym (ap (λ (s : FateState). s.geometry) state) ∙ geometry) in
           record {
-            geometry = geometry ∙ ap Some (sym fresh_walk.geometry);
+            image = g;
+            has = record { passed = found.front ++ found.packet ∷ []; state = found.passed.state ∙ ap (λ n. after_all n fresh (found.front ++ found.packet ∷ [])) (sym found.passed.apid); geometry = geometry; range = range };
+            goes_by = fresh_walk.geometry;
             unheld = found.none_after;
             last = ap (λ (s : FateState). last_index s.last) state ∙ ap last_index b'.last ∙ ap Some b'.index;
             next = record {
-              fits = subst (λ g. FitsImage g start) (made ∙ sym fresh_walk.geometry) b'.fits;
+              fits = subst (λ g. FitsImage g start) (ap placed made ∙ sym fresh_walk.geometry) (fits_begun apid there found.packet start b');
               reached = let none : passed_in p ≡ 0 = rw (fresh_walk.row, fresh_walk.column) (omega arith) in omega (arith, none);
             };
           }

@@ -137,7 +137,7 @@ module _ {S : Type 0} (k : SinkOf S) (v : Option (List ℤ)) (p z : Walking S) (
     gave = fails.gave;
     out = fails.out;
     rose = fails.rose;
-    part = λ blocks before f next. fails.part blocks before f.sink (next_is blocks next);
+    part = λ blocks before f next. (passed_in p + 1, omega arith, fails.part blocks before f.sink (next_is blocks next));
   }
 
 -- ---- more of them
@@ -184,7 +184,9 @@ module _ {S : Type 0} (k : SinkOf S) (values : ℕ → Option (List ℤ)) (i : �
     out = since_out passed.out broken.out;
     rose = rose_since passed.out.faults.writes broken.rose;
     part = λ blocks before f next.
-        subst (λ g. k.Part g blocks (before ++ (passed.gave ++ broken.gave))) passed.geometry
-        (subst (k.Part x.geometry blocks) (append_assoc before passed.gave broken.gave)
-        (broken.part blocks (before ++ passed.gave) (passed.follows blocks before f (first_ones n blocks (omega (arith, lt)) next)) (next_one n blocks lt next)));
+        let x' = broken.part blocks (before ++ passed.gave) (passed.follows blocks before f (first_ones n blocks (omega (arith, lt)) next)) (next_one n blocks lt next) in (
+          x'.0,
+          omega (arith, x'.1, passed.count, lt),
+          subst (λ g. k.Part g blocks x'.0 (before ++ (passed.gave ++ broken.gave))) passed.geometry (subst (k.Part x.geometry blocks x'.0) (append_assoc before passed.gave broken.gave) x'.2),
+        );
   }

@@ -129,7 +129,7 @@ module _ (h : SegmentHead) (blocks : List (List ℤ)) (ok : IsHead h) (ten : len
       by true = all_few
       by false = omega (arith, all_few, length-take h.limit all)
 
-pub images_coded : TextsAreShort → (s : Setting) (x : ℕ → ℕ → ℤ) → IsInRange s → IsWithin rows_range s.rows → length s.weights.shifts ≡ 10 → ArePixels s x → AreCoded s (image_blocks s x)
+pub images_coded : TextsAreShort → (s : Setting) (x : ℕ → ℕ → ℤ) → IsInRange s → IsWithin rows_range s.rows → length s.weights.shifts ≡ 10 → ArePixels s s.rows x → AreCoded s (image_blocks s x)
 images_coded short s x range height ten pixels = record {
   setting = range;
   rows = height;

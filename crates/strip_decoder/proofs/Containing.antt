@@ -1,5 +1,5 @@
 -- No pixel outside the damaged rows hangs on what was lost.
-use Rattle.std.proofs.Common.{◌≡◌, ◌≤◌, ◌<◌, ◌+◌, ◌*◌, ◌/◌, ◌^◌, ℕ, ℤ, get_or, refl, sym, ap, ◌∙◌, arith}
+use Rattle.std.proofs.Common.{◌≡◌, ◌≤◌, ◌<◌, ◌+◌, ◌*◌, ◌/◌, ◌^◌, ℕ, ℤ, get_or, refl, sym, ap, subst, ◌∙◌, inl, inr, arith}
 use Rattle.std.specs.Prelude.{Bool, true, false, ◌&&◌, not, nat_lt, is_some}
 use Rattle.std.specs.List.{list_any}
 use Rattle.std.proofs.lemmas.Bool.{false≢true}
@@ -14,9 +14,11 @@ use Rattle.wave_defs.specs.Line.{floor_div}
 use Rattle.wave_defs.specs.Blocks.{place_of}
 use Rattle.wave_defs.specs.Reach.{reaches, Reaches, SameBlock, SameReceived}
 use Rattle.wave_defs.proofs.ReachLaws.{rows-reach}
-use Rattle.stream_defs.specs.Agreement.{blocks_of}
-use Rattle.stream_defs.specs.Damage.{is_missing, whole_missing, is_damaged, whole_damage, is_covered, missing_below}
-use Rattle.stream_defs.specs.Picture.{number_at, whole_picture, whole_with, picture_of}
+use Rattle.stream_defs.specs.Begun.{band_rows, block_rows, height}
+use Rattle.stream_defs.specs.Damage.{is_missing, whole_missing, is_damaged, damage, whole_damage, is_covered, missing_below}
+use Rattle.stream_defs.specs.Picture.{number_at, picture, picture_octets, picture_with, whole_octets, whole_picture, whole_with, picture_of}
+use Rattle.stream_defs.proofs.OpenContaining.{contained_open}
+use Rattle.stream_defs.proofs.PlacedLaws.{is_open, is_not_open, within_not}
 use Rattle.stream_defs.proofs.DamageLaws.{whole_damage as damage_whole}
 use Rattle.damage_rows.proofs.TableLaws.{any_there}
 use Rattle.picture_rows.specs.Fronts.{bands_of}
@@ -25,7 +27,11 @@ use Rattle.strip_decoder.specs.Containment.{AreWith, SameOutside}
 use Rattle.picture_rows.proofs.BandBlocks.{coefficient_with}
 use Rattle.strip_decoder.proofs.RunEnds.{any_at}
 
-module _ (g : Geometry) (received : Numbers) (numbers : ℕ → ℕ → ℤ) (range : IsGeometryInRange g) (height : IsWithin rows_range g.rows) (are : AreWith g received numbers) where
+-- the block rows of an image whose height is known
+known_rows : (g : Geometry) → IsWithin rows_range g.rows → (n : ℕ) → block_rows g n ≡ block_count g.rows
+known_rows g height n = rw (is_not_open g.rows (within_not g.rows height)) refl
+
+module _ (g : Geometry) (received : Numbers) (numbers : ℕ → ℕ → ℤ) (n : ℕ) (range : IsGeometryInRange g) (height : IsWithin rows_range g.rows) (are : AreWith g received numbers n) where
   abbrev r : ℕ
   r = block_count g.rows
 
@@ -43,13 +49,12 @@ module _ (g : Geometry) (received : Numbers) (numbers : ℕ → ℕ → ℤ) (ra
       by true e = refl
       by false e = absurd (false≢true (sym e))
 
-  -- it stands before the last one
-  block_low : (t k : ℕ) → t < r → k < c → t * c + k < blocks_of g
+  -- it is before the last one
+  block_low : (t k : ℕ) → t < r → k < c → t * c + k < block_rows g n * c
   block_low t k low lt =
       let next : (t + 1) * c ≤ r * c = mul-le-mul_right c (omega (arith, low)) in
       let more : (t + 1) * c ≡ t * c + c = grind arith in
-      let turned : c * r ≡ r * c = grind arith in
-      omega (arith, next, more, turned, lt)
+      omega (arith, next, more, lt, ap (λ m. m * c) (known_rows g height n))
 
   -- and is the same
   block_same : (t k : ℕ) → t < r → k < c → missing t ≡ false → SameBlock (bands_of g numbers) (bands_of g (number_at g received)) t k
@@ -73,9 +78,9 @@ module _ (g : Geometry) (received : Numbers) (numbers : ℕ → ℕ → ℤ) (ra
       both true b e h = h
       both false b e h = e
 
-  pub contained : SameOutside g.rows g.width (whole_damage g received) (whole_with g numbers) (whole_picture g received)
+  pub known_contained : SameOutside g.rows g.width (whole_damage g received) (whole_with g numbers) (whole_picture g received)
   unfolding picture_of
-  contained = record {
+  known_contained = record {
     at = λ i j inside across uncovered.
         let tall = three-le-block_count g.rows height.0 in
         let wide = three-le-block_count g.width range.width.0 in
@@ -84,3 +89,32 @@ module _ (g : Geometry) (received : Numbers) (numbers : ℕ → ℕ → ℤ) (ra
         (rows-reach (bands_of g numbers) (bands_of g (number_at g received)) missing r c i j (omega (arith, tall)) (omega (arith, wide)) (omega (arith, inside)) (omega (arith, across)) same
         (λ t low lost reached. unreached i t inside uncovered low lost reached));
   }
+
+-- ---- whether the height is known or not
+
+-- the picture and the damage of an image whose height is known
+pub known_damage : (g : Geometry) (received : Numbers) (n : ℕ) → (g.rows ≡ 0 → ⊥) → damage g received n ≡ whole_damage g received
+known_damage g received n some = rw (is_not_open g.rows some) refl
+
+pub known_octets : (g : Geometry) (received : Numbers) (n : ℕ) → (g.rows ≡ 0 → ⊥) → picture_octets g received n ≡ whole_octets g received
+known_octets g received n some = rw (is_not_open g.rows some) refl
+
+pub contained : (g : Geometry) (received : Numbers) (numbers : ℕ → ℕ → ℤ) (n : ℕ) → IsGeometryInRange g → AreWith g received numbers n →
+    SameOutside (height g n) g.width (damage g received n) (picture_with g numbers n) (picture g received n)
+contained g received numbers n range are = elim range.rows [
+  | inr within ↦
+      let some = within_not g.rows within in
+      let rows : height g n ≡ g.rows = rw (is_not_open g.rows some) refl in
+      let bands : band_rows g n ≡ block_count g.rows = rw (is_not_open g.rows some) refl in
+      subst (λ r. SameOutside (height g n) g.width (damage g received n) (picture_of g numbers r) (picture_of g (number_at g received) r)) (sym bands)
+      (subst (λ rs. SameOutside (height g n) g.width rs (whole_with g numbers) (whole_picture g received)) (sym (known_damage g received n some))
+      (subst (λ m. SameOutside m g.width (whole_damage g received) (whole_with g numbers) (whole_picture g received)) (sym rows) (known_contained g received numbers n range within are)))
+  | inl none ↦
+      let least = three-le-block_count g.width range.width.0 in
+      let rows : block_rows g n ≡ n = rw (is_open g.rows none) refl in
+      record {
+        at = λ i j inside across uncovered.
+            contained_open g received numbers n none (omega (arith, least))
+            record { at = λ block k lt small there. are.at block k (omega (arith, lt, ap (λ m. m * block_count g.width) rows)) small there } i j inside across uncovered;
+      }
+]

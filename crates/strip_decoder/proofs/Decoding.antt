@@ -1,33 +1,45 @@
 -- How a whole walk ends.
-use Rattle.std.proofs.Common.{◌≡◌, ◌≤◌, ◌<◌, ◌*◌, ℕ, List, [], ◌∷◌, refl, sym, ap, subst, ◌∙◌, inl, inr, arith}
-use Rattle.std.specs.Prelude.{Option, None, Some, Ok, Err}
-use Rattle.port_122.specs.Outside.{Outside, Since}
-use Rattle.port_122.proofs.Stretches.{rose_since, since_start, since_weaker}
+use Rattle.std.proofs.Common.{◌≡◌, ◌≤◌, ◌<◌, ◌+◌, ◌-◌, ◌*◌, ◌/◌, ℕ, List, [], ◌∷◌, ◌++◌, refl, sym, ap, subst, ◌∙◌, inl, inr, arith}
+use Rattle.std.specs.Prelude.{if◌then◌else◌, Option, None, Some, Ok, Err}
+use Rattle.std.proofs.lemmas.Bool.{cases_lt, false≢true}
+use Rattle.std.proofs.Math.Nat.{mul-le-mul_right}
+use Rattle.std.proofs.lemmas.List.{append-nil}
+use Rattle.std.proofs.lemmas.Nat.{div-mul-add}
+use Rattle.port_122.specs.Outside.{Outside}
+use Rattle.port_122.proofs.Stretches.{rose_since, since_start}
+use Rattle.base_122.specs.Sizes.{block_count}
+use Rattle.base_122.specs.Ranges.{IsGeometryInRange}
+use Rattle.base_122.proofs.SizeBounds.{block_count-rows, three-le-block_count}
 use Rattle.base_122.specs.declared.geometry.Geometry.{Geometry}
 use Rattle.base_122.specs.declared.wish.DecodeWish.{DecodeWish}
 use Rattle.packet_defs.specs.declared.packet.Framing.{Framing}
 use Rattle.stream_defs.specs.declared.fate.FateState.{FateState}
-use Rattle.stream_defs.specs.Fates.{fresh, after, after_all}
+use Rattle.packet_defs.specs.Streams.{whole_packets}
+use Rattle.stream_defs.specs.Agreement.{blocks_of}
+use Rattle.stream_defs.specs.Begun.{begun_in, block_rows, end_of, height, placed, rows_reached}
+use Rattle.stream_defs.specs.Damage.{missing_below, ranges, whole_missing}
+use Rattle.stream_defs.specs.Fates.{fresh, after, after_all, kept, kept_in}
+use Rattle.stream_defs.specs.Marks.{ended_at}
+use Rattle.stream_defs.proofs.PlacedLaws.{is_open, is_not_open, blocks_known, placed_same}
+use Rattle.damage_rows.proofs.TableLaws.{most_is}
 use Rattle.stream_defs.proofs.ChosenLaws.{after_all-append}
 use Rattle.packet_assembly.specs.declared.note.SegmentStart.{SegmentStart}
 use Rattle.packet_assembly.specs.Assembling.{Assembling, last_index, unread_assembly}
 use Rattle.packet_assembly.specs.Segments.{FindsSegment, FoundNone}
 use Rattle.packet_assembly.specs.Readings.{HasRead}
+use Rattle.packet_assembly.proofs.Images.{begun_by, end_begun}
 use Rattle.packet_assembly.proofs.Readings.{read_within, ended_packets, ended_out, long_packets, long_full, long_good}
 use Rattle.strip_decoder.specs.declared.decode.DecodeFault.{DecodeFault}
 use Rattle.strip_decoder.specs.declared.decode.DecodeFault.TheVariants.{ReadFault, WriteFault, NoSegment, TooManyPixels, LongInput, Memory}
-use Rattle.strip_decoder.specs.Sinks.{SinkOf}
-use Rattle.strip_decoder.specs.Steps.{Walking}
-use Rattle.strip_decoder.specs.Segments.{FindsNext}
-use Rattle.strip_decoder.specs.Runs.{Run, AsksPassed, HasFew, HasBroken, BreaksRun}
-use Rattle.strip_decoder.specs.Walks.{AsksWalk, HasPassedAll, PassesAll, Walks}
-use Rattle.strip_decoder.proofs.Fits.{begun_by}
-use Rattle.strip_decoder.proofs.Asking.{geometry_read, geometry_small, few_before}
-use Rattle.strip_decoder.proofs.RunStarts.{HasFound, first_part, none_few, first_read, first_asks, first_end, none_kept}
-
--- the run that a wish asks for
-abbrev pub run_of : DecodeWish → Outside → Run
-run_of wish start = record { apid = wish.apid; cap = wish.octets; pixels = wish.pixels; start = start }
+use Rattle.strip_decoder.specs.Sinks.{Numbers, SinkOf, blocks_with}
+use Rattle.strip_decoder.specs.Steps.{Walking, IsStanding, Follows, passed_in, total_in}
+use Rattle.strip_decoder.specs.Segments.{FitsImage, FindsNext, pixels_reached}
+use Rattle.strip_decoder.specs.Runs.{Run, BreaksRun}
+use Rattle.strip_decoder.specs.Walks.{HasPassedAll, IsDamageOf, PassesAll, Walks, run_of, walked_of}
+use Rattle.strip_decoder.proofs.Staying.{known_or_not, fits_begun}
+use Rattle.strip_decoder.proofs.Asking.{blocks_by, packets_then}
+use Rattle.strip_decoder.proofs.RunEnds.{all_missing, open_damage}
+use Rattle.strip_decoder.proofs.RunStarts.{HasFound, few_first, first_part, none_few, first_read, first_asks, first_end, none_kept}
 
 -- ---- before the first segment
 
@@ -99,66 +111,185 @@ first_fails k wish old new a b unread Memory finds = absurd finds
 -- ---- the first segment
 
 module _ {S : Type 0} (k : SinkOf S) (wish : DecodeWish) (old new : Outside) (b : Assembling) (start : SegmentStart) (found : HasFound k (run_of wish old) new b start) where
+  -- the image that its head reports
+  reported : (image : Geometry) × (b.state.geometry ≡ Some image)
+  reported =
+      let begun = found.begun in
+      let b' = begun_by wish.apid begun.before begun.packet start begun.starts in
+      let state : b.state ≡ after wish.apid (after_all wish.apid fresh begun.before) begun.packet = found.read.state ∙ ap (after_all wish.apid fresh) begun.passed_are ∙ after_all-append wish.apid fresh begun.before (begun.packet ∷ []) in
+      (b'.image, ap (λ (s : FateState). s.geometry) state ∙ b'.geometry)
+
   -- there is a geometry then
   pub never_none : b.state.geometry ≡ None → ⊥
-  never_none none =
-      let begun = found.begun in
-      let here = (begun_by wish.apid (after_all wish.apid fresh begun.before) begun.packet start begun.starts).geometry in
-      let state : b.state ≡ after wish.apid (after_all wish.apid fresh begun.before) begun.packet = found.read.state ∙ ap (after_all wish.apid fresh) begun.passed_are ∙ after_all-append wish.apid fresh begun.before (begun.packet ∷ []) in
-      let told = ap (λ (s : FateState). s.geometry) state ∙ here in
-      absurd (let both = sym none ∙ told in cc)
+  never_none none = let there = reported.1 in absurd (let both = sym none ∙ there in cc)
 
-  pub too_many : (g : Geometry) (pixels : ℕ) → b.state.geometry ≡ Some g → pixels ≡ g.width * g.rows → wish.pixels < pixels → Walks k wish old new (Err (TooManyPixels pixels))
-  too_many g pixels told is lt = record {
-    took = found.took;
-    gave = [];
-    since = found.since;
-    within = read_within found.read;
-    for_some = inl refl;
-    answer = ((g, geometry_read (run_of wish old) b found.took found.went g found.read told, is), lt, refl);
-  }
+  -- its segment is one of the image
+  pub first_fits : (image : Geometry) → b.state.geometry ≡ Some image → FitsImage (placed image) start
+  first_fits image geometry =
+      let begun = found.begun in
+      let b' = begun_by wish.apid begun.before begun.packet start begun.starts in
+      let state : b.state ≡ after wish.apid (after_all wish.apid fresh begun.before) begun.packet = found.read.state ∙ ap (after_all wish.apid fresh) begun.passed_are ∙ after_all-append wish.apid fresh begun.before (begun.packet ∷ []) in
+      let same : b'.image ≡ image = (let both : Some b'.image ≡ Some image = sym (ap (λ (s : FateState). s.geometry) state ∙ b'.geometry) ∙ geometry in cc) in
+      subst (λ g. FitsImage (placed g) start) same (fits_begun wish.apid (after_all wish.apid fresh begun.before) begun.packet start b')
+
+  pub too_many : (image : Geometry) (pixels : ℕ) → b.state.geometry ≡ Some image → pixels ≡ pixels_reached image start → wish.pixels < pixels → Walks k wish old new (Err (TooManyPixels pixels))
+  too_many image pixels geometry is lt =
+      let begun = found.begun in
+      let there : (after_all wish.apid fresh (begun.before ++ begun.packet ∷ [])).geometry ≡ Some image = ap (λ xs. (after_all wish.apid fresh xs).geometry) (sym begun.passed_are) ∙ ap (λ (s : FateState). s.geometry) (sym found.read.state) ∙ geometry in
+      let reached : pixels ≡ image.width * rows_reached image (end_of (kept wish.apid fresh (begun.before ++ begun.packet ∷ []))) = is ∙ ap (λ n. image.width * rows_reached image n) (sym (end_begun wish.apid begun.before begun.packet start begun.starts)) in
+      record {
+        took = found.took;
+        gave = [];
+        since = found.since;
+        within = read_within found.read;
+        for_some = inl refl;
+        answer = (
+          record {
+            many = record {
+              before = begun.before;
+              packet = begun.packet;
+              later = whole_packets (b.intake.pending ++ []);
+              packets_are = ap whole_packets (sym (append-nil found.took)) ∙ packets_then (run_of wish old) b found.took [] found.went found.read ∙ ap (λ xs. xs ++ whole_packets (b.intake.pending ++ [])) begun.passed_are;
+              few = few_first k (run_of wish old) new b start found;
+              image = image;
+              geometry = there;
+              pixels_are = reached;
+              many = lt;
+            };
+            nothing = λ known. refl;
+          },
+          λ all told. first_part k wish.apid found.took,
+        );
+      }
 
   pub no_memory : Walks k wish old new (Err Memory)
   no_memory = record { took = found.took; gave = []; since = found.since; within = read_within found.read; for_some = inl refl; answer = refl }
 
 -- ---- all blocks
 
--- what is asked where the pixels are few
-few_asks : {S : Type 0} (k : SinkOf S) (wish : DecodeWish) (old new : Outside) (took gave : List ℕ) → HasFew wish.pixels wish.apid took → Since old new took gave [] (AsksPassed k wish.apid old took gave) → Since old new took gave [] (AsksWalk k wish old took gave)
-few_asks k wish old new took gave few since = since_weaker since (λ i j le asks. (asks, few_before wish.pixels wish.apid took i few))
+rows_within : (m n c : ℕ) → 0 < c → m * c ≤ n * c → m ≤ n
+rows_within m n c some le = elim (cases_lt n m) [
+  | inl lt ↦ absurd (let more : (n + 1) * c ≤ m * c = mul-le-mul_right c (omega (arith, lt)) in let one : (n + 1) * c ≡ n * c + c = grind arith in omega (arith, more, one, le, some))
+  | inr ge ↦ omega (arith, ge)
+]
 
-pub walk_done : {S : Type 0} (k : SinkOf S) (wish : DecodeWish) (old new : Outside) (q : Walking S) (g : Geometry) (found told : Option Framing) → HasPassedAll k (run_of wish old) new q found → q.geometry ≡ g → told ≡ found → g.width * g.rows ≤ wish.pixels →
-    Walks k wish old new (Ok (record { done = record { geometry = g; damage = q.damage; framing = told }; sink = q.sink }))
-walk_done k wish old new q g found told whole same is few = subst (λ g. Walks k wish old new (Ok (record { done = record { geometry = g; damage = q.damage; framing = told }; sink = q.sink }))) same (record {
-  took = whole.took;
-  gave = whole.gave;
-  since = few_asks k wish old new whole.took whole.gave (geometry_small wish.pixels wish.apid whole.took q.geometry whole.geometry small) whole.since;
-  within = whole.within;
-  for_some = inr whole.for_some;
-  answer = record {
-    geometry = whole.geometry;
-    range = whole.standing.range;
-    height = whole.standing.height;
-    few = small;
-    framing_is = is ∙ whole.framing_is;
-    out = whole.out;
-    rows = whole.standing.damage;
-    stands = subst (λ n. k.Stands q.sink q.geometry n) whole.all whole.standing.stands;
-    told = whole.told;
-  };
-})
-  where
-    small : q.geometry.width * q.geometry.rows ≤ wish.pixels
-    small = subst (λ (g : Geometry). g.width * g.rows ≤ wish.pixels) (sym same) few
+-- a walk has passed no more block rows than an image has
+pub rows_few : {S : Type 0} (k : SinkOf S) (q : Walking S) → IsStanding k q → q.at.row ≤ 32768
+rows_few k q standing =
+    let few = standing.few in
+    let rows = block_count-rows q.geometry.rows standing.height in
+    let column = standing.column in
+    let turned : block_count q.geometry.width * block_count q.geometry.rows ≡ block_count q.geometry.rows * block_count q.geometry.width = grind arith in
+    let low : q.at.row * block_count q.geometry.width ≤ block_count q.geometry.rows * block_count q.geometry.width = omega (arith, few, turned) in
+    let most : q.at.row ≤ block_count q.geometry.rows = rows_within q.at.row (block_count q.geometry.rows) (block_count q.geometry.width) (omega (arith, column)) low in
+    omega (arith, most, rows)
 
-module _ {S : Type 0} (k : SinkOf S) (wish : DecodeWish) (old mid new : Outside) (p q : Walking S) (reads : old.read_faults ≤ mid.read_faults) (writes : old.write_faults ≤ mid.write_faults) where
-  broken_asks : (broken : HasBroken k (run_of wish old) new) → Since old new broken.took broken.gave [] (AsksWalk k wish old broken.took broken.gave)
-  broken_asks broken = few_asks k wish old new broken.took broken.gave broken.small broken.since
+-- so its picture has no more rows
+pub written_few : (g : Geometry) (r : ℕ) → IsGeometryInRange g → r ≤ 32768 → height g r ≤ 262144
+written_few g r range few = elim range.rows [
+  | inl none ↦ let tall : height g r ≡ 8 * r - 21 = ap (λ b. if b then 8 * r - 21 else g.rows) (is_open g.rows none) in omega (arith, tall, few)
+  | inr within ↦
+      let some : g.rows ≡ 0 → ⊥ = λ none. (let least = within.0 in omega (arith, none, least)) in
+      let known : height g r ≡ g.rows = ap (λ b. if b then 8 * r - 21 else g.rows) (is_not_open g.rows some) in
+      let most = within.1 in
+      omega (arith, known, most)
+]
 
-  pub walk_fails : (fault : DecodeFault) → PassesAll mid new p q (Err fault) → BreaksRun k (run_of wish old) new fault → Walks k wish old new (Err fault)
-  walk_fails ReadFault ends broken = record { took = broken.took; gave = broken.gave; since = broken_asks broken; within = broken.within; for_some = inr broken.for_some; answer = (rose_since reads ends, broken.part) }
-  walk_fails WriteFault ends broken = record { took = broken.took; gave = broken.gave; since = broken_asks broken; within = broken.within; for_some = inr broken.for_some; answer = (rose_since writes ends, broken.small, broken.part) }
-  walk_fails LongInput ends long = record { took = long.broken.took; gave = long.broken.gave; since = broken_asks long.broken; within = long.broken.within; for_some = inr long.broken.for_some; answer = (long.full, long.good, long.broken.small, long.broken.part) }
+-- the damage of what was passed
+module _ {S : Type 0} (k : SinkOf S) (w : Run) (now : Outside) (image : Geometry) (q : Walking S) (found : Option Framing) (whole : HasPassedAll k w now image q found) where
+  abbrev n : ℕ
+  n = begun_in w.apid whole.took
+
+  abbrev ended : ℕ
+  ended = end_of (kept_in w.apid whole.took)
+
+  abbrev c : ℕ
+  c = block_count image.width
+
+  wide : 0 < c
+  wide = let least = three-le-block_count image.width whole.range.width.0 in omega (arith, least)
+
+  begun_is : n ≡ ended / c
+  begun_is = rw whole.geometry refl
+
+  width : block_count q.geometry.width ≡ c
+  width = ap (λ (g : Geometry). block_count g.width) whole.placed_is
+
+  -- the block rows that were passed, while the height isn't known
+  pub rows_passed : image.rows ≡ 0 → q.at.row ≡ n
+  rows_passed none =
+      let column = whole.standing.column in
+      let all : passed_in q ≡ ended = whole.all ∙ ap (λ b. if b then ended else blocks_of image) (is_open image.rows none) in
+      let quotient : passed_in q / block_count q.geometry.width ≡ q.at.row = div-mul-add q.at.row (block_count q.geometry.width) q.at.column column in
+      sym (begun_is ∙ ap (λ m. m / c) (sym all) ∙ ap (λ m. passed_in q / m) (sym width) ∙ quotient)
+
+  -- the rows of the picture
+  pub written_is : height image q.at.row ≡ height image n
+  written_is = elim (known_or_not image.rows) [
+    | inl none ↦ ap (height image) (rows_passed none)
+    | inr some ↦ ap (λ b. if b then 8 * q.at.row - 21 else image.rows) (is_not_open image.rows some) ∙ sym (ap (λ b. if b then 8 * n - 21 else image.rows) (is_not_open image.rows some))
+  ]
+
+  pub damage_is : (received : Numbers) (gave : List ℕ) → Follows k q (blocks_with image received) gave → IsDamageOf image received n (ended_at q.damage (height image q.at.row))
+  damage_is received gave follows =
+      let segment : q.geometry.segment ≡ image.segment = ap (λ (g : Geometry). g.segment) whole.placed_is in
+      let here : Follows k q (blocks_with q.geometry received) gave = subst (λ blocks. Follows k q blocks gave) (ap (λ m. blocks_by m received) (sym segment)) follows in
+      elim (known_or_not image.rows) [
+        | inl none ↦
+            let row = rows_passed none in
+            let le : q.at.row * block_count q.geometry.width ≤ passed_in q = omega arith in
+            let open_ranges = open_damage k q image received gave q.at.row whole.standing whole.placed_is here le (omega (arith, rows_few k q whole.standing, most_is)) in
+            let tall : height image q.at.row ≡ 8 * q.at.row - 21 = ap (λ b. if b then 8 * q.at.row - 21 else image.rows) (is_open image.rows none) in
+            let block_rows_are : block_rows image n ≡ q.at.row = ap (λ b. if b then n else block_count image.rows) (is_open image.rows none) ∙ sym row in
+            record {
+              ranges_are = ap (λ m. ranges m q.damage.missing) tall ∙ open_ranges ∙ ap (λ m. ranges m (missing_below image received q.at.row)) (sym tall) ∙ ap (λ m. ranges m (missing_below image received q.at.row)) written_is ∙ ap (λ m. ranges (height image n) (missing_below image received m)) (sym block_rows_are);
+              missing = λ some. absurd (some none);
+            }
+        | inr some ↦
+            let total : passed_in q ≡ total_in q = whole.all ∙ ap (λ b. if b then ended else blocks_of image) (is_not_open image.rows some) ∙ sym (blocks_known image some) ∙ ap blocks_of (sym whole.placed_is) in
+            let missing = all_missing k q received gave whole.standing here total ∙ ap (λ g. whole_missing g received) (whole.placed_is ∙ placed_same image some) in
+            let block_rows_are : block_rows image n ≡ block_count image.rows = ap (λ b. if b then n else block_count image.rows) (is_not_open image.rows some) in
+            record {
+              ranges_are = ap (ranges (height image q.at.row)) missing ∙ ap (λ m. ranges m (whole_missing image received)) written_is ∙ ap (λ m. ranges (height image n) (missing_below image received m)) (sym block_rows_are);
+              missing = λ some. missing;
+            }
+      ]
+
+pub walk_done : {S : Type 0} (k : SinkOf S) (wish : DecodeWish) (old new : Outside) (q : Walking S) (image : Geometry) (found told : Option Framing) → HasPassedAll k (run_of wish old) new image q found → told ≡ found → Walks k wish old new (Ok (walked_of image told q))
+walk_done k wish old new q image found told whole is =
+    let w = run_of wish old in
+    record {
+      took = whole.took;
+      gave = whole.gave;
+      since = whole.since;
+      within = whole.within;
+      for_some = inr whole.for_some;
+      answer = record {
+        geometry = whole.geometry;
+        range = whole.range;
+        few = whole.small;
+        framing_is = is ∙ whole.framing_is;
+        out = whole.out;
+        written = written_is k w new image q found whole;
+        rows = refl;
+        stands = subst (λ n. k.Stands q.sink (placed image) n) whole.all (subst (λ g. k.Stands q.sink g (passed_in q)) whole.placed_is whole.standing.stands);
+        told = λ all there.
+            let t = whole.told all there in (
+              t.0,
+              t.1,
+              subst (λ n. k.Follows q.sink (placed image) (blocks_with image t.0) n whole.gave) whole.all (subst (λ g. k.Follows q.sink g (blocks_with image t.0) (passed_in q) whole.gave) whole.placed_is t.2.sink),
+              damage_is k w new image q found whole t.0 whole.gave t.2,
+            );
+      };
+    }
+
+module _ {S : Type 0} (k : SinkOf S) (wish : DecodeWish) (old mid new : Outside) (reads : old.read_faults ≤ mid.read_faults) (writes : old.write_faults ≤ mid.write_faults) where
+  pub walk_fails : (fault : DecodeFault) → PassesAll mid new (Err fault) → BreaksRun k (run_of wish old) new fault → Walks k wish old new (Err fault)
+  walk_fails ReadFault ends broken = record { took = broken.took; gave = broken.gave; since = broken.since; within = broken.within; for_some = inr broken.for_some; answer = (rose_since reads ends, broken.part) }
+  walk_fails WriteFault ends failed = let broken = failed.broken in record { took = broken.took; gave = broken.gave; since = broken.since; within = broken.within; for_some = inr broken.for_some; answer = (rose_since writes ends, failed.small, broken.part) }
+  walk_fails LongInput ends long = let broken = long.broken in record { took = broken.took; gave = broken.gave; since = broken.since; within = broken.within; for_some = inr broken.for_some; answer = (long.full, long.good, long.small, broken.part) }
+  walk_fails (TooManyPixels pixels) ends many =
+      let broken = many.broken in
+      record { took = broken.took; gave = broken.gave; since = broken.since; within = broken.within; for_some = inr broken.for_some; answer = (record { many = many.many; nothing = λ known. absurd (false≢true (sym known ∙ many.told_last)) }, broken.part) }
   walk_fails NoSegment ends broken = absurd ends
-  walk_fails (TooManyPixels pixels) ends broken = absurd ends
   walk_fails Memory ends broken = absurd ends

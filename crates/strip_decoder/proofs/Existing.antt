@@ -16,7 +16,7 @@ use Rattle.packet_defs.specs.Reading.{flags_in, text_in}
 use Rattle.stream_defs.specs.Fates.{closes, kept_in}
 use Rattle.stream_defs.specs.Received.{number_of_part, packets_at, IsComplete, text_of_parts, IsReceived, ReceivedIn}
 use Rattle.strip_decoder.specs.Runs.{Numbers, holds_after}
-use Rattle.strip_decoder.proofs.Fits.{bytes_so}
+use Rattle.packet_assembly.proofs.Agreed.{bytes_so}
 
 -- ---- the last of some packets
 

@@ -15,7 +15,6 @@ use Rattle.strip_decoder.specs.Answers.{PictureBy}
 use Rattle.strip_decoder.specs.Lines.{damage_lines}
 use Rattle.strip_decoder.specs.PictureSinks.{no_picture}
 use Rattle.strip_decoder.specs.Finding.{AsksSilent, FindAnswers, Finds}
-use Rattle.strip_decoder.proofs.Asking.{geometry_small}
 
 -- nothing was given while it read
 silent : (wish : DecodeWish) (old new : Outside) (r : Result (Walked NoPicture) DecodeFault) → (x : Walks no_picture wish old new r) → x.gave ≡ []
@@ -25,7 +24,7 @@ silent_since : (wish : DecodeWish) (old new : Outside) (r : Result (Walked NoPic
 silent_since wish old new r x =
     let none = silent wish old new r x in
     subst (λ zs. Since old new x.took zs [] (AsksSilent wish x.took)) none
-    (since_weaker x.since (λ i j le asks. (omega (arith, asks.0.0, ap length none), asks.1)))
+    (since_weaker x.since (λ i j le asks. (omega (arith, asks.0, ap length none), asks.1)))
 
 -- a fault ended it
 pub find_fails : (wish : DecodeWish) (old new : Outside) (fault : DecodeFault) → Walks no_picture wish old new (Err fault) → Finds wish old new (Err fault)
@@ -35,7 +34,7 @@ find_fails wish old new fault x = record { took = x.took; gave = []; since = sil
     by ReadFault a = (a.0, refl)
     by WriteFault a = (a.0, a.1, inl refl)
     by NoSegment a = (a.0, a.1, refl)
-    by (TooManyPixels pixels) a = (a.0, a.1, refl)
+    by (TooManyPixels pixels) a = (record { many = a.0.many; nothing = λ known. refl }, refl)
     by LongInput a = (a.0, a.1, a.2, refl)
     by Memory a = refl
 
@@ -44,10 +43,10 @@ found_later : {g : List ℕ} (wish : DecodeWish) (old mid new : Outside) (took g
 found_later wish old mid new took gave walked found out = record {
   geometry = found.geometry;
   range = found.range;
-  height = found.height;
   few = found.few;
   framing_is = found.framing_is;
   out = out_later wish.octets mid new took out found.out;
+  written = found.written;
   rows = found.rows;
   told = λ all told. let t = found.told all told in (t.0, t.1, refl, t.3);
 }
@@ -76,7 +75,7 @@ find_cut wish old mid new walked (Err e) is x out =
       within = x.within;
       answer = (
         rose_since x.since.faults.writes out.0,
-        geometry_small wish.pixels wish.apid x.took walked.done.geometry x.answer.geometry x.answer.few,
+        λ known. x.answer.few,
         inr record { done = walked.done; found = found_later wish old mid new x.took x.gave walked x.answer since; some = n; lines = refl },
       );
     }

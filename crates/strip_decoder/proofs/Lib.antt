@@ -1,4 +1,4 @@
-pub mod Fits
+mod Staying
 pub mod Between
 pub mod TextReads
 pub mod Showing

@@ -1,33 +1,43 @@
 -- What a walk with a picture gives.
-use Rattle.std.proofs.Common.{◌≡◌, ◌≤◌, ◌<◌, ◌+◌, ◌*◌, ◌/◌, ◌%◌, ◌==◌, ℕ, ℤ, pos, List, [], ◌++◌, take, get_or, refl, sym, ap, subst, ◌∙◌, arith}
-use Rattle.std.specs.Prelude.{Option, None, Some, Result, Ok, Err, MatchResult, IfOk, unwrap_or, true}
+use Rattle.std.proofs.Common.{◌≡◌, ◌≤◌, ◌<◌, ◌+◌, ◌-◌, ◌*◌, ◌/◌, ◌%◌, ◌==◌, ℕ, ℤ, pos, List, [], ◌++◌, take, get_or, refl, sym, ap, subst, ◌∙◌, inl, inr, arith}
+use Rattle.std.specs.Prelude.{Bool, true, false, if◌then◌else◌, min, Option, None, Some, Result, Ok, Err, MatchResult, IfOk, unwrap_or}
 use Rattle.std.specs.Option.{option_map}
 use Rattle.std.proofs.lemmas.Bool.Decides.{nat_tests}
-use Rattle.std.proofs.lemmas.Nat.{div-mul-add}
+use Rattle.std.proofs.lemmas.Nat.{div_below, div-mul-add}
 use Rattle.port_122.specs.Outside.{Outside}
 use Rattle.port_122.proofs.Stretches.{since_weaker}
 use Rattle.base_122.specs.Sizes.{block_count}
 use Rattle.base_122.specs.declared.geometry.Geometry.{Geometry}
 use Rattle.base_122.specs.declared.wish.DecodeWish.{DecodeWish}
+use Rattle.base_122.proofs.SizeBounds.{three-le-block_count}
+use Rattle.packet_defs.specs.Streams.{whole_packets}
+use Rattle.raster_rows.specs.Pixels.{raster_octets}
 use Rattle.stream_defs.specs.declared.fate.FateState.{FateState}
 use Rattle.stream_defs.specs.declared.fate.LastPart.{LastPart}
 use Rattle.stream_defs.specs.Agreement.{blocks_of}
-use Rattle.stream_defs.specs.Fates.{state_after}
-use Rattle.stream_defs.specs.Picture.{number_at, whole_octets}
+use Rattle.stream_defs.specs.Begun.{begun_in, end_of, height, placed, placed_rows}
+use Rattle.stream_defs.specs.Fates.{geometry_in, kept_in, state_after}
+use Rattle.stream_defs.specs.Picture.{number_at, picture_octets, picture_of, picture_with, whole_with}
 use Rattle.stream_defs.specs.Settled.{ready, rows_through, block_rows_before}
+use Rattle.stream_defs.proofs.HeightPictures.{placed_octets}
+use Rattle.stream_defs.proofs.PlacedLaws.{is_open, is_not_open, blocks_known, blocks_open, placed_known, placed_open, placed_same}
+use Rattle.stream_defs.proofs.SettledLaws.{rows_rise}
+use Rattle.packet_assembly.proofs.Images.{end_room, image_wide}
 use Rattle.picture_rows.specs.declared.picture.Picture.{Picture}
+use Rattle.picture_rows.specs.declared.picture.PictureAt.{PictureAt}
 use Rattle.picture_rows.specs.Fronts.{rows_of}
 use Rattle.picture_rows.specs.Pictures.{shown, IsFresh}
-use Rattle.picture_rows.specs.Steps.{HasNextNumbers, PassesBlock}
-use Rattle.picture_rows.proofs.RowsOut.{all_rows, no_rows}
+use Rattle.picture_rows.specs.Steps.{HasEnded, HasNextNumbers, PassesBlock}
+use Rattle.picture_rows.proofs.RowsOut.{front_within, no_rows, rows_through-most, rows_through-rises}
 use Rattle.strip_decoder.specs.declared.engine.Walked.{Walked}
 use Rattle.strip_decoder.specs.declared.decode.DecodeFault.{DecodeFault}
 use Rattle.strip_decoder.specs.declared.decode.DecodeFault.TheVariants.{ReadFault, WriteFault, NoSegment, TooManyPixels, LongInput, Memory}
-use Rattle.strip_decoder.specs.Sinks.{Numbers, Blocks, Begins, Takes, Fails, blocks_with}
-use Rattle.strip_decoder.specs.Runs.{PassedBy, PartBy, settled_blocks}
-use Rattle.strip_decoder.specs.Walks.{AsksWalk, IsWalked, WalkAnswers, Walks}
+use Rattle.strip_decoder.specs.Sinks.{Numbers, Blocks, Begins, Takes, Fails, EndsImage, blocks_with}
+use Rattle.strip_decoder.specs.Runs.{AsksPassed, PassedBy, PartBy, blocks_passed, settled_blocks}
+use Rattle.strip_decoder.specs.Walks.{IsWalked, WalkAnswers, Walks, run_of}
 use Rattle.strip_decoder.specs.Answers.{PromptBy, FrontBy, Asks, IsPicture, Answers, Decodes}
 use Rattle.strip_decoder.specs.PictureSinks.{numbers_in, StandsAt, ShowsBlocks, GivesRows, picture_sink, rows_given}
+use Rattle.strip_decoder.proofs.Staying.{known_or_not}
 
 -- ---- the numbers of the blocks
 
@@ -39,12 +49,6 @@ numbers_same g received = λ j block i. by (received (block / g.segment)) block 
     by : (o : Option (List (List ℤ))) (block i : ℕ) → get_or (unwrap_or (option_map (λ numbers. get_or numbers (block % g.segment) []) o) []) i (pos 0) ≡ get_or (get_or (unwrap_or o []) (block % g.segment) []) i (pos 0)
     by None block i = refl
     by (Some numbers) block i = refl
-
-rows_same : (g : Geometry) (received : Numbers) (n : ℕ) → rows_of g (numbers_in (blocks_with g received)) n ≡ rows_of g (number_at g received) n
-rows_same g received n = ap (λ numbers. rows_of g numbers n) (numbers_same g received)
-
-whole_same : (g : Geometry) (received : Numbers) → rows_of g (numbers_in (blocks_with g received)) g.rows ≡ whole_octets g received
-whole_same g received = rows_same g received g.rows ∙ all_rows g (number_at g received)
 
 -- ---- a block
 
@@ -79,7 +83,8 @@ picture_takes (Err e) p t v a b broken g n at = record {
       record {
         some = there.0;
         gave_is = ap (λ zs. zs ++ broken.gave) f.gave_is
-            ∙ subst (λ (g : Geometry). rows_of g (numbers_in blocks) p.at.next ++ broken.gave ≡ take there.0 (rows_of g (numbers_in blocks) g.rows)) at.geometry there.1;
+            ∙ subst (λ (g : Geometry). rows_of g (numbers_in blocks) p.at.next ++ broken.gave ≡ take there.0 (rows_of g (numbers_in blocks) (rows_through g (block_rows_before g (n + 1))))) at.geometry
+            (there.1 ∙ ap (λ m. take there.0 (rows_of p.geometry (numbers_in blocks) (rows_through p.geometry (block_rows_before p.geometry (m + 1))))) at.passed);
       };
 }
 
@@ -95,9 +100,27 @@ picture_begins (Ok p) g fresh = record {
   follows = λ blocks. record { stands = fresh.stands (numbers_in blocks); gave_is = no_rows g (numbers_in blocks) p.at.next fresh.next };
 }
 
+-- a picture whose height becomes known
+pub picture_ends : (p t : Picture) (h : Geometry) → HasEnded h.rows (shown p) (shown t) → EndsImage picture_sink h p t
+picture_ends p t h ended g n at ends =
+    let rows : record p.geometry { rows = h.rows } ≡ h = (λ i. record (at.geometry i) { rows = h.rows }) ∙ sym ends.same in
+    let geometry : t.geometry ≡ h = ended.geometry ∙ rows in
+    let width : block_count t.geometry.width ≡ block_count p.geometry.width = ap (λ (g : Geometry). block_count g.width) ended.geometry in
+    record {
+      stands = record {
+        standing = ended.standing;
+        geometry = geometry;
+        passed = ap (λ (a : PictureAt). a.row * block_count t.geometry.width + a.column) ended.at ∙ ap (λ m. p.at.row * m + p.at.column) width ∙ at.passed;
+      };
+      follows = λ blocks gave f. record {
+        stands = ended.follows (numbers_in blocks) f.stands;
+        gave_is = f.gave_is ∙ ap (λ g. rows_of g (numbers_in blocks) p.at.next) (sym at.geometry) ∙ sym (ended.given (numbers_in blocks)) ∙ ap (λ g. rows_of g (numbers_in blocks) t.at.next) geometry;
+      };
+    }
+
 -- ---- what is given
 
--- the rows that may go out are those of the settled blocks
+-- the rows that may be given are those of the settled blocks
 ready_settled : (s : FateState) (received : Numbers) (g : Geometry) → s.geometry ≡ Some g → (rows : ℕ) → rows_through g (block_rows_before g (settled_blocks s received)) ≤ rows → ready s received ≤ rows
 ready_settled s received g geometry rows le = by s.last refl
   where
@@ -109,16 +132,131 @@ ready_settled s received g geometry rows le = by s.last refl
     by (Some l) e =
         subst (λ s. ready s received ≤ rows) (sym (state (Some l) e)) (subst (λ s. rows_through g (block_rows_before g (settled_blocks s received)) ≤ rows) (state (Some l) e) le)
 
+-- the rows of the image as it is placed are those of its picture
+not_equal : (m n : ℕ) → (m ≡ n → ⊥) → (m == n) ≡ false
+not_equal m n e = grind (arith, nat_tests)
+
+module _ (apid : ℕ) (taken : List ℕ) (g : Geometry) (geometry : geometry_in apid taken ≡ Some g) where
+  abbrev b : ℕ
+  b = begun_in apid taken
+
+  abbrev ended : ℕ
+  ended = end_of (kept_in apid taken)
+
+  abbrev c : ℕ
+  c = block_count g.width
+
+  wide : 3 ≤ c
+  wide = three-le-block_count g.width (image_wide apid (whole_packets taken) g geometry)
+
+  begun_is : b ≡ ended / c
+  begun_is = rw geometry refl
+
+  -- the block rows that the kept heads reach while the height isn't known
+  begun_few : g.rows ≡ 0 → b < 32768
+  begun_few none =
+      let room = end_room apid (whole_packets taken) g geometry none in
+      let low : ended / c < 32768 = div_below ended c 32768 (omega (arith, wide)) (omega (arith, room, blocks_open g none)) in
+      omega (arith, low, begun_is)
+
+  height_open : g.rows ≡ 0 → height g b ≡ 8 * b - 21
+  height_open none = ap (λ t. if t then 8 * b - 21 else g.rows) (is_open g.rows none)
+
+  height_known : (g.rows ≡ 0 → ⊥) → height g b ≡ g.rows
+  height_known some = ap (λ t. if t then 8 * b - 21 else g.rows) (is_not_open g.rows some)
+
+  height_few : height g b ≤ placed_rows g
+  height_few = elim (known_or_not g.rows) [
+    | inl none ↦ let few = begun_few none in omega (arith, height_open none, placed_open g none, few)
+    | inr some ↦ omega (arith, height_known some, placed_known g some)
+  ]
+
+  pub shown_rows : (numbers : ℕ → ℕ → ℤ) (k : ℕ) → k ≤ height g b → rows_of (placed g) numbers k ≡ raster_octets g.depth k g.width (picture_with g numbers b)
+  unfolding rows_of
+  shown_rows numbers k le =
+      let few = height_few in
+      let all : min k (placed_rows g) ≡ k = omega (arith, le, few) in
+      ap (λ m. raster_octets g.depth m g.width (whole_with (placed g) numbers)) all ∙ (elim (known_or_not g.rows) [
+        | inl none ↦
+            let low = begun_few none in
+            let most : block_count (placed_rows g) ≡ 32768 = ap block_count (placed_open g none) in
+            placed_octets g numbers none (omega (arith, wide)) b k (omega (arith, le, height_open none)) (omega (arith, low, most))
+        | inr some ↦
+            ap (λ g'. raster_octets g.depth k g.width (whole_with g' numbers)) (placed_same g some)
+            ∙ ap (λ t. raster_octets g.depth k g.width (picture_of g numbers (if t then b + 3 else block_count g.rows))) (sym (is_not_open g.rows some))
+      ])
+
+  -- rows that whole block rows determine before the last one
+  through_open : (s : ℕ) → g.rows ≡ 0 → s < 32768 → rows_through (placed g) s ≡ 8 * s - 21
+  through_open s none lt = ap (λ t. if t then placed_rows g else 8 * s - 21) (not_equal s (block_count (placed_rows g)) (λ e. omega (arith, e, lt, ap block_count (placed_open g none))))
+
+  passed_open : g.rows ≡ 0 → blocks_passed g ended ≡ ended
+  passed_open none = ap (λ t. if t then ended else blocks_of g) (is_open g.rows none)
+
+  passed_known : (g.rows ≡ 0 → ⊥) → blocks_passed g ended ≡ blocks_of g
+  passed_known some = ap (λ t. if t then ended else blocks_of g) (is_not_open g.rows some)
+
+  -- the rows that some blocks determine
+  pub rows_within : (n : ℕ) → n ≤ blocks_passed g ended → rows_through (placed g) (block_rows_before (placed g) n) ≤ height g b
+  rows_within n le = elim (known_or_not g.rows) [
+    | inl none ↦
+        let rise : n / c ≤ ended / c = rows_rise n ended c (omega (arith, wide)) (omega (arith, le, passed_open none)) in
+        let low = begun_few none in
+        let through = through_open (n / c) none (omega (arith, rise, low, begun_is)) in
+        omega (arith, through, rise, begun_is, height_open none)
+    | inr some ↦
+        let most = rows_through-most (placed g) n (omega (arith, wide)) (omega (arith, le, passed_known some, blocks_known g some)) in
+        omega (arith, most, height_known some, placed_known g some)
+  ]
+
+  -- past all blocks they are all rows
+  pub all_through : rows_through (placed g) (block_rows_before (placed g) (blocks_passed g ended)) ≡ height g b
+  all_through = elim (known_or_not g.rows) [
+    | inl none ↦
+        let low = begun_few none in
+        ap (λ n. rows_through (placed g) (n / c)) (passed_open none) ∙ through_open (ended / c) none (omega (arith, low, begun_is)) ∙ ap (λ n. 8 * n - 21) (sym begun_is) ∙ sym (height_open none)
+    | inr some ↦
+        let turned : c * block_count g.rows ≡ block_count g.rows * c + 0 = grind arith in
+        let last : blocks_of g / c ≡ block_count g.rows = ap (λ n. n / c) turned ∙ div-mul-add (block_count g.rows) c 0 (omega (arith, wide)) in
+        ap (λ n. rows_through (placed g) (n / c)) (passed_known some) ∙ ap (λ h. rows_through h (blocks_of g / c)) (placed_same g some) ∙ ap (rows_through g) last ∙ through_all ∙ sym (height_known some)
+  ]
+    where
+      through_all : rows_through g (block_count g.rows) ≡ g.rows
+      through_all = let e : (block_count g.rows == block_count g.rows) ≡ true = grind (arith, nat_tests) in rw e refl
+
+  -- the rows that may be given are no more than those of the blocks that were passed
+  pub ready_within : (received : Numbers) (n : ℕ) → settled_blocks (state_after apid taken) received ≤ n → n ≤ blocks_passed g ended → ready (state_after apid taken) received ≤ rows_through (placed g) (block_rows_before (placed g) n)
+  ready_within received n settled le =
+      let m : ℕ = settled_blocks (state_after apid taken) received in
+      ready_settled (state_after apid taken) received g geometry (rows_through (placed g) (block_rows_before (placed g) n)) (elim (known_or_not g.rows) [
+        | inl none ↦
+            let rise : m / c ≤ n / c = rows_rise m n c (omega (arith, wide)) settled in
+            let top : n / c ≤ ended / c = rows_rise n ended c (omega (arith, wide)) (omega (arith, le, passed_open none)) in
+            let low = begun_few none in
+            open_rows (m / c) (n / c) none rise (omega (arith, top, low, begun_is))
+        | inr some ↦
+            subst (λ h. rows_through g (block_rows_before g m) ≤ rows_through h (block_rows_before h n)) (sym (placed_same g some))
+            (rows_through-rises g m n (omega (arith, wide)) settled (omega (arith, le, passed_known some)))
+      ])
+    where
+      open_rows : (r s : ℕ) → g.rows ≡ 0 → r ≤ s → s < 32768 → rows_through g r ≤ rows_through (placed g) s
+      open_rows r s none le lt = by (r == block_count g.rows) refl (through_open s none lt)
+        where
+          by : (t : Bool) → (r == block_count g.rows) ≡ t → rows_through (placed g) s ≡ 8 * s - 21 → (if t then g.rows else 8 * r - 21) ≤ rows_through (placed g) s
+          by true e through = omega (arith, none)
+          by false e through = omega (arith, through, le)
+
 prompt_by : (apid : ℕ) (taken given : List ℕ) → PassedBy picture_sink apid taken given → PromptBy apid taken given
 prompt_by apid taken given passed = record {
   none = passed.none;
   some = λ g received there are.
       let x = passed.some g received there are in
-      let rows = x.3 in (
-        rows.rows,
-        rows.within,
-        ready_settled (state_after apid taken) received g there rows.rows (rows.least (settled_blocks (state_after apid taken) received) x.2),
-        rows.gave_is ∙ rows_same g received rows.rows,
+      let k : ℕ = rows_through (placed g) (block_rows_before (placed g) x.0) in
+      let within = rows_within apid taken g there x.0 x.1 in (
+        k,
+        within,
+        ready_within apid taken g there received x.0 x.2 x.1,
+        x.3 ∙ ap (λ numbers. rows_of (placed g) numbers k) (numbers_same g received) ∙ shown_rows apid taken g there (number_at g received) k within,
       );
 }
 
@@ -127,42 +265,42 @@ front_by apid taken given part = record {
   none = part.none;
   some = λ g received there are.
       let x = part.some g received there are in
-      (x.some, x.gave_is ∙ ap (take x.some) (whole_same g received));
+      let within = rows_within apid taken g there x.0 x.1 in
+      let numbers = number_at g received in
+      let front = front_within (placed g) numbers (rows_through (placed g) (block_rows_before (placed g) x.0)) (height g (begun_in apid taken)) x.2.some within in (
+        front.0,
+        x.2.gave_is ∙ ap (λ numbers. take x.2.some (rows_of (placed g) numbers (rows_through (placed g) (block_rows_before (placed g) x.0)))) (numbers_same g received) ∙ front.1
+            ∙ ap (take front.0) (shown_rows apid taken g there numbers (height g (begun_in apid taken)) (omega arith)),
+      );
 }
 
-asks_by : (wish : DecodeWish) (old : Outside) (took gave : List ℕ) (i j : ℕ) → AsksWalk picture_sink wish old took gave i j → Asks wish old took gave i j
-asks_by wish old took gave i j asks = ((asks.0.0, λ all told. prompt_by wish.apid (take i took) (take j gave) (asks.0.1 all told)), asks.1)
+asks_by : (wish : DecodeWish) (old : Outside) (took gave : List ℕ) (i j : ℕ) → AsksPassed picture_sink (run_of wish old) took gave i j → Asks wish old took gave i j
+asks_by wish old took gave i j asks = (asks.0, asks.1, λ all told. prompt_by wish.apid (take i took) (take j gave) (asks.2 all told))
 
 -- ---- the answers
 
 -- past all blocks all rows are given
-whole_rows : (g : Geometry) (received : Numbers) (gave : List ℕ) → 0 < block_count g.width → GivesRows g (blocks_with g received) (blocks_of g) gave → gave ≡ whole_octets g received
-whole_rows g received gave wide given =
-    let c = block_count g.width in
-    let turned : c * block_count g.rows ≡ block_count g.rows * c + 0 = grind arith in
-    let last : block_rows_before g (blocks_of g) ≡ block_count g.rows = ap (λ n. n / c) turned ∙ div-mul-add (block_count g.rows) c 0 wide in
-    let all : rows_through g (block_rows_before g (blocks_of g)) ≡ g.rows = ap (rows_through g) last ∙ through_all in
-    let least = given.least (blocks_of g) (omega arith) in
-    let rows : given.rows ≡ g.rows = omega (arith, least, all, given.within) in
-    given.gave_is ∙ ap (rows_of g (numbers_in (blocks_with g received))) rows ∙ whole_same g received
-  where
-    through_all : rows_through g (block_count g.rows) ≡ g.rows
-    through_all = let e : (block_count g.rows == block_count g.rows) ≡ true = grind (arith, nat_tests) in rw e refl
+whole_rows : (apid : ℕ) (taken : List ℕ) (g : Geometry) (received : Numbers) (gave : List ℕ) → geometry_in apid taken ≡ Some g → GivesRows (placed g) (blocks_with g received) (blocks_passed g (end_of (kept_in apid taken))) gave → gave ≡ picture_octets g received (begun_in apid taken)
+whole_rows apid taken g received gave there given =
+    let k : ℕ = rows_through (placed g) (block_rows_before (placed g) (blocks_passed g (end_of (kept_in apid taken)))) in
+    given ∙ ap (λ numbers. rows_of (placed g) numbers k) (numbers_same g received)
+    ∙ ap (rows_of (placed g) (number_at g received)) (all_through apid taken g there)
+    ∙ shown_rows apid taken g there (number_at g received) (height g (begun_in apid taken)) (omega arith)
 
 is_picture : (wish : DecodeWish) (old new : Outside) (took gave : List ℕ) (walked : Walked Picture) → IsWalked picture_sink wish old new took gave walked → IsPicture wish old new took gave walked.done
 is_picture wish old new took gave walked x = record {
   geometry = x.geometry;
   range = x.range;
-  height = x.height;
   few = x.few;
   framing_is = x.framing_is;
   out = x.out;
+  written = x.written;
   rows = x.rows;
   told = λ all told.
       let t = x.told all told in
       let g = walked.done.geometry in
-      let wide = x.range.width in
-      (t.0, t.1, whole_rows g t.0 gave (omega (arith, wide)) (rows_given walked.sink g (blocks_with g t.0) (blocks_of g) gave x.stands t.2), t.3);
+      let n : ℕ = blocks_passed g (end_of (kept_in wish.apid took)) in
+      (t.0, t.1, whole_rows wish.apid took g t.0 gave x.geometry (rows_given walked.sink (placed g) (blocks_with g t.0) n gave x.stands t.2), t.3);
 }
 
 -- a picture was walked through
@@ -193,5 +331,5 @@ decode_fails wish old new fault x = record {
     by WriteFault a = (a.0, a.1, front a.2)
     by LongInput a = (a.0, a.1, a.2, front a.3)
     by NoSegment a = a
-    by (TooManyPixels pixels) a = a
+    by (TooManyPixels pixels) a = (a.0, front a.1)
     by Memory a = a

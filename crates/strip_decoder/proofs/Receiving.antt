@@ -23,11 +23,12 @@ use Rattle.packet_assembly.specs.declared.note.SegmentStart.{SegmentStart}
 use Rattle.packet_assembly.specs.Assembling.{Assembling, last_index, is_closed}
 use Rattle.packet_assembly.specs.Tails.{stop_of, in_front, tail_from, text_tail}
 use Rattle.packet_assembly.specs.Wholes.{tail_past, TellsParts}
+use Rattle.packet_assembly.proofs.Begun.{begins_so}
+use Rattle.packet_assembly.proofs.Images.{begun_by}
 use Rattle.packet_assembly.proofs.TailParts.{tells_parts}
 use Rattle.packet_assembly.proofs.TailSteps.{unheld_tail}
 use Rattle.packet_assembly.proofs.HeadLengths.{head_within}
 use Rattle.strip_decoder.specs.Runs.{holds_after, Numbers, Knows, IsBegun, future}
-use Rattle.strip_decoder.proofs.Fits.{begins_so, begun_by}
 use Rattle.strip_decoder.proofs.TailLaws.{from_more, from_closes, from_closed}
 
 in_pieces : InPieces ≡ Plainly → ⊥
@@ -63,7 +64,7 @@ none_received packets index w none x = by x.whole.front x.whole.closing (sym x.w
 -- ---- a segment that is begun
 
 begun_index : (apid : ℕ) (passed : List (List ℕ)) (text : List ℕ) (start : SegmentStart) (bound : ℕ) → (b : IsBegun apid passed text start bound) → index_in b.packet ≡ start.ancillary.index
-begun_index apid passed text start bound b = (begun_by apid (after_all apid fresh b.before) b.packet start b.starts).index
+begun_index apid passed text start bound b = (begun_by apid b.before b.packet start b.starts).index
 
 -- the packets in another form
 split_at : (apid : ℕ) (passed : List (List ℕ)) (text : List ℕ) (start : SegmentStart) (bound : ℕ) (next : List (List ℕ)) → (b : IsBegun apid passed text start bound) → passed ++ next ≡ b.before ++ b.packet ∷ next
@@ -112,7 +113,7 @@ module _ (apid : ℕ) (passed : List (List ℕ)) (a : Assembling) (start : Segme
   there_is = state ∙ ap (after_all apid fresh) b.passed_are ∙ after_all-append apid fresh b.before (b.packet ∷ [])
 
   last_is : there.last ≡ Some (part_in b.packet)
-  last_is = (begun_by apid (after_all apid fresh b.before) b.packet start b.starts).last
+  last_is = (begun_by apid b.before b.packet start b.starts).last
 
   index_is : index_in b.packet ≡ index
   index_is = begun_index apid passed a.text start bound b

@@ -1,6 +1,6 @@
 -- A run that has come to the end of its packets.
-use Rattle.std.proofs.Common.{◌≡◌, ◌≤◌, ◌<◌, ◌+◌, ◌*◌, ◌/◌, ◌%◌, ◌==◌, ℕ, ℤ, zero, suc, Bool, true, false, List, [], ◌∷◌, refl, sym, ap, subst, ◌∙◌, inl, inr, arith, get_or}
-use Rattle.std.specs.Prelude.{◌||◌, ◌&&◌, not, Option, None, Some, is_some, MatchOption}
+use Rattle.std.proofs.Common.{◌≡◌, ◌≤◌, ◌<◌, ◌+◌, ◌-◌, ◌*◌, ◌/◌, ◌%◌, ◌==◌, ℕ, ℤ, zero, suc, Bool, true, false, List, [], ◌∷◌, refl, sym, ap, subst, ◌∙◌, inl, inr, arith, get_or}
+use Rattle.std.specs.Prelude.{◌||◌, ◌&&◌, not, filter, Option, None, Some, is_some, MatchOption}
 use Rattle.std.specs.Option.{option_map}
 use Rattle.std.specs.List.{range_with_len, list_any}
 use Rattle.std.proofs.lemmas.Bool.{cases_lt, false≢true}
@@ -16,10 +16,12 @@ use Rattle.packet_defs.specs.Streams.{whole_packets}
 use Rattle.stream_defs.specs.declared.fate.FateState.{FateState}
 use Rattle.stream_defs.specs.Fates.{fresh, after_all, kept}
 use Rattle.stream_defs.specs.Received.{IsReceived, ReceivedIn, packets_at}
-use Rattle.stream_defs.specs.Damage.{is_missing, whole_missing, missing_below}
+use Rattle.stream_defs.specs.Begun.{placed}
+use Rattle.stream_defs.specs.Damage.{is_missing, ranges, whole_missing, missing_below}
+use Rattle.stream_defs.proofs.RangeLaws.{ranges_below}
 use Rattle.stream_defs.specs.Marks.{most_block_rows}
 use Rattle.stream_defs.proofs.KeptOrder.{before_none}
-use Rattle.damage_rows.proofs.TableLaws.{any_none, filter_front, most_is}
+use Rattle.damage_rows.proofs.TableLaws.{any_none, any_there, filter_front, most_is}
 use Rattle.packet_assembly.specs.Assembling.{Assembling, last_index}
 use Rattle.strip_decoder.specs.Sinks.{Numbers, Blocks, SinkOf, blocks_with}
 use Rattle.strip_decoder.specs.Steps.{Walking, IsStanding, Follows, passed_in, total_in, is_marked, is_lost}
@@ -65,17 +67,14 @@ module _ (g : Geometry) (blocks : Blocks) (row : ℕ) (wide : 0 < block_count g.
   abbrev c : ℕ
   c = block_count g.width
 
-  abbrev r : ℕ
-  r = block_count g.rows
-
   -- some block of it is missing
   abbrev pub misses : Bool
   misses = list_any (λ column. not (is_some (blocks (row * c + column)))) (range_with_len 0 c)
 
   -- no block of it is lost
-  none_lost : misses ≡ false → is_lost g blocks (c * r) row ≡ false
-  none_lost none =
-      any_miss (λ block. not (is_some (blocks block)) && (block / c == row)) 0 (c * r) (λ block low high. both (not (is_some (blocks block))) (block / c == row) (here_kept block))
+  none_lost : (m : ℕ) → misses ≡ false → is_lost g blocks m row ≡ false
+  none_lost m none =
+      any_miss (λ block. not (is_some (blocks block)) && (block / c == row)) 0 m (λ block low high. both (not (is_some (blocks block))) (block / c == row) (here_kept block))
     where
       both : (a b : Bool) → (b ≡ true → a ≡ false) → (a && b) ≡ false
       both true true f = absurd (false≢true (sym (f refl)))
@@ -90,13 +89,11 @@ module _ (g : Geometry) (blocks : Blocks) (row : ℕ) (wide : 0 < block_count g.
           ap (λ n. not (is_some (blocks n))) (sym at) ∙ any_at (λ column. not (is_some (blocks (row * c + column)))) c (block % c) none (mod_below block c wide)
 
   -- none of its blocks is lost, so it isn't missing
-  none_missing : row < r → is_lost g blocks (c * r) row ≡ false → misses ≡ false
-  none_missing lt none =
+  none_missing : (m : ℕ) → (row + 1) * c ≤ m → is_lost g blocks m row ≡ false → misses ≡ false
+  none_missing m le none =
       any_miss (λ column. not (is_some (blocks (row * c + column)))) 0 c (λ column low high.
-      let next : (row + 1) * c ≤ r * c = mul-le-mul_right c (omega (arith, lt)) in
       let more : (row + 1) * c ≡ row * c + c = grind arith in
-      let turned : c * r ≡ r * c = grind arith in
-      let here = any_at (λ block. not (is_some (blocks block)) && (block / c == row)) (c * r) (row * c + column) none (omega (arith, next, more, turned, high)) in
+      let here = any_at (λ block. not (is_some (blocks block)) && (block / c == row)) m (row * c + column) none (omega (arith, le, more, high)) in
       first_false (not (is_some (blocks (row * c + column)))) ((row * c + column) / c == row) here (equal_test ((row * c + column) / c) row (div-mul-add row c column (omega (arith, high)))))
     where
       first_false : (a b : Bool) → (a && b) ≡ false → b ≡ true → a ≡ false
@@ -107,18 +104,18 @@ module _ (g : Geometry) (blocks : Blocks) (row : ℕ) (wide : 0 < block_count g.
       equal_test : (m n : ℕ) → m ≡ n → (m == n) ≡ true
       equal_test m n e = grind (arith, nat_tests)
 
-  pub lost_missing : row < r → is_lost g blocks (c * r) row ≡ misses
-  lost_missing lt = by (is_lost g blocks (c * r) row) (misses) refl refl
+  pub lost_missing : (m : ℕ) → (row + 1) * c ≤ m → is_lost g blocks m row ≡ misses
+  lost_missing m le = by (is_lost g blocks m row) (misses) refl refl
     where
-      by : (a b : Bool) → is_lost g blocks (c * r) row ≡ a → misses ≡ b → is_lost g blocks (c * r) row ≡ misses
+      by : (a b : Bool) → is_lost g blocks m row ≡ a → misses ≡ b → is_lost g blocks m row ≡ misses
       by true true e h = e ∙ sym h
       by false false e h = e ∙ sym h
-      by true false e h = absurd (false≢true (sym (none_lost h) ∙ e))
-      by false true e h = absurd (false≢true (sym (none_missing lt e) ∙ h))
+      by true false e h = absurd (false≢true (sym (none_lost m h) ∙ e))
+      by false true e h = absurd (false≢true (sym (none_missing m le e) ∙ h))
 
   -- a row past the last one has no blocks
-  pub lost_past : r ≤ row → is_lost g blocks (c * r) row ≡ false
-  lost_past ge =
+  pub lost_past : (r : ℕ) → r ≤ row → is_lost g blocks (c * r) row ≡ false
+  lost_past r ge =
       any_miss (λ block. not (is_some (blocks block)) && (block / c == row)) 0 (c * r) (λ block low high.
       let turned : c * r ≡ r * c = grind arith in
       let below = div_below block c r wide (omega (arith, high, turned)) in
@@ -150,26 +147,63 @@ missing_is g sofar row wide = any_same (range_with_len 0 (block_count g.width))
     any_same (x ∷ xs) =
         ap (λ b. b || list_any f xs) (some_same (row * block_count g.width + x) (sofar ((row * block_count g.width + x) / g.segment))) ∙ ap (λ b. h x || b) (any_same xs)
 
+-- the marks of the block rows that were passed whole
+pub row_missing : {S : Type 0} (k : SinkOf S) (p : Walking S) (sofar : Numbers) (gave : List ℕ) (row : ℕ) → IsStanding k p → Follows k p (blocks_with p.geometry sofar) gave → row < most_block_rows → (row + 1) * block_count p.geometry.width ≤ passed_in p → is_marked p.damage.missing row ≡ is_missing p.geometry sofar row
+row_missing k p sofar gave row standing follows few le =
+    let g = p.geometry in
+    let column = standing.column in
+    let wide : 0 < block_count g.width = omega (arith, column) in
+    follows.marked row few ∙ lost_missing g (blocks_with g sofar) row wide (passed_in p) le ∙ sym (missing_is g sofar row wide)
+
 -- what is marked once all blocks were passed
 pub all_missing : {S : Type 0} (k : SinkOf S) (p : Walking S) (sofar : Numbers) (gave : List ℕ) → IsStanding k p → Follows k p (blocks_with p.geometry sofar) gave → passed_in p ≡ total_in p → p.damage.missing ≡ whole_missing p.geometry sofar
 unfolding missing_below
 all_missing k p sofar gave standing follows all =
     let g = p.geometry in
     let blocks = blocks_with g sofar in
+    let c = block_count g.width in
     let r = block_count g.rows in
     let few = block_count-rows g.rows standing.height in
     let column = standing.column in
-    let wide : 0 < block_count g.width = omega (arith, column) in
+    let wide : 0 < c = omega (arith, column) in
+    let turned : c * r ≡ r * c = grind arith in
     follows.listed
     ∙ filter_front (is_marked p.damage.missing) (is_missing g sofar) r most_block_rows (omega (arith, few, most_is))
-    (λ i lt. follows.marked i (omega (arith, lt, few, most_is)) ∙ ap (λ n. is_lost g blocks n i) all ∙ lost_missing g blocks i wide lt ∙ sym (missing_is g sofar i wide))
+    (λ i lt. row_missing k p sofar gave i standing follows (omega (arith, lt, few, most_is)) (let next : (i + 1) * c ≤ r * c = mul-le-mul_right c (omega (arith, lt)) in omega (arith, next, turned, all)))
     (λ i ge. elim (cases_lt i most_block_rows) [
-      | inl low ↦ follows.marked i low ∙ ap (λ n. is_lost g blocks n i) all ∙ lost_past g blocks i wide ge
+      | inl low ↦ follows.marked i low ∙ ap (λ n. is_lost g blocks n i) all ∙ lost_past g blocks i wide r ge
       | inr high ↦ ap (λ xs. is_marked xs i) follows.listed ∙ any_none (λ k. k == i) (is_marked p.damage.missing) most_block_rows 0 (λ k from below set. other_test k i (λ e. omega (arith, e, below, high)))
     ])
   where
     other_test : (m n : ℕ) → (m ≡ n → ⊥) → (m == n) ≡ false
     other_test m n e = grind (arith, nat_tests)
+
+-- a list of missing block rows holds just these
+missing_there : (g : Geometry) (sofar : Numbers) (n row : ℕ) → row < n → is_marked (missing_below g sofar n) row ≡ is_missing g sofar row
+unfolding missing_below
+missing_there g sofar n row lt = by (is_missing g sofar row) refl
+  where
+    here : (k : ℕ) → (k == row) ≡ true → k ≡ row
+    here k e = grind (arith, nat_tests)
+
+    by : (b : Bool) → is_missing g sofar row ≡ b → list_any (λ k. k == row) (filter (is_missing g sofar) (range_with_len 0 n)) ≡ is_missing g sofar row
+    by true e = any_there (λ k. k == row) (is_missing g sofar) n 0 row (omega arith) (omega (arith, lt)) e (grind (arith, nat_tests)) ∙ sym e
+    by false e = any_none (λ k. k == row) (is_missing g sofar) n 0 (λ i low high set. other i (i == row) refl set) ∙ sym e
+      where
+        other : (i : ℕ) (b : Bool) → (i == row) ≡ b → is_missing g sofar i ≡ true → b ≡ false
+        other i true hit set = absurd (false≢true (sym e ∙ ap (is_missing g sofar) (sym (here i hit)) ∙ set))
+        other i false hit set = refl
+
+-- the damage of the rows that the whole block rows determine, while the height isn't known
+pub open_damage : {S : Type 0} (k : SinkOf S) (p : Walking S) (image : Geometry) (sofar : Numbers) (gave : List ℕ) (n : ℕ) → IsStanding k p → p.geometry ≡ placed image → Follows k p (blocks_with p.geometry sofar) gave → n * block_count p.geometry.width ≤ passed_in p → n ≤ most_block_rows →
+    ranges (8 * n - 21) p.damage.missing ≡ ranges (8 * n - 21) (missing_below image sofar n)
+open_damage k p image sofar gave n standing goes_by follows le few =
+    ranges_below (8 * n - 21) n p.damage.missing (missing_below image sofar n) (omega arith)
+    (λ row lt.
+    let c = block_count p.geometry.width in
+    let next : (row + 1) * c ≤ n * c = mul-le-mul_right c (omega (arith, lt)) in
+    row_missing k p sofar gave row standing follows (omega (arith, lt, few)) (omega (arith, next, le))
+    ∙ ap (λ (g : Geometry). is_missing g sofar row) goes_by ∙ sym (missing_there image sofar n row lt))
 
 -- where no packet waits, the segments that are received are those that are known
 pub all_received : (w : Run) (now : Outside) (a : Assembling) (index : ℕ) (took : List ℕ) → (known : HasKnown w now a (index + 1) took) → last_index a.state.last ≡ Some index → (rest : List ℕ) → now.rest ≡ Some rest → whole_packets took ≡ known.passed →

@@ -1,5 +1,5 @@
 -- A run begins.
-use Rattle.std.proofs.Common.{◌≡◌, ◌≤◌, ◌<◌, ◌*◌, ℕ, zero, suc, List, [], ◌∷◌, ◌++◌, take, refl, sym, ap, subst, ◌∙◌, inl, inr, arith}
+use Rattle.std.proofs.Common.{◌≡◌, ◌≤◌, ◌<◌, ℕ, zero, suc, List, [], ◌∷◌, ◌++◌, take, refl, sym, ap, subst, ◌∙◌, inl, inr, arith}
 use Rattle.std.specs.Prelude.{true, false, filter, None, Some, Ok}
 use Rattle.std.specs.List.{range_with_len}
 use Rattle.std.proofs.lemmas.Bool.{false≢true}
@@ -11,6 +11,7 @@ use Rattle.base_122.specs.declared.geometry.Geometry.{Geometry}
 use Rattle.packet_defs.specs.Streams.{whole_packets}
 use Rattle.stream_defs.specs.declared.fate.FateState.{FateState}
 use Rattle.stream_defs.specs.Fates.{fresh, after, after_all, kept, state_after, geometry_in, part_in}
+use Rattle.stream_defs.specs.Begun.{HasFewPixels, placed}
 use Rattle.stream_defs.specs.Marks.{Marks, most_block_rows}
 use Rattle.stream_defs.proofs.KeptOrder.{does, reached_on}
 use Rattle.damage_rows.proofs.TableLaws.{filter_none_from}
@@ -18,11 +19,13 @@ use Rattle.packet_assembly.specs.declared.note.SegmentStart.{SegmentStart}
 use Rattle.packet_assembly.specs.Assembling.{Assembling, Passes, StaysAt, Starts, BeginsNone, last_index, state_with, unread_assembly}
 use Rattle.packet_assembly.specs.Segments.{WasFound, FindsSegment}
 use Rattle.packet_assembly.specs.Readings.{HasRead, SawEnd}
+use Rattle.packet_assembly.proofs.Images.{index_none}
 use Rattle.packet_assembly.proofs.Readings.{none_read, read_on, end_on}
 use Rattle.strip_decoder.specs.Sinks.{SinkOf, blocks_with}
 use Rattle.strip_decoder.specs.Steps.{Walking, IsStanding, IsFresh, passed_in, is_marked, is_lost}
-use Rattle.strip_decoder.specs.Runs.{Run, AsksPassed, HasFew, PartBy, Shows, IsBegun, ComesTo}
-use Rattle.strip_decoder.proofs.Between.{index_stays}
+use Rattle.strip_decoder.specs.Segments.{pixels_reached}
+use Rattle.strip_decoder.specs.Runs.{Run, AsksPassed, HasFew, PartBy, Shows, IsBegun, ComesIn}
+use Rattle.strip_decoder.proofs.RunPasses.{few_begun}
 use Rattle.strip_decoder.proofs.Receiving.{none_received, between_none}
 
 -- ---- before the first segment
@@ -52,23 +55,21 @@ none_yet w a octets unread stays =
     none_kept w.apid (whole_packets octets) (sym (ap (λ (s : FateState). last_index s.last) state) ∙ last)
 
 -- no image was told of, so it has few pixels
-pub none_few : (pixels apid : ℕ) (octets : List ℕ) → geometry_in apid octets ≡ None → HasFew pixels apid octets
+pub none_few : (pixels apid : ℕ) (octets : List ℕ) → geometry_in apid octets ≡ None → HasFewPixels pixels apid octets
 none_few pixels apid octets none g there = absurd (let both : None ≡ Some g = sym none ∙ there in cc)
 
 -- at each read call nothing is given, and there is no geometry
 pub first_asks : {S : Type 0} (k : SinkOf S) (w : Run) (new : Outside) (a b : Assembling) (went : List (List ℕ)) → a ≡ unread_assembly w.apid w.cap → (q : Passes (StaysAt a) w.start new a b went) →
-    Since w.start new q.took [] [] (λ i j. AsksPassed k w.apid w.start q.took [] i j × HasFew w.pixels w.apid (take i q.took))
+    Since w.start new q.took [] [] (AsksPassed k w q.took [])
 first_asks k w new a b went unread q =
     since_weaker q.since (λ i j le asks.
     let none = none_yet w a (take i q.took) unread asks.0 in (
-      (
-        omega (arith, asks.1),
-        λ all told. record {
-          none = λ e. nothing j;
-          some = λ g received there are. absurd (let both : None ≡ Some g = sym none ∙ there in cc);
-        },
-      ),
+      omega (arith, asks.1),
       none_few w.pixels w.apid (take i q.took) none,
+      λ all told. record {
+        none = λ e. nothing j;
+        some = λ g received there are. absurd (let both : None ≡ Some g = sym none ∙ there in cc);
+      },
     ))
   where
     nothing : (j : ℕ) → take j (let xs : List ℕ = [] in xs) ≡ []
@@ -77,7 +78,7 @@ first_asks k w new a b went unread q =
 
 -- nothing is a part
 pub first_part : {S : Type 0} (k : SinkOf S) (apid : ℕ) (took : List ℕ) → PartBy k apid took []
-first_part k apid took = record { none = λ e. refl; some = λ g received there are. k.part_none g (blocks_with g received) }
+first_part k apid took = record { none = λ e. refl; some = λ g received there are. (0, omega arith, k.part_none (placed g) (blocks_with g received)) }
 
 -- where the end was seen, nothing is left
 pub first_end : {P : FateState → Type 0} (w : Run) (new : Outside) (a b : Assembling) (went : List (List ℕ)) → a ≡ unread_assembly w.apid w.cap → Passes P w.start new a b went → SawEnd new b
@@ -89,30 +90,33 @@ first_end w new a b went unread q =
 pub record HasFound {S : Type 0} (k : SinkOf S) (w : Run) (new : Outside) (b : Assembling) (start : SegmentStart) : Type 0 where
   pub took : List ℕ
   pub went : List (List ℕ)
-  pub since : Since w.start new took [] [] (λ i j. AsksPassed k w.apid w.start took [] i j × HasFew w.pixels w.apid (take i took))
+  pub since : Since w.start new took [] [] (AsksPassed k w took [])
   pub read : HasRead w.apid w.cap b took went
   pub begun : IsBegun w.apid went b.text start 0
+  pub none : (after_all w.apid fresh begun.before).geometry ≡ None
   pub at_end : SawEnd new b
 
 first_found : {S : Type 0} (k : SinkOf S) (w : Run) (new : Outside) (a b : Assembling) (start : SegmentStart) → a ≡ unread_assembly w.apid w.cap → WasFound w.start new a b start → HasFound k w new b start
-first_found k w new a b start unread found = record {
-  took = found.passed.took;
-  went = found.front ++ found.packet ∷ [];
-  since = first_asks k w new a b (found.front ++ found.packet ∷ []) unread found.passed;
-  read = first_read w new a b (found.front ++ found.packet ∷ []) unread found.passed;
-  at_end = first_end w new a b (found.front ++ found.packet ∷ []) unread found.passed;
-  begun = record {
-    before = found.front;
-    packet = found.packet;
-    passed_are = refl;
-    starts = subst (λ (a : Assembling). Starts a.apid (after_all a.apid a.state found.front) found.packet start) unread found.starts;
-    text_is = found.text;
-    below = λ l is. absurd (
-        let none : last_index (after_all w.apid fresh found.front).last ≡ None = index_stays w.apid fresh found.front (subst (λ (a : Assembling). BeginsNone a.apid a.state found.front) unread found.none_before) in
-        let both : None ≡ Some l.index = sym none ∙ ap last_index is in cc);
-    later = omega arith;
-  };
-}
+first_found k w new a b start unread found =
+    let none : last_index (after_all w.apid fresh found.front).last ≡ None = index_none w.apid fresh found.front (subst (λ (a : Assembling). BeginsNone a.apid a.state found.front) unread found.none_before) in
+    record {
+      took = found.passed.took;
+      went = found.front ++ found.packet ∷ [];
+      since = first_asks k w new a b (found.front ++ found.packet ∷ []) unread found.passed;
+      read = first_read w new a b (found.front ++ found.packet ∷ []) unread found.passed;
+      at_end = first_end w new a b (found.front ++ found.packet ∷ []) unread found.passed;
+      begun = record {
+        before = found.front;
+        packet = found.packet;
+        passed_are = refl;
+        starts = subst (λ (a : Assembling). Starts a.apid (after_all a.apid a.state found.front) found.packet start) unread found.starts;
+        text_is = found.text;
+        below = λ l is. absurd (
+            let both : None ≡ Some l.index = sym none ∙ ap last_index is in cc);
+        later = omega arith;
+      };
+      none = none_kept w.apid found.front none;
+    }
 
 pub found_one : {S : Type 0} (k : SinkOf S) (w : Run) (new : Outside) (a b : Assembling) (start : SegmentStart) → a ≡ unread_assembly w.apid w.cap → FindsSegment w.start new a b (Ok (Some start)) → HasFound k w new b start
 found_one k w new a b start unread finds = elim finds.ends [
@@ -131,7 +135,7 @@ shows_nothing k g p fresh_walk blocks of =
       listed = missing ∙ sym (ap (λ xs. filter (is_marked xs) (range_with_len 0 most_block_rows)) missing ∙ filter_none_from (is_marked []) most_block_rows 0 (λ i far. refl));
     }
 
--- a walk that begins stands
+-- a walk that begins is one of its image
 pub first_stands : {S : Type 0} (k : SinkOf S) (g : Geometry) (p : Walking S) → IsGeometryInRange g → IsWithin rows_range g.rows → IsFresh k g p → IsStanding k p
 first_stands k g p range height fresh_walk =
     let none : passed_in p ≡ 0 = rw (fresh_walk.row, fresh_walk.column) (omega arith) in
@@ -145,36 +149,44 @@ first_stands k g p range height fresh_walk =
       stands = subst (λ n. k.Stands p.sink p.geometry n) (sym none) (subst (λ g. k.Stands p.sink g 0) (sym fresh_walk.geometry) fresh_walk.begins.stands);
     }
 
-pub first_comes : {S : Type 0} (k : SinkOf S) (w : Run) (new : Outside) (b : Assembling) (p : Walking S) (start : SegmentStart) (g : Geometry) → HasFound k w new b start → IsFresh k g p → g.width * g.rows ≤ w.pixels → ComesTo k w new b p start
-first_comes k w new b p start g found fresh_walk small =
+-- before the first head no pixels were reported
+pub few_first : {S : Type 0} (k : SinkOf S) (w : Run) (new : Outside) (b : Assembling) (start : SegmentStart) → (found : HasFound k w new b start) → HasFew w.pixels w.apid found.begun.before
+few_first k w new b start found g there = absurd (let both : None ≡ Some g = sym found.none ∙ there in cc)
+
+pub first_comes : {S : Type 0} (k : SinkOf S) (w : Run) (new : Outside) (b : Assembling) (p : Walking S) (start : SegmentStart) (g image : Geometry) → HasFound k w new b start → IsFresh k g p → b.state.geometry ≡ Some image → pixels_reached image start ≤ w.pixels → ComesIn k w new b p start
+first_comes k w new b p start g image found fresh_walk geometry small =
     let none : passed_in p ≡ 0 = rw (fresh_walk.row, fresh_walk.column) (omega arith) in
     record {
-      come = record {
-        took = found.took;
-        gave = [];
-        since = since_weaker found.since (λ i j le asks. asks.0);
-        known = record {
-          passed = found.went;
-          sofar = λ index. None;
-          read = found.read;
-          knows = λ rest told. record {
-            at = λ next more are index lt v x. none_received (kept w.apid fresh (found.went ++ next)) index v (between_none w.apid found.went b.text start 0 index next found.begun (omega arith) lt) x;
+      to = record {
+        come = record {
+          took = found.took;
+          gave = [];
+          since = found.since;
+          known = record {
+            passed = found.went;
+            sofar = λ index. None;
+            read = found.read;
+            knows = λ rest told. record {
+              at = λ next more are index lt v x. none_received (kept w.apid fresh (found.went ++ next)) index v (between_none w.apid found.went b.text start 0 index next found.begun (omega arith) lt) x;
+            };
+            above = λ index le. refl;
+            at_end = found.at_end;
           };
-          above = λ index le. refl;
-          at_end = found.at_end;
+          shows = shows_nothing k g p fresh_walk;
+          few = omega (arith, none);
+          begun = omega (arith, none);
         };
-        shows = shows_nothing k g p fresh_walk;
-        few = omega (arith, none);
-        small = subst (λ (g : Geometry). g.width * g.rows ≤ w.pixels) (sym fresh_walk.geometry) small;
+        begun = record {
+          before = found.begun.before;
+          packet = found.begun.packet;
+          passed_are = found.begun.passed_are;
+          starts = found.begun.starts;
+          text_is = found.begun.text_is;
+          below = λ l is. absurd (omega (arith, found.begun.below l is));
+          later = omega arith;
+        };
+        few = few_first k w new b start found;
+        lost = λ block low high. refl;
       };
-      begun = record {
-        before = found.begun.before;
-        packet = found.begun.packet;
-        passed_are = found.begun.passed_are;
-        starts = found.begun.starts;
-        text_is = found.begun.text_is;
-        below = λ l is. absurd (omega (arith, found.begun.below l is));
-        later = omega arith;
-      };
-      lost = λ block low high. refl;
+      small = few_begun w.pixels w.apid found.went b.text start 0 image found.begun (ap (λ (s : FateState). s.geometry) (sym found.read.state) ∙ geometry) small;
     }

@@ -12,23 +12,25 @@ use Rattle.text_defs.specs.Outcomes.{Holds}
 use Rattle.packet_defs.specs.Streams.{whole_packets}
 use Rattle.stream_defs.specs.declared.fate.FateState.{FateState}
 use Rattle.stream_defs.specs.Fates.{fresh, after_all, kept}
+use Rattle.stream_defs.specs.Begun.{end_of}
 use Rattle.stream_defs.specs.Received.{IsReceived}
 use Rattle.stream_defs.specs.Settled.{blocks_through, blocks_in as segment_blocks_in}
 use Rattle.stream_defs.proofs.ChosenLaws.{after_all-append}
 use Rattle.packet_assembly.specs.declared.note.SegmentStart.{SegmentStart}
-use Rattle.packet_assembly.specs.Assembling.{Assembling, StaysOpen, Starts, last_index, is_closed, state_with}
+use Rattle.packet_assembly.specs.Assembling.{Assembling, BeginsNone, StaysOpen, Starts, last_index, is_closed, state_with}
 use Rattle.packet_assembly.specs.Passing.{before_loses}
+use Rattle.packet_assembly.proofs.Images.{end_begun, end_more, geometry_none, index_none}
 use Rattle.packet_assembly.specs.Segments.{GoesOn}
 use Rattle.packet_assembly.specs.Tails.{text_tail}
 use Rattle.bit_pipe.specs.Sources.{Plainly}
 use Rattle.strip_decoder.specs.Sinks.{SinkOf}
-use Rattle.strip_decoder.specs.Steps.{Walking, IsStanding, passed_in, total_in}
-use Rattle.strip_decoder.specs.Segments.{FitsImage, ReadsText, cells_of}
-use Rattle.strip_decoder.specs.Runs.{Run, holds_after, PassedBy, HasComeTo, IsBegun, with_segment, future}
-use Rattle.strip_decoder.proofs.Between.{geometry_stays, index_stays, comes_next}
+use Rattle.strip_decoder.specs.Steps.{Walking, IsStanding, passed_in}
+use Rattle.strip_decoder.specs.Segments.{FitsImage, IsAt, ReadsText, cells_of}
+use Rattle.strip_decoder.specs.Runs.{Run, holds_after, HasFew, HasComeTo, IsBegun, IsNextBegun, ComesIn, with_segment, future}
+use Rattle.strip_decoder.proofs.Between.{comes_next}
 use Rattle.strip_decoder.proofs.Receiving.{there, there_is, is_received, not_received, open_received}
 use Rattle.strip_decoder.proofs.Showing.{shows_same}
-use Rattle.strip_decoder.proofs.Asking.{future_past}
+use Rattle.strip_decoder.proofs.Asking.{IsRight, few_same, future_past}
 use Rattle.strip_decoder.proofs.RunFinds.{known_on, last_of, read_come, right_at}
 
 -- what a segment's text was found to hold
@@ -37,15 +39,30 @@ value_of true head cells = Some (blocks_in (cells_of head cells))
 value_of false head cells = None
 
 -- Its text was gone through, and it is known with these numbers or none.
-pub record AfterText {S : Type 0} (k : SinkOf S) (w : Run) (now : Outside) (b : Assembling) (p : Walking S) (index : ℕ) (value : Option (List (List ℤ))) : Type 0 where
+pub record AfterText {S : Type 0} (k : SinkOf S) (w : Run) (now : Outside) (b : Assembling) (p : Walking S) (index : ℕ) (value : Option (List (List ℤ))) (ended : ℕ) : Type 0 where
   pub come : HasComeTo k w now b p (index + 1)
   pub value_is : come.known.sofar index ≡ value
+  pub reach : ended ≤ end_of (kept w.apid fresh come.known.passed)
   pub last : b.held ≡ None → last_index b.state.last ≡ Some index
-  pub begun : (next : SegmentStart) → b.held ≡ Some next → IsBegun w.apid come.known.passed b.text next (index + 1)
-  pub geometry : b.state.geometry ≡ Some p.geometry
+  pub small : b.held ≡ None → HasFew w.pixels w.apid come.known.passed
+  pub begun : (next : SegmentStart) → b.held ≡ Some next → IsNextBegun w come.known.passed b.text next (index + 1)
 
-module _ {S : Type 0} (k : SinkOf S) (w : Run) (now new : Outside) (a b : Assembling) (p : Walking S) (start : SegmentStart) (come : HasComeTo k w now a p start.ancillary.index) (begun : IsBegun w.apid come.known.passed a.text start start.ancillary.index)
-    (standing : IsStanding k p) (geometry : a.state.geometry ≡ Some p.geometry) (unheld : a.held ≡ None) (last : last_index a.state.last ≡ Some start.ancillary.index) (reached : passed_in p ≡ start.ancillary.first) (fits : FitsImage p.geometry start) (goes : GoesOn now new a b) where
+module _ {S : Type 0} (k : SinkOf S) (w : Run) (now new : Outside) (a b : Assembling) (p : Walking S) (start : SegmentStart) (to : ComesIn k w now a p start) (standing : IsStanding k p) (at : IsAt a p start) (reached : passed_in p ≡ start.ancillary.first) (goes : GoesOn now new a b) where
+  abbrev come : HasComeTo k w now a p start.ancillary.index
+  come = to.to.come
+
+  abbrev begun : IsBegun w.apid come.known.passed a.text start start.ancillary.index
+  begun = to.to.begun
+
+  abbrev unheld : a.held ≡ None
+  unheld = at.unheld
+
+  abbrev last : last_index a.state.last ≡ Some start.ancillary.index
+  last = at.last
+
+  abbrev fits : FitsImage p.geometry start
+  fits = at.next.fits
+
   abbrev index : ℕ
   index = start.ancillary.index
 
@@ -62,12 +79,12 @@ module _ {S : Type 0} (k : SinkOf S) (w : Run) (now new : Outside) (a b : Assemb
       ap (λ s. after_all w.apid s packets) (sym there_now) ∙ ap (λ n. after_all n a.state packets) (sym come.known.read.apid)
 
   -- at each read call the segment is open, so it isn't received
-  pub right : (octets more all : List ℕ) → goes.passes.took ≡ octets ++ more → StaysOpen a (state_with a octets) → w.start.rest ≡ Some all → PassedBy k w.apid (come.took ++ octets) come.gave
-  right octets more all parts stays told =
+  pub right : (octets more : List ℕ) → goes.passes.took ≡ octets ++ more → StaysOpen a (state_with a octets) → IsRight k w (come.took ++ octets) come.gave
+  right octets more parts stays =
       let none = come.known.above index (omega arith) in
       let through : blocks_through p.geometry come.known.sofar index ≤ passed_in p =
       subst (λ o. first_block p.geometry.segment index + (if is_some o then segment_blocks_in p.geometry index else 0) ≤ passed_in p) (sym none) (omega (arith, reached, fits.first)) in
-      right_at k w now new a b p index index goes.passed come goes.passes standing geometry octets more all parts told (stays.same ∙ last) through
+      right_at k w now new a b p index index goes.passed come goes.passes standing at.image at.has.geometry at.goes_by to.small last octets more parts (stays.same ∙ last) through
       (λ i v le near x.
       let same : i ≡ index = omega (arith, le, near) in
       let state = state_there (whole_packets (a.intake.pending ++ octets)) in
@@ -77,9 +94,6 @@ module _ {S : Type 0} (k : SinkOf S) (w : Run) (now new : Outside) (a b : Assemb
 
   unfoldable pub went_come : HasComeTo k w new b p index
   went_come = read_come k w now new a b p index goes.passed come goes.passes right
-
-  pub geometry_after : b.state.geometry ≡ Some p.geometry
-  geometry_after = ap (λ (s : FateState). s.geometry) goes.passes.state ∙ geometry_stays a.apid a.state goes.passed p.geometry geometry
 
   -- how the segment stands with these numbers, or none
   abbrev Decides : Option (List (List ℤ)) → Type 0
@@ -149,45 +163,65 @@ module _ {S : Type 0} (k : SinkOf S) (w : Run) (now new : Outside) (a b : Assemb
     few =
         let more : (index + 1) * p.geometry.segment ≡ index * p.geometry.segment + p.geometry.segment = grind arith in
         omega (arith, reached, fits.first, more);
-    small = come.small;
+    begun = went_come.begun;
   }
 
+  -- no pixels were reported unless the next segment was begun
+  few_passed : (front : List (List ℕ)) → BeginsNone a.apid a.state front → HasFew w.pixels w.apid (passed ++ front)
+  few_passed front none =
+      let there_too : after_all a.apid a.state front ≡ after_all w.apid (after_all w.apid fresh passed) front = ap (λ n. after_all n a.state front) come.known.read.apid ∙ ap (λ s. after_all w.apid s front) come.known.read.state in
+      few_same w.pixels w.apid passed front to.small
+      (ap (λ (s : FateState). last_index s.last) (sym there_too) ∙ index_none a.apid a.state front none ∙ ap (λ (s : FateState). last_index s.last) come.known.read.state)
+
   -- the next segment may have been begun
-  begun_next : (next : SegmentStart) → b.held ≡ Some next → IsBegun w.apid (passed ++ goes.passed) b.text next (index + 1)
+  begun_next : (next : SegmentStart) → b.held ≡ Some next → IsNextBegun w (passed ++ goes.passed) b.text next (index + 1)
   begun_next next held =
       let began = goes.began unheld next held in
       let there_too : after_all a.apid a.state began.front ≡ after_all w.apid fresh (passed ++ began.front) =
       ap (λ n. after_all n a.state began.front) come.known.read.apid ∙ ap (λ s. after_all w.apid s began.front) come.known.read.state ∙ sym (after_all-append w.apid fresh passed began.front) in
-      let same : last_index (after_all w.apid fresh (passed ++ began.front)).last ≡ Some index = ap (λ (s : FateState). last_index s.last) (sym there_too) ∙ index_stays a.apid a.state began.front began.none_before ∙ last in
-      let comes = comes_next a.apid a.state began.front began.packet next p.geometry index geometry last began.none_before began.starts in
+      let same : last_index (after_all w.apid fresh (passed ++ began.front)).last ≡ Some index = ap (λ (s : FateState). last_index s.last) (sym there_too) ∙ index_none a.apid a.state began.front began.none_before ∙ last in
+      let comes = comes_next a began.front began.packet next at.image index at.has last began.none_before began.starts in
       record {
-        before = passed ++ began.front;
-        packet = began.packet;
-        passed_are = ap (λ xs. passed ++ xs) began.passed_are ∙ sym (append_assoc passed began.front (began.packet ∷ []));
-        starts = subst (λ s. Starts w.apid s began.packet next) there_too (subst (λ n. Starts n (after_all a.apid a.state began.front) began.packet next) come.known.read.apid began.starts);
-        text_is = began.text_is;
-        below = λ l is. let e = last_of _ index l same is in omega (arith, e);
-        later = omega (arith, comes.later);
+        begun = record {
+          before = passed ++ began.front;
+          packet = began.packet;
+          passed_are = ap (λ xs. passed ++ xs) began.passed_are ∙ sym (append_assoc passed began.front (began.packet ∷ []));
+          starts = subst (λ s. Starts w.apid s began.packet next) there_too (subst (λ n. Starts n (after_all a.apid a.state began.front) began.packet next) come.known.read.apid began.starts);
+          text_is = began.text_is;
+          below = λ l is. let e = last_of _ index l same is in omega (arith, e);
+          later = omega (arith, comes.later);
+        };
+        few = few_passed began.front began.none_before;
+        image = at.image;
+        geometry = ap (λ (s : FateState). s.geometry) (sym there_too) ∙ geometry_none a.apid a.state began.front began.none_before ∙ at.has.geometry;
       }
 
-  pub after_text : (value : Option (List (List ℤ))) → Decides value → AfterText k w new b p index value
+  pub after_text : (value : Option (List (List ℤ))) → Decides value → AfterText k w new b p index value (end_of (kept w.apid fresh passed))
   unfolding decided
   after_text value decides = record {
     come = decided value decides;
     value_is = segment_there value;
+    reach = end_more w.apid passed goes.passed;
     last = λ e. (goes.still e).1 ∙ last;
+    small = λ e. few_passed goes.passed (goes.begins_none e);
     begun = begun_next;
-    geometry = geometry_after;
   }
 
+-- the kept heads reach the end of a segment that was begun
+pub begun_end : (apid : ℕ) (passed : List (List ℕ)) (text : List ℕ) (start : SegmentStart) (bound : ℕ) → (b : IsBegun apid passed text start bound) → end_of (kept apid fresh passed) ≡ start.ancillary.first + start.head.blocks
+begun_end apid passed text start bound b = ap (λ xs. end_of (kept apid fresh xs)) b.passed_are ∙ end_begun apid b.before b.packet start b.starts
+
+reached_text : {S : Type 0} (k : SinkOf S) (w : Run) (now new : Outside) (a b : Assembling) (p : Walking S) (start : SegmentStart) → (to : ComesIn k w now a p start) → (value : Option (List (List ℤ))) →
+    AfterText k w new b p start.ancillary.index value (end_of (kept w.apid fresh to.to.come.known.passed)) → AfterText k w new b p start.ancillary.index value (start.ancillary.first + start.head.blocks)
+reached_text k w now new a b p start to value after = subst (AfterText k w new b p start.ancillary.index value) (begun_end w.apid to.to.come.known.passed a.text start start.ancillary.index to.to.begun) after
+
 -- its text was read
-pub text_known : {S : Type 0} (k : SinkOf S) (w : Run) (now new : Outside) (a b : Assembling) (p : Walking S) (start : SegmentStart) (come : HasComeTo k w now a p start.ancillary.index) → IsBegun w.apid come.known.passed a.text start start.ancillary.index →
-    IsStanding k p → a.state.geometry ≡ Some p.geometry → a.held ≡ None → last_index a.state.last ≡ Some start.ancillary.index → passed_in p ≡ start.ancillary.first → FitsImage p.geometry start →
-    (accepted : Bool) (cells : List ℤ) → ReadsText now new a b start.head cells (Ok accepted) → AfterText k w new b p start.ancillary.index (value_of accepted start.head cells)
-text_known k w now new a b p start come begun standing geometry unheld last reached fits true cells reads =
+pub text_known : {S : Type 0} (k : SinkOf S) (w : Run) (now new : Outside) (a b : Assembling) (p : Walking S) (start : SegmentStart) → ComesIn k w now a p start → IsStanding k p → IsAt a p start → passed_in p ≡ start.ancillary.first →
+    (accepted : Bool) (cells : List ℤ) → ReadsText now new a b start.head cells (Ok accepted) → AfterText k w new b p start.ancillary.index (value_of accepted start.head cells) (start.ancillary.first + start.head.blocks)
+text_known k w now new a b p start to standing at reached true cells reads =
     let v = blocks_in (cells_of start.head cells) in
-    after_text k w now new a b p start come begun standing geometry unheld last reached fits reads.goes (Some v)
-    (decides_some k w now new a b p start come begun standing geometry unheld last reached fits reads.goes v reads.unheld reads.closed (λ rest told. (reads.told rest told).1))
-text_known k w now new a b p start come begun standing geometry unheld last reached fits false cells reads =
-    after_text k w now new a b p start come begun standing geometry unheld last reached fits reads.goes None
-    (decides_none k w now new a b p start come begun standing geometry unheld last reached fits reads.goes reads.told)
+    reached_text k w now new a b p start to (Some v) (after_text k w now new a b p start to standing at reached reads.goes (Some v)
+    (decides_some k w now new a b p start to standing at reached reads.goes v reads.unheld reads.closed (λ rest told. (reads.told rest told).1)))
+text_known k w now new a b p start to standing at reached false cells reads =
+    reached_text k w now new a b p start to None (after_text k w now new a b p start to standing at reached reads.goes None
+    (decides_none k w now new a b p start to standing at reached reads.goes reads.told))

@@ -1,9 +1,11 @@
 -- A segment that is taken.
-use Rattle.std.proofs.Common.{◌≡◌, ◌≤◌, ◌<◌, ◌+◌, ◌-◌, ◌*◌, ◌^◌, ◌*ℤ◌, ℕ, ℤ, pos, List, length, drop, get_or, sym, ap, subst, ◌∙◌, arith, length-drop}
-use Rattle.std.specs.Prelude.{Bool, true, false, Option, Some, Result, Ok, Err, IsOk, unsigned_abs}
+use Rattle.std.proofs.Common.{◌≡◌, ◌≤◌, ◌<◌, ◌+◌, ◌-◌, ◌*◌, ◌^◌, ◌*ℤ◌, ℕ, ℤ, pos, List, length, drop, get_or, refl, sym, ap, subst, ◌∙◌, inl, inr, arith, length-drop}
+use Rattle.std.specs.Prelude.{Bool, true, false, Option, None, Some, Result, Ok, Err, IsOk, IsErr, MatchOption, unsigned_abs}
 use Rattle.std.proofs.lemmas.Bool.{false≢true}
 use Rattle.std.proofs.lemmas.List.{length-take-le}
-use Rattle.port_122.specs.Outside.{Outside, NoFewerFaults}
+use Rattle.std.proofs.Math.Nat.{mul-le-mul_right}
+use Rattle.port_122.specs.Outside.{Outside, NoFewerFaults, Rose}
+use Rattle.port_122.proofs.Stretches.{rose_since}
 use Rattle.base_122.specs.Sizes.{first_block}
 use Rattle.base_122.specs.declared.geometry.Geometry.{Geometry}
 use Rattle.wave_defs.specs.Line.{floor_div}
@@ -16,16 +18,19 @@ use Rattle.text_defs.specs.Outcomes.{Holds}
 use Rattle.text_defs.proofs.GivenParts.{IsPart, holds_parts}
 use Rattle.block_families.specs.Places.{AreWeighted}
 use Rattle.packet_assembly.specs.declared.note.SegmentStart.{SegmentStart}
-use Rattle.packet_assembly.specs.Assembling.{Assembling}
-use Rattle.packet_assembly.specs.Segments.{GoesOn}
-use Rattle.stream_defs.specs.Agreement.{blocks_of}
+use Rattle.packet_assembly.specs.Assembling.{Assembling, last_index}
+use Rattle.packet_assembly.specs.Segments.{FindsSegment, GoesOn}
+use Rattle.stream_defs.specs.Begun.{placed}
 use Rattle.picture_rows.proofs.BandBlocks.{part_is}
-use Rattle.strip_decoder.specs.Sinks.{SinkOf}
-use Rattle.strip_decoder.specs.Steps.{Walking, PassesBlocks, AreBlocks, missing, passed_in, total_in}
+use Rattle.strip_decoder.specs.Sinks.{Blocks, SinkOf, MayEnd}
+use Rattle.strip_decoder.specs.declared.decode.DecodeFault.{DecodeFault}
+use Rattle.strip_decoder.specs.declared.decode.DecodeFault.TheVariants.{ReadFault, WriteFault, NoSegment, TooManyPixels, LongInput, Memory}
+use Rattle.strip_decoder.specs.Steps.{Walking, IsStanding, Follows, PassesBlocks, AreBlocks, missing, passed_in, total_in}
 use Rattle.strip_decoder.specs.Rooms.{IsRoom}
-use Rattle.strip_decoder.specs.Segments.{FitsImage, IsAt, ReadsText, HasTaken, HasReached, ReachesSegment, cells_of}
+use Rattle.strip_decoder.specs.Segments.{FitsImage, FollowsFound, FollowsHead, FollowsHeld, TakesSegment, HasImage, IsAt, IsBetween, IsFound, IsShorter, ReadsText, HasTaken, HasReached, ReachesSegment, cells_of, pixels_reached}
+use Rattle.strip_decoder.specs.Walks.{TakesAll, TookAll}
 use Rattle.strip_decoder.proofs.Showing.{block_in, front_block}
-use Rattle.strip_decoder.proofs.Between.{past_at}
+use Rattle.strip_decoder.proofs.Between.{fewer_blocks, fits_ended, image_on, held_next}
 
 -- ---- the numbers that were read
 
@@ -85,7 +90,9 @@ reached_at k (Ok x) w0 w1 a p q start n at n_is passed =
       standing = passed.standing;
       geometry = passed.geometry;
       at = record {
-        geometry = at.geometry ∙ ap Some (sym passed.geometry);
+        image = at.image;
+        has = at.has;
+        goes_by = passed.geometry ∙ at.goes_by;
         unheld = at.unheld;
         last = at.last;
         next = record { fits = subst (λ g. FitsImage g start) (sym passed.geometry) at.next.fits; reached = omega (arith, there) };
@@ -95,29 +102,220 @@ reached_at k (Ok x) w0 w1 a p q start n at n_is passed =
     }
 reached_at k (Err e) w0 w1 a p q start n at n_is broken = broken.rose
 
-pub segment_taken : {S T E : Type 0} (k : SinkOf S) (r : Result T E) (w0 w1 w2 w3 : Outside) (a b : Assembling) (start : SegmentStart) (p0 p1 p3 : Walking S) (cells : List ℤ) (accepted : Bool) (values : ℕ → Option (List ℤ)) → IsOk r → IsAt a p0 start →
-    HasReached k w0 w1 a p0 p1 start → ReadsText w1 w2 a b start.head cells (Ok accepted) → PassesBlocks k r values start.head.blocks w2 w3 p1 p3 → HasTaken k w0 w3 a b p0 p3
-segment_taken k (Err e) w0 w1 w2 w3 a b start p0 p1 p3 cells accepted values is at before reads past = absurd (false≢true is)
-segment_taken k (Ok x) w0 w1 w2 w3 a b start p0 p1 p3 cells accepted values is at before reads past =
+-- The walk goes by the geometry that is known once the text was gone through.
+pub record HasFollowed {S : Type 0} (k : SinkOf S) (pixels : ℕ) (b : Assembling) (old new : Walking S) (start : SegmentStart) : Type 0 where
+  pub standing : IsStanding k new
+  pub shorter : IsShorter old.geometry new.geometry
+  pub count : passed_in new ≡ passed_in old
+  pub fits : FitsImage new.geometry start
+  pub image : Geometry
+  pub has : HasImage b image
+  pub goes_by : new.geometry ≡ placed image
+  pub last : b.held ≡ None → last_index b.state.last ≡ Some start.ancillary.index
+  pub held : (next : SegmentStart) → b.held ≡ Some next → (last_index b.state.last ≡ Some next.ancillary.index) × FitsImage new.geometry next × (first_block new.geometry.segment (start.ancillary.index + 1) ≤ next.ancillary.first) × (pixels_reached image next ≤ pixels)
+  pub follows : (blocks : Blocks) (gave : List ℕ) → Follows k old blocks gave → Follows k new blocks gave
+
+shorter_by : (g h : Geometry) (n : ℕ) → MayEnd g h n → IsShorter g h
+shorter_by g h n ends = elim ends [
+  | inl same ↦ subst (IsShorter g) (sym same) record { same = refl; fewer = omega arith }
+  | inr e ↦ record { same = e.same; fewer = e.fewer }
+]
+
+abbrev pub is_done : Result (Unit {0}) DecodeFault
+is_done = Ok tt
+
+pub has_followed : {S : Type 0} {w1 w2 : Outside} (k : SinkOf S) (pixels : ℕ) (a b : Assembling) (p q : Walking S) (start : SegmentStart) → IsAt a p start → IsStanding k p → passed_in p ≡ start.ancillary.first → GoesOn w1 w2 a b →
+    FollowsHeld k pixels b p q is_done → HasFollowed k pixels b p q start
+has_followed k pixels a b p q start at standing there goes follows = by b.held refl follows
+  where
+    fits : FitsImage p.geometry start
+    fits = at.next.fits
+
+    low : passed_in p ≤ first_block p.geometry.segment (start.ancillary.index + 1)
+    low = let more : (start.ancillary.index + 1) * p.geometry.segment ≡ start.ancillary.index * p.geometry.segment + p.geometry.segment = grind arith in omega (arith, there, fits.first, more)
+
+    few : passed_in p ≤ first_block at.image.segment (start.ancillary.index + 1)
+    few = subst (λ (g : Geometry). passed_in p ≤ first_block g.segment (start.ancillary.index + 1)) at.goes_by low
+
+    by : (o : Option SegmentStart) → b.held ≡ o → MatchOption o ((IsOk is_done) × (q ≡ p)) (λ next. FollowsFound k pixels b next p q is_done) → HasFollowed k pixels b p q start
+    by None e x = subst (λ q. HasFollowed k pixels b p q start) (sym x.1) record {
+      standing = standing;
+      shorter = record { same = refl; fewer = omega arith };
+      count = refl;
+      fits = fits;
+      image = at.image;
+      has = image_on a b at.image goes.passed at.has goes.passes.apid goes.passes.state (goes.begins_none e);
+      goes_by = at.goes_by;
+      last = λ none. (goes.still none).1 ∙ at.last;
+      held = λ next held. absurd (let no : None ≡ Some next = sym e ∙ held in cc);
+      follows = λ blocks gave f. f;
+    }
+    by (Some next) e x =
+        let c = held_next a b at.image start.ancillary.index next at.has at.unheld at.last goes e in
+        let f = x c.0.image c.0.geometry in
+        let ends : MayEnd p.geometry (placed c.0.image) (passed_in p) = subst (λ h. MayEnd h (placed c.0.image) (passed_in p)) (sym at.goes_by) (c.0.ends (passed_in p) few) in
+        let segment : q.geometry.segment ≡ c.0.image.segment = ap (λ (g : Geometry). g.segment) f.0.geometry in
+        let more : (start.ancillary.index + 1) * c.0.image.segment ≤ next.ancillary.index * c.0.image.segment = mul-le-mul_right c.0.image.segment (omega (arith, c.0.later)) in
+        record {
+          standing = f.0.standing;
+          shorter = subst (IsShorter p.geometry) (sym f.0.geometry) (shorter_by p.geometry (placed c.0.image) (passed_in p) ends);
+          count = f.0.count;
+          fits = subst (λ g. FitsImage g start) (sym f.0.geometry) (fits_ended p.geometry (placed c.0.image) (passed_in p) start next ends fits c.0.fits c.0.later);
+          image = c.0.image;
+          has = c.1;
+          goes_by = f.0.geometry;
+          last = λ none. absurd (let no : None ≡ Some next = sym none ∙ e in cc);
+          held = λ next' held. subst (λ (n : SegmentStart). (last_index b.state.last ≡ Some n.ancillary.index) × FitsImage q.geometry n × (first_block q.geometry.segment (start.ancillary.index + 1) ≤ n.ancillary.first) × (pixels_reached c.0.image n ≤ pixels)) (let same : Some next ≡ Some next' = sym e ∙ held in cc)
+              (c.0.last, subst (λ g. FitsImage g next) (sym f.0.geometry) c.0.fits, omega (arith, ap (λ m. first_block m (start.ancillary.index + 1)) segment, more, c.0.fits.first), f.1);
+          follows = f.0.follows;
+        }
+
+-- a read failed in its text
+pub read_takes : {S : Type 0} (k : SinkOf S) (w0 w1 w2 : Outside) (a b : Assembling) (p0 p : Walking S) (head : SegmentHead) (cells : List ℤ) (fault : DecodeFault) → NoFewerFaults w0 w1 → ReadsText w1 w2 a b head cells (Err fault) → TakesSegment k w0 w2 a b p0 p (Err fault)
+read_takes k w0 w1 w2 a b p0 p head cells ReadFault faults failed = rose_since faults.reads failed.rose
+read_takes k w0 w1 w2 a b p0 p head cells WriteFault faults failed = absurd failed
+read_takes k w0 w1 w2 a b p0 p head cells NoSegment faults failed = absurd failed
+read_takes k w0 w1 w2 a b p0 p head cells (TooManyPixels pixels) faults failed = absurd failed
+read_takes k w0 w1 w2 a b p0 p head cells LongInput faults failed = absurd failed
+read_takes k w0 w1 w2 a b p0 p head cells Memory faults failed = absurd failed
+
+-- the head of the next segment reports too many pixels
+head_takes : {S : Type 0} (k : SinkOf S) (pixels : ℕ) (w0 w2 : Outside) (a b : Assembling) (p0 p q : Walking S) (image : Geometry) (next : SegmentStart) (fault : DecodeFault) → FollowsHead k pixels image next p q (Err fault) → TakesSegment k w0 w2 a b p0 p (Err fault)
+head_takes k pixels w0 w2 a b p0 p q image next (TooManyPixels found) x = tt
+head_takes k pixels w0 w2 a b p0 p q image next ReadFault x = absurd x
+head_takes k pixels w0 w2 a b p0 p q image next WriteFault x = absurd x
+head_takes k pixels w0 w2 a b p0 p q image next NoSegment x = absurd x
+head_takes k pixels w0 w2 a b p0 p q image next LongInput x = absurd x
+head_takes k pixels w0 w2 a b p0 p q image next Memory x = absurd x
+
+abbrev is_failed : DecodeFault → Result (Unit {0}) DecodeFault
+is_failed fault = Err fault
+
+-- it says nothing of the walk
+head_only : {S : Type 0} (k : SinkOf S) (pixels : ℕ) (image : Geometry) (next : SegmentStart) (p q : Walking S) (fault : DecodeFault) → FollowsHead k pixels image next p q (Err fault) → FollowsHead k pixels image next q q (Err fault)
+head_only k pixels image next p q (TooManyPixels found) x = x
+head_only k pixels image next p q ReadFault x = absurd x
+head_only k pixels image next p q WriteFault x = absurd x
+head_only k pixels image next p q NoSegment x = absurd x
+head_only k pixels image next p q LongInput x = absurd x
+head_only k pixels image next p q Memory x = absurd x
+
+pub follow_takes : {S : Type 0} (k : SinkOf S) (pixels : ℕ) (w0 w2 w1 : Outside) (a b : Assembling) (p0 p q : Walking S) (start : SegmentStart) (fault : DecodeFault) → IsAt a p start → passed_in p ≡ start.ancillary.first → GoesOn w1 w2 a b → FollowsHeld k pixels b p q (Err fault) → TakesSegment k w0 w2 a b p0 q (Err fault)
+follow_takes k pixels w0 w2 w1 a b p0 p q start fault at there goes follows = by b.held refl follows
+  where
+    by : (o : Option SegmentStart) → b.held ≡ o → MatchOption o ((IsOk (is_failed fault)) × (q ≡ p)) (λ next. FollowsFound k pixels b next p q (is_failed fault)) → TakesSegment k w0 w2 a b p0 q (Err fault)
+    by None e x = absurd (false≢true x.0)
+    by (Some next) e x = let c = held_next a b at.image start.ancillary.index next at.has at.unheld at.last goes e in head_takes k pixels w0 w2 a b p0 q q c.0.image next fault (head_only k pixels c.0.image next p q fault (x c.0.image c.0.geometry))
+
+-- a write failed among its blocks
+pub write_later : {S T E : Type 0} (k : SinkOf S) (r : Result T E) (w0 w1 w2 w3 : Outside) (p q : Walking S) (values : ℕ → Option (List ℤ)) (n : ℕ) → IsErr r → NoFewerFaults w0 w1 → NoFewerFaults w1 w2 → PassesBlocks k r values n w2 w3 p q → Rose w0.write_faults w3.write_faults
+write_later k (Ok x) w0 w1 w2 w3 p q values n is before after broken = absurd (false≢true is)
+write_later k (Err e) w0 w1 w2 w3 p q values n is before after broken = rose_since before.writes (rose_since after.writes broken.rose)
+
+pub shorter_then : {g h i : Geometry} → IsShorter g h → IsShorter h i → IsShorter g i
+shorter_then {g = g} {h = h} {i = i} a b = record { same = b.same ∙ (λ j. record (a.same j) { rows = i.rows }); fewer = omega (arith, a.fewer, b.fewer) }
+
+pub shorter_same : {g h : Geometry} → h ≡ g → IsShorter g h
+shorter_same {g = g} {h = h} same = subst (IsShorter g) (sym same) record { same = refl; fewer = omega arith }
+
+pub segment_taken : {S T E : Type 0} (k : SinkOf S) (pixels : ℕ) (r : Result T E) (w0 w1 w2 w3 : Outside) (a b : Assembling) (start : SegmentStart) (p0 p1 p2 p3 : Walking S) (cells : List ℤ) (accepted : Bool) (values : ℕ → Option (List ℤ)) → IsOk r → IsAt a p0 start →
+    HasReached k w0 w1 a p0 p1 start → ReadsText w1 w2 a b start.head cells (Ok accepted) → HasFollowed k pixels b p1 p2 start → PassesBlocks k r values start.head.blocks w2 w3 p2 p3 → HasTaken k w0 w3 a b p0 p3
+segment_taken k pixels (Err e) w0 w1 w2 w3 a b start p0 p1 p2 p3 cells accepted values is at before reads followed past = absurd (false≢true is)
+segment_taken k pixels (Ok x) w0 w1 w2 w3 a b start p0 p1 p2 p3 cells accepted values is at before reads followed past =
     let goes = text_goes w1 w2 a b start.head cells accepted reads in
-    let same = past.geometry ∙ before.geometry in
-    let fits = at.next.fits in
-    let end : passed_in p3 ≡ start.ancillary.first + start.head.blocks = omega (arith, past.count, before.there) in
+    let fits = followed.fits in
+    let end : passed_in p3 ≡ start.ancillary.first + start.head.blocks = omega (arith, past.count, followed.count, before.there) in
     let some = fits.head.blocks.0 in
+    let few : passed_in p3 ≤ first_block p3.geometry.segment (start.ancillary.index + 1) = subst (λ (g : Geometry). passed_in p3 ≤ first_block g.segment (start.ancillary.index + 1)) (sym past.geometry) (omega (arith, end, segment_end p2.geometry start fits)) in
     record {
       standing = past.standing;
-      geometry = same;
-      between = past_at a b p0 p3 start at goes same (omega (arith, end, segment_end p0.geometry start fits));
+      geometry = shorter_then (shorter_same before.geometry) (shorter_then followed.shorter (shorter_same past.geometry));
+      between = record {
+        image = followed.image;
+        has = followed.has;
+        goes_by = past.geometry ∙ followed.goes_by;
+        unheld = λ none. (start.ancillary.index, followed.last none, few);
+        held = λ next held.
+            let h = followed.held next held in (
+              h.0,
+              record {
+                fits = subst (λ g. FitsImage g next) (sym past.geometry) h.1;
+                reached = omega (arith, end, segment_end p2.geometry start fits, h.2);
+              },
+            );
+      };
       more = omega (arith, end, some, at.next.reached);
       faults = faults_then before.faults (faults_then goes.passes.since.faults past.out.faults);
     }
 
-pub room_same : {g h : Geometry} {blocks marks cells room : ℕ} → IsRoom g blocks marks → h ≡ g → cells ≡ blocks → room ≡ marks → IsRoom h cells room
-room_same {g = g} {cells = cells} {room = room} r same b m = subst (λ h. IsRoom h cells room) (sym same) (record {
-  marks = m ∙ r.marks;
-  blocks = b ∙ r.blocks ∙ ap (λ n. 64 * n) (sym m);
-  most = omega (arith, r.most, b, m);
-})
+-- ---- the segment after it
+
+-- the walk goes by the image of a segment that was answered
+pub record HasFollowedFound {S : Type 0} (k : SinkOf S) (a : Assembling) (p q : Walking S) (start : SegmentStart) : Type 0 where
+  pub standing : IsStanding k q
+  pub shorter : IsShorter p.geometry q.geometry
+  pub count : passed_in q ≡ passed_in p
+  pub at : IsAt a q start
+
+pub found_follows : {S : Type 0} (k : SinkOf S) (pixels : ℕ) (a : Assembling) (p q : Walking S) (start : SegmentStart) → IsFound a p start → FollowsFound k pixels a start p q is_done → HasFollowedFound k a p q start
+found_follows k pixels a p q start found follows =
+    let f = follows found.image found.has.geometry in
+    record {
+      standing = f.0.standing;
+      shorter = subst (IsShorter p.geometry) (sym f.0.geometry) (shorter_by p.geometry (placed found.image) (passed_in p) found.next.ends);
+      count = f.0.count;
+      at = record {
+        image = found.image;
+        has = found.has;
+        goes_by = f.0.geometry;
+        unheld = found.unheld;
+        last = found.last;
+        next = record { fits = subst (λ g. FitsImage g start) (sym f.0.geometry) found.next.fits; reached = omega (arith, f.0.count, found.next.reached) };
+      };
+    }
+
+pub fewer_left : {S : Type 0} {a : Assembling} {start : SegmentStart} (k : SinkOf S) (old p q : Walking S) → total_in p - passed_in p < total_in old - passed_in old → HasFollowedFound k a p q start → total_in q - passed_in q < total_in old - passed_in old
+fewer_left k old p q less followed =
+    let fewer = fewer_blocks p.geometry q.geometry followed.shorter.same followed.shorter.fewer in
+    omega (arith, less, fewer, followed.count)
+
+-- its head reports too many pixels
+pub found_takes : {S : Type 0} (k : SinkOf S) (pixels : ℕ) (w0 w2 : Outside) (a b : Assembling) (p0 p q : Walking S) (start : SegmentStart) (fault : DecodeFault) → IsFound b p start → FollowsFound k pixels b start p q (is_failed fault) → TakesAll k w0 w2 a b p0 q (Err fault)
+found_takes k pixels w0 w2 a b p0 p q start fault found follows = by fault (follows found.image found.has.geometry)
+  where
+    by : (fault : DecodeFault) → FollowsHead k pixels found.image start p q (is_failed fault) → TakesAll k w0 w2 a b p0 q (Err fault)
+    by (TooManyPixels n) x = tt
+    by ReadFault x = absurd x
+    by WriteFault x = absurd x
+    by NoSegment x = absurd x
+    by LongInput x = absurd x
+    by Memory x = absurd x
+
+-- all segments were taken
+pub all_takes : {S : Type 0} (k : SinkOf S) (w0 w1 w2 : Outside) (a0 a b : Assembling) (p0 p : Walking S) → IsStanding k p → IsBetween a p → FindsSegment w1 w2 a b (Ok None) → NoFewerFaults w0 w2 → TookAll k w0 w2 a0 b p0 p
+all_takes k w0 w1 w2 a0 a b p0 p standing between finds faults =
+    let found = finds.ends.0 in
+    record {
+      standing = standing;
+      image = between.image;
+      has = image_on a b between.image found.passed between.has found.passes.apid found.passes.state found.none_begins;
+      goes_by = between.goes_by;
+      ended = finds.ends.1;
+      faults = faults;
+    }
+
+-- there is room for the segments of an image of fewer rows
+pub room_shorter : {g h : Geometry} {blocks marks cells room : ℕ} → IsRoom g blocks marks → IsShorter g h → cells ≡ blocks → room ≡ marks → IsRoom h cells room
+room_shorter {g = g} {h = h} {cells = cells} {room = room} r short b m =
+    let fewer = fewer_blocks g h short.same short.fewer in
+    let segment : h.segment ≡ g.segment = ap (λ (g : Geometry). g.segment) short.same in
+    let none : 0 * g.segment ≡ 0 = omega arith in
+    let still : 0 * h.segment ≡ 0 = omega arith in
+    record {
+      marks = omega (arith, r.marks, m, fewer, segment, none, still);
+      blocks = b ∙ r.blocks ∙ ap (λ n. 64 * n) (sym m);
+      most = omega (arith, r.most, b, m, ap (λ n. 65 * n) segment);
+    }
 
 -- the blocks of a segment have room
 pub blocks_fit : (g : Geometry) (start : SegmentStart) (blocks marks : ℕ) → IsRoom g blocks marks → FitsImage g start → (64 * start.head.blocks ≤ blocks) × (start.head.blocks ≤ marks)
@@ -128,5 +326,5 @@ blocks_fit g start blocks marks room fits =
 -- each segment leaves fewer blocks
 pub more_taken : {S : Type 0} {p q : Outside} {a b : Assembling} (k : SinkOf S) (old new : Walking S) → HasTaken k p q a b old new → total_in new - passed_in new < total_in old - passed_in old
 more_taken k old new taken =
-    let total : total_in new ≡ total_in old = ap blocks_of taken.geometry in
+    let total = fewer_blocks old.geometry new.geometry taken.geometry.same taken.geometry.fewer in
     omega (arith, total, taken.standing.few, taken.more)

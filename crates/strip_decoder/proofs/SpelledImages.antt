@@ -15,10 +15,9 @@ use Rattle.base_122.specs.Ranges.{IsInRange, rows_range, IsWithin as IsWithinRan
 use Rattle.base_122.specs.Sizes.{block_count, padded_size, total_blocks, segment_blocks, first_block}
 use Rattle.base_122.specs.declared.setting.Setting.{Setting}
 use Rattle.base_122.proofs.SizeBounds.{three-le-block_count, one-le-segment_blocks}
-use Rattle.raster_rows.specs.Pixels.{IsPixel}
 use Rattle.wave_defs.specs.Blocks.{coefficient, block, weight_at}
 use Rattle.wave_defs.specs.Pyramid.{Pyramid, padded, pyramid}
-use Rattle.wave_defs.specs.Within.{IsWithin, EachWithin, PyramidWithin}
+use Rattle.wave_defs.specs.Within.{EachWithin, PyramidWithin}
 use Rattle.wave_defs.proofs.BlockLaws.{passes, coefficient-within}
 use Rattle.wave_defs.proofs.PyramidLaws.{pyramid-within}
 use Rattle.number_defs.specs.DcPart.{dc_bits, dc_q}
@@ -127,7 +126,7 @@ module _ (p : Pyramid) (weights : List ℕ) (r c t k : ℕ) (within : PyramidWit
 
 -- ---- the blocks of an image
 
-module _ (s : Setting) (x : ℕ → ℕ → ℤ) (range : IsInRange s) (height : IsWithinRange rows_range s.rows) (pixels : ArePixels s x) where
+module _ (s : Setting) (x : ℕ → ℕ → ℤ) (range : IsInRange s) (height : IsWithinRange rows_range s.rows) (pixels : ArePixels s s.rows x) where
   abbrev r : ℕ
   r = block_count s.rows
 

@@ -1,10 +1,10 @@
 -- All packets of an image: each of its segments is received.
-use Rattle.std.proofs.Common.{◌≡◌, ◌≤◌, ◌<◌, ◌+◌, ◌-◌, ◌*◌, ◌/◌, ℕ, zero, suc, ℤ, List, [], ◌∷◌, refl, sym, ap, subst, ◌∙◌, arith}
-use Rattle.std.specs.Prelude.{Bool, true, false, cond, not, Option, None, Some, is_some, filter, length}
+use Rattle.std.proofs.Common.{◌≡◌, ◌≤◌, ◌<◌, ◌+◌, ◌-◌, ◌*◌, ◌/◌, ℕ, zero, suc, ℤ, List, [], ◌∷◌, refl, ap, subst, ◌∙◌, arith}
+use Rattle.std.specs.Prelude.{Bool, true, false, cond, not, None, Some, is_some, filter, length}
 use Rattle.std.specs.List.{range_with_len}
-use Rattle.std.proofs.lemmas.Nat.{div_below, le-div}
+use Rattle.std.proofs.lemmas.Nat.{le-div}
 use Rattle.std.proofs.Math.Nat.{mul-le-mul_right}
-use Rattle.base_122.specs.Setting.{geometry_of}
+use Rattle.base_122.specs.Setting.{image_geometry, sized}
 use Rattle.base_122.specs.Sizes.{block_count, total_blocks}
 use Rattle.base_122.specs.declared.geometry.Geometry.{Geometry}
 use Rattle.base_122.specs.declared.setting.Setting.{Setting}
@@ -15,15 +15,15 @@ use Rattle.packet_defs.proofs.Splits.{joined_splits, splits_left}
 use Rattle.segment_code.specs.Laws.{CodedHolds, TextsAreShort}
 use Rattle.stream_defs.specs.Chosen.{IsChoice, chosen, all_parts}
 use Rattle.stream_defs.specs.Damage.{is_missing, whole_missing, missing_below}
-use Rattle.stream_defs.specs.Fates.{reads, geometry_in}
+use Rattle.stream_defs.specs.Fates.{geometry_in}
 use Rattle.stream_defs.specs.Output.{head_for, image_blocks, output, segment_text, segments_of, tells_last}
 use Rattle.stream_defs.specs.Places.{parts_of, AreCoded}
 use Rattle.stream_defs.specs.Received.{ReceivedIn}
 use Rattle.strip_decoder.specs.Runs.{Numbers, holds_after}
-use Rattle.strip_decoder.specs.Containment.{some_output, BeginsOne, AreSome, IsImageFor}
+use Rattle.strip_decoder.specs.Containment.{some_output, BeginsOne, is_begun, AreSome, IsImageFor}
 use Rattle.strip_decoder.specs.RoundTrip.{ComesWhole}
 use Rattle.strip_decoder.proofs.RunEnds.{any_miss}
-use Rattle.strip_decoder.proofs.SublistPictures.{all_packets, choice_all, coded_for, geometry_there, known_read, whole_choice}
+use Rattle.strip_decoder.proofs.SublistPictures.{all_packets, choice_all, coded_for, geometry_there, reported_begun, segment_within, whole_choice}
 use Rattle.strip_decoder.proofs.SublistSegments.{only_whole, each_whole}
 
 -- ---- none of a range
@@ -51,91 +51,94 @@ none_missing g received all =
 
 -- ---- an image's packets
 
-module _ (short : TextsAreShort) (s : Setting) (x : ℕ → ℕ → ℤ) (is : IsImageFor s x) where
+module _ (short : TextsAreShort) (s : Setting) (rows : ℕ) (x : ℕ → ℕ → ℤ) (is : IsImageFor s rows x) where
+  abbrev t : Setting
+  t = sized s rows
+
   abbrev all : List (List ℤ)
-  all = image_blocks s x
+  all = image_blocks t x
 
   abbrev told : Bool
   told = tells_last s
 
-  coded : AreCoded s all
-  coded = coded_for short s x is
+  coded : AreCoded t all
+  coded = coded_for short s rows x is
 
-  read : reads told ≡ true
-  read = known_read s is.height
-
-  choice : IsChoice s all (all_parts s all)
-  choice = choice_all short s x is
+  choice : IsChoice t all (all_parts t all)
+  choice = choice_all short s rows x is
 
   abbrev packets : List (List ℕ)
-  packets = chosen told s all (all_parts s all) (segments_of s)
+  packets = chosen told t all (all_parts t all) (segments_of t)
 
-  all_are : output s s.rows x ≡ joined packets
-  all_are = ap joined (whole_choice told s all (segments_of s))
+  all_are : output s rows x ≡ joined packets
+  all_are = ap joined (whole_choice told t all (segments_of t))
 
   -- nothing is left over
-  pub none_left : left_over (output s s.rows x) ≡ []
-  none_left = ap left_over all_are ∙ splits_left (joined_splits packets (all_packets told s all coded read (all_parts s all) choice (segments_of s) (omega arith)))
+  pub none_left : left_over (output s rows x) ≡ []
+  none_left = ap left_over all_are ∙ splits_left (joined_splits packets (all_packets told t all coded (all_parts t all) choice))
 
-  pub framed : framing (output s s.rows x) ≡ None
+  pub framed : framing (output s rows x) ≡ None
   unfolding framing_at
-  framed = ap (λ left. framing_at (place_after (output s s.rows x)) left) none_left
+  framed = ap (λ left. framing_at (place_after (output s rows x)) left) none_left
 
   -- ---- its geometry
 
-  some_segments : 0 < segments_of s
-  some_segments = by (segments_of s) (total-le-segments (total_blocks s.width s.rows) s.segment (omega (arith, is.range.segment.0)))
+  some_segments : 0 < segments_of t
+  some_segments = by (segments_of t) (total-le-segments (total_blocks s.width rows) s.segment (omega (arith, is.range.segment.0)))
     where
-      by : (n : ℕ) → total_blocks s.width s.rows ≤ n * s.segment → 0 < n
-      by zero le = absurd (omega (arith, le, nine-le-total_blocks s.width s.rows is.range.width.0 is.height.0))
+      by : (n : ℕ) → total_blocks s.width rows ≤ n * s.segment → 0 < n
+      by zero le = absurd (omega (arith, le, nine-le-total_blocks s.width rows is.range.width.0 is.height.0.0))
       by (suc n) le = omega arith
 
-  some_parts : 1 ≤ parts_of s all 0
-  some_parts =
+  some_parts : (index : ℕ) → index < segments_of t → 1 ≤ parts_of t all index
+  some_parts index lt =
       let size = part_size s.packet in
       let packet = is.range.packet in
-      let some = coded.some 0 some_segments in
-      le-div 1 (length (segment_text s all 0) + size - 1) size (omega (arith, packet)) (omega (arith, some))
+      let some = coded.some index lt in
+      le-div 1 (length (segment_text t all index) + size - 1) size (omega (arith, packet)) (omega (arith, some))
 
-  begins : BeginsOne s (all_parts s all)
-  begins = by (parts_of s all 0) refl some_parts
+  begins : BeginsOne s rows (all_parts t all)
+  begins = by (parts_of t all 0) refl (some_parts 0 some_segments)
     where
-      by : (n : ℕ) → parts_of s all 0 ≡ n → 1 ≤ n → BeginsOne s (all_parts s all)
+      by : (n : ℕ) → parts_of t all 0 ≡ n → 1 ≤ n → BeginsOne s rows (all_parts t all)
       by zero e some = absurd (omega (arith, some))
       by (suc n) e some = record { index = 0; within = some_segments; more = range_with_len (0 + 1) n; begins = ap (range_with_len 0) e }
 
-  are : AreSome s x (all_parts s all)
+  -- the last segment is begun, so that the height is reported
+  last_begun : is_begun (all_parts t all (segments_of t - 1)) ≡ true
+  last_begun = by (parts_of t all (segments_of t - 1)) (some_parts (segments_of t - 1) (omega (arith, some_segments)))
+    where
+      by : (n : ℕ) → 1 ≤ n → is_begun (range_with_len 0 n) ≡ true
+      by zero some = absurd (omega (arith, some))
+      by (suc n) some = refl
+
+  are : AreSome s rows x (all_parts t all)
   are = record { image = is; choice = choice }
 
-  pub geometry_told : geometry_in s.apid (output s s.rows x) ≡ Some (geometry_of s)
-  geometry_told = ap (geometry_in s.apid) all_are ∙ geometry_there short s x (all_parts s all) are begins
+  pub geometry_told : geometry_in s.apid (output s rows x) ≡ Some (image_geometry s rows)
+  geometry_told = ap (geometry_in s.apid) all_are ∙ geometry_there short s rows x (all_parts t all) are begins
+      ∙ ap (λ n. Some (image_geometry s n)) (reported_begun s rows (all_parts t all) last_begun)
 
   -- ---- what is received
 
-  module _ (received : Numbers) (received_is : ReceivedIn holds_after s.apid (output s s.rows x) received) where
-    of_all : ReceivedIn holds_after s.apid (some_output s x (all_parts s all)) received
+  module _ (received : Numbers) (received_is : ReceivedIn holds_after s.apid (output s rows x) received) where
+    of_all : ReceivedIn holds_after s.apid (some_output s rows x (all_parts t all)) received
     of_all = subst (λ octets. ReceivedIn holds_after s.apid octets received) all_are received_is
 
     -- a segment that is received is the one that its packets carry
-    pub held_by : (index : ℕ) (w : List (List ℤ)) → index < segments_of s → received index ≡ Some w →
-        holds_after (head_for s all index) (segment_text s all index) w
-    held_by index w lt e = (only_whole short s x (all_parts s all) are received of_all index w lt e).1
+    pub held_by : (index : ℕ) (w : List (List ℤ)) → index < segments_of t → received index ≡ Some w →
+        holds_after (head_for t all index) (segment_text t all index) w
+    held_by index w lt e = (only_whole short s rows x (all_parts t all) are received of_all index w lt e).1
 
     -- and each is received
-    pub each_received : CodedHolds → (index : ℕ) → index < segments_of s → is_some (received index) ≡ true
-    each_received holds index lt = each_whole short s x (all_parts s all) are received of_all holds index lt refl
+    pub each_received : CodedHolds → (index : ℕ) → index < segments_of t → is_some (received index) ≡ true
+    each_received holds index lt = each_whole short s rows x (all_parts t all) are received of_all holds index lt refl
 
-    -- the segment of a block
-    pub segment_within : (block : ℕ) → block < total_blocks s.width s.rows → block / s.segment < segments_of s
-    segment_within block lt =
-        let some = is.range.segment.0 in
-        div_below block s.segment (segments_of s) (omega (arith, some)) (omega (arith, lt, total-le-segments (total_blocks s.width s.rows) s.segment (omega (arith, some))))
-
-    pub comes_whole : CodedHolds → ComesWhole s x received
+    pub comes_whole : CodedHolds → ComesWhole s rows x received
     comes_whole holds = record {
       geometry = geometry_told;
-      missing = none_missing (geometry_of s) received (λ block lt.
-          let turned : block_count s.rows * block_count s.width ≡ total_blocks s.width s.rows = grind arith in
-          each_received holds (block / s.segment) (segment_within block (omega (arith, lt, turned))));
+      missing = none_missing (image_geometry s rows) received (λ block lt.
+          let turned : block_count rows * block_count s.width ≡ total_blocks s.width rows = grind arith in
+          each_received holds (block / s.segment) (segment_within short s rows x is block (omega (arith, lt, turned))));
       framing_is = framed;
     }

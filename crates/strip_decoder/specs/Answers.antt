@@ -1,86 +1,82 @@
 -- How a decoder ends, by what it took and gave. This project's own.
-use Rattle.std.specs.Prelude.{◌≡◌, ◌≤◌, ◌<◌, ◌*◌, ℕ, Bool, true, List, [], length, take, false, None, Some, Result, Ok, Err}
+use Rattle.std.specs.Prelude.{◌≡◌, ◌≤◌, ℕ, Bool, true, List, [], length, take, false, None, Some, Result, Ok, Err}
 use Rattle.port_122.specs.Outside.{Outside, Since, Rose}
-use Rattle.base_122.specs.Ranges.{IsGeometryInRange, IsWithin, rows_range}
+use Rattle.base_122.specs.Ranges.{IsGeometryInRange}
 use Rattle.base_122.specs.declared.geometry.Geometry.{Geometry}
 use Rattle.base_122.specs.declared.wish.DecodeWish.{DecodeWish}
 use Rattle.packet_defs.specs.Streams.{left_over, has_bad_version, framing}
+use Rattle.stream_defs.specs.Begun.{HasFewPixels, begun_in, height}
 use Rattle.stream_defs.specs.Fates.{geometry_in, state_after}
 use Rattle.stream_defs.specs.Received.{ReceivedIn}
-use Rattle.stream_defs.specs.Picture.{number_at, whole_octets}
+use Rattle.stream_defs.specs.Picture.{first_rows, picture_octets}
 use Rattle.stream_defs.specs.Settled.{ready}
-use Rattle.stream_defs.specs.Damage.{whole_missing}
-use Rattle.picture_rows.specs.Fronts.{rows_of}
 use Rattle.packet_assembly.specs.Readings.{IsReadOut}
 use Rattle.strip_decoder.specs.declared.decode.DecodeDone.{DecodeDone}
 use Rattle.strip_decoder.specs.declared.decode.DecodeFault.{DecodeFault}
 use Rattle.strip_decoder.specs.declared.decode.DecodeFault.TheVariants.{ReadFault, WriteFault, NoSegment, TooManyPixels, LongInput, Memory}
-use Rattle.strip_decoder.specs.Runs.{Numbers, holds_after, HasFew}
+use Rattle.strip_decoder.specs.Runs.{Numbers, holds_after, HasFewKnown}
+use Rattle.strip_decoder.specs.Walks.{IsDamageOf, HasTooMany}
 
 -- ---- what is given
 
 -- What is given once these octets are taken: nothing without a geometry, else the first rows of the picture of the segments that
--- are received, at least those that may go out.
+-- are received, at least those that may be given.
 pub record PromptBy (apid : ℕ) (taken given : List ℕ) : Type 0 where
   pub none : geometry_in apid taken ≡ None → given ≡ []
   pub some : (g : Geometry) (received : Numbers) → geometry_in apid taken ≡ Some g → ReceivedIn holds_after apid taken received →
-      (n : ℕ) × (n ≤ g.rows) × (ready (state_after apid taken) received ≤ n) × (given ≡ rows_of g (number_at g received) n)
+      (n : ℕ) × (n ≤ height g (begun_in apid taken)) × (ready (state_after apid taken) received ≤ n) × (given ≡ first_rows g received (begun_in apid taken) n)
 
--- a read call with i octets taken and j given, where the port tells what is left
-abbrev pub AsksBy : (apid : ℕ) → Outside → (took gave : List ℕ) → ℕ → ℕ → Type 0
-AsksBy apid start took gave i j = (j ≤ length gave) × ((all : List ℕ) → start.rest ≡ Some all → PromptBy apid (take i took) (take j gave))
-
--- a front of the picture for the octets that were taken; nothing without a geometry
+-- a prefix of the picture for the octets that were taken; nothing without a geometry
 pub record FrontBy (apid : ℕ) (taken given : List ℕ) : Type 0 where
   pub none : geometry_in apid taken ≡ None → given ≡ []
   pub some : (g : Geometry) (received : Numbers) → geometry_in apid taken ≡ Some g → ReceivedIn holds_after apid taken received →
-      (n : ℕ) × (given ≡ take n (whole_octets g received))
+      (n : ℕ) × (given ≡ take n (picture_octets g received (begun_in apid taken)))
 
--- what is given of a whole picture
-abbrev pub octets_of : (gives : Bool) → Geometry → Numbers → List ℕ
-octets_of true g received = whole_octets g received
-octets_of false g received = []
+-- what is given of a whole picture, where the kept heads reach n block rows
+abbrev pub octets_of : (gives : Bool) → Geometry → Numbers → (n : ℕ) → List ℕ
+octets_of true g received n = picture_octets g received n
+octets_of false g received n = []
 
 -- ---- the decoder
 
--- What is given is the picture of the segments that are received in the octets that were taken, where it is asked for. The missing
--- block rows are those with a block in none of them, and the octets were read to the end, or can't be read on for this reason.
+-- What is given is the picture of the segments that are received in the octets that were taken, if it is asked for. Its damage is
+-- that of the missing block rows, and the octets were read to the end, or can't be read on for this reason.
 pub record PictureBy (gives : Bool) (wish : DecodeWish) (start new : Outside) (took gave : List ℕ) (done : DecodeDone) : Type 0 where
   pub geometry : geometry_in wish.apid took ≡ Some done.geometry
   pub range : IsGeometryInRange done.geometry
-  pub height : IsWithin rows_range done.geometry.rows
-  pub few : done.geometry.width * done.geometry.rows ≤ wish.pixels
+  pub few : HasFewPixels wish.pixels wish.apid took
   pub framing_is : done.framing ≡ framing took
   pub out : IsReadOut wish.octets new took
-  pub rows : done.damage.rows ≡ done.geometry.rows
+  pub written : done.written ≡ height done.geometry (begun_in wish.apid took)
+  pub rows : done.damage.rows ≡ done.written
   pub told : (all : List ℕ) → start.rest ≡ Some all → (received : Numbers) × ReceivedIn holds_after wish.apid took received
-      × (gave ≡ octets_of gives done.geometry received) × (done.damage.missing ≡ whole_missing done.geometry received)
+      × (gave ≡ octets_of gives done.geometry received (begun_in wish.apid took)) × IsDamageOf done.geometry received (begun_in wish.apid took) done.damage
 
 abbrev pub IsPicture : (wish : DecodeWish) (start new : Outside) (took gave : List ℕ) (done : DecodeDone) → Type 0
 IsPicture = PictureBy true
 
--- a front of the picture for the octets that were taken, where the port tells what is left
+-- a prefix of the picture for the octets that were taken, where the port tells what is left
 abbrev pub GivesFront : DecodeWish → Outside → (took gave : List ℕ) → Type 0
 GivesFront wish start took gave = (all : List ℕ) → start.rest ≡ Some all → FrontBy wish.apid took gave
 
--- Why it was answered so. The answers exclude each other by what was taken, the end and the counts, but for faults of the port.
+-- Why it was answered so. The answers exclude each other by what was taken, the end and the counts, except for faults of the port.
 abbrev pub Answers : DecodeWish → (old new : Outside) (took gave : List ℕ) → Result DecodeDone DecodeFault → Type 0
 Answers wish old new took gave (Ok done) = IsPicture wish old new took gave done
 Answers wish old new took gave (Err NoSegment) = (geometry_in wish.apid took ≡ None) × IsReadOut wish.octets new took × (gave ≡ [])
-Answers wish old new took gave (Err (TooManyPixels pixels)) =
-    ((g : Geometry) × (geometry_in wish.apid took ≡ Some g) × (pixels ≡ g.width * g.rows)) × (wish.pixels < pixels) × (gave ≡ [])
-Answers wish old new took gave (Err LongInput) = (length took ≡ wish.octets) × (has_bad_version (left_over took) ≡ false) × HasFew wish.pixels wish.apid took × GivesFront wish old took gave
+Answers wish old new took gave (Err (TooManyPixels pixels)) = HasTooMany wish took gave pixels × GivesFront wish old took gave
+Answers wish old new took gave (Err LongInput) = (length took ≡ wish.octets) × (has_bad_version (left_over took) ≡ false) × HasFewPixels wish.pixels wish.apid took × GivesFront wish old took gave
 Answers wish old new took gave (Err ReadFault) = Rose old.read_faults new.read_faults × GivesFront wish old took gave
-Answers wish old new took gave (Err WriteFault) = Rose old.write_faults new.write_faults × HasFew wish.pixels wish.apid took × GivesFront wish old took gave
+Answers wish old new took gave (Err WriteFault) = Rose old.write_faults new.write_faults × HasFewKnown wish.pixels wish.apid took × GivesFront wish old took gave
 Answers wish old new took gave (Err Memory) = gave ≡ []
 
--- A read call with i octets taken and j given. Where the octets tell of too many pixels, nothing more is read.
+-- A read call with i octets taken and j given, where the port tells what is left. If the octets report too many pixels, no more is read.
 abbrev pub Asks : DecodeWish → Outside → (took gave : List ℕ) → ℕ → ℕ → Type 0
-Asks wish start took gave i j = AsksBy wish.apid start took gave i j × HasFew wish.pixels wish.apid (take i took)
+Asks wish start took gave i j =
+    (j ≤ length gave) × HasFewPixels wish.pixels wish.apid (take i took) × ((all : List ℕ) → start.rest ≡ Some all → PromptBy wish.apid (take i took) (take j gave))
 
 -- One run over a port: what it took and gave, when, and why it ended so. However it ends, it takes at most as many octets as are
--- wished. What is given at each read call is a front of the picture for the octets that were taken by then, with at least the rows that
--- may go out.
+-- wished. What is given at each read call is a prefix of the picture for the octets that were taken by then, with at least the rows
+-- that may be given.
 pub record Decodes (wish : DecodeWish) (old new : Outside) (result : Result DecodeDone DecodeFault) : Type 0 where
   pub took : List ℕ
   pub gave : List ℕ

@@ -1,15 +1,16 @@
 -- How a search for damage ends, by what it took and gave. This project's own.
-use Rattle.std.specs.Prelude.{◌≡◌, ◌⊎◌, ◌≤◌, ◌<◌, ◌*◌, ℕ, List, [], length, take, false, None, Some, Result, Ok, Err}
+use Rattle.std.specs.Prelude.{◌≡◌, ◌⊎◌, ◌≤◌, ℕ, List, [], length, take, false, None, Result, Ok, Err}
 use Rattle.port_122.specs.Outside.{Outside, Since, Rose}
 use Rattle.base_122.specs.declared.wish.DecodeWish.{DecodeWish}
-use Rattle.base_122.specs.declared.geometry.Geometry.{Geometry}
 use Rattle.packet_defs.specs.Streams.{left_over, has_bad_version}
+use Rattle.stream_defs.specs.Begun.{HasFewPixels}
 use Rattle.stream_defs.specs.Fates.{geometry_in}
 use Rattle.strip_decoder.specs.declared.decode.DecodeDone.{DecodeDone}
 use Rattle.strip_decoder.specs.declared.decode.DecodeFault.{DecodeFault}
 use Rattle.strip_decoder.specs.declared.decode.DecodeFault.TheVariants.{ReadFault, WriteFault, NoSegment, TooManyPixels, LongInput, Memory}
 use Rattle.packet_assembly.specs.Readings.{IsReadOut}
-use Rattle.strip_decoder.specs.Runs.{HasFew}
+use Rattle.strip_decoder.specs.Runs.{HasFewKnown}
+use Rattle.strip_decoder.specs.Walks.{HasTooMany}
 use Rattle.strip_decoder.specs.Answers.{PictureBy}
 use Rattle.strip_decoder.specs.Lines.{damage_lines}
 
@@ -34,15 +35,15 @@ abbrev pub FindAnswers : DecodeWish → (old new : Outside) (took gave : List �
 FindAnswers wish old new took gave (Ok done) = IsDamage wish old new took gave done
 FindAnswers wish old new took gave (Err NoSegment) = (geometry_in wish.apid took ≡ None) × IsReadOut wish.octets new took × (gave ≡ [])
 FindAnswers wish old new took gave (Err (TooManyPixels pixels)) =
-    ((g : Geometry) × (geometry_in wish.apid took ≡ Some g) × (pixels ≡ g.width * g.rows)) × (wish.pixels < pixels) × (gave ≡ [])
-FindAnswers wish old new took gave (Err LongInput) = (length took ≡ wish.octets) × (has_bad_version (left_over took) ≡ false) × HasFew wish.pixels wish.apid took × (gave ≡ [])
+    HasTooMany wish took gave pixels × (gave ≡ [])
+FindAnswers wish old new took gave (Err LongInput) = (length took ≡ wish.octets) × (has_bad_version (left_over took) ≡ false) × HasFewPixels wish.pixels wish.apid took × (gave ≡ [])
 FindAnswers wish old new took gave (Err ReadFault) = Rose old.read_faults new.read_faults × (gave ≡ [])
-FindAnswers wish old new took gave (Err WriteFault) = Rose old.write_faults new.write_faults × HasFew wish.pixels wish.apid took × GivesSome wish old new took gave
+FindAnswers wish old new took gave (Err WriteFault) = Rose old.write_faults new.write_faults × HasFewKnown wish.pixels wish.apid took × GivesSome wish old new took gave
 FindAnswers wish old new took gave (Err Memory) = gave ≡ []
 
 -- A read call with i octets taken, and none given. Where the octets tell of too many pixels, nothing more is read.
 abbrev pub AsksSilent : DecodeWish → (took : List ℕ) → ℕ → ℕ → Type 0
-AsksSilent wish took i j = (j ≡ 0) × HasFew wish.pixels wish.apid (take i took)
+AsksSilent wish took i j = (j ≡ 0) × HasFewPixels wish.pixels wish.apid (take i took)
 
 -- One run over a port: what it took and gave, when, and why it ended so. However it ends, it takes at most as many octets as are
 -- wished. At each read call nothing is given.

@@ -1,14 +1,16 @@
 -- What the sinks show that a decoder and a search for damage walk with. This project's own.
-use Rattle.std.specs.Prelude.{◌≡◌, ◌≤◌, ℕ, ℤ, pos, List, [], take, unwrap_or, slice_index_or, refl}
+use Rattle.std.specs.Prelude.{◌≡◌, ℕ, ℤ, pos, List, [], ◌∷◌, length, take, unwrap_or, slice_index_or, refl}
+use Rattle.std.proofs.Common.{sym, ap, ◌∙◌}
 use Rattle.base_122.specs.declared.geometry.Geometry.{Geometry}
 use Rattle.stream_defs.specs.Settled.{rows_through, block_rows_before}
 use Rattle.picture_rows.specs.declared.picture.Picture.{Picture}
 use Rattle.picture_rows.specs.Fronts.{rows_of}
 use Rattle.picture_rows.specs.Pictures.{shown, StandsFor, passed_in}
 use Rattle.picture_rows.specs.Pictures as pictures
-use Rattle.picture_rows.proofs.RowsOut.{rows_out, front_of}
+use Rattle.picture_rows.proofs.RowsOut.{rows_out}
+use Rattle.picture_rows.proofs.Heights.{rows_of_ended}
 use Rattle.strip_decoder.specs.declared.find.NoPicture.{NoPicture}
-use Rattle.strip_decoder.specs.Sinks.{Blocks, SinkOf}
+use Rattle.strip_decoder.specs.Sinks.{Blocks, SinkOf, EndsAt}
 
 -- the numbers of blocks; those of a missing one are 0
 abbrev pub numbers_in : Blocks → (block i : ℕ) → ℤ
@@ -27,28 +29,37 @@ pub record ShowsBlocks (p : Picture) (g : Geometry) (blocks : Blocks) (n : ℕ) 
   pub stands : StandsFor (numbers_in blocks) (shown p)
   pub gave_is : gave ≡ rows_of g (numbers_in blocks) p.at.next
 
--- the first rows of the picture, as many as the first n blocks determine, or more
-pub record GivesRows (g : Geometry) (blocks : Blocks) (n : ℕ) (gave : List ℕ) : Type 0 where
-  pub rows : ℕ
-  pub within : rows ≤ g.rows
-  pub least : (block : ℕ) → block ≤ n → rows_through g (block_rows_before g block) ≤ rows
-  pub gave_is : gave ≡ rows_of g (numbers_in blocks) rows
+-- the first rows of the picture, exactly those that the first n blocks determine
+abbrev pub GivesRows : (g : Geometry) (blocks : Blocks) (n : ℕ) (gave : List ℕ) → Type 0
+GivesRows g blocks n gave = gave ≡ rows_of g (numbers_in blocks) (rows_through g (block_rows_before g n))
 
--- a front of the picture
-pub record GivesFront (g : Geometry) (blocks : Blocks) (gave : List ℕ) : Type 0 where
+-- a prefix of these rows
+pub record GivesFront (g : Geometry) (blocks : Blocks) (n : ℕ) (gave : List ℕ) : Type 0 where
   pub some : ℕ
-  pub gave_is : gave ≡ take some (rows_of g (numbers_in blocks) g.rows)
+  pub gave_is : gave ≡ take some (rows_of g (numbers_in blocks) (rows_through g (block_rows_before g n)))
 
 pub rows_given : (p : Picture) (g : Geometry) (blocks : Blocks) (n : ℕ) (gave : List ℕ) → StandsAt p g n → ShowsBlocks p g blocks n gave → GivesRows g blocks n gave
 rows_given p g blocks n gave stands shows =
-    let out = rows_out (shown p) g n (numbers_in blocks) gave stands.standing stands.geometry stands.passed shows.gave_is in
-    record { rows = out.0; within = out.1; least = out.2; gave_is = out.3 }
+    rows_out (shown p) g n (numbers_in blocks) gave stands.standing stands.geometry stands.passed shows.gave_is
 
-pub front_given : (g : Geometry) (blocks : Blocks) (n : ℕ) (gave : List ℕ) → GivesRows g blocks n gave → GivesFront g blocks gave
-front_given g blocks n gave given = let front = front_of g (numbers_in blocks) given.rows gave given.gave_is in record { some = front.0; gave_is = front.1 }
+take_whole : (xs : List ℕ) → take (length xs) xs ≡ xs
+take_whole [] = refl
+take_whole (x ∷ xs) = ap (λ zs. x ∷ zs) (take_whole xs)
+
+pub front_given : (g : Geometry) (blocks : Blocks) (n : ℕ) (gave : List ℕ) → GivesRows g blocks n gave → GivesFront g blocks n gave
+front_given g blocks n gave given = record { some = length gave; gave_is = sym (ap (take (length gave)) (sym given) ∙ take_whole gave) }
+
+pub rows_ended : (g h : Geometry) (blocks : Blocks) (n : ℕ) (gave : List ℕ) → EndsAt g h n → GivesRows g blocks n gave → GivesRows h blocks n gave
+rows_ended g h blocks n gave ends given = given ∙ sym (rows_of_ended g h n (numbers_in blocks) ends.range ends.height ends.same ends.fewer ends.more)
+
+pub front_ended : (g h : Geometry) (blocks : Blocks) (n : ℕ) (gave : List ℕ) → EndsAt g h n → GivesFront g blocks n gave → GivesFront h blocks n gave
+front_ended g h blocks n gave ends front = record {
+  some = front.some;
+  gave_is = front.gave_is ∙ ap (take front.some) (sym (rows_of_ended g h n (numbers_in blocks) ends.range ends.height ends.same ends.fewer ends.more));
+}
 
 abbrev pub picture_sink : SinkOf Picture
-picture_sink = record { Stands = StandsAt; Follows = ShowsBlocks; Given = GivesRows; Part = GivesFront; given_of = rows_given; part_of = front_given; part_none = λ g blocks. record { some = 0; gave_is = refl } }
+picture_sink = record { Stands = StandsAt; Follows = ShowsBlocks; Given = GivesRows; Part = GivesFront; given_of = rows_given; part_of = front_given; part_none = λ g blocks. record { some = 0; gave_is = refl }; given_ended = rows_ended; part_ended = front_ended }
 
 -- ---- no picture
 
@@ -58,8 +69,10 @@ no_picture = record {
   Stands = λ s g n. Unit {0};
   Follows = λ s g blocks n gave. gave ≡ [];
   Given = λ g blocks n gave. gave ≡ [];
-  Part = λ g blocks gave. gave ≡ [];
+  Part = λ g blocks n gave. gave ≡ [];
   given_of = λ s g blocks n gave stands none. none;
   part_of = λ g blocks n gave none. none;
   part_none = λ g blocks. refl;
+  given_ended = λ g h blocks n gave ends none. none;
+  part_ended = λ g h blocks n gave ends none. none;
 }

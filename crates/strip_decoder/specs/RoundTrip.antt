@@ -1,7 +1,7 @@
 -- The round trip: what comes back where all packets of an image are decoded. This project's own.
 use Rattle.std.specs.Prelude.{◌≡◌, ◌<◌, ℕ, ℤ, false, List, [], None, Some}
 use Rattle.port_122.specs.Outside.{Outside}
-use Rattle.base_122.specs.Setting.{geometry_of}
+use Rattle.base_122.specs.Setting.{image_geometry}
 use Rattle.base_122.specs.declared.setting.Setting.{Setting}
 use Rattle.base_122.specs.declared.wish.DecodeWish.{DecodeWish}
 use Rattle.packet_defs.specs.Streams.{framing}
@@ -24,29 +24,31 @@ pub record SendsAll (s : Setting) : Type 0 where
   pub limit : s.limit ≡ 0
   pub total : s.total ≡ 0
 
--- its packets tell its size, each block row is received, and they can be read to their end
-pub record ComesWhole (s : Setting) (x : ℕ → ℕ → ℤ) (received : Numbers) : Type 0 where
-  pub geometry : geometry_in s.apid (output s s.rows x) ≡ Some (geometry_of s)
-  pub missing : whole_missing (geometry_of s) received ≡ []
-  pub framing_is : framing (output s s.rows x) ≡ None
+-- its packets report its size, each block row is received, and they can be read to their end
+pub record ComesWhole (s : Setting) (rows : ℕ) (x : ℕ → ℕ → ℤ) (received : Numbers) : Type 0 where
+  pub geometry : geometry_in s.apid (output s rows x) ≡ Some (image_geometry s rows)
+  pub missing : whole_missing (image_geometry s rows) received ≡ []
+  pub framing_is : framing (output s rows x) ≡ None
 
 -- the picture of these segments is the image
-pub record ComesSame (s : Setting) (x : ℕ → ℕ → ℤ) (received : Numbers) : Type 0 where
-  pub at : (i j : ℕ) → i < s.rows → j < s.width → whole_picture (geometry_of s) received i j ≡ x i j
-  pub octets : whole_octets (geometry_of s) received ≡ raster_octets s.depth s.rows s.width x
+pub record ComesSame (s : Setting) (rows : ℕ) (x : ℕ → ℕ → ℤ) (received : Numbers) : Type 0 where
+  pub at : (i j : ℕ) → i < rows → j < s.width → whole_picture (image_geometry s rows) received i j ≡ x i j
+  pub octets : whole_octets (image_geometry s rows) received ≡ raster_octets s.depth rows s.width x
 
--- A decoder found the size of the image and nothing missing, and read the packets to their end; where nothing was left out, it gave
--- the image's raster.
-pub record GivesBack (s : Setting) (x : ℕ → ℕ → ℤ) (gave : List ℕ) (done : DecodeDone) : Type 0 where
-  pub geometry : done.geometry ≡ geometry_of s
+-- A decoder found the size of the image and nothing missing, wrote all its rows, and read the packets to their end; if nothing was left
+-- out, it gave the image's raster.
+pub record GivesBack (s : Setting) (rows : ℕ) (x : ℕ → ℕ → ℤ) (gave : List ℕ) (done : DecodeDone) : Type 0 where
+  pub geometry : done.geometry ≡ image_geometry s rows
+  pub written : done.written ≡ rows
   pub missing : done.damage.missing ≡ []
   pub framing_is : done.framing ≡ None
-  pub same : SendsAll s → gave ≡ raster_octets s.depth s.rows s.width x
+  pub same : SendsAll s → gave ≡ raster_octets s.depth rows s.width x
 
--- All packets of an image, in order, give it whole, and where nothing was left out they give just its pixels. So it is where a
--- decoder took them and gave a whole picture.
+-- All packets of an image, in order, give it whole, whether they report its height first or last, and if nothing was left out they give
+-- exactly its pixels. So it is if a decoder took them and gave a whole picture.
 pub record RoundTrip : Type 0 where
-  pub whole : (s : Setting) (x : ℕ → ℕ → ℤ) (received : Numbers) → IsImageFor s x → ReceivedIn holds_after s.apid (output s s.rows x) received → ComesWhole s x received
-  pub same : (s : Setting) (x : ℕ → ℕ → ℤ) (received : Numbers) → IsImageFor s x → SendsAll s → ReceivedIn holds_after s.apid (output s s.rows x) received → ComesSame s x received
-  pub decoded : (wish : DecodeWish) (start new : Outside) (took gave all : List ℕ) (done : DecodeDone) (s : Setting) (x : ℕ → ℕ → ℤ) →
-      IsPicture wish start new took gave done → start.rest ≡ Some all → wish.apid ≡ s.apid → took ≡ output s s.rows x → IsImageFor s x → GivesBack s x gave done
+  pub whole : (s : Setting) (rows : ℕ) (x : ℕ → ℕ → ℤ) (received : Numbers) → IsImageFor s rows x → ReceivedIn holds_after s.apid (output s rows x) received → ComesWhole s rows x received
+  pub same : (s : Setting) (rows : ℕ) (x : ℕ → ℕ → ℤ) (received : Numbers) → IsImageFor s rows x → SendsAll s → ReceivedIn holds_after s.apid (output s rows x) received →
+      ComesSame s rows x received
+  pub decoded : (wish : DecodeWish) (start new : Outside) (took gave all : List ℕ) (done : DecodeDone) (s : Setting) (rows : ℕ) (x : ℕ → ℕ → ℤ) →
+      IsPicture wish start new took gave done → start.rest ≡ Some all → wish.apid ≡ s.apid → took ≡ output s rows x → IsImageFor s rows x → GivesBack s rows x gave done

@@ -1,7 +1,8 @@
 -- What the steps from segment to segment leave. This project's own.
-use Rattle.std.specs.Prelude.{◌≡◌, ◌≤◌, ◌<◌, ◌+◌, ◌-◌, ◌*◌, ℕ, ℤ, List, [], take, min, Bool, true, false, Option, None, Some, Result, Ok, Err, MatchResult}
+use Rattle.std.specs.Prelude.{◌≡◌, ◌≤◌, ◌<◌, ◌+◌, ◌-◌, ◌*◌, ℕ, ℤ, List, [], take, min, Bool, true, false, Option, None, Some, Result, Ok, Err, IsOk, MatchOption, MatchResult}
 use Rattle.port_122.specs.Outside.{Outside, Rose, NoFewerFaults}
 use Rattle.base_122.specs.Sizes.{first_block}
+use Rattle.base_122.specs.Ranges.{IsGeometryInRange}
 use Rattle.base_122.specs.declared.geometry.Geometry.{Geometry}
 use Rattle.wave_defs.specs.Held.{blocks_in}
 use Rattle.bit_pipe.specs.declared.fault.InFault.TheVariants as in_faults
@@ -14,10 +15,12 @@ use Rattle.packet_assembly.specs.Assembling.{Assembling, last_index, is_closed}
 use Rattle.packet_assembly.specs.Segments as assembling
 use Rattle.packet_assembly.specs.Tails.{text_tail}
 use Rattle.stream_defs.specs.Agreement.{blocks_of}
+use Rattle.stream_defs.specs.Begun.{placed, rows_reached}
+use Rattle.stream_defs.specs.Fates.{fresh, after_all}
 use Rattle.strip_decoder.specs.declared.decode.DecodeFault.{DecodeFault}
-use Rattle.strip_decoder.specs.declared.decode.DecodeFault.TheVariants.{ReadFault, WriteFault, LongInput}
-use Rattle.strip_decoder.specs.Sinks.{SinkOf}
-use Rattle.strip_decoder.specs.Steps.{Walking, IsStanding, passed_in, missing, held}
+use Rattle.strip_decoder.specs.declared.decode.DecodeFault.TheVariants.{ReadFault, WriteFault, TooManyPixels, LongInput}
+use Rattle.strip_decoder.specs.Sinks.{SinkOf, MayEnd}
+use Rattle.strip_decoder.specs.Steps.{Walking, IsStanding, HasGeometry, passed_in, missing, held}
 
 -- ---- where a segment is
 
@@ -34,18 +37,70 @@ pub record FitsNext {S : Type 0} (p : Walking S) (start : SegmentStart) : Type 0
   pub fits : FitsImage p.geometry start
   pub reached : passed_in p ≤ start.ancillary.first
 
--- an assembly answered this segment last
+-- the packets that an assembly has passed are of an image of this geometry
+pub record HasImage (a : Assembling) (g : Geometry) : Type 0 where
+  pub passed : List (List ℕ)
+  pub state : a.state ≡ after_all a.apid fresh passed
+  pub geometry : a.state.geometry ≡ Some g
+  pub range : IsGeometryInRange g
+
+-- an assembly answered this segment last, and the walk goes by the geometry of its image
 pub record IsAt {S : Type 0} (a : Assembling) (p : Walking S) (start : SegmentStart) : Type 0 where
-  pub geometry : a.state.geometry ≡ Some p.geometry
+  pub image : Geometry
+  pub has : HasImage a image
+  pub goes_by : p.geometry ≡ placed image
   pub unheld : a.held ≡ None
   pub last : last_index a.state.last ≡ Some start.ancillary.index
   pub next : FitsNext p start
 
 -- The last place is in a segment that was passed; or the segment that comes next was begun.
 pub record IsBetween {S : Type 0} (a : Assembling) (p : Walking S) : Type 0 where
-  pub geometry : a.state.geometry ≡ Some p.geometry
+  pub image : Geometry
+  pub has : HasImage a image
+  pub goes_by : p.geometry ≡ placed image
   pub unheld : a.held ≡ None → (index : ℕ) × (last_index a.state.last ≡ Some index) × (passed_in p ≤ first_block p.geometry.segment (index + 1))
   pub held : (start : SegmentStart) → a.held ≡ Some start → (last_index a.state.last ≡ Some start.ancillary.index) × FitsNext p start
+
+-- A segment was begun in an image of this geometry, and the walk hasn't come past its first block. Its head may have reported the
+-- height, which the walk doesn't know yet.
+pub record MayFollow {S : Type 0} (g : Geometry) (p : Walking S) (start : SegmentStart) : Type 0 where
+  pub range : IsGeometryInRange g
+  pub ends : MayEnd p.geometry (placed g) (passed_in p)
+  pub fits : FitsImage (placed g) start
+  pub reached : passed_in p ≤ start.ancillary.first
+
+-- an assembly answered this segment last
+pub record IsFound {S : Type 0} (a : Assembling) (p : Walking S) (start : SegmentStart) : Type 0 where
+  pub image : Geometry
+  pub has : HasImage a image
+  pub unheld : a.held ≡ None
+  pub last : last_index a.state.last ≡ Some start.ancillary.index
+  pub next : MayFollow image p start
+
+-- if a segment was begun while the text of the one before it was read, the walk may follow it
+pub record MayFollowHeld {S : Type 0} (a : Assembling) (p : Walking S) : Type 0 where
+  pub image : Geometry
+  pub has : HasImage a image
+  pub next : (start : SegmentStart) → a.held ≡ Some start → MayFollow image p start
+
+-- ---- the height
+
+-- the least number of pixels of an image in which this segment is, or that of the image if its height is known
+abbrev pub pixels_reached : Geometry → SegmentStart → ℕ
+pixels_reached g start = g.width * rows_reached g (start.ancillary.first + start.head.blocks)
+
+-- the walk goes by the geometry of the image in which this segment was begun, unless that has too many pixels
+abbrev pub FollowsHead : {S : Type 0} → SinkOf S → (pixels : ℕ) → Geometry → SegmentStart → (old new : Walking S) → Result (Unit {0}) DecodeFault → Type 0
+FollowsHead k pixels g start old new (Ok done) = HasGeometry k (placed g) old new × (pixels_reached g start ≤ pixels)
+FollowsHead k pixels g start old new (Err (TooManyPixels found)) = (found ≡ pixels_reached g start) × (pixels < found)
+FollowsHead k pixels g start old new (Err other) = ⊥
+
+-- so it is of the segment that an assembly answered last, and of the one that it holds
+abbrev pub FollowsFound : {S : Type 0} → SinkOf S → (pixels : ℕ) → Assembling → SegmentStart → (old new : Walking S) → Result (Unit {0}) DecodeFault → Type 0
+FollowsFound k pixels a start old new result = (image : Geometry) → a.state.geometry ≡ Some image → FollowsHead k pixels image start old new result
+
+abbrev pub FollowsHeld : {S : Type 0} → SinkOf S → (pixels : ℕ) → Assembling → (old new : Walking S) → Result (Unit {0}) DecodeFault → Type 0
+FollowsHeld k pixels a old new result = MatchOption a.held ((IsOk result) × (new ≡ old)) (λ next. FollowsFound k pixels a next old new result)
 
 -- ---- the calls
 
@@ -106,10 +161,15 @@ abbrev pub segment_values : Bool → List ℤ → ℕ → Option (List ℤ)
 segment_values true cells = held cells
 segment_values false cells = missing
 
+-- the same image, whose height may have become known
+pub record IsShorter (old new : Geometry) : Type 0 where
+  pub same : new ≡ record old { rows = new.rows }
+  pub fewer : new.rows ≤ old.rows
+
 -- a segment was taken
 pub record HasTaken {S : Type 0} (k : SinkOf S) (p q : Outside) (a b : Assembling) (old new : Walking S) : Type 0 where
   pub standing : IsStanding k new
-  pub geometry : new.geometry ≡ old.geometry
+  pub geometry : IsShorter old.geometry new.geometry
   pub between : IsBetween b new
   pub more : passed_in old < passed_in new
   pub faults : NoFewerFaults p q
@@ -118,6 +178,7 @@ abbrev pub TakesSegment : {S : Type 0} → SinkOf S → (p q : Outside) (a b : A
 TakesSegment k p q a b old new (Ok done) = HasTaken k p q a b old new
 TakesSegment k p q a b old new (Err ReadFault) = Rose p.read_faults q.read_faults
 TakesSegment k p q a b old new (Err WriteFault) = Rose p.write_faults q.write_faults
+TakesSegment k p q a b old new (Err (TooManyPixels pixels)) = Unit {0}
 TakesSegment k p q a b old new (Err other) = ⊥
 
 -- the blocks before a segment were lost

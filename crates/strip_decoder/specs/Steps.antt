@@ -98,7 +98,7 @@ pub record BreaksOff {S : Type 0} (k : SinkOf S) (values : ℕ → Option (List 
   pub gave : List ℕ
   pub out : Since p q [] gave [] NoRead
   pub rose : Rose p.write_faults q.write_faults
-  pub part : (blocks : Blocks) (before : List ℕ) → Follows k old blocks before → AreNext values n old blocks → k.Part old.geometry blocks (before ++ gave)
+  pub part : (blocks : Blocks) (before : List ℕ) → Follows k old blocks before → AreNext values n old blocks → (m : ℕ) × (m ≤ passed_in old + n) × k.Part old.geometry blocks m (before ++ gave)
 
 abbrev pub PassesBlocks : {S T E : Type 0} → SinkOf S → Result T E → (ℕ → Option (List ℤ)) → ℕ → (p q : Outside) (old new : Walking S) → Type 0
 PassesBlocks k result values n p q old new = MatchResult result (λ _. HasPassed k values n p q old new) (λ _. BreaksOff k values n p q old)
@@ -112,3 +112,12 @@ pub record HasAdvanced {S : Type 0} (old new : Walking S) : Type 0 where
   pub same : new ≡ record old { at = new.at }
   pub column : new.at.column < block_count old.geometry.width
   pub count : new.at.row * block_count old.geometry.width + new.at.column ≡ passed_in old + 1
+
+-- ---- the height
+
+-- the image has this geometry from now on, and no block was passed
+pub record HasGeometry {S : Type 0} (k : SinkOf S) (g : Geometry) (old new : Walking S) : Type 0 where
+  pub standing : IsStanding k new
+  pub geometry : new.geometry ≡ g
+  pub count : passed_in new ≡ passed_in old
+  pub follows : (blocks : Blocks) (gave : List ℕ) → Follows k old blocks gave → Follows k new blocks gave

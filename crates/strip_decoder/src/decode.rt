@@ -10,11 +10,13 @@ use port_122::Port;
 use std::alloc::Global;
 use thiserror::Error;
 
-/// What was read: the picture's geometry, its missing block rows, and why the stream can't be read on, where that was found.
+/// What was read: the geometry of the image, whose rows are 0 if no header reported its height; the damage of the rows that were
+/// written; their number, which is the height if it is known; and why the stream can't be read on, if that was found.
 #[derive(Drop)]
 pub struct DecodeDone {
     pub geometry: Geometry,
     pub damage: Damage,
+    pub written: u32,
     pub framing: Option<Framing>,
 }
 
@@ -30,7 +32,7 @@ pub enum DecodeFault {
     /// The input ended, and no packet that was kept began a segment.
     #[error("no segment")]
     NoSegment,
-    /// The picture has more pixels than are wished.
+    /// A header reports an image of more pixels than are wished, or of at least this number while its height isn't known.
     #[error("too many pixels: {pixels}")]
     TooManyPixels { pixels: u64 },
     /// The input has more octets than are read.
@@ -43,9 +45,13 @@ pub enum DecodeFault {
 
 /// Takes the packets of an APID and gives the picture of the segments that are received, each row as soon as the packets so far
 /// determine it (docs/formats.md, "Packets", "Fates" and "Picture and damage"; docs/architecture.md, "The decoder"). It reads to
-/// the end, or to what can't be read on, at most the octets that are wished, and no more once the geometry has too many pixels.
-/// After `NoSegment`, `TooManyPixels` and `Memory` nothing is given, and after the other faults a front of the picture.
-/// `ReadFault` and `WriteFault` come only where the port's count rose.
+/// the end, or to what can't be read on, at most the octets that are wished, and no more once a header reports too many pixels.
+/// If no header reports the height, the rows are written that the block rows so far determine, whatever follows.
+///
+/// # Errors
+///
+/// After `NoSegment` and `Memory` nothing is written, and after the other faults a prefix of the picture; after `TooManyPixels` it is
+/// empty unless the height is reported last. `ReadFault` and `WriteFault` occur only if the port's count rose.
 pub fn decode_packets<X: Port>(
     alloc: Global,
     port: &mut X,

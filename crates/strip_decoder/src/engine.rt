@@ -1,18 +1,21 @@
 // Packets in, the blocks of their image to a sink.
-ghost use Rattle.std.specs.Prelude.{◌≡◌, vec_len};
+ghost use Rattle.std.specs.Prelude.{◌≡◌, ◌≤◌, true, is_some, IfOk, vec_len};
+ghost use Rattle.base_122.specs.Ranges.{IsGeometryInRange};
+ghost use Rattle.stream_defs.specs.Begun.{height};
 ghost use Rattle.strip_decoder.specs.Steps.{walking, IsStanding, PassesBlocks, missing};
 ghost use Rattle.strip_decoder.specs.Rooms.{IsRoom};
 ghost use Rattle.strip_decoder.specs.Segments.{IsAt};
-ghost use Rattle.strip_decoder.specs.Runs.{Run, ComesTo, RunsAll};
-ghost use Rattle.strip_decoder.specs.Walks.{TakesAll, PassesAll, RunsWalk, Walks, left_in};
+ghost use Rattle.strip_decoder.specs.Runs.{Run, ComesIn, RunsAll};
+ghost use Rattle.strip_decoder.specs.Walks.{TakesAll, PassesAll, RunsWalk, Walks, is_height_known, left_in, walked_of};
 
 use crate::blocks::lose_blocks;
 use crate::decode::{DecodeDone, DecodeFault};
-use crate::segments::{find_next, take_segment};
+use crate::segments::{find_next, follow_found, pixels_reached, take_segment};
 use crate::sink::BlockSink;
-use crate::walk::{SegmentRoom, Walk, begin_walk, passed};
-use base_122::DecodeWish;
+use crate::walk::{SegmentRoom, Walk, begin_walk, passed, placed};
+use base_122::{DecodeWish, Geometry};
 use packet_assembly::{Assembly, SegmentStart};
+use packet_defs::Framing;
 use port_122::{Failed, Port};
 use std::alloc::Global;
 
@@ -26,9 +29,13 @@ pub struct Walked<S> {
 /// Takes the packets of an APID and passes all blocks of their image to a sink that it makes, in raster order: those of the segments
 /// that are received, and for each other block that it is missing (docs/formats.md, "Packets", "Fates" and "Picture and damage";
 /// docs/architecture.md, "The decoder"). At each read call the blocks that the octets so far settle were passed. It reads to the end,
-/// or to what can't be read on, at most the octets that are wished, and no more once the geometry has too many pixels.
-/// After `NoSegment`, `TooManyPixels` and `Memory` nothing is given, and after the other faults a part of what the sink gives.
-/// `ReadFault` and `WriteFault` come only where the port's count rose.
+/// or to what can't be read on, at most the octets that are wished, and no more once a header reports too many pixels.
+/// While the height isn't known, the sink takes the blocks of the tallest image; once a header reports it, the sink ends there.
+///
+/// # Errors
+///
+/// After `NoSegment` and `Memory` nothing is written, and after the other faults a part of what the sink writes; after
+/// `TooManyPixels` it is empty unless the height is reported last. `ReadFault` and `WriteFault` occur only if the port's count rose.
 pub fn walk_segments<S: BlockSink + Drop, X: Port>(
     alloc: Global,
     port: &mut X,
@@ -47,27 +54,59 @@ pub fn walk_segments<S: BlockSink + Drop, X: Port>(
     let Some(geometry) = assembly.geometry() else {
         return Err(DecodeFault::NoSegment);
     };
-    let pixels = u64::from(geometry.width) * u64::from(geometry.rows);
+    let pixels = pixels_reached(&geometry, &start);
     if pixels > wish.pixels {
         return Err(DecodeFault::TooManyPixels { pixels });
     }
-    let Ok(mut room) = SegmentRoom::new(alloc, &geometry) else {
+    let tallest = placed(&geometry);
+    let Ok(mut room) = SegmentRoom::new(alloc, &tallest, wish.pixels) else {
         return Err(DecodeFault::Memory);
     };
-    let Ok(mut walk) = begin_walk::<S>(alloc, &geometry) else {
+    let Ok(mut walk) = begin_walk::<S>(alloc, &tallest) else {
         return Err(DecodeFault::Memory);
     };
     match pass_all(&mut walk, port, &mut assembly, &mut room, start) {
-        Ok(()) => Ok(Walked {
-            done: DecodeDone {
-                geometry,
-                damage: walk.damage,
-                framing: assembly.framing(),
-            },
-            sink: walk.sink,
-        }),
-        Err(fault) => Err(fault),
+        Ok(()) => {}
+        Err(fault) => return Err(fault),
     }
+    let Some(geometry) = assembly.geometry() else {
+        return Err(DecodeFault::NoSegment);
+    };
+    Ok(finish(walk, &geometry, assembly.framing()))
+}
+
+// What was read, once all blocks were passed.
+fn finish<S: BlockSink + Drop>(
+    mut walk: Walk<S>,
+    geometry: &Geometry,
+    framing: Option<Framing>,
+) -> Walked<S>
+    requires standing { IsStanding S.sink (walking walk) }
+    requires range { IsGeometryInRange geometry.now }
+    ensures { result ≡ walked_of geometry.now framing (walking walk) }
+{
+    let written = rows_written(geometry, walk.at.row);
+    walk.damage.end_at(written);
+    Walked {
+        done: DecodeDone {
+            geometry: *geometry,
+            damage: walk.damage,
+            written,
+            framing,
+        },
+        sink: walk.sink,
+    }
+}
+
+// The rows of the picture: all, or those that the block rows so far determine if the height isn't known.
+fn rows_written(geometry: &Geometry, block_rows: u32) -> u32
+    requires { block_rows ≤ 32768 }
+    ensures { result ≡ height geometry.now block_rows }
+{
+    if geometry.rows != 0 {
+        return geometry.rows;
+    }
+    (8 * block_rows).saturating_sub(21)
 }
 
 // Takes all segments, from this one on, and loses the blocks after them.
@@ -81,16 +120,28 @@ fn pass_all<S: BlockSink, X: Port>(
     requires standing { IsStanding S.sink (walking walk.old) }
     requires at { IsAt assembly.old (walking walk.old) first }
     requires room { IsRoom walk.old.geometry (vec_len room.old.blocks) (vec_len room.old.marks) }
-    ensures passes { PassesAll (X.outside port.old) (X.outside port.new) (walking walk.old) (walking walk.new) result }
-    ensures runs { (w : Run) → ComesTo S.sink w (X.outside port.old) assembly.old (walking walk.old) first → RunsWalk S.sink w (X.outside port.new) assembly.new (walking walk.new) result }
+    ensures passes { PassesAll (X.outside port.old) (X.outside port.new) result }
+    ensures standing { IfOk result (λ _. IsStanding S.sink (walking walk.new)) }
+    ensures image { IfOk result (λ _. is_some assembly.new.state.geometry ≡ true) }
+    ensures runs { (w : Run) → w.pixels ≡ room.old.pixels → ComesIn S.sink w (X.outside port.old) assembly.old (walking walk.old) first → RunsWalk S.sink w (X.outside port.new) assembly.new (walking walk.new) result }
 {
     match take_segments(walk, port, assembly, room, first) {
         Ok(()) => {}
         Err(fault) => return Err(fault),
     }
-    match lose_rest(walk, port) {
+    match lose_rest(walk, port, is_height_known(assembly)) {
         Ok(()) => Ok(()),
         Err(_) => Err(DecodeFault::WriteFault),
+    }
+}
+
+// The height of the image is known.
+fn is_height_known(assembly: &Assembly) -> bool
+    ensures { result ≡ is_height_known assembly.now.state.geometry }
+{
+    match assembly.geometry() {
+        Some(geometry) => geometry.rows != 0,
+        None => false,
     }
 }
 
@@ -106,7 +157,7 @@ fn take_segments<S: BlockSink, X: Port>(
     requires at { IsAt assembly.old (walking walk.old) first }
     requires room { IsRoom walk.old.geometry (vec_len room.old.blocks) (vec_len room.old.marks) }
     ensures takes { TakesAll S.sink (X.outside port.old) (X.outside port.new) assembly.old assembly.new (walking walk.old) (walking walk.new) result }
-    ensures runs { (w : Run) → ComesTo S.sink w (X.outside port.old) assembly.old (walking walk.old) first → RunsAll S.sink w (X.outside port.new) assembly.new (walking walk.new) result }
+    ensures runs { (w : Run) → w.pixels ≡ room.old.pixels → ComesIn S.sink w (X.outside port.old) assembly.old (walking walk.old) first → RunsAll S.sink w (X.outside port.new) assembly.new (walking walk.new) result }
 {
     let mut start = first;
     'segments: loop {
@@ -119,14 +170,25 @@ fn take_segments<S: BlockSink, X: Port>(
             Ok(None) => return Ok(()),
             Err(fault) => return Err(fault),
         };
+        match follow_found(walk, assembly, &start, room.pixels) {
+            Ok(()) => {}
+            Err(fault) => return Err(fault),
+        }
     }
 }
 
-// All blocks that are left are lost.
-fn lose_rest<S: BlockSink, X: Port>(walk: &mut Walk<S>, port: &mut X) -> Result<(), Failed>
+// All blocks that are left are lost. If the height isn't known, none is known to be left.
+fn lose_rest<S: BlockSink, X: Port>(
+    walk: &mut Walk<S>,
+    port: &mut X,
+    known: bool,
+) -> Result<(), Failed>
     requires standing { IsStanding S.sink (walking walk.old) }
-    ensures { PassesBlocks S.sink result missing (left_in (walking walk.old)) (X.outside port.old) (X.outside port.new) (walking walk.old) (walking walk.new) }
+    ensures { PassesBlocks S.sink result missing (left_in known (walking walk.old)) (X.outside port.old) (X.outside port.new) (walking walk.old) (walking walk.new) }
 {
+    if !known {
+        return Ok(());
+    }
     let left = walk.geometry.blocks() - passed(walk);
     lose_blocks(walk, port, left)
 }

@@ -35,6 +35,8 @@ impl BlockSink for NoPicture {
     fn lose<X: Port>(&mut self, _port: &mut X) -> Result<(), Failed> {
         Ok(())
     }
+
+    fn end_at(&mut self, _geometry: &Geometry) {}
 }
 
 /// Takes the packets of an APID as `decode_packets` does, and answers as it does, but gives no row: after all is read it gives a line

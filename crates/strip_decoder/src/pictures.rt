@@ -21,4 +21,8 @@ impl BlockSink for Picture {
     fn lose<X: Port>(&mut self, port: &mut X) -> Result<(), Failed> {
         lose_block(port, self)
     }
+
+    fn end_at(&mut self, geometry: &Geometry) {
+        Picture::end_at(self, geometry.rows);
+    }
 }

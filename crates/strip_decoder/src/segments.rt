@@ -1,16 +1,19 @@
 // The segments of an image, one after another.
 ghost use Rattle.std.specs.Prelude.{◌≡◌, ◌≤◌, ◌*◌, true, length, vec_len};
+ghost use Rattle.base_122.specs.Ranges.{IsGeometryInRange};
 ghost use Rattle.segment_defs.specs.Head.{IsHead};
+ghost use Rattle.stream_defs.specs.Begun.{placed};
 ghost use Rattle.packet_assembly.specs.Assembling.{Assembling};
 ghost use Rattle.strip_decoder.specs.Steps.{walking, IsStanding, HasRoom, PassesBlocks, AreBlocks};
 ghost use Rattle.strip_decoder.specs.Rooms.{IsRoom};
-ghost use Rattle.strip_decoder.specs.Runs.{Run, ComesTo, RunsReach, RunsSegment};
-ghost use Rattle.strip_decoder.specs.Segments.{FitsNext, IsAt, FindsNext, ReadsText, EndsText, ReachesSegment, TakesSegment, segment_values};
+ghost use Rattle.strip_decoder.specs.Runs.{Run, ComesIn, RunsReach, RunsSegment};
+ghost use Rattle.strip_decoder.specs.Segments.{FitsImage, FitsNext, IsAt, MayFollow, FollowsHead, MayFollowHeld, FollowsHeld, IsFound, FollowsFound, FindsNext, ReadsText, EndsText, ReachesSegment, TakesSegment, pixels_reached, segment_values};
 
 use crate::blocks::{lose_blocks, put_blocks};
 use crate::decode::DecodeFault;
 use crate::sink::BlockSink;
-use crate::walk::{SegmentRoom, Walk, passed};
+use crate::walk::{SegmentRoom, Walk, end_image, passed, placed};
+use base_122::{FieldRange, Geometry};
 use bit_pipe::InFault;
 use packet_assembly::{Assembly, SegmentStart};
 use port_122::{Failed, Port};
@@ -73,6 +76,76 @@ fn read_text<X: Port>(
     }
 }
 
+/// The least number of pixels of an image in which this segment is, or that of the image if its height is known.
+pub fn pixels_reached(geometry: &Geometry, start: &SegmentStart) -> u64
+    requires range { IsGeometryInRange geometry.now }
+    requires fits { FitsImage (placed geometry.now) start.now }
+    ensures { result ≡ pixels_reached geometry.now start.now }
+{
+    let width = u64::from(geometry.width);
+    if geometry.rows != 0 {
+        return width * u64::from(geometry.rows);
+    }
+    let ended = u64::from(start.ancillary.first) + u64::from(start.head.blocks);
+    let block_rows = ended.div_ceil(u64::from(geometry.padded_width() / 8));
+    width * FieldRange::ROWS.least.max(8 * block_rows - 7)
+}
+
+// Goes by the geometry of an image in which this segment was begun, unless that has too many pixels.
+fn follow_head<S: BlockSink>(
+    walk: &mut Walk<S>,
+    geometry: &Geometry,
+    start: &SegmentStart,
+    most: u64,
+) -> Result<(), DecodeFault>
+    requires standing { IsStanding S.sink (walking walk.old) }
+    requires follows { MayFollow geometry.now (walking walk.old) start.now }
+    ensures { FollowsHead S.sink most geometry.now start.now (walking walk.old) (walking walk.new) result }
+{
+    let pixels = pixels_reached(geometry, start);
+    if pixels > most {
+        return Err(DecodeFault::TooManyPixels { pixels });
+    }
+    end_image(walk, &placed(geometry));
+    Ok(())
+}
+
+/// Goes by the geometry of the image in which the segment that the assembly answered last was begun, unless that has too many pixels.
+pub fn follow_found<S: BlockSink>(
+    walk: &mut Walk<S>,
+    assembly: &Assembly,
+    start: &SegmentStart,
+    most: u64,
+) -> Result<(), DecodeFault>
+    requires standing { IsStanding S.sink (walking walk.old) }
+    requires found { IsFound assembly.now (walking walk.old) start.now }
+    ensures { FollowsFound S.sink most assembly.now start.now (walking walk.old) (walking walk.new) result }
+{
+    let Some(geometry) = assembly.geometry() else {
+        return Ok(());
+    };
+    follow_head(walk, &geometry, start, most)
+}
+
+// If the next segment was begun while the text of this one was read, goes by the geometry that is known since.
+fn follow_held<S: BlockSink>(
+    walk: &mut Walk<S>,
+    assembly: &Assembly,
+    most: u64,
+) -> Result<(), DecodeFault>
+    requires standing { IsStanding S.sink (walking walk.old) }
+    requires held { MayFollowHeld assembly.now (walking walk.old) }
+    ensures { FollowsHeld S.sink most assembly.now (walking walk.old) (walking walk.new) result }
+{
+    let Some(next) = assembly.held() else {
+        return Ok(());
+    };
+    let Some(geometry) = assembly.geometry() else {
+        return Ok(());
+    };
+    follow_head(walk, &geometry, &next, most)
+}
+
 // Passes the blocks of a segment, which are lost where its text wasn't accepted.
 fn pass_segment<S: BlockSink, X: Port>(
     walk: &mut Walk<S>,
@@ -102,13 +175,13 @@ pub fn reach_segment<S: BlockSink, X: Port>(
     requires standing { IsStanding S.sink (walking walk.old) }
     requires next { FitsNext (walking walk.old) start.now }
     ensures reaches { (a : Assembling) → IsAt a (walking walk.old) start.now → ReachesSegment S.sink (X.outside port.old) (X.outside port.new) a (walking walk.old) (walking walk.new) start.now result }
-    ensures runs { (w : Run) (a : Assembling) → IsAt a (walking walk.old) start.now → ComesTo S.sink w (X.outside port.old) a (walking walk.old) start.now → RunsReach S.sink w (X.outside port.new) a (walking walk.new) start.now result }
+    ensures runs { (w : Run) (a : Assembling) → IsAt a (walking walk.old) start.now → ComesIn S.sink w (X.outside port.old) a (walking walk.old) start.now → RunsReach S.sink w (X.outside port.new) a (walking walk.new) start.now result }
 {
     let lost = u64::from(start.ancillary.first) - passed(walk);
     lose_blocks(walk, port, lost)
 }
 
-/// Takes the segment that the assembly answered last: the blocks before it are lost, and its own where its text isn't accepted.
+/// Takes the segment that the assembly answered last: the blocks before it are lost, and its own if its text isn't accepted.
 pub fn take_segment<S: BlockSink, X: Port>(
     walk: &mut Walk<S>,
     port: &mut X,
@@ -121,20 +194,29 @@ pub fn take_segment<S: BlockSink, X: Port>(
     requires room { IsRoom walk.old.geometry (vec_len room.old.blocks) (vec_len room.old.marks) }
     ensures blocks { vec_len room.new.blocks ≡ vec_len room.old.blocks }
     ensures marks { vec_len room.new.marks ≡ vec_len room.old.marks }
+    ensures pixels { room.new.pixels ≡ room.old.pixels }
     ensures takes { TakesSegment S.sink (X.outside port.old) (X.outside port.new) assembly.old assembly.new (walking walk.old) (walking walk.new) result }
-    ensures runs { (w : Run) → ComesTo S.sink w (X.outside port.old) assembly.old (walking walk.old) start.now → RunsSegment S.sink w (X.outside port.new) assembly.new (walking walk.new) result }
+    ensures runs { (w : Run) → w.pixels ≡ room.old.pixels → ComesIn S.sink w (X.outside port.old) assembly.old (walking walk.old) start.now → RunsSegment S.sink w (X.outside port.new) assembly.new (walking walk.new) result }
 {
     let Ok(()) = reach_segment(walk, port, start) else {
         return Err(DecodeFault::WriteFault);
     };
-    let accepted = read_text(
+    let read = read_text(
         port,
         assembly,
         &room.reader,
         &start.head,
         &mut room.blocks,
         &mut room.marks,
-    )?;
+    );
+    let accepted = match read {
+        Ok(accepted) => accepted,
+        Err(fault) => return Err(fault),
+    };
+    match follow_held(walk, assembly, room.pixels) {
+        Ok(()) => {}
+        Err(fault) => return Err(fault),
+    }
     let Ok(()) = pass_segment(walk, port, &room.blocks, start.head.blocks, accepted) else {
         return Err(DecodeFault::WriteFault);
     };

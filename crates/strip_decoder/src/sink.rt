@@ -1,15 +1,15 @@
 // What takes the blocks of an image.
 ghost use Rattle.std.specs.Prelude.{None, Some, IfOk};
 ghost use Rattle.base_122.specs.Ranges.{IsGeometryInRange, IsWithin, rows_range};
-ghost use Rattle.strip_decoder.specs.Sinks.{SinkOf, Begins, IsNext, TakesBlock};
+ghost use Rattle.strip_decoder.specs.Sinks.{SinkOf, Begins, IsNext, TakesBlock, IsEndable, EndsImage};
 
 use base_122::Geometry;
 use port_122::{Failed, Port};
 use std::alloc::{AllocError, Global};
 
-/// A sink of the blocks of one image, which come in raster order: those of received segments, and the missing ones.
+/// A sink of the blocks of one image, which follow in raster order: those of received segments, and the missing ones.
 ///
-/// What it makes of them it may give to a port. A call answers `Failed` only where a write failed.
+/// What it makes of them it may write to a port. A call answers `Failed` only if a write failed.
 pub trait BlockSink {
     /// What is known of the blocks so far, and of what was given for them.
     ghost sink: { SinkOf Self };
@@ -29,4 +29,9 @@ pub trait BlockSink {
     fn lose<X: Port>(&mut self, port: &mut X) -> Result<(), Failed>
         requires { IsNext sink None self.old }
         ensures { TakesBlock sink result None (X.outside port.old) (X.outside port.new) self.old self.new };
+
+    /// The image has the height of this geometry, which is the geometry of before in all else. The next block is in it.
+    fn end_at(&mut self, geometry: &Geometry)
+        requires { IsEndable sink geometry.now self.old }
+        ensures { EndsImage sink geometry.now self.old self.new };
 }

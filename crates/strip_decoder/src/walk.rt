@@ -1,11 +1,13 @@
 // What a walk over segments holds.
 ghost use Rattle.std.specs.Prelude.{◌≡◌, ◌≤◌, ◌+◌, ◌*◌, IfOk, vec_len};
 ghost use Rattle.base_122.specs.Ranges.{IsGeometryInRange, IsWithin, rows_range};
-ghost use Rattle.strip_decoder.specs.Steps.{walking, passed_in, IsStanding, IsFresh};
+ghost use Rattle.stream_defs.specs.Begun.{placed};
+ghost use Rattle.strip_decoder.specs.Sinks.{MayEnd};
+ghost use Rattle.strip_decoder.specs.Steps.{walking, passed_in, IsStanding, IsFresh, HasGeometry};
 ghost use Rattle.strip_decoder.specs.Rooms.{IsRoom};
 
 use crate::sink::BlockSink;
-use base_122::Geometry;
+use base_122::{FieldRange, Geometry};
 use damage_rows::Damage;
 use segment_code::SegmentReader;
 use std::alloc::{AllocError, Global};
@@ -24,6 +26,17 @@ pub struct Walk<S> {
     pub at: BlockAt,
     pub damage: Damage,
     pub sink: S,
+}
+
+/// The geometry by which the blocks of an image are placed: that of the tallest image while the height isn't known.
+pub fn placed(geometry: &Geometry) -> Geometry
+    ensures { result ≡ placed geometry.now }
+{
+    let rows = match geometry.rows {
+        0 => FieldRange::ROWS.most as u32,
+        rows => rows,
+    };
+    Geometry { rows, ..*geometry }
 }
 
 /// A walk that begins. The one error is want of memory for the sink.
@@ -50,25 +63,41 @@ pub fn passed<S: BlockSink>(walk: &Walk<S>) -> u64
     u64::from(walk.at.row) * u64::from(columns) + u64::from(walk.at.column)
 }
 
-/// What the texts of segments are read with: the blocks of one segment, and a mark for each.
+/// The image has this geometry from now on, if its height became known.
+pub fn end_image<S: BlockSink>(walk: &mut Walk<S>, geometry: &Geometry)
+    requires standing { IsStanding S.sink (walking walk.old) }
+    requires ends { MayEnd walk.old.geometry geometry.now (passed_in (walking walk.old)) }
+    ensures { HasGeometry S.sink geometry.now (walking walk.old) (walking walk.new) }
+{
+    if geometry.rows == walk.geometry.rows {
+        return;
+    }
+    walk.sink.end_at(geometry);
+    walk.damage.end_at(geometry.rows);
+    walk.geometry = *geometry;
+}
+
+/// What the segments of an image are read with: the blocks of one segment, a state for each, and the most pixels that the image may have.
 /// It holds at most 65 samples for each block of a segment.
 #[derive(Drop)]
 pub struct SegmentRoom {
     pub reader: SegmentReader,
     pub blocks: Vec<i32>,
     pub marks: Vec<i32>,
+    pub pixels: u64,
 }
 
 impl SegmentRoom {
-    ghost use Rattle.std.specs.Prelude.{◌≤◌, ◌+◌, ◌*◌, IfOk, vec_len};
+    ghost use Rattle.std.specs.Prelude.{◌≡◌, ◌≤◌, ◌+◌, ◌*◌, IfOk, vec_len};
     ghost use Rattle.base_122.specs.Ranges.{IsGeometryInRange, IsWithin, rows_range};
     ghost use Rattle.strip_decoder.specs.Rooms.{IsRoom};
 
     /// Takes the memory for the segments of an image. The one error is want of memory.
-    pub fn new(alloc: Global, geometry: &Geometry) -> Result<SegmentRoom, AllocError>
+    pub fn new(alloc: Global, geometry: &Geometry, pixels: u64) -> Result<SegmentRoom, AllocError>
         requires range { IsGeometryInRange geometry.now }
         requires height { IsWithin rows_range geometry.now.rows }
-        ensures { IfOk result (λ room. IsRoom geometry.now (vec_len room.blocks) (vec_len room.marks)) }
+        ensures room { IfOk result (λ room. IsRoom geometry.now (vec_len room.blocks) (vec_len room.marks)) }
+        ensures pixels { IfOk result (λ room. room.pixels ≡ pixels) }
     {
         let count = geometry.blocks_of(0) as usize;
         let blocks = vec![in alloc; 0; 64 * count]?;
@@ -77,6 +106,7 @@ impl SegmentRoom {
             reader: SegmentReader::new(),
             blocks,
             marks,
+            pixels,
         })
     }
 }

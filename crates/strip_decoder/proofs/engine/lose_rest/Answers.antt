@@ -1,8 +1,12 @@
-use Rattle.std.proofs.Common.{arith}
+use Rattle.std.proofs.Common.{sym, subst}
+use Rattle.strip_decoder.specs.Steps.{walking, HasPassed, missing}
+use Rattle.strip_decoder.specs.Walks.{left_in}
+use Rattle.strip_decoder.proofs.BlockSteps.{none_passed}
 use Rattle.strip_decoder.proofs.engine.lose_rest.Goals as goal
 
-pub overflow_sub-left : goal.overflow_sub-left
-overflow_sub-left g c = let few = c.requires.standing.few in omega (arith, few, c.passed.ensures, c.blocks-2.ensures)
-
-pub lose_blocks-requires-clause-room : goal.lose_blocks-requires-clause-room
-lose_blocks-requires-clause-room g c = let few = c.requires.standing.few in omega (arith, few, c.passed.ensures, c.blocks-2.ensures)
+pub returns-then-not-known : goal.returns-then-not-known
+returns-then-not-known g c =
+    let k = g.S.BlockSink.sink in
+    let p = walking c.args.walk.now in
+    let now = g.X.Port.outside c.args.port.now in
+    subst (λ b. HasPassed k missing (left_in b p) now now p p) (sym c.if-not-known.true) (none_passed k missing p now c.requires.standing)

@@ -8,7 +8,7 @@ returns c =
     let holds = c.coded_holds.ensures in
     let exact = c.coded_holds_exactly.ensures in
     record {
-      whole = λ s x received is received_is. comes_whole short s x is received received_is holds;
-      same = λ s x received is sends received_is. comes_same short holds exact s x is received received_is sends;
-      decoded = λ wish start new took gave every done s x found told apid took_is is. decoded_back short holds exact wish start new took gave every done s x found told apid took_is is;
+      whole = λ s rows x received is received_is. comes_whole short s rows x is received received_is holds;
+      same = λ s rows x received is sends received_is. comes_same short holds exact s rows x is received received_is sends;
+      decoded = λ wish start new took gave every done s rows x found told apid took_is is. decoded_back short holds exact wish start new took gave every done s rows x found told apid took_is is;
     }
