@@ -10,12 +10,12 @@ use Rattle.std.specs.Vec.{with_items}
 use borrow.Rule.Slice.PartMut.{put_mid, post_of}
 use Rattle.bit_pipe.specs.declared.fault.InFault.TheVariants.{LongInput, ReadFault, Broken}
 use Rattle.bit_pipe.specs.declared.fault.InFault.{InFault}
-use Rattle.port_122.specs.Outside.{Outside, Since, AtEnd, ReadFailed}
+use Rattle.port_122.specs.Outside.{Outside, Since, ReadFailed}
 use Rattle.port_122.proofs.Stretches.{since_start, since_weaker}
 use Rattle.port_122.proofs.ReadCalls.{since_read, since_unread, unread_rose}
 use Rattle.packet_defs.specs.Tests.{when, first_of}
 use Rattle.packet_defs.specs.declared.packet.PacketRead.{PacketRead}
-use Rattle.space_packets.specs.PacketReads.{AsksUndecided, EndsPacket, ReadsPacket, Fed}
+use Rattle.space_packets.specs.PacketReads.{AsksUndecided, EndsPacket, ReadsPacket, TakenSoFar, Fed}
 use Rattle.packet_defs.specs.declared.packet.PacketRead.TheVariants.{Ended, Fault, Mine, Skipped}
 use Rattle.packet_defs.specs.declared.packet.Framing.TheVariants.{BadVersion, CutPacket}
 use Rattle.packet_defs.specs.declared.packet.Skip.{Skip}
@@ -181,17 +181,6 @@ text_waits xs start end k count within few =
     ∙ ap (drop k) (sym (take-take count (end - start) (drop start xs) (omega arith)))
 
 -- ---- up to an answer
-
--- The octets that were taken so far, and whether the end was seen; no read call was entered where they decided what comes.
-pub record TakenSoFar (p now : Outside) (v w : Intake) : Type 0 where
-  pub took : List ℕ
-  pub saw_end : Bool
-  pub since : Since p now took [] [] (AsksUndecided v took)
-  pub end_seen : saw_end ≡ true → AtEnd now
-  pub within : v.taken + length took ≤ v.cap
-  pub at_once : is_decided (fed v [] false) ≡ true → took ≡ []
-  pub end_below : saw_end ≡ true → v.taken + length took < v.cap
-  pub stands : w ≡ fed v took saw_end
 
 pub taken_nothing : (p : Outside) (v w : Intake) → v.taken ≤ v.cap → w ≡ fed v [] false → TakenSoFar p p v w
 taken_nothing p v w capped e = record {

@@ -28,6 +28,22 @@ pub record ReadsPacket (apid : ℕ) (old new : Outside) (v w : Intake) (result :
   pub end_below : saw_end ≡ true → v.taken + length took < v.cap
   pub ends : EndsPacket apid old new (fed v took saw_end) w result
 
+-- The octets that were taken until they, the end or the cap decide what is next: no more than the cap lets. No read call was entered
+-- where that was decided, so nothing was taken where it was at once, and the end was seen below the cap alone.
+pub record TakenSoFar (p now : Outside) (v w : Intake) : Type 0 where
+  pub took : List ℕ
+  pub saw_end : Bool
+  pub since : Since p now took [] [] (AsksUndecided v took)
+  pub end_seen : saw_end ≡ true → AtEnd now
+  pub within : v.taken + length took ≤ v.cap
+  pub at_once : is_decided (fed v [] false) ≡ true → took ≡ []
+  pub end_below : saw_end ≡ true → v.taken + length took < v.cap
+  pub stands : w ≡ fed v took saw_end
+
+-- what a call leaves that reads until it is decided what is next
+abbrev pub FillsUp : {T E : Type 0} → Result T E → (old new : Outside) → (v w : Intake) → Type 0
+FillsUp result old new v w = MatchResult result (λ _. TakenSoFar old new v w × (is_decided w ≡ true)) (λ _. (apid : ℕ) → ReadsPacket apid old new v w (Err ReadFault))
+
 -- what one read into a reader leaves: it asks for 1 to 4,096 octets
 pub record Fed (old new : Outside) (v w : Intake) : Type 0 where
   pub piece : List ℕ

@@ -13,4 +13,5 @@ pub use laws::{packetiser_serves_again, texts_go_whole};
 pub use packet_defs::{Ancillary, Framing, PacketHead, PacketRead, Skip};
 pub use packet_reader::PacketReader;
 pub use packetiser::Packetiser;
+pub use reading::skip_of;
 pub use sink::PacketSink;

@@ -49,7 +49,7 @@ impl Model for PacketReader {
 
 impl PacketReader {
     ghost use Rattle.space_packets.specs.Intake.{unread, is_decided, verdict, answered, fed};
-    ghost use Rattle.space_packets.specs.PacketReads.{ReadsPacket, FeedsOnce};
+    ghost use Rattle.space_packets.specs.PacketReads.{ReadsPacket, FillsUp, FeedsOnce};
     ghost use Rattle.packet_defs.specs.Reading.{packet_read};
     ghost use Rattle.packet_defs.specs.Streams.{begins_packet, first_packet};
 
@@ -87,13 +87,33 @@ impl PacketReader {
     pub fn next<X: Port>(&mut self, port: &mut X, apid: u16) -> Result<PacketRead, InFault>
         ensures { ReadsPacket apid (X.outside port.old) (X.outside port.new) self.old self.new result }
     {
+        let Ok(()) = self.fill(port) else {
+            return Err(InFault::ReadFault);
+        };
+        self.answer(apid)
+    }
+
+    /// Reads on until the octets that were taken, the end or the cap decide what is next, and nothing if they do already. The
+    /// text of the last packet is dropped.
+    pub fn fill<X: Port>(&mut self, port: &mut X) -> Result<(), Failed>
+        ensures { FillsUp result (X.outside port.old) (X.outside port.new) self.old self.new }
+    {
         self.forget_text();
         while !self.is_decided() {
             let Ok(()) = self.feed(port) else {
-                return Err(InFault::ReadFault);
+                return Err(Failed);
             };
         }
-        self.answer(apid)
+        Ok(())
+    }
+
+    /// Returns the octets of the next packet, which the octets that were taken hold.
+    pub fn octets(&self) -> &[u8]
+        requires { begins_packet self.now.pending ≡ true }
+        ensures { result.now ≡ first_packet self.now.pending }
+    {
+        let pending = self.pending();
+        &pending[..told_length(pending)]
     }
 
     /// Returns whether the octets that were taken hold the whole next packet. Then `next` returns it and reads nothing.
@@ -165,9 +185,9 @@ impl PacketReader {
         Ok(())
     }
 
-    // Returns what the octets that wait, the end or the cap have decided.
+    /// Returns what the octets that wait, the end or the cap have decided, read for an APID as `next` does. It reads nothing.
     #[tactic(auto, unfolding(crate::specs::Intake::is_decided, crate::specs::Intake::verdict, crate::specs::Intake::answered))]
-    fn answer(&mut self, apid: u16) -> Result<PacketRead, InFault>
+    pub fn answer(&mut self, apid: u16) -> Result<PacketRead, InFault>
         requires decided { is_decided self.old ≡ true }
         requires no_text { self.old.text ≡ [] }
         ensures answer { verdict apid self.old ≡ Some result }

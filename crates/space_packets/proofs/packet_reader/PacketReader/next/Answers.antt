@@ -1,16 +1,5 @@
-use Rattle.std.proofs.Common.{sym}
-use Rattle.space_packets.proofs.Intakes.{taken_nothing, taken_more, read_failed, taken_all}
+use Rattle.space_packets.proofs.Intakes.{taken_all}
 use Rattle.space_packets.proofs.packet_reader.PacketReader.next.Goals as goal
 
-pub loop-self-init : goal.loop-self-init
-loop-self-init g c = taken_nothing (g.X.Port.outside c.args.port.now) c.args.self.now c.forget_text.new.self c.forget_text.ensures.capped c.forget_text.ensures.stands
-
-pub loop-self-preserved : goal.loop-self-preserved
-loop-self-preserved g c = taken_more c.loop-self.invariant (sym c.loop-self-test.ensures.value) c.loop-self-test.ensures.going.0 c.loop-self-test.ensures.going.1 c.in-Ok.ensures
-
-pub returns-in_default : goal.returns-in_default
-returns-in_default g c =
-    read_failed c.args.apid c.loop-self.invariant (sym c.loop-self-test.ensures.value) c.loop-self-test.ensures.going.1 c.in_default.ensures.0 c.in_default.ensures.1
-
 pub returns : goal.returns
-returns g c = taken_all c.args.apid c.answer.result c.loop-self.invariant c.answer.ensures.answer c.answer.ensures.stands
+returns g c = taken_all c.args.apid c.answer.result c.in-Ok.ensures.0 c.answer.ensures.answer c.answer.ensures.stands

@@ -1,7 +1,7 @@
 use Rattle.std.proofs.Common.{◌+◌, ◌-◌}
 use Rattle.std.specs.Prelude.{if◌then◌else◌}
-use Rattle.space_packets.proofs.Intakes.{TakenSoFar}
-use Rattle.space_packets.proofs.packet_reader.PacketReader.next.Given as goal
+use Rattle.space_packets.specs.PacketReads.{TakenSoFar}
+use Rattle.space_packets.proofs.packet_reader.PacketReader.fill.Given as goal
 
 abbrev pub invariant-loop-self : goal.invariant-loop-self
 invariant-loop-self g l = TakenSoFar (g.X.Port.outside l.fn.port) (g.X.Port.outside l.port) l.fn.self l.self
