@@ -1,9 +1,9 @@
 -- What the values make is in range.
 use Rattle.std.proofs.Common.{◌≡◌, ◌*◌, List, [], ◌∷◌, refl, arith, true, false}
-use Rattle.std.specs.Prelude.{Option, Some, None, Result, Ok, IfOk, Bool, not, cond, find, nat_le, ◌==◌}
+use Rattle.std.specs.Prelude.{Option, Some, None, Result, Ok, IfOk, Bool, not, cond, find, nat_le, ◌==◌, ◌||◌}
 use Rattle.std.proofs.lemmas.Bool.{and_parts, or_right}
 use Rattle.std.proofs.lemmas.Bool.Decides.{nat_tests}
-use Rattle.base_122.specs.Ranges.{width_range, rows_range, depth_range, apid_range, pixels_range, octets_range, IsWithin, is_within, field_test, fields, IsInRange as IsSettingInRange, IsWishInRange}
+use Rattle.base_122.specs.Ranges.{rows_range, apid_range, pixels_range, octets_range, IsWithin, is_within, field_test, fields, IsInRange as IsSettingInRange, IsWishInRange}
 use Rattle.base_122.specs.declared.field.Field.{Field}
 use Rattle.base_122.specs.declared.field.Field.TheVariants as field
 use Rattle.base_122.proofs.RangeChecks.{within, in_range-from_none}
@@ -14,8 +14,8 @@ use Rattle.command_words.specs.declared.tables.Key.TheVariants as key
 use Rattle.command_words.specs.declared.command.Command.{Command}
 use Rattle.command_words.specs.declared.command.WordFault.{WordFault}
 use Rattle.command_words.specs.declared.command.WordFault.TheVariants.{MissingKey, OutOfRange}
-use Rattle.command_words.specs.Tables.{command_of, row_of, Finds, setting_of, wish_of, made_image_of, number_at}
-use Rattle.command_words.specs.Commands.{is_small, passes, after, first_missing, first_refused, field_of, made, IsMadeInRange, IsInRange}
+use Rattle.command_words.specs.Tables.{command_of, row_of, Finds, setting_of, wish_of, number_at}
+use Rattle.command_words.specs.Commands.{is_small, leaves_rows_open, passes, after, first_missing, first_refused, field_of, made, IsInRange}
 
 -- the first key passes, and so do those after it
 passed : (b : Bool) (key : Key) (field : Field) (rest : Option Key) → (row_of key).field ≡ Some field →
@@ -37,13 +37,23 @@ unfolding AllPass
 none_fails p [] all = refl
 none_fails p (field ∷ fields) all = skipped (p field) field (find (λ field. not (p field)) fields) all.0 (none_fails p fields all.1)
 
--- All that is made of values in range.
+-- All that is made of values in range. The rows are those of an image, if the command doesn't leave them open.
 record AllInRange (task : Task) (finds : Finds) : Type 0 where
   setting : IsSettingInRange (setting_of finds)
-  rows : IsWithin rows_range (setting_of finds).rows
+  rows : leaves_rows_open task finds ≡ false → IsWithin rows_range (setting_of finds).rows
   wish : IsWishInRange (wish_of finds)
-  made_image : IsMadeInRange (made_image_of finds)
   small : is_small task finds ≡ true
+
+-- only `encode` may leave the rows open, and only by rows 0
+open_is_zero : (task : Task) (finds : Finds) (b : Bool) → leaves_rows_open task finds || b ≡ true → (number_at finds key.Rows == 0) || b ≡ true
+open_is_zero Encode finds b h = h
+open_is_zero (Read reading) finds b h = or_right (number_at finds key.Rows == 0) b h
+open_is_zero Make finds b h = or_right (number_at finds key.Rows == 0) b h
+open_is_zero Trial finds b h = or_right (number_at finds key.Rows == 0) b h
+
+closed_rows : (leaves b : Bool) → leaves || b ≡ true → leaves ≡ false → b ≡ true
+closed_rows true b h e = absurd (cc)
+closed_rows false b h e = h
 
 all_in_range : (task : Task) (finds : Finds) → field_of (first_refused task finds) ≡ None → AllInRange task finds
 unfolding AllPass
@@ -65,32 +75,29 @@ all_in_range task finds e =
     let x = passed (passes task finds key.Pixels) key.Pixels field.Pixels _ refl k.1 in
     let y = passed (passes task finds key.Octets) key.Octets field.Octets _ refl x.1 in
     let t = passed (passes task finds key.Total) key.Total field.Total _ refl y.1 in
-    let rows = and_parts (is_within rows_range s.rows) (is_small task finds) r.0 in
+    let rows = and_parts (leaves_rows_open task finds || is_within rows_range s.rows) (is_small task finds) r.0 in
     record {
-      setting = in_range-from_none s (none_fails (field_test s) fields (w.0, (or_right (s.rows == 0) _ rows.0, (d.0, (g.0, (l.0, (f.0, (o.0, (p.0, (h.0, (a.0, (i.0, (k.0, (t.0, tt))))))))))))));
-      rows = (within rows_range s.rows).0 rows.0;
+      setting = in_range-from_none s (none_fails (field_test s) fields (w.0, (open_is_zero task finds _ rows.0, (d.0, (g.0, (l.0, (f.0, (o.0, (p.0, (h.0, (a.0, (i.0, (k.0, (t.0, tt))))))))))))));
+      rows = λ closed. (within rows_range s.rows).0 (closed_rows (leaves_rows_open task finds) _ rows.0 closed);
       wish = record {
         apid = (within apid_range wish.apid).0 a.0;
         pixels = (within pixels_range wish.pixels).0 x.0;
         octets = (within octets_range wish.octets).0 y.0;
-      };
-      made_image = record {
-        width = (within width_range s.width).0 w.0;
-        rows = (within rows_range s.rows).0 rows.0;
-        depth = (within depth_range s.depth).0 d.0;
       };
       small = rows.1;
     }
 
 -- no key that is tested is out of range
 pub command_in_range : (task : Task) (finds : Finds) → field_of (first_refused task finds) ≡ None → IsInRange (command_of task finds)
-command_in_range Encode finds e = let all = all_in_range Encode finds e in (all.setting, all.rows)
+command_in_range Encode finds e = (all_in_range Encode finds e).setting
 command_in_range (Read reading) finds e = (all_in_range (Read reading) finds e).wish
-command_in_range Make finds e = (all_in_range Make finds e).made_image
+command_in_range Make finds e =
+    let all = all_in_range Make finds e in
+    record { width = all.setting.width; rows = all.rows refl; depth = all.setting.depth }
 command_in_range Trial finds e =
     let all = all_in_range Trial finds e in
     let small : nat_le (number_at finds key.Width * number_at finds key.Rows) 16777216 ≡ true = all.small in
-    (all.setting, all.rows, grind (arith, nat_tests, small))
+    (all.setting, all.rows refl, grind (arith, nat_tests, small))
 
 ok_after : (fault : Field → WordFault) (first : Option Field) (result : Result Command WordFault) → (first ≡ None → IfOk result IsInRange) → IfOk (after fault first result) IsInRange
 ok_after fault None result ok = ok refl

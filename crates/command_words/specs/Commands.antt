@@ -1,12 +1,12 @@
 -- What the values make: a command, or the first thing that is wrong with them. This project's own.
-use Rattle.std.specs.Prelude.{◌≤◌, ◌*◌, ◌&&◌, ◌||◌, ◌==◌, nat_le, Bool, true, not, List, find, is_some, option_and_then, Option, Some, None, Result, Ok, Err}
+use Rattle.std.specs.Prelude.{◌≤◌, ◌*◌, ◌&&◌, ◌||◌, ◌==◌, nat_le, Bool, true, false, not, List, find, is_some, option_and_then, Option, Some, None, Result, Ok, Err}
 use Rattle.std.specs.List.{list_all}
 use Rattle.base_122.specs.Weights.{is_shift}
 use Rattle.base_122.specs.Ranges.{IsWithin, is_within, width_range, rows_range, depth_range, plane_range, stage_range, limit_test, total_test, IsInRange as IsSettingInRange, IsWishInRange}
 use Rattle.base_122.specs.declared.field.Field.{Field}
 use Rattle.raster_rows.specs.declared.made.MadeImage.{MadeImage}
 use Rattle.command_words.specs.declared.tables.Task.{Task}
-use Rattle.command_words.specs.declared.tables.Task.TheVariants.{Trial as to_try}
+use Rattle.command_words.specs.declared.tables.Task.TheVariants.{Encode as to_encode, Trial as to_try}
 use Rattle.command_words.specs.declared.tables.Key.{Key}
 use Rattle.command_words.specs.declared.tables.Key.TheVariants.{Width, Rows, Limit, Word, Total}
 use Rattle.command_words.specs.declared.tables.Range.{Range}
@@ -24,12 +24,17 @@ abbrev pub is_small : Task → Finds → Bool
 is_small to_try finds = nat_le (number_at finds Width * number_at finds Rows) 16777216
 is_small task finds = true
 
+-- an image whose height is reported last, by rows 0: only `encode` has one
+abbrev pub leaves_rows_open : Task → Finds → Bool
+leaves_rows_open to_encode finds = number_at finds Rows == 0
+leaves_rows_open task finds = false
+
 -- a key's value passes the test of its range
 abbrev pub range_test : Range → Task → Finds → Key → Bool
 range_test any_value task finds key = true
 range_test (number_range range) task finds key = is_within range (number_at finds key)
 range_test (cap_range range) task finds key = is_within range (cap_of (value_at finds key))
-range_test (few_rows range) task finds key = is_within range (number_at finds key) && is_small task finds
+range_test (few_rows range) task finds key = (leaves_rows_open task finds || is_within range (number_at finds key)) && is_small task finds
 range_test limit_range task finds key = limit_test (number_at finds key) (number_at finds Word)
 range_test total_range task finds key = total_test (setting_of finds)
 range_test fill_range task finds key = not (flag_of (value_at finds key)) || (not (number_at finds Limit == 0) || not (cap_of (value_at finds Total) == 0))
@@ -68,9 +73,9 @@ pub record IsMadeInRange (made : MadeImage) : Type 0 where
   pub rows : IsWithin rows_range made.rows
   pub depth : IsWithin depth_range made.depth
 
--- The command's fields are in range. The rows of a setting are never 0: no command has an image whose height is reported last.
+-- The command's fields are in range. Only the rows of `encode` may be 0, for an image whose height is reported last.
 abbrev pub IsInRange : Command → Type 0
-IsInRange (Encode setting) = IsSettingInRange setting × IsWithin rows_range setting.rows
+IsInRange (Encode setting) = IsSettingInRange setting
 IsInRange (Read reading wish) = IsWishInRange wish
 IsInRange (Make made) = IsMadeInRange made
 IsInRange (Trial setting seed) = IsSettingInRange setting × IsWithin rows_range setting.rows × (setting.width * setting.rows ≤ 16777216)

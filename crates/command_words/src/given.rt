@@ -22,7 +22,7 @@ impl Given {
     ghost use Rattle.command_words.specs.Tables.{value_at, number_at, setting_of, wish_of, made_image_of};
     ghost use Rattle.command_words.specs.Entries.{nothing, with_entry};
     ghost use Rattle.command_words.specs.Values.{cap_of, flag_of, stop_of, weights_of, select_of};
-    ghost use Rattle.command_words.specs.Commands.{passes, range_test, is_missing, is_small, IsMadeInRange};
+    ghost use Rattle.command_words.specs.Commands.{passes, range_test, is_missing, is_small, leaves_rows_open, IsMadeInRange};
     ghost use Rattle.command_words.specs.Given.{finds_of};
 
     /// No key yet.
@@ -147,6 +147,16 @@ impl Given {
         }
     }
 
+    // Whether the rows are 0, and the command has an image whose height is reported last.
+    fn leaves_rows_open(&self, task: Task) -> bool
+        ensures { result ≡ leaves_rows_open task (finds_of self.now) }
+    {
+        match task {
+            Task::Encode => self.number(Key::Rows) == 0,
+            _ => false,
+        }
+    }
+
     // Whether there is no bound on all texts together, or it is in its range for the number of segments, and there is no limit.
     // If a segment has no blocks, the bound needn't be in its range, so that `segment` is named.
     fn keeps_total_range(&self) -> bool
@@ -174,7 +184,8 @@ impl Given {
             Range::Number(range) => range.contains(u64::from(self.number(key))),
             Range::Cap(range) => range.contains(self.cap(key)),
             Range::Rows(range) => {
-                range.contains(u64::from(self.number(key))) && self.is_small(task)
+                (self.leaves_rows_open(task) || range.contains(u64::from(self.number(key))))
+                    && self.is_small(task)
             }
             Range::Limit => is_limit_in_range(
                 u64::from(self.number(key)),

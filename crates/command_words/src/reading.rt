@@ -67,8 +67,8 @@ fn make_command(task: Task, keys: &[Key], given: &Given) -> Result<Command, Word
 /// The first word is the command, and each further one `key=value`. A key that isn't there has its default. Where
 /// the words make no command the answer is the first thing that is wrong with them: the words are tested from left
 /// to right, then for a required key that is missing, then for the command's first field out of range in the order of
-/// `Field`. A command that is answered has its fields in range, and a setting has 17 to 262,144 rows: `rows=0` is out of
-/// range for every command.
+/// `Field`. A command that is answered has its fields in range. The rows of `encode` are 0, for an image whose height is
+/// reported last, or 17 to 262,144 (docs/formats.md, "Bounds"); `rows=0` is out of range for `trial` and `make`.
 pub fn read_words(words: &[String]) -> Result<Command, WordFault>
     ensures says { Says (texts words.now) result }
     ensures only { (said : Result Command WordFault) → Says (texts words.now) said → said ≡ result }

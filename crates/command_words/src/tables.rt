@@ -66,7 +66,7 @@ pub enum Range {
     All,
     Number(FieldRange),
     Cap(FieldRange),
-    /// The rows of an image, which a trial must also have few enough of for its width.
+    /// The rows of an image: 0 is in range for `encode` alone, and a trial must have few enough of them for its width.
     Rows(FieldRange),
     /// A limit: 0, or a multiple of the word in its range.
     Limit,

@@ -244,16 +244,24 @@ fn a_total_out_of_range_is_named_last(rt: HostRuntime) -> Result<(), Fail> {
 }
 
 #[test]
-fn no_command_leaves_the_rows_open(rt: HostRuntime) -> Result<(), Fail> {
-    for text in [
-        "encode width=17 rows=0 depth=17",
-        "encode width=17 rows=0 total=400",
-        "trial width=17 rows=0",
-        "make width=17 rows=0",
+fn only_encode_leaves_the_rows_open(rt: HostRuntime) -> Result<(), Fail> {
+    let setting = Setting {
+        depth: 12,
+        ..Setting::usual(17, 0)
+    };
+    let text = "encode width=17 rows=0 depth=12";
+    assert_eq!(rt; said(&rt, text)?, Ok(Command::Encode(setting)));
+    for (text, field) in [
+        ("encode width=17 rows=0 depth=17", Field::Depth),
+        ("encode width=17 rows=0 total=400", Field::Total),
+        ("encode width=17 rows=16", Field::Rows),
+        ("encode width=17 rows=262145", Field::Rows),
+        ("trial width=17 rows=0", Field::Rows),
+        ("make width=17 rows=0", Field::Rows),
     ] {
         assert_eq!(rt;
             said(&rt, text)?,
-            Err(WordFault::OutOfRange(Field::Rows)),
+            Err(WordFault::OutOfRange(field)),
             "{text}"
         );
     }

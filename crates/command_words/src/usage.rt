@@ -79,7 +79,12 @@ fn push_spaces(text: &mut String, start: usize, column: usize) -> Result<(), All
 fn push_range(text: &mut String, row: KeyRow) -> Result<(), AllocError> {
     match row.range {
         Range::All => push_form(text, row.default.form()),
-        Range::Number(range) | Range::Cap(range) | Range::Rows(range) => push_numbers(text, range),
+        Range::Number(range) | Range::Cap(range) => push_numbers(text, range),
+        Range::Rows(range) => {
+            text.push_str("0|")?;
+            push_numbers(text, range)?;
+            text.push_str(", 0 for encode")
+        }
         Range::Limit => {
             text.push_str("0|")?;
             push_numbers(text, FieldRange::LIMIT)?;

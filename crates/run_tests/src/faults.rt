@@ -93,6 +93,18 @@ fn encoding_and_decoding(rt: HostRuntime) -> Result<(), Fail> {
     for piece in [1, 7, WHOLE] {
         fail_each(&rt, "encode width=17 rows=17", &[0; 289], piece)?;
         fail_each(&rt, "decode", &black, piece)?;
+        fail_each(&rt, "encode width=17 rows=0", &[0; 289], piece)?;
+    }
+    Ok(())
+}
+
+#[test]
+fn decoding_without_the_last_segment(rt: HostRuntime) -> Result<(), Fail> {
+    let given = done(&rt, "encode width=64 rows=0 segment=16", &[0; 3072])?;
+    assert_eq!(rt; given.len(), 154);
+    for piece in [7, WHOLE] {
+        fail_each(&rt, "decode", part(&given, 0, 102), piece)?;
+        fail_each(&rt, "damage", part(&given, 0, 102), piece)?;
     }
     Ok(())
 }

@@ -6,6 +6,8 @@ mod endless;
 #[cfg(test)]
 mod faults;
 #[cfg(test)]
+mod heights;
+#[cfg(test)]
 mod packets;
 #[cfg(test)]
 mod runs;

@@ -266,9 +266,7 @@ fn a_total_is_shared(rt: HostRuntime) -> Result<(), Fail> {
     expect_shares(&rt, &given);
     expect(&rt, "decode", &given, 0, &[0; 8192], "")?;
     let words = "encode width=64 rows=128 segment=16 total=287";
-    expect(&rt, words, &[], 2, &[], "strip122: out of range: total\n")?;
-    let words = "encode width=64 rows=0 segment=16";
-    expect(&rt, words, &[], 2, &[], "strip122: out of range: rows\n")
+    expect(&rt, words, &[], 2, &[], "strip122: out of range: total\n")
 }
 
 #[test]

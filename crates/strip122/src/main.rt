@@ -38,7 +38,8 @@ usage: strip122 COMMAND [KEY=VALUE ..]
 // The usage text between the commands and the keys.
 const RASTERS: &str = "
 A raster has its rows from the top. A pixel has one octet if depth is at most 8,
-else two, the higher first. A trial has at most 2^24 pixels.
+else two, the higher first. With rows=0, encode takes rows until the input ends.
+A trial has at most 2^24 pixels.
 
 Each key is given at most once. Its default is in parentheses, and after it are
 the commands that have the key.
@@ -47,8 +48,9 @@ the commands that have the key.
 
 // The usage text after the keys.
 const STATUSES: &str = "
-status  0 done, 1 rows are damaged or the packets can't be read on, 2 bad words,
-        3 bad input, 4 read fault, 5 write fault, 6 no memory
+status  0 done, 1 rows are damaged, the height is unknown or the packets can't
+        be read on, 2 bad words, 3 bad input, 4 read fault, 5 write fault,
+        6 no memory
 ";
 
 const VERSION: &str = "strip122 0.1.0 (CCSDS 122.0-B-2 in CCSDS 133.0-B-2 packets)\n";

@@ -15,14 +15,15 @@ make    a made raster out; it reads no input
 trial   encodes and decodes a made image in memory; one line out with the counts
 
 A raster has its rows from the top. A pixel has one octet if depth is at most 8,
-else two, the higher first. A trial has at most 2^24 pixels.
+else two, the higher first. With rows=0, encode takes rows until the input ends.
+A trial has at most 2^24 pixels.
 
 Each key is given at most once. Its default is in parentheses, and after it are
 the commands that have the key.
 
 what
   width=17..1048575 (required)                  encode make trial
-  rows=17..262144 (required)                    encode make trial
+  rows=0|17..262144, 0 for encode (required)    encode make trial
   depth=1..16 (8)                               encode make trial
   signed=0|1 (0)                                encode make trial
   seed=0..4294967295 (0)                        make trial
@@ -43,8 +44,9 @@ reading
   pixels=0..1099511627776 (4294967296)          decode damage
   octets=1..1099511627776 (1099511627776)       decode damage list
 
-status  0 done, 1 rows are damaged or the packets can't be read on, 2 bad words,
-        3 bad input, 4 read fault, 5 write fault, 6 no memory
+status  0 done, 1 rows are damaged, the height is unknown or the packets can't
+        be read on, 2 bad words, 3 bad input, 4 read fault, 5 write fault,
+        6 no memory
 ";
 
 // What the program answers to the words of a text, with a space between each two.

@@ -1,6 +1,6 @@
 -- The note on damaged rows, range by range.
 use Rattle.std.proofs.Common.{◌≡◌, ◌≤◌, ◌+◌, ℕ, List, [], ◌∷◌, ◌++◌, length, take, sym, ◌∙◌, ap, subst, arith, length-append, append_assoc}
-use Rattle.std.specs.Prelude.{Option, None, Some, Result, Ok, Err, IsErr, codes}
+use Rattle.std.specs.Prelude.{Bool, true, Option, None, Some, Result, Ok, Err, IsErr, codes}
 use Rattle.std.specs.List.{flat_map}
 use Rattle.std.proofs.lemmas.Bool.{false≢true}
 use Rattle.std.proofs.lemmas.Grind.{flat_map-append}
@@ -14,7 +14,7 @@ use Rattle.packet_defs.specs.declared.packet.Framing.{Framing}
 use Rattle.damage_rows.proofs.RangeWalk.{Walk, walk_start, stands_next, walk_on, walk_ends}
 use Rattle.top_122.specs.Notes.{Notes}
 use Rattle.top_122.proofs.NoteLines.{notes_then, notes_failed, notes_as}
-use Rattle.top_122.specs.DamageNotes.{damaged, range_text, ranges_text, framing_text, damage_line}
+use Rattle.top_122.specs.DamageNotes.{damaged, range_text, ranges_text, rest_text, damage_line}
 
 -- the ranges before a row are noted
 pub record AreNoted (m : Marks) (old now : Outside) (from : ℕ) : Type 0 where
@@ -82,36 +82,36 @@ some_there m range found =
 abbrev pub NotesPart : Outside → Outside → List ℕ → Type 0
 NotesPart p q octets = Rose p.note_faults q.note_faults × ((n : ℕ) × (n ≤ length octets) × Since p q [] [] (take n octets) NoRead)
 
-in_parts : (rs : List RowRange) (f : Option Framing) → damage_line rs f ≡ codes "strip122: damaged rows" ++ (ranges_text rs ++ (framing_text f ++ codes "\n"))
-in_parts rs f =
-    append_assoc (codes "strip122: damaged rows" ++ ranges_text rs) (framing_text f) (codes "\n")
-    ∙ append_assoc (codes "strip122: damaged rows") (ranges_text rs) (framing_text f ++ codes "\n")
+in_parts : (rs : List RowRange) (k : Bool) (f : Option Framing) → damage_line rs k f ≡ codes "strip122: damaged rows" ++ (ranges_text rs ++ (rest_text k f ++ codes "\n"))
+in_parts rs k f =
+    append_assoc (codes "strip122: damaged rows" ++ ranges_text rs) (rest_text k f) (codes "\n")
+    ∙ append_assoc (codes "strip122: damaged rows") (ranges_text rs) (rest_text k f ++ codes "\n")
 
-pub line_begun : (p q : Outside) (head : List ℕ) (rs : List RowRange) (f : Option Framing) → head ≡ codes "strip122: damaged rows" → NotesPart p q head → Notes p q (damage_line rs f)
-line_begun p q head rs f is failed =
-    notes_as (damage_line rs f) (notes_failed p q head (ranges_text rs ++ (framing_text f ++ codes "\n")) failed)
-    (ap (λ zs. zs ++ (ranges_text rs ++ (framing_text f ++ codes "\n"))) is ∙ sym (in_parts rs f))
+pub line_begun : (p q : Outside) (head : List ℕ) (rs : List RowRange) (k : Bool) (f : Option Framing) → head ≡ codes "strip122: damaged rows" → NotesPart p q head → Notes p q (damage_line rs k f)
+line_begun p q head rs k f is failed =
+    notes_as (damage_line rs k f) (notes_failed p q head (ranges_text rs ++ (rest_text k f ++ codes "\n")) failed)
+    (ap (λ zs. zs ++ (ranges_text rs ++ (rest_text k f ++ codes "\n"))) is ∙ sym (in_parts rs k f))
 
-pub line_cut : (p q r : Outside) (head : List ℕ) (rs : List RowRange) (f : Option Framing) → head ≡ codes "strip122: damaged rows" → Since p q [] [] head NoRead →
-    NotesPart q r (ranges_text rs) → Notes p r (damage_line rs f)
-line_cut p q r head rs f is since failed =
-    notes_as (damage_line rs f) (notes_then p q r head (ranges_text rs ++ (framing_text f ++ codes "\n")) since (notes_failed q r (ranges_text rs) (framing_text f ++ codes "\n") failed))
-    (ap (λ zs. zs ++ (ranges_text rs ++ (framing_text f ++ codes "\n"))) is ∙ sym (in_parts rs f))
+pub line_cut : (p q r : Outside) (head : List ℕ) (rs : List RowRange) (k : Bool) (f : Option Framing) → head ≡ codes "strip122: damaged rows" → Since p q [] [] head NoRead →
+    NotesPart q r (ranges_text rs) → Notes p r (damage_line rs k f)
+line_cut p q r head rs k f is since failed =
+    notes_as (damage_line rs k f) (notes_then p q r head (ranges_text rs ++ (rest_text k f ++ codes "\n")) since (notes_failed q r (ranges_text rs) (rest_text k f ++ codes "\n") failed))
+    (ap (λ zs. zs ++ (ranges_text rs ++ (rest_text k f ++ codes "\n"))) is ∙ sym (in_parts rs k f))
 
-pub line_whole : (p q r s : Outside) (head : List ℕ) (rs : List RowRange) (f : Option Framing) → head ≡ codes "strip122: damaged rows" → Since p q [] [] head NoRead →
-    Since q r [] [] (ranges_text rs) NoRead → Notes r s (framing_text f ++ codes "\n") → Notes p s (damage_line rs f)
-line_whole p q r s head rs f is since ranges ending =
-    notes_as (damage_line rs f) (notes_then p q s head (ranges_text rs ++ (framing_text f ++ codes "\n")) since (notes_then q r s (ranges_text rs) (framing_text f ++ codes "\n") ranges ending))
-    (ap (λ zs. zs ++ (ranges_text rs ++ (framing_text f ++ codes "\n"))) is ∙ sym (in_parts rs f))
+pub line_whole : (p q r s : Outside) (head : List ℕ) (rs : List RowRange) (k : Bool) (f : Option Framing) → head ≡ codes "strip122: damaged rows" → Since p q [] [] head NoRead →
+    Since q r [] [] (ranges_text rs) NoRead → Notes r s (rest_text k f ++ codes "\n") → Notes p s (damage_line rs k f)
+line_whole p q r s head rs k f is since ranges ending =
+    notes_as (damage_line rs k f) (notes_then p q s head (ranges_text rs ++ (rest_text k f ++ codes "\n")) since (notes_then q r s (ranges_text rs) (rest_text k f ++ codes "\n") ranges ending))
+    (ap (λ zs. zs ++ (ranges_text rs ++ (rest_text k f ++ codes "\n"))) is ∙ sym (in_parts rs k f))
 
-none_in_parts : (f : Option Framing) → damage_line [] f ≡ codes "strip122: damaged rows none" ++ (framing_text f ++ codes "\n")
-none_in_parts f = append_assoc (codes "strip122: damaged rows none") (framing_text f) (codes "\n")
+none_in_parts : (f : Option Framing) → damage_line [] true f ≡ codes "strip122: damaged rows none" ++ (rest_text true f ++ codes "\n")
+none_in_parts f = append_assoc (codes "strip122: damaged rows none") (rest_text true f) (codes "\n")
 
-pub none_line_begun : (p q : Outside) (head : List ℕ) (f : Option Framing) → head ≡ codes "strip122: damaged rows none" → NotesPart p q head → Notes p q (damage_line [] f)
+pub none_line_begun : (p q : Outside) (head : List ℕ) (f : Option Framing) → head ≡ codes "strip122: damaged rows none" → NotesPart p q head → Notes p q (damage_line [] true f)
 none_line_begun p q head f is failed =
-    notes_as (damage_line [] f) (notes_failed p q head (framing_text f ++ codes "\n") failed) (ap (λ zs. zs ++ (framing_text f ++ codes "\n")) is ∙ sym (none_in_parts f))
+    notes_as (damage_line [] true f) (notes_failed p q head (rest_text true f ++ codes "\n") failed) (ap (λ zs. zs ++ (rest_text true f ++ codes "\n")) is ∙ sym (none_in_parts f))
 
 pub none_line_whole : (p q r : Outside) (head : List ℕ) (f : Option Framing) → head ≡ codes "strip122: damaged rows none" → Since p q [] [] head NoRead →
-    Notes q r (framing_text f ++ codes "\n") → Notes p r (damage_line [] f)
+    Notes q r (rest_text true f ++ codes "\n") → Notes p r (damage_line [] true f)
 none_line_whole p q r head f is since ending =
-    notes_as (damage_line [] f) (notes_then p q r head (framing_text f ++ codes "\n") since ending) (ap (λ zs. zs ++ (framing_text f ++ codes "\n")) is ∙ sym (none_in_parts f))
+    notes_as (damage_line [] true f) (notes_then p q r head (rest_text true f ++ codes "\n") since ending) (ap (λ zs. zs ++ (rest_text true f ++ codes "\n")) is ∙ sym (none_in_parts f))

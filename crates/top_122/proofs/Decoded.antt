@@ -1,6 +1,6 @@
 -- What a run of `decode`, `damage` and `list` leaves after its note, and what follows for each status.
 use Rattle.std.proofs.Common.{◌≡◌, ◌≤◌, ◌<◌, ◌*◌, ℕ, List, [], ◌∷◌, length, refl, sym, ◌∙◌, ap, subst, arith, inl, inr, true, false}
-use Rattle.std.specs.Prelude.{◌⊎◌, ◌==◌, Bool, Option, None, Some, Result, Ok, Err, filter, All}
+use Rattle.std.specs.Prelude.{◌≢◌, ◌⊎◌, ◌==◌, Bool, not, Option, None, Some, Result, Ok, Err, filter, All}
 use Rattle.std.specs.List.{range_with_len}
 use Rattle.std.proofs.lemmas.Bool.{false≢true, eq-eqb}
 use Rattle.std.proofs.lemmas.List.Elements.{All-filter, All-get_or, All-from_get_or}
@@ -13,10 +13,12 @@ use Rattle.base_122.specs.declared.wish.DecodeWish.{DecodeWish}
 use Rattle.packet_defs.specs.Streams.{left_over, has_bad_version}
 use Rattle.packet_defs.specs.declared.packet.Framing.{Framing}
 use Rattle.stream_defs.specs.declared.range.RowRange.{RowRange}
-use Rattle.stream_defs.specs.Damage.{is_covered, is_damaged, whole_missing, is_missing as is_missing_of, missing_below}
+use Rattle.stream_defs.specs.Damage.{is_covered, is_damaged, is_missing as is_missing_of, missing_below}
+use Rattle.stream_defs.specs.Begun.{HasFewPixels, begun_in, height}
 use Rattle.stream_defs.specs.Fates.{geometry_in}
 use Rattle.stream_defs.specs.Marks.{Marks}
 use Rattle.stream_defs.proofs.DamageLaws.{whole_damage}
+use Rattle.stream_defs.proofs.PlacedLaws.{is_open, is_not_open}
 use Rattle.damage_rows.specs.Table.{is_missing}
 use Rattle.damage_rows.proofs.RangeLaws.{damaged_by}
 use Rattle.strip_decoder.specs.declared.decode.DecodeDone.{DecodeDone}
@@ -25,8 +27,9 @@ use Rattle.strip_decoder.specs.declared.decode.DecodeFault.TheVariants.{ReadFaul
 use Rattle.packet_assembly.specs.Readings.{IsReadOut}
 use Rattle.strip_decoder.specs.Answers.{PictureBy, Answers, Decodes as DecodesOver}
 use Rattle.strip_decoder.specs.Finding.{GivesSome, FindAnswers, Finds}
+use Rattle.strip_decoder.specs.Runs.{ReportsMany}
 use Rattle.top_122.specs.Notes.{IsNoted, Notes, decoder_fault_status, decoder_fault_line}
-use Rattle.top_122.specs.DamageNotes.{damaged, damage_line, done_status, done_line}
+use Rattle.top_122.specs.DamageNotes.{damaged, is_known, damage_line, done_status, done_line}
 use Rattle.top_122.specs.Ran.{CausedWithin}
 use Rattle.top_122.specs.Decoding.{Causes, Asking, decode_status, decode_line, RunsDecoder, Decodes, FindsDamage, TellsDone, reads_picture}
 use Rattle.top_122.proofs.NoteLines.{ran_on, nothing_noted}
@@ -50,10 +53,10 @@ picture_later : (gives : Bool) (wish : DecodeWish) (a b c : Outside) (took gave 
 picture_later gives wish a b c took gave wrote done n p = record {
   geometry = p.geometry;
   range = p.range;
-  height = p.height;
   few = p.few;
   framing_is = p.framing_is;
   out = out_later wish.octets b c took wrote n p.out;
+  written = p.written;
   rows = p.rows;
   told = p.told;
 }
@@ -89,7 +92,7 @@ find_later wish a b c took gave wrote (Err WriteFault) n k = (omega (arith, k.0,
 find_later wish a b c took gave wrote (Err Memory) n k = k
 
 pub decoded : (wish : DecodeWish) (a b c : Outside) (done : DecodeDone) (status : ℕ) → DecodesOver wish a b (Ok done) →
-    TellsDone (damaged done.damage) done.framing b c status → Decodes wish a c status
+    TellsDone (damaged done.damage) (is_known done.geometry) done.framing b c status → Decodes wish a c status
 decoded wish a b c done status run n =
     ran_on a b c (Ok done) run.took run.gave n.wrote status run.since (record { within = run.within; cause = decode_later wish a b c run.took run.gave n.wrote (Ok done) n.since run.answer }) n.since n.status_is n.noted
 
@@ -99,7 +102,7 @@ decode_failed wish a b c fault status run n is =
     ran_on a b c (Err fault) run.took run.gave n.0 status run.since (record { within = run.within; cause = decode_later wish a b c run.took run.gave n.0 (Err fault) n.1 run.answer }) n.1 is n.2
 
 pub found : (wish : DecodeWish) (a b c : Outside) (done : DecodeDone) (status : ℕ) → Finds wish a b (Ok done) →
-    TellsDone (damaged done.damage) done.framing b c status → FindsDamage wish a c status
+    TellsDone (damaged done.damage) (is_known done.geometry) done.framing b c status → FindsDamage wish a c status
 found wish a b c done status run n =
     ran_on a b c (Ok done) run.took run.gave n.wrote status run.since (record { within = run.within; cause = find_later wish a b c run.took run.gave n.wrote (Ok done) n.since run.answer }) n.since n.status_is n.noted
 
@@ -110,31 +113,45 @@ find_failed wish a b c fault status run n is =
 
 -- ---- what the note says
 
-pub tells_nothing : (ranges : List RowRange) (framing : Option Framing) (a : Outside) → ranges ≡ [] → framing ≡ None → TellsDone ranges framing a a 0
-tells_nothing ranges framing a unharmed good = record {
+pub tells_nothing : (ranges : List RowRange) (known : Bool) (framing : Option Framing) (a : Outside) → ranges ≡ [] → known ≡ true → framing ≡ None → TellsDone ranges known framing a a 0
+tells_nothing ranges known framing a unharmed told good = record {
   wrote = [];
   since = since_start a NoRead;
-  status_is = rw (unharmed, good) refl;
-  noted = inl (rw (unharmed, good) refl);
+  status_is = rw (unharmed, told, good) refl;
+  noted = inl (rw (unharmed, told, good) refl);
 }
 
-lacking_status : (ranges : List RowRange) (framing : Option Framing) → (ranges ≡ [] → framing ≡ None → ⊥) → 1 ≡ done_status ranges framing
-lacking_status [] None lacks = absurd (lacks refl refl)
-lacking_status [] (Some f) lacks = refl
-lacking_status (r ∷ rs) framing lacks = refl
+lacking_status : (ranges : List RowRange) (known : Bool) (framing : Option Framing) → (ranges ≡ [] → known ≡ true → framing ≡ None → ⊥) → 1 ≡ done_status ranges known framing
+lacking_status [] true None lacks = absurd (lacks refl refl refl)
+lacking_status [] true (Some f) lacks = refl
+lacking_status [] false framing lacks = refl
+lacking_status (r ∷ rs) known framing lacks = refl
 
-pub lacking_line : (ranges : List RowRange) (framing : Option Framing) → (ranges ≡ [] → framing ≡ None → ⊥) → done_line ranges framing ≡ damage_line ranges framing
-lacking_line [] None lacks = absurd (lacks refl refl)
-lacking_line [] (Some f) lacks = refl
-lacking_line (r ∷ rs) framing lacks = refl
+pub lacking_line : (ranges : List RowRange) (known : Bool) (framing : Option Framing) → (ranges ≡ [] → known ≡ true → framing ≡ None → ⊥) → done_line ranges known framing ≡ damage_line ranges known framing
+lacking_line [] true None lacks = absurd (lacks refl refl refl)
+lacking_line [] true (Some f) lacks = refl
+lacking_line [] false framing lacks = refl
+lacking_line (r ∷ rs) known framing lacks = refl
 
-pub tells_damage : (ranges : List RowRange) (framing : Option Framing) (a b : Outside) → (ranges ≡ [] → framing ≡ None → ⊥) → Notes a b (damage_line ranges framing) → TellsDone ranges framing a b 1
-tells_damage ranges framing a b lacks n = record {
+pub tells_damage : (ranges : List RowRange) (known : Bool) (framing : Option Framing) (a b : Outside) → (ranges ≡ [] → known ≡ true → framing ≡ None → ⊥) → Notes a b (damage_line ranges known framing) →
+    TellsDone ranges known framing a b 1
+tells_damage ranges known framing a b lacks n = record {
   wrote = n.0;
   since = n.1;
-  status_is = lacking_status ranges framing lacks;
-  noted = subst (IsNoted a b n.0) (sym (lacking_line ranges framing lacks)) n.2;
+  status_is = lacking_status ranges known framing lacks;
+  noted = subst (IsNoted a b n.0) (sym (lacking_line ranges known framing lacks)) n.2;
 }
+
+-- ---- the height
+
+pub known_some : (g : Geometry) → is_known g ≡ true → g.rows ≢ 0
+known_some g known none = let open_rows = is_open g.rows none in let shut : not true ≡ true = subst (λ b. not b ≡ true) open_rows known in false≢true shut
+
+pub some_known : (g : Geometry) → g.rows ≢ 0 → is_known g ≡ true
+some_known g some = ap not (is_not_open g.rows some)
+
+height_known : (g : Geometry) (n : ℕ) → g.rows ≢ 0 → height g n ≡ g.rows
+height_known g n some = let e = is_not_open g.rows some in rw e refl
 
 -- ---- nothing is damaged only where nothing is missing
 
@@ -155,29 +172,30 @@ none_listed rows p (r ∷ rs) is none =
 undamaged : (m : Marks) → damaged m ≡ [] → (row : ℕ) → is_damaged m.rows m.missing row ≡ false
 undamaged m none row = sym ((whole_damage m.rows m.missing).0.each row) ∙ ap (λ rs. is_covered rs row) none
 
-missing_listed : (gives : Bool) (wish : DecodeWish) (a b : Outside) (took gave : List ℕ) (done : DecodeDone) → PictureBy gives wish a b took gave done → damaged done.damage ≡ [] →
+missing_listed : (gives : Bool) (wish : DecodeWish) (a b : Outside) (took gave : List ℕ) (done : DecodeDone) → PictureBy gives wish a b took gave done → damaged done.damage ≡ [] → done.geometry.rows ≢ 0 →
     (all : List ℕ) → a.rest ≡ Some all → done.damage.missing ≡ []
 unfolding missing_below
-missing_listed gives wish a b took gave done p none all told =
+missing_listed gives wish a b took gave done p none known all told =
     let t = p.told all told in
+    let rows : done.damage.rows ≡ done.geometry.rows = p.rows ∙ p.written ∙ height_known done.geometry (begun_in wish.apid took) known in
     none_listed done.damage.rows (is_missing_of done.geometry t.0) done.damage.missing
-    (t.3 ∙ ap (λ n. filter (is_missing_of done.geometry t.0) (range_with_len 0 (block_count n))) (sym p.rows))
+    (t.3.missing known ∙ ap (λ n. filter (is_missing_of done.geometry t.0) (range_with_len 0 (block_count n))) (sym rows))
     (undamaged done.damage none)
 
 -- ---- what each cause says
 
--- an image that was read, of few pixels, and to the end, where nothing is missing if no row is damaged
+-- an image that was read, of few pixels, and to the end; if its height is known and no row is damaged, nothing is missing
 pub record SawImage (wish : DecodeWish) (old new : Outside) (took : List ℕ) (done : DecodeDone) : Type 0 where
   pub geometry : geometry_in wish.apid took ≡ Some done.geometry
-  pub few : done.geometry.width * done.geometry.rows ≤ wish.pixels
+  pub few : HasFewPixels wish.pixels wish.apid took
   pub out : IsReadOut wish.octets new took
-  pub none_missing : damaged done.damage ≡ [] → (all : List ℕ) → old.rest ≡ Some all → done.damage.missing ≡ []
+  pub none_missing : damaged done.damage ≡ [] → done.geometry.rows ≢ 0 → (all : List ℕ) → old.rest ≡ Some all → done.damage.missing ≡ []
 
 -- what an answer says of the octets and the faults, whatever was given
 abbrev pub Says : DecodeWish → Outside → Outside → List ℕ → List ℕ → Result DecodeDone DecodeFault → Type 0
 Says wish old new took gave (Ok done) = SawImage wish old new took done
 Says wish old new took gave (Err NoSegment) = (geometry_in wish.apid took ≡ None) × IsReadOut wish.octets new took
-Says wish old new took gave (Err (TooManyPixels pixels)) = ((g : Geometry) × (geometry_in wish.apid took ≡ Some g) × (pixels ≡ g.width * g.rows)) × (wish.pixels < pixels)
+Says wish old new took gave (Err (TooManyPixels pixels)) = ReportsMany wish.pixels wish.apid pixels took
 Says wish old new took gave (Err LongInput) = (length took ≡ wish.octets) × (has_bad_version (left_over took) ≡ false)
 Says wish old new took gave (Err ReadFault) = Rose old.read_faults new.read_faults
 Says wish old new took gave (Err WriteFault) = Rose old.write_faults new.write_faults
@@ -193,7 +211,7 @@ AllSay wish answers = (old new : Outside) (took gave : List ℕ) (r : Result Dec
 pub decode_says : (wish : DecodeWish) → AllSay wish (Answers wish)
 decode_says wish a b took gave (Ok done) k = saw true wish a b took gave done k
 decode_says wish a b took gave (Err NoSegment) k = (k.0, k.1)
-decode_says wish a b took gave (Err (TooManyPixels pixels)) k = (k.0, k.1)
+decode_says wish a b took gave (Err (TooManyPixels pixels)) k = k.0.many
 decode_says wish a b took gave (Err LongInput) k = (k.0, k.1)
 decode_says wish a b took gave (Err ReadFault) k = k.0
 decode_says wish a b took gave (Err WriteFault) k = k.0
@@ -202,7 +220,7 @@ decode_says wish a b took gave (Err Memory) k = k
 pub find_says : (wish : DecodeWish) → AllSay wish (FindAnswers wish)
 find_says wish a b took gave (Ok done) k = saw false wish a b took [] done k.found
 find_says wish a b took gave (Err NoSegment) k = (k.0, k.1)
-find_says wish a b took gave (Err (TooManyPixels pixels)) k = (k.0, k.1)
+find_says wish a b took gave (Err (TooManyPixels pixels)) k = k.0.many
 find_says wish a b took gave (Err LongInput) k = (k.0, k.1)
 find_says wish a b took gave (Err ReadFault) k = k.0
 find_says wish a b took gave (Err WriteFault) k = k.0
@@ -210,20 +228,23 @@ find_says wish a b took gave (Err Memory) k = k
 
 -- ---- each status
 
-pub undamaged_status : (ranges : List RowRange) (framing : Option Framing) → done_status ranges framing ≡ 0 → (ranges ≡ []) × (framing ≡ None)
-undamaged_status [] None e = (refl, refl)
-undamaged_status [] (Some f) e = absurd (omega (arith, e))
-undamaged_status (r ∷ rs) framing e = absurd (omega (arith, e))
+pub undamaged_status : (ranges : List RowRange) (known : Bool) (framing : Option Framing) → done_status ranges known framing ≡ 0 → (ranges ≡ []) × (known ≡ true) × (framing ≡ None)
+undamaged_status [] true None e = (refl, refl, refl)
+undamaged_status [] true (Some f) e = absurd (omega (arith, e))
+undamaged_status [] false framing e = absurd (omega (arith, e))
+undamaged_status (r ∷ rs) known framing e = absurd (omega (arith, e))
 
-pub damaged_status : (ranges : List RowRange) (framing : Option Framing) → done_status ranges framing ≡ 1 → ranges ≡ [] → framing ≡ None → ⊥
-damaged_status [] None e none good = absurd (omega (arith, e))
-damaged_status [] (Some f) e none good = absurd cc
-damaged_status (r ∷ rs) framing e none good = absurd cc
+pub damaged_status : (ranges : List RowRange) (known : Bool) (framing : Option Framing) → done_status ranges known framing ≡ 1 → ranges ≡ [] → known ≡ true → framing ≡ None → ⊥
+damaged_status [] true None e none told good = absurd (omega (arith, e))
+damaged_status [] true (Some f) e none told good = absurd cc
+damaged_status [] false framing e none told good = absurd cc
+damaged_status (r ∷ rs) known framing e none told good = absurd cc
 
-pub status_small : (ranges : List RowRange) (framing : Option Framing) → (done_status ranges framing ≡ 0) ⊎ (done_status ranges framing ≡ 1)
-status_small [] None = inl refl
-status_small [] (Some f) = inr refl
-status_small (r ∷ rs) framing = inr refl
+pub status_small : (ranges : List RowRange) (known : Bool) (framing : Option Framing) → (done_status ranges known framing ≡ 0) ⊎ (done_status ranges known framing ≡ 1)
+status_small [] true None = inl refl
+status_small [] true (Some f) = inr refl
+status_small [] false framing = inr refl
+status_small (r ∷ rs) known framing = inr refl
 
 pub fault_statuses : (fault : DecodeFault) → 3 ≤ decoder_fault_status fault
 fault_statuses NoSegment = omega arith
@@ -233,31 +254,32 @@ fault_statuses ReadFault = omega arith
 fault_statuses WriteFault = omega arith
 fault_statuses Memory = omega arith
 
-pub whole_line : (ranges : List RowRange) (framing : Option Framing) → ranges ≡ [] → framing ≡ None → done_line ranges framing ≡ []
-whole_line ranges framing none good = rw (none, good) refl
+pub whole_line : (ranges : List RowRange) (known : Bool) (framing : Option Framing) → ranges ≡ [] → known ≡ true → framing ≡ None → done_line ranges known framing ≡ []
+whole_line ranges known framing none told good = rw (none, told, good) refl
 
 -- a run of an engine, and what follows for its status
 pub picture_ends : (wish : DecodeWish) (answers : Causes) (asks : Asking) → AllSay wish answers → (old new : Outside) (status : ℕ) →
     RunsDecoder (CausedWithin wish.octets answers) asks old new status → AtStatus (reads_picture wish answers asks) old new status
 picture_ends wish answers asks say old new status run = subst (AtStatus (reads_picture wish answers asks) old new) (sym run.status_is) (by run.answer run.noted run.cause)
   where
-    done_ends : (done : DecodeDone) → IsNoted old new run.wrote (done_line (damaged done.damage) done.framing) → CausedWithin wish.octets answers old new run.took run.gave (Ok done) → AtStatus (reads_picture wish answers asks) old new (done_status (damaged done.damage) done.framing)
-    done_ends done noted k = elim (status_small (damaged done.damage) done.framing) [
+    done_ends : (done : DecodeDone) → IsNoted old new run.wrote (done_line (damaged done.damage) (is_known done.geometry) done.framing) → CausedWithin wish.octets answers old new run.took run.gave (Ok done) → AtStatus (reads_picture wish answers asks) old new (done_status (damaged done.damage) (is_known done.geometry) done.framing)
+    done_ends done noted k = elim (status_small (damaged done.damage) (is_known done.geometry) done.framing) [
       | inl none ↦
-          let fine = undamaged_status (damaged done.damage) done.framing none in
-          let silent = nothing_noted old new run.wrote _ (whole_line (damaged done.damage) done.framing fine.0 fine.1) noted in
+          let fine = undamaged_status (damaged done.damage) (is_known done.geometry) done.framing none in
+          let silent = nothing_noted old new run.wrote _ (whole_line (damaged done.damage) (is_known done.geometry) done.framing fine.0 fine.1 fine.2) noted in
           subst (AtStatus (reads_picture wish answers asks) old new) (sym none) record {
             done = done;
             took = run.took;
             gave = run.gave;
             since = subst (λ w. Since old new run.took run.gave w (asks old run.took run.gave)) silent run.since;
             cause = k;
-            framing = fine.1;
+            framing = fine.2;
+            known = known_some done.geometry fine.1;
             none_damaged = fine.0;
-            none_missing = (say old new run.took run.gave (Ok done) k.cause).none_missing fine.0;
+            none_missing = (say old new run.took run.gave (Ok done) k.cause).none_missing fine.0 (known_some done.geometry fine.1);
           }
       | inr some ↦
-          let lacks = damaged_status (damaged done.damage) done.framing some in
+          let lacks = damaged_status (damaged done.damage) (is_known done.geometry) done.framing some in
           subst (AtStatus (reads_picture wish answers asks) old new) (sym some) record {
             done = done;
             took = run.took;
@@ -265,8 +287,8 @@ picture_ends wish answers asks say old new status run = subst (AtStatus (reads_p
             wrote = run.wrote;
             since = run.since;
             cause = k;
-            lacks = lacks;
-            noted = subst (IsNoted old new run.wrote) (lacking_line (damaged done.damage) done.framing lacks) noted;
+            lacks = λ none known good. lacks none (some_known done.geometry known) good;
+            noted = subst (IsNoted old new run.wrote) (lacking_line (damaged done.damage) (is_known done.geometry) done.framing lacks) noted;
           }
     ]
 

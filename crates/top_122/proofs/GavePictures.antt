@@ -1,9 +1,10 @@
 -- What a picture that `decode` gave shows.
 use Rattle.std.proofs.Common.{◌≡◌, ◌≤◌, ℕ, ℤ, List, [], ◌∷◌, sym, ◌∙◌, ap, arith, refl, inl, inr, true, false}
-use Rattle.std.specs.Prelude.{◌⊎◌, ◌&&◌, nat_le, nat_lt, Bool, Option, None, Some, Result, Ok, Err}
+use Rattle.std.specs.Prelude.{◌≢◌, ◌⊎◌, ◌&&◌, nat_le, nat_lt, Bool, Option, None, Some, Result, Ok, Err}
 use Rattle.std.proofs.lemmas.Bool.{false≢true}
 use Rattle.std.proofs.lemmas.Bool.Decides.{nat_tests}
 use Rattle.port_122.specs.Outside.{Outside}
+use Rattle.base_122.specs.declared.geometry.Geometry.{Geometry}
 use Rattle.base_122.specs.declared.setting.Setting.{Setting}
 use Rattle.base_122.specs.declared.wish.DecodeWish.{DecodeWish}
 use Rattle.packet_defs.specs.declared.packet.Framing.{Framing}
@@ -12,15 +13,16 @@ use Rattle.stream_defs.specs.Damage.{is_covered, is_damaged, LieApart}
 use Rattle.stream_defs.specs.Marks.{Marks}
 use Rattle.stream_defs.specs.Output.{output}
 use Rattle.stream_defs.proofs.DamageLaws.{whole_damage}
+use Rattle.stream_defs.proofs.PlacedLaws.{within_not}
 use Rattle.strip_decoder.specs.declared.decode.DecodeDone.{DecodeDone}
 use Rattle.strip_decoder.specs.declared.decode.DecodeFault.{DecodeFault}
 use Rattle.strip_decoder.specs.Answers.{Answers}
 use Rattle.strip_decoder.specs.Containment.{DecodedContained, IsImageFor}
 use Rattle.strip_decoder.specs.RoundTrip.{RoundTrip, GivesBack}
-use Rattle.top_122.specs.DamageNotes.{damaged, done_status}
+use Rattle.top_122.specs.DamageNotes.{damaged, is_known, done_status}
 use Rattle.top_122.specs.Decoding.{Decodes, decode_status}
 use Rattle.top_122.specs.Pictures.{GavePicture}
-use Rattle.top_122.proofs.Decoded.{fault_statuses}
+use Rattle.top_122.proofs.Decoded.{fault_statuses, some_known}
 
 -- ---- where nothing is missing nothing is damaged
 
@@ -44,8 +46,8 @@ none_damaged m none = by (damaged m) (whole_damage m.rows m.missing).1 (λ row. 
     by [] apart uncovered = refl
     by (r ∷ rs) apart uncovered = absurd (false≢true (sym (uncovered r.first) ∙ begun r rs apart.1))
 
-whole_status : (ranges : List RowRange) (framing : Option Framing) → ranges ≡ [] → framing ≡ None → done_status ranges framing ≡ 0
-whole_status ranges framing none good = rw (none, good) refl
+whole_status : (ranges : List RowRange) (known : Bool) (framing : Option Framing) → ranges ≡ [] → known ≡ true → framing ≡ None → done_status ranges known framing ≡ 0
+whole_status ranges known framing none told good = rw (none, told, good) refl
 
 -- ---- a run of the decoder
 
@@ -56,11 +58,12 @@ gave_picture contains trip wish old new status run picture = by run.answer run.c
     low (inl none) = omega (arith, none)
     low (inr some) = omega (arith, some)
 
-    back : (done : DecodeDone) → Answers wish old new run.took run.gave (Ok done) → status ≡ decode_status (Ok done) → (all : List ℕ) → old.rest ≡ Some all → (s : Setting) (x : ℕ → ℕ → ℤ) →
-        wish.apid ≡ s.apid → run.took ≡ output s s.rows x → IsImageFor s x → (status ≡ 0) × GivesBack s x run.gave done
-    back done k is all told s x apid took image =
-        let b = trip.decoded wish old new run.took run.gave all done s x k told apid took image in
-        (is ∙ whole_status (damaged done.damage) done.framing (none_damaged done.damage b.missing) b.framing_is, b)
+    back : (done : DecodeDone) → Answers wish old new run.took run.gave (Ok done) → status ≡ decode_status (Ok done) → (all : List ℕ) → old.rest ≡ Some all → (s : Setting) (rows : ℕ) (x : ℕ → ℕ → ℤ) →
+        wish.apid ≡ s.apid → run.took ≡ output s rows x → IsImageFor s rows x → (status ≡ 0) × GivesBack s rows x run.gave done
+    back done k is all told s rows x apid took image =
+        let b = trip.decoded wish old new run.took run.gave all done s rows x k told apid took image in
+        let known : done.geometry.rows ≢ 0 = λ none. within_not rows image.height.0 (sym (ap (λ (g : Geometry). g.rows) b.geometry) ∙ none) in
+        (is ∙ whole_status (damaged done.damage) (is_known done.geometry) done.framing (none_damaged done.damage b.missing) (some_known done.geometry known) b.framing_is, b)
 
     by : (r : Result DecodeDone DecodeFault) → Answers wish old new run.took run.gave r → status ≡ decode_status r → GavePicture wish old new status
     by (Ok done) k is = record {
@@ -70,7 +73,7 @@ gave_picture contains trip wish old new status run picture = by run.answer run.c
       wrote = run.wrote;
       since = run.since;
       contained = λ all told. contains.decoded wish old new run.took run.gave all done k told;
-      alike = λ all told s x parts apid took are begins. contains.sublists wish old new run.took run.gave all done s x parts k told apid took are begins;
+      alike = λ all told s rows x parts apid took are begins. contains.sublists wish old new run.took run.gave all done s rows x parts k told apid took are begins;
       back = back done k is;
     }
     by (Err fault) k is = absurd (omega (arith, is, fault_statuses fault, low picture))

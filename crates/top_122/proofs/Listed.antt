@@ -1,5 +1,5 @@
 -- What a run of `list` leaves after its note, and what follows for each status.
-use Rattle.std.proofs.Common.{◌≡◌, ℕ, [], refl, sym, subst, arith, inl, inr}
+use Rattle.std.proofs.Common.{◌≡◌, ℕ, [], refl, sym, subst, arith, inl, inr, true}
 use Rattle.std.specs.Prelude.{Result, Ok, Err}
 use Rattle.port_122.specs.Outside.{Outside, Since, NoRead}
 use Rattle.base_122.specs.declared.wish.DecodeWish.{DecodeWish}
@@ -18,7 +18,7 @@ use Rattle.top_122.proofs.Decoded.{out_later, undamaged_status, damaged_status, 
 
 -- ---- after the note
 
-pub listed : (wish : DecodeWish) (a b c : Outside) (done : ListDone) (status : ℕ) → Lists wish a b (Ok done) → TellsDone [] done.framing b c status → ListsPackets wish a c status
+pub listed : (wish : DecodeWish) (a b c : Outside) (done : ListDone) (status : ℕ) → Lists wish a b (Ok done) → TellsDone [] true done.framing b c status → ListsPackets wish a c status
 listed wish a b c done status run n =
     let out = out_later wish.octets b c run.took n.wrote n.since run.answer.out in
     let listing : IsListing wish c run.took run.gave done = record { lines = run.answer.lines; packets = run.answer.packets; framing_is = run.answer.framing_is; out = out } in
@@ -49,11 +49,11 @@ list_ends : (wish : DecodeWish) (old new : Outside) (status : ℕ) → ListsPack
 list_ends wish old new status (inl none) = subst (AtStatus (reads_packets wish) old new) (sym none.status_is) (none.wrote, none.since)
 list_ends wish old new status (inr run) = subst (AtStatus (reads_packets wish) old new) (sym run.status_is) (by run.answer run.noted run.cause.cause)
   where
-    done_ends : (done : ListDone) → IsNoted old new run.wrote (done_line [] done.framing) → IsListing wish new run.took run.gave done → AtStatus (reads_packets wish) old new (done_status [] done.framing)
-    done_ends done noted k = elim (status_small [] done.framing) [
+    done_ends : (done : ListDone) → IsNoted old new run.wrote (done_line [] true done.framing) → IsListing wish new run.took run.gave done → AtStatus (reads_packets wish) old new (done_status [] true done.framing)
+    done_ends done noted k = elim (status_small [] true done.framing) [
       | inl none ↦
-          let good = (undamaged_status [] done.framing none).1 in
-          let silent = nothing_noted old new run.wrote _ (whole_line [] done.framing refl good) noted in
+          let good = (undamaged_status [] true done.framing none).2 in
+          let silent = nothing_noted old new run.wrote _ (whole_line [] true done.framing refl refl good) noted in
           subst (AtStatus (reads_packets wish) old new) (sym none) record {
             done = done;
             took = run.took;
@@ -64,7 +64,7 @@ list_ends wish old new status (inr run) = subst (AtStatus (reads_packets wish) o
             framing = good;
           }
       | inr some ↦
-          let lacks = damaged_status [] done.framing some in
+          let lacks = damaged_status [] true done.framing some in
           subst (AtStatus (reads_packets wish) old new) (sym some) record {
             done = done;
             took = run.took;
@@ -73,8 +73,8 @@ list_ends wish old new status (inr run) = subst (AtStatus (reads_packets wish) o
             since = run.since;
             within = run.cause.within;
             listing = k;
-            lacks = lacks refl;
-            noted = subst (IsNoted old new run.wrote) (lacking_line [] done.framing lacks) noted;
+            lacks = lacks refl refl;
+            noted = subst (IsNoted old new run.wrote) (lacking_line [] true done.framing lacks) noted;
           }
     ]
 

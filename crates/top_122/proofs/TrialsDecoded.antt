@@ -1,25 +1,10 @@
 -- What a decoder reads of all packets of an image.
-use Rattle.std.proofs.Common.{◌≡◌, ◌≤◌, ◌<◌, ◌+◌, ◌-◌, ◌*◌, ◌∙◌, inl, inr, ℕ, zero, suc, ℤ, true, List, [], ◌∷◌, ◌++◌, length, refl, sym, ap, arith, length-append}
+use Rattle.std.proofs.Common.{◌≡◌, ◌∙◌, inl, inr, ℕ, true, List, [], ◌++◌, length, sym, ap, arith, length-append}
 use Rattle.std.specs.Prelude.{Some}
-use Rattle.std.specs.List.{range_with_len}
-use Rattle.std.proofs.Math.Nat.{le-div_iff_mul-le}
 use Rattle.port_122.specs.Outside.{Outside, Since}
 use Rattle.port_122.proofs.Told.{end_told}
-use Rattle.base_122.specs.Setting.{geometry_of}
-use Rattle.base_122.specs.Sizes.{total_blocks}
-use Rattle.base_122.specs.declared.setting.Setting.{Setting}
-use Rattle.base_122.proofs.SizeBounds.{nine-le-total_blocks, total-le-segments}
-use Rattle.packet_defs.specs.Packets.{joined, text_packets, part_size}
-use Rattle.packet_defs.specs.Streams.{has_bad_version, left_over, whole_packets}
-use Rattle.packet_defs.proofs.Splits.{whole_splits}
-use Rattle.stream_defs.specs.Chosen.{IsChoice, chosen, all_parts}
-use Rattle.stream_defs.specs.Fates.{fresh, after_all, geometry_in}
-use Rattle.stream_defs.specs.Output.{image_blocks, image_packets, output, packets_of, segment_text, segments_of}
-use Rattle.stream_defs.specs.Places.{parts_of, AreCoded}
-use Rattle.stream_defs.proofs.SublistLaws.{all_rise}
-use Rattle.stream_defs.proofs.WholeStreams.{sublist_kept}
+use Rattle.packet_defs.specs.Streams.{has_bad_version, left_over}
 use Rattle.packet_assembly.specs.Readings.{IsReadOut}
-use Rattle.strip_decoder.proofs.SublistPictures.{chosen_whole}
 use Rattle.top_122.proofs.ReadOut.{took_front, some_octets, left_stays}
 
 -- ---- what can't be read on

@@ -23,10 +23,13 @@ use Rattle.raster_rows.proofs.RasterLaws.{raster_pixel-raster_octets, length-ras
 use Rattle.packet_defs.specs.Packets.{joined}
 use Rattle.packet_defs.specs.Streams.{left_over}
 use Rattle.segment_code.specs.Laws.{TextsAreShort}
+use Rattle.stream_defs.specs.Begun.{begun_in}
 use Rattle.stream_defs.specs.Fates.{geometry_in}
+use Rattle.stream_defs.specs.KnownHeights.{KnownHeights}
 use Rattle.stream_defs.specs.Output.{image_blocks, output, packets_of, segments_of, tells_last}
-use Rattle.stream_defs.specs.Picture.{whole_picture, whole_octets, whole_with, picture_of}
+use Rattle.stream_defs.specs.Picture.{whole_picture, whole_octets, picture_of, picture_octets}
 use Rattle.stream_defs.specs.Received.{ReceivedIn}
+use Rattle.stream_defs.proofs.PlacedLaws.{within_not}
 use Rattle.strip_coder.specs.declared.encode.EncodeDone.{EncodeDone}
 use Rattle.strip_coder.specs.Answers.{EncodesImage, DoneFor, TookRaster}
 use Rattle.strip_coder.specs.Rasters.{image_of}
@@ -55,12 +58,12 @@ unfolding picture_of
 picture_in_range g received i j is = clamped_in_range g.depth g.signed _ is
 
 -- the image of a raster's octets
-shown_is : (s : Setting) (x : ℕ → ℕ → ℤ) (octets : List ℕ) → IsInRange s → ArePixels s x → octets ≡ raster_octets s.depth s.rows s.width x → (i j : ℕ) → i < s.rows → j < s.width → image_of s octets i j ≡ x i j
+shown_is : (s : Setting) (x : ℕ → ℕ → ℤ) (octets : List ℕ) → IsInRange s → ArePixels s s.rows x → octets ≡ raster_octets s.depth s.rows s.width x → (i j : ℕ) → i < s.rows → j < s.width → image_of s octets i j ≡ x i j
 shown_is s x octets range pixels is i j row column =
     ap (λ zs. image_of s zs i j) is ∙ raster_pixel-raster_octets s.depth s.signed s.rows s.width x i j range.depth pixels.at row column
 
 -- the pixels of a raster that was taken are in range
-raster_pixels : (s : Setting) (raster : List ℕ) → IsInRange s → TookRaster s s.rows raster → ArePixels s (image_of s raster)
+raster_pixels : (s : Setting) (raster : List ℕ) → IsInRange s → TookRaster s s.rows raster → ArePixels s s.rows (image_of s raster)
 raster_pixels s raster range whole = record {
   at = λ i j row column.
       let size = pixel_size s.depth in
@@ -116,23 +119,24 @@ pub record HasPicture (s : Setting) (packets given : List ℕ) : Type 0 where
   pub received_are : ReceivedIn holds_after s.apid packets received
   pub gave : given ≡ whole_octets (geometry_of s) received
 
-pub has_picture : (s : Setting) (raster packets given fail : List ℕ) (piece : ℕ) (port : MemoryPort) (new : Outside) → TextsAreShort → IsInRange s → IsWithin rows_range s.rows → length s.weights.shifts ≡ 10 → TookRaster s s.rows raster →
+pub has_picture : (s : Setting) (raster packets given fail : List ℕ) (piece : ℕ) (port : MemoryPort) (new : Outside) → TextsAreShort → KnownHeights → IsInRange s → IsWithin rows_range s.rows → length s.weights.shifts ≡ 10 → TookRaster s s.rows raster →
     packets ≡ output s s.rows (image_of s raster) → IsFresh port packets fail piece → HasDecoded s (outside_of port) new → new.given ≡ Some given → HasPicture s packets given
-has_picture s raster packets given fail piece port new short range height ten whole packets_are fresh has gives =
+has_picture s raster packets given fail piece port new short known range height ten whole packets_are fresh has gives =
     let rest = ap (λ (o : Outside). o.rest) fresh.outside in
     let none = ap (λ (o : Outside). o.given) fresh.outside in
     let x = image_of s raster in
-    let image : IsImageFor s x = record { range = range; height = height; weights = ten; pixels = raster_pixels s raster range whole } in
+    let image : IsImageFor s s.rows x = record { range = range; height = (height, inr refl); weights = ten; pixels = raster_pixels s raster range whole } in
     let run = has.decodes in
     let is = run.answer in
-    let took : run.took ≡ packets = took_all (2 ^ 40) run.took packets (outside_of port) new run.since rest (ap left_over packets_are ∙ none_left short s x image) is.out in
+    let took : run.took ≡ packets = took_all (2 ^ 40) run.took packets (outside_of port) new run.since rest (ap left_over packets_are ∙ none_left short s s.rows x image) is.out in
     let there : geometry_in s.apid packets ≡ Some has.done.geometry = subst (λ octets. geometry_in s.apid octets ≡ Some has.done.geometry) took is.geometry in
-    let same : has.done.geometry ≡ geometry_of s = some_geometry (sym there ∙ ap (geometry_in s.apid) packets_are ∙ geometry_told short s x image) in
+    let same : has.done.geometry ≡ geometry_of s = some_geometry (sym there ∙ ap (geometry_in s.apid) packets_are ∙ geometry_told short s s.rows x image) in
     let told = is.told packets rest in
+    let begun = begun_in s.apid run.took in
     record {
       received = told.0;
       received_are = subst (λ octets. ReceivedIn holds_after s.apid octets told.0) took told.1;
-      gave = given_told [] given run.since none gives ∙ told.2 ∙ ap (λ g. whole_octets g told.0) same;
+      gave = given_told [] given run.since none gives ∙ told.2 ∙ ap (λ g. picture_octets g told.0 begun) same ∙ known.octets (geometry_of s) told.0 begun (within_not s.rows height);
     }
 
 pub picture_size : (s : Setting) (packets given : List ℕ) → HasPicture s packets given → length given ≡ raster_length s
@@ -144,7 +148,7 @@ pub are_equal : (s : Setting) (raster packets given : List ℕ) (equal : ℕ) �
 are_equal s raster packets given equal range has is =
     let shows = whole_picture (geometry_of s) has.received in
     let width = range.width in
-    let pixels : ArePixels s shows = record { at = λ i j row column. picture_in_range (geometry_of s) has.received i j range.depth } in
+    let pixels : ArePixels s s.rows shows = record { at = λ i j row column. picture_in_range (geometry_of s) has.received i j range.depth } in
     record {
       received = has.received;
       received_are = has.received_are;

@@ -1,6 +1,7 @@
 -- The note on packets that aren't whole. This project's own.
-use Rattle.std.specs.Prelude.{ℕ, List, [], ◌∷◌, ◌++◌, decimal, codes, Option, None, Some}
+use Rattle.std.specs.Prelude.{ℕ, ◌==◌, Bool, true, false, not, List, [], ◌∷◌, ◌++◌, decimal, codes, Option, None, Some}
 use Rattle.std.specs.List.{flat_map}
+use Rattle.base_122.specs.declared.geometry.Geometry.{Geometry}
 use Rattle.packet_defs.specs.declared.packet.Framing.{Framing}
 use Rattle.packet_defs.specs.declared.packet.Framing.TheVariants.{BadVersion, CutPacket}
 use Rattle.stream_defs.specs.declared.range.RowRange.{RowRange}
@@ -11,6 +12,10 @@ use Rattle.stream_defs.specs.Marks.{Marks}
 abbrev pub damaged : Marks → List RowRange
 damaged m = ranges m.rows m.missing
 
+-- the height of the image is known: its packets report it first, or a kept header reported it last
+abbrev pub is_known : Geometry → Bool
+is_known g = not (g.rows == 0)
+
 -- a range of damaged rows, after a space
 abbrev pub range_text : RowRange → List ℕ
 range_text range = codes " " ++ decimal range.first ++ codes "-" ++ decimal range.last
@@ -20,25 +25,36 @@ abbrev pub ranges_text : List RowRange → List ℕ
 ranges_text [] = codes " none"
 ranges_text (range ∷ ranges) = flat_map range_text (range ∷ ranges)
 
+-- that the height isn't known
+abbrev pub height_text : (known : Bool) → List ℕ
+height_text true = []
+height_text false = codes "; height unknown"
+
 -- why the packets can't be read on
 abbrev pub framing_text : Option Framing → List ℕ
 framing_text None = []
 framing_text (Some (BadVersion octet)) = codes "; bad version at octet " ++ decimal octet
 framing_text (Some (CutPacket missing)) = codes "; packet cut, " ++ decimal missing ++ codes " octets missing"
 
-abbrev pub damage_line : List RowRange → Option Framing → List ℕ
-damage_line ranges framing = codes "strip122: damaged rows" ++ ranges_text ranges ++ framing_text framing ++ codes "\n"
+-- what follows the ranges
+abbrev pub rest_text : (known : Bool) → Option Framing → List ℕ
+rest_text known framing = height_text known ++ framing_text framing
+
+abbrev pub damage_line : List RowRange → (known : Bool) → Option Framing → List ℕ
+damage_line ranges known framing = codes "strip122: damaged rows" ++ ranges_text ranges ++ rest_text known framing ++ codes "\n"
 
 -- ---- of packets that were read to their end, or can't be read on
 
--- 0 where no row is damaged and the packets could be read to their end
-abbrev pub done_status : List RowRange → Option Framing → ℕ
-done_status [] None = 0
-done_status [] (Some framing) = 1
-done_status (range ∷ ranges) framing = 1
+-- 0 if no row is damaged, the height is known and the packets could be read to their end
+abbrev pub done_status : List RowRange → (known : Bool) → Option Framing → ℕ
+done_status [] true None = 0
+done_status [] true (Some framing) = 1
+done_status [] false framing = 1
+done_status (range ∷ ranges) known framing = 1
 
 -- then nothing is noted
-abbrev pub done_line : List RowRange → Option Framing → List ℕ
-done_line [] None = []
-done_line [] (Some framing) = damage_line [] (Some framing)
-done_line (range ∷ ranges) framing = damage_line (range ∷ ranges) framing
+abbrev pub done_line : List RowRange → (known : Bool) → Option Framing → List ℕ
+done_line [] true None = []
+done_line [] true (Some framing) = damage_line [] true (Some framing)
+done_line [] false framing = damage_line [] false framing
+done_line (range ∷ ranges) known framing = damage_line (range ∷ ranges) known framing

@@ -1,12 +1,13 @@
 -- What a run of `decode`, `damage` and `list` leaves. This project's own.
-use Rattle.std.specs.Prelude.{◌≡◌, ◌⊎◌, ◌<◌, ◌≤◌, ◌*◌, ℕ, List, [], length, take, true, false, Option, None, Some, Result, Ok, Err}
+use Rattle.std.specs.Prelude.{◌≡◌, ◌≢◌, ◌⊎◌, ◌<◌, ◌≤◌, ◌*◌, ℕ, Bool, List, [], length, take, true, false, Option, None, Some, Result, Ok, Err}
 use Rattle.port_122.specs.Outside.{Outside, Since, NoRead}
 use Rattle.base_122.specs.declared.geometry.Geometry.{Geometry}
 use Rattle.base_122.specs.declared.wish.DecodeWish.{DecodeWish}
 use Rattle.packet_defs.specs.Streams.{left_over, has_bad_version}
 use Rattle.packet_defs.specs.declared.packet.Framing.{Framing}
 use Rattle.stream_defs.specs.declared.range.RowRange.{RowRange}
-use Rattle.stream_defs.specs.Fates.{geometry_in}
+use Rattle.stream_defs.specs.Begun.{HasFewPixels, end_of, rows_reached}
+use Rattle.stream_defs.specs.Fates.{geometry_in, kept_in}
 use Rattle.strip_decoder.specs.declared.decode.DecodeDone.{DecodeDone}
 use Rattle.strip_decoder.specs.declared.decode.DecodeFault.{DecodeFault}
 use Rattle.strip_decoder.specs.Answers.{Answers, Asks}
@@ -17,7 +18,7 @@ use Rattle.packet_list.specs.declared.list.ListFault.TheVariants.{ReadFault, Wri
 use Rattle.packet_list.specs.Answers.{IsListing, Answers as ListAnswers}
 use Rattle.packet_list.specs.Progress.{AsksListed}
 use Rattle.top_122.specs.Notes.{IsNoted, decoder_fault_status, decoder_fault_line, list_fault_status, list_fault_line}
-use Rattle.top_122.specs.DamageNotes.{damaged, damage_line, done_status, done_line}
+use Rattle.top_122.specs.DamageNotes.{damaged, is_known, damage_line, done_status, done_line}
 use Rattle.top_122.specs.Ran.{Ran, CausedWithin, LacksMemory}
 use Rattle.top_122.specs.Behaviours.{Behaviour, OnlyNotes}
 use Rattle.command_words.specs.declared.tables.Reading.{Reading}
@@ -26,19 +27,19 @@ use Rattle.command_words.specs.declared.tables.Reading.TheVariants.{Decode, Dama
 -- ---- the status and the note for each answer
 
 abbrev pub decode_status : Result DecodeDone DecodeFault → ℕ
-decode_status (Ok done) = done_status (damaged done.damage) done.framing
+decode_status (Ok done) = done_status (damaged done.damage) (is_known done.geometry) done.framing
 decode_status (Err fault) = decoder_fault_status fault
 
 abbrev pub decode_line : Result DecodeDone DecodeFault → List ℕ
-decode_line (Ok done) = done_line (damaged done.damage) done.framing
+decode_line (Ok done) = done_line (damaged done.damage) (is_known done.geometry) done.framing
 decode_line (Err fault) = decoder_fault_line fault
 
 abbrev pub list_status : Result ListDone ListFault → ℕ
-list_status (Ok done) = done_status [] done.framing
+list_status (Ok done) = done_status [] true done.framing
 list_status (Err fault) = list_fault_status fault
 
 abbrev pub list_line : Result ListDone ListFault → List ℕ
-list_line (Ok done) = done_line [] done.framing
+list_line (Ok done) = done_line [] true done.framing
 list_line (Err fault) = list_fault_line fault
 
 -- ---- all that a run leaves
@@ -91,15 +92,15 @@ abbrev pub ListsPackets : DecodeWish → (old new : Outside) (status : ℕ) → 
 ListsPackets wish old new status = LacksMemory old new status ⊎ Ran (CausedWithin wish.octets (ListCauses wish)) (AsksLines wish) list_status list_line old new status
 
 -- Of packets that were read, with this status, the note is given: nothing where nothing is wrong.
-pub record TellsDone (ranges : List RowRange) (framing : Option Framing) (old new : Outside) (status : ℕ) : Type 0 where
+pub record TellsDone (ranges : List RowRange) (known : Bool) (framing : Option Framing) (old new : Outside) (status : ℕ) : Type 0 where
   pub wrote : List ℕ
   pub since : Since old new [] [] wrote NoRead
-  pub status_is : status ≡ done_status ranges framing
-  pub noted : IsNoted old new wrote (done_line ranges framing)
+  pub status_is : status ≡ done_status ranges known framing
+  pub noted : IsNoted old new wrote (done_line ranges known framing)
 
 -- ---- what follows for one status
 
--- All is given and nothing noted: no block row is missing, and the packets were read to their end.
+-- All is given and nothing noted: no block row is missing, the height is known, and the packets were read to their end.
 pub record DecodedWhole (causes : Causes) (asks : Asking) (old new : Outside) : Type 0 where
   pub done : DecodeDone
   pub took : List ℕ
@@ -107,10 +108,11 @@ pub record DecodedWhole (causes : Causes) (asks : Asking) (old new : Outside) : 
   pub since : Since old new took gave [] (asks old took gave)
   pub cause : causes old new took gave (Ok done)
   pub framing : done.framing ≡ None
+  pub known : done.geometry.rows ≢ 0
   pub none_damaged : damaged done.damage ≡ []
   pub none_missing : (all : List ℕ) → old.rest ≡ Some all → done.damage.missing ≡ []
 
--- All is given, and the note says which rows are damaged, or why the packets could not be read on.
+-- All is given, and the note says which rows are damaged, that the height isn't known, or why the packets could not be read on.
 pub record DecodedPart (causes : Causes) (asks : Asking) (old new : Outside) : Type 0 where
   pub done : DecodeDone
   pub took : List ℕ
@@ -118,8 +120,8 @@ pub record DecodedPart (causes : Causes) (asks : Asking) (old new : Outside) : T
   pub wrote : List ℕ
   pub since : Since old new took gave wrote (asks old took gave)
   pub cause : causes old new took gave (Ok done)
-  pub lacks : damaged done.damage ≡ [] → done.framing ≡ None → ⊥
-  pub noted : IsNoted old new wrote (damage_line (damaged done.damage) done.framing)
+  pub lacks : damaged done.damage ≡ [] → done.geometry.rows ≢ 0 → done.framing ≡ None → ⊥
+  pub noted : IsNoted old new wrote (damage_line (damaged done.damage) (is_known done.geometry) done.framing)
 
 -- The decoder refused its input: the cause and the note name the same fault.
 pub record DecoderRefuses (causes : Causes) (asks : Asking) (old new : Outside) : Type 0 where
@@ -159,7 +161,7 @@ pub record ListedPart (wish : DecodeWish) (old new : Outside) : Type 0 where
   pub within : length took ≤ wish.octets
   pub listing : IsListing wish new took gave done
   pub lacks : done.framing ≡ None → ⊥
-  pub noted : IsNoted old new wrote (damage_line [] done.framing)
+  pub noted : IsNoted old new wrote (damage_line [] true done.framing)
 
 -- The list refused its input, which is too long: the lines of all packets that were taken are given.
 pub record ListRefuses (wish : DecodeWish) (old new : Outside) : Type 0 where
@@ -185,20 +187,21 @@ pub record HasTooMany (wish : DecodeWish) (old : Outside) : Type 0 where
   pub long : wish.octets ≤ length input
   pub good : has_bad_version (left_over (take wish.octets input)) ≡ false
 
--- It has packets, and tells of an image of no more pixels than are wished.
+-- It has packets, and reports an image of no more pixels than are wished. The rows that its kept headers reach never fall, so none of
+-- these headers reports more.
 pub record HasPicture (wish : DecodeWish) (old : Outside) : Type 0 where
   pub packets : HasPackets wish old
   pub geometry : Geometry
   pub geometry_is : geometry_in wish.apid packets.input ≡ Some geometry
-  pub few : geometry.width * geometry.rows ≤ wish.pixels
+  pub few : HasFewPixels wish.pixels wish.apid packets.input
 
 -- the octets tell of no image
 abbrev pub TellsNone : DecodeWish → List ℕ → Type 0
 TellsNone wish input = geometry_in wish.apid input ≡ None
 
--- they tell of an image of too many pixels
+-- their kept headers report an image of too many pixels
 abbrev pub TellsMany : DecodeWish → List ℕ → Type 0
-TellsMany wish input = (g : Geometry) × (geometry_in wish.apid input ≡ Some g) × (wish.pixels < g.width * g.rows)
+TellsMany wish input = (g : Geometry) × (geometry_in wish.apid input ≡ Some g) × (wish.pixels < g.width * rows_reached g (end_of (kept_in wish.apid input)))
 
 -- It has packets, and tells of no image, or of one of too many pixels.
 pub record HasNoPicture (wish : DecodeWish) (old : Outside) : Type 0 where

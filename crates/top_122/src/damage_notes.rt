@@ -1,9 +1,9 @@
 // The note on packets that aren't whole.
-ghost use Rattle.std.specs.Prelude.{◌≡◌, ◌≤◌, ◌++◌, [], codes, decimal};
+ghost use Rattle.std.specs.Prelude.{◌≡◌, ◌≤◌, ◌<◌, ◌^◌, ◌++◌, [], true, length, codes, decimal};
 ghost use Rattle.std.specs.List.{flat_map};
 ghost use Rattle.port_122.specs.Outside.{NotesAll};
 ghost use Rattle.top_122.specs.Notes.{Notes};
-ghost use Rattle.top_122.specs.DamageNotes.{damaged, range_text, ranges_text, framing_text, damage_line};
+ghost use Rattle.top_122.specs.DamageNotes.{damaged, range_text, ranges_text, height_text, framing_text, rest_text, damage_line};
 
 use crate::notes::{Line, note_line};
 use arrayvec::ArrayString;
@@ -12,10 +12,10 @@ use itoa::Buffer;
 use packet_defs::Framing;
 use port_122::{Failed, Port, note_all};
 
-/// Notes which rows are damaged, and why the packets can't be read on.
-pub fn note_damage<X: Port>(port: &mut X, damage: &Damage, framing: Option<Framing>)
-    requires { damage.now.rows ≤ 262144 }
-    ensures { Notes (X.outside port.old) (X.outside port.new) (damage_line (damaged damage.now) framing) }
+/// Notes which rows are damaged, whether the height isn't known, and why the packets can't be read on.
+pub fn note_damage<X: Port>(port: &mut X, damage: &Damage, known: bool, framing: Option<Framing>)
+    requires { damage.now.rows < 2 ^ 32 }
+    ensures { Notes (X.outside port.old) (X.outside port.new) (damage_line (damaged damage.now) known framing) }
 {
     let Ok(()) = note_all(port, "strip122: damaged rows".as_bytes()) else {
         return;
@@ -23,22 +23,22 @@ pub fn note_damage<X: Port>(port: &mut X, damage: &Damage, framing: Option<Frami
     let Ok(()) = note_ranges(port, damage) else {
         return;
     };
-    note_line(port, end_line(framing).as_str());
+    note_line(port, end_line(known, framing).as_str());
 }
 
 /// Notes that no row is damaged, and why the packets can't be read on.
 pub fn note_framing<X: Port>(port: &mut X, framing: Option<Framing>)
-    ensures { Notes (X.outside port.old) (X.outside port.new) (damage_line [] framing) }
+    ensures { Notes (X.outside port.old) (X.outside port.new) (damage_line [] true framing) }
 {
     let Ok(()) = note_all(port, "strip122: damaged rows none".as_bytes()) else {
         return;
     };
-    note_line(port, end_line(framing).as_str());
+    note_line(port, end_line(true, framing).as_str());
 }
 
 // Notes all ranges of damaged rows, or that there is none.
 fn note_ranges<X: Port>(port: &mut X, damage: &Damage) -> Result<(), Failed>
-    requires { damage.now.rows ≤ 262144 }
+    requires { damage.now.rows < 2 ^ 32 }
     ensures { NotesAll result (X.outside port.old) (X.outside port.new) (ranges_text (damaged damage.now)) }
 {
     if damage.next_range(0).is_none() {
@@ -49,7 +49,7 @@ fn note_ranges<X: Port>(port: &mut X, damage: &Damage) -> Result<(), Failed>
 
 // Notes each range of damaged rows.
 fn note_each<X: Port>(port: &mut X, damage: &Damage) -> Result<(), Failed>
-    requires { damage.now.rows ≤ 262144 }
+    requires { damage.now.rows < 2 ^ 32 }
     ensures { NotesAll result (X.outside port.old) (X.outside port.new) (flat_map range_text (damaged damage.now)) }
 {
     let mut from = 0;
@@ -79,40 +79,56 @@ fn range_line(range: RowRange) -> Line
 }
 
 // What follows the ranges.
-fn end_line(framing: Option<Framing>) -> Line
-    ensures { result.bytes ≡ framing_text framing ++ codes "\n" }
+fn end_line(known: bool, framing: Option<Framing>) -> Line
+    ensures { result.bytes ≡ rest_text known framing ++ codes "\n" }
 {
-    match framing {
-        None => plain_end(),
-        Some(Framing::BadVersion { octet }) => version_end(octet),
-        Some(Framing::CutPacket { missing }) => cut_end(missing),
-    }
-}
-
-fn plain_end() -> Line
-    ensures { result.bytes ≡ codes "\n" }
-{
-    let mut line = ArrayString::new();
+    let mut line = height_line(known);
+    line.push_str(framing_line(framing).as_str());
     line.push_str("\n");
     line
 }
 
-fn version_end(octet: u64) -> Line
-    ensures { result.bytes ≡ codes "; bad version at octet " ++ decimal octet ++ codes "\n" }
+// That the height isn't known.
+fn height_line(known: bool) -> Line
+    ensures text { result.bytes ≡ height_text known }
+    ensures short { length result.bytes ≤ 16 }
+{
+    let mut line = ArrayString::new();
+    if !known {
+        line.push_str("; height unknown");
+    }
+    line
+}
+
+// Why the packets can't be read on.
+fn framing_line(framing: Option<Framing>) -> Line
+    ensures text { result.bytes ≡ framing_text framing }
+    ensures short { length result.bytes ≤ 60 }
+{
+    match framing {
+        None => ArrayString::new(),
+        Some(Framing::BadVersion { octet }) => version_line(octet),
+        Some(Framing::CutPacket { missing }) => cut_line(missing),
+    }
+}
+
+fn version_line(octet: u64) -> Line
+    ensures text { result.bytes ≡ codes "; bad version at octet " ++ decimal octet }
+    ensures short { length result.bytes ≤ 60 }
 {
     let mut line = ArrayString::new();
     line.push_str("; bad version at octet ");
     line.push_str(Buffer::new().format(octet));
-    line.push_str("\n");
     line
 }
 
-fn cut_end(missing: u32) -> Line
-    ensures { result.bytes ≡ codes "; packet cut, " ++ decimal missing ++ codes " octets missing\n" }
+fn cut_line(missing: u32) -> Line
+    ensures text { result.bytes ≡ codes "; packet cut, " ++ decimal missing ++ codes " octets missing" }
+    ensures short { length result.bytes ≤ 60 }
 {
     let mut line = ArrayString::new();
     line.push_str("; packet cut, ");
     line.push_str(Buffer::new().format(missing));
-    line.push_str(" octets missing\n");
+    line.push_str(" octets missing");
     line
 }

@@ -1,7 +1,7 @@
 // The commands that read packets.
-ghost use Rattle.std.specs.Prelude.{◌≡◌, ◌≤◌, []};
+ghost use Rattle.std.specs.Prelude.{◌≡◌, [], true};
 ghost use Rattle.top_122.specs.Notes.{decoder_fault_status, list_fault_status};
-ghost use Rattle.top_122.specs.DamageNotes.{damaged};
+ghost use Rattle.top_122.specs.DamageNotes.{damaged, is_known};
 ghost use Rattle.top_122.specs.Decoding.{Decodes, FindsDamage, ListsPackets, TellsDone, reads};
 
 use crate::damage_notes::{note_damage, note_framing};
@@ -36,21 +36,24 @@ fn list_fault_status(fault: ListFault) -> u8
     }
 }
 
-// Answers 0 where no row is damaged and the packets could be read to their end; else it notes what is wrong.
+// Answers 0 if no row is damaged, the height is known and the packets could be read to their end; else it notes what is wrong. The
+// damage is that of the rows that were written.
 fn tell_done<X: Port>(port: &mut X, done: &DecodeDone) -> u8
-    requires { done.now.damage.rows ≤ 262144 }
-    ensures { TellsDone (damaged done.now.damage) done.now.framing (X.outside port.old) (X.outside port.new) result }
+    requires { done.now.damage.rows ≡ done.now.written }
+    ensures { TellsDone (damaged done.now.damage) (is_known done.now.geometry) done.now.framing (X.outside port.old) (X.outside port.new) result }
 {
-    if done.damage.next_range(0).is_none() && done.framing.is_none() {
+    let known = done.geometry.rows != 0;
+    let _written = done.written;
+    if done.damage.next_range(0).is_none() && known && done.framing.is_none() {
         return 0;
     }
-    note_damage(port, &done.damage, done.framing);
+    note_damage(port, &done.damage, known, done.framing);
     1
 }
 
 // Answers 0 where the packets could be read to their end; else it notes why not.
 fn tell_framing<X: Port>(port: &mut X, framing: Option<Framing>) -> u8
-    ensures { TellsDone [] framing (X.outside port.old) (X.outside port.new) result }
+    ensures { TellsDone [] true framing (X.outside port.old) (X.outside port.new) result }
 {
     if framing.is_none() {
         return 0;

@@ -46,10 +46,9 @@ fn fault_status(fault: EncodeFault) -> u8
     }
 }
 
-// The command `encode`. The memory is taken first, so where there is none nothing was read.
+// The command `encode`. The memory is taken first, so if there is none nothing was read.
 fn encode<X: Port>(alloc: Global, setting: &Setting, port: &mut X) -> u8
-    requires range { IsSettingInRange setting.now }
-    requires height { IsWithin rows_range setting.now.rows }
+    requires { IsSettingInRange setting.now }
     ensures { Encodes setting.now (X.outside port.old) (X.outside port.new) result }
 {
     let Ok(mut work) = Work::new(alloc, setting) else {
@@ -113,8 +112,8 @@ fn perform<X: Port>(alloc: Global, command: &Command, port: &mut X) -> u8
 }
 
 /// Does all that the program does for these words, without the program's own name, and answers its status
-/// (docs/architecture.md, "Where the meaning of a run is proved"): 0 done, 1 the picture lacks rows or its packets
-/// can't be read on, 2 the words are refused, 3 the input is refused, 4 read fault, 5 write fault, 6 no memory. Each
+/// (docs/architecture.md, "Where the meaning of a run is proved"): 0 done, 1 the picture lacks rows, its height isn't known or its
+/// packets can't be read on, 2 the words are refused, 3 the input is refused, 4 read fault, 5 write fault, 6 no memory. Each
 /// status but 0 has its line among the notes, and is decided before it is noted.
 pub fn run<X: Port>(alloc: Global, words: &[String], port: &mut X) -> u8
     // What the words say decides what is done, and each answer has its cause there.

@@ -21,6 +21,7 @@ use port_122::{Failed, MemoryPort, Port, write_all};
 use raster_rows::MadeImage;
 use segment_code::texts_are_short;
 use std::alloc::{AllocError, Global};
+use stream_defs::heights_are_known;
 use strip_coder::{EncodeDone, Work, encode_rows};
 use strip_decoder::decode_packets;
 
@@ -81,6 +82,7 @@ fn count_decoded(
     ensures { IfOk result (AreEqualIn setting.now (image_of setting.now raster.now) packets.now) }
 {
     texts_are_short();
+    heights_are_known();
     ten_weights(&setting.weights.shifts);
     let mut port = port_with(alloc, packets)?;
     decode(alloc, setting, &mut port)?;
