@@ -32,7 +32,7 @@ static inline uint64_t strip122_encode_memory(const strip122_setting *s, uint64_
 }
 
 /* Octets that are enough for strip122_decode, if the packets are those of an image of this size, with `segment` blocks in a segment, and
-   its picture has `octets` octets. */
+   its picture has `octets` octets. If the height is reported last, `rows` is 262,144 here, and `octets` the size of the room. */
 static inline uint64_t strip122_decode_memory(uint32_t width, uint32_t rows, uint32_t segment, uint64_t octets) {
     uint64_t columns = ((uint64_t)width + 7) / 8 * 8;
     uint64_t blocks = strip122_segment_blocks(width, rows, segment);

@@ -42,6 +42,7 @@ struct Decoded {
     fault_octets: u64,
     width: u32,
     rows: u32,
+    written: u32,
     segment: u32,
     image: u16,
     depth: u8,

@@ -12,7 +12,8 @@ extern "C" {
 /* What a call answers. */
 enum strip122_answer {
     STRIP122_DONE = 0,
-    STRIP122_DAMAGED = 1,      /* decode: the picture is given, but rows are damaged or the packets can't be read to their end */
+    STRIP122_DAMAGED = 1,      /* decode: the picture is given, but rows are damaged, the packets can't be read to their end, or the
+                                  height isn't known */
     STRIP122_OUT_OF_RANGE = 2, /* encode: a field of the setting is out of range */
     STRIP122_SHORT = 3,        /* encode: the raster has fewer octets than the setting needs */
     STRIP122_LONG = 4,         /* encode: the raster has more octets than the setting needs */
@@ -41,7 +42,7 @@ enum strip122_field {
 /* A setting of the encoder (crates/base_122/src/range.rt has the range of each field). A flag is set by each number except 0. */
 typedef struct strip122_setting {
     uint32_t width;     /* pixels of a row */
-    uint32_t rows;
+    uint32_t rows;      /* of the raster, 17 to 262,144 */
     uint32_t segment;   /* blocks of a segment */
     uint32_t limit;     /* octets of a segment's text, with its head; 0 is no limit */
     uint32_t packet;    /* greatest length of a packet data field, in octets */
@@ -75,7 +76,8 @@ typedef struct strip122_decoded {
     uint64_t ranges;       /* ranges of damaged rows, including those for which there was no place */
     uint64_t fault_octets; /* the octet at which a packet has another version, or the octets missing from the last packet */
     uint32_t width;
-    uint32_t rows;
+    uint32_t rows;         /* the height of the image; 0 if no header reports it */
+    uint32_t written;      /* rows of the picture: the height if it is known, otherwise those that the received headers determine */
     uint32_t segment;
     uint16_t image;
     uint8_t depth;

@@ -31,7 +31,7 @@ class Encoded(ctypes.Structure):
 class Decoded(ctypes.Structure):
     _fields_ = (
         fields(ctypes.c_uint64, "octets ranges fault_octets")
-        + fields(ctypes.c_uint32, "width rows segment")
+        + fields(ctypes.c_uint32, "width rows written segment")
         + fields(ctypes.c_uint16, "image")
         + fields(ctypes.c_uint8, "depth is_signed word fault")
         + [("weights", ctypes.c_uint8 * 10)]

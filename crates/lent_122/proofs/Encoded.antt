@@ -110,7 +110,7 @@ bad_pixel s raster old new row column value admits rest run =
 -- ---- the image
 
 -- the pixels of a raster that was taken are in range
-raster_pixels : (s : Setting) (raster : List ℕ) → TookRaster s s.rows raster → ArePixels s (image_of s raster)
+raster_pixels : (s : Setting) (raster : List ℕ) → TookRaster s s.rows raster → ArePixels s s.rows (image_of s raster)
 raster_pixels s raster whole = record {
   at = λ i j row column.
       let size = pixel_size s.depth in
@@ -126,7 +126,7 @@ raster_pixels s raster whole = record {
 -- the whole raster was taken, and its packets given
 pub record HasEncoded (s : Setting) (raster : List ℕ) (new : Outside) (done : EncodeDone) : Type 0 where
   pub took : TookRaster s s.rows raster
-  pub image : IsImageFor s (image_of s raster)
+  pub image : IsImageFor s s.rows (image_of s raster)
   pub done_for : DoneFor s s.rows (image_of s raster) done
   pub gave : (packets : List ℕ) → new.given ≡ Some packets → packets ≡ output s s.rows (image_of s raster)
 
@@ -139,7 +139,7 @@ has_encoded s raster old new done admits ten rest none run =
     let whole : TookRaster s s.rows raster = subst (λ rows. TookRaster s rows raster) rows (subst (TookRaster s answer.0) took answer.1) in
     record {
       took = whole;
-      image = record { range = admits.range; height = admits.height; weights = ten; pixels = raster_pixels s raster whole };
+      image = record { range = admits.range; height = (admits.height, inr refl); weights = ten; pixels = raster_pixels s raster whole };
       done_for = subst (λ rows. DoneFor s rows (image_of s raster) done) rows (subst (λ octets. DoneFor s answer.0 (image_of s octets) done) took answer.4);
       gave = λ packets gives. given_told [] packets run.since none gives ∙ answer.3 ∙ ap (λ octets. output s answer.0 (image_of s octets)) took
           ∙ ap (λ rows. output s rows (image_of s raster)) rows;

@@ -3,5 +3,6 @@ pub mod Admitted
 pub mod Encoded
 pub mod ReadOut
 pub mod Found
+pub mod Written
 pub mod Decoded
 pub mod RasterBack

@@ -1,17 +1,17 @@
 -- What is answered where all packets are decoded at once. This project's own.
-use Rattle.std.specs.Prelude.{◌≡◌, ◌<◌, ◌+◌, ◌*◌, ◌^◌, ◌-◌, ◌++◌, ℕ, ℤ, List, length, take, drop, Some, None, Result, Ok, Err, ⊤}
+use Rattle.std.specs.Prelude.{◌≡◌, ◌≢◌, ◌≤◌, ◌<◌, ◌+◌, ◌*◌, ◌^◌, ◌-◌, ◌++◌, ℕ, ℤ, List, length, take, drop, Some, None, Result, Ok, Err, ⊤}
 use Rattle.port_122.specs.Outside.{Outside}
-use Rattle.base_122.specs.Ranges.{IsGeometryInRange, IsWithin, rows_range}
-use Rattle.base_122.specs.Setting.{geometry_of}
+use Rattle.base_122.specs.Ranges.{IsGeometryInRange, rows_range}
+use Rattle.base_122.specs.Setting.{image_geometry}
 use Rattle.base_122.specs.declared.geometry.Geometry.{Geometry}
 use Rattle.base_122.specs.declared.setting.Setting.{Setting}
 use Rattle.base_122.specs.declared.wish.DecodeWish.{DecodeWish}
 use Rattle.packet_defs.specs.Streams.{framing}
 use Rattle.raster_rows.specs.Pixels.{pixel_size}
-use Rattle.stream_defs.specs.Damage.{whole_missing}
+use Rattle.stream_defs.specs.Begun.{begun_in, height}
 use Rattle.stream_defs.specs.Fates.{geometry_in}
 use Rattle.stream_defs.specs.Output.{output}
-use Rattle.stream_defs.specs.Picture.{whole_octets}
+use Rattle.stream_defs.specs.Picture.{picture_octets}
 use Rattle.stream_defs.specs.Received.{ReceivedIn}
 use Rattle.strip_decoder.specs.declared.decode.DecodeDone.{DecodeDone}
 use Rattle.strip_decoder.specs.declared.decode.DecodeFault.TheVariants as faults
@@ -19,18 +19,23 @@ use Rattle.strip_decoder.specs.Answers.{Decodes as RunsDecoder}
 use Rattle.strip_decoder.specs.Containment.{IsImageFor}
 use Rattle.strip_decoder.specs.RoundTrip.{GivesBack}
 use Rattle.strip_decoder.specs.Runs.{Numbers, holds_after}
+use Rattle.strip_decoder.specs.Walks.{IsDamageOf}
 use Rattle.lent_122.specs.declared.decode.DecodeRefusal.{DecodeRefusal}
 use Rattle.lent_122.specs.declared.decode.DecodeRefusal.TheVariants.{NoSegment, SmallRoom, Memory}
 
--- octets of a picture
-abbrev pub picture_length : Geometry → ℕ
-picture_length g = g.rows * (g.width * pixel_size g.depth)
+-- octets of a picture of so many rows
+abbrev pub picture_length : Geometry → (rows : ℕ) → ℕ
+picture_length g rows = rows * (g.width * pixel_size g.depth)
 
--- the geometry in these packets, of an image whose height is known
+-- the geometry in these packets, whose rows are 0 if no header reports the height
 pub record HasGeometry (apid : ℕ) (packets : List ℕ) (g : Geometry) : Type 0 where
   pub geometry : geometry_in apid packets ≡ Some g
   pub range : IsGeometryInRange g
-  pub height : IsWithin rows_range g.rows
+
+-- a geometry in the first of them, which is that in all of them if it has a height
+pub record BeginsWith (apid : ℕ) (packets : List ℕ) (g : Geometry) : Type 0 where
+  pub range : IsGeometryInRange g
+  pub known : g.rows ≢ 0 → geometry_in apid packets ≡ Some g
 
 -- ---- a run over a port
 
@@ -47,28 +52,37 @@ HasRun apid packets old new (Err other) = ⊥
 
 -- ---- all packets
 
--- The picture of the segments that are received in the packets, up to their end or what can't be read on. The missing block rows are
--- those with a block in none of these segments.
+-- The picture of the segments that are received in the packets, up to their end or what can't be read on, and its damage. It has all
+-- rows of the image, or if no header reports the height those that the block rows determine which the kept headers reach.
 pub record IsShown (apid : ℕ) (packets picture : List ℕ) (done : DecodeDone) : Type 0 where
   pub tells : HasGeometry apid packets done.geometry
   pub framing_is : done.framing ≡ framing packets
-  pub rows : done.damage.rows ≡ done.geometry.rows
+  pub written : done.written ≡ height done.geometry (begun_in apid packets)
+  pub most : done.written ≤ rows_range.most
+  pub rows : done.damage.rows ≡ done.written
   pub received : Numbers
   pub received_are : ReceivedIn holds_after apid packets received
-  pub picture_is : picture ≡ whole_octets done.geometry received
-  pub missing : done.damage.missing ≡ whole_missing done.geometry received
+  pub picture_is : picture ≡ picture_octets done.geometry received (begun_in apid packets)
+  pub damage : IsDamageOf done.geometry received (begun_in apid packets) done.damage
 
 -- the room begins with it, and the rest of the room is unchanged
 pub record HasPicture (apid : ℕ) (packets old new : List ℕ) (done : DecodeDone) : Type 0 where
   pub picture : List ℕ
   pub shown : IsShown apid packets picture done
-  pub octets : length picture ≡ picture_length done.geometry
+  pub octets : length picture ≡ picture_length done.geometry done.written
   pub room : new ≡ picture ++ drop (length picture) old
+
+-- the room has fewer octets than a picture of this geometry and this number of rows
+pub record HasSmallRoom (apid : ℕ) (packets : List ℕ) (room : ℕ) (g : Geometry) (rows : ℕ) : Type 0 where
+  pub tells : HasGeometry apid packets g
+  pub written : rows ≡ height g (begun_in apid packets)
+  pub most : rows ≤ rows_range.most
+  pub small : room < picture_length g rows
 
 -- the cause of a refusal, by the number of octets of the room
 abbrev pub IsRefused : (apid : ℕ) (packets : List ℕ) → (room : ℕ) → DecodeRefusal → Type 0
 IsRefused apid packets room NoSegment = geometry_in apid packets ≡ None
-IsRefused apid packets room (SmallRoom g) = HasGeometry apid packets g × (room < picture_length g)
+IsRefused apid packets room (SmallRoom g rows) = HasSmallRoom apid packets room g rows
 IsRefused apid packets room Memory = ⊤
 
 -- The answer and its cause. A refusal leaves the room unchanged.
@@ -78,15 +92,15 @@ Decodes apid packets old new (Err refusal) = (new ≡ old) × IsRefused apid pac
 
 -- ---- the round trip
 
--- The answer to all packets of an image: no row of it is missing, and if nothing was left out, each pixel is the same. Otherwise the room
--- is too small, or there is no memory.
-abbrev pub BringsImage : Setting → (ℕ → ℕ → ℤ) → (new : List ℕ) → Result DecodeDone DecodeRefusal → Type 0
-BringsImage s x new (Ok done) = GivesBack s x (take (picture_length done.geometry) new) done
-BringsImage s x new (Err (SmallRoom g)) = g ≡ geometry_of s
-BringsImage s x new (Err Memory) = ⊤
-BringsImage s x new (Err other) = ⊥
+-- The answer to all packets of an image: all of its rows are there, none is missing, and if nothing was left out, each pixel is the same.
+-- Otherwise the room is too small, or there is no memory.
+abbrev pub BringsImage : Setting → (rows : ℕ) → (ℕ → ℕ → ℤ) → (new : List ℕ) → Result DecodeDone DecodeRefusal → Type 0
+BringsImage s rows x new (Ok done) = GivesBack s rows x (take (picture_length done.geometry done.written) new) done
+BringsImage s rows x new (Err (SmallRoom g needed)) = (g ≡ image_geometry s rows) × (needed ≡ rows)
+BringsImage s rows x new (Err Memory) = ⊤
+BringsImage s rows x new (Err other) = ⊥
 
 -- the same for each image
 abbrev pub BringsBack : (apid : ℕ) (packets new : List ℕ) → Result DecodeDone DecodeRefusal → Type 0
 BringsBack apid packets new result =
-    (s : Setting) (x : ℕ → ℕ → ℤ) → apid ≡ s.apid → packets ≡ output s s.rows x → IsImageFor s x → BringsImage s x new result
+    (s : Setting) (rows : ℕ) (x : ℕ → ℕ → ℤ) → apid ≡ s.apid → packets ≡ output s rows x → IsImageFor s rows x → BringsImage s rows x new result

@@ -45,7 +45,7 @@ HasRun s old new (Err other) = ⊥
 -- The raster was whole and in range. The room begins with all packets of its image, and the rest of the room is unchanged.
 pub record HasPackets (s : Setting) (raster old new : List ℕ) (done : EncodeDone) : Type 0 where
   pub took : TookRaster s s.rows raster
-  pub image : IsImageFor s (image_of s raster)
+  pub image : IsImageFor s s.rows (image_of s raster)
   pub done_for : DoneFor s s.rows (image_of s raster) done
   pub room : new ≡ output s s.rows (image_of s raster) ++ drop done.octets old
 

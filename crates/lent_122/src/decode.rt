@@ -1,12 +1,13 @@
 // Packets in, whole pictures out.
-ghost use Rattle.std.specs.Prelude.{◌≡◌, Some};
+ghost use Rattle.std.specs.Prelude.{◌≡◌, IfErr, Some};
 ghost use Rattle.lent_122.specs.Lent.{outside_of};
-ghost use Rattle.lent_122.specs.Decoding.{HasRun, Decodes, BringsBack};
+ghost use Rattle.lent_122.specs.Decoding.{HasRun, IsRefused, Decodes, BringsBack};
 
 use crate::geometry::{find_geometry, picture_length};
 use crate::port::LentPort;
 use base_122::{DecodeWish, Geometry};
 use std::alloc::Global;
+use stream_defs::heights_are_known;
 use strip_decoder::{DecodeDone, DecodeFault, decode_packets, received_is_told, round_trip};
 
 /// Why no picture of packets is given.
@@ -14,15 +15,17 @@ use strip_decoder::{DecodeDone, DecodeFault, decode_packets, received_is_told, r
 pub enum DecodeRefusal {
     /// No packet that is kept begins a segment.
     NoSegment,
-    /// The room has fewer octets than a picture of this geometry.
-    SmallRoom { geometry: Geometry },
+    /// The room has fewer octets than the picture, which has this geometry and this number of rows.
+    SmallRoom { geometry: Geometry, rows: u32 },
     /// There is no memory.
     Memory,
 }
 
 /// Decodes the packets of an APID, and puts their picture at the start of the room; the rest of the room is unchanged, and so is all of
 /// it after a refusal. The causes of the answers exclude each other, so each answer except `Memory` is given exactly if its cause holds.
-/// If the room is too small, the packets are read no further than to the first one that is kept.
+/// If the room is too small, the packets are read no further than to the first one that is kept, or to their end if their height is
+/// reported last. If it isn't reported at all, the picture has the rows that the block rows determine which the packets reach
+/// (docs/formats.md, "Picture and damage").
 pub fn decode_whole(
     alloc: Global,
     apid: u16,
@@ -34,6 +37,7 @@ pub fn decode_whole(
 {
     round_trip();
     received_is_told();
+    heights_are_known();
     put_picture(alloc, apid, packets, room)
 }
 
@@ -46,17 +50,10 @@ fn put_picture(
 ) -> Result<DecodeDone, DecodeRefusal>
     ensures { Decodes apid packets.now room.old room.new result }
 {
-    let mut kept = 0;
-    match find_geometry(alloc, apid, packets) {
-        Ok(Some(geometry)) => {
-            kept = picture_length(&geometry);
-            if kept > room.len() {
-                return Err(DecodeRefusal::SmallRoom { geometry });
-            }
-        }
-        Ok(None) => {}
-        Err(_) => return Err(DecodeRefusal::Memory),
-    }
+    let kept = match octets_kept(alloc, apid, packets, room.len()) {
+        Ok(kept) => kept,
+        Err(refusal) => return Err(refusal),
+    };
     let Ok(mut port) = LentPort::new(alloc, packets, kept) else {
         return Err(DecodeRefusal::Memory);
     };
@@ -64,10 +61,11 @@ fn put_picture(
         Ok(done) => done,
         Err(refusal) => return Err(refusal),
     };
-    let length = picture_length(&done.geometry);
+    let length = picture_length(&done.geometry, done.written);
     if length > room.len() {
         return Err(DecodeRefusal::SmallRoom {
             geometry: done.geometry,
+            rows: done.written,
         });
     }
     // The picture fits, so it was kept; but no clause of a port says that it keeps what fits.
@@ -76,6 +74,32 @@ fn put_picture(
     };
     room[..length].copy_from_slice(picture);
     Ok(done)
+}
+
+// The octets of the picture for which there has to be memory beside the room: all, or as many as the room has if the first packet
+// that is kept reports no height. Refuses a picture whose first packet reports that it doesn't fit.
+fn octets_kept(
+    alloc: Global,
+    apid: u16,
+    packets: &[u8],
+    room: usize,
+) -> Result<usize, DecodeRefusal>
+    ensures { IfErr result (IsRefused apid packets.now room) }
+{
+    let geometry = match find_geometry(alloc, apid, packets) {
+        Ok(Some(geometry)) => geometry,
+        Ok(None) => return Ok(0),
+        Err(_) => return Err(DecodeRefusal::Memory),
+    };
+    let rows = geometry.rows;
+    if rows == 0 {
+        return Ok(room);
+    }
+    let length = picture_length(&geometry, rows);
+    if length > room {
+        return Err(DecodeRefusal::SmallRoom { geometry, rows });
+    }
+    Ok(length)
 }
 
 // Decodes the packets that a port has.

@@ -29,7 +29,7 @@ pub enum EncodeRefusal {
 
 /// Encodes a raster, and puts all of its packets at the start of the room; the rest of the room is unchanged, and so is all of it
 /// after a refusal. The causes of the answers exclude each other, so each answer except `Memory` is given exactly if its cause holds. The
-/// image's height has to be known: a setting that leaves its rows open is refused by the name of the rows.
+/// caller has the whole raster, and so knows its height: a setting that leaves its rows open is refused by the name of the rows.
 pub fn encode_whole(
     alloc: Global,
     setting: &Setting,

@@ -65,7 +65,35 @@ fn small_rooms(rt: HostRuntime) -> Result<(), Fail> {
         return Err(Fail::from("not refused"));
     };
     let geometry = setting(12).geometry();
-    assert_eq!(rt; refusal, DecodeRefusal::SmallRoom { geometry });
+    let small = DecodeRefusal::SmallRoom { geometry, rows: 17 };
+    assert_eq!(rt; refusal, small);
+    Ok(())
+}
+
+// If the height is reported last, it is found as well.
+#[test]
+fn a_height_reported_last(rt: HostRuntime) -> Result<(), Fail> {
+    let alloc = rt.alloc();
+    let raster = flat(alloc, 1, 77)?;
+    let mut packets = vec![in alloc; 9; 4000]?;
+    let done = encode_whole(alloc, &setting(8), &raster, &mut packets)?;
+    assert!(rt; done.octets < 4000);
+    packets[7] = 0x21;
+    packets[13] = 0;
+    let octets = done.octets as usize;
+    let mut back = vec![in alloc; 7; 408]?;
+    let Ok(found) = decode_whole(alloc, 100, &packets[..octets], &mut back) else {
+        return Err(Fail::from("refused"));
+    };
+    assert_eq!(rt; (found.geometry.rows, found.written), (17, 17));
+    assert!(rt; back.as_slice() == raster.as_slice());
+    let mut small_room = vec![in alloc; 7; 407]?;
+    let Err(refusal) = decode_whole(alloc, 100, &packets[..octets], &mut small_room) else {
+        return Err(Fail::from("not refused"));
+    };
+    let geometry = setting(8).geometry();
+    let small = DecodeRefusal::SmallRoom { geometry, rows: 17 };
+    assert_eq!(rt; refusal, small);
     Ok(())
 }
 

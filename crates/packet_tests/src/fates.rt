@@ -1,7 +1,7 @@
 // Fates of packets.
 ghost use Rattle.std.specs.Prelude.{◌<◌};
 
-use crate::examples::{BLACK, FIRST, changed, port_of, second};
+use crate::examples::{BLACK, FIRST, changed, port_of, reported_last, second};
 use packet_assembly::{Assembly, Fate, Framing, PacketNote, Skip};
 use port_122::MemoryPort;
 use segment_defs::{HeadFault, HeadField};
@@ -123,13 +123,53 @@ fn one_octet_changes_the_fate(rt: HostRuntime) -> Result<(), Fail> {
     Ok(())
 }
 
-// No packet of an image whose height is reported last is of an image that is read.
+// The first packet that is kept decides whether its image's height is reported last: the other mark is foreign from then on.
 #[test]
-fn a_height_reported_last_is_foreign(rt: HostRuntime) -> Result<(), Fail> {
-    let mut packet = changed(7, 0x21);
-    packet[13] = 0;
-    let notes = [told(0, Fate::Foreign), told(1, Fate::Kept)];
-    expect(&rt, &[&packet, &BLACK], 51, &notes, None)
+fn one_mark_is_kept(rt: HostRuntime) -> Result<(), Fail> {
+    let last = reported_last(0, 0x08);
+    let notes = [
+        told(0, Fate::Kept),
+        told(1, Fate::Foreign),
+        told(2, Fate::Late),
+    ];
+    expect(&rt, &[&last, &BLACK, &last], 51, &notes, None)?;
+    let notes = [told(0, Fate::Kept), told(1, Fate::Foreign)];
+    expect(&rt, &[&BLACK, &last], 51, &notes, None)
+}
+
+#[test]
+fn one_octet_changes_the_fate_of_a_height_reported_last(rt: HostRuntime) -> Result<(), Fail> {
+    for (place, octet, fate) in [
+        (13, 17, Fate::Foreign),
+        (30, 0x40, bad(HeadField::First)),
+        (31, 0x42, bad(HeadField::Count)),
+        // 73 blocks, of segments of 64.
+        (40, 0x04, bad(HeadField::Blocks)),
+        // 8 blocks, in rows of three; and 6, in two block rows, of which 7 rows pad the image.
+        (41, 0x8c, bad(HeadField::Last)),
+        (41, 0x6c, bad(HeadField::Last)),
+        // 6 rows pad an image of 18.
+        (33, 0xc0, Fate::Kept),
+    ] {
+        let packet = reported_last(place, octet);
+        expect(&rt, &[&packet], 64, &[told(0, fate)], None)?;
+    }
+    Ok(())
+}
+
+// A header that doesn't end its image has all blocks of a segment, here 16 and not 17.
+#[test]
+fn a_segment_before_the_last_is_whole(rt: HostRuntime) -> Result<(), Fail> {
+    let mut whole = FIRST;
+    whole[7] = 0x21;
+    whole[13] = 0;
+    let mut longer = whole;
+    longer[40] = 0x1c;
+    let notes = [
+        told_of(0, bad(HeadField::Blocks), 0),
+        told_of(1, Fate::Kept, 0),
+    ];
+    expect(&rt, &[&longer, &whole], 64, &notes, None)
 }
 
 #[test]

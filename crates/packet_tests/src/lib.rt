@@ -11,6 +11,8 @@ mod examples;
 #[cfg(test)]
 mod fates;
 #[cfg(test)]
+mod last_heights;
+#[cfg(test)]
 mod pictures;
 #[cfg(test)]
 mod read;

@@ -1,8 +1,8 @@
 // Made images, encoded, and the pictures of their packets.
-ghost use Rattle.std.specs.Prelude.{◌≢◌, ◌≤◌, length};
+ghost use Rattle.std.specs.Prelude.{◌≤◌, length};
 ghost use Rattle.base_122.specs.Ranges.{IsInRange};
 
-use crate::examples::{changed, port_of};
+use crate::examples::port_of;
 use base_122::{DecodeWish, Setting};
 use damage_rows::{Damage, RowRange};
 use packet_assembly::Framing;
@@ -16,7 +16,7 @@ use strip_coder::{Work, encode_rows};
 use strip_decoder::{DecodeDone, DecodeFault, decode_packets};
 
 // What most pictures are wished with.
-const WISH: DecodeWish = DecodeWish {
+pub const WISH: DecodeWish = DecodeWish {
     apid: 100,
     pixels: 1 << 20,
     octets: 1 << 20,
@@ -63,7 +63,7 @@ pub struct MadeStream {
 }
 
 // The raster of the made image of a setting.
-fn make_raster(rt: &impl AllocGlobal, setting: &Setting) -> Result<Vec<u8>, Fail>
+pub fn make_raster(rt: &impl AllocGlobal, setting: &Setting) -> Result<Vec<u8>, Fail>
     requires { IsInRange setting.now }
 {
     let mut raster = Vec::new(rt.alloc());
@@ -75,8 +75,7 @@ fn make_raster(rt: &impl AllocGlobal, setting: &Setting) -> Result<Vec<u8>, Fail
 
 // Encodes the raster that this port has, and answers whether that was done.
 fn encode_port(alloc: Global, setting: &Setting, port: &mut MemoryPort) -> bool
-    requires in_range { IsInRange setting.now }
-    requires known { setting.now.rows ≢ 0 }
+    requires { IsInRange setting.now }
 {
     let Ok(mut work) = Work::new(alloc, setting) else {
         return false;
@@ -87,14 +86,13 @@ fn encode_port(alloc: Global, setting: &Setting, port: &mut MemoryPort) -> bool
     done
 }
 
-// The packets of a raster.
+// The packets of a raster, which report its height last if the setting leaves the rows open.
 pub fn make_packets(
     rt: &(impl Abort + AllocGlobal),
     setting: &Setting,
     raster: &[u8],
 ) -> Result<Vec<u8>, Fail> {
     assert_eq!(rt; setting.check(), Ok(()));
-    assert!(rt; setting.rows != 0);
     let mut port = port_of(rt.alloc(), &[raster], &[], 65_536)?;
     assert!(rt; encode_port(rt.alloc(), setting, &mut port));
     Ok(port.given().to_vec(rt.alloc())?)
@@ -119,7 +117,7 @@ pub fn packet_end(rt: &impl Abort, octets: &[u8]) -> usize
 }
 
 // Where the packet of a segment's part begins and ends in a stream that has it, which has fewer packets than octets.
-fn place_of(rt: &impl Abort, octets: &[u8], index: u8, part: u8) -> (usize, usize) {
+pub fn place_of(rt: &impl Abort, octets: &[u8], index: u8, part: u8) -> (usize, usize) {
     let mut at = 0;
     for _ in 0..octets.len() {
         assert!(rt; at < octets.len());
@@ -135,13 +133,13 @@ fn place_of(rt: &impl Abort, octets: &[u8], index: u8, part: u8) -> (usize, usiz
 
 // What a decoder answered, and the port that it left.
 #[derive(Drop)]
-struct Outcome {
-    answer: Result<DecodeDone, DecodeFault>,
-    port: MemoryPort,
+pub struct Outcome {
+    pub answer: Result<DecodeDone, DecodeFault>,
+    pub port: MemoryPort,
 }
 
 // Decodes this input with pieces of this size, and lets the calls of these numbers fail.
-fn decoded(
+pub fn decoded(
     rt: &(impl Abort + AllocGlobal),
     wish: &DecodeWish,
     input: &[u8],
@@ -156,7 +154,7 @@ fn decoded(
 }
 
 // Why a decoder has failed.
-fn fault_of(answer: &Result<DecodeDone, DecodeFault>) -> Option<DecodeFault> {
+pub fn fault_of(answer: &Result<DecodeDone, DecodeFault>) -> Option<DecodeFault> {
     match answer {
         Ok(_) => None,
         Err(fault) => Some(*fault),
@@ -177,7 +175,7 @@ fn expect_fault(
 }
 
 // The rows of an image that aren't damaged are those of its raster.
-fn expect_rows(
+pub fn expect_rows(
     rt: &impl Abort,
     width: u32,
     raster: &[u8],
@@ -196,7 +194,7 @@ fn expect_rows(
 }
 
 // Just these rows are damaged.
-fn expect_damage(rt: &impl Abort, damage: &Damage, damaged: Option<RowRange>) {
+pub fn expect_damage(rt: &impl Abort, damage: &Damage, damaged: Option<RowRange>) {
     assert_eq!(rt; damage.next_range(0), damaged);
     if let Some(range) = damaged {
         assert_eq!(rt; damage.next_range(range.first.saturating_add(1)), None);
@@ -271,7 +269,7 @@ fn an_image_comes_back(rt: HostRuntime) -> Result<(), Fail> {
 }
 
 // These packets without that of a segment's part.
-fn without(
+pub fn without(
     rt: &(impl Abort + AllocGlobal),
     packets: &[u8],
     index: u8,
@@ -369,13 +367,6 @@ fn no_picture_without_a_segment_or_of_too_many_pixels(rt: HostRuntime) -> Result
     wish.pixels = 2_176;
     assert!(rt; is_decoded(&rt, &wish, &made.packets)?);
     Ok(())
-}
-
-#[test]
-fn no_segment_of_an_image_whose_height_is_reported_last(rt: HostRuntime) -> Result<(), Fail> {
-    let mut packet = changed(7, 0x21);
-    packet[13] = 0;
-    expect_fault(&rt, &WISH, &packet, DecodeFault::NoSegment)
 }
 
 // The decoder took this number of octets, and stopped there.

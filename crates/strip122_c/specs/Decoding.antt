@@ -1,6 +1,6 @@
 -- The report on a picture. This project's own.
-use Rattle.std.specs.Prelude.{◌≡◌, ℕ, ◌==◌, ◌&&◌, if◌then◌else◌, List, [], ◌∷◌, length, Option, None, Some, is_none, Result, Ok, Err, ⊤}
-use Rattle.base_122.specs.Ranges.{IsGeometryInRange}
+use Rattle.std.specs.Prelude.{◌≡◌, ◌≤◌, ℕ, ◌==◌, ◌&&◌, not, if◌then◌else◌, List, [], ◌∷◌, length, Option, None, Some, is_none, Result, Ok, Err, ⊤}
+use Rattle.base_122.specs.Ranges.{IsGeometryInRange, rows_range}
 use Rattle.base_122.specs.declared.geometry.Geometry.{Geometry}
 use Rattle.packet_defs.specs.declared.packet.Framing.{Framing}
 use Rattle.packet_defs.specs.declared.packet.Framing.TheVariants.{BadVersion, CutPacket}
@@ -19,6 +19,7 @@ nothing = record {
   fault_octets = 0;
   width = 0;
   rows = 0;
+  written = 0;
   segment = 0;
   image = 0;
   depth = 0;
@@ -28,14 +29,15 @@ nothing = record {
   weights = 0 ∷ 0 ∷ 0 ∷ 0 ∷ 0 ∷ 0 ∷ 0 ∷ 0 ∷ 0 ∷ 0 ∷ [];
 }
 
--- the report on a geometry: its fields, and the octets of its picture
-abbrev pub geometry_report : Geometry → Strip122Decoded
-geometry_report g = record {
-  octets = picture_length g;
+-- the report on a geometry, whose rows are 0 if no header reports the height, and on a picture of so many rows
+abbrev pub geometry_report : Geometry → (written : ℕ) → Strip122Decoded
+geometry_report g written = record {
+  octets = picture_length g written;
   ranges = 0;
   fault_octets = 0;
   width = g.width;
   rows = g.rows;
+  written = written;
   segment = g.segment;
   image = g.image;
   depth = g.depth;
@@ -53,23 +55,23 @@ framing_report report (Some (CutPacket missing)) = record report { fault = 2; fa
 
 -- the report on a decoding that ended so, with this number of ranges of damaged rows
 abbrev pub report_with : Result DecodeDone DecodeRefusal → (ranges : ℕ) → Strip122Decoded
-report_with (Ok done) ranges = record (framing_report (geometry_report done.geometry) done.framing) { ranges = ranges }
+report_with (Ok done) ranges = record (framing_report (geometry_report done.geometry done.written) done.framing) { ranges = ranges }
 report_with (Err NoSegment) ranges = nothing
-report_with (Err (SmallRoom g)) ranges = geometry_report g
+report_with (Err (SmallRoom g rows)) ranges = geometry_report g rows
 report_with (Err Memory) ranges = nothing
 
--- the answer to it: 0 if no row is damaged and the packets were read to their end
+-- the answer to it: 0 if no row is damaged, the packets were read to their end and a header reports the height
 abbrev pub answer_with : Result DecodeDone DecodeRefusal → (ranges : ℕ) → ℕ
-answer_with (Ok done) ranges = if (ranges == 0) && is_none done.framing then 0 else 1
+answer_with (Ok done) ranges = if ((ranges == 0) && is_none done.framing) && not (done.geometry.rows == 0) then 0 else 1
 answer_with (Err NoSegment) ranges = 6
-answer_with (Err (SmallRoom g)) ranges = 7
+answer_with (Err (SmallRoom g rows)) ranges = 7
 answer_with (Err Memory) ranges = 8
 
--- the geometry of the report is in range
-abbrev pub HasGeometryInRange : Result DecodeDone DecodeRefusal → Type 0
-HasGeometryInRange (Ok done) = IsGeometryInRange done.geometry
-HasGeometryInRange (Err (SmallRoom g)) = IsGeometryInRange g
-HasGeometryInRange (Err other) = ⊤
+-- the geometry of the report and the rows of its picture are in range
+abbrev pub HasSizeInRange : Result DecodeDone DecodeRefusal → Type 0
+HasSizeInRange (Ok done) = IsGeometryInRange done.geometry × (done.written ≤ rows_range.most)
+HasSizeInRange (Err (SmallRoom g rows)) = IsGeometryInRange g × (rows ≤ rows_range.most)
+HasSizeInRange (Err other) = ⊤
 
 -- Packets were decoded into a room that was `old`, or refused. The answer and the report say how it ended, and `ranges` begins with the
 -- ranges of damaged rows, as far as there are places.

@@ -1,7 +1,7 @@
 // The report on a picture.
-ghost use Rattle.std.specs.Prelude.{◌≡◌};
-ghost use Rattle.base_122.specs.Ranges.{IsGeometryInRange};
-ghost use Rattle.strip122_c.specs.Decoding.{geometry_report, framing_report, report_with, answer_with, HasGeometryInRange};
+ghost use Rattle.std.specs.Prelude.{◌≡◌, ◌≤◌};
+ghost use Rattle.base_122.specs.Ranges.{IsGeometryInRange, rows_range};
+ghost use Rattle.strip122_c.specs.Decoding.{geometry_report, framing_report, report_with, answer_with, HasSizeInRange};
 
 use base_122::Geometry;
 use lent_122::{DecodeRefusal, picture_length};
@@ -19,7 +19,10 @@ pub struct Strip122Decoded {
     /// The octet at which a packet has another version, or the octets that are missing from the last packet.
     pub fault_octets: u64,
     pub width: u32,
+    /// The height of the image; 0 if no header reports it.
     pub rows: u32,
+    /// Rows of the picture: the height if it is known, otherwise those that the received headers determine.
+    pub written: u32,
     pub segment: u32,
     pub image: u16,
     pub depth: u8,
@@ -37,6 +40,7 @@ const NOTHING: Strip122Decoded = Strip122Decoded {
     fault_octets: 0,
     width: 0,
     rows: 0,
+    written: 0,
     segment: 0,
     image: 0,
     depth: 0,
@@ -48,22 +52,23 @@ const NOTHING: Strip122Decoded = Strip122Decoded {
 
 /// The report on a decoding that ended so, with this number of ranges of damaged rows.
 pub fn report_of(ended: &Result<DecodeDone, DecodeRefusal>, ranges: u64) -> Strip122Decoded
-    requires { HasGeometryInRange ended.now }
+    requires { HasSizeInRange ended.now }
     ensures { result ≡ report_with ended.now ranges }
 {
     match ended {
         Ok(done) => picture_report(done, ranges),
-        Err(DecodeRefusal::SmallRoom { geometry }) => geometry_report(geometry),
+        Err(DecodeRefusal::SmallRoom { geometry, rows }) => geometry_report(geometry, *rows),
         Err(_) => NOTHING,
     }
 }
 
 // The report on a picture.
 fn picture_report(done: &DecodeDone, ranges: u64) -> Strip122Decoded
-    requires { IsGeometryInRange done.now.geometry }
-    ensures { result ≡ record (framing_report (geometry_report done.now.geometry) done.now.framing) { ranges = ranges } }
+    requires range { IsGeometryInRange done.now.geometry }
+    requires rows { done.now.written ≤ rows_range.most }
+    ensures { result ≡ record (framing_report (geometry_report done.now.geometry done.now.written) done.now.framing) { ranges = ranges } }
 {
-    let mut report = geometry_report(&done.geometry);
+    let mut report = geometry_report(&done.geometry, done.written);
     report.ranges = ranges;
     match done.framing {
         None => {}
@@ -79,17 +84,19 @@ fn picture_report(done: &DecodeDone, ranges: u64) -> Strip122Decoded
     report
 }
 
-// The report on a geometry: its fields, and the octets of its picture.
-fn geometry_report(geometry: &Geometry) -> Strip122Decoded
-    requires { IsGeometryInRange geometry.now }
-    ensures { result ≡ geometry_report geometry.now }
+// The report on a geometry and a number of rows: its fields, and the octets of a picture of these rows.
+fn geometry_report(geometry: &Geometry, written: u32) -> Strip122Decoded
+    requires range { IsGeometryInRange geometry.now }
+    requires rows { written ≤ rows_range.most }
+    ensures { result ≡ geometry_report geometry.now written }
 {
     Strip122Decoded {
-        octets: picture_length(geometry) as u64,
+        octets: picture_length(geometry, written) as u64,
         ranges: 0,
         fault_octets: 0,
         width: geometry.width,
         rows: geometry.rows,
+        written,
         segment: geometry.segment,
         image: geometry.image,
         depth: geometry.depth,
@@ -106,7 +113,7 @@ pub fn answer_of(ended: &Result<DecodeDone, DecodeRefusal>, ranges: u64) -> u32
 {
     match ended {
         Ok(done) => {
-            if ranges == 0 && done.framing.is_none() {
+            if ranges == 0 && done.framing.is_none() && done.geometry.rows != 0 {
                 0
             } else {
                 1

@@ -88,6 +88,7 @@ fn decode(
         fault_octets: 9,
         width: 9,
         rows: 9,
+        written: 9,
         segment: 9,
         image: 9,
         depth: 9,
@@ -149,6 +150,40 @@ fn losses(rt: HostRuntime) -> Result<(), Fail> {
     Ok(())
 }
 
+// Lets two packets report the height last, and answers where the second one begins.
+fn report_last(rt: &impl Abort, packets: &mut [u8]) -> usize {
+    assert!(rt; packets.len() >= 6);
+    let second = 7 + 256 * usize::from(packets[4]) + usize::from(packets[5]);
+    for at in [0, second] {
+        assert!(rt; at + 14 <= packets.len());
+        packets[at + 7] = 0x21;
+        packets[at + 13] = 0;
+    }
+    second
+}
+
+#[test]
+fn heights_reported_last(rt: HostRuntime) -> Result<(), Fail> {
+    let alloc = rt.alloc();
+    let mut packets = two_segments(&rt, alloc)?;
+    let second = report_last(&rt, &mut packets);
+    let mut room = vec![in alloc; 0; 24 * 64]?;
+    let (answer, report, _) = decode(alloc, &packets, &mut room);
+    assert_eq!(rt; (answer, report.octets, report.ranges), (0, 1536, 0));
+    assert_eq!(rt; (report.rows, report.written), (64, 64));
+    assert!(rt; room.iter().all(|octet| *octet == 77));
+    // The first segment reaches five block rows, and these determine 19 rows. The height isn't known, so the answer is 1.
+    packets.truncate(second);
+    let (answer, report, ranges) = decode(alloc, &packets, &mut room);
+    assert_eq!(rt; (answer, report.octets, report.ranges), (1, 456, 0));
+    assert_eq!(rt; (report.rows, report.written, report.fault), (0, 19, 0));
+    assert!(rt; ranges == [NO_RANGE; 2]);
+    let (answer, report, _) = decode(alloc, &packets, &mut []);
+    assert_eq!(rt; (answer, report.octets), (7, 456));
+    assert_eq!(rt; (report.rows, report.written), (0, 19));
+    Ok(())
+}
+
 #[test]
 fn refusals(rt: HostRuntime) -> Result<(), Fail> {
     let alloc = rt.alloc();
@@ -156,8 +191,8 @@ fn refusals(rt: HostRuntime) -> Result<(), Fail> {
     let (answer, report, _) = decode(alloc, &packets, &mut []);
     assert_eq!(rt; answer, 7);
     assert_eq!(rt;
-        (report.octets, report.width, report.rows, report.depth),
-        (1536, 24, 64, 8)
+        (report.octets, report.width, report.rows, report.written),
+        (1536, 24, 64, 64)
     );
     let (answer, report, _) = decode(alloc, b"no packets", &mut []);
     assert_eq!(rt; answer, 6);

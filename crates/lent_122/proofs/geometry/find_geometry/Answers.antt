@@ -7,4 +7,4 @@ use Rattle.lent_122.proofs.geometry.find_geometry.Goals as goal
 pub returns-in-Ok : goal.returns-in-Ok
 returns-in-Ok c =
     tells_geometry c.args.apid _ c.args.packets.now (outside_of c.in_ok-port.port) (outside_of c.next_segment.new.port) c.in_ok-assembly.assembly c.next_segment.new.self c.in-Ok.field-0 c.geometry.result
-    c.in_ok-assembly.ensures (ap (λ (o : Outside). o.rest) c.in_ok-port.ensures.outside) c.in-Ok.ensures c.geometry.ensures.standing c.geometry.ensures.in_range c.geometry.ensures.height
+    c.in_ok-assembly.ensures (ap (λ (o : Outside). o.rest) c.in_ok-port.ensures.outside) c.in-Ok.ensures c.geometry.ensures.standing c.geometry.ensures.in_range
