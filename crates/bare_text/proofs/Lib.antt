@@ -10,3 +10,4 @@ mod FirstPart
 mod WrittenBare
 mod HeldTexts
 mod BareHeld
+pub mod FurtherOctets

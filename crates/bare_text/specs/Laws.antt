@@ -1,5 +1,5 @@
 -- The laws that heads with absent parts keep.
-use Rattle.std.specs.Prelude.{◌≡◌, ◌<◌, ℕ, ℤ, List, ◌++◌, length, Option, None, Some, Ok}
+use Rattle.std.specs.Prelude.{◌≡◌, ◌<◌, ◌≤◌, ℕ, ℤ, List, ◌++◌, length, Option, None, Some, Ok}
 use Rattle.item_defs.specs.Bits.{octets_of}
 use Rattle.segment_defs.specs.declared.head.SegmentHead.{SegmentHead}
 use Rattle.segment_defs.specs.Depths.{block_depths, depth_ac_of}
@@ -28,6 +28,15 @@ pub record BareHeadsUndo : Type 0 where
   pub read : (before : Option SegmentHead) (h : SegmentHead) → IsHead h → h.count < 256 → length h.image.weights.shifts ≡ 10 → bare_head_read (in_force before) (bare_head before h) ≡ Ok h
   pub whole : (before : Option SegmentHead) (h : SegmentHead) → IsHead h → h.count < 256 → length h.image.weights.shifts ≡ 10 → bare_length (bare_head before h) ≡ length (bare_head before h)
   pub force : (before : Option SegmentHead) (h : SegmentHead) → IsHead h → h.count < 256 → length h.image.weights.shifts ≡ 10 → parts_after (in_force before) (bare_head before h) ≡ in_force (Some h)
+
+-- Octets that follow a whole head change nothing in it, so octets begin with one head at most. A head that is read is one that can be written.
+pub record BareHeadsEndThere : Type 0 where
+  pub read : (before : PartsInForce) (octets more : List ℕ) → 3 ≤ length octets → bare_length octets ≤ length octets → bare_head_read before (octets ++ more) ≡ bare_head_read before octets
+  pub size : (octets more : List ℕ) → 3 ≤ length octets → bare_length (octets ++ more) ≡ bare_length octets
+  pub force : (before : PartsInForce) (octets more : List ℕ) → 3 ≤ length octets → bare_length octets ≤ length octets → parts_after before (octets ++ more) ≡ parts_after before octets
+  pub one : (before : PartsInForce) (a b x y : List ℕ) (g h : SegmentHead) → bare_head_read before a ≡ Ok g → bare_head_read before b ≡ Ok h → length a ≡ bare_length a → length b ≡ bare_length b →
+      a ++ x ≡ b ++ y → a ≡ b
+  pub fits : (before : PartsInForce) (octets : List ℕ) (h : SegmentHead) → bare_head_read before octets ≡ Ok h → IsHead h
 
 -- The text after the head before is its head and octets that hold blocks and end by themselves; with neither a stop nor a limit these
 -- are the blocks that were coded.

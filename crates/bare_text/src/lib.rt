@@ -2,7 +2,7 @@
 //! (docs/formats.md, "Bare texts").
 #![tactic(auto)]
 
-ghost use Rattle.bare_text.specs.Laws.{BareHeadsUndo, BareTextsHold};
+ghost use Rattle.bare_text.specs.Laws.{BareHeadsUndo, BareHeadsEndThere, BareTextsHold};
 
 mod agree;
 mod encode;
@@ -24,6 +24,11 @@ pub use write::put_bare_head;
 /// A head that carries only the parts that changed is read as it was written, by a reader that has read the head before.
 pub const fn bare_heads_undo()
     ensures { BareHeadsUndo }
+{}
+
+/// A head is read alike whatever octets follow it, and octets begin with one head at most.
+pub const fn bare_heads_end_there()
+    ensures { BareHeadsEndThere }
 {}
 
 /// What was encoded can be decoded: a text is its head and octets that hold blocks, the coded ones if there is neither a stop nor a

@@ -1,25 +1,25 @@
 pub mod PlanLaws
 mod SegmentRuns
-mod SegmentTexts
-mod SegmentCounts
-mod SegmentSteps
+pub mod SegmentTexts
+pub mod SegmentCounts
+pub mod SegmentSteps
 mod PacketStretches
 mod WorkStarts
 mod BlockPuts
-mod GatherSteps
-mod RowGathers
-mod RowPushes
-mod PaddedRows
-mod RowTakes
+pub mod GatherSteps
+pub mod RowGathers
+pub mod RowPushes
+pub mod PaddedRows
+pub mod RowTakes
 mod TailPushes
-mod RowFinishes
+pub mod RowFinishes
 mod DoneCounts
 mod ImageEnds
-mod SettledCounts
+pub mod SettledCounts
 mod OtherHeights
 pub mod RowsGiven
 mod FrontsGiven
-mod RowsTakenLaws
-mod RowComes
+pub mod RowsTakenLaws
+pub mod RowComes
 mod TallEnds
 mod EncodeRuns

@@ -22,8 +22,14 @@ use port_122::{Failed, Port};
 use space_packets::Packetiser;
 use wave_strip::StripWave;
 
-// Puts the block of this column of the block row that stands at a place of a segment's blocks.
-fn put_block(strip: &StripWave, weights: &Weights, column: u32, place: usize, blocks: &mut [i32])
+/// Puts the block of this column of the block row that is in the strip at a place of a segment's blocks (docs/formats.md, "Blocks").
+pub fn put_block(
+    strip: &StripWave,
+    weights: &Weights,
+    column: u32,
+    place: usize,
+    blocks: &mut [i32],
+)
     requires stands { is_standing strip.now ≡ true }
     requires column { column < columns_of strip.now }
     requires weights { All IsShift weights.now.shifts }

@@ -15,6 +15,9 @@ mod work;
 
 pub use encode::{EncodeDone, EncodeFault};
 pub use engine::{image_end, row_in, start_image};
+pub use gather::put_block;
 pub use laws::last_row_settles_all;
-pub use rows::encode_rows;
+pub use plan::Plan;
+pub use rows::{encode_rows, row_fault};
+pub use segments::make_head;
 pub use work::{ImageAt, Work};

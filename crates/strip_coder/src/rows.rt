@@ -119,8 +119,8 @@ fn ends_here(setting: &Setting, row: u32, fault: RowFault) -> bool
     }
 }
 
-// What a fault at this row is to the whole raster.
-fn row_fault(setting: &Setting, row: u32, fault: RowFault) -> EncodeFault
+/// Returns what a fault at this row is to the whole raster: the octets of a short one count from its start.
+pub fn row_fault(setting: &Setting, row: u32, fault: RowFault) -> EncodeFault
     requires in_range { IsInRange setting.now }
     requires row { row < 262144 }
     requires octets { ShortOf fault (row_length setting.now) }

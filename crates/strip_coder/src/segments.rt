@@ -118,8 +118,9 @@ fn written_stop(stop: Stop) -> Stop
     }
 }
 
-// The head of a segment of so many blocks with these depths.
-fn make_head(
+/// Returns the head of the segment of this index, with this limit and this number of blocks of these depths (docs/formats.md, "The
+/// head").
+pub fn make_head(
     plan: &Plan,
     index: u32,
     limit: u32,

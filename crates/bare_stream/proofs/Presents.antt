@@ -1,0 +1,120 @@
+-- The present segment of a work, which is full and was written.
+use Rattle.std.proofs.Common.{◌≡◌, ℕ, ◌+◌, ◌*◌, ◌^◌, ◌<◌, ◌≤◌, ◌==◌, ℤ, List, refl, sym, ap, ◌∙◌, subst, arith, length, inl, inr}
+use Rattle.std.specs.Prelude.{Bool, Option, true, false}
+use Rattle.std.proofs.lemmas.Bool.Decides.{nat_tests}
+use Rattle.port_122.specs.Outside.{Outside}
+use Rattle.base_122.specs.Sizes.{block_count, total_blocks, first_block}
+use Rattle.base_122.specs.declared.setting.Setting.{Setting}
+use Rattle.base_122.proofs.SizeBounds.{one-le-segment_blocks}
+use Rattle.wave_defs.specs.Held.{signal}
+use Rattle.wave_defs.specs.Pyramid.{padded}
+use Rattle.wave_strip.specs.Strip.{rows_of, answered_of, is_standing, Follows}
+use Rattle.segment_defs.specs.declared.head.SegmentHead.{SegmentHead}
+use Rattle.segment_defs.specs.Depths.{depth_dc_of, depth_ac_of}
+use Rattle.stream_defs.specs.Output.{head_for, head_with, image_blocks, segment_of, segments_of, used_before}
+use Rattle.stream_defs.specs.Shares.{CanBeSaid}
+use Rattle.stream_defs.proofs.ImageLaws.{length-image_blocks}
+use Rattle.stream_defs.proofs.ShareLaws.{share_none}
+use Rattle.strip_coder.specs.declared.work.Work.{Work}
+use Rattle.strip_coder.specs.Works.{IsMadeFor, most_blocks}
+use Rattle.strip_coder.proofs.SegmentSteps.{Rewritten, still_made, segment_is}
+use Rattle.strip_coder.proofs.SegmentCounts.{segments_few}
+use Rattle.bare_text.specs.Writing.{bare_text}
+use Rattle.bare_stream.specs.Rasters.{IsBare}
+use Rattle.bare_stream.specs.Works.{IsAt, FollowsTo, plan, present_size}
+use Rattle.bare_stream.specs.Steps.{SegmentOut, TextCut, PresentOut, PresentCut, head_now, present_blocks}
+use Rattle.bare_stream.proofs.Counts.{is_plan, some_blocks, first_below}
+use Rattle.bare_stream.proofs.Puts.{same_rows}
+
+-- the limit of a setting in range can be said
+pub limit_said : (s : Setting) → IsBare s → CanBeSaid s s.limit
+limit_said s bare = record {
+  limit = elim bare.in_range.limit [ inl unset ↦ inl unset | inr given ↦ inr (given.0.0, omega (arith, given.0), given.1) ];
+  fill = λ set. elim (bare.in_range.fill set) [ inl some ↦ some | inr other ↦ absurd (other bare.no_total) ];
+}
+
+-- without a total each segment has the limit of the setting
+pub head_is_now : (s : Setting) (all : List (List ℤ)) (index : ℕ) → IsBare s → head_now s index (segment_of s all index) ≡ head_for s all index
+head_is_now s all index bare =
+    let segment = segment_of s all index in
+    ap (λ limit. head_with s index limit (length segment) (depth_dc_of segment) (depth_ac_of segment)) (sym (share_none s index (used_before s all index) bare.no_total))
+
+module _ (s : Setting) (bare : IsBare s) (column : ℕ) (w : Work) (at : IsAt s column w) (lt : w.at.index < segments_of s) where
+  few_present : present_size s w ≤ most_blocks s
+  few_present = by (s.rows == 0) refl
+    where
+      by : (b : Bool) → (s.rows == 0) ≡ b → present_size s w ≤ most_blocks s
+      by true e = absurd (bare.known (grind (arith, nat_tests)))
+      by false e = rw e (omega arith)
+
+  pub cells_fit : 64 * w.at.filled ≤ length w.blocks.items
+  cells_fit = let most = few_present in let room = at.made.blocks in let filled = at.filled in omega (arith, most, room, filled, w.blocks.ok.0)
+
+  pub marks_fit : w.at.filled ≤ length w.marks.items
+  marks_fit = let most = few_present in let room = at.made.marks in let filled = at.filled in omega (arith, most, room, filled, w.marks.ok.0)
+
+  pub few_filled : w.at.filled ≤ 1048575
+  few_filled = let filled = at.filled in let segment = bare.in_range.segment in omega (arith, filled, segment)
+
+  pub index_few : w.at.index < 2 ^ 28
+  index_few = segments_few (plan s) w.at.index (is_plan s bare) lt
+
+  module _ (full : w.at.filled ≡ present_size s w) where
+    pub some_filled : 1 ≤ w.at.filled
+    some_filled = let some = one-le-segment_blocks (total_blocks s.width s.rows) s.segment w.at.index (some_blocks s bare) lt in omega (arith, some, full)
+
+    -- they are the blocks of the segment of each image that the work follows
+    pub segment_held : (x : ℕ → ℕ → ℤ) → FollowsTo s x column w → present_blocks w ≡ segment_of s (image_blocks s x) w.at.index
+    segment_held x follows =
+        segment_is w.blocks.items (image_blocks s x) w.at.filled (first_block s.segment w.at.index) s.segment (total_blocks s.width s.rows) (length-image_blocks s x) full cells_fit follows.present.at
+
+-- ---- a work after its text was written
+
+module _ (s : Setting) (bare : IsBare s) (column : ℕ) (old new : Work) (at : IsAt s column old) (lt : old.at.index < segments_of s) (full : old.at.filled ≡ present_size s old) (same : Rewritten old new)
+    (packets : new.packets ≡ old.packets) where
+  pub now_made : IsMadeFor s new
+  now_made = still_made s old new at.made same (ap (λ v. v.packet) packets)
+
+  pub present_cut : {p q : Outside} (before : Option SegmentHead) → TextCut p q (bare_text before (head_now s old.at.index (present_blocks old)) (present_blocks old)) → PresentCut s before p q old new
+  present_cut before cut = record { made = now_made; cut = cut }
+
+  module _ (rows : new.at.rows ≡ old.at.rows) (filled : new.at.filled ≡ 0) (index : new.at.index ≡ old.at.index + 1) (octets : ℕ) (few : octets ≤ 2 ^ 32) (used : new.at.used ≡ old.at.used + octets) where
+    next_at : IsAt s column new
+    next_at =
+        let before = first_below s bare old column at lt in
+        let count = at.count in
+        record {
+          made = now_made;
+          rows = same_rows s old new same.strip rows at.rows;
+          columns = at.columns;
+          stands = λ inside. ap is_standing same.strip ∙ at.stands inside;
+          count =
+              let next : first_block s.segment new.at.index ≡ first_block s.segment old.at.index + s.segment = ap (λ n. n * s.segment) index ∙ (let t : (old.at.index + 1) * s.segment ≡ old.at.index * s.segment + s.segment = omega arith in t) in
+              let answered : block_count s.width * answered_of new.strip ≡ block_count s.width * answered_of old.strip = ap (λ t. block_count s.width * answered_of t) same.strip in
+              omega (arith, next, answered, count, filled, full, before);
+          index = omega (arith, index, lt);
+          filled = omega (arith, filled);
+          small = record { at = λ i less. absurd (omega (arith, less, filled)) };
+          row = λ all. rw same.row (at.row (subst (λ t. s.rows ≤ rows_of t) same.strip all));
+          used = (let most = at.used in rw index (omega (arith, used, most, few)));
+        }
+
+    pub present_out : {p q : Outside} (before : Option SegmentHead) (head : SegmentHead) → SegmentOut s old.at.index before (present_blocks old) p q head octets → PresentOut s column before p q old new head
+    present_out before head out = record {
+      at = next_at;
+      index = index;
+      filled = filled;
+      rows = rows;
+      octets = octets;
+      used = used;
+      out = out;
+      follows = λ x follows. record {
+        strip = subst (λ t. Follows (padded x s.rows s.width) (block_count s.rows) t) (sym same.strip) follows.strip;
+        present = record { at = λ i less. absurd (omega (arith, less, filled)) };
+        shows = record { at = λ j low inside. rw same.strip (follows.shows.at j low inside) };
+        row = λ all. record {
+          at = λ j less. ap (λ v. signal v.items j) same.row ∙ (follows.row (subst (λ t. s.rows ≤ rows_of t) same.strip all)).at j less
+              ∙ ap (λ t. padded x s.rows s.width (rows_of t) j) (sym same.strip);
+        };
+      };
+    }

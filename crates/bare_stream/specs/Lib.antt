@@ -1,0 +1,11 @@
+pub mod Bare
+pub mod Rasters
+pub mod Answers
+pub mod Sink
+pub mod SinkLaws
+pub mod TextSinks
+pub mod Works
+pub mod Steps
+pub mod RowsIn
+pub mod BareStream
+pub mod Laws
