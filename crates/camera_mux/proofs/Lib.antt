@@ -1,0 +1,12 @@
+pub mod PickRuns
+pub mod PickEnds
+pub mod FrontPackets
+pub mod SettledThrough
+pub mod CameraRows
+pub mod CameraRowsGiven
+pub mod RecordLaws
+pub mod MuxRuns
+pub mod MuxTaken
+pub mod MuxEnds
+pub mod OwnPackets
+pub mod CameraAlone

@@ -1,0 +1,9 @@
+pub mod PickSteps
+pub mod PickProgress
+pub mod PickAnswers
+pub mod Records
+pub mod MuxOut
+pub mod RowSteps
+pub mod MuxProgress
+pub mod MuxAnswers
+pub mod MuxLaws
