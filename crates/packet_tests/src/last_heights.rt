@@ -154,21 +154,6 @@ fn the_last_segment_may_come_twice_or_first(rt: HostRuntime) -> Result<(), Fail>
     expect_of(&rt, &made.raster, &[last, &early], Some((0, 109)))
 }
 
-#[test]
-fn packets_of_the_other_mark_are_lost(rt: HostRuntime) -> Result<(), Fail> {
-    let made = made_open(&rt, 128)?;
-    let known = make_packets(&rt, &tall(), &made.raster)?;
-    let first = packet_of(&rt, &made.packets, 0);
-    let second = packet_of(&rt, &made.packets, 1);
-    let last = packet_of(&rt, &made.packets, 2);
-    // Block rows 5 to 10 are missing, and then 5 to 15.
-    let other = packet_of(&rt, &known, 1);
-    let mixed = [first, other, last];
-    expect_of(&rt, &made.raster, &mixed, Some((19, 109)))?;
-    let mixed = [packet_of(&rt, &known, 0), second, last];
-    expect_of(&rt, &made.raster, &mixed, Some((19, 127)))
-}
-
 // A last header that doesn't agree is refused, and the height isn't known.
 #[test]
 fn a_last_header_ends_a_block_row(rt: HostRuntime) -> Result<(), Fail> {
