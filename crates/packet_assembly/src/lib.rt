@@ -12,6 +12,7 @@ mod tests;
 mod text;
 
 pub use assembly::Assembly;
+pub use classification::{classify, past_kept};
 pub use laws::{answers_again, tails_tell};
 pub use note::{PacketNote, SegmentStart};
 pub use packet_defs::{Ancillary, Framing, Skip};

@@ -1,15 +1,15 @@
-// How a list of packets ends.
+// How a list of packets ends, or a pick of them.
 use packet_defs::Framing;
 use thiserror::Error;
 
-/// What was listed: the number of packets, and why the stream can't be read on, if that was found.
+/// What was listed or picked: the number of packets, and why the stream can't be read on, if that was found.
 #[derive(Clone, Copy, Debug, PartialEq, Eq)]
 pub struct ListDone {
     pub packets: u64,
     pub framing: Option<Framing>,
 }
 
-/// Why not all packets were listed.
+/// Why not all packets were listed or picked.
 #[derive(Clone, Copy, Debug, PartialEq, Eq, Error)]
 pub enum ListFault {
     /// A read failed.

@@ -1,4 +1,4 @@
-mod Staying
+pub mod Staying
 pub mod Between
 pub mod TextReads
 pub mod Showing

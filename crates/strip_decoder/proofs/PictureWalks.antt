@@ -42,7 +42,7 @@ use Rattle.strip_decoder.proofs.Staying.{known_or_not}
 -- ---- the numbers of the blocks
 
 -- those of received segments are the picture's
-numbers_same : (g : Geometry) (received : Numbers) → numbers_in (blocks_with g received) ≡ number_at g received
+pub numbers_same : (g : Geometry) (received : Numbers) → numbers_in (blocks_with g received) ≡ number_at g received
 unfolding number_at
 numbers_same g received = λ j block i. by (received (block / g.segment)) block i j
   where

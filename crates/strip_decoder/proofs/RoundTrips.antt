@@ -133,7 +133,7 @@ module _ (short : TextsAreShort) (holds : CodedHolds) (exact : CodedHoldsExactly
         ∙ ap (λ xs. get_or xs i (pos 0)) (image_block u x (t * c + k) [] within ∙ ap (λ n. block bands weights n ((t * c + k) % c)) (div-mul-add t c k column) ∙ ap (block bands weights t) (mod-mul-add t c k column))
         ∙ get_or-block bands weights t k i (pos 0) small)
 
-    block_same : (t k : ℕ) → t < r → k < c → SameBlock (pyramid_with (number_at g received) c weights) bands t k
+    pub block_same : (t k : ℕ) → t < r → k < c → SameBlock (pyramid_with (number_at g received) c weights) bands t k
     block_same t k row column = record {
       at = λ i small. coefficient_with (number_at g received) c weights t k i small
           ∙ sym (part_is weights i (coefficient bands t k i) (number_at g received (t * c + k) i) is.range.weights (weighted t k i row column small));

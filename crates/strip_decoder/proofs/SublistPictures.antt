@@ -237,7 +237,7 @@ module _ (short : TextsAreShort) (s : Setting) (rows : ℕ) (x : ℕ → ℕ →
         both_tell (kept s.apid fresh (whole_packets (output s rows x))) index (whole index) (Some w) (all_are.at index) there ∙ sym is
 
     -- with the numbers of all packets in the lost blocks
-    with_all : (r n : ℕ) → block_rows (image_geometry s r) n ≤ block_count rows → AreWith (image_geometry s r) received (number_at (image_geometry s r) whole) n
+    pub with_all : (r n : ℕ) → block_rows (image_geometry s r) n ≤ block_count rows → AreWith (image_geometry s r) received (number_at (image_geometry s r) whole) n
     with_all r n few = record {
       at = λ block i low small there.
           let turned : total_blocks s.width rows ≡ block_count rows * block_count s.width = grind arith in
@@ -257,7 +257,7 @@ module _ (short : TextsAreShort) (s : Setting) (rows : ℕ) (x : ℕ → ℕ →
       wide : 3 ≤ block_count s.width
       wide = three-le-block_count s.width are.image.range.width.0
 
-      geometry_range : IsGeometryInRange g
+      pub geometry_range : IsGeometryInRange g
       geometry_range = let range = are.image.range in record {
         width = range.width;
         rows = elim is [ inl same ↦ inr (subst (IsWithin rows_range) (sym same) are.image.height.0) | inr none ↦ inl none.1 ];
@@ -271,7 +271,7 @@ module _ (short : TextsAreShort) (s : Setting) (rows : ℕ) (x : ℕ → ℕ →
       not_open : r ≡ rows → (r == 0) ≡ false
       not_open same = is_not_open r (λ none. within_not rows are.image.height.0 (sym same ∙ none))
 
-      few_blocks : block_rows g n ≤ block_count rows
+      pub few_blocks : block_rows g n ≤ block_count rows
       few_blocks = elim is [
         | inl same ↦ rw (not_open same) (let e = ap block_count same in omega (arith, e))
         | inr none ↦ rw (is_open r none.1) few
@@ -289,7 +289,7 @@ module _ (short : TextsAreShort) (s : Setting) (rows : ℕ) (x : ℕ → ℕ →
             heights_alike g numbers (band_rows g n) (block_count rows) n i j (omega (arith, wide)) (omega (arith, bands)) few (omega (arith, inside, high)) across
       ]
 
-      all_shows : (i j : ℕ) → i < height g n → j < s.width → picture_with g numbers n i j ≡ whole_picture (image_geometry s rows) whole i j
+      pub all_shows : (i j : ℕ) → i < height g n → j < s.width → picture_with g numbers n i j ≡ whole_picture (image_geometry s rows) whole i j
       all_shows i j inside across =
           bands_same i j inside across
           ∙ sym (ap (λ (f : ℕ → ℕ → ℤ). f i j) (sized_same g rows numbers (block_count rows)))
