@@ -1,0 +1,72 @@
+-- A look at all packets of an image is its lowest band.
+use Rattle.std.proofs.Common.{◌≡◌, ◌<◌, ℕ, ℤ, List, refl, sym, ap, subst, ◌∙◌, arith}
+use Rattle.std.specs.Prelude.{Some}
+use Rattle.port_122.specs.Outside.{Outside}
+use Rattle.base_122.specs.Setting.{image_geometry}
+use Rattle.base_122.specs.Sizes.{block_count}
+use Rattle.base_122.specs.declared.geometry.Geometry.{Geometry}
+use Rattle.base_122.specs.declared.setting.Setting.{Setting}
+use Rattle.base_122.specs.declared.wish.DecodeWish.{DecodeWish}
+use Rattle.raster_rows.specs.Pixels.{clamped, raster_octets}
+use Rattle.segment_code.specs.Laws.{CodedHolds, CodedHoldsExactly, TextsAreShort}
+use Rattle.stream_defs.specs.Begun.{begun_in, block_rows}
+use Rattle.stream_defs.specs.Fates.{geometry_in}
+use Rattle.stream_defs.specs.Output.{output}
+use Rattle.stream_defs.specs.Picture.{number_at, pyramid_with}
+use Rattle.stream_defs.specs.Received.{ReceivedIn}
+use Rattle.stream_defs.proofs.HeightPictures.{raster_same}
+use Rattle.stream_defs.proofs.PlacedLaws.{is_not_open, within_not}
+use Rattle.wave_defs.specs.Pyramid.{Pyramid, padded, pyramid}
+use Rattle.strip_decoder.specs.declared.decode.DecodeDone.{DecodeDone}
+use Rattle.strip_decoder.specs.Containment.{IsImageFor}
+use Rattle.strip_decoder.specs.RoundTrip.{SendsAll}
+use Rattle.strip_decoder.specs.Runs.{Numbers, holds_after}
+use Rattle.strip_decoder.proofs.RoundTrips.{block_same}
+use Rattle.strip_decoder.proofs.SublistPictures.{some_geometry}
+use Rattle.strip_decoder.proofs.WholeImages.{geometry_told}
+use Rattle.quick_look.specs.Look.{look, look_octets}
+use Rattle.quick_look.specs.Looks.{IsLook}
+use Rattle.quick_look.specs.LookLaws.{low_image}
+use Rattle.quick_look.proofs.LowBands.{first_is, low_is}
+
+module _ (short : TextsAreShort) (holds : CodedHolds) (exact : CodedHoldsExactly) (s : Setting) (rows : ℕ) (x : ℕ → ℕ → ℤ) (is : IsImageFor s rows x) (received : Numbers)
+    (received_is : ReceivedIn holds_after s.apid (output s rows x) received) (sends : SendsAll s) where
+  abbrev g : Geometry
+  g = image_geometry s rows
+
+  abbrev r : ℕ
+  r = block_count rows
+
+  abbrev c : ℕ
+  c = block_count s.width
+
+  abbrev weights : List ℕ
+  weights = s.weights.shifts
+
+  abbrev bands : Pyramid
+  bands = pyramid (padded x rows s.width) r c
+
+  pub look_is : (t k : ℕ) → t < r → k < c → look g received t k ≡ low_image s rows x t k
+  look_is t k row column =
+      let low = pyramid_with (number_at g received) c weights in
+      let there : low.ll3 t k ≡ bands.ll3 t k = sym (first_is low t k) ∙ (block_same short holds exact s rows x is received received_is sends t k row column).at 0 (omega arith) ∙ first_is bands t k in
+      ap (clamped s.depth s.signed) (low_is g (number_at g received) t k ∙ there)
+
+-- ---- what a look gives
+
+pub given_back : TextsAreShort → CodedHolds → CodedHoldsExactly → (wish : DecodeWish) (start new : Outside) (took gave every : List ℕ) (done : DecodeDone) (s : Setting) (rows : ℕ) (x : ℕ → ℕ → ℤ) →
+    IsLook wish start new took gave done → start.rest ≡ Some every → wish.apid ≡ s.apid → took ≡ output s rows x → IsImageFor s rows x → SendsAll s →
+    gave ≡ raster_octets s.depth (block_count rows) (block_count s.width) (low_image s rows x)
+given_back short holds exact wish start new took gave every done s rows x found told apid took_is is sends =
+    let t = found.found.told every told in
+    let received = t.0 in
+    let n : ℕ = begun_in wish.apid took in
+    let there : geometry_in s.apid (output s rows x) ≡ Some done.geometry =
+    subst (λ octets. geometry_in s.apid octets ≡ Some done.geometry) took_is (subst (λ n. geometry_in n took ≡ Some done.geometry) apid found.found.geometry) in
+    let size : done.geometry ≡ image_geometry s rows = some_geometry (sym there ∙ geometry_told short s rows x is) in
+    let some : rows ≡ 0 → ⊥ = within_not rows is.height.0 in
+    let all_rows : block_rows (image_geometry s rows) n ≡ block_count rows = rw (is_not_open rows some) refl in
+    let mine : ReceivedIn holds_after s.apid (output s rows x) received = subst (λ octets. ReceivedIn holds_after s.apid octets received) took_is (subst (λ n. ReceivedIn holds_after n took received) apid t.1) in
+    found.look every told received t.1 ∙ ap (λ g. look_octets g received n) size
+    ∙ ap (λ k. raster_octets s.depth k (block_count s.width) (look (image_geometry s rows) received)) all_rows
+    ∙ raster_same s.depth (block_count rows) (block_count s.width) (look (image_geometry s rows) received) (low_image s rows x) (look_is short holds exact s rows x is received mine sends)

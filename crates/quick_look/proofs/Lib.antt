@@ -1,0 +1,4 @@
+pub mod RowTakes
+pub mod LookWalks
+pub mod LowBands
+pub mod ImageLooks

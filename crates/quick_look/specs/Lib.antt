@@ -1,0 +1,4 @@
+pub mod Look
+pub mod LookSinks
+pub mod Looks
+pub mod LookLaws

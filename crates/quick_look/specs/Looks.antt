@@ -1,0 +1,69 @@
+-- How a look ends, by what it took and gave. This project's own.
+use Rattle.std.specs.Prelude.{◌≡◌, ◌≤◌, ℕ, List, [], length, take, false, None, Some, Result, Ok, Err}
+use Rattle.port_122.specs.Outside.{Outside, Since, Rose}
+use Rattle.base_122.specs.declared.geometry.Geometry.{Geometry}
+use Rattle.base_122.specs.declared.wish.DecodeWish.{DecodeWish}
+use Rattle.packet_defs.specs.Streams.{left_over, has_bad_version}
+use Rattle.stream_defs.specs.Begun.{HasFewPixels, begun_in, block_rows}
+use Rattle.stream_defs.specs.Fates.{geometry_in, state_after}
+use Rattle.stream_defs.specs.Received.{ReceivedIn}
+use Rattle.stream_defs.specs.Settled.{block_rows_before}
+use Rattle.packet_assembly.specs.Readings.{IsReadOut}
+use Rattle.strip_decoder.specs.declared.decode.DecodeDone.{DecodeDone}
+use Rattle.strip_decoder.specs.declared.decode.DecodeFault.{DecodeFault}
+use Rattle.strip_decoder.specs.declared.decode.DecodeFault.TheVariants.{ReadFault, WriteFault, NoSegment, TooManyPixels, LongInput, Memory}
+use Rattle.strip_decoder.specs.Answers.{PictureBy}
+use Rattle.strip_decoder.specs.Runs.{Numbers, holds_after, HasFewKnown, settled_blocks}
+use Rattle.strip_decoder.specs.Walks.{HasTooMany}
+use Rattle.quick_look.specs.Look.{look_rows, look_octets}
+
+-- ---- what is given
+
+-- What is given once these octets are taken: nothing without a geometry, else the first rows of the look at the segments that are
+-- received, at least one for each whole block row among the blocks that these octets settle.
+pub record PromptLook (apid : ℕ) (taken given : List ℕ) : Type 0 where
+  pub none : geometry_in apid taken ≡ None → given ≡ []
+  pub some : (g : Geometry) (received : Numbers) → geometry_in apid taken ≡ Some g → ReceivedIn holds_after apid taken received →
+      (k : ℕ) × (k ≤ block_rows g (begun_in apid taken)) × (block_rows_before g (settled_blocks (state_after apid taken) received) ≤ k) × (given ≡ look_rows g received k)
+
+-- a prefix of the look for the octets that were taken; nothing without a geometry
+pub record FrontLook (apid : ℕ) (taken given : List ℕ) : Type 0 where
+  pub none : geometry_in apid taken ≡ None → given ≡ []
+  pub some : (g : Geometry) (received : Numbers) → geometry_in apid taken ≡ Some g → ReceivedIn holds_after apid taken received →
+      (n : ℕ) × (given ≡ take n (look_octets g received (begun_in apid taken)))
+
+-- All is as a decoder answers it for the octets that were taken, and what is given is the whole look at the segments that are received in
+-- them.
+pub record IsLook (wish : DecodeWish) (start new : Outside) (took gave : List ℕ) (done : DecodeDone) : Type 0 where
+  pub found : PictureBy false wish start new took [] done
+  pub look : (all : List ℕ) → start.rest ≡ Some all → (received : Numbers) → ReceivedIn holds_after wish.apid took received →
+      gave ≡ look_octets done.geometry received (begun_in wish.apid took)
+
+-- a prefix of the look for the octets that were taken, if the port reports what is left
+abbrev pub GivesFront : DecodeWish → Outside → (took gave : List ℕ) → Type 0
+GivesFront wish start took gave = (all : List ℕ) → start.rest ≡ Some all → FrontLook wish.apid took gave
+
+-- Why it was answered so. The answers exclude each other by what was taken, the end and the counts, except for faults of the port.
+abbrev pub LookAnswers : DecodeWish → (old new : Outside) (took gave : List ℕ) → Result DecodeDone DecodeFault → Type 0
+LookAnswers wish old new took gave (Ok done) = IsLook wish old new took gave done
+LookAnswers wish old new took gave (Err NoSegment) = (geometry_in wish.apid took ≡ None) × IsReadOut wish.octets new took × (gave ≡ [])
+LookAnswers wish old new took gave (Err (TooManyPixels pixels)) = HasTooMany wish took gave pixels × GivesFront wish old took gave
+LookAnswers wish old new took gave (Err LongInput) = (length took ≡ wish.octets) × (has_bad_version (left_over took) ≡ false) × HasFewPixels wish.pixels wish.apid took × GivesFront wish old took gave
+LookAnswers wish old new took gave (Err ReadFault) = Rose old.read_faults new.read_faults × GivesFront wish old took gave
+LookAnswers wish old new took gave (Err WriteFault) = Rose old.write_faults new.write_faults × HasFewKnown wish.pixels wish.apid took × GivesFront wish old took gave
+LookAnswers wish old new took gave (Err Memory) = gave ≡ []
+
+-- A read call with i octets taken and j given, if the port reports what is left. If the octets report too many pixels, no more is read.
+abbrev pub LookAsks : DecodeWish → Outside → (took gave : List ℕ) → ℕ → ℕ → Type 0
+LookAsks wish start took gave i j =
+    (j ≤ length gave) × HasFewPixels wish.pixels wish.apid (take i took) × ((all : List ℕ) → start.rest ≡ Some all → PromptLook wish.apid (take i took) (take j gave))
+
+-- One run over a port: what it took and gave, when, and why it ended so. However it ends, it takes at most the number of octets that is
+-- wished. What is given at each read call is a prefix of the look for the octets that were taken by then, with at least the rows
+-- whose blocks they settle.
+pub record Looks (wish : DecodeWish) (old new : Outside) (result : Result DecodeDone DecodeFault) : Type 0 where
+  pub took : List ℕ
+  pub gave : List ℕ
+  pub since : Since old new took gave [] (LookAsks wish old took gave)
+  pub within : length took ≤ wish.octets
+  pub answer : LookAnswers wish old new took gave result

@@ -1,0 +1,19 @@
+// What the values of a look are.
+ghost use Rattle.quick_look.specs.Look.{LookIsLow};
+ghost use Rattle.quick_look.specs.LookLaws.{LooksOfImages};
+
+use segment_code::{coded_holds, coded_holds_exactly, texts_are_short};
+
+/// A look has the values of the lowest of the bands that the picture of the same blocks is made from, each clamped.
+pub const fn look_is_low()
+    ensures { LookIsLow }
+{}
+
+/// The look at all packets of an image, without a stop, a limit and a total, has the coefficients of LL3 of that image, each clamped.
+pub const fn looks_are_of_images()
+    ensures { LooksOfImages }
+{
+    texts_are_short();
+    coded_holds();
+    coded_holds_exactly();
+}
