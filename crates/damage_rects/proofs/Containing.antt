@@ -1,0 +1,59 @@
+-- What a decoder gives is the same outside the rectangles.
+use Rattle.std.proofs.Common.{◌≡◌, ℕ, ℤ, List, sym, ap, subst, ◌∙◌}
+use Rattle.std.specs.Prelude.{Some}
+use Rattle.port_122.specs.Outside.{Outside}
+use Rattle.base_122.specs.Setting.{image_geometry}
+use Rattle.base_122.specs.declared.geometry.Geometry.{Geometry}
+use Rattle.base_122.specs.declared.setting.Setting.{Setting}
+use Rattle.base_122.specs.declared.wish.DecodeWish.{DecodeWish}
+use Rattle.segment_code.specs.Laws.{TextsAreShort}
+use Rattle.stream_defs.specs.Begun.{begun_in, height}
+use Rattle.stream_defs.specs.Fates.{geometry_in}
+use Rattle.stream_defs.specs.Picture.{picture, picture_octets, picture_with, whole_picture}
+use Rattle.stream_defs.specs.Received.{ReceivedIn}
+use Rattle.rect_defs.specs.Rects.{rects}
+use Rattle.rect_defs.specs.RectLaws.{SameOutsideRects}
+use Rattle.strip_decoder.specs.declared.decode.DecodeDone.{DecodeDone}
+use Rattle.strip_decoder.specs.Answers.{IsPicture}
+use Rattle.strip_decoder.specs.Runs.{holds_after}
+use Rattle.strip_decoder.specs.Containment.{some_output, BeginsOne, reported, AreSome}
+use Rattle.strip_decoder.proofs.SublistPictures.{begun_few, geometry_there, some_geometry}
+use Rattle.damage_rects.specs.Containment.{GivesInRects, GivesAlikeInRects}
+use Rattle.damage_rects.proofs.SomePackets.{in_rects, sublist_in_rects}
+
+pub decoded_in_rects : (wish : DecodeWish) (start new : Outside) (took gave every : List ℕ) (done : DecodeDone) → IsPicture wish start new took gave done → start.rest ≡ Some every → GivesInRects wish took gave done
+decoded_in_rects wish start new took gave every done is told =
+    let t = is.told every told in
+    let g = done.geometry in
+    let n : ℕ = begun_in wish.apid took in
+    record {
+      received = t.0;
+      received_is = t.1;
+      gave_is = t.2;
+      whatever = λ numbers are.
+          subst (λ rows. SameOutsideRects rows g.width (rects g t.0 n) (picture_with g numbers n) (picture g t.0 n)) (sym is.written) (in_rects g t.0 numbers n is.range are);
+    }
+
+pub decoded_alike : TextsAreShort → (wish : DecodeWish) (start new : Outside) (took gave every : List ℕ) (done : DecodeDone) (s : Setting) (rows : ℕ) (x : ℕ → ℕ → ℤ) (parts : ℕ → List ℕ) →
+    IsPicture wish start new took gave done → start.rest ≡ Some every → wish.apid ≡ s.apid → took ≡ some_output s rows x parts → AreSome s rows x parts → BeginsOne s rows parts → GivesAlikeInRects s rows x parts gave done
+decoded_alike short wish start new took gave every done s rows x parts is told apid took_is are begins =
+    let t = is.told every told in
+    let received = t.0 in
+    let octets = some_output s rows x parts in
+    let n : ℕ = begun_in s.apid octets in
+    let begun_same : begun_in wish.apid took ≡ n = ap (λ apid. begun_in apid took) apid ∙ ap (begun_in s.apid) took_is in
+    let there : geometry_in s.apid octets ≡ Some done.geometry = subst (λ octets. geometry_in s.apid octets ≡ Some done.geometry) took_is (subst (λ n. geometry_in n took ≡ Some done.geometry) apid is.geometry) in
+    let same : done.geometry ≡ reported s rows parts = some_geometry (sym there ∙ geometry_there short s rows x parts are begins) in
+    let mine : ReceivedIn holds_after s.apid octets received = subst (λ octets. ReceivedIn holds_after s.apid octets received) took_is (subst (λ n. ReceivedIn holds_after n took received) apid t.1) in
+    let written : done.written ≡ height done.geometry n = is.written ∙ ap (height done.geometry) begun_same in
+    record {
+      geometry = same;
+      received = received;
+      received_is = mine;
+      gave_is = t.2 ∙ ap (picture_octets done.geometry received) begun_same;
+      same = λ whole all_are.
+          let whole_is = whole_picture (image_geometry s rows) whole in
+          subst (λ (lines : ℕ). SameOutsideRects lines s.width (rects done.geometry received n) (picture done.geometry received n) whole_is) (sym written)
+          (subst (λ (g : Geometry). SameOutsideRects (height g n) s.width (rects g received n) (picture g received n) whole_is) (sym same)
+          (sublist_in_rects short s rows x parts are received whole mine all_are n (begun_few short s rows x parts are begins)));
+    }

@@ -1,0 +1,12 @@
+use Rattle.std.proofs.Common.{refl, ap, ◌+◌}
+use Rattle.std.specs.Prelude.{None, Some, not, is_some, true}
+use Rattle.damage_rects.specs.declared.gaps.Gaps.{Gaps}
+use Rattle.damage_rects.proofs.Keeping.{takes, keeps_lost}
+use Rattle.damage_rects.proofs.gaps.GapsBlockSink.lose.Goals as goal
+
+pub returns : goal.returns
+returns g c g' n at within =
+    let old = c.args.self.now in
+    let new : Gaps = record old { open_from = Some c.unwrap_or.result; passed = old.passed + 1 } in
+    takes (g.X.Port.outside c.args._port.now) old new g' n (None) true at within refl (λ blocks is. ap (λ o. not (is_some o)) is)
+    (λ lost. keeps_lost old new n at.passed (ap Some c.unwrap_or.ensures) refl refl lost)

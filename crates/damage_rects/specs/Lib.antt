@@ -1,0 +1,4 @@
+pub mod GapSinks
+pub mod Sizes
+pub mod Listing
+pub mod Containment

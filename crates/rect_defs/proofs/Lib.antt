@@ -1,0 +1,8 @@
+pub mod Tests
+pub mod Runs
+pub mod RectCovers
+pub mod RectReach
+pub mod SameLost
+mod Examples
+pub mod GapRows
+pub mod GapRects

@@ -1,0 +1,4 @@
+pub mod Rects
+pub mod RectLines
+pub mod RectLaws
+pub mod Gaps
