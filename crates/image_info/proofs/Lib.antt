@@ -1,0 +1,11 @@
+pub mod OneImage
+pub mod ImageLists
+pub mod EntryLists
+pub mod Passed
+pub mod LineLists
+pub mod Bounds
+pub mod Runs
+pub mod Endings
+pub mod PacketReads
+pub mod Completes
+pub mod Sizes

@@ -1,0 +1,110 @@
+-- An image of which a packet is kept has a geometry.
+use Rattle.std.proofs.Common.{◌≡◌, ◌<◌, ◌+◌, ℕ, List, [], ◌∷◌, ◌++◌, length, refl, sym, ap, subst, ◌∙◌, inl, inr, arith, append_assoc}
+use Rattle.std.specs.Prelude.{true, false, ◌==◌, All, slice_index_or, Option, Some, None, IsSome, Result, Ok, Err}
+use Rattle.std.proofs.lemmas.List.{append-nil, get_or_default}
+use Rattle.std.proofs.lemmas.Bool.Decides.{nat_tests}
+use Rattle.base_122.specs.declared.geometry.Geometry.{Geometry}
+use Rattle.segment_defs.specs.declared.head.SegmentHead.{SegmentHead}
+use Rattle.segment_defs.specs.declared.fault.HeadFault.{HeadFault}
+use Rattle.segment_defs.specs.Reading.{head_read}
+use Rattle.packet_defs.specs.declared.ancillary.Ancillary.{Ancillary}
+use Rattle.packet_defs.specs.Reading.{ancillary_in, text_in}
+use Rattle.stream_defs.specs.declared.fate.LastPart.{LastPart}
+use Rattle.stream_defs.specs.declared.fate.FateState.{FateState}
+use Rattle.stream_defs.specs.Agreement.{head_refusal}
+use Rattle.stream_defs.specs.Fates.{fresh, fate, kept, part_in, geometry_with, geometry_after, refusal_in, after, after_all}
+use Rattle.stream_defs.specs.Received.{number_of_part}
+use Rattle.stream_defs.proofs.FateLaws.{after_as_kept}
+use Rattle.stream_defs.proofs.KeptOrder.{does, is_kept_so, kept_tests, HasReached, reached_on}
+use Rattle.image_info.specs.declared.image.ImageId.{ImageId}
+use Rattle.image_info.specs.declared.image.ImageEntry.{ImageEntry}
+use Rattle.image_info.specs.Images.{own_packets, state_of, kept_of, entry_of, images, entries}
+use Rattle.image_info.specs.Tables.{no_entry}
+use Rattle.image_info.proofs.ImageLists.{id_at, AreBegun, images-none, begun_none, begun_next}
+use Rattle.image_info.proofs.EntryLists.{length-entries, entry_is}
+
+-- ---- one packet
+
+equal : (m n : ℕ) → m ≡ n → (m == n) ≡ true
+equal m n e = grind (arith, nat_tests)
+
+apart : (m n : ℕ) → (m ≡ n → ⊥) → (m == n) ≡ false
+apart m n e = grind (arith, nat_tests)
+
+-- a head that isn't refused makes a geometry
+made : (standing : Option Geometry) (a : Ancillary) (read : Result SegmentHead HeadFault) → head_refusal standing a read ≡ None → IsSome (geometry_with standing a read)
+made standing a (Ok head) e = refl
+made standing a (Err fault) e = absurd cc
+
+first_made : (standing : Option Geometry) (packet : List ℕ) → number_of_part packet ≡ 0 → refusal_in standing packet ≡ None → IsSome (geometry_after standing packet)
+first_made standing packet part none =
+    let first : ((ancillary_in packet).part == 0) ≡ true = equal (ancillary_in packet).part 0 part in
+    let accepted : head_refusal standing (ancillary_in packet) (head_read (text_in packet)) ≡ None = rw first at none in
+    rw first (made standing (ancillary_in packet) (head_read (text_in packet)) accepted)
+
+next_same : (standing : Option Geometry) (packet : List ℕ) (n : ℕ) → number_of_part packet ≡ n + 1 → geometry_after standing packet ≡ standing
+next_same standing packet n part =
+    let further : ((ancillary_in packet).part == 0) ≡ false = apart (ancillary_in packet).part 0 (λ e. omega (arith, e, part)) in
+    rw further refl
+
+-- ---- all packets
+
+-- where a packet was kept there is a geometry
+abbrev HasSize : FateState → Type 0
+HasSize s = (last : LastPart) → s.last ≡ Some last → IsSome s.geometry
+
+size_on : (apid : ℕ) (s : FateState) (x : List ℕ) → HasSize s → HasSize (after apid s x)
+size_on apid s x h = elim (does apid s x) [
+  | inl lost ↦ subst HasSize (sym lost.same) h
+  | inr here ↦ elim here [
+    | inl first ↦
+        let is = is_kept_so (fate apid s x) first.is_kept in
+        λ last e. subst IsSome (sym (ap (λ (s : FateState). s.geometry) (after_as_kept apid s x is))) (first_made s.geometry x first.part (kept_tests apid s x is).head)
+    | inr next ↦
+        let is = is_kept_so (fate apid s x) next.is_kept in
+        λ last e. subst IsSome (sym (ap (λ (s : FateState). s.geometry) (after_as_kept apid s x is) ∙ next_same s.geometry x next.before.part next.part)) (h next.before next.before_is)
+  ]
+]
+
+size_after : (apid : ℕ) (s : FateState) (packets : List (List ℕ)) → HasSize s → HasSize (after_all apid s packets)
+size_after apid s [] h = h
+size_after apid s (x ∷ xs) h = size_after apid (after apid s x) xs (size_on apid s x h)
+
+none_kept : (apid : ℕ) (s : FateState) → kept apid s [] ≡ []
+unfolding kept
+none_kept apid s = refl
+
+kept_last : (apid : ℕ) (s : FateState) (packets : List (List ℕ)) → 0 < length (kept apid s packets) → HasReached 0 (after_all apid s packets)
+kept_last apid s [] some = absurd (let none = ap length (none_kept apid s) in omega (arith, some, none))
+kept_last apid s (x ∷ xs) some = elim (does apid s x) [
+  | inl lost ↦ kept_last apid (after apid s x) xs (subst (λ ks. 0 < length ks) (lost.kept_are xs) some)
+  | inr here ↦ elim here [
+    | inl first ↦ reached_on 0 apid (after apid s x) xs record { last = part_in x; last_is = first.last; least = omega arith }
+    | inr next ↦ reached_on 0 apid (after apid s x) xs record { last = part_in x; last_is = next.last; least = omega arith }
+  ]
+]
+
+fresh_size : HasSize fresh
+fresh_size last e = let no : None ≡ Some last = e in absurd cc
+
+size_of : (id : ImageId) (packets : List (List ℕ)) → 0 < length (kept_of id packets) → IsSome (state_of id packets).geometry
+size_of id packets some =
+    let last = kept_last id.apid fresh (own_packets id packets) some in
+    size_after id.apid fresh (own_packets id packets) fresh_size last.last last.last_is
+
+-- ---- the images
+
+begun_on : (wanted : Option ℕ) (packets later : List (List ℕ)) → AreBegun wanted packets (images wanted packets) → AreBegun wanted (packets ++ later) (images wanted (packets ++ later))
+begun_on wanted packets [] known = subst (λ ps. AreBegun wanted ps (images wanted ps)) (sym (append-nil packets)) known
+begun_on wanted packets (x ∷ later) known =
+    subst (λ ps. AreBegun wanted ps (images wanted ps)) (append_assoc packets (x ∷ []) later)
+    (begun_on wanted (packets ++ x ∷ []) later (begun_next wanted packets x known))
+
+all_begun : (wanted : Option ℕ) (packets : List (List ℕ)) → AreBegun wanted packets (images wanted packets)
+all_begun wanted packets = begun_on wanted [] packets (subst (AreBegun wanted []) (sym (images-none wanted)) (begun_none wanted))
+
+pub have_geometry : (wanted : Option ℕ) (packets : List (List ℕ)) → All (λ (entry : ImageEntry). IsSome entry.state.geometry) (entries wanted packets)
+have_geometry wanted packets k d lt =
+    let within : k < length (images wanted packets) = omega (arith, lt, length-entries wanted packets) in
+    let is : slice_index_or (entries wanted packets) k d ≡ entry_of packets (id_at (images wanted packets) k) = get_or_default (entries wanted packets) k d no_entry lt ∙ entry_is wanted packets k within in
+    subst (λ (entry : ImageEntry). IsSome entry.state.geometry) (sym is) (size_of (id_at (images wanted packets) k) packets ((all_begun wanted packets).some_each k within))

@@ -1,0 +1,6 @@
+pub mod Images
+pub mod Lines
+pub mod Tables
+pub mod Steps
+pub mod Answers
+pub mod Laws
