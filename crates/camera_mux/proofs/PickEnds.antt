@@ -23,8 +23,8 @@ use Rattle.packet_assembly.specs.Readings.{HasRead}
 use Rattle.packet_assembly.proofs.Verdicts.{mine_read, other_read, long_read}
 use Rattle.packet_assembly.proofs.Readings.{read_within, whole_so, ended_packets, ended_framing, ended_out, long_packets, long_good, long_full}
 use Rattle.camera_defs.specs.Picked.{picked_of, picked}
-use Rattle.camera_mux.specs.declared.pick.PickFault.{PickFault}
-use Rattle.camera_mux.specs.declared.pick.PickFault.TheVariants.{ReadFault, WriteFault, LongInput, Memory}
+use Rattle.packet_list.specs.declared.list.ListFault.{ListFault}
+use Rattle.packet_list.specs.declared.list.ListFault.TheVariants.{ReadFault, WriteFault, LongInput, Memory}
 use Rattle.camera_mux.specs.PickProgress.{reading, HasPicked}
 use Rattle.camera_mux.specs.PickSteps.{framing_in, FailsToGive, EndsPick, StopsPick, PicksNext}
 use Rattle.camera_mux.specs.PickAnswers.{Picks}
@@ -135,7 +135,7 @@ write_failed {wish = wish} {image = image} before x =
       answer = (rose_since come.since.faults.writes x.rose, (some, sym front));
     }
 
-pub picks_failed : {wish : DecodeWish} {image : Option ℕ} {start now : Outside} {v : Intake} {packets : ℕ} (new : Outside) (w : Intake) (fault : PickFault) → HasPicked wish image start now v packets →
+pub picks_failed : {wish : DecodeWish} {image : Option ℕ} {start now : Outside} {v : Intake} {packets : ℕ} (new : Outside) (w : Intake) (fault : ListFault) → HasPicked wish image start now v packets →
     PicksNext wish.apid image now new v w (Err fault) → Picks wish image start new (Err fault)
 picks_failed new w ReadFault before x = read_failed before x
 picks_failed new w LongInput before x = long_picked before x

@@ -5,14 +5,14 @@ use Rattle.base_122.specs.declared.wish.DecodeWish.{DecodeWish}
 use Rattle.packet_defs.specs.Streams.{whole_packets, left_over, has_bad_version, framing}
 use Rattle.packet_assembly.specs.Readings.{IsReadOut}
 use Rattle.camera_defs.specs.Picked.{picked_of, picked}
-use Rattle.camera_mux.specs.declared.pick.PickDone.{PickDone}
-use Rattle.camera_mux.specs.declared.pick.PickFault.{PickFault}
-use Rattle.camera_mux.specs.declared.pick.PickFault.TheVariants.{ReadFault, WriteFault, LongInput, Memory}
+use Rattle.packet_list.specs.declared.list.ListDone.{ListDone}
+use Rattle.packet_list.specs.declared.list.ListFault.{ListFault}
+use Rattle.packet_list.specs.declared.list.ListFault.TheVariants.{ReadFault, WriteFault, LongInput, Memory}
 use Rattle.camera_mux.specs.PickProgress.{AsksPicked}
 
 -- What is given are the picked packets of the octets that were taken, and these were read to the end, or can't be read on for this
 -- reason.
-pub record IsPick (wish : DecodeWish) (image : Option ℕ) (new : Outside) (took gave : List ℕ) (done : PickDone) : Type 0 where
+pub record IsPick (wish : DecodeWish) (image : Option ℕ) (new : Outside) (took gave : List ℕ) (done : ListDone) : Type 0 where
   pub octets : gave ≡ picked took wish.apid image
   pub packets : done.packets ≡ length (picked_of wish.apid image (whole_packets took))
   pub framing_is : done.framing ≡ framing took
@@ -20,7 +20,7 @@ pub record IsPick (wish : DecodeWish) (image : Option ℕ) (new : Outside) (took
 
 -- Why it was answered so. Where the port tells what is left, what was taken and the end decide between a pick that is done and an
 -- input that is too long.
-abbrev pub Answers : DecodeWish → (image : Option ℕ) → (old new : Outside) → (took gave : List ℕ) → Result PickDone PickFault → Type 0
+abbrev pub Answers : DecodeWish → (image : Option ℕ) → (old new : Outside) → (took gave : List ℕ) → Result ListDone ListFault → Type 0
 Answers wish image old new took gave (Ok done) = IsPick wish image new took gave done
 Answers wish image old new took gave (Err LongInput) = (length took ≡ wish.octets) × (has_bad_version (left_over took) ≡ false) × (gave ≡ picked took wish.apid image)
 Answers wish image old new took gave (Err ReadFault) = Rose old.read_faults new.read_faults × (gave ≡ picked took wish.apid image)
@@ -29,7 +29,7 @@ Answers wish image old new took gave (Err Memory) = (old ≡ new) × (took ≡ [
 
 -- One run over a port: what it took and gave, when, and why it ended so. However it ends, it takes at most as many octets as are
 -- wished. At each read call what is given are exactly the picked packets of those that are whole in the octets taken by then.
-pub record Picks (wish : DecodeWish) (image : Option ℕ) (old new : Outside) (result : Result PickDone PickFault) : Type 0 where
+pub record Picks (wish : DecodeWish) (image : Option ℕ) (old new : Outside) (result : Result ListDone ListFault) : Type 0 where
   pub took : List ℕ
   pub gave : List ℕ
   pub since : Since old new took gave [] (AsksPicked wish.apid image took gave)

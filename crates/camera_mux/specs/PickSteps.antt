@@ -9,8 +9,8 @@ use Rattle.packet_defs.specs.Streams.{begins_packet, first_packet}
 use Rattle.space_packets.specs.Intake.{Intake, end_read, verdict, answered}
 use Rattle.space_packets.specs.PacketReads.{ReadsPacket, TakenSoFar}
 use Rattle.camera_defs.specs.Picked.{is_picked}
-use Rattle.camera_mux.specs.declared.pick.PickFault.{PickFault}
-use Rattle.camera_mux.specs.declared.pick.PickFault.TheVariants.{ReadFault, WriteFault, LongInput, Memory}
+use Rattle.packet_list.specs.declared.list.ListFault.{ListFault}
+use Rattle.packet_list.specs.declared.list.ListFault.TheVariants.{ReadFault, WriteFault, LongInput, Memory}
 use Rattle.camera_mux.specs.declared.picking.Step.{Step}
 use Rattle.camera_mux.specs.declared.picking.Step.TheVariants.{Given, Passed, Over}
 
@@ -63,7 +63,7 @@ pub record StopsPick (apid : ℕ) (old new : Outside) (v : Intake) : Type 0 wher
   pub taken : TakenSoFar old new v full
   pub over : verdict apid full ≡ Some (Err in_faults.LongInput)
 
-abbrev pub PicksNext : (apid : ℕ) (image : Option ℕ) → (old new : Outside) (v w : Intake) → Result Step PickFault → Type 0
+abbrev pub PicksNext : (apid : ℕ) (image : Option ℕ) → (old new : Outside) (v w : Intake) → Result Step ListFault → Type 0
 PicksNext apid image old new v w (Ok Given) = GivesNext apid image old new v w
 PicksNext apid image old new v w (Ok Passed) = PassesOther apid image old new v w
 PicksNext apid image old new v w (Ok (Over found)) = EndsPick apid old new v found

@@ -7,7 +7,6 @@ mod mux;
 #[cfg(test)]
 mod mux_tests;
 mod muxing;
-mod pick;
 mod picking;
 #[cfg(test)]
 mod tests;
@@ -15,5 +14,4 @@ mod tests;
 pub use laws::cameras_are_kept;
 pub use mux::{MuxDone, MuxFault};
 pub use muxing::mux_rows;
-pub use pick::{PickDone, PickFault};
 pub use picking::pick_packets;

@@ -5,10 +5,10 @@ ghost use Rattle.camera_defs.specs.Picked.{is_picked};
 ghost use Rattle.camera_mux.specs.PickSteps.{framing_in, PicksNext};
 ghost use Rattle.camera_mux.specs.PickAnswers.{Picks};
 
-use crate::pick::{PickDone, PickFault};
 use base_122::DecodeWish;
 use byteorder::{BigEndian, ByteOrder};
 use packet_defs::{Framing, PacketRead};
+use packet_list::{ListDone, ListFault};
 use port_122::{Port, write_all};
 use space_packets::{PacketReader, skip_of};
 use std::alloc::Global;
@@ -24,18 +24,18 @@ pub fn pick_packets<X: Port>(
     port: &mut X,
     wish: &DecodeWish,
     image: Option<u16>,
-) -> Result<PickDone, PickFault>
+) -> Result<ListDone, ListFault>
     ensures { Picks wish.now image (X.outside port.old) (X.outside port.new) result }
 {
     let Ok(mut reader) = PacketReader::new(alloc, wish.octets) else {
-        return Err(PickFault::Memory);
+        return Err(ListFault::Memory);
     };
     let mut packets = 0;
     'packets: loop {
         match pick_next(port, &mut reader, wish.apid, image) {
             Ok(Step::Given) => packets += 1,
             Ok(Step::Passed) => {}
-            Ok(Step::Over(framing)) => return Ok(PickDone { packets, framing }),
+            Ok(Step::Over(framing)) => return Ok(ListDone { packets, framing }),
             Err(fault) => return Err(fault),
         }
     }
@@ -55,22 +55,22 @@ fn pick_next<X: Port>(
     reader: &mut PacketReader,
     apid: u16,
     image: Option<u16>,
-) -> Result<Step, PickFault>
+) -> Result<Step, ListFault>
     ensures { PicksNext apid image (X.outside port.old) (X.outside port.new) reader.old reader.new result }
 {
     let Ok(()) = reader.fill(port) else {
-        return Err(PickFault::ReadFault);
+        return Err(ListFault::ReadFault);
     };
     if !reader.has_packet() {
         let Ok(read) = reader.answer(apid) else {
-            return Err(PickFault::LongInput);
+            return Err(ListFault::LongInput);
         };
         return Ok(Step::Over(framing_in(read)));
     }
     let picked = is_picked(reader.octets(), apid, image);
     if picked {
         let Ok(()) = write_all(port, reader.octets()) else {
-            return Err(PickFault::WriteFault);
+            return Err(ListFault::WriteFault);
         };
     }
     let _ = reader.answer(apid);

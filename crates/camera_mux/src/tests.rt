@@ -1,9 +1,10 @@
 // Packets picked from streams, worked by hand from the rules.
 ghost use Rattle.std.specs.Prelude.{◌<◌};
 
-use crate::{PickDone, PickFault, pick_packets};
+use crate::pick_packets;
 use base_122::DecodeWish;
 use packet_defs::Framing;
+use packet_list::{ListDone, ListFault};
 use port_122::MemoryPort;
 use std::alloc::{AllocError, Global};
 use std::test::Fail;
@@ -71,7 +72,7 @@ fn packets_of_another_camera_are_left(rt: HostRuntime) -> Result<(), Fail> {
     let wish = DecodeWish { apid: 101, ..WISH };
     assert_eq!(rt;
         pick_packets(rt.alloc(), &mut port, &wish, None),
-        Ok(PickDone {
+        Ok(ListDone {
             packets: 1,
             framing: None
         })
@@ -93,7 +94,7 @@ fn an_apid_has_packets_of_any_kind(rt: HostRuntime) -> Result<(), Fail> {
     let mut port = port_of(rt.alloc(), &parts, &[], 100)?;
     assert_eq!(rt;
         pick_packets(rt.alloc(), &mut port, &WISH, None),
-        Ok(PickDone {
+        Ok(ListDone {
             packets: 3,
             framing: Some(Framing::CutPacket { missing: 10 })
         })
@@ -110,7 +111,7 @@ fn an_image_has_packets_with_its_number(rt: HostRuntime) -> Result<(), Fail> {
         let mut port = port_of(rt.alloc(), &parts, &[], 100)?;
         assert_eq!(rt;
             pick_packets(rt.alloc(), &mut port, &WISH, Some(image)),
-            Ok(PickDone {
+            Ok(ListDone {
                 packets,
                 framing: None
             })
@@ -123,8 +124,8 @@ fn an_image_has_packets_with_its_number(rt: HostRuntime) -> Result<(), Fail> {
 #[test]
 fn a_packet_is_out_before_the_next_is_read(rt: HostRuntime) -> Result<(), Fail> {
     for (fail, piece, fault, octets) in [
-        (2, 100, PickFault::ReadFault, 52),
-        (4, 20, PickFault::WriteFault, 20),
+        (2, 100, ListFault::ReadFault, 52),
+        (4, 20, ListFault::WriteFault, 20),
     ] {
         let mut port = port_of(rt.alloc(), &[&BLACK, &BLACK], &[fail], piece)?;
         assert_eq!(rt;
@@ -142,7 +143,7 @@ fn input_beyond_the_cap_is_too_long(rt: HostRuntime) -> Result<(), Fail> {
     let wish = DecodeWish { octets: 60, ..WISH };
     assert_eq!(rt;
         pick_packets(rt.alloc(), &mut port, &wish, None),
-        Err(PickFault::LongInput)
+        Err(ListFault::LongInput)
     );
     assert_eq!(rt; port.given(), BLACK.as_slice());
     Ok(())
