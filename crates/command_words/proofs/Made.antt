@@ -1,21 +1,25 @@
 -- What the values make is in range.
-use Rattle.std.proofs.Common.{◌≡◌, ◌*◌, List, [], ◌∷◌, refl, arith, true, false}
-use Rattle.std.specs.Prelude.{Option, Some, None, Result, Ok, IfOk, Bool, not, cond, find, nat_le, ◌==◌, ◌||◌}
+use Rattle.std.proofs.Common.{◌≡◌, ◌≤◌, ◌+◌, ◌*◌, ℕ, List, [], ◌∷◌, refl, arith, subst, true, false}
+use Rattle.std.specs.Prelude.{Option, Some, None, Result, Ok, IfOk, IfSome, Bool, not, unwrap_or, cond, find, nat_le, ◌==◌, ◌||◌}
+use Rattle.std.specs.Option.{option_map}
 use Rattle.std.proofs.lemmas.Bool.{and_parts, or_right}
 use Rattle.std.proofs.lemmas.Bool.Decides.{nat_tests}
-use Rattle.base_122.specs.Ranges.{rows_range, apid_range, pixels_range, octets_range, IsWithin, is_within, field_test, fields, IsInRange as IsSettingInRange, IsWishInRange}
+use Rattle.base_122.specs.Ranges.{rows_range, apid_range, image_range, pixels_range, octets_range, IsWithin, is_within, field_test, fields, IsInRange as IsSettingInRange, IsWishInRange}
 use Rattle.base_122.specs.declared.field.Field.{Field}
+use Rattle.base_122.specs.declared.range.FieldRange.{FieldRange}
 use Rattle.base_122.specs.declared.field.Field.TheVariants as field
 use Rattle.base_122.proofs.RangeChecks.{within, in_range-from_none}
 use Rattle.command_words.specs.declared.tables.Task.{Task}
-use Rattle.command_words.specs.declared.tables.Task.TheVariants.{Encode, Read, Make, Trial}
+use Rattle.command_words.specs.declared.tables.Task.TheVariants.{Encode, Mux, Read, Info, Pick, Make, Trial}
 use Rattle.command_words.specs.declared.tables.Key.{Key}
 use Rattle.command_words.specs.declared.tables.Key.TheVariants as key
 use Rattle.command_words.specs.declared.command.Command.{Command}
 use Rattle.command_words.specs.declared.command.WordFault.{WordFault}
 use Rattle.command_words.specs.declared.command.WordFault.TheVariants.{MissingKey, OutOfRange}
-use Rattle.command_words.specs.Tables.{command_of, row_of, Finds, setting_of, wish_of, number_at}
-use Rattle.command_words.specs.Commands.{is_small, leaves_rows_open, passes, after, first_missing, first_refused, field_of, made, IsInRange}
+use Rattle.command_words.specs.declared.values.Value.{Value}
+use Rattle.command_words.specs.Values.{number_of}
+use Rattle.command_words.specs.Tables.{command_of, row_of, Finds, setting_of, wish_of, number_at, given_number}
+use Rattle.command_words.specs.Commands.{is_small, leaves_rows_open, cameras_test, passes, after, first_missing, first_refused, field_of, made, IsInRange}
 
 -- the first key passes, and so do those after it
 passed : (b : Bool) (key : Key) (field : Field) (rest : Option Key) → (row_of key).field ≡ Some field →
@@ -43,10 +47,15 @@ record AllInRange (task : Task) (finds : Finds) : Type 0 where
   rows : leaves_rows_open task finds ≡ false → IsWithin rows_range (setting_of finds).rows
   wish : IsWishInRange (wish_of finds)
   small : is_small task finds ≡ true
+  image : IsWithin image_range (number_at finds key.Image)
+  cameras : cameras_test (number_at finds key.Apid) (number_at finds key.Cameras) ≡ true
 
 -- only `encode` may leave the rows open, and only by rows 0
 open_is_zero : (task : Task) (finds : Finds) (b : Bool) → leaves_rows_open task finds || b ≡ true → (number_at finds key.Rows == 0) || b ≡ true
 open_is_zero Encode finds b h = h
+open_is_zero Mux finds b h = or_right (number_at finds key.Rows == 0) b h
+open_is_zero Pick finds b h = or_right (number_at finds key.Rows == 0) b h
+open_is_zero Info finds b h = or_right (number_at finds key.Rows == 0) b h
 open_is_zero (Read reading) finds b h = or_right (number_at finds key.Rows == 0) b h
 open_is_zero Make finds b h = or_right (number_at finds key.Rows == 0) b h
 open_is_zero Trial finds b h = or_right (number_at finds key.Rows == 0) b h
@@ -75,6 +84,7 @@ all_in_range task finds e =
     let x = passed (passes task finds key.Pixels) key.Pixels field.Pixels _ refl k.1 in
     let y = passed (passes task finds key.Octets) key.Octets field.Octets _ refl x.1 in
     let t = passed (passes task finds key.Total) key.Total field.Total _ refl y.1 in
+    let c = passed (passes task finds key.Cameras) key.Cameras field.Cameras _ refl t.1 in
     let rows = and_parts (leaves_rows_open task finds || is_within rows_range s.rows) (is_small task finds) r.0 in
     record {
       setting = in_range-from_none s (none_fails (field_test s) fields (w.0, (open_is_zero task finds _ rows.0, (d.0, (g.0, (l.0, (f.0, (o.0, (p.0, (h.0, (a.0, (i.0, (k.0, (t.0, tt))))))))))))));
@@ -85,11 +95,34 @@ all_in_range task finds e =
         octets = (within octets_range wish.octets).0 y.0;
       };
       small = rows.1;
+      image = (within image_range (number_at finds key.Image)).0 i.0;
+      cameras = c.0;
     }
+
+cameras_in_range : (finds : Finds) (apid cameras : ℕ) → cameras_test apid cameras ≡ true → (1 ≤ cameras) × (cameras ≤ 16) × (apid + cameras ≤ 2047)
+cameras_in_range finds apid cameras test = grind (arith, nat_tests, test)
+
+-- a number that the words have is in range, since the key's value is
+given_in_range : (finds : Finds) (key : Key) (range : FieldRange) → IsWithin range (number_at finds key) → IfSome (given_number finds key) (IsWithin range)
+given_in_range finds key range within = by (finds key) refl
+  where
+    by : (found : Option Value) → finds key ≡ found → IfSome (option_map number_of found) (IsWithin range)
+    by None is = tt
+    by (Some value) is = subst (λ o. IsWithin range (number_of (unwrap_or o (row_of key).default))) is within
 
 -- no key that is tested is out of range
 pub command_in_range : (task : Task) (finds : Finds) → field_of (first_refused task finds) ≡ None → IsInRange (command_of task finds)
 command_in_range Encode finds e = (all_in_range Encode finds e).setting
+command_in_range Mux finds e =
+    let all = all_in_range Mux finds e in
+    let few = cameras_in_range finds (number_at finds key.Apid) (number_at finds key.Cameras) all.cameras in
+    (all.setting, all.rows refl, record { least = few.0; most = few.1; apids = few.2 })
+command_in_range Info finds e =
+    let all = all_in_range Info finds e in
+    (given_in_range finds key.Apid apid_range all.wish.apid, all.wish.octets)
+command_in_range Pick finds e =
+    let all = all_in_range Pick finds e in
+    (all.wish, given_in_range finds key.Image image_range all.image)
 command_in_range (Read reading) finds e = (all_in_range (Read reading) finds e).wish
 command_in_range Make finds e =
     let all = all_in_range Make finds e in

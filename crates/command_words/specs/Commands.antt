@@ -1,19 +1,20 @@
 -- What the values make: a command, or the first thing that is wrong with them. This project's own.
-use Rattle.std.specs.Prelude.{◌≤◌, ◌*◌, ◌&&◌, ◌||◌, ◌==◌, nat_le, Bool, true, false, not, List, find, is_some, option_and_then, Option, Some, None, Result, Ok, Err}
+use Rattle.std.specs.Prelude.{◌≤◌, ◌+◌, ◌*◌, ℕ, IfSome, ◌&&◌, ◌||◌, ◌==◌, nat_le, Bool, true, false, not, List, find, is_some, option_and_then, Option, Some, None, Result, Ok, Err}
 use Rattle.std.specs.List.{list_all}
 use Rattle.base_122.specs.Weights.{is_shift}
-use Rattle.base_122.specs.Ranges.{IsWithin, is_within, width_range, rows_range, depth_range, plane_range, stage_range, limit_test, total_test, IsInRange as IsSettingInRange, IsWishInRange}
+use Rattle.base_122.specs.Ranges.{IsWithin, is_within, width_range, rows_range, depth_range, apid_range, image_range, octets_range, plane_range, stage_range, limit_test, total_test, IsInRange as IsSettingInRange, IsWishInRange}
 use Rattle.base_122.specs.declared.field.Field.{Field}
+use Rattle.base_122.specs.declared.setting.Setting.{Setting}
 use Rattle.raster_rows.specs.declared.made.MadeImage.{MadeImage}
 use Rattle.command_words.specs.declared.tables.Task.{Task}
 use Rattle.command_words.specs.declared.tables.Task.TheVariants.{Encode as to_encode, Trial as to_try}
 use Rattle.command_words.specs.declared.tables.Key.{Key}
-use Rattle.command_words.specs.declared.tables.Key.TheVariants.{Width, Rows, Limit, Word, Total}
+use Rattle.command_words.specs.declared.tables.Key.TheVariants.{Width, Rows, Limit, Word, Total, Apid, Cameras, Image}
 use Rattle.command_words.specs.declared.tables.Range.{Range}
-use Rattle.command_words.specs.declared.tables.Range.TheVariants.{All as any_value, Number as number_range, Cap as cap_range, Rows as few_rows, Limit as limit_range, Total as total_range, Fill as fill_range, Stop as stop_range, Weights as weights_range}
+use Rattle.command_words.specs.declared.tables.Range.TheVariants.{All as any_value, Number as number_range, Cap as cap_range, Rows as few_rows, Limit as limit_range, Total as total_range, Fill as fill_range, Stop as stop_range, Weights as weights_range, Cameras as cameras_range}
 use Rattle.command_words.specs.declared.tables.TheConstants.{ALL}
 use Rattle.command_words.specs.declared.command.Command.{Command}
-use Rattle.command_words.specs.declared.command.Command.TheVariants.{Encode, Read, Make, Trial}
+use Rattle.command_words.specs.declared.command.Command.TheVariants.{Encode, Mux, Read, Info, Pick, Make, Trial}
 use Rattle.command_words.specs.declared.command.WordFault.{WordFault}
 use Rattle.command_words.specs.declared.command.WordFault.TheVariants.{MissingKey, OutOfRange}
 use Rattle.command_words.specs.Values.{cap_of, flag_of, stop_of, weights_of}
@@ -29,6 +30,10 @@ abbrev pub leaves_rows_open : Task → Finds → Bool
 leaves_rows_open to_encode finds = number_at finds Rows == 0
 leaves_rows_open task finds = false
 
+-- there are 1 to 16 cameras, and their APIDs follow one another from the first one's
+abbrev pub cameras_test : (apid cameras : ℕ) → Bool
+cameras_test apid cameras = (nat_le 1 cameras && nat_le cameras 16) && nat_le (apid + cameras) (apid_range.most + 1)
+
 -- a key's value passes the test of its range
 abbrev pub range_test : Range → Task → Finds → Key → Bool
 range_test any_value task finds key = true
@@ -40,6 +45,7 @@ range_test total_range task finds key = total_test (setting_of finds)
 range_test fill_range task finds key = not (flag_of (value_at finds key)) || (not (number_at finds Limit == 0) || not (cap_of (value_at finds Total) == 0))
 range_test stop_range task finds key = is_within plane_range (stop_of (value_at finds key)).plane && is_within stage_range (stop_of (value_at finds key)).stage
 range_test weights_range task finds key = list_all is_shift (weights_of (value_at finds key)).shifts
+range_test cameras_range task finds key = cameras_test (number_at finds Apid) (number_at finds key)
 
 abbrev pub passes : Task → Finds → Key → Bool
 passes task finds key = range_test (row_of key).range task finds key
@@ -73,9 +79,18 @@ pub record IsMadeInRange (made : MadeImage) : Type 0 where
   pub rows : IsWithin rows_range made.rows
   pub depth : IsWithin depth_range made.depth
 
+-- There are 1 to 16 cameras, and the APID of each is in its range.
+pub record AreCameras (setting : Setting) (cameras : ℕ) : Type 0 where
+  pub least : 1 ≤ cameras
+  pub most : cameras ≤ 16
+  pub apids : setting.apid + cameras ≤ apid_range.most + 1
+
 -- The command's fields are in range. Only the rows of `encode` may be 0, for an image whose height is reported last.
 abbrev pub IsInRange : Command → Type 0
 IsInRange (Encode setting) = IsSettingInRange setting
+IsInRange (Mux setting cameras) = IsSettingInRange setting × IsWithin rows_range setting.rows × AreCameras setting cameras
 IsInRange (Read reading wish) = IsWishInRange wish
+IsInRange (Info apid octets) = IfSome apid (IsWithin apid_range) × IsWithin octets_range octets
+IsInRange (Pick wish image) = IsWishInRange wish × IfSome image (IsWithin image_range)
 IsInRange (Make made) = IsMadeInRange made
 IsInRange (Trial setting seed) = IsSettingInRange setting × IsWithin rows_range setting.rows × (setting.width * setting.rows ≤ 16777216)

@@ -6,11 +6,11 @@ use Rattle.base_122.specs.declared.setting.Setting.{Setting}
 use Rattle.base_122.specs.declared.wish.DecodeWish.{DecodeWish}
 use Rattle.raster_rows.specs.declared.made.MadeImage.{MadeImage}
 use Rattle.command_words.specs.declared.tables.Task.{Task}
-use Rattle.command_words.specs.declared.tables.Task.TheVariants.{Encode as to_encode, Read as to_read, Make as to_make, Trial as to_try}
+use Rattle.command_words.specs.declared.tables.Task.TheVariants.{Encode as to_encode, Mux as to_mux, Read as to_read, Info as to_info, Pick as to_pick, Make as to_make, Trial as to_try}
 use Rattle.command_words.specs.declared.command.Command.{Command}
-use Rattle.command_words.specs.declared.command.Command.TheVariants.{Encode, Read, Make, Trial}
+use Rattle.command_words.specs.declared.command.Command.TheVariants.{Encode, Mux, Read, Info, Pick, Make, Trial}
 use Rattle.command_words.specs.declared.tables.Key.{Key}
-use Rattle.command_words.specs.declared.tables.Key.TheVariants.{Width, Rows, Depth, Signed, Segment, Limit, Fill, Word, Stop, Weights, Select, Apid, Image, Packet, Pixels, Octets, Total, Seed}
+use Rattle.command_words.specs.declared.tables.Key.TheVariants.{Width, Rows, Depth, Signed, Segment, Limit, Fill, Word, Stop, Weights, Select, Apid, Image, Packet, Pixels, Octets, Total, Cameras, Seed}
 use Rattle.command_words.specs.declared.tables.Range.TheVariants.{All as any_value}
 use Rattle.command_words.specs.declared.tables.KeyRow.{KeyRow}
 use Rattle.command_words.specs.declared.values.Value.{Value}
@@ -37,7 +37,8 @@ key_place Packet = 13
 key_place Pixels = 14
 key_place Octets = 15
 key_place Total = 16
-key_place Seed = 17
+key_place Cameras = 17
+key_place Seed = 18
 
 abbrev pub no_row : KeyRow
 no_row = record { default = Flag false; required = false; field = None; range = any_value }
@@ -111,8 +112,15 @@ made_image_of finds = record {
   seed = number_at finds Seed;
 }
 
+-- the number at a key, if the words have it
+abbrev pub given_number : Finds → Key → Option ℕ
+given_number finds key = option_map number_of (finds key)
+
 abbrev pub command_of : Task → Finds → Command
 command_of to_encode finds = Encode (setting_of finds)
+command_of to_mux finds = Mux (setting_of finds) (number_at finds Cameras)
 command_of (to_read reading) finds = Read reading (wish_of finds)
+command_of to_info finds = Info (given_number finds Apid) (cap_of (value_at finds Octets))
+command_of to_pick finds = Pick (wish_of finds) (given_number finds Image)
 command_of to_make finds = Make (made_image_of finds)
 command_of to_try finds = Trial (setting_of finds) (number_at finds Seed)

@@ -5,8 +5,17 @@ use raster_rows::MadeImage;
 /// What the words ask for.
 #[derive(Clone, Copy, Debug, PartialEq, Eq)]
 pub enum Command {
+    /// A raster in, its packets out.
     Encode(Setting),
+    /// The rows of several cameras in, the packets of all out: the setting of the first camera, and the number of cameras. The APID
+    /// of a camera is that of the one before it, plus 1.
+    Mux(Setting, u8),
+    /// Packets in, and what is made of them out.
     Read(Reading, DecodeWish),
+    /// Packets in, a line for each image out: the APID of the images, or `None` for those of all, and the most octets that are read.
+    Info(Option<u16>, u64),
+    /// Packets in, those of one APID out; if there is the number of an image, those of that image alone. The wish has no cap on pixels.
+    Pick(DecodeWish, Option<u16>),
     Make(MadeImage),
     /// A setting, and the seed of the made image.
     Trial(Setting, u32),

@@ -10,6 +10,9 @@ use raster_rows::MadeImage;
 // The most pixels of a trial.
 const TRIAL: u64 = 1 << 24;
 
+// The cameras on a link.
+const CAMERAS: FieldRange = FieldRange { least: 1, most: 16 };
+
 /// The value that was found at each key.
 #[derive(Clone, Copy)]
 pub struct Given {
@@ -19,10 +22,10 @@ pub struct Given {
 impl Given {
     ghost use Rattle.std.specs.Prelude.{◌≡◌, ◌<◌, ◌^◌, is_some};
     ghost use Rattle.base_122.specs.Ranges.{IsInRange, IsWishInRange, total_test};
-    ghost use Rattle.command_words.specs.Tables.{value_at, number_at, setting_of, wish_of, made_image_of};
+    ghost use Rattle.command_words.specs.Tables.{value_at, number_at, given_number, setting_of, wish_of, made_image_of};
     ghost use Rattle.command_words.specs.Entries.{nothing, with_entry};
     ghost use Rattle.command_words.specs.Values.{cap_of, flag_of, stop_of, weights_of, select_of};
-    ghost use Rattle.command_words.specs.Commands.{passes, range_test, is_missing, is_small, leaves_rows_open, IsMadeInRange};
+    ghost use Rattle.command_words.specs.Commands.{passes, range_test, is_missing, is_small, leaves_rows_open, cameras_test, IsMadeInRange};
     ghost use Rattle.command_words.specs.Given.{finds_of};
 
     /// No key yet.
@@ -72,7 +75,18 @@ impl Given {
         }
     }
 
-    fn cap(&self, key: Key) -> u64
+    /// The number at a key, if the words have it.
+    pub fn given_number(&self, key: Key) -> Option<u32>
+        ensures { result ≡ given_number (finds_of self.now) key }
+    {
+        match self.found[key.place()]? {
+            Value::Number(number) => Some(number),
+            _ => Some(0),
+        }
+    }
+
+    /// The cap at a key.
+    pub fn cap(&self, key: Key) -> u64
         ensures { result ≡ cap_of (value_at (finds_of self.now) key) }
     {
         match self.value(key) {
@@ -175,6 +189,15 @@ impl Given {
         segment == 0 || is_total_in_range(total, blocks.div_ceil(segment))
     }
 
+    // Whether there are 1 to 16 cameras, and the APID of the last one is in its range.
+    fn are_cameras_in_range(&self, key: Key) -> bool
+        ensures { result ≡ cameras_test (number_at (finds_of self.now) Key.Apid) (number_at (finds_of self.now) key) }
+    {
+        let cameras = u64::from(self.number(key));
+        let after = u64::from(self.number(Key::Apid)) + cameras;
+        CAMERAS.contains(cameras) && after <= FieldRange::APID.most + 1
+    }
+
     /// Whether the key's value, or its default, is in its range.
     pub fn is_in_range(&self, task: Task, key: Key) -> bool
         ensures { result ≡ passes task (finds_of self.now) key }
@@ -197,6 +220,7 @@ impl Given {
             }
             Range::Stop => self.is_stop_in_range(key, task),
             Range::Weights => self.weights(key).are_in_range(),
+            Range::Cameras => self.are_cameras_in_range(key),
         }
     }
 

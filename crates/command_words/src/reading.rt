@@ -1,9 +1,9 @@
 // The words as a whole.
-ghost use Rattle.std.specs.Prelude.{◌≡◌, Result, IfOk, IfErr, length};
+ghost use Rattle.std.specs.Prelude.{◌≡◌, ◌<◌, ◌^◌, Result, IfOk, IfErr, IfSome, length};
 ghost use Rattle.command_words.specs.declared.command.Command.{Command};
 ghost use Rattle.command_words.specs.declared.command.WordFault.{WordFault};
 ghost use Rattle.command_words.specs.Words.{texts, Says, IsPlaced};
-ghost use Rattle.command_words.specs.Tables.{command_of};
+ghost use Rattle.command_words.specs.Tables.{given_number, command_of};
 ghost use Rattle.command_words.specs.Commands.{made, first_missing, first_refused, field_of, IsInRange};
 ghost use Rattle.command_words.specs.Given.{finds_of};
 
@@ -36,6 +36,17 @@ fn field_of(key: Option<Key>) -> Option<Field>
     key?.row().field
 }
 
+// The number at a key, if the words have it.
+fn given_number(given: &Given, key: Key) -> Option<u16>
+    requires { IfSome (given_number (finds_of given.now) key) (λ number. number < 2 ^ 16) }
+    ensures { result ≡ given_number (finds_of given.now) key }
+{
+    match given.given_number(key) {
+        Some(number) => Some(number as u16),
+        None => None,
+    }
+}
+
 // The command of these values, which are all in range.
 fn command_of(task: Task, given: &Given) -> Command
     requires { IsInRange (command_of task (finds_of given.now)) }
@@ -43,7 +54,10 @@ fn command_of(task: Task, given: &Given) -> Command
 {
     match task {
         Task::Encode => Command::Encode(given.setting()),
+        Task::Mux => Command::Mux(given.setting(), given.number(Key::Cameras) as u8),
         Task::Read(reading) => Command::Read(reading, given.wish()),
+        Task::Info => Command::Info(given_number(given, Key::Apid), given.cap(Key::Octets)),
+        Task::Pick => Command::Pick(given.wish(), given_number(given, Key::Image)),
         Task::Make => Command::Make(given.made_image()),
         Task::Trial => Command::Trial(given.setting(), given.number(Key::Seed)),
     }
@@ -68,7 +82,7 @@ fn make_command(task: Task, keys: &[Key], given: &Given) -> Result<Command, Word
 /// the words make no command the answer is the first thing that is wrong with them: the words are tested from left
 /// to right, then for a required key that is missing, then for the command's first field out of range in the order of
 /// `Field`. A command that is answered has its fields in range. The rows of `encode` are 0, for an image whose height is
-/// reported last, or 17 to 262,144 (docs/formats.md, "Bounds"); `rows=0` is out of range for `trial` and `make`.
+/// reported last, or 17 to 262,144 (docs/formats.md, "Bounds"); `rows=0` is out of range for all other commands.
 pub fn read_words(words: &[String]) -> Result<Command, WordFault>
     ensures says { Says (texts words.now) result }
     ensures only { (said : Result Command WordFault) → Says (texts words.now) said → said ≡ result }

@@ -9,7 +9,10 @@ use base_122::{Field, FieldRange, Select, Weights};
 #[derive(Clone, Copy)]
 pub enum Task {
     Encode,
+    Mux,
     Read(Reading),
+    Info,
+    Pick,
     Make,
     Trial,
 }
@@ -21,6 +24,10 @@ pub enum Reading {
     Decode,
     /// A line for each range of damaged rows is given.
     Damage,
+    /// The small picture with one value for each block is given.
+    Look,
+    /// A line for each rectangle of damaged pixels is given.
+    Rects,
     /// A line for each packet is given.
     List,
 }
@@ -45,6 +52,7 @@ pub enum Key {
     Pixels,
     Octets,
     Total,
+    Cameras,
     Seed,
 }
 
@@ -76,6 +84,8 @@ pub enum Range {
     Fill,
     Stop,
     Weights,
+    /// The cameras on a link: 1 to 16, and the APID of the last one must be in its range.
+    Cameras,
 }
 
 /// A row of the table of keys.
@@ -91,7 +101,7 @@ pub struct KeyRow {
 }
 
 /// How many keys there are.
-pub const COUNT: usize = 18;
+pub const COUNT: usize = 19;
 
 /// All keys in the order in which their ranges are tested, which is that of `Field`.
 pub const ALL: [Key; COUNT] = [
@@ -112,6 +122,7 @@ pub const ALL: [Key; COUNT] = [
     Key::Pixels,
     Key::Octets,
     Key::Total,
+    Key::Cameras,
     Key::Seed,
 ];
 
@@ -149,6 +160,7 @@ const KEYS: [(&str, KeyRow); COUNT] = [
     key_row! { "pixels": Value::Cap(1 << 32), Some(Field::Pixels), Range::Cap(FieldRange::PIXELS) },
     key_row! { "octets": Value::Cap(1 << 40), Some(Field::Octets), Range::Cap(FieldRange::OCTETS) },
     key_row! { "total": Value::Cap(0), Some(Field::Total), Range::Total },
+    key_row! { "cameras": Value::Number(1), Some(Field::Cameras), Range::Cameras },
     key_row! { "seed": Value::Number(0), None, Range::All },
 ];
 
@@ -161,7 +173,7 @@ macro_rules! key_group {
 pub const GROUPS: [(&str, &[Key]); 4] = [
     key_group! { "what\n": Width Rows Depth Signed Seed },
     key_group! { "how much to keep\n": Limit Total Fill Stop Weights Select },
-    key_group! { "packets\n": Segment Word Apid Image Packet },
+    key_group! { "packets\n": Segment Word Apid Cameras Image Packet },
     key_group! { "reading\n": Pixels Octets },
 ];
 
@@ -173,15 +185,25 @@ macro_rules! command_row {
 }
 
 /// The table of commands.
-pub const COMMANDS: [CommandRow; 6] = [
+pub const COMMANDS: [CommandRow; 11] = [
     command_row! { "encode": Task::Encode, "raster in, space packets out, each as soon as the rows determine it",
         Width Rows Depth Signed Segment Limit Fill Word Stop Weights Select Apid Image Packet Total },
+    command_row! { "mux": Task::Mux, "rows of cameras in, packets out, each as soon as the rows determine it",
+        Width Rows Depth Signed Segment Limit Fill Word Stop Weights Select Apid Image Packet Total Cameras },
     command_row! { "decode": Task::Read(Reading::Decode), "packets in, raster out, each row as soon as the packets determine it",
         Apid Pixels Octets },
     command_row! { "damage": Task::Read(Reading::Damage), "packets in, one line FIRST-LAST out for each range of damaged rows",
         Apid Pixels Octets },
+    command_row! { "rects": Task::Read(Reading::Rects), "packets in, one line ROWS COLUMNS out for each damaged rectangle",
+        Apid Pixels Octets },
+    command_row! { "look": Task::Read(Reading::Look), "packets in, a small picture out, with one value for each block",
+        Apid Pixels Octets },
     command_row! { "list": Task::Read(Reading::List), "packets in, one line out for each: its number and its fate",
         Apid Octets },
+    command_row! { "info": Task::Info, "packets in, one line out for each image, of all APIDs if none is given",
+        Apid Octets },
+    command_row! { "pick": Task::Pick, "packets in, those of an APID out, or of an image of it that is given",
+        Apid Image Octets },
     command_row! { "make": Task::Make, "a made raster out; it reads no input",
         Width Rows Depth Signed Seed },
     command_row! { "trial": Task::Trial, "encodes and decodes a made image in memory; one line out with the counts",

@@ -95,6 +95,10 @@ fn a_decoder_has_caps(rt: HostRuntime) -> Result<(), Fail> {
     assert_eq!(rt; said(&rt, text)?, Ok(Command::Read(Reading::Decode, wish)));
     let text = "damage octets=1 pixels=1099511627776 apid=7";
     assert_eq!(rt; said(&rt, text)?, Ok(Command::Read(Reading::Damage, wish)));
+    let text = "look octets=1 pixels=1099511627776 apid=7";
+    assert_eq!(rt; said(&rt, text)?, Ok(Command::Read(Reading::Look, wish)));
+    let text = "rects octets=1 pixels=1099511627776 apid=7";
+    assert_eq!(rt; said(&rt, text)?, Ok(Command::Read(Reading::Rects, wish)));
     let listed = DecodeWish {
         apid: 7,
         octets: 1,
@@ -258,6 +262,7 @@ fn only_encode_leaves_the_rows_open(rt: HostRuntime) -> Result<(), Fail> {
         ("encode width=17 rows=262145", Field::Rows),
         ("trial width=17 rows=0", Field::Rows),
         ("make width=17 rows=0", Field::Rows),
+        ("mux width=17 rows=0", Field::Rows),
     ] {
         assert_eq!(rt;
             said(&rt, text)?,
@@ -265,6 +270,77 @@ fn only_encode_leaves_the_rows_open(rt: HostRuntime) -> Result<(), Fail> {
             "{text}"
         );
     }
+    Ok(())
+}
+
+#[test]
+fn cameras_have_apids_one_after_another(rt: HostRuntime) -> Result<(), Fail> {
+    let setting = Setting {
+        apid: 2031,
+        total: 36,
+        ..Setting::usual(17, 17)
+    };
+    let text = "mux total=36 cameras=16 apid=2031 width=17 rows=17";
+    assert_eq!(rt; said(&rt, text)?, Ok(Command::Mux(setting, 16)));
+    let text = "mux width=17 rows=17";
+    assert_eq!(rt;
+        said(&rt, text)?,
+        Ok(Command::Mux(Setting::usual(17, 17), 1))
+    );
+    for (text, fault) in [
+        (
+            "mux width=17 rows=17 cameras=16 apid=2032",
+            WordFault::OutOfRange(Field::Cameras),
+        ),
+        (
+            "mux width=17 rows=17 cameras=17",
+            WordFault::OutOfRange(Field::Cameras),
+        ),
+        (
+            "mux width=17 rows=17 cameras=0",
+            WordFault::OutOfRange(Field::Cameras),
+        ),
+        (
+            "mux width=17 rows=17 cameras=0 total=35",
+            WordFault::OutOfRange(Field::Total),
+        ),
+        (
+            "encode width=17 rows=17 cameras=1",
+            WordFault::BadWord { place: 3 },
+        ),
+    ] {
+        assert_eq!(rt; said(&rt, text)?, Err(fault), "{text}");
+    }
+    Ok(())
+}
+
+#[test]
+fn a_pick_may_have_an_image(rt: HostRuntime) -> Result<(), Fail> {
+    let wish = DecodeWish {
+        apid: 7,
+        ..DecodeWish::usual()
+    };
+    assert_eq!(rt; said(&rt, "pick apid=7")?, Ok(Command::Pick(wish, None)));
+    let text = "pick image=65535 apid=7";
+    assert_eq!(rt; said(&rt, text)?, Ok(Command::Pick(wish, Some(65_535))));
+    let text = "pick image=0 apid=7";
+    assert_eq!(rt; said(&rt, text)?, Ok(Command::Pick(wish, Some(0))));
+    assert_eq!(rt;
+        said(&rt, "pick image=65536")?,
+        Err(WordFault::OutOfRange(Field::Image))
+    );
+    Ok(())
+}
+
+#[test]
+fn images_may_have_one_apid_or_all(rt: HostRuntime) -> Result<(), Fail> {
+    assert_eq!(rt; said(&rt, "info")?, Ok(Command::Info(None, 1 << 40)));
+    let text = "info octets=9 apid=100";
+    assert_eq!(rt; said(&rt, text)?, Ok(Command::Info(Some(100), 9)));
+    assert_eq!(rt;
+        said(&rt, "info apid=2047")?,
+        Err(WordFault::OutOfRange(Field::Apid))
+    );
     Ok(())
 }
 

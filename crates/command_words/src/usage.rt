@@ -99,6 +99,7 @@ fn push_range(text: &mut String, row: KeyRow) -> Result<(), AllocError> {
             push_numbers(text, FieldRange::STAGE)
         }
         Range::Weights => push_form(text, Form::Weights),
+        Range::Cameras => text.push_str("1..16, with APIDs from apid on"),
     }
 }
 

@@ -1,1 +1,14 @@
 pub mod Answers
+pub mod MadeRasters
+pub mod Notes
+pub mod DamageNotes
+pub mod Ran
+pub mod Behaviours
+pub mod Encoding
+pub mod Muxing
+pub mod Listing
+pub mod Decoding
+pub mod Pictures
+pub mod Trials
+pub mod Run
+pub mod Endless

@@ -7,17 +7,29 @@ ghost use Rattle.std.specs.declared.io.ErrorKind.{ErrorKind};
 ghost use Rattle.command_words.specs.declared.command.Command.{Command};
 ghost use Rattle.command_words.specs.declared.command.WordFault.{WordFault};
 ghost use Rattle.command_words.specs.Words.{texts, Says};
-ghost use Rattle.top_122.specs.Run.{Runs};
+ghost use Rattle.strip122.specs.Run.{Runs};
 ghost use Rattle.strip122.specs.declared.Answer.{Answer};
 ghost use Rattle.strip122.specs.Answers.{IsAnswer, words_fault};
 
+mod damage_notes;
+mod encoders;
+mod make;
+mod notes;
+mod packets;
+#[cfg(test)]
+mod run_tests;
+#[cfg(test)]
+mod tests;
+mod top;
+mod trial;
+
+use crate::top::run;
 use command_words::{commands_usage, keys_usage};
 use port_122::{Port, StdPort};
 use std::alloc::{AllocError, Global};
 use std::env;
 use std::io::{self, ErrorKind};
 use std::process::ExitCode;
-use top_122::run;
 
 // The status for words that are no text.
 const REFUSED: u8 = 2;
@@ -39,10 +51,12 @@ usage: strip122 COMMAND [KEY=VALUE ..]
 const RASTERS: &str = "
 A raster has its rows from the top. A pixel has one octet if depth is at most 8,
 else two, the higher first. With rows=0, encode takes rows until the input ends.
-A trial has at most 2^24 pixels.
+mux takes records: the number of a camera from 0, one octet, and then that
+camera's next row. A trial has at most 2^24 pixels.
 
 Each key is given at most once. Its default is in parentheses, and after it are
-the commands that have the key.
+the commands that have the key. pick has no default for image, and info none for
+apid.
 
 ";
 
@@ -146,6 +160,3 @@ fn main(rt: HostRuntime) -> ExitCode {
     let mut port = StdPort::new(rt.stdin(), rt.stdout(), rt.stderr());
     run_words(rt.alloc(), words.as_slice(), &mut port)
 }
-
-#[cfg(test)]
-mod tests;

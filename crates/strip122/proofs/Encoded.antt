@@ -1,0 +1,134 @@
+-- What a run of `encode` leaves after its note, and what follows for each status.
+use Rattle.std.proofs.Common.{◌≡◌, ◌+◌, ◌*◌, ℕ, List, [], ◌++◌, length, refl, sym, ◌∙◌, ap, subst, arith, length-append, inl, inr}
+use Rattle.std.specs.Prelude.{Result, Ok, Err, Some}
+use Rattle.port_122.specs.Outside.{Outside, Since, NoRead, Rose, GivenBy, AtEnd}
+use Rattle.port_122.proofs.Stretches.{since_start, at_end_later}
+use Rattle.port_122.proofs.Told.{end_told}
+use Rattle.base_122.specs.declared.setting.Setting.{Setting}
+use Rattle.strip_coder.specs.declared.encode.EncodeDone.{EncodeDone}
+use Rattle.strip_coder.specs.declared.encode.EncodeFault.{EncodeFault}
+use Rattle.strip_coder.specs.declared.encode.EncodeFault.TheVariants.{ReadFault, WriteFault, Short, Long, BadPixel}
+use Rattle.strip_coder.specs.Rasters.{row_length, most_length, LacksRows, given_for}
+use Rattle.strip_coder.specs.Answers.{Answers, AllInRange, FirstBad, TookRaster, EncodesImage}
+use Rattle.strip122.specs.Notes.{IsNoted, Notes, fault_status, fault_line, memory_line}
+use Rattle.strip122.specs.Encoding.{EncoderCauses, AsksGiven, encode_status, encode_line, RunsEncoder, Encodes, EncodedWhole, EncoderRefuses, encoder, encodes}
+use Rattle.strip122.proofs.NoteLines.{ran_on, nothing_noted}
+use Rattle.strip122.proofs.Behaviours.{AtStatus, Law}
+use Rattle.strip122.proofs.Inputs.{not_in_range, none_lacking, few_octets}
+use Rattle.strip122.proofs.ReadOut.{took_front}
+
+-- ---- what the answers say
+
+-- what an answer says of the octets and the faults, whatever was given
+abbrev pub EncoderSays : Setting → Outside → Outside → List ℕ → EncodeFault → Type 0
+EncoderSays s old new took (Short octets) = LacksRows s (length took) × AtEnd new
+EncoderSays s old new took Long = length took ≡ most_length s + 1
+EncoderSays s old new took (BadPixel row column value) = FirstBad s took row column value
+EncoderSays s old new took ReadFault = Rose old.read_faults new.read_faults
+EncoderSays s old new took WriteFault = Rose old.write_faults new.write_faults
+
+-- All faults of an engine say so, and all answers are answers after a note too. If it is done, all of its output is given, for all of an
+-- input that is a raster.
+pub record IsEncoder (s : Setting) (answers : EncoderCauses) (given : List ℕ → List ℕ) (whole : Outside → Outside → Type 0) : Type 0 where
+  pub say : (old new : Outside) (took gave : List ℕ) (fault : EncodeFault) → answers old new took gave (Err fault) → EncoderSays s old new took fault
+  pub later : (a b c : Outside) (took gave wrote : List ℕ) (r : Result EncodeDone EncodeFault) → Since b c [] [] wrote NoRead → answers a b took gave r → answers a c took gave r
+  pub done : (old new : Outside) (took gave : List ℕ) (done : EncodeDone) → answers old new took gave (Ok done) → Since old new took gave [] (GivenBy given took) → whole old new
+  pub takes : (old new : Outside) (input : List ℕ) → old.rest ≡ Some input → whole old new → (rows : ℕ) × TookRaster s rows input
+
+module _ (s : Setting) (answers : EncoderCauses) (given : List ℕ → List ℕ) (whole : Outside → Outside → Type 0) (engine : IsEncoder s answers given whole) where
+  -- ---- each status
+
+  encoder_ends : (old new : Outside) (status : ℕ) → RunsEncoder answers given old new status → AtStatus (encoder s answers given whole) old new status
+  encoder_ends old new status (inl none) = subst (AtStatus (encoder s answers given whole) old new) (sym none.status_is) (none.wrote, none.since)
+  encoder_ends old new status (inr run) = subst (AtStatus (encoder s answers given whole) old new) (sym run.status_is) (by run.answer run.noted run.cause)
+    where
+      refuses : (fault : EncodeFault) → fault_status fault ≡ 3 → IsNoted old new run.wrote (fault_line fault) → answers old new run.took run.gave (Err fault) → EncoderRefuses answers given old new
+      refuses fault three noted k =
+          record { fault = fault; took = run.took; gave = run.gave; wrote = run.wrote; since = run.since; input = three; cause = k; noted = noted }
+
+      by : (r : Result EncodeDone EncodeFault) → IsNoted old new run.wrote (encode_line r) → answers old new run.took run.gave r → AtStatus (encoder s answers given whole) old new (encode_status r)
+      by (Ok done) noted k =
+          engine.done old new run.took run.gave done k (subst (λ w. Since old new run.took run.gave w (GivenBy given run.took)) (nothing_noted old new run.wrote [] refl noted) run.since)
+      by (Err (Short octets)) noted k = refuses (Short octets) refl noted k
+      by (Err Long) noted k = refuses Long refl noted k
+      by (Err (BadPixel row column value)) noted k = refuses (BadPixel row column value) refl noted k
+      by (Err ReadFault) noted k = engine.say old new run.took run.gave ReadFault k
+      by (Err WriteFault) noted k = engine.say old new run.took run.gave WriteFault k
+
+  -- a raster of all rows in range isn't refused
+  right_raster : (old new : Outside) → (encoder s answers given whole).right old → EncoderRefuses answers given old new → ⊥
+  right_raster old new input r = by r.fault (engine.say old new r.took r.gave r.fault r.cause) r.input
+    where
+      front : (rest : List ℕ) × (input.0 ≡ r.took ++ rest)
+      front = took_front input.0 r.took old.rest new.rest input.1 r.since.rest
+
+      by : (fault : EncodeFault) → EncoderSays s old new r.took fault → fault_status fault ≡ 3 → ⊥
+      by (Short octets) k three =
+          let took : r.took ≡ input.0 = end_told input.0 r.since input.1 k.1 in
+          none_lacking s input.2 (length r.took) input.3.height (ap length took ∙ input.3.whole) k.0
+      by Long k three = omega (arith, ap length front.1, length-append r.took front.0, k, input.3.whole, few_octets s input.2 input.3.height)
+      by (BadPixel row column value) k three = not_in_range s.depth s.signed r.took front.0 (row * s.width + column) value k.first (subst (AllInRange s) front.1 input.3.in_range)
+      by ReadFault k three = omega (arith, three)
+      by WriteFault k three = omega (arith, three)
+
+  -- and nothing else is encoded
+  encoder_law : Law (encoder s answers given whole)
+  encoder_law = record {
+    ends = encoder_ends;
+    right = right_raster;
+    wrong_whole = λ old new input w. let t = engine.takes old new input.0 input.1 w in input.2 t.0 t.1;
+    wrong_part = λ old new wrong never. never;
+  }
+
+-- ---- `encode`
+
+-- a cause is one after a note too
+causes_later : (s : Setting) (a b c : Outside) (took gave wrote : List ℕ) (r : Result EncodeDone EncodeFault) → Since b c [] [] wrote NoRead → Answers s a b took gave r → Answers s a c took gave r
+causes_later s a b c took gave wrote (Ok done) n k = (k.0, k.1, at_end_later n k.2, k.3, k.4)
+causes_later s a b c took gave wrote (Err (Short octets)) n k = (k.0, k.1, at_end_later n k.2, k.3, k.4)
+causes_later s a b c took gave wrote (Err Long) n k = k
+causes_later s a b c took gave wrote (Err (BadPixel row column value)) n k = k
+causes_later s a b c took gave wrote (Err ReadFault) n k = (omega (arith, k.0, n.faults.reads), k.1, k.2, k.3)
+causes_later s a b c took gave wrote (Err WriteFault) n k = (
+  omega (arith, k.0, n.faults.writes),
+  (
+    k.1.0,
+    k.1.1,
+    elim k.1.2 [
+      | inl each ↦ inl each
+      | inr whole ↦ inr (record { left_open = whole.left_open; at_end = at_end_later n whole.at_end; height = whole.height; some = whole.some; front = whole.front })
+    ],
+  ),
+)
+
+encode_engine : (s : Setting) → IsEncoder s (Answers s) (given_for s) (EncodedWhole s)
+encode_engine s = record {
+  say = say;
+  later = causes_later s;
+  done = λ old new took gave done k since. record { took = took; rows = k.0; since = subst (λ g. Since old new took g [] (GivenBy (given_for s) took)) k.3 since; raster = k.1; total = k.4.total; ended = k.2 };
+  takes = λ old new input told w. (w.rows, subst (TookRaster s w.rows) (end_told input w.since told w.ended) w.raster);
+}
+  where
+    say : (old new : Outside) (took gave : List ℕ) (fault : EncodeFault) → Answers s old new took gave (Err fault) → EncoderSays s old new took fault
+    say old new took gave (Short octets) k = (k.1, k.2)
+    say old new took gave Long k = k.0
+    say old new took gave (BadPixel row column value) k = k.1
+    say old new took gave ReadFault k = k.0
+    say old new took gave WriteFault k = k.0
+
+pub encode_law : (s : Setting) → Law (encodes s)
+encode_law s = encoder_law s (Answers s) (given_for s) (EncodedWhole s) (encode_engine s)
+
+-- no memory, and its note
+pub lacks_memory : (s : Setting) (a b : Outside) → Notes a b memory_line → Encodes s a b 6
+lacks_memory s a b n = inl (record { wrote = n.0; since = n.1; status_is = refl; noted = n.2 })
+
+-- the encoder's run, and nothing to note
+pub encoded : (s : Setting) (a b : Outside) (done : EncodeDone) → EncodesImage s a b (Ok done) → Encodes s a b 0
+encoded s a b done run = inr (ran_on a b b (Ok done) run.took run.gave [] 0 run.since run.answer (since_start b NoRead) refl (inl refl))
+
+-- the encoder's run, and then its note
+pub encode_failed : (s : Setting) (a b c : Outside) (fault : EncodeFault) (status : ℕ) → EncodesImage s a b (Err fault) → Notes b c (fault_line fault) →
+    status ≡ fault_status fault → Encodes s a c status
+encode_failed s a b c fault status run n is =
+    inr (ran_on a b c (Err fault) run.took run.gave n.0 status run.since (causes_later s a b c run.took run.gave n.0 (Err fault) n.1 run.answer) n.1 is n.2)

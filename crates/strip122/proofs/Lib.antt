@@ -1,0 +1,18 @@
+pub mod MadeParts
+pub mod NoteLines
+pub mod Decoded
+pub mod Listed
+mod TrialsCounted
+mod TrialsDecoded
+mod TrialsDone
+pub mod GavePictures
+pub mod ReadOut
+pub mod PacketInputs
+pub mod DamageParts
+pub mod Statuses
+pub mod Inputs
+pub mod Encoded
+pub mod CameraWorks
+pub mod Muxed
+pub mod Behaviours
+pub mod Laws

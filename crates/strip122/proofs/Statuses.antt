@@ -1,0 +1,88 @@
+-- What a run of `make` and `trial` leaves after its note, or one that refuses the words, and what follows for each status.
+use Rattle.std.proofs.Common.{◌≡◌, ◌≤◌, ℕ, List, [], length, refl, sym, subst, arith, take, inl, inr}
+use Rattle.std.specs.Prelude.{Result, Ok, Err, codes}
+use Rattle.port_122.specs.Outside.{Outside, Since, NoRead, Rose, GivenBy}
+use Rattle.port_122.proofs.Stretches.{since_start, since_note, at_end_later}
+use Rattle.base_122.specs.declared.setting.Setting.{Setting}
+use Rattle.command_words.specs.declared.command.WordFault.{WordFault}
+use Rattle.raster_rows.specs.declared.made.MadeImage.{MadeImage}
+use Rattle.raster_rows.specs.Made.{made_value}
+use Rattle.strip122.specs.declared.trial.TrialDone.{TrialDone}
+use Rattle.strip122.specs.MadeRasters.{made_raster}
+use Rattle.strip122.specs.Notes.{Notes, word_line, memory_line}
+use Rattle.strip122.specs.Trials.{made_with, trial_line, IsTried}
+use Rattle.strip122.specs.Behaviours.{Behaviour}
+use Rattle.strip122.specs.Run.{Refuses, Gives, Tries, makes, tries}
+use Rattle.strip122.proofs.NoteLines.{noted_since}
+use Rattle.strip122.proofs.Behaviours.{AtStatus, Law}
+
+-- ---- after the note
+
+pub refuses : (words : List (List ℕ)) (fault : WordFault) (p q : Outside) → Notes p q (word_line words fault) → Refuses words fault p q 2
+refuses words fault p q n = record { wrote = n.0; since = n.1; status_is = refl; noted = n.2 }
+
+pub given_whole : (octets : List ℕ) (a b : Outside) → Since a b [] octets [] NoRead → Gives octets a b 0
+given_whole octets a b s = record {
+  gave = octets;
+  wrote = [];
+  since = s;
+  ending = inl (record { status_is = refl; whole = refl; silent = refl });
+}
+
+pub given_cut : (octets : List ℕ) (a b c : Outside) →
+    Rose a.write_faults b.write_faults × ((n : ℕ) × (n ≤ length octets) × Since a b [] (take n octets) [] NoRead) →
+    Notes b c (codes "strip122: write fault\n") → Gives octets a c 5
+given_cut octets a b c f n = record {
+  gave = take f.1.0 octets;
+  wrote = n.0;
+  since = since_note f.1.2 n.1;
+  ending = inr (record {
+    status_is = refl;
+    rose = omega (arith, f.0, n.1.faults.writes);
+    prefix = (f.1.0, f.1.1, refl);
+    noted = noted_since a b c n.0 _ f.1.2.faults.notes n.2;
+  });
+}
+
+-- no memory for a trial, and its note
+pub lacks_trial : (s : Setting) (seed : ℕ) (a b : Outside) → Notes a b memory_line → Tries s seed a b 6
+lacks_trial s seed a b n = inl (record { wrote = n.0; since = n.1; status_is = refl; noted = n.2 })
+
+pub tried_whole : (s : Setting) (seed : ℕ) (done : TrialDone) (a b : Outside) → IsTried s (made_value (made_with s seed)) done → Since a b [] (trial_line s done) [] NoRead → Tries s seed a b 0
+tried_whole s seed done a b tried since = inr (record { done = done; tried = tried; gives = given_whole (trial_line s done) a b since })
+
+pub tried_cut : (s : Setting) (seed : ℕ) (done : TrialDone) (a b c : Outside) → IsTried s (made_value (made_with s seed)) done →
+    Rose a.write_faults b.write_faults × ((n : ℕ) × (n ≤ length (trial_line s done)) × Since a b [] (take n (trial_line s done)) [] NoRead) →
+    Notes b c (codes "strip122: write fault\n") → Tries s seed a c 5
+tried_cut s seed done a b c tried f n = inr (record { done = done; tried = tried; gives = given_cut (trial_line s done) a b c f n })
+
+-- ---- each status
+
+-- what only gives octets has status 0 or 5
+gives_ends : (octets : List ℕ) (b : Behaviour) (old new : Outside) (status : ℕ) → Gives octets old new status → (Since old new [] octets [] NoRead → b.whole old new) → AtStatus b old new status
+gives_ends octets b old new status run given = elim run.ending [
+  | inl whole ↦ subst (AtStatus b old new) (sym whole.status_is)
+      (given (subst (λ w. Since old new [] octets w NoRead) whole.silent (subst (λ g. Since old new [] g run.wrote NoRead) whole.whole run.since)))
+  | inr cut ↦ subst (AtStatus b old new) (sym cut.status_is) cut.rose
+]
+
+try_ends : (s : Setting) (seed : ℕ) (old new : Outside) (status : ℕ) → Tries s seed old new status → AtStatus (tries s seed) old new status
+try_ends s seed old new status (inl none) = subst (AtStatus (tries s seed) old new) (sym none.status_is) (none.wrote, none.since)
+try_ends s seed old new status (inr ran) =
+    gives_ends (trial_line s ran.done) (tries s seed) old new status ran.gives (λ since. record { done = ran.done; tried = ran.tried; since = since })
+
+pub make_law : (made : MadeImage) → Law (makes made)
+make_law made = record {
+  ends = λ old new status run. gives_ends (made_raster made) (makes made) old new status run (λ since. since);
+  right = λ old new right never. never;
+  wrong_whole = λ old new wrong whole. wrong;
+  wrong_part = λ old new wrong part. wrong;
+}
+
+pub try_law : (s : Setting) (seed : ℕ) → Law (tries s seed)
+try_law s seed = record {
+  ends = try_ends s seed;
+  right = λ old new right never. never;
+  wrong_whole = λ old new wrong whole. wrong;
+  wrong_part = λ old new wrong part. wrong;
+}

@@ -1,0 +1,22 @@
+-- What a decoder reads of all packets of an image.
+use Rattle.std.proofs.Common.{◌≡◌, ◌∙◌, inl, inr, ℕ, true, List, [], ◌++◌, length, sym, ap, arith, length-append}
+use Rattle.std.specs.Prelude.{Some}
+use Rattle.port_122.specs.Outside.{Outside, Since}
+use Rattle.port_122.proofs.Told.{end_told}
+use Rattle.packet_defs.specs.Streams.{has_bad_version, left_over}
+use Rattle.packet_assembly.specs.Readings.{IsReadOut}
+use Rattle.strip122.proofs.ReadOut.{took_front, some_octets, left_stays}
+
+-- ---- what can't be read on
+
+-- so where nothing is left over of an input, each front of it can be read on
+front_good : (took more : List ℕ) → left_over (took ++ more) ≡ [] → has_bad_version (left_over took) ≡ true → ⊥
+front_good took more none bad = omega (arith, ap length (sym (left_stays took more bad) ∙ none), length-append (left_over took) more, some_octets (left_over took) bad)
+
+-- and what was read out was all of it
+pub took_all : {g w : List ℕ} {Q : ℕ → ℕ → Type 0} (cap : ℕ) (took input : List ℕ) (old new : Outside) → Since old new took g w Q → old.rest ≡ Some input → left_over input ≡ [] →
+    IsReadOut cap new took → took ≡ input
+took_all cap took input old new since told none (inl bad) =
+    let front = took_front input took old.rest new.rest told since.rest in
+    absurd (front_good took front.0 (ap left_over (sym front.1) ∙ none) bad)
+took_all cap took input old new since told none (inr ended) = end_told input since told ended.0

@@ -1,0 +1,24 @@
+use Rattle.std.proofs.Common.{◌∙◌, sym, subst}
+use Rattle.camera_mux.specs.MuxProgress.{AreSettings}
+use Rattle.strip122.specs.Muxing.{Muxes}
+use Rattle.strip122.proofs.CameraWorks.{are_settings}
+use Rattle.strip122.proofs.Muxed.{muxed, mux_failed}
+use Rattle.strip122.proofs.encoders.mux.Goals as goal
+
+pub works_for-requires : goal.works_for-requires
+works_for-requires g c =
+    subst AreSettings (sym (c.as_slice.ensures.value ∙ c.in-Ok.ensures)) (are_settings c.args.setting.now c.args.cameras c.requires.range c.requires.height c.requires.cameras)
+
+pub returns-in-Ok-mux_rows : goal.returns-in-Ok-mux_rows
+returns-in-Ok-mux_rows g c =
+    let is = c.as_slice-2.ensures.value ∙ c.in-Ok.ensures in
+    let are = subst AreSettings (sym is) (are_settings c.args.setting.now c.args.cameras c.requires.range c.requires.height c.requires.cameras) in
+    subst (λ settings. Muxes settings (g.X.Port.outside c.args.port.now) (g.X.Port.outside c.mux_rows.new.port) 0) is
+    (muxed c.as_slice-2.result.now c.cameras_are_kept.ensures are _ _ c.in-Ok-mux_rows.field-0 c.in-Ok-mux_rows.ensures.muxes)
+
+pub returns : goal.returns
+returns g c =
+    let is = c.as_slice-2.ensures.value ∙ c.in-Ok.ensures in
+    let are = subst AreSettings (sym is) (are_settings c.args.setting.now c.args.cameras c.requires.range c.requires.height c.requires.cameras) in
+    subst (λ settings. Muxes settings (g.X.Port.outside c.args.port.now) (g.X.Port.outside c.note_mux_fault.new.port) c.mux_fault_status.result) is
+    (mux_failed c.as_slice-2.result.now c.cameras_are_kept.ensures are _ _ _ c.in-Err.fault c.mux_fault_status.result c.in-Err.ensures.muxes c.note_mux_fault.ensures c.mux_fault_status.ensures)

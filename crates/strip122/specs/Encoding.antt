@@ -1,0 +1,79 @@
+-- What a run of `encode` leaves. This project's own.
+use Rattle.std.specs.Prelude.{◌≡◌, ◌≢◌, ◌⊎◌, ◌≤◌, ℕ, List, [], Result, Ok, Err, Some}
+use Rattle.port_122.specs.Outside.{Outside, GivenBy, Since, AtEnd}
+use Rattle.base_122.specs.declared.setting.Setting.{Setting}
+use Rattle.stream_defs.specs.Output.{output}
+use Rattle.strip_coder.specs.declared.encode.EncodeDone.{EncodeDone}
+use Rattle.strip_coder.specs.declared.encode.EncodeFault.{EncodeFault}
+use Rattle.strip_coder.specs.Rasters.{image_of, given_for}
+use Rattle.strip_coder.specs.Answers.{Answers, TookRaster, coded_octets}
+use Rattle.strip122.specs.Notes.{IsNoted, fault_status, fault_line}
+use Rattle.strip122.specs.Ran.{Ran, LacksMemory}
+use Rattle.strip122.specs.Behaviours.{Behaviour, Never, OnlyNotes}
+
+-- ---- all that a run leaves
+
+-- the status and the note for each answer of an encoder
+abbrev pub encode_status : Result EncodeDone EncodeFault → ℕ
+encode_status (Ok done) = 0
+encode_status (Err fault) = fault_status fault
+
+abbrev pub encode_line : Result EncodeDone EncodeFault → List ℕ
+encode_line (Ok done) = []
+encode_line (Err fault) = fault_line fault
+
+-- what causes an answer of an encoder
+abbrev pub EncoderCauses : Type 1
+EncoderCauses = Outside → Outside → List ℕ → List ℕ → Result EncodeDone EncodeFault → Type 0
+
+-- what an encoder does at a read call: exactly this is given for the octets that were taken by then
+abbrev pub AsksGiven : (given : List ℕ → List ℕ) → Outside → List ℕ → List ℕ → ℕ → ℕ → Type 0
+AsksGiven given old took gave = GivenBy given took
+
+-- one run of a command that encodes
+abbrev pub RunsEncoder : EncoderCauses → (given : List ℕ → List ℕ) → (old new : Outside) (status : ℕ) → Type 0
+RunsEncoder answers given old new status = LacksMemory old new status ⊎ Ran answers (AsksGiven given) encode_status encode_line old new status
+
+-- one run of `encode`: at a read call the packets of the settled segments are given
+abbrev pub Encodes : Setting → (old new : Outside) (status : ℕ) → Type 0
+Encodes setting = RunsEncoder (Answers setting) (given_for setting)
+
+-- ---- what follows for one status
+
+-- The whole raster of an image of these rows was taken and the end read, and the packets of its image are given. Its coded segments keep to
+-- a total.
+pub record EncodedWhole (setting : Setting) (old new : Outside) : Type 0 where
+  pub took : List ℕ
+  pub rows : ℕ
+  pub since : Since old new took (output setting rows (image_of setting took)) [] (GivenBy (given_for setting) took)
+  pub raster : TookRaster setting rows took
+  pub total : setting.total ≢ 0 → coded_octets setting rows (image_of setting took) ≤ setting.total
+  pub ended : AtEnd new
+
+-- The encoder refused its input: the cause and the note name the same fault.
+pub record EncoderRefuses (answers : EncoderCauses) (given : List ℕ → List ℕ) (old new : Outside) : Type 0 where
+  pub fault : EncodeFault
+  pub took : List ℕ
+  pub gave : List ℕ
+  pub wrote : List ℕ
+  pub since : Since old new took gave wrote (GivenBy given took)
+  pub input : fault_status fault ≡ 3
+  pub cause : answers old new took gave (Err fault)
+  pub noted : IsNoted old new wrote (fault_line fault)
+
+-- ---- the behaviour of each command
+
+-- an encoder takes a raster of all its rows with all values in range
+abbrev pub encoder : Setting → EncoderCauses → (given : List ℕ → List ℕ) → (whole : Outside → Outside → Type 0) → Behaviour
+encoder setting answers given whole = record {
+  performs = RunsEncoder answers given;
+  whole = whole;
+  part = Never;
+  refuses = EncoderRefuses answers given;
+  nothing = OnlyNotes;
+  right = λ old. (input : List ℕ) × (old.rest ≡ Some input) × (rows : ℕ) × TookRaster setting rows input;
+  wrong = λ old. (input : List ℕ) × (old.rest ≡ Some input) × ((rows : ℕ) → TookRaster setting rows input → ⊥);
+}
+
+abbrev pub encodes : Setting → Behaviour
+encodes setting = encoder setting (Answers setting) (given_for setting) (EncodedWhole setting)

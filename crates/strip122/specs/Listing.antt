@@ -1,0 +1,169 @@
+-- What a run of `list`, `pick` and `info` leaves. This project's own.
+use Rattle.std.specs.Prelude.{◌≡◌, ◌⊎◌, ◌<◌, ◌≤◌, ℕ, List, [], length, take, true, false, Option, None, Some, Result, Ok, Err}
+use Rattle.port_122.specs.Outside.{Outside, Since}
+use Rattle.base_122.specs.declared.wish.DecodeWish.{DecodeWish}
+use Rattle.packet_defs.specs.declared.packet.Framing.{Framing}
+use Rattle.packet_defs.specs.Streams.{left_over, has_bad_version}
+use Rattle.packet_list.specs.declared.list.ListDone.{ListDone}
+use Rattle.packet_list.specs.declared.list.ListFault.{ListFault}
+use Rattle.packet_list.specs.declared.list.ListFault.TheVariants.{ReadFault, WriteFault, LongInput, Memory}
+use Rattle.packet_list.specs.Answers.{Answers}
+use Rattle.packet_list.specs.Progress.{AsksListed}
+use Rattle.camera_mux.specs.PickAnswers.{Answers as PickAnswers}
+use Rattle.camera_mux.specs.PickProgress.{AsksPicked}
+use Rattle.image_info.specs.declared.info.InfoDone.{InfoDone}
+use Rattle.image_info.specs.declared.info.InfoFault.{InfoFault}
+use Rattle.image_info.specs.declared.info.InfoFault.TheVariants.{ReadFault as info_read_failed, WriteFault as info_write_failed, LongInput as info_long, TooManyImages, Memory as info_memory}
+use Rattle.image_info.specs.declared.info.InfoWish.{InfoWish}
+use Rattle.image_info.specs.Answers.{Answers as InfoAnswers, AsksFew, image_count}
+use Rattle.image_info.specs.Images.{most_images}
+use Rattle.strip122.specs.Notes.{IsNoted, list_fault_status, list_fault_line}
+use Rattle.strip122.specs.DamageNotes.{damage_line, done_status, done_line}
+use Rattle.strip122.specs.Ran.{Asking, Ran, CausedWithin, LacksMemory}
+use Rattle.strip122.specs.Behaviours.{Behaviour, OnlyNotes}
+
+-- ---- a reader of packets that aren't decoded
+
+-- One engine: what causes its answers, what it does at a read call, which octets have no more in them than it can list, and how its answers
+-- are noted.
+pub record Reader (D F : Type 0) : Type 1 where
+  pub cap : ℕ
+  pub causes : Outside → Outside → List ℕ → List ℕ → Result D F → Type 0
+  pub asks : Asking
+  pub Few : List ℕ → Type 0
+  pub framing_of : D → Option Framing
+  pub fault_of : F → ListFault
+
+-- the status and the note for each answer
+abbrev pub reader_status : {D F : Type 0} → Reader D F → Result D F → ℕ
+reader_status r (Ok done) = done_status [] true (r.framing_of done)
+reader_status r (Err fault) = list_fault_status (r.fault_of fault)
+
+abbrev pub reader_line : {D F : Type 0} → Reader D F → Result D F → List ℕ
+reader_line r (Ok done) = done_line [] true (r.framing_of done)
+reader_line r (Err fault) = list_fault_line (r.fault_of fault)
+
+-- what causes an answer if there was memory
+abbrev pub WithMemory : {D F : Type 0} → (r : Reader D F) → Outside → Outside → List ℕ → List ℕ → Result D F → Type 0
+WithMemory r old new took gave (Ok done) = r.causes old new took gave (Ok done)
+WithMemory r old new took gave (Err fault) = (r.fault_of fault ≡ Memory → ⊥) × r.causes old new took gave (Err fault)
+
+-- ---- all that a run leaves
+
+-- one run of a command with such an engine
+abbrev pub Reads : {D F : Type 0} → Reader D F → (old new : Outside) (status : ℕ) → Type 0
+Reads r old new status = LacksMemory old new status ⊎ Ran (CausedWithin r.cap (WithMemory r)) r.asks (reader_status r) (reader_line r) old new status
+
+-- ---- what follows for one status
+
+-- All is given and nothing noted: the packets were read to their end.
+pub record ReadWhole {D F : Type 0} (r : Reader D F) (old new : Outside) : Type 0 where
+  pub done : D
+  pub took : List ℕ
+  pub gave : List ℕ
+  pub since : Since old new took gave [] (r.asks old took gave)
+  pub within : length took ≤ r.cap
+  pub cause : r.causes old new took gave (Ok done)
+  pub framing : r.framing_of done ≡ None
+
+-- All is given, and the note says why the packets could not be read on.
+pub record ReadPart {D F : Type 0} (r : Reader D F) (old new : Outside) : Type 0 where
+  pub done : D
+  pub took : List ℕ
+  pub gave : List ℕ
+  pub wrote : List ℕ
+  pub since : Since old new took gave wrote (r.asks old took gave)
+  pub within : length took ≤ r.cap
+  pub cause : r.causes old new took gave (Ok done)
+  pub lacks : r.framing_of done ≡ None → ⊥
+  pub noted : IsNoted old new wrote (damage_line [] true (r.framing_of done))
+
+-- The input was refused, which is too long.
+pub record ReadRefuses {D F : Type 0} (r : Reader D F) (old new : Outside) : Type 0 where
+  pub fault : F
+  pub long : r.fault_of fault ≡ LongInput
+  pub took : List ℕ
+  pub gave : List ℕ
+  pub wrote : List ℕ
+  pub since : Since old new took gave wrote (r.asks old took gave)
+  pub cause : r.causes old new took gave (Err fault)
+  pub noted : IsNoted old new wrote (list_fault_line LongInput)
+
+-- ---- the input that is left
+
+-- Its end, or what can't be read on, is within the octets that may be taken.
+pub record HasPackets (cap : ℕ) (old : Outside) : Type 0 where
+  pub input : List ℕ
+  pub told : old.rest ≡ Some input
+  pub ends : (length input < cap) ⊎ (has_bad_version (left_over (take cap input)) ≡ true)
+
+-- It has as many octets as may be taken, or more, and these can be read on.
+pub record HasTooMany (cap : ℕ) (old : Outside) : Type 0 where
+  pub input : List ℕ
+  pub told : old.rest ≡ Some input
+  pub long : cap ≤ length input
+  pub good : has_bad_version (left_over (take cap input)) ≡ false
+
+-- It has packets, and no more in them than can be listed.
+pub record HasFew (cap : ℕ) (Few : List ℕ → Type 0) (old : Outside) : Type 0 where
+  pub packets : HasPackets cap old
+  pub few : Few packets.input
+
+-- It has packets, and more in them than can be listed.
+pub record HasMany (cap : ℕ) (Few : List ℕ → Type 0) (old : Outside) : Type 0 where
+  pub packets : HasPackets cap old
+  pub many : Few packets.input → ⊥
+
+-- ---- the behaviour of each command
+
+abbrev pub reads_packets : {D F : Type 0} → Reader D F → Behaviour
+reads_packets r = record {
+  performs = Reads r;
+  whole = ReadWhole r;
+  part = ReadPart r;
+  refuses = ReadRefuses r;
+  nothing = OnlyNotes;
+  right = HasFew r.cap r.Few;
+  wrong = λ old. HasTooMany r.cap old ⊎ HasMany r.cap r.Few old;
+}
+
+-- `list`: at a read call exactly the lines of the packets that are whole by then are given
+abbrev pub lister : DecodeWish → Reader ListDone ListFault
+lister wish = record {
+  cap = wish.octets;
+  causes = Answers wish;
+  asks = λ old took gave. AsksListed wish.apid took gave;
+  Few = λ octets. Unit {0};
+  framing_of = λ done. done.framing;
+  fault_of = λ fault. fault;
+}
+
+-- `pick`: at a read call exactly the picked packets that are whole by then are given
+abbrev pub picker : DecodeWish → (image : Option ℕ) → Reader ListDone ListFault
+picker wish image = record {
+  cap = wish.octets;
+  causes = PickAnswers wish image;
+  asks = λ old took gave. AsksPicked wish.apid image took gave;
+  Few = λ octets. Unit {0};
+  framing_of = λ done. done.framing;
+  fault_of = λ fault. fault;
+}
+
+-- more images than there are lines for are too long an input
+abbrev pub info_fault_of : InfoFault → ListFault
+info_fault_of info_read_failed = ReadFault
+info_fault_of info_write_failed = WriteFault
+info_fault_of info_long = LongInput
+info_fault_of TooManyImages = LongInput
+info_fault_of info_memory = Memory
+
+-- `info`: at a read call nothing is given
+abbrev pub informer : InfoWish → Reader InfoDone InfoFault
+informer wish = record {
+  cap = wish.octets;
+  causes = InfoAnswers wish;
+  asks = λ old took gave. AsksFew wish.apid took;
+  Few = λ octets. image_count wish.apid octets ≤ most_images;
+  framing_of = λ done. done.framing;
+  fault_of = info_fault_of;
+}

@@ -1,0 +1,32 @@
+-- One run of a command's engine. This project's own.
+use Rattle.std.specs.Prelude.{◌≡◌, ◌≤◌, ℕ, List, [], length}
+use Rattle.port_122.specs.Outside.{Outside, Since, NoRead}
+use Rattle.strip122.specs.Notes.{IsNoted, memory_line}
+
+-- what an engine does at a read call
+abbrev pub Asking : Type 1
+Asking = Outside → List ℕ → List ℕ → ℕ → ℕ → Type 0
+
+-- What was taken, given and noted, when, and the engine's answer, which has its cause, its status and its note.
+pub record Ran {R : Type 0} (causes : Outside → Outside → List ℕ → List ℕ → R → Type 0) (asks : Asking)
+    (status_of : R → ℕ) (line_of : R → List ℕ) (old new : Outside) (status : ℕ) : Type 0 where
+  pub answer : R
+  pub took : List ℕ
+  pub gave : List ℕ
+  pub wrote : List ℕ
+  pub since : Since old new took gave wrote (asks old took gave)
+  pub cause : causes old new took gave answer
+  pub status_is : status ≡ status_of answer
+  pub noted : IsNoted old new wrote (line_of answer)
+
+-- An answer and its cause, for which at most so many octets were taken.
+pub record CausedWithin {R : Type 0} (most : ℕ) (causes : Outside → Outside → List ℕ → List ℕ → R → Type 0) (old new : Outside) (took gave : List ℕ) (answer : R) : Type 0 where
+  pub within : length took ≤ most
+  pub cause : causes old new took gave answer
+
+-- There is no memory for the engine: nothing is read or given.
+pub record LacksMemory (old new : Outside) (status : ℕ) : Type 0 where
+  pub wrote : List ℕ
+  pub since : Since old new [] [] wrote NoRead
+  pub status_is : status ≡ 6
+  pub noted : IsNoted old new wrote memory_line

@@ -1,0 +1,106 @@
+// The commands that encode rasters.
+ghost use Rattle.std.specs.Prelude.{◌≡◌, ◌≤◌, ◌+◌, IfOk};
+ghost use Rattle.base_122.specs.Ranges.{IsInRange, IsWithin, rows_range};
+ghost use Rattle.camera_mux.specs.MuxProgress.{AreSettings, CanMux};
+ghost use Rattle.command_words.specs.Commands.{AreCameras};
+ghost use Rattle.strip122.specs.Notes.{fault_status, mux_fault_status};
+ghost use Rattle.strip122.specs.Encoding.{Encodes};
+ghost use Rattle.strip122.specs.Muxing.{Muxes, camera_settings};
+
+use crate::notes::{note_fault, note_line, note_mux_fault};
+use base_122::Setting;
+use camera_mux::{MuxFault, cameras_are_kept, mux_rows};
+use port_122::Port;
+use std::alloc::{AllocError, Global};
+use strip_coder::{EncodeFault, Work, encode_rows};
+
+fn fault_status(fault: EncodeFault) -> u8
+    ensures { result ≡ fault_status fault }
+{
+    match fault {
+        EncodeFault::Short { .. } | EncodeFault::Long | EncodeFault::BadPixel { .. } => 3,
+        EncodeFault::ReadFault => 4,
+        EncodeFault::WriteFault => 5,
+    }
+}
+
+fn mux_fault_status(fault: MuxFault) -> u8
+    ensures { result ≡ mux_fault_status fault }
+{
+    match fault {
+        MuxFault::Short { .. }
+        | MuxFault::Long
+        | MuxFault::BadCamera { .. }
+        | MuxFault::BadPixel { .. } => 3,
+        MuxFault::ReadFault => 4,
+        MuxFault::WriteFault => 5,
+    }
+}
+
+/// The command `encode`. The memory is taken first, so if there is none nothing was read.
+pub fn encode<X: Port>(alloc: Global, setting: &Setting, port: &mut X) -> u8
+    requires { IsInRange setting.now }
+    ensures { Encodes setting.now (X.outside port.old) (X.outside port.new) result }
+{
+    let Ok(mut work) = Work::new(alloc, setting) else {
+        note_line(port, "strip122: no memory\n");
+        return 6;
+    };
+    match encode_rows(port, setting, &mut work) {
+        Ok(_) => 0,
+        Err(fault) => {
+            note_fault(port, fault);
+            fault_status(fault)
+        }
+    }
+}
+
+/// The command `mux`, for cameras of one setting whose APIDs follow one another. The memory is taken first.
+pub fn mux<X: Port>(alloc: Global, setting: &Setting, cameras: u8, port: &mut X) -> u8
+    requires range { IsInRange setting.now }
+    requires height { IsWithin rows_range setting.now.rows }
+    requires cameras { AreCameras setting.now cameras }
+    ensures { Muxes (camera_settings setting.now cameras) (X.outside port.old) (X.outside port.new) result }
+{
+    let Ok(settings) = settings_of(alloc, setting, cameras) else {
+        note_line(port, "strip122: no memory\n");
+        return 6;
+    };
+    let Ok(mut works) = works_for(alloc, settings.as_slice()) else {
+        note_line(port, "strip122: no memory\n");
+        return 6;
+    };
+    cameras_are_kept();
+    match mux_rows(port, settings.as_slice(), works.as_mut_slice()) {
+        Ok(_) => 0,
+        Err(fault) => {
+            note_mux_fault(port, fault);
+            mux_fault_status(fault)
+        }
+    }
+}
+
+// The settings of all cameras.
+fn settings_of(alloc: Global, setting: &Setting, cameras: u8) -> Result<Vec<Setting>, AllocError>
+    requires apids { setting.now.apid + cameras ≤ 2047 }
+    ensures { IfOk result (λ settings. settings.items ≡ camera_settings setting.now cameras) }
+{
+    let mut settings = Vec::with_capacity(alloc, usize::from(cameras))?;
+    for camera in 0..cameras {
+        let apid = setting.apid + u16::from(camera);
+        settings.push(Setting { apid, ..*setting })?;
+    }
+    Ok(settings)
+}
+
+// A work for each camera.
+fn works_for(alloc: Global, settings: &[Setting]) -> Result<Vec<Work>, AllocError>
+    requires { AreSettings settings.now }
+    ensures { IfOk result (λ works. CanMux settings.now works.items) }
+{
+    let mut works = Vec::with_capacity(alloc, settings.len())?;
+    for setting in settings {
+        works.push(Work::new(alloc, setting)?)?;
+    }
+    Ok(works)
+}

@@ -1,0 +1,185 @@
+// The commands that read packets.
+ghost use Rattle.std.specs.Prelude.{◌≡◌, [], true};
+ghost use Rattle.strip122.specs.Notes.{decoder_fault_status, list_fault_status};
+ghost use Rattle.strip122.specs.DamageNotes.{damaged, is_known, TellsDone};
+ghost use Rattle.strip122.specs.Decoding.{Decodes, FindsDamage, FindsRects, LooksAt, reads};
+ghost use Rattle.strip122.specs.Listing.{Reads, info_fault_of, informer, lister, picker};
+
+use crate::damage_notes::{note_damage, note_framing};
+use crate::notes::{note_decoder_fault, note_list_fault};
+use base_122::DecodeWish;
+use camera_mux::pick_packets;
+use command_words::Reading;
+use damage_rects::list_rects;
+use image_info::{InfoFault, InfoWish, list_images};
+use packet_defs::Framing;
+use packet_list::{ListFault, list_packets};
+use port_122::Port;
+use quick_look::look_packets;
+use std::alloc::Global;
+use strip_decoder::{DecodeDone, DecodeFault, decode_packets, find_damage};
+
+fn decoder_fault_status(fault: DecodeFault) -> u8
+    ensures { result ≡ decoder_fault_status fault }
+{
+    match fault {
+        DecodeFault::NoSegment | DecodeFault::TooManyPixels { .. } | DecodeFault::LongInput => 3,
+        DecodeFault::ReadFault => 4,
+        DecodeFault::WriteFault => 5,
+        DecodeFault::Memory => 6,
+    }
+}
+
+fn list_fault_status(fault: ListFault) -> u8
+    ensures { result ≡ list_fault_status fault }
+{
+    match fault {
+        ListFault::LongInput => 3,
+        ListFault::ReadFault => 4,
+        ListFault::WriteFault => 5,
+        ListFault::Memory => 6,
+    }
+}
+
+// Answers 0 if no row is damaged, the height is known and the packets could be read to their end; else it notes what is wrong. The
+// damage is that of the rows that were written.
+fn tell_done<X: Port>(port: &mut X, done: &DecodeDone) -> u8
+    requires { done.now.damage.rows ≡ done.now.written }
+    ensures { TellsDone (damaged done.now.damage) (is_known done.now.geometry) done.now.framing (X.outside port.old) (X.outside port.new) result }
+{
+    let known = done.geometry.rows != 0;
+    let _written = done.written;
+    if done.damage.next_range(0).is_none() && known && done.framing.is_none() {
+        return 0;
+    }
+    note_damage(port, &done.damage, known, done.framing);
+    1
+}
+
+// Answers 0 where the packets could be read to their end; else it notes why not.
+fn tell_framing<X: Port>(port: &mut X, framing: Option<Framing>) -> u8
+    ensures { TellsDone [] true framing (X.outside port.old) (X.outside port.new) result }
+{
+    if framing.is_none() {
+        return 0;
+    }
+    note_framing(port, framing);
+    1
+}
+
+// The command `decode`: packets in, the picture out. Where there is no memory nothing is given.
+fn decode<X: Port>(alloc: Global, wish: &DecodeWish, port: &mut X) -> u8
+    ensures { Decodes wish.now (X.outside port.old) (X.outside port.new) result }
+{
+    match decode_packets(alloc, port, wish) {
+        Ok(done) => tell_done(port, &done),
+        Err(fault) => {
+            note_decoder_fault(port, fault);
+            decoder_fault_status(fault)
+        }
+    }
+}
+
+// The command `damage`: packets in, a line for each range of damaged rows out. Where there is no memory nothing is given.
+fn damage<X: Port>(alloc: Global, wish: &DecodeWish, port: &mut X) -> u8
+    ensures { FindsDamage wish.now (X.outside port.old) (X.outside port.new) result }
+{
+    match find_damage(alloc, port, wish) {
+        Ok(done) => tell_done(port, &done),
+        Err(fault) => {
+            note_decoder_fault(port, fault);
+            decoder_fault_status(fault)
+        }
+    }
+}
+
+// The command `look`: packets in, a small picture with one value for each block out. If there is no memory nothing is given.
+fn look<X: Port>(alloc: Global, wish: &DecodeWish, port: &mut X) -> u8
+    ensures { LooksAt wish.now (X.outside port.old) (X.outside port.new) result }
+{
+    match look_packets(alloc, port, wish) {
+        Ok(done) => tell_done(port, &done),
+        Err(fault) => {
+            note_decoder_fault(port, fault);
+            decoder_fault_status(fault)
+        }
+    }
+}
+
+// The command `rects`: packets in, a line for each rectangle of damaged pixels out. If there is no memory nothing is given.
+fn rects<X: Port>(alloc: Global, wish: &DecodeWish, port: &mut X) -> u8
+    ensures { FindsRects wish.now (X.outside port.old) (X.outside port.new) result }
+{
+    match list_rects(alloc, port, wish) {
+        Ok(done) => tell_done(port, &done),
+        Err(fault) => {
+            note_decoder_fault(port, fault);
+            decoder_fault_status(fault)
+        }
+    }
+}
+
+// The command `list`: packets in, a line for each out. Where there is no memory nothing is read.
+fn list<X: Port>(alloc: Global, wish: &DecodeWish, port: &mut X) -> u8
+    ensures { Reads (lister wish.now) (X.outside port.old) (X.outside port.new) result }
+{
+    match list_packets(alloc, port, wish) {
+        Ok(done) => tell_framing(port, done.framing),
+        Err(fault) => {
+            note_list_fault(port, fault);
+            list_fault_status(fault)
+        }
+    }
+}
+
+/// The command `pick`: packets in, those of one APID out, or those of one image of it. If there is no memory nothing is read.
+pub fn pick<X: Port>(alloc: Global, wish: &DecodeWish, image: Option<u16>, port: &mut X) -> u8
+    ensures { Reads (picker wish.now image) (X.outside port.old) (X.outside port.new) result }
+{
+    match pick_packets(alloc, port, wish, image) {
+        Ok(done) => tell_framing(port, done.framing),
+        Err(fault) => {
+            note_list_fault(port, fault);
+            list_fault_status(fault)
+        }
+    }
+}
+
+/// The command `info`: packets in, a line for each image of an APID, or of all APIDs, out. If there is no memory nothing is read.
+pub fn info<X: Port>(alloc: Global, apid: Option<u16>, octets: u64, port: &mut X) -> u8
+    ensures { Reads (informer (record { apid = apid; octets = octets })) (X.outside port.old) (X.outside port.new) result }
+{
+    match list_images(alloc, port, &InfoWish { apid, octets }) {
+        Ok(done) => tell_framing(port, done.framing),
+        Err(fault) => {
+            let known = list_fault_of(fault);
+            note_list_fault(port, known);
+            list_fault_status(known)
+        }
+    }
+}
+
+// What is noted of a fault of `info`: more images than there are lines for are too long an input.
+fn list_fault_of(fault: InfoFault) -> ListFault
+    ensures { result ≡ info_fault_of fault }
+{
+    match fault {
+        InfoFault::ReadFault => ListFault::ReadFault,
+        InfoFault::WriteFault => ListFault::WriteFault,
+        InfoFault::LongInput | InfoFault::TooManyImages => ListFault::LongInput,
+        InfoFault::Memory => ListFault::Memory,
+    }
+}
+
+/// A command that reads packets.
+pub fn read<X: Port>(alloc: Global, reading: Reading, wish: &DecodeWish, port: &mut X) -> u8
+    ensures { (reads reading wish.now).performs (X.outside port.old) (X.outside port.new) result }
+{
+    match reading {
+        Reading::Decode => decode(alloc, wish, port),
+        Reading::Damage => damage(alloc, wish, port),
+        Reading::Look => look(alloc, wish, port),
+        Reading::Rects => rects(alloc, wish, port),
+        Reading::List => list(alloc, wish, port),
+    }
+}

@@ -1,0 +1,8 @@
+// Tests of whole runs.
+mod endless;
+mod faults;
+mod heights;
+mod links;
+mod packets;
+mod runs;
+mod trials;

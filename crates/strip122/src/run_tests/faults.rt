@@ -1,0 +1,137 @@
+// Each call of a run fails in turn.
+use crate::run_tests::runs::{Outcome, WHOLE, black, done, ended, part, run_words};
+use std::process::Abort;
+use std::test::Fail;
+
+// More calls than a run here makes.
+const CALLS: u64 = 2000;
+
+// How many reads and writes of a run have failed, one in each run.
+#[derive(Drop)]
+struct Failures {
+    reads: usize,
+    writes: usize,
+}
+
+// Counts what failed in a run: a read gives status 4, a write 5, and a note changes none. What is given begins what the
+// undisturbed run gives.
+fn count(rt: &impl Abort, failures: &mut Failures, whole: &Outcome, ran: &Outcome, text: &str) {
+    assert!(rt; whole.port.given().starts_with(ran.port.given()), "{text}");
+    match ran.status {
+        4 => failures.reads = failures.reads.saturating_add(1),
+        5 => failures.writes = failures.writes.saturating_add(1),
+        status => {
+            assert_eq!(rt; status, whole.status, "{text}");
+        }
+    }
+}
+
+// Whether a run was the undisturbed one again.
+fn is_same(ran: &Outcome, whole: &Outcome) -> bool {
+    ran.status == whole.status && ran.port.noted() == whole.port.noted()
+}
+
+// Each read call of the undisturbed run has failed once, and with pieces of one octet each write.
+fn have_all_failed(
+    rt: &impl Abort,
+    failures: &Failures,
+    whole: &Outcome,
+    piece: usize,
+    text: &str,
+) {
+    assert_eq!(rt; failures.reads, whole.port.asked().len(), "{text}");
+    let written = whole.port.given().len();
+    assert!(rt; piece > 1 || failures.writes == written, "{text}");
+}
+
+// Lets one call of a run fail, and answers whether the run has so many.
+fn fail_at(
+    rt: &(impl Abort + AllocGlobal),
+    text: &str,
+    input: &[u8],
+    piece: usize,
+    number: u64,
+    whole: &Outcome,
+    failures: &mut Failures,
+) -> Result<bool, Fail> {
+    let ran = run_words(rt, text, input, &[number], piece)?;
+    count(rt, failures, whole, &ran, text);
+    if !is_same(&ran, whole) {
+        return Ok(true);
+    }
+    assert!(rt;
+        ran.port.given() == whole.port.given(),
+        "{text}, call {number}"
+    );
+    Ok(false)
+}
+
+// Lets each call of a run fail in turn.
+fn fail_each(
+    rt: &(impl Abort + AllocGlobal),
+    text: &str,
+    input: &[u8],
+    piece: usize,
+) -> Result<(), Fail> {
+    let whole = run_words(rt, text, input, &[], piece)?;
+    let mut failures = Failures {
+        reads: 0,
+        writes: 0,
+    };
+    for number in 0..CALLS {
+        if !fail_at(rt, text, input, piece, number, &whole, &mut failures)? {
+            have_all_failed(rt, &failures, &whole, piece, text);
+            return Ok(());
+        }
+    }
+    panic!(rt; "{text} makes more than {CALLS} calls")
+}
+
+#[test]
+fn encoding_and_decoding(rt: HostRuntime) -> Result<(), Fail> {
+    let black = black(&rt)?;
+    for piece in [1, 7, WHOLE] {
+        fail_each(&rt, "encode width=17 rows=17", &[0; 289], piece)?;
+        fail_each(&rt, "decode", &black, piece)?;
+        fail_each(&rt, "encode width=17 rows=0", &[0; 289], piece)?;
+    }
+    Ok(())
+}
+
+#[test]
+fn decoding_without_the_last_segment(rt: HostRuntime) -> Result<(), Fail> {
+    let given = done(&rt, "encode width=64 rows=0 segment=16", &[0; 3072])?;
+    assert_eq!(rt; given.len(), 154);
+    for piece in [7, WHOLE] {
+        fail_each(&rt, "decode", part(&given, 0, 102), piece)?;
+        fail_each(&rt, "damage", part(&given, 0, 102), piece)?;
+    }
+    Ok(())
+}
+
+#[test]
+fn lists_of_a_cut_stream(rt: HostRuntime) -> Result<(), Fail> {
+    let given = done(&rt, "encode width=64 rows=48 segment=16", &[0; 3072])?;
+    assert_eq!(rt; given.len(), 154);
+    let cut = part(&given, 0, 153);
+    for piece in [1, 7, WHOLE] {
+        fail_each(&rt, "list", cut, piece)?;
+        fail_each(&rt, "damage", cut, piece)?;
+    }
+    Ok(())
+}
+
+#[test]
+fn a_note_that_fails_leaves_the_status(rt: HostRuntime) -> Result<(), Fail> {
+    // Sixteen rows, a part of the last, the end, and the note.
+    ended(
+        &rt,
+        "encode width=17 rows=17",
+        &[0; 288],
+        &[18],
+        WHOLE,
+        3,
+        "",
+    )?;
+    Ok(())
+}

@@ -1,0 +1,137 @@
+// The top call.
+ghost use Rattle.std.specs.Prelude.{◌≡◌, ◌≤◌, ◌*◌, ◌⊎◌, ◌↔◌, length, Result, Ok, Err};
+ghost use Rattle.port_122.specs.Outside.{Rose};
+ghost use Rattle.base_122.specs.Ranges.{IsInRange as IsSettingInRange, IsWithin, rows_range};
+ghost use Rattle.base_122.specs.declared.setting.Setting.{Setting};
+ghost use Rattle.raster_rows.specs.Pixels.{IsDepth};
+ghost use Rattle.command_words.specs.declared.command.WordFault.{WordFault};
+ghost use Rattle.command_words.specs.declared.command.Command.{Command};
+ghost use Rattle.command_words.specs.declared.tables.Reading.{Reading};
+ghost use Rattle.command_words.specs.Words.{texts, Says, IsPlaced};
+ghost use Rattle.command_words.specs.Commands.{IsInRange};
+ghost use Rattle.base_122.specs.declared.wish.DecodeWish.{DecodeWish};
+ghost use Rattle.strip122.specs.Pictures.{GaveLook, GavePicture};
+ghost use Rattle.strip122.specs.Behaviours.{IsSteady, Completes};
+ghost use Rattle.strip122.specs.Run.{Refuses, Makes, Tries, Runs, behaviour};
+
+use crate::encoders::{encode, mux};
+use crate::make::write_made;
+use crate::notes::{note_line, note_refusal};
+use crate::packets::{info, pick, read};
+use crate::trial::{give_trial, run_trial};
+use base_122::Setting;
+use camera_defs::picking_keeps;
+use command_words::{Command, WordFault, read_words};
+use damage_rects::decoding_stays_in_rects;
+use port_122::Port;
+use quick_look::looks_are_of_images;
+use raster_rows::MadeImage;
+use std::alloc::Global;
+use strip_decoder::{decoding_contains, round_trip};
+
+// Refuses the words.
+fn refuse<X: Port>(words: &[String], fault: WordFault, port: &mut X) -> u8
+    requires { IsPlaced (length words.now) fault }
+    ensures { Refuses (texts words.now) fault (X.outside port.old) (X.outside port.new) result }
+{
+    note_refusal(port, words, fault);
+    2
+}
+
+// The command `make`.
+fn make<X: Port>(made: &MadeImage, port: &mut X) -> u8
+    requires { IsDepth made.now.depth }
+    ensures { Makes made.now (X.outside port.old) (X.outside port.new) result }
+{
+    match write_made(port, made) {
+        Ok(()) => 0,
+        Err(_) => {
+            note_line(port, "strip122: write fault\n");
+            5
+        }
+    }
+}
+
+// The command `trial`. It is done in memory, so nothing is read.
+fn trial<X: Port>(alloc: Global, setting: &Setting, seed: u32, port: &mut X) -> u8
+    requires range { IsSettingInRange setting.now }
+    requires height { IsWithin rows_range setting.now.rows }
+    requires few { setting.now.width * setting.now.rows ≤ 16777216 }
+    ensures { Tries setting.now seed (X.outside port.old) (X.outside port.new) result }
+{
+    let Ok(done) = run_trial(alloc, setting, seed) else {
+        note_line(port, "strip122: no memory\n");
+        return 6;
+    };
+    match give_trial(port, setting, &done) {
+        Ok(()) => 0,
+        Err(_) => {
+            note_line(port, "strip122: write fault\n");
+            5
+        }
+    }
+}
+
+// One command.
+fn perform<X: Port>(alloc: Global, command: &Command, port: &mut X) -> u8
+    requires { IsInRange command.now }
+    ensures { (behaviour command.now).performs (X.outside port.old) (X.outside port.new) result }
+{
+    match command {
+        Command::Encode(setting) => encode(alloc, setting, port),
+        Command::Mux(setting, cameras) => mux(alloc, setting, *cameras, port),
+        Command::Read(reading, wish) => read(alloc, *reading, wish, port),
+        Command::Info(apid, octets) => info(alloc, *apid, *octets, port),
+        Command::Pick(wish, image) => pick(alloc, wish, *image, port),
+        Command::Make(made) => make(made, port),
+        Command::Trial(setting, seed) => trial(alloc, setting, *seed, port),
+    }
+}
+
+/// Does all that the program does for these words, without the program's own name, and answers its status
+/// (docs/architecture.md, "Where the meaning of a run is proved"): 0 done, 1 the picture lacks rows, its height isn't known or its
+/// packets can't be read on, 2 the words are refused, 3 the input is refused, 4 read fault, 5 write fault, 6 no memory. Each
+/// status but 0 has its line among the notes, and is decided before it is noted.
+pub fn run<X: Port>(alloc: Global, words: &[String], port: &mut X) -> u8
+    // What the words say decides what is done, and each answer has its cause there.
+    ensures runs { (said : Result Command WordFault) × Says (texts words.now) said
+        × Runs (texts words.now) said (X.outside port.old) (X.outside port.new) result }
+
+    // What follows for each status.
+    ensures done { result ≡ 0 → (command : Command) × Says (texts words.now) (Ok command)
+        × (behaviour command).whole (X.outside port.old) (X.outside port.new) }
+    ensures refused { (result ≡ 2) ↔ ((fault : WordFault) × Says (texts words.now) (Err fault)) }
+    ensures part { result ≡ 1 → (command : Command) × Says (texts words.now) (Ok command)
+        × (behaviour command).part (X.outside port.old) (X.outside port.new) }
+    ensures input_refused { result ≡ 3 → (command : Command) × Says (texts words.now) (Ok command)
+        × (behaviour command).refuses (X.outside port.old) (X.outside port.new) }
+    ensures read_fault { result ≡ 4 → Rose (X.outside port.old).read_faults (X.outside port.new).read_faults }
+    ensures write_fault { result ≡ 5 → Rose (X.outside port.old).write_faults (X.outside port.new).write_faults }
+    ensures no_memory { result ≡ 6 → (command : Command) × Says (texts words.now) (Ok command)
+        × (behaviour command).nothing (X.outside port.old) (X.outside port.new) }
+
+    // Valid words and no fault: with the right input the command is done, and with another one that is refused.
+    ensures complete { (command : Command) → Says (texts words.now) (Ok command) → (behaviour command).right (X.outside port.old) →
+        IsSteady (X.outside port.old) (X.outside port.new) → Completes (behaviour command) (X.outside port.old) (X.outside port.new) result }
+    ensures wrong_input { (command : Command) → Says (texts words.now) (Ok command) → (behaviour command).wrong (X.outside port.old) →
+        IsSteady (X.outside port.old) (X.outside port.new) → (result ≡ 3) ⊎ (result ≡ 6) }
+
+    // No pixel of a picture outside the damaged rows, or outside the damaged rectangles, depends on what was lost, packets of other
+    // APIDs change nothing, and all packets of an image give it back.
+    ensures picture { (wish : DecodeWish) → Says (texts words.now) (Ok (Command.Read Reading.Decode wish)) → (result ≡ 0) ⊎ (result ≡ 1) →
+        GavePicture wish (X.outside port.old) (X.outside port.new) result }
+
+    // A look at all packets of an image has the coefficients of its lowest subband.
+    ensures look { (wish : DecodeWish) → Says (texts words.now) (Ok (Command.Read Reading.Look wish)) → (result ≡ 0) ⊎ (result ≡ 1) →
+        GaveLook wish (X.outside port.old) (X.outside port.new) }
+{
+    picking_keeps();
+    decoding_stays_in_rects();
+    looks_are_of_images();
+    decoding_contains();
+    round_trip();
+    match read_words(words) {
+        Ok(command) => perform(alloc, &command, port),
+        Err(fault) => refuse(words, fault, port),
+    }
+}

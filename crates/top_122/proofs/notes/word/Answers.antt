@@ -1,6 +1,0 @@
-use Rattle.std.proofs.Common.{◌∙◌}
-use Rattle.top_122.proofs.NoteLines.{word_is}
-use Rattle.top_122.proofs.notes.word.Goals as goal
-
-pub returns : goal.returns
-returns c = c.as_str.ensures.value ∙ word_is c.args.words.now c.args.place c.index-words-place.result c.requires c.index-words-place.is

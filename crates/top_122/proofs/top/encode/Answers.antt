@@ -1,8 +1,0 @@
-use Rattle.top_122.proofs.Statuses.{lacks_memory, encode_failed}
-use Rattle.top_122.proofs.top.encode.Goals as goal
-
-pub returns-in_default : goal.returns-in_default
-returns-in_default g c = lacks_memory c.args.setting.now _ _ c.note_line.ensures
-
-pub returns : goal.returns
-returns g c = encode_failed c.args.setting.now _ _ _ c.in-Err.fault c.fault_status.result c.in-Err.ensures.encodes c.note_fault.ensures c.fault_status.ensures

@@ -1,9 +1,0 @@
-pub mod MadeRasters
-pub mod Notes
-pub mod DamageNotes
-pub mod Ran
-pub mod Behaviours
-pub mod Decoding
-pub mod Pictures
-pub mod Trials
-pub mod Run
