@@ -41,7 +41,7 @@ def lines_of(path: Path) -> int:
 
 
 def main() -> None:
-    sources = [Path(word) for word in sys.argv[1:]] or [TOP / "crates/top_122/src/top.rt"]
+    sources = [Path(word) for word in sys.argv[1:]] or [TOP / "crates/strip122/src/top.rt"]
     files = reached(sources)
     for crate in sorted({file.parts[-3] for file in files}):
         own = [file for file in files if file.parts[-3] == crate]

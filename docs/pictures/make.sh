@@ -65,6 +65,20 @@ column() {
     }'
 }
 
+# A picture on which the edges of rectangles are bright: the lines of `rects`, and then a plain PGM.
+edges='
+FNR == NR {
+    split($0, ends, /[- ]/)
+    for (y = ends[1]; y <= ends[2]; y++) edge[y, ends[3]] = edge[y, ends[4]] = 1
+    for (x = ends[3]; x <= ends[4]; x++) edge[ends[1], x] = edge[ends[2], x] = 1
+    next
+}
+{ for (i = 1; i <= NF; i++) token[count++] = $i }
+END {
+    print "P2\n" side, side, 255
+    for (at = 4; at < count; at++) print ((int((at - 4) / side), (at - 4) % side) in edge ? 255 : token[at])
+}'
+
 awk -v side=$side "$drawing" | pnmtopnm >"$kept/drawn.pgm" || exit
 tail -c $((side * side)) "$kept/drawn.pgm" >"$kept/raster"
 picture picture
@@ -74,6 +88,14 @@ without 3 >"$kept/received"
 "$program" damage <"$kept/received" 2>/dev/null | column >"$kept/column.pgm"
 pnmcat -lr "$kept/lost.pgm" "$kept/column.pgm" | pnmtopng -compression 9 >lost.png
 echo "lost.png: packet=65536, without packet 3; $(cat "$kept/note")"
+encode segment=16 packet=65536 >"$kept/packets"
+for lost in 45 32 21 8; do
+    without $lost >"$kept/received" && mv "$kept/received" "$kept/packets"
+done
+"$program" decode <"$kept/packets" 2>"$kept/note" | pgm | pnmtoplainpnm >"$kept/lost.pgm"
+"$program" rects <"$kept/packets" 2>/dev/null >"$kept/rects"
+awk -v side=$side "$edges" "$kept/rects" "$kept/lost.pgm" | pnmtopnm | pnmtopng -compression 9 >rects.png
+echo "rects.png: segment=16 packet=65536, without packets 8, 21, 32 and 45; $(cat "$kept/note")"
 picture stop_dc stop=dc
 picture stop_6.3 stop=6.3
 picture stop_3.3 stop=3.3
