@@ -81,5 +81,24 @@ expect 1 "strip122: damaged rows none; packet cut, 42 octets missing" decode
 echo "0 kept 0 0 22" >output
 expect 1 "strip122: damaged rows none; packet cut, 42 octets missing" list
 
+# Two cameras on a link, one after another, and what is made of their packets.
+{ for row in $(seq 17); do head -c 18 /dev/zero; done; for row in $(seq 17); do printf '\001'; head -c 17 /dev/zero; done; } >in
+{ cat packets; printf '\010\145'; tail -c 50 packets; } >link
+cp link output
+expect 0 "" mux cameras=2 width=17 rows=17
+cp link in
+tail -c 52 link >output
+expect 0 "" pick apid=101
+cp nothing output
+expect 0 "" pick image=1
+expect 0 "" rects
+printf 'apid %d image 0 width 17 rows 17 depth 8 signed 0 segment 64 packets 1 octets 52 segments 1 of 1\n' 100 101 >output
+expect 0 "" info
+head -c 9 /dev/zero >output
+expect 0 "" look apid=101
+cp nothing output
+expect 3 "strip122: no segment" look apid=102
+expect 2 "strip122: out of range: cameras" mux width=17 rows=17 apid=2046 cameras=2
+
 [ $wrong = 0 ] && echo "$count runs: output, note and status are as they should be"
 exit $wrong
