@@ -1,8 +1,9 @@
 """Random images and streams, asked of two programs. tools/try_images.sh runs it.
 
 Each image is encoded by both, and its packets are decoded. Then some packets are lost, or octets changed, and what is
-left is decoded and listed, and its damage found. Status, output and note have to be the same each time, and the
-packets of an image that leave nothing out have to give its raster.
+left is decoded, looked at and listed, and its damage found. The rows of some cameras are muxed, and the packets of one
+are picked. Status, output and note have to be the same each time, and the packets of an image that leave nothing out
+have to give its raster.
 """
 
 import random
@@ -69,7 +70,25 @@ def try_image(pair, chance):
     for left in (lost, changed(chance, octets)):
         pair.ask(["decode", "pixels=1000000"], left)
         pair.ask(["damage", "pixels=1000000"], left)
+        pair.ask(["rects", "pixels=1000000"], left)
+        pair.ask(["look", "pixels=1000000"], left)
         pair.ask(["list"], left)
+    try_cameras(pair, chance)
+
+
+def try_cameras(pair, chance):
+    """The records of some cameras in any order, and maybe cut or changed; and a pick of what they give."""
+    cameras, width, rows = chance.randint(1, 4), chance.randint(17, 40), chance.randint(17, 40)
+    order = [camera for camera in range(cameras) for _ in range(rows)]
+    chance.shuffle(order)
+    octets = bytearray(b"".join(bytes([it]) + chance.randbytes(width) for it in order))
+    if chance.random() < 0.3:
+        octets[(1 + width) * chance.randrange(len(order))] = chance.randint(0, cameras)
+    if chance.random() < 0.3:
+        del octets[chance.randrange(len(octets)):]
+    words = [f"cameras={cameras}", f"width={width}", f"rows={rows}", f"depth={chance.choice([8, 8, 7])}"]
+    _, link, _ = pair.ask(["mux", *words, "segment=16"], bytes(octets))
+    pair.ask(["pick", f"apid={100 + chance.randrange(cameras)}"], link)
 
 
 def main(program, other, count, seed=1):
