@@ -4,12 +4,8 @@
 mod camera_rows;
 mod laws;
 mod mux;
-#[cfg(test)]
-mod mux_tests;
 mod muxing;
 mod picking;
-#[cfg(test)]
-mod tests;
 
 pub use laws::cameras_are_kept;
 pub use mux::{MuxDone, MuxFault};

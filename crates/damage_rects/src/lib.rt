@@ -5,8 +5,6 @@ mod gaps;
 mod laws;
 mod lines;
 mod list;
-#[cfg(test)]
-mod tests;
 
 pub use gaps::Gaps;
 pub use laws::decoding_stays_in_rects;

@@ -9,8 +9,6 @@ mod laws;
 mod lines;
 mod passing;
 mod table;
-#[cfg(test)]
-mod tests;
 
 pub use engine::list_images;
 pub use image::{ImageCount, ImageId};

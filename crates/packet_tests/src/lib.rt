@@ -1,9 +1,11 @@
-//! Tests of packets: written as texts, read from a stream, what becomes of them, the texts that they carry, and the pictures
-//! of these.
+//! Tests of packets: written as texts, read from a stream, what becomes of them, the texts that they carry, the pictures of these,
+//! and what else is made of them: looks, rectangles, lines of images, picks, and the packets of several cameras.
 #![tactic(auto)]
 
 #[cfg(test)]
 mod budgets;
+#[cfg(test)]
+mod cameras;
 #[cfg(test)]
 mod endless;
 #[cfg(test)]
@@ -11,11 +13,19 @@ mod examples;
 #[cfg(test)]
 mod fates;
 #[cfg(test)]
+mod images;
+#[cfg(test)]
 mod last_heights;
+#[cfg(test)]
+mod looks;
+#[cfg(test)]
+mod picks;
 #[cfg(test)]
 mod pictures;
 #[cfg(test)]
 mod read;
+#[cfg(test)]
+mod rects;
 #[cfg(test)]
 mod texts;
 #[cfg(test)]

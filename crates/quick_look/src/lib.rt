@@ -5,8 +5,6 @@
 mod laws;
 mod look;
 mod row;
-#[cfg(test)]
-mod tests;
 
 pub use laws::{look_is_low, looks_are_of_images};
 pub use look::look_packets;

@@ -50,6 +50,34 @@ fn each_camera_has_packets_of_its_own(rt: HostRuntime) -> Result<(), Fail> {
     expect(&rt, TWO, &records, 3, &both, "strip122: input long\n")
 }
 
+// Adds the records of some black rows of each of 16 cameras, one camera after another.
+fn push_rows(records: &mut Vec<u8>, rows: &[u8; 16]) -> Result<(), Fail> {
+    for (camera, count) in rows.iter().enumerate() {
+        for _ in 0..*count {
+            records.push(camera as u8)?;
+            records.extend_from_slice(&[0; 17])?;
+        }
+    }
+    Ok(())
+}
+
+#[test]
+fn sixteen_cameras_have_different_rows(rt: HostRuntime) -> Result<(), Fail> {
+    let sixteen = "mux cameras=16 width=17 rows=17";
+    let mut records = Vec::new(rt.alloc());
+    let first = [1, 2, 3, 4, 5, 6, 7, 8, 9, 10, 11, 12, 13, 14, 15, 16];
+    push_rows(&mut records, &first)?;
+    let note = "strip122: input short, 2448 octets taken\n";
+    expect(&rt, sixteen, &records, 3, &[], note)?;
+    let others = [16, 15, 14, 13, 12, 11, 10, 9, 8, 7, 6, 5, 4, 3, 2, 1];
+    push_rows(&mut records, &others)?;
+    let mut packets = Vec::new(rt.alloc());
+    for camera in 0..16 {
+        packets.push(black_of(&rt, 100 + camera, 0)?)?;
+    }
+    expect(&rt, sixteen, &records, 0, &joined(&rt, &packets)?, "")
+}
+
 #[test]
 fn records_are_refused(rt: HostRuntime) -> Result<(), Fail> {
     let mut records = black_records(&rt)?;
@@ -91,6 +119,10 @@ fn one_image_is_picked(rt: HostRuntime) -> Result<(), Fail> {
 fn a_look_has_a_value_for_each_block(rt: HostRuntime) -> Result<(), Fail> {
     let flat = packet(&rt, &TWO_HUNDRED)?;
     expect(&rt, "look", &flat, 0, &[200; 9], "")?;
+    let low = done(&rt, "encode width=17 rows=17 stop=dc", &[200; 289])?;
+    expect(&rt, "look", &low, 0, &[200; 9], "")?;
+    let bits = done(&rt, "encode width=17 rows=17 depth=1", &[1; 289])?;
+    expect(&rt, "look", &bits, 0, &[1; 9], "")?;
     expect(&rt, "look", &[], 3, &[], "strip122: no segment\n")
 }
 

@@ -1,7 +1,7 @@
 // Looks at constant images of 17 columns, and so of three blocks in a block row.
-use crate::look_packets;
 use base_122::DecodeWish;
 use port_122::MemoryPort;
+use quick_look::look_packets;
 use std::process::Abort;
 use std::test::Fail;
 

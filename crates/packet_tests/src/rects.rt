@@ -1,8 +1,8 @@
 // Rectangles worked out by hand, for some packets of black images.
 ghost use Rattle.std.specs.Prelude.{◌<◌};
 
-use crate::list_rects;
 use base_122::DecodeWish;
+use damage_rects::list_rects;
 use port_122::MemoryPort;
 use std::alloc::{AllocError, Global};
 use std::test::Fail;

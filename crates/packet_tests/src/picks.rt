@@ -1,8 +1,8 @@
 // Packets picked from streams, worked by hand from the rules.
 ghost use Rattle.std.specs.Prelude.{◌<◌};
 
-use crate::pick_packets;
 use base_122::DecodeWish;
+use camera_mux::pick_packets;
 use packet_defs::Framing;
 use packet_list::{ListDone, ListFault};
 use port_122::MemoryPort;

@@ -1,7 +1,7 @@
 // Lists of images, worked by hand from the rules.
 ghost use Rattle.std.specs.Prelude.{◌<◌};
 
-use crate::{InfoDone, InfoFault, InfoWish, list_images};
+use image_info::{InfoDone, InfoFault, InfoWish, list_images};
 use packet_defs::Framing;
 use port_122::MemoryPort;
 use std::alloc::{AllocError, Global};

@@ -2,8 +2,8 @@
 ghost use Rattle.std.specs.Prelude.{◌≡◌, ◌≢◌};
 ghost use Rattle.base_122.specs.Ranges.{IsInRange};
 
-use crate::{MuxDone, MuxFault, mux_rows};
 use base_122::Setting;
+use camera_mux::{MuxDone, MuxFault, mux_rows};
 use port_122::MemoryPort;
 use std::alloc::{AllocError, Global};
 use std::mem;

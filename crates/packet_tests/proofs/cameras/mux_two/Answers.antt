@@ -6,7 +6,7 @@ use Rattle.strip_coder.specs.declared.work.Work.{Work}
 use Rattle.strip_coder.specs.Works.{IsMadeFor}
 use Rattle.camera_mux.specs.Records.{setting_at}
 use Rattle.camera_mux.specs.MuxProgress.{CanMux}
-use Rattle.camera_mux.proofs.mux_tests.mux_two.Goals as goal
+use Rattle.packet_tests.proofs.cameras.mux_two.Goals as goal
 
 module _ (a b : Setting) (first : IsInRange a) (second : IsInRange b) (a_rows : a.rows ≢ 0) (b_rows : b.rows ≢ 0) (apids : a.apid ≢ b.apid) where
   in_range : (camera : ℕ) → camera < 2 → IsInRange (setting_at (a ∷ b ∷ []) camera)
