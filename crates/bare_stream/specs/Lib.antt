@@ -9,3 +9,13 @@ pub mod Steps
 pub mod RowsIn
 pub mod BareStream
 pub mod Laws
+pub mod Pieces
+pub mod Input
+pub mod InputLaws
+pub mod Inputs
+pub mod SegmentsRead
+pub mod Decoded
+pub mod Blocks
+pub mod Heads
+pub mod Reads
+pub mod Walks

@@ -1,0 +1,142 @@
+-- How a decoder of a bare stream ends, by what it took and gave. (This project's own.)
+use Rattle.std.specs.Prelude.{◌≡◌, ◌≤◌, ◌<◌, ◌⊎◌, ℕ, ◌*◌, List, [], ◌∷◌, ◌++◌, length, take, unwrap_or, Option, None, Some, Result, Ok, Err}
+use Rattle.std.specs.List.{concat}
+use Rattle.port_122.specs.Outside.{Outside, Since, AtEnd, Rose}
+use Rattle.base_122.specs.declared.geometry.Geometry.{Geometry}
+use Rattle.base_122.specs.declared.wish.DecodeWish.{DecodeWish}
+use Rattle.item_defs.specs.Items.{Refusal, bad_option, bad_delta, bad_depth, false_flag}
+use Rattle.segment_defs.specs.declared.head.SegmentHead.{SegmentHead}
+use Rattle.segment_defs.specs.declared.fault.HeadFault.{HeadFault}
+use Rattle.segment_defs.specs.declared.fault.HeadFault.TheVariants.{HeadShort, MissingPart}
+use Rattle.segment_defs.specs.Reading.{first_refusal}
+use Rattle.segment_code.specs.ItemsHeld.{RefusesItem, LacksItems}
+use Rattle.bare_text.specs.declared.parts.PartsInForce.{PartsInForce}
+use Rattle.bare_text.specs.InForce.{none_in_force, bare_length}
+use Rattle.bare_text.specs.Reading.{bare_head_read}
+use Rattle.bare_text.specs.Agreement.{agreement_tests}
+use Rattle.bare_stream.specs.declared.fault.BareCause.{BareCause}
+use Rattle.bare_stream.specs.declared.fault.BareCause.TheVariants.{Head, BadOption, BadDelta, BadDepth, FalseFlag, Short, Trailing}
+use Rattle.bare_stream.specs.declared.fault.BareFault.{BareFault}
+use Rattle.bare_stream.specs.declared.fault.BareFault.TheVariants.{ReadFault, WriteFault, LongInput, Memory, TooManyPixels, Refused}
+use Rattle.bare_stream.specs.BareStream.{AgreesWith, BareStream}
+use Rattle.bare_stream.specs.SegmentsRead.{SegmentsRead, AreTexts, BeginsSo, IsPrompt, Told, rows_read, pixels_at}
+
+-- ---- why a segment is none
+
+-- the octets begin with a head that is read by itself, and it goes on so with the head, its octets and those after it
+pub record HeadThen (before : PartsInForce) (octets : List ℕ) (GoesOn : SegmentHead → (size : ℕ) → List ℕ → Type 0) : Type 0 where
+  pub front : List ℕ
+  pub rest : List ℕ
+  pub head : SegmentHead
+  pub parts : octets ≡ front ++ rest
+  pub read : bare_head_read before front ≡ Ok head
+  pub whole : length front ≡ bare_length front
+  pub goes_on : GoesOn head (length front) rest
+
+-- Which octets decide that a head is refused: for a short one those to the end, for a missing part the first three, else the whole head.
+abbrev pub DecidesHead : HeadFault → (front rest : List ℕ) → (now : Outside) → Type 0
+DecidesHead (HeadShort count) front rest now = (rest ≡ []) × AtEnd now
+DecidesHead (MissingPart part) front rest now = length front ≡ 3
+DecidesHead other front rest now = length front ≡ bare_length front
+
+-- the octets begin with a head that is refused by itself
+pub record HeadRefused (before : PartsInForce) (octets : List ℕ) (now : Outside) (fault : HeadFault) : Type 0 where
+  pub front : List ℕ
+  pub rest : List ℕ
+  pub parts : octets ≡ front ++ rest
+  pub read : bare_head_read before front ≡ Err fault
+  pub decides : DecidesHead fault front rest now
+
+-- a head may follow: it agrees with the first one, and reports no more pixels than are wished
+pub record MayFollow (pixels : ℕ) (first : SegmentHead) (index : ℕ) (head : SegmentHead) : Type 0 where
+  pub agrees : AgreesWith first index head
+  pub few : pixels_at first index head ≤ pixels
+
+-- after a head that may follow there are octets of items, of which one is refused by this name
+abbrev pub ItemRefused : (pixels : ℕ) → (first : Option SegmentHead) → PartsInForce → (index : ℕ) → List ℕ → Refusal → Type 0
+ItemRefused pixels first before index octets name = HeadThen before octets (λ head size rest.
+    MayFollow pixels (unwrap_or first head) index head × ((items more : List ℕ) × (rest ≡ items ++ more) × RefusesItem head size items name))
+
+-- The segment of this index, whose octets are the first of these, is none, with this cause. If it is the first one, its head is the first head.
+abbrev pub Refuses : (pixels : ℕ) → (first : Option SegmentHead) → PartsInForce → (index : ℕ) → List ℕ → (now : Outside) → BareCause → Type 0
+Refuses pixels first before index octets now (Head fault) =
+    HeadRefused before octets now fault
+    ⊎ HeadThen before octets (λ head size rest. first_refusal (agreement_tests (unwrap_or first head) index head) ≡ Some fault)
+Refuses pixels first before index octets now BadOption = ItemRefused pixels first before index octets bad_option
+Refuses pixels first before index octets now BadDelta = ItemRefused pixels first before index octets bad_delta
+Refuses pixels first before index octets now BadDepth = ItemRefused pixels first before index octets bad_depth
+Refuses pixels first before index octets now FalseFlag = ItemRefused pixels first before index octets false_flag
+Refuses pixels first before index octets now Short =
+    HeadThen before octets (λ head size rest. MayFollow pixels (unwrap_or first head) index head × LacksItems head size rest) × AtEnd now
+Refuses pixels first before index octets now Trailing = ⊥
+
+-- ---- the decoder
+
+-- The octets that were taken are those of the segments that were read, and others; and it is so of the number of these segments, the parts
+-- in force after them and the other octets. Without a first head none was read.
+abbrev pub ReadThen : (took : List ℕ) → Option SegmentsRead → (Option SegmentHead → (index : ℕ) → PartsInForce → List ℕ → Type 0) → Type 0
+ReadThen took None Next = Next None 0 none_in_force took
+ReadThen took (Some r) Next =
+    (r.ended ≡ None) × ((rest : List ℕ) × (took ≡ concat r.texts ++ rest) × BeginsSo r.first r.texts × AreTexts r.first none_in_force 0 r.texts r.blocks (λ before. Next (Some r.first) (length r.texts) before rest))
+
+-- the octets that were taken are a bare stream, of which each segment was read, and these
+abbrev pub StreamThen : (took : List ℕ) → Option SegmentsRead → (more : List ℕ) → (index : ℕ) → Geometry → Type 0
+StreamThen took None more index g = ⊥
+StreamThen took (Some r) more index g =
+    (octets : List ℕ) × (took ≡ octets ++ more) × BareStream octets g r.blocks × (r.ended ≡ Some g) × (index ≡ length r.blocks)
+
+-- the octets that were taken begin with those of the segments that were read, with the last one or without it
+abbrev pub BeginsBy : (ended : Option Geometry) → (took : List ℕ) → SegmentsRead → Type 0
+BeginsBy None took r = ReadThen took (Some r) (λ first index before rest. Unit {0})
+BeginsBy (Some g) took r = (more : List ℕ) × (index : ℕ) × StreamThen took (Some r) more index g
+
+abbrev pub BeginsWith : (took : List ℕ) → Option SegmentsRead → Type 0
+BeginsWith took None = Unit {0}
+BeginsWith took (Some r) = BeginsBy r.ended took r
+
+-- Why it was answered so, if the port reports what is left. The answers exclude each other by what was taken, the end and the counts, except
+-- for faults of the port.
+abbrev pub BareReasons : DecodeWish → (now : Outside) → (took : List ℕ) → Option SegmentsRead → Result Geometry BareFault → Type 0
+BareReasons wish now took read (Ok g) = (index : ℕ) × StreamThen took read [] index g × (g.width * g.rows ≤ wish.pixels) × (length took < wish.octets)
+BareReasons wish now took read (Err (Refused index Trailing)) = (octet : ℕ) × (more : List ℕ) × (g : Geometry) × StreamThen took read (octet ∷ more) index g
+BareReasons wish now took read (Err (Refused index cause)) = ReadThen took read (λ first next before rest. (index ≡ next) × Refuses wish.pixels first before index rest now cause)
+BareReasons wish now took read (Err (TooManyPixels pixels)) =
+    ReadThen took read (λ first index before rest. HeadThen before rest (λ head size after.
+    AgreesWith (unwrap_or first head) index head × (pixels ≡ pixels_at (unwrap_or first head) index head) × (wish.pixels < pixels)))
+BareReasons wish now took read (Err LongInput) = (length took ≡ wish.octets) × BeginsWith took read
+BareReasons wish now took read (Err other) = BeginsWith took read
+
+-- the rows that the segments that were read determine
+abbrev pub rows_of_read : Option SegmentsRead → List ℕ
+rows_of_read None = []
+rows_of_read (Some r) = rows_read r
+
+-- What is given: these rows. A prefix of them, if a write failed; and nothing without memory.
+abbrev pub GivesRead : Result Geometry BareFault → (gave : List ℕ) → Option SegmentsRead → Type 0
+GivesRead (Err WriteFault) gave read = (n : ℕ) × (gave ≡ take n (rows_of_read read))
+GivesRead (Err Memory) gave read = gave ≡ []
+GivesRead result gave read = gave ≡ rows_of_read read
+
+-- whether the input's end was read, or a count of faults rose
+abbrev pub EndsSo : Result Geometry BareFault → (old new : Outside) → Type 0
+EndsSo (Ok g) old new = AtEnd new
+EndsSo (Err ReadFault) old new = Rose old.read_faults new.read_faults
+EndsSo (Err WriteFault) old new = Rose old.write_faults new.write_faults
+EndsSo (Err other) old new = Unit {0}
+
+-- the read calls: without a first head nothing is given
+abbrev pub AsksRead : Option SegmentsRead → (gave : List ℕ) → ℕ → ℕ → Type 0
+AsksRead None gave i j = j ≡ 0
+AsksRead (Some r) gave i j = IsPrompt r gave i j
+
+-- One run over a port: what it took and gave, when, which segments it read, and why it ended so. Exactly the rows are given that these
+-- segments determine, at each read call too.
+pub record DecodesBare (wish : DecodeWish) (old new : Outside) (result : Result Geometry BareFault) : Type 0 where
+  pub took : List ℕ
+  pub gave : List ℕ
+  pub read : Option SegmentsRead
+  pub since : Since old new took gave [] (AsksRead read gave)
+  pub within : length took ≤ wish.octets
+  pub gives : GivesRead result gave read
+  pub ends : EndsSo result old new
+  pub reason : Told old (BareReasons wish new took read result)

@@ -1,0 +1,62 @@
+// A bare stream in, a picture out.
+ghost use Rattle.std.specs.Prelude.{◌≡◌, []};
+ghost use Rattle.bare_stream.specs.Decoded.{DecodesBare};
+ghost use Rattle.bare_stream.specs.Input.{waiting};
+
+use crate::fault::BareFault;
+use crate::heads::{check_head, take_head};
+use crate::input::PortIn;
+use crate::walk::{Walk, take_stream};
+use bare_text::PartsInForce;
+use base_122::{DecodeWish, Geometry};
+use port_122::Port;
+use std::alloc::Global;
+
+/// Takes a bare stream and gives the picture of its segments, each row as soon as the segments so far determine it (docs/formats.md,
+/// "Bare texts" and "Picture and damage"). It reads to the end, at most the octets that are wished, and no more once a segment is refused
+/// or a head reports too many pixels. Returns the geometry of the image, in which `image` is 0. It takes memory after the first head
+/// alone. Of the wish, `apid` isn't used.
+///
+/// # Errors
+///
+/// - `Refused`: the first segment that is none, and why. The rows are given that the segments before it determine; of `Trailing` these
+///   are all rows.
+/// - `ReadFault`, `LongInput`, `TooManyPixels`: the rows are given that the segments before it determine. `ReadFault` occurs only if the
+///   port's count rose.
+/// - `WriteFault`: a prefix of the rows is given that the segments so far determine. The port's count rose.
+/// - `Memory`: nothing is given.
+pub fn decode_bare<X: Port>(
+    alloc: Global,
+    port: &mut X,
+    wish: &DecodeWish,
+) -> Result<Geometry, BareFault>
+    ensures { DecodesBare wish.now (X.outside port.old) (X.outside port.new) result }
+{
+    let mut input = PortIn::new(port, wish.octets);
+    decode_input(alloc, &mut input, wish)
+}
+
+// Takes a bare stream from an input that gave nothing yet.
+fn decode_input<X: Port>(
+    alloc: Global,
+    input: &mut PortIn<X>,
+    wish: &DecodeWish,
+) -> Result<Geometry, BareFault>
+    requires none { waiting input.old ≡ [] }
+    requires left { input.old.left ≡ wish.now.octets }
+    ensures port { input.new.port.ghost_name ≡ input.old.port.ghost_name }
+    ensures decodes { DecodesBare wish.now (X.outside input.old.port.now) (X.outside input.new.port.now) result }
+{
+    let mut parts = PartsInForce::none();
+    let first = match take_head(input, &mut parts, 0) {
+        Ok(first) => first,
+        Err(fault) => return Err(fault),
+    };
+    if let Err(fault) = check_head(&first.head, 0, &first.head, wish.pixels) {
+        return Err(fault);
+    }
+    let Ok(mut walk) = Walk::new(alloc, &first.head, parts, wish.pixels) else {
+        return Err(BareFault::Memory);
+    };
+    take_stream(&mut walk, input, first)
+}

@@ -1,0 +1,81 @@
+// The memory for the blocks of one segment, and the items of its text.
+ghost use Rattle.std.specs.Prelude.{◌≡◌, ◌≤◌, ◌*◌, take, length};
+ghost use Rattle.segment_defs.specs.Head.{IsHead};
+ghost use Rattle.bare_stream.specs.Inputs.{source_of};
+ghost use Rattle.segment_code.specs.DecodedItems.{DecodesItems};
+ghost use Rattle.bare_stream.specs.Heads.{FaultOf};
+
+use crate::fault::{BareCause, BareFault};
+use crate::input::PortIn;
+use bare_text::{BareHead, SegmentFault, SegmentReader};
+use bit_pipe::Part;
+use port_122::Port;
+use std::alloc::{AllocError, Global};
+
+/// What the texts of segments are read with: the blocks of one segment, and a state for each.
+#[derive(Drop)]
+pub struct Room {
+    pub reader: SegmentReader,
+    pub blocks: Vec<i32>,
+    pub marks: Vec<i32>,
+}
+
+impl Room {
+    ghost use Rattle.std.specs.Prelude.{IfOk, vec_len};
+    ghost use Rattle.bare_stream.specs.Heads.{IsRoom};
+
+    /// Takes the memory for segments of at most this number of blocks. The one error is want of memory.
+    pub fn new(alloc: Global, count: u32) -> Result<Room, AllocError>
+        requires { count ≤ 1048575 }
+        ensures { IfOk result (λ room. IsRoom count (vec_len room.blocks) (vec_len room.marks)) }
+    {
+        let count = count as usize;
+        let blocks = vec![in alloc; 0; 64 * count]?;
+        let marks = vec![in alloc; 0; count]?;
+        Ok(Room {
+            reader: SegmentReader::new(),
+            blocks,
+            marks,
+        })
+    }
+}
+
+/// Why the items of the segment of this index aren't read.
+pub fn items_fault(fault: SegmentFault, index: u32) -> BareFault
+    ensures { FaultOf index fault result }
+{
+    let cause = match fault {
+        SegmentFault::BadOption => BareCause::BadOption,
+        SegmentFault::BadDelta => BareCause::BadDelta,
+        SegmentFault::BadDepth => BareCause::BadDepth,
+        SegmentFault::FalseFlag => BareCause::FalseFlag,
+        SegmentFault::ShortSegment => BareCause::Short,
+        SegmentFault::ReadFault => return BareFault::ReadFault,
+        _ => return BareFault::LongInput,
+    };
+    BareFault::Refused { index, cause }
+}
+
+/// Reads the items of a text after its head into the first of these blocks.
+pub fn read_items<X: Port>(
+    input: &mut PortIn<X>,
+    reader: &SegmentReader,
+    read: &BareHead,
+    blocks: &mut [i32],
+    marks: &mut [i32],
+) -> Result<Part, SegmentFault>
+    requires fits { IsHead read.now.head }
+    requires size { read.now.size ≤ 20 }
+    requires blocks { 64 * read.now.head.blocks ≤ length blocks.old }
+    requires marks { read.now.head.blocks ≤ length marks.old }
+    ensures items { DecodesItems (source_of X.outside) read.now.head read.now.size result input.old input.new (take (64 * read.now.head.blocks) blocks.new) }
+    ensures sizes { (length blocks.new ≡ length blocks.old) × (length marks.new ≡ length marks.old) }
+{
+    let count = read.head.blocks as usize;
+    read.decode_items(
+        reader,
+        input,
+        &mut blocks[..64 * count],
+        &mut marks[..count],
+    )
+}
