@@ -1,18 +1,13 @@
 -- Codes free of prefixes are complete exactly where they leave no room: each string of 8 bits that begins with a code is counted once.
-use Rattle.std.proofs.Common.{◌≡◌, ◌⊎◌, inl, inr, ◌≤◌, ◌<◌, ◌+◌, ◌-◌, ◌*◌, ◌^◌, ℕ, zero, suc, List, [], ◌∷◌, ◌++◌, refl, sym, ap, subst, ◌∙◌, arith, zero-add, add-one}
-use Rattle.std.specs.Prelude.{Bool, true, false, ◌==◌, ◌&&◌, ◌||◌, cond, count_by, nat_le}
+use Rattle.std.proofs.Common.{◌≡◌, inl, inr, ◌≤◌, ◌<◌, ◌+◌, ◌-◌, ◌^◌, ℕ, zero, suc, List, [], ◌∷◌, refl, sym, ap, ◌∙◌, arith, zero-add, add-one}
+use Rattle.std.specs.Prelude.{Bool, true, false, ◌==◌, ◌||◌, cond, count_by}
 use Rattle.std.specs.List.{list_all, sum_by}
 use Rattle.std.proofs.lemmas.Bool.{cases_lt, false≢true}
-use Rattle.std.proofs.lemmas.Bool.Decides.{nat_tests}
 use Rattle.std.proofs.lemmas.List.Sums.{sum_by-append}
 use Rattle.item_defs.specs.Bits.{bits_of}
-use Rattle.base_122.specs.declared.book.Code.{Code}
 use Rattle.plane_defs.specs.Spans.{span}
-use Rattle.plane_defs.specs.Codes.{code_bits, entry, is_prefix, is_table_sound}
+use Rattle.plane_defs.specs.Codes.{is_prefix}
 use Rattle.plane_defs.proofs.SpanLists.{span-suc}
-use Rattle.plane_defs.proofs.Tables.{list_all-span-zero}
-use Rattle.code_book.specs.Sound.{IsCode, AreCodes, IsTableSound}
-use Rattle.code_book.specs.Tests.{clashes, room, room_of}
 
 -- ---- sums over spans
 

@@ -1,5 +1,5 @@
 -- A table whose codes are free of prefixes is sound exactly where they leave no room.
-use Rattle.std.proofs.Common.{◌≡◌, ◌⊎◌, inl, inr, ◌≤◌, ◌<◌, ◌+◌, ◌-◌, ◌^◌, ℕ, zero, suc, List, [], ◌∷◌, refl, sym, ap, subst, ◌∙◌, arith}
+use Rattle.std.proofs.Common.{◌≡◌, inl, inr, ◌≤◌, ◌<◌, ◌+◌, ◌-◌, ◌^◌, ℕ, zero, suc, List, [], ◌∷◌, refl, sym, ap, subst, ◌∙◌, arith}
 use Rattle.std.specs.Prelude.{Bool, true, false, ◌==◌, ◌&&◌, ◌||◌, cond, count_by, nat_le}
 use Rattle.std.specs.List.{list_all, sum_by}
 use Rattle.std.proofs.lemmas.Bool.{cases_lt, false≢true}
@@ -9,7 +9,6 @@ use Rattle.item_defs.specs.Bits.{bits_of}
 use Rattle.base_122.specs.declared.book.Code.{Code}
 use Rattle.plane_defs.specs.Spans.{span}
 use Rattle.plane_defs.specs.Codes.{code_bits, entry, is_prefix, is_table_sound}
-use Rattle.plane_defs.proofs.SpanLists.{span-suc}
 use Rattle.plane_defs.proofs.Tables.{list_all-span-at, list_all-span-zero}
 use Rattle.code_book.specs.Sound.{IsCode, AreCodes, IsTableSound}
 use Rattle.code_book.specs.Tests.{clashes, room, room_of}

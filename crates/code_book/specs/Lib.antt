@@ -1,2 +1,4 @@
 pub mod Sound
 pub mod Tests
+pub mod Reading
+pub mod Filling

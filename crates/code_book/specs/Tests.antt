@@ -1,12 +1,12 @@
 -- The first thing that is wrong with a book. This project's own.
-use Rattle.std.specs.Prelude.{◌≡◌, ℕ, zero, suc, ◌+◌, ◌-◌, ◌^◌, ◌&&◌, ◌||◌, ◌==◌, Bool, not, nat_le, nat_lt, if◌then◌else◌, List, Option, None, Some, Result, Ok, Err}
+use Rattle.std.specs.Prelude.{ℕ, zero, suc, ◌+◌, ◌-◌, ◌^◌, ◌&&◌, ◌||◌, ◌==◌, Bool, not, nat_le, nat_lt, if◌then◌else◌, List, Option, None, Some, Result, Ok, Err}
 use Rattle.std.specs.List.{sum_by}
 use Rattle.base_122.specs.declared.book.Code.{Code}
 use Rattle.base_122.specs.declared.book.Book.{Book}
 use Rattle.plane_defs.specs.Spans.{span}
 use Rattle.plane_defs.specs.Codes.{code_bits, entry, is_prefix, table}
 use Rattle.code_book.specs.declared.fault.BookFault.{BookFault}
-use Rattle.code_book.specs.declared.fault.BookFault.TheVariants.{BadLength, BadBits, Clash, Incomplete}
+use Rattle.code_book.specs.declared.fault.BookFault.TheVariants.{ReadFault, Short, BadMark, BadLength, BadBits, Clash, Incomplete}
 use Rattle.code_book.specs.Sound.{symbols_of}
 
 -- ---- one code, and two
@@ -71,6 +71,13 @@ table_fault table codes count =
     (if room_of codes count == 256 then None else Some (Incomplete table))))
 
 -- ---- a book
+
+-- a fault of a book's codes, which were read
+abbrev pub IsOfCodes : BookFault → Type 0
+IsOfCodes ReadFault = ⊥
+IsOfCodes (Short octets) = ⊥
+IsOfCodes BadMark = ⊥
+IsOfCodes fault = Unit {0}
 
 -- the first table that isn't sound, of n from a start on
 unfoldable pub fault_from : Book → (start n : ℕ) → Option BookFault

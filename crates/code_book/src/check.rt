@@ -1,8 +1,8 @@
 // Whether a book is sound.
-ghost use Rattle.std.specs.Prelude.{◌≡◌, ℕ, ◌<◌, ◌≤◌, ◌+◌, ◌*◌, ◌↔◌, Ok, IsTrue, length};
+ghost use Rattle.std.specs.Prelude.{◌≡◌, ℕ, ◌<◌, ◌≤◌, ◌+◌, ◌*◌, ◌↔◌, Ok, IsTrue, IfErr, length};
 ghost use Rattle.plane_defs.specs.Codes.{entry, is_book_sound};
 ghost use Rattle.code_book.specs.Sound.{IsCode, AreCodes, IsSound, symbols_of};
-ghost use Rattle.code_book.specs.Tests.{has_length, fits, clashes, bad_length, bad_bits, clash_of, clash_from, room_of, table_fault, fault_from, book_check};
+ghost use Rattle.code_book.specs.Tests.{has_length, fits, clashes, bad_length, bad_bits, clash_of, clash_from, room_of, table_fault, fault_from, book_check, IsOfCodes};
 
 use crate::fault::BookFault;
 use base_122::{Book, Code};
@@ -17,6 +17,7 @@ pub fn check_book(book: &Book) -> Result<(), BookFault>
     ensures first { result ≡ book_check book.now }
     ensures sound { (result ≡ Ok tt) ↔ IsSound book.now }
     ensures usable { result ≡ Ok tt → IsTrue (is_book_sound book.now) }
+    ensures kind { IfErr result IsOfCodes }
 {
     match first_fault(book) {
         Some(fault) => Err(fault),

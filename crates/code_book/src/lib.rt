@@ -1,11 +1,15 @@
-//! Which code books are sound (docs/formats.md, "Words and codes").
+//! Which code books are sound, and how one is read from a port (docs/formats.md, "Words and codes").
 #![tactic(auto)]
 
 mod check;
 mod fault;
+mod read;
+#[cfg(test)]
+mod read_tests;
 #[cfg(test)]
 mod tests;
 
 pub use base_122::{Book, Code};
 pub use check::check_book;
 pub use fault::BookFault;
+pub use read::read_book;

@@ -1,4 +1,4 @@
-use Rattle.std.proofs.Common.{◌≡◌, ◌-◌, ℕ, refl, sym, ap, ◌∙◌, arith}
+use Rattle.std.proofs.Common.{refl, sym, ◌∙◌, arith}
 use Rattle.plane_defs.specs.Codes.{entry}
 use Rattle.code_book.specs.Tests.{clash_of, clashes}
 use Rattle.code_book.proofs.Firsts.{found, past, nowhere}

@@ -1,0 +1,82 @@
+-- A book that was read whole.
+use Rattle.std.proofs.Common.{◌≡◌, ◌<◌, ℕ, Bool, true, false, List, [], length, refl, ◌∙◌, subst, arith, Option, None, Some, IfSome, IfErr, Result, Ok, Err, if◌then◌else◌}
+use Rattle.std.proofs.lemmas.List.{take_all}
+use Rattle.port_122.specs.Outside.{Outside, Since}
+use Rattle.base_122.specs.declared.book.Book.{Book}
+use Rattle.code_book.specs.declared.fault.BookFault.{BookFault}
+use Rattle.code_book.specs.declared.fault.BookFault.TheVariants.{ReadFault, Short, BadMark, BadLength, BadBits, Clash, Incomplete}
+use Rattle.code_book.specs.Tests.{IsOfCodes, fault_from, refusal, book_check}
+use Rattle.code_book.specs.Filling.{FilledTo}
+use Rattle.code_book.specs.Reading.{book_in, book_or, book_read, has_mark, BookAnswers, ReadsBook}
+use Rattle.code_book.proofs.CodeFaults.{fault_kind}
+
+-- why octets that were all taken are no book
+abbrev IsOfOctets : BookFault → Type 0
+IsOfOctets ReadFault = ⊥
+IsOfOctets (Short octets) = ⊥
+IsOfOctets fault = Unit {0}
+
+of_codes : (fault : BookFault) → IsOfCodes fault → IsOfOctets fault
+of_codes ReadFault is = is
+of_codes (Short octets) is = is
+of_codes BadMark is = tt
+of_codes (BadLength table symbol) is = tt
+of_codes (BadBits table symbol) is = tt
+of_codes (Clash table first second) is = tt
+of_codes (Incomplete table) is = tt
+
+or_kind : (book : Book) (o : Option BookFault) → IfSome o IsOfCodes → IfErr (book_or book o) IsOfOctets
+or_kind book None is = tt
+or_kind book (Some fault) is = of_codes fault is
+
+mark_kind : (book : Book) (mark : Bool) → IfErr (if mark then book_or book (fault_from book 0 6) else Err BadMark) IsOfOctets
+mark_kind book true = or_kind book (fault_from book 0 6) (fault_kind book 0 6)
+mark_kind book false = tt
+
+read_kind : (octets : List ℕ) → IfErr (book_read octets) IsOfOctets
+unfolding book_read
+read_kind octets = mark_kind (book_in octets) (has_mark octets)
+
+answers : (old new : Outside) (took : List ℕ) (result : Result Book BookFault) → IfErr result IsOfOctets → (length took ≡ 138) × (result ≡ book_read took) →
+    BookAnswers old new took result
+answers old new took (Ok book) kind is = is
+answers old new took (Err ReadFault) kind is = absurd kind
+answers old new took (Err (Short octets)) kind is = absurd kind
+answers old new took (Err BadMark) kind is = is
+answers old new took (Err (BadLength table symbol)) kind is = is
+answers old new took (Err (BadBits table symbol)) kind is = is
+answers old new took (Err (Clash table first second)) kind is = is
+answers old new took (Err (Incomplete table)) kind is = is
+
+pub book_taken : {old new : Outside} {octets : List ℕ} {result : Result Book BookFault} → FilledTo old new octets 138 → result ≡ book_read octets → ReadsBook old new result
+book_taken {old = old} {new = new} {octets = octets} {result = result} p is = record {
+  took = octets;
+  since = subst (λ took. Since old new took [] [] (λ i j. i < 138)) (take_all 138 octets (omega (arith, p.room))) p.since;
+  answer = answers old new octets result (rw is (read_kind octets)) (p.room, is);
+}
+
+-- ---- what octets are read as
+
+pub read_unmarked : (octets : List ℕ) → has_mark octets ≡ false → Err BadMark ≡ book_read octets
+unfolding book_read
+read_unmarked octets none = rw none refl
+
+-- what a check of the codes answers is what the octets are read as
+read_marked : (octets : List ℕ) (book : Book) → has_mark octets ≡ true → book ≡ book_in octets → book_or book (fault_from book 0 6) ≡ book_read octets
+unfolding book_read
+read_marked octets book mark is = rw (mark, is) refl
+
+sound_or : (book : Book) (o : Option BookFault) → Ok tt ≡ refusal o → Ok book ≡ book_or book o
+sound_or book None e = refl
+sound_or book (Some fault) e = absurd cc
+
+unsound_or : (book : Book) (o : Option BookFault) (fault : BookFault) → Err fault ≡ refusal o → Err fault ≡ book_or book o
+unsound_or book None fault e = absurd cc
+unsound_or book (Some first) fault e = let same : fault ≡ first = cc in rw same refl
+
+pub read_sound : (octets : List ℕ) (book : Book) → has_mark octets ≡ true → book ≡ book_in octets → Ok tt ≡ book_check book → Ok book ≡ book_read octets
+read_sound octets book mark is e = sound_or book (fault_from book 0 6) e ∙ read_marked octets book mark is
+
+pub read_unsound : (octets : List ℕ) (book : Book) (fault : BookFault) → has_mark octets ≡ true → book ≡ book_in octets → Err fault ≡ book_check book →
+    Err fault ≡ book_read octets
+read_unsound octets book fault mark is e = unsound_or book (fault_from book 0 6) fault e ∙ read_marked octets book mark is
