@@ -3,6 +3,8 @@
 #![tactic(auto)]
 
 mod lists;
+#[cfg(test)]
+mod openings;
 mod rows;
 #[cfg(test)]
 mod tests;

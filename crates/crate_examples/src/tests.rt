@@ -16,7 +16,7 @@ use strip_coder::{EncodeDone, Work};
 
 // A picture of 17 by 17 pixels of 200, as one segment of nine blocks with 1,600 for each DC and no other number: its packet has
 // 30 octets before the segment's text.
-const PACKET: [u8; 53] = [
+pub(crate) const PACKET: [u8; 53] = [
     0x08, 0x64, 0xc0, 0, 0, 0x2e, 0x12, 0x20, 0, 0, 0, 0, 0, 0x11, 0, 0, 0, 0x40, 0, 0, 0, 0, 0, 0,
     0, 0, 0, 0, 0, 0, 0xc0, 0x18, 0x07, 0xe0, 0, 0, 0, 0, 0x60, 0, 0, 0x9c, 0x88, 0, 0x01, 0x10, 0,
     0, 0, 0, 0x06, 0x47, 0xf8,
