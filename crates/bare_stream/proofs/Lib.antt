@@ -24,3 +24,8 @@ mod LastGiven
 mod WalkOn
 mod StreamRead
 mod FirstHead
+mod SegmentCounts
+mod ImageHeads
+mod ImageTexts
+mod ImagePictures
+mod GivenBack

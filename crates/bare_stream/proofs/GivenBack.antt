@@ -1,0 +1,34 @@
+-- What comes back of a bare stream is the image.
+use Rattle.std.proofs.Common.{◌≡◌, ℕ, ℤ, List, [], ◌++◌, refl, sym, ap, subst, ◌∙◌}
+use Rattle.std.specs.Prelude.{Option, None, Some, Ok}
+use Rattle.std.proofs.lemmas.List.{append-nil}
+use Rattle.port_122.specs.Outside.{Outside}
+use Rattle.base_122.specs.declared.geometry.Geometry.{Geometry}
+use Rattle.base_122.specs.declared.setting.Setting.{Setting}
+use Rattle.base_122.specs.declared.wish.DecodeWish.{DecodeWish}
+use Rattle.bare_stream.specs.Bare.{bare}
+use Rattle.bare_stream.specs.BareStream.{BareStream}
+use Rattle.bare_stream.specs.Decoded.{DecodesBare, StreamThen, rows_of_read}
+use Rattle.bare_stream.specs.Images.{IsBareImage, ImagesAreBareStreams, bare_geometry, image_segments}
+use Rattle.bare_stream.specs.RoundTrip.{GivesImage, BareRoundTrip}
+use Rattle.bare_stream.specs.SegmentsRead.{SegmentsRead, all_rows, rows_with}
+use Rattle.bare_stream.proofs.ImagePictures.{picture_is}
+
+module _ (streams : ImagesAreBareStreams) (s : Setting) (x : ℕ → ℕ → ℤ) (is : IsBareImage s x) (g : Geometry) (took gave : List ℕ) (all : took ≡ bare s x) where
+  read_back : (read : Option SegmentsRead) (index : ℕ) → gave ≡ rows_of_read read → StreamThen took read [] index g → GivesImage s x gave g
+  read_back None index given then = absurd then
+  read_back (Some r) index given (octets, parts, stream, ended, count) =
+      let whole : octets ≡ bare s x = sym (append-nil octets) ∙ sym parts ∙ all in
+      let said = streams.only s x g r.blocks is (subst (λ o. BareStream o g r.blocks) whole stream) in
+      record {
+        geometry = said.0;
+        same = λ sends. given ∙ ap (λ e. rows_with r.first e r.blocks) ended ∙ ap (λ h. all_rows h r.blocks) said.0 ∙ ap (all_rows (bare_geometry s)) (said.1.exact sends) ∙ picture_is s x is;
+      }
+
+pub round_trip : ImagesAreBareStreams → BareRoundTrip
+round_trip streams = record {
+  picture = λ s x is. picture_is s x is;
+  decoded = λ wish old new g left s x run told all is.
+      let why = run.reason left told in
+      read_back streams s x is g run.took run.gave all run.read why.0 run.gives why.1;
+}
