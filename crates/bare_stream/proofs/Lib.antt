@@ -28,4 +28,8 @@ mod SegmentCounts
 mod ImageHeads
 mod ImageTexts
 mod ImagePictures
+mod ItemsApart
+mod StreamFollowed
+mod RefusedNot
+mod StreamWhole
 mod GivenBack

@@ -5,7 +5,7 @@
 ghost use Rattle.bare_stream.specs.BareStream.{BareStreamsEndThere};
 ghost use Rattle.bare_stream.specs.Images.{ImagesAreBareStreams};
 ghost use Rattle.bare_stream.specs.Laws.{LastRowSettlesTexts};
-ghost use Rattle.bare_stream.specs.RoundTrip.{BareRoundTrip};
+ghost use Rattle.bare_stream.specs.RoundTrip.{BareRoundTrip, StreamsAreRead};
 
 mod blocks;
 mod decode;
@@ -54,9 +54,20 @@ pub const fn images_are_bare_streams()
     bare_streams_end_there();
 }
 
+/// A decoder isn't free to refuse a bare stream: one within the caps is read whole and all its rows are given, unless the port or the
+/// memory fails.
+pub const fn bare_streams_are_read()
+    ensures { StreamsAreRead }
+{
+    bare_heads_end_there();
+    items_end_there();
+    bare_streams_end_there();
+}
+
 /// What comes back of an image's bare stream is the image: a decoder that takes it gives the raster, if nothing is left out.
 pub const fn bare_round_trip()
     ensures { BareRoundTrip }
 {
     images_are_bare_streams();
+    bare_streams_are_read();
 }
