@@ -1,18 +1,16 @@
 -- What comes back of a bare stream is the image.
-use Rattle.std.proofs.Common.{◌≡◌, ℕ, ℤ, List, [], ◌++◌, refl, sym, ap, subst, ◌∙◌}
+use Rattle.std.proofs.Common.{◌≡◌, ℕ, ℤ, List, [], sym, ap, subst, ◌∙◌}
 use Rattle.std.specs.Prelude.{Option, None, Some, Result, Ok, Err}
 use Rattle.std.proofs.lemmas.List.{append-nil}
-use Rattle.port_122.specs.Outside.{Outside}
 use Rattle.base_122.specs.declared.geometry.Geometry.{Geometry}
 use Rattle.base_122.specs.declared.setting.Setting.{Setting}
-use Rattle.base_122.specs.declared.wish.DecodeWish.{DecodeWish}
 use Rattle.bare_stream.specs.declared.fault.BareFault.{BareFault}
 use Rattle.bare_stream.specs.declared.fault.BareFault.TheVariants.{ReadFault, WriteFault, LongInput, Memory, TooManyPixels, Refused}
 use Rattle.bare_stream.specs.Bare.{bare}
 use Rattle.bare_stream.specs.BareStream.{BareStream}
-use Rattle.bare_stream.specs.Decoded.{DecodesBare, StreamThen, rows_of_read}
-use Rattle.bare_stream.specs.Images.{IsBareImage, SaysImage, ImagesAreBareStreams, bare_geometry, image_segments}
-use Rattle.bare_stream.specs.RoundTrip.{ReadsWhole, StreamsAreRead, GivesImage, GivesBack, BareRoundTrip}
+use Rattle.bare_stream.specs.Decoded.{StreamThen, rows_of_read}
+use Rattle.bare_stream.specs.Images.{IsBareImage, SaysImage, ImagesAreBareStreams, bare_geometry}
+use Rattle.bare_stream.specs.RoundTrip.{ReadsWhole, StreamsAreRead, GivesImage, AnswersImage, BareRoundTrip}
 use Rattle.bare_stream.specs.SegmentsRead.{SegmentsRead, all_rows, rows_with}
 use Rattle.bare_stream.proofs.ImagePictures.{picture_is}
 
@@ -29,7 +27,7 @@ module _ (streams : ImagesAreBareStreams) (s : Setting) (x : ℕ → ℕ → ℤ
 
 -- what was given of its stream
 module _ (streams : ImagesAreBareStreams) (s : Setting) (x : ℕ → ℕ → ℤ) (is : IsBareImage s x) (gave : List ℕ) (w : List (List (List ℤ))) (says : SaysImage s x w) where
-  gives_back : (result : Result Geometry BareFault) → ReadsWhole (bare_geometry s) w gave result → GivesBack s x gave result
+  gives_back : (result : Result Geometry BareFault) → ReadsWhole (bare_geometry s) w gave result → AnswersImage s x gave result
   gives_back (Ok g) whole = record { geometry = whole.0; same = λ sends. whole.1 ∙ ap (all_rows (bare_geometry s)) (says.exact sends) ∙ picture_is s x is }
   gives_back (Err ReadFault) whole = tt
   gives_back (Err WriteFault) whole = tt

@@ -11,10 +11,10 @@ use Rattle.base_122.specs.declared.setting.Setting.{Setting}
 use Rattle.base_122.proofs.SizeBounds.{three-le-block_count, nine-le-total_blocks, one-le-segment_blocks}
 use Rattle.segment_defs.specs.declared.head.SegmentHead.{SegmentHead}
 use Rattle.stream_defs.specs.Output.{head_for, image_blocks, image_part, segment_of, segments_of}
-use Rattle.bare_text.specs.Agreement.{columns, blocks_before, blocks_agree, last_agrees, height_at}
+use Rattle.bare_text.specs.Agreement.{blocks_before, blocks_agree, last_agrees, height_at}
 use Rattle.bare_stream.specs.BareStream.{AgreesWith, geometry_at}
 use Rattle.bare_stream.specs.Images.{bare_geometry}
-use Rattle.bare_stream.proofs.Agrees.{Agrees, all_agree, so_both, is_le, is_lt, is_equal, same_flag, same_number, same_image}
+use Rattle.bare_stream.proofs.Agrees.{all_agree, so_both, is_le, is_lt, is_equal, same_flag, same_number, same_image}
 use Rattle.bare_stream.proofs.SegmentCounts.{whole_before, room_before, few_last, all_blocks, least_first, least_is}
 
 module _ (s : Setting) (x : ℕ → ℕ → ℤ) (range : IsInRange s) (height : IsWithin rows_range s.rows)

@@ -1,19 +1,16 @@
 -- The octets that are written for an image are a bare stream.
-use Rattle.std.proofs.Common.{◌≡◌, ◌≤◌, ◌<◌, ◌+◌, ◌-◌, ◌*◌, ◌%◌, ◌==◌, ◌⊎◌, ℕ, zero, suc, ℤ, List, [], ◌∷◌, ◌++◌, length, map, get_or, true, false, refl, sym, ap, subst, ◌∙◌, inl, inr, arith, append_assoc}
+use Rattle.std.proofs.Common.{◌≡◌, ◌≤◌, ◌<◌, ◌+◌, ◌*◌, ◌%◌, ◌==◌, ◌⊎◌, ℕ, zero, suc, ℤ, List, [], ◌∷◌, ◌++◌, map, true, false, refl, sym, ap, subst, ◌∙◌, inl, inr, arith, append_assoc}
 use Rattle.std.specs.Prelude.{Some, if◌then◌else◌}
 use Rattle.std.specs.List.{range_with_len, flat_map}
 use Rattle.std.proofs.lemmas.Bool.{cases_lt}
 use Rattle.std.proofs.lemmas.Bool.Decides.{nat_tests}
-use Rattle.std.proofs.lemmas.List.{append-nil}
 use Rattle.std.proofs.lemmas.List.FromFn.{get_or-map-range_with_len, length-map-range_with_len}
 use Rattle.base_122.specs.Ranges.{IsWithin, rows_range}
-use Rattle.base_122.specs.declared.geometry.Geometry.{Geometry}
 use Rattle.base_122.specs.declared.setting.Setting.{Setting}
 use Rattle.base_122.specs.Sizes.{total_blocks}
 use Rattle.base_122.proofs.SizeBounds.{total-le-segments, nine-le-total_blocks}
 use Rattle.segment_defs.specs.declared.head.SegmentHead.{SegmentHead}
 use Rattle.segment_defs.specs.Head.{IsHead}
-use Rattle.segment_code.specs.Laws.{HasNoStop}
 use Rattle.stream_defs.specs.Output.{head_for, image_blocks, segment_of, segments_of, used_before}
 use Rattle.stream_defs.proofs.ShareLaws.{share_none}
 use Rattle.strip_decoder.specs.RoundTrip.{SendsAll}
@@ -22,13 +19,13 @@ use Rattle.bare_text.specs.declared.parts.PartsInForce.{PartsInForce}
 use Rattle.bare_text.specs.InForce.{none_in_force}
 use Rattle.bare_text.specs.Laws.{BareHeadsUndo, BareTextsHold, HoldsText, in_force, bare_head}
 use Rattle.bare_stream.specs.Bare.{bare, first_texts, head_before, segment_octets}
-use Rattle.bare_stream.specs.BareStream.{AgreesWith, IsText, TextThen, TextsFrom, StartsWith, BareStream, BareStreamsEndThere, geometry_at}
-use Rattle.bare_stream.specs.Images.{IsBareImage, SaysImage, ImagesAreBareStreams, IsSegmentText, bare_geometry, image_segments}
+use Rattle.bare_stream.specs.BareStream.{AgreesWith, TextsFrom, StartsWith, BareStream, BareStreamsEndThere}
+use Rattle.bare_stream.specs.Images.{IsBareImage, SaysImage, ImagesAreBareStreams, IsSegmentText, bare_geometry}
 use Rattle.bare_stream.proofs.Counts.{rows_in}
 use Rattle.bare_stream.proofs.ImageHeads.{heads_agree, geometry_is}
 
 -- lists over a range, where the functions are the same
-pub map_alike : {A : Type 0} (f g : ℕ → A) (a n : ℕ) → ((k : ℕ) → a ≤ k → k < a + n → f k ≡ g k) → map f (range_with_len a n) ≡ map g (range_with_len a n)
+map_alike : {A : Type 0} (f g : ℕ → A) (a n : ℕ) → ((k : ℕ) → a ≤ k → k < a + n → f k ≡ g k) → map f (range_with_len a n) ≡ map g (range_with_len a n)
 map_alike f g a zero same = refl
 map_alike f g a (suc n) same =
     ap (λ z. z ∷ map f (range_with_len (a + 1) n)) (same a (omega arith) (omega arith))

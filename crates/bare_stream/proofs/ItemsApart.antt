@@ -1,5 +1,5 @@
 -- Octets that hold the items of a text are not refused, and lack nothing.
-use Rattle.std.proofs.Common.{◌≡◌, ◌⊎◌, ℕ, ◌+◌, ◌*◌, ◌/◌, ◌<◌, ◌≤◌, inl, inr, Bool, cond, List, [], ◌∷◌, ◌++◌, length, take, refl, sym, ap, ◌∙◌, subst, arith, ℤ, append_assoc, length-append}
+use Rattle.std.proofs.Common.{◌≡◌, ◌⊎◌, ℕ, ◌+◌, ◌*◌, ◌/◌, ◌<◌, inl, inr, Bool, cond, List, [], ◌∷◌, ◌++◌, length, take, refl, sym, ap, ◌∙◌, subst, arith, ℤ, append_assoc, length-append}
 use Rattle.std.proofs.lemmas.Bool.{cases_lt}
 use Rattle.std.proofs.lemmas.List.{append-nil}
 use Rattle.std.proofs.Math.Seq.{take-length}
@@ -19,7 +19,7 @@ use Rattle.text_defs.proofs.SegmentAlike.{segment_alike}
 use Rattle.segment_code.specs.ItemsHeld.{wanted_octets, AreAll, HoldsItems, RefusesItem, LacksItems}
 use Rattle.bare_stream.proofs.StreamEnds.{two_fronts}
 
-none_long : (l : List ℕ) → length l ≡ 0 → l ≡ []
+pub none_long : (l : List ℕ) → length l ≡ 0 → l ≡ []
 none_long [] e = refl
 none_long (x ∷ l) e = absurd (omega (arith, e))
 

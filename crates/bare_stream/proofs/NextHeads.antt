@@ -120,8 +120,16 @@ module _ {X : Type 0} (outside : X → Outside) (wish : DecodeWish) (start : Out
       (λ all told.
       let f = front_read all told in
       read_then outside wish start r front t read before (λ first index b rest. HeadThen b rest (λ head size more. AgreesWith (unwrap_or first head) index head × (pixels ≡ pixels_at (unwrap_or first head) index head) × (wish.pixels < pixels))) (force all told)
-      (record { front = front; rest = waiting t; head = head; parts = refl; read = f.0; whole = f.1; goes_on = subst (λ k. AgreesWith k (length r.texts) head × (pixels ≡ pixels_at k (length r.texts) head) × (wish.pixels < pixels)) first_head
-          (subst (λ n. AgreesWith r.first n head × (pixels ≡ pixels_at r.first n head) × (wish.pixels < pixels)) is x) }))
+      (record {
+        front = front;
+        rest = waiting t;
+        head = head;
+        parts = refl;
+        read = f.0;
+        whole = f.1;
+        goes_on = subst (λ k. AgreesWith k (length r.texts) head × (pixels ≡ pixels_at k (length r.texts) head) × (wish.pixels < pixels)) first_head
+            (subst (λ n. AgreesWith r.first n head × (pixels ≡ pixels_at r.first n head) × (wish.pixels < pixels)) is x);
+      }))
   check_faulted (Refused i (Head fault)) x =
       ended_at outside wish start r front t read (Err (Refused i (Head fault))) read.gave_is tt
       (λ all told.

@@ -1,6 +1,6 @@
 -- The next text of a bare stream isn't refused.
-use Rattle.std.proofs.Common.{◌≡◌, ◌⊎◌, ◌≤◌, ◌<◌, ◌+◌, ◌*◌, ◌==◌, ℕ, ℤ, List, [], ◌∷◌, ◌++◌, length, take, inl, inr, refl, sym, ap, ◌∙◌, subst, arith, append_assoc, length-append}
-use Rattle.std.specs.Prelude.{Bool, true, false, not, nat_lt, if◌then◌else◌, Option, None, Some, Result, Ok, Err, unwrap_or}
+use Rattle.std.proofs.Common.{◌≡◌, ◌≤◌, ◌<◌, ◌+◌, ◌*◌, ◌==◌, ℕ, List, [], ◌∷◌, ◌++◌, length, take, inl, inr, refl, sym, ap, ◌∙◌, subst, arith, append_assoc, length-append}
+use Rattle.std.specs.Prelude.{Bool, true, false, nat_lt, if◌then◌else◌, Option, None, Some, Result, Ok, Err, unwrap_or}
 use Rattle.std.proofs.lemmas.Bool.Decides.{nat_tests}
 use Rattle.std.proofs.lemmas.List.{append-nil, append_cancel_left, take-append-le}
 use Rattle.port_122.specs.Outside.{Outside, AtEnd, IsUsedUp}
@@ -24,7 +24,7 @@ use Rattle.bare_stream.specs.declared.fault.BareCause.TheVariants.{Head, BadOpti
 use Rattle.bare_stream.specs.BareStream.{AgreesWith}
 use Rattle.bare_stream.specs.Decoded.{DecidesHead, HeadThen, HeadRefused, ItemRefused, MayFollow, Refuses}
 use Rattle.bare_stream.specs.SegmentsRead.{pixels_at}
-use Rattle.bare_stream.proofs.ItemsApart.{held_not_refused, held_not_lacking}
+use Rattle.bare_stream.proofs.ItemsApart.{none_long, held_not_refused, held_not_lacking}
 use Rattle.bare_stream.proofs.StreamEnds.{two_fronts, ok_one}
 use Rattle.bare_stream.proofs.StreamFollowed.{NextText}
 
@@ -43,10 +43,6 @@ fault_one f h e = cc
 
 none_some : {A : Type 0} (a : A) (o : Option A) → o ≡ None → o ≡ Some a → ⊥
 none_some a o e f = absurd cc
-
-none_long : (l : List ℕ) → length l ≡ 0 → l ≡ []
-none_long [] e = refl
-none_long (x ∷ l) e = absurd (omega (arith, e))
 
 least_octets : (octets : List ℕ) → 3 ≤ bare_length octets
 least_octets octets = let three = by (is_set octets 1) in omega (arith, three)

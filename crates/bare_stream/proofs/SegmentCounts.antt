@@ -1,12 +1,11 @@
 -- The numbers of blocks of the segments.
-use Rattle.std.proofs.Common.{◌≡◌, ◌≤◌, ◌<◌, ◌+◌, ◌-◌, ◌*◌, ◌/◌, ◌%◌, ◌==◌, ℕ, zero, suc, refl, sym, ap, ◌∙◌, inl, inr, min, arith}
+use Rattle.std.proofs.Common.{◌≡◌, ◌≤◌, ◌<◌, ◌+◌, ◌*◌, ◌/◌, ◌%◌, ◌==◌, ℕ, zero, suc, refl, sym, ap, ◌∙◌, inl, inr, min, arith}
 use Rattle.std.specs.Prelude.{Bool, true, false, nat_le, ◌||◌}
-use Rattle.std.proofs.Math.Nat.{mul-le-mul_right}
 use Rattle.std.proofs.lemmas.Bool.{cases_lt}
 use Rattle.std.proofs.lemmas.Bool.Decides.{nat_tests}
 use Rattle.std.proofs.lemmas.Nat.{div-add-mod', mod_below, div_below}
-use Rattle.base_122.specs.Sizes.{block_count, padded_size, total_blocks, first_block, segment_blocks, segment_count}
-use Rattle.base_122.proofs.SizeBounds.{first_block-lt, total-le-segments, segment_blocks-whole, segment_count-one}
+use Rattle.base_122.specs.Sizes.{segment_blocks, segment_count}
+use Rattle.base_122.proofs.SizeBounds.{first_block-lt, total-le-segments, segment_blocks-whole}
 
 or_true : (b : Bool) → (b || true) ≡ true
 or_true true = refl

@@ -1,6 +1,6 @@
 -- A reader that has read some texts of a bare stream goes on with the next.
-use Rattle.std.proofs.Common.{◌≡◌, ◌≤◌, ◌<◌, ◌+◌, ◌-◌, ◌*◌, ◌/◌, ◌%◌, ◌==◌, ℕ, ℤ, List, [], ◌∷◌, ◌++◌, length, refl, sym, ap, ◌∙◌, subst, arith, append_assoc}
-use Rattle.std.specs.Prelude.{Bool, true, false, min, max, if◌then◌else◌}
+use Rattle.std.proofs.Common.{◌≡◌, ◌≤◌, ◌<◌, ◌+◌, ◌-◌, ◌*◌, ◌/◌, ◌%◌, ℕ, ℤ, List, [], ◌∷◌, ◌++◌, length, sym, ap, ◌∙◌, subst, arith, append_assoc}
+use Rattle.std.specs.Prelude.{max, if◌then◌else◌}
 use Rattle.std.specs.Int.{div_ceil}
 use Rattle.std.specs.List.{concat}
 use Rattle.std.proofs.lemmas.Grind.{div_ceil_times}
@@ -11,17 +11,15 @@ use Rattle.base_122.specs.Sizes.{block_count}
 use Rattle.base_122.specs.declared.geometry.Geometry.{Geometry}
 use Rattle.base_122.proofs.SizeBounds.{three-le-block_count}
 use Rattle.segment_defs.specs.declared.head.SegmentHead.{SegmentHead}
-use Rattle.segment_defs.specs.Head.{IsHead}
 use Rattle.segment_code.specs.Laws.{ItemsEndThere}
 use Rattle.stream_defs.specs.Begun.{rows_reached}
 use Rattle.bare_text.specs.declared.parts.PartsInForce.{PartsInForce}
 use Rattle.bare_text.specs.Agreement.{blocks_before, height_at}
-use Rattle.bare_text.specs.InForce.{none_in_force}
 use Rattle.bare_text.specs.Laws.{BareHeadsEndThere}
-use Rattle.bare_stream.specs.BareStream.{AgreesWith, IsText, TextThen, TextsFrom, StartsWith, BareStream, geometry_at}
-use Rattle.bare_stream.specs.SegmentsRead.{AreTexts, AgreeingText, BeginsSo, open_geometry, pixels_at}
+use Rattle.bare_stream.specs.BareStream.{AgreesWith, IsText, TextsFrom, geometry_at}
+use Rattle.bare_stream.specs.SegmentsRead.{AreTexts, open_geometry, pixels_at}
 use Rattle.bare_stream.proofs.Agrees.{ends, goes_on, pixels_last}
-use Rattle.bare_stream.proofs.StreamEnds.{one_text, one_first, clash}
+use Rattle.bare_stream.proofs.StreamEnds.{one_text, clash}
 
 -- ---- what is left of a stream
 
@@ -145,16 +143,17 @@ module _ (heads : BareHeadsEndThere) (items : ItemsEndThere) (first : SegmentHea
           is = a.is;
           agrees = a.agrees;
           few = (
-            let n = blocks_before first index + a.head.blocks in
-            let e : pixels_at first index a.head ≡ first.image.width * max 17 (8 * div_ceil n columns - 7) =
-            ap (λ t. first.image.width * rows_reached (if t then geometry_at first index a.head else open_geometry first) n) a.goes_on.0 in
-            let rows = reached n next.0 columns g.rows some here all.whole all.tall all.least in
-            let most : first.image.width * max 17 (8 * div_ceil n columns - 7) ≤ first.image.width * g.rows = mul-le-mul_left first.image.width rows in
-            let wide : g.width * g.rows ≡ first.image.width * g.rows = ap (λ k. k * g.rows) all.wide in
-            omega (arith, e, most, wide)
-          );
+              let n = blocks_before first index + a.head.blocks in
+              let e : pixels_at first index a.head ≡ first.image.width * max 17 (8 * div_ceil n columns - 7) =
+              ap (λ t. first.image.width * rows_reached (if t then geometry_at first index a.head else open_geometry first) n) a.goes_on.0 in
+              let rows = reached n next.0 columns g.rows some here all.whole all.tall all.least in
+              let most : first.image.width * max 17 (8 * div_ceil n columns - 7) ≤ first.image.width * g.rows = mul-le-mul_left first.image.width rows in
+              let wide : g.width * g.rows ≡ first.image.width * g.rows = ap (λ k. k * g.rows) all.wide in
+              omega (arith, e, most, wide)
+              );
         },
       )
+
   pub next_text : (before : PartsInForce) (index : ℕ) (octets : List ℕ) (w : List (List (List ℤ))) → TextsFrom first g before index octets w → NextText first g before index octets
   next_text before index octets [] a = absurd a
   next_text before index octets (v ∷ w) a = (all_later before index octets v w a).2

@@ -1,5 +1,5 @@
 -- A bare stream within the caps is read whole.
-use Rattle.std.proofs.Common.{◌≡◌, ◌≤◌, ◌<◌, ◌+◌, ◌*◌, ℕ, ℤ, List, [], ◌∷◌, ◌++◌, length, refl, sym, ap, ◌∙◌, subst, arith, append_assoc, length-append}
+use Rattle.std.proofs.Common.{◌≡◌, ◌≤◌, ◌<◌, ◌+◌, ℕ, ℤ, List, [], ◌∷◌, ◌++◌, length, refl, sym, ap, ◌∙◌, subst, arith, append_assoc, length-append}
 use Rattle.std.specs.Prelude.{Option, None, Some, Result, Ok, Err, unwrap_or}
 use Rattle.std.specs.List.{concat}
 use Rattle.std.proofs.lemmas.List.{append-nil}
@@ -17,7 +17,7 @@ use Rattle.bare_stream.specs.declared.fault.BareCause.TheVariants.{Head, BadOpti
 use Rattle.bare_stream.specs.declared.fault.BareFault.{BareFault}
 use Rattle.bare_stream.specs.declared.fault.BareFault.TheVariants.{ReadFault, WriteFault, LongInput, Memory, TooManyPixels, Refused}
 use Rattle.bare_stream.specs.BareStream.{AgreesWith, BareStream, BareStreamsEndThere, StartsWith}
-use Rattle.bare_stream.specs.Decoded.{BareReasons, DecodesBare, EndsSo, GivesRead, HeadThen, ReadThen, Refuses, StreamThen, first_of, rows_of_read}
+use Rattle.bare_stream.specs.Decoded.{BareReasons, EndsSo, GivesRead, HeadThen, ReadThen, Refuses, StreamThen, first_of, rows_of_read}
 use Rattle.bare_stream.specs.RoundTrip.{IsWithinCaps, ReadsWhole, StreamsAreRead}
 use Rattle.bare_stream.specs.SegmentsRead.{SegmentsRead, AreTexts, BeginsSo, all_rows, pixels_at, rows_with}
 use Rattle.bare_stream.proofs.RefusedNot.{not_many, not_refused}

@@ -42,12 +42,12 @@ pub record GivesImage (s : Setting) (x : ℕ → ℕ → ℤ) (gave : List ℕ) 
   pub same : SendsAll s → gave ≡ raster_octets s.depth s.rows s.width x
 
 -- or the port or the memory failed
-abbrev pub GivesBack : Setting → (ℕ → ℕ → ℤ) → (gave : List ℕ) → Result Geometry BareFault → Type 0
-GivesBack s x gave (Ok g) = GivesImage s x gave g
-GivesBack s x gave (Err ReadFault) = Unit {0}
-GivesBack s x gave (Err WriteFault) = Unit {0}
-GivesBack s x gave (Err Memory) = Unit {0}
-GivesBack s x gave (Err other) = ⊥
+abbrev pub AnswersImage : Setting → (ℕ → ℕ → ℤ) → (gave : List ℕ) → Result Geometry BareFault → Type 0
+AnswersImage s x gave (Ok g) = GivesImage s x gave g
+AnswersImage s x gave (Err ReadFault) = Unit {0}
+AnswersImage s x gave (Err WriteFault) = Unit {0}
+AnswersImage s x gave (Err Memory) = Unit {0}
+AnswersImage s x gave (Err other) = ⊥
 
 -- The picture of an image's segments is the image. So a decoder that took the octets that are written for an image, and nothing else, gives
 -- its raster, if nothing was left out; and if an input is these octets, within the caps, it is so unless the port or the memory fails.
@@ -56,4 +56,4 @@ pub record BareRoundTrip : Type 0 where
   pub decoded : (wish : DecodeWish) (old new : Outside) (g : Geometry) (left : List ℕ) (s : Setting) (x : ℕ → ℕ → ℤ) (run : DecodesBare wish old new (Ok g)) →
       old.rest ≡ Some left → run.took ≡ bare s x → IsBareImage s x → GivesImage s x run.gave g
   pub answered : (wish : DecodeWish) (old new : Outside) (result : Result Geometry BareFault) (s : Setting) (x : ℕ → ℕ → ℤ) (run : DecodesBare wish old new result) →
-      old.rest ≡ Some (bare s x) → IsBareImage s x → IsWithinCaps wish (bare s x) (bare_geometry s) → GivesBack s x run.gave result
+      old.rest ≡ Some (bare s x) → IsBareImage s x → IsWithinCaps wish (bare s x) (bare_geometry s) → AnswersImage s x run.gave result

@@ -54,8 +54,7 @@ pub const fn images_are_bare_streams()
     bare_streams_end_there();
 }
 
-/// A decoder isn't free to refuse a bare stream: one within the caps is read whole and all its rows are given, unless the port or the
-/// memory fails.
+/// A bare stream within the caps isn't refused: it is read whole and all its rows are given, unless the port or the memory fails.
 pub const fn bare_streams_are_read()
     ensures { StreamsAreRead }
 {
