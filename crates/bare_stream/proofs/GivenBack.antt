@@ -1,4 +1,4 @@
--- What comes back of a bare stream is the image.
+-- The bare stream of an image gives the image back.
 use Rattle.std.proofs.Common.{◌≡◌, ℕ, ℤ, List, [], sym, ap, subst, ◌∙◌}
 use Rattle.std.specs.Prelude.{Option, None, Some, Result, Ok, Err}
 use Rattle.std.proofs.lemmas.List.{append-nil}

@@ -63,7 +63,7 @@ pub const fn bare_streams_are_read()
     bare_streams_end_there();
 }
 
-/// What comes back of an image's bare stream is the image: a decoder that takes it gives the raster, if nothing is left out.
+/// The bare stream of an image gives the image back: a decoder that takes it gives the raster, if nothing is left out.
 pub const fn bare_round_trip()
     ensures { BareRoundTrip }
 {
