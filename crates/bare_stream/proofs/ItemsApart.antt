@@ -23,7 +23,7 @@ pub none_long : (l : List ℕ) → length l ≡ 0 → l ≡ []
 none_long [] e = refl
 none_long (x ∷ l) e = absurd (omega (arith, e))
 
--- a front of octets is one of more octets
+-- items with which octets begin are those with which more octets begin
 further : {items : List Item} {m : ℕ} {left : List Bool} (rest more : List ℕ) → Front items m (bits_of_octets rest) left → Front items m (bits_of_octets (rest ++ more)) (left ++ bits_of_octets more)
 further {items} {m} {left} rest more p = record {
   within = p.within;
