@@ -1,7 +1,6 @@
-use Rattle.std.proofs.Common.{◌∙◌, sym, ap, arith}
+use Rattle.std.proofs.Common.{◌∙◌, sym, arith}
 use Rattle.std.proofs.lemmas.Result.{err_from_is_err_and}
 use Rattle.plane_defs.specs.Entries.{all_quads}
-use Rattle.block_masks.specs.declared.gaggle.Gaggle.{Gaggle}
 use Rattle.plane_coder.proofs.Speaking.{silent_load, spells_said}
 use Rattle.plane_coder.proofs.Spelling.{spells_both, spells_cut}
 use Rattle.plane_coder.proofs.put.put_grandchildren.Goals as goal
