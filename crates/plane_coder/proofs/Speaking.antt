@@ -6,6 +6,7 @@ use Rattle.plane_defs.specs.Spans.{span}
 use Rattle.plane_defs.proofs.SpanLists.{flat_map-span-suc, flat_map-span-none}
 use Rattle.item_defs.specs.Bits.{bits_of}
 use Rattle.item_defs.specs.Items.{item_bits, text}
+use Rattle.item_defs.proofs.NumberBits.{bits_none}
 use Rattle.item_defs.proofs.Texts.{text-append}
 use Rattle.bit_pipe.specs.Sinks.{SinkOf}
 use Rattle.bit_pipe.specs.Standing.{Standing, IsOpen, Puts}
@@ -75,12 +76,27 @@ speaks_if_not {book} a xs most not_so = subst (λ b. Speaks book a a (cond b xs 
 pub speaks_if : {book : Book} {a c : Speech} {b : Bool} {xs ys : List Entry} {most : ℕ} → b ≡ true → xs ≡ ys → Speaks book a c xs most → Speaks book a c (cond b ys []) most
 speaks_if {book} {a} {c} {b} {xs} {ys} {most} so same p = subst (λ b. Speaks book a c (cond b ys []) most) (sym so) (subst (λ l. Speaks book a c l most) same p)
 
+-- where no bits wait, nothing is said
+pub silent_said : (a : Speech) → a.count ≡ 0 → said a ≡ []
+silent_said a silent = ap (λ n. bits_of n a.value) silent ∙ bits_none a.value
+
+one_less : (b : Bool) (n : ℕ) → (if b then 0 else n) ≤ n
+one_less true n = omega arith
+one_less false n = omega arith
+
+few_unopened : (sent : List Bool) → unopened sent ≤ 5
+few_unopened sent = omega (arith, one_less (get_or sent 0 false) 1, one_less (get_or sent 1 false) 2, one_less (get_or sent 2 false) 2)
+
+-- and only identifiers may come
+pub silent_load : (a : Speech) → a.count ≡ 0 → load a ≤ 5
+silent_load a silent = omega (arith, silent, few_unopened a.gaggle.sent)
+
 -- what was said from nothing on, and put
-pub spells_said : {S : Type 0} {k : SinkOf S} {book : Book} {g : Gaggle} {a b : Speech} {r : Result (Unit {0}) PutFault} {s t : Standing S} {xs : List Entry} (most : ℕ) →
-    IsOpen s → a.gaggle ≡ g → said a ≡ [] → Speaks book a b xs most → Puts k r s t (said b) → Spells k book g b.gaggle r s t xs
-spells_said {S} {k} {book} {g} {a} {b} {r} {s} {t} {xs} most opened same empty p put =
-    subst (λ h. Spells k book h b.gaggle r s t xs) same record {
-      puts = λ before agrees. subst (λ l. Puts k r s t l) (p.bits before agrees ∙ ap (λ l. l ++ text (spelled_after book a.gaggle.options before xs)) empty) put;
+pub spells_said : {S : Type 0} {k : SinkOf S} {book : Book} {a b : Speech} {g : Gaggle} {r : Result (Unit {0}) PutFault} {s t : Standing S} {xs : List Entry} (most : ℕ) →
+    IsOpen s → a.count ≡ 0 → Speaks book a b xs most → Puts k r s t (said b) → g ≡ b.gaggle → Spells k book a.gaggle g r s t xs
+spells_said {S} {k} {book} {a} {b} {g} {r} {s} {t} {xs} most opened silent p put same =
+    subst (λ h. Spells k book a.gaggle h r s t xs) (sym same) record {
+      puts = λ before agrees. subst (λ l. Puts k r s t l) (p.bits before agrees ∙ ap (λ l. l ++ text (spelled_after book a.gaggle.options before xs)) (silent_said a silent)) put;
       agrees = λ before agrees. on_ok r (p.agrees before agrees);
       is_open = puts_open r s t (said b) opened put;
       options = p.options;

@@ -3,6 +3,7 @@ use Rattle.std.specs.Prelude.{ℕ, ℤ, List}
 use Rattle.wave_defs.specs.Held.{blocks_in}
 use Rattle.plane_defs.specs.Planes.{Plane}
 use Rattle.block_masks.specs.declared.plan.PlanePlan.{PlanePlan}
+use Rattle.plane_coder.specs.declared.plane.Source.{Source}
 use Rattle.plane_coder.specs.declared.view.View.{View}
 
 -- with the blocks' depths as the marks tell them
@@ -17,4 +18,13 @@ plane_in view depths = record {
   weights = view.plan.now.weights.shifts;
   number = view.plan.now.plane;
   q = view.plan.now.q;
+}
+
+abbrev pub plane_from : Source → List ℕ → Plane
+plane_from source depths = record {
+  blocks = blocks_in source.blocks.now;
+  depths = depths;
+  weights = source.plan.now.weights.shifts;
+  number = source.plan.now.plane;
+  q = source.plan.now.q;
 }

@@ -41,15 +41,14 @@ fn deep_masks(block: &[i32], depth: u8, plane: u8) -> Option<Masks>
     Some(Masks::new(block, plane))
 }
 
-// The masks of the first blocks of a segment, where they are deep enough.
-pub(crate) fn first_masks(blocks: &[i32], marks: &[i32], plane: u8) -> [Option<Masks>; 64]
+// Keeps the masks of the first blocks of a segment, of as many as there is room for, where they are deep enough.
+pub(crate) fn keep_masks(blocks: &[i32], marks: &[i32], plane: u8, kept: &mut [Option<Masks>])
     requires whole { length blocks.now ≡ 64 * length marks.now }
     requires low { plane < 30 }
-    ensures { AreKept blocks.now plane result }
+    requires fresh { AreKept blocks.now plane kept.old }
+    ensures { AreKept blocks.now plane kept.new }
 {
-    let mut kept = [None; 64];
-    for r in 0..marks.len().min(64) {
+    for r in 0..marks.len().min(kept.len()) {
         kept[r] = deep_masks(&blocks[64 * r..64 * r + 64], depth_of(marks[r]), plane);
     }
-    kept
 }

@@ -6,10 +6,11 @@ ghost use Rattle.bit_pipe.specs.Standing.{Puts, IsReady, Writes};
 ghost use Rattle.plane_defs.specs.Codes.{is_book_sound};
 ghost use Rattle.plane_defs.specs.Marks.{depths_of};
 ghost use Rattle.plane_coder.specs.Sends.{chosen_items};
-ghost use Rattle.plane_coder.specs.Views.{plane_of, plane_in};
+ghost use Rattle.plane_coder.specs.Viewed.{AreKept};
+ghost use Rattle.plane_coder.specs.Views.{plane_of, plane_in, plane_from};
 
 use crate::choose::choose_all;
-use crate::masks::first_masks;
+use crate::masks::{Masks, keep_masks};
 use crate::stages::put_stage;
 use crate::tables::CodeTables;
 use crate::view::View;
@@ -35,6 +36,91 @@ fn put_stages<O: OctetOut>(
         put_stage(out, number, view, marks)?;
     }
     Ok(())
+}
+
+// What is put of a plane: its blocks, the plan that all of them have, the codes and the last stage.
+#[derive(Drop)]
+pub(crate) struct Source<'a> {
+    pub blocks: &'a [i32],
+    pub plan: &'a CodedPlane,
+    pub tables: &'a CodeTables,
+    pub last: u8,
+}
+
+// Puts a plane, and keeps the masks of as many blocks as there is room for, where none are kept yet.
+fn put_kept<O: OctetOut>(
+    out: &mut BitOut<O>,
+    source: &Source,
+    marks: &mut [i32],
+    kept: &mut [Option<Masks>],
+) -> Result<(), PutFault>
+    requires open { IsReady O.sink out.old }
+    requires whole { length source.now.blocks.now ≡ 64 * length marks.old }
+    requires last { source.now.last ≤ 4 }
+    requires fresh { AreKept source.now.blocks.now source.now.plan.now.plane kept.old }
+    ensures puts { Writes O.sink result out.old out.new (text (chosen_items source.now.tables.now.book (plane_from source.now (depths_of marks.old)) source.now.last)) }
+    ensures depths { depths_of marks.new ≡ depths_of marks.old }
+{
+    keep_masks(source.blocks, marks, source.plan.plane, kept);
+    let view = View {
+        blocks: source.blocks,
+        plan: source.plan,
+        tables: source.tables,
+        kept,
+    };
+    put_stages(out, &view, marks, source.last)
+}
+
+// Puts a plane of up to 64 blocks.
+#[inline(never)]
+fn put_few<O: OctetOut>(
+    out: &mut BitOut<O>,
+    source: &Source,
+    marks: &mut [i32],
+) -> Result<(), PutFault>
+    requires open { IsReady O.sink out.old }
+    requires whole { length source.now.blocks.now ≡ 64 * length marks.old }
+    requires last { source.now.last ≤ 4 }
+    ensures puts { Writes O.sink result out.old out.new (text (chosen_items source.now.tables.now.book (plane_from source.now (depths_of marks.old)) source.now.last)) }
+    ensures depths { depths_of marks.new ≡ depths_of marks.old }
+{
+    let mut kept = [None; 64];
+    put_kept(out, source, marks, &mut kept)
+}
+
+// Puts a plane of more blocks. The room for masks is 16 kB.
+#[inline(never)]
+fn put_some<O: OctetOut>(
+    out: &mut BitOut<O>,
+    source: &Source,
+    marks: &mut [i32],
+) -> Result<(), PutFault>
+    requires open { IsReady O.sink out.old }
+    requires whole { length source.now.blocks.now ≡ 64 * length marks.old }
+    requires last { source.now.last ≤ 4 }
+    ensures puts { Writes O.sink result out.old out.new (text (chosen_items source.now.tables.now.book (plane_from source.now (depths_of marks.old)) source.now.last)) }
+    ensures depths { depths_of marks.new ≡ depths_of marks.old }
+{
+    let mut kept = [None; 512];
+    put_kept(out, source, marks, &mut kept)
+}
+
+// Puts a plane of many blocks, of which the first 4,096 have their masks kept. The room for masks is 128 kB, which smaller segments
+// don't fill with nothing for each plane.
+#[inline(never)]
+fn put_many<O: OctetOut>(
+    out: &mut BitOut<O>,
+    source: &Source,
+    marks: &mut [i32],
+) -> Result<(), PutFault>
+    requires open { IsReady O.sink out.old }
+    requires whole { length source.now.blocks.now ≡ 64 * length marks.old }
+    requires last { source.now.last ≤ 4 }
+    ensures puts { Writes O.sink result out.old out.new (text (chosen_items source.now.tables.now.book (plane_from source.now (depths_of marks.old)) source.now.last)) }
+    ensures depths { depths_of marks.new ≡ depths_of marks.old }
+{
+    let mut kept = [None; 4096];
+    put_kept(out, source, marks, &mut kept)
 }
 
 /// Puts a bit plane of a segment up to the plan's last stage (docs/formats.md, "Bit planes" and "Words
@@ -80,11 +166,15 @@ pub fn put_plane_with<O: OctetOut>(
     ensures depths { depths_of marks.new ≡ depths_of marks.old }
 {
     let coded = CodedPlane::new(plan);
-    let view = View {
+    let source = Source {
         blocks,
         plan: &coded,
         tables,
-        kept: first_masks(blocks, marks, plan.plane),
+        last: plan.last,
     };
-    put_stages(out, &view, marks, plan.last)
+    match marks.len() {
+        0..=64 => put_few(out, &source, marks),
+        65..=512 => put_some(out, &source, marks),
+        _ => put_many(out, &source, marks),
+    }
 }

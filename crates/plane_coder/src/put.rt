@@ -17,7 +17,7 @@ use crate::speech::Speech;
 use crate::spoken::Spoken;
 use crate::view::View;
 use bit_pipe::{BitOut, OctetOut, PutFault};
-use block_masks::{CodedPlane, Gaggle, Sets, has};
+use block_masks::{CodedPlane, Sets, has};
 use plane_defs::Stage;
 
 // The bit of weight 2^place of a two's complement form.
@@ -52,33 +52,33 @@ fn put_dc_bit<O: OctetOut>(
 
 fn put_parents<O: OctetOut>(
     out: &mut BitOut<O>,
-    gaggle: &mut Gaggle,
+    speech: &mut Speech,
     spoken: &Spoken,
     seen: &Seen,
 ) -> Result<(), PutFault>
     requires open { IsReady O.sink out.old }
-    requires same { spoken.now.options ≡ gaggle.old.options }
-    ensures { Spells O.sink spoken.now.tables.now.book gaggle.old gaggle.new result (stand O.sink out.old) (stand O.sink out.new) (parents seen.now.block.now seen.now.plan.now.weights.shifts seen.now.plan.now.plane) }
+    requires same { spoken.now.options ≡ speech.old.gaggle.options }
+    requires silent { speech.old.count ≡ 0 }
+    ensures spells { Spells O.sink spoken.now.tables.now.book speech.old.gaggle speech.new.gaggle result (stand O.sink out.old) (stand O.sink out.new) (parents seen.now.block.now seen.now.plan.now.weights.shifts seen.now.plan.now.plane) }
+    ensures silent { speech.new.count ≡ 0 }
 {
-    let mut speech = Speech::new(*gaggle);
-    say_parents(&mut speech, spoken, seen);
-    *gaggle = speech.gaggle;
+    say_parents(speech, spoken, seen);
     speech.put(out)
 }
 
 fn put_children<O: OctetOut>(
     out: &mut BitOut<O>,
-    gaggle: &mut Gaggle,
+    speech: &mut Speech,
     spoken: &Spoken,
     seen: &Seen,
 ) -> Result<(), PutFault>
     requires open { IsReady O.sink out.old }
-    requires same { spoken.now.options ≡ gaggle.old.options }
-    ensures { Spells O.sink spoken.now.tables.now.book gaggle.old gaggle.new result (stand O.sink out.old) (stand O.sink out.new) (children seen.now.block.now seen.now.plan.now.weights.shifts seen.now.plan.now.plane) }
+    requires same { spoken.now.options ≡ speech.old.gaggle.options }
+    requires silent { speech.old.count ≡ 0 }
+    ensures spells { Spells O.sink spoken.now.tables.now.book speech.old.gaggle speech.new.gaggle result (stand O.sink out.old) (stand O.sink out.new) (children seen.now.block.now seen.now.plan.now.weights.shifts seen.now.plan.now.plane) }
+    ensures silent { speech.new.count ≡ 0 }
 {
-    let mut speech = Speech::new(*gaggle);
-    say_children(&mut speech, spoken, seen);
-    *gaggle = speech.gaggle;
+    say_children(speech, spoken, seen);
     speech.put(out)
 }
 
@@ -86,7 +86,7 @@ fn put_children<O: OctetOut>(
 #[inline(always)]
 fn put_quads<O: OctetOut>(
     out: &mut BitOut<O>,
-    gaggle: &mut Gaggle,
+    speech: &mut Speech,
     spoken: &Spoken,
     seen: &Seen,
     is_said: bool,
@@ -95,82 +95,82 @@ fn put_quads<O: OctetOut>(
     requires open { IsReady O.sink out.old }
     requires family { i < 3 }
     requires enclosing { is_said ≡ set_significant seen.now.block.now seen.now.plan.now.plane (Grandchildren i) }
-    requires same { spoken.now.options ≡ gaggle.old.options }
-    ensures { Spells O.sink spoken.now.tables.now.book gaggle.old gaggle.new result (stand O.sink out.old) (stand O.sink out.new)
+    requires same { spoken.now.options ≡ speech.old.gaggle.options }
+    requires silent { speech.old.count ≡ 0 }
+    ensures spells { Spells O.sink spoken.now.tables.now.book speech.old.gaggle speech.new.gaggle result (stand O.sink out.old) (stand O.sink out.new)
         (cond is_said (quads seen.now.block.now seen.now.plan.now.weights.shifts seen.now.plan.now.plane i) []) }
+    ensures silent { speech.new.count ≡ 0 }
 {
     if !is_said {
         return Ok(());
     }
-    let mut speech = Speech::new(*gaggle);
-    say_quads(&mut speech, spoken, seen, i);
-    *gaggle = speech.gaggle;
+    say_quads(speech, spoken, seen, i);
     speech.put(out)
 }
 
 #[inline(always)]
 fn put_all_quads<O: OctetOut>(
     out: &mut BitOut<O>,
-    gaggle: &mut Gaggle,
+    speech: &mut Speech,
     spoken: &Spoken,
     seen: &Seen,
     sets: Sets,
 ) -> Result<(), PutFault>
     requires open { IsReady O.sink out.old }
     requires sets { AreSets (significant seen.now.block.now seen.now.plan.now.plane) sets }
-    requires same { spoken.now.options ≡ gaggle.old.options }
-    ensures { Spells O.sink spoken.now.tables.now.book gaggle.old gaggle.new result (stand O.sink out.old) (stand O.sink out.new) (all_quads seen.now.block.now seen.now.plan.now.weights.shifts seen.now.plan.now.plane) }
+    requires same { spoken.now.options ≡ speech.old.gaggle.options }
+    requires silent { speech.old.count ≡ 0 }
+    ensures spells { Spells O.sink spoken.now.tables.now.book speech.old.gaggle speech.new.gaggle result (stand O.sink out.old) (stand O.sink out.new) (all_quads seen.now.block.now seen.now.plan.now.weights.shifts seen.now.plan.now.plane) }
+    ensures silent { speech.new.count ≡ 0 }
 {
     let families = sets.grandchildren;
-    put_quads(out, gaggle, spoken, seen, has(families, 0), 0)?;
-    put_quads(out, gaggle, spoken, seen, has(families, 1), 1)?;
-    put_quads(out, gaggle, spoken, seen, has(families, 2), 2)
+    put_quads(out, speech, spoken, seen, has(families, 0), 0)?;
+    put_quads(out, speech, spoken, seen, has(families, 1), 1)?;
+    put_quads(out, speech, spoken, seen, has(families, 2), 2)
 }
 
 fn put_grandchildren<O: OctetOut>(
     out: &mut BitOut<O>,
-    gaggle: &mut Gaggle,
+    speech: &mut Speech,
     spoken: &Spoken,
     seen: &Seen,
 ) -> Result<(), PutFault>
     requires open { IsReady O.sink out.old }
-    requires same { spoken.now.options ≡ gaggle.old.options }
-    ensures { Spells O.sink spoken.now.tables.now.book gaggle.old gaggle.new result (stand O.sink out.old) (stand O.sink out.new) (grandchildren seen.now.block.now seen.now.plan.now.weights.shifts seen.now.plan.now.plane) }
+    requires same { spoken.now.options ≡ speech.old.gaggle.options }
+    requires silent { speech.old.count ≡ 0 }
+    ensures spells { Spells O.sink spoken.now.tables.now.book speech.old.gaggle speech.new.gaggle result (stand O.sink out.old) (stand O.sink out.new) (grandchildren seen.now.block.now seen.now.plan.now.weights.shifts seen.now.plan.now.plane) }
+    ensures silent { speech.new.count ≡ 0 }
 {
-    let mut speech = Speech::new(*gaggle);
     speech.word(spoken, seen.flags_of_grandchildren());
-    *gaggle = speech.gaggle;
     speech.put(out)?;
-    put_all_quads(out, gaggle, spoken, seen, seen.sets())
+    put_all_quads(out, speech, spoken, seen, seen.sets())
 }
 
 fn put_refinement<O: OctetOut>(
     out: &mut BitOut<O>,
-    gaggle: &mut Gaggle,
+    speech: &mut Speech,
     seen: &Seen,
 ) -> Result<(), PutFault>
     requires open { IsReady O.sink out.old }
-    requires known { AreOptions gaggle.old.options }
-    ensures { (book : BookValue) → Spells O.sink book gaggle.old gaggle.new result (stand O.sink out.old) (stand O.sink out.new) (refinement seen.now.block.now seen.now.plan.now.weights.shifts seen.now.plan.now.plane) }
+    requires silent { speech.old.count ≡ 0 }
+    ensures spells { (book : BookValue) → Spells O.sink book speech.old.gaggle speech.new.gaggle result (stand O.sink out.old) (stand O.sink out.new) (refinement seen.now.block.now seen.now.plan.now.weights.shifts seen.now.plan.now.plane) }
+    ensures silent { speech.new.count ≡ 0 }
 {
     let refined = seen.refined();
-    let mut first = Speech::new(*gaggle);
-    first.raws(seen.refinement(refined, 1, 3));
-    say_refinement(&mut first, seen, refined, 1, 4);
-    say_refinement(&mut first, seen, refined, 4, 8);
-    first.put(out)?;
-    let mut second = Speech::new(first.gaggle);
-    say_refinement(&mut second, seen, refined, 8, 12);
-    say_refinement(&mut second, seen, refined, 12, 16);
-    *gaggle = second.gaggle;
-    second.put(out)
+    speech.raws(seen.refinement(refined, 1, 3));
+    say_refinement(speech, seen, refined, 1, 4);
+    say_refinement(speech, seen, refined, 4, 8);
+    speech.put(out)?;
+    say_refinement(speech, seen, refined, 8, 12);
+    say_refinement(speech, seen, refined, 12, 16);
+    speech.put(out)
 }
 
 // Puts one stage of block r, which has this depth.
 #[inline]
 pub(crate) fn put_block<O: OctetOut>(
     out: &mut BitOut<O>,
-    gaggle: &mut Gaggle,
+    speech: &mut Speech,
     spoken: &Spoken,
     stage: Stage,
     view: &View,
@@ -179,17 +179,19 @@ pub(crate) fn put_block<O: OctetOut>(
 ) -> Result<(), PutFault>
     requires open { IsReady O.sink out.old }
     requires within { 64 * r + 64 ≤ length view.now.blocks.now }
-    requires same { spoken.now.options ≡ gaggle.old.options }
-    ensures { Spells O.sink spoken.now.tables.now.book gaggle.old gaggle.new result (stand O.sink out.old) (stand O.sink out.new)
+    requires same { spoken.now.options ≡ speech.old.gaggle.options }
+    requires silent { speech.old.count ≡ 0 }
+    ensures spells { Spells O.sink spoken.now.tables.now.book speech.old.gaggle speech.new.gaggle result (stand O.sink out.old) (stand O.sink out.new)
         (block_entries stage (slice_range view.now.blocks.now (64 * r) (64 * r + 64)) depth view.now.plan.now.weights.shifts view.now.plan.now.plane view.now.plan.now.q) }
+    ensures silent { speech.new.count ≡ 0 }
 {
     let is_deep = view.plan.plane < depth;
     match stage {
         Stage::DcBits => put_dc_bit(out, &view.blocks[64 * r..64 * r + 64], view.plan),
-        Stage::Parents if is_deep => put_parents(out, gaggle, spoken, &view.seen(r)),
-        Stage::Children if is_deep => put_children(out, gaggle, spoken, &view.seen(r)),
-        Stage::Grandchildren if is_deep => put_grandchildren(out, gaggle, spoken, &view.seen(r)),
-        Stage::Refinement if is_deep => put_refinement(out, gaggle, &view.seen(r)),
+        Stage::Parents if is_deep => put_parents(out, speech, spoken, &view.seen(r)),
+        Stage::Children if is_deep => put_children(out, speech, spoken, &view.seen(r)),
+        Stage::Grandchildren if is_deep => put_grandchildren(out, speech, spoken, &view.seen(r)),
+        Stage::Refinement if is_deep => put_refinement(out, speech, &view.seen(r)),
         _ => Ok(()),
     }
 }

@@ -58,8 +58,7 @@ impl Speech {
     pub fn new(gaggle: Gaggle) -> Speech
         requires { AreOptions gaggle.options }
         ensures gaggle { result.gaggle ≡ gaggle }
-        ensures empty { said result ≡ [] }
-        ensures load { load result ≤ 5 }
+        ensures silent { result.count ≡ 0 }
     {
         Speech {
             value: 0,
@@ -149,12 +148,17 @@ impl Speech {
         self.raws(typed.signs);
     }
 
-    // Puts the bits.
+    // Puts the bits, so that none are left.
     #[inline(always)]
-    pub fn put<O: OctetOut>(&self, out: &mut BitOut<O>) -> Result<(), PutFault>
+    pub fn put<O: OctetOut>(&mut self, out: &mut BitOut<O>) -> Result<(), PutFault>
         requires { IsReady O.sink out.old }
-        ensures { Writes O.sink result out.old out.new (said self.now) }
+        ensures puts { Writes O.sink result out.old out.new (said self.old) }
+        ensures silent { self.new.count ≡ 0 }
+        ensures gaggle { self.new.gaggle ≡ self.old.gaggle }
     {
-        out.put_long(self.value, self.count)
+        let (value, count) = (self.value, self.count);
+        self.value = 0;
+        self.count = 0;
+        out.put_long(value, count)
     }
 }

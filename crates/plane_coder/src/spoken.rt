@@ -2,10 +2,11 @@
 
 ghost use Rattle.std.specs.Prelude.{◌≡◌, ◌<◌, ◌≤◌, ◌/◌, ◌%◌, ℕ, [], slice_index_or};
 ghost use Rattle.block_masks.specs.Gaggles.{AreOptions};
+ghost use Rattle.plane_defs.specs.Codes.{no_code};
 ghost use Rattle.plane_coder.specs.Coding.{IsCodeOf, row_of, option_for};
 ghost use Rattle.plane_coder.specs.Picked.{IsPacked};
 
-use crate::tables::CodeTables;
+use crate::tables::{CodeTables, NOTHING};
 use base_122::Code;
 
 // Where the tables have the codes of each length of words from 0 on, each under one of its options.
@@ -18,15 +19,27 @@ fn rows_of(options: [u8; 3]) -> [u8; 5]
     [0, 1, 2 + options[0], 4 + options[1], 7 + options[2]]
 }
 
-// The tables with the options of a gaggle, and the codes under them.
-#[derive(Clone, Copy)]
+// The code of each word as it is picked, under the option of its length.
+fn codes_of(tables: &CodeTables, options: [u8; 3]) -> [Code; 80]
+    requires { AreOptions options }
+    ensures { (word : ℕ) → IsPacked word → IsCodeOf tables.now.book (word / 16) (option_for options (word / 16)) (word % 16) (slice_index_or result word no_code) }
+{
+    let rows = rows_of(options);
+    let mut codes = [NOTHING; 80];
+    for n in 0..5usize {
+        codes[16 * n..16 * n + 16].copy_from_slice(&tables.rows[rows[n] as usize]);
+    }
+    codes
+}
+
+// The tables with the options of a gaggle, and the codes under them: each word has its place, as it is picked.
+#[derive(Drop)]
 pub(crate) struct Spoken<'a> {
     pub tables: &'a CodeTables,
     pub options: [u8; 3],
-    rows: [u8; 5],
+    codes: [Code; 80],
     ghost known: { AreOptions options },
-    ghost chosen: { (n : ℕ) → n ≤ 4 → slice_index_or rows n 0 ≡ row_of n (option_for options n) },
-    ghost within: { (n : ℕ) → n ≤ 4 → slice_index_or rows n 0 < 11 },
+    ghost coded: { (word : ℕ) → IsPacked word → IsCodeOf tables.now.book (word / 16) (option_for options (word / 16)) (word % 16) (slice_index_or codes word no_code) },
 }
 
 impl<'a> Spoken<'a> {
@@ -38,7 +51,7 @@ impl<'a> Spoken<'a> {
         Spoken {
             tables,
             options,
-            rows: rows_of(options),
+            codes: codes_of(tables, options),
         }
     }
 
@@ -48,7 +61,6 @@ impl<'a> Spoken<'a> {
         requires { IsPacked word }
         ensures { IsCodeOf self.now.tables.now.book (word / 16) (option_for self.now.options (word / 16)) (word % 16) result }
     {
-        let row = self.rows[(word / 16) as usize];
-        self.tables.rows[row as usize][(word % 16) as usize]
+        self.codes[word as usize]
     }
 }

@@ -10,17 +10,18 @@ ghost use Rattle.plane_coder.specs.Spells.{Spells};
 ghost use Rattle.plane_coder.specs.Views.{plane_in};
 
 use crate::put::put_block;
+use crate::speech::Speech;
 use crate::spoken::Spoken;
 use crate::view::View;
 use bit_pipe::{BitOut, OctetOut, PutFault};
-use block_masks::{Gaggle, depth_of, load, stage_at, store};
+use block_masks::{depth_of, load, stage_at, store};
 use plane_defs::Stage;
 
 // Puts a stage of block r.
 #[inline(always)]
 fn put_block_at<O: OctetOut>(
     out: &mut BitOut<O>,
-    gaggle: &mut Gaggle,
+    speech: &mut Speech,
     spoken: &Spoken,
     stage: Stage,
     view: &View,
@@ -28,19 +29,21 @@ fn put_block_at<O: OctetOut>(
     r: usize,
 ) -> Result<(), PutFault>
     requires open { IsReady O.sink out.old }
-    requires same { spoken.now.options ≡ gaggle.old.options }
+    requires same { spoken.now.options ≡ speech.old.gaggle.options }
+    requires silent { speech.old.count ≡ 0 }
     requires tables { spoken.now.tables.now ≡ view.now.tables.now }
     requires whole { length view.now.blocks.now ≡ 64 * length marks.now }
     requires within { r < length marks.now }
-    ensures { Spells O.sink view.now.tables.now.book gaggle.old gaggle.new result (stand O.sink out.old) (stand O.sink out.new) (of_block (plane_in view.now (depths_of marks.now)) stage r) }
+    ensures spells { Spells O.sink view.now.tables.now.book speech.old.gaggle speech.new.gaggle result (stand O.sink out.old) (stand O.sink out.new) (of_block (plane_in view.now (depths_of marks.now)) stage r) }
+    ensures silent { speech.new.count ≡ 0 }
 {
-    put_block(out, gaggle, spoken, stage, view, depth_of(marks[r]), r)
+    put_block(out, speech, spoken, stage, view, depth_of(marks[r]), r)
 }
 
 // Puts a stage of gaggle g.
 fn put_gaggle<O: OctetOut>(
     out: &mut BitOut<O>,
-    gaggle: &mut Gaggle,
+    speech: &mut Speech,
     spoken: &Spoken,
     stage: Stage,
     view: &View,
@@ -48,15 +51,17 @@ fn put_gaggle<O: OctetOut>(
     g: usize,
 ) -> Result<(), PutFault>
     requires open { IsReady O.sink out.old }
-    requires same { spoken.now.options ≡ gaggle.old.options }
+    requires same { spoken.now.options ≡ speech.old.gaggle.options }
+    requires silent { speech.old.count ≡ 0 }
     requires tables { spoken.now.tables.now ≡ view.now.tables.now }
     requires whole { length view.now.blocks.now ≡ 64 * length marks.now }
     requires within { 16 * g < length marks.now }
-    ensures { Spells O.sink view.now.tables.now.book gaggle.old gaggle.new result (stand O.sink out.old) (stand O.sink out.new) (of_gaggle (plane_in view.now (depths_of marks.now)) stage g) }
+    ensures spells { Spells O.sink view.now.tables.now.book speech.old.gaggle speech.new.gaggle result (stand O.sink out.old) (stand O.sink out.new) (of_gaggle (plane_in view.now (depths_of marks.now)) stage g) }
+    ensures silent { speech.new.count ≡ 0 }
 {
     let first = 16 * g;
     for place in 0..(marks.len() - first).min(16) {
-        put_block_at(out, gaggle, spoken, stage, view, marks, first + place)?;
+        put_block_at(out, speech, spoken, stage, view, marks, first + place)?;
     }
     Ok(())
 }
@@ -79,10 +84,10 @@ pub(crate) fn put_stage<O: OctetOut>(
     ensures kept { SameMarks marks.old marks.new }
 {
     for g in 0..marks.len().div_ceil(16) {
-        let mut gaggle = load(marks, g);
-        let spoken = Spoken::new(view.tables, gaggle.options);
-        put_gaggle(out, &mut gaggle, &spoken, stage_at(number), view, marks, g)?;
-        store(marks, g, gaggle);
+        let mut speech = Speech::new(load(marks, g));
+        let spoken = Spoken::new(view.tables, speech.gaggle.options);
+        put_gaggle(out, &mut speech, &spoken, stage_at(number), view, marks, g)?;
+        store(marks, g, speech.gaggle);
     }
     Ok(())
 }

@@ -8,7 +8,7 @@ ghost use Rattle.plane_coder.specs.Coding.{IsCodeOf, IsWordOf, row_of, code_in};
 use base_122::{Book, Code};
 use word_codes::code_of_word;
 
-const NOTHING: Code = Code { bits: 0, len: 0 };
+pub(crate) const NOTHING: Code = Code { bits: 0, len: 0 };
 
 /// The code of each word under each option of its length, as a sound book gives them (docs/formats.md, "Words and
 /// codes"). Made once, it serves all planes of a segment.

@@ -15,8 +15,8 @@ pub(crate) struct View<'a> {
     pub blocks: &'a [i32],
     pub plan: &'a CodedPlane,
     pub tables: &'a CodeTables,
-    pub kept: [Option<Masks>; 64],
-    ghost are_kept: { AreKept blocks.now plan.now.plane kept },
+    pub kept: &'a [Option<Masks>],
+    ghost are_kept: { AreKept blocks.now plan.now.plane kept.now },
 }
 
 impl<'a> View<'a> {
@@ -25,7 +25,7 @@ impl<'a> View<'a> {
         requires { 64 * r + 64 ≤ length self.now.blocks.now }
         ensures { IsView (slice_range self.now.blocks.now (64 * r) (64 * r + 64)) self.now.plan.now.plane result }
     {
-        if r < 64
+        if r < self.kept.len()
             && let Some(masks) = self.kept[r]
         {
             return masks;

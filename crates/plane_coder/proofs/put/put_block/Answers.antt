@@ -10,7 +10,7 @@ use Rattle.plane_coder.proofs.put.put_block.Goals as goal
 
 pub returns-in-DcBits : goal.returns-in-DcBits
 unfolding block_entries
-returns-in-DcBits g c = rw c.in-DcBits.is (c.put_dc_bit.ensures c.args.spoken.now.tables.now.book c.args.gaggle.now)
+returns-in-DcBits g c = record { spells = rw c.in-DcBits.is (c.put_dc_bit.ensures c.args.spoken.now.tables.now.book c.args.speech.now.gaggle); silent = c.requires.silent }
 
 pub returns-in_default : goal.returns-in_default
 returns-in_default g c =
@@ -18,8 +18,11 @@ returns-in_default g c =
     let p = c.args.view.now.plan.now in
     let block = slice_range c.args.view.now.blocks.now (64 * c.args.r) (64 * c.args.r + 64) in
     let le : c.args.depth ≤ p.plane = omega arith in
-    subst (λ l. Spells k c.args.spoken.now.tables.now.book c.args.gaggle.now c.args.gaggle.now (Ok tt) (stand k c.args.out.now) (stand k c.args.out.now) l)
-    (sym (shallow c.args.stage block p.weights.shifts p.plane p.q c.args.depth c.in_default.not-DcBits le)) (spells_none c.args.gaggle.now _ c.requires.«open»)
+    record {
+      spells = subst (λ l. Spells k c.args.spoken.now.tables.now.book c.args.speech.now.gaggle c.args.speech.now.gaggle (Ok tt) (stand k c.args.out.now) (stand k c.args.out.now) l)
+          (sym (shallow c.args.stage block p.weights.shifts p.plane p.q c.args.depth c.in_default.not-DcBits le)) (spells_none c.args.speech.now.gaggle _ c.requires.«open»);
+      silent = c.requires.silent;
+    }
 
 pub returns-in_default-2 : goal.returns-in_default-2
 returns-in_default-2 g c =
@@ -27,8 +30,11 @@ returns-in_default-2 g c =
     let p = c.args.view.now.plan.now in
     let block = slice_range c.args.view.now.blocks.now (64 * c.args.r) (64 * c.args.r + 64) in
     let le : c.args.depth ≤ p.plane = omega arith in
-    subst (λ l. Spells k c.args.spoken.now.tables.now.book c.args.gaggle.now c.args.gaggle.now (Ok tt) (stand k c.args.out.now) (stand k c.args.out.now) l)
-    (sym (shallow c.args.stage block p.weights.shifts p.plane p.q c.args.depth c.in_default.not-DcBits le)) (spells_none c.args.gaggle.now _ c.requires.«open»)
+    record {
+      spells = subst (λ l. Spells k c.args.spoken.now.tables.now.book c.args.speech.now.gaggle c.args.speech.now.gaggle (Ok tt) (stand k c.args.out.now) (stand k c.args.out.now) l)
+          (sym (shallow c.args.stage block p.weights.shifts p.plane p.q c.args.depth c.in_default.not-DcBits le)) (spells_none c.args.speech.now.gaggle _ c.requires.«open»);
+      silent = c.requires.silent;
+    }
 
 pub returns-in_default-3 : goal.returns-in_default-3
 returns-in_default-3 g c =
@@ -36,8 +42,11 @@ returns-in_default-3 g c =
     let p = c.args.view.now.plan.now in
     let block = slice_range c.args.view.now.blocks.now (64 * c.args.r) (64 * c.args.r + 64) in
     let le : c.args.depth ≤ p.plane = omega arith in
-    subst (λ l. Spells k c.args.spoken.now.tables.now.book c.args.gaggle.now c.args.gaggle.now (Ok tt) (stand k c.args.out.now) (stand k c.args.out.now) l)
-    (sym (shallow c.args.stage block p.weights.shifts p.plane p.q c.args.depth c.in_default.not-DcBits le)) (spells_none c.args.gaggle.now _ c.requires.«open»)
+    record {
+      spells = subst (λ l. Spells k c.args.spoken.now.tables.now.book c.args.speech.now.gaggle c.args.speech.now.gaggle (Ok tt) (stand k c.args.out.now) (stand k c.args.out.now) l)
+          (sym (shallow c.args.stage block p.weights.shifts p.plane p.q c.args.depth c.in_default.not-DcBits le)) (spells_none c.args.speech.now.gaggle _ c.requires.«open»);
+      silent = c.requires.silent;
+    }
 
 pub returns-in_default-4 : goal.returns-in_default-4
 returns-in_default-4 g c =
@@ -45,33 +54,36 @@ returns-in_default-4 g c =
     let p = c.args.view.now.plan.now in
     let block = slice_range c.args.view.now.blocks.now (64 * c.args.r) (64 * c.args.r + 64) in
     let le : c.args.depth ≤ p.plane = omega arith in
-    subst (λ l. Spells k c.args.spoken.now.tables.now.book c.args.gaggle.now c.args.gaggle.now (Ok tt) (stand k c.args.out.now) (stand k c.args.out.now) l)
-    (sym (shallow c.args.stage block p.weights.shifts p.plane p.q c.args.depth c.in_default.not-DcBits le)) (spells_none c.args.gaggle.now _ c.requires.«open»)
+    record {
+      spells = subst (λ l. Spells k c.args.spoken.now.tables.now.book c.args.speech.now.gaggle c.args.speech.now.gaggle (Ok tt) (stand k c.args.out.now) (stand k c.args.out.now) l)
+          (sym (shallow c.args.stage block p.weights.shifts p.plane p.q c.args.depth c.in_default.not-DcBits le)) (spells_none c.args.speech.now.gaggle _ c.requires.«open»);
+      silent = c.requires.silent;
+    }
 
 pub returns-in-Parents : goal.returns-in-Parents
 returns-in-Parents g c =
     let plan = c.args.view.now.plan.now in
     let block = slice_range c.args.view.now.blocks.now (64 * c.args.r) (64 * c.args.r + 64) in
     let lt : plan.plane < c.args.depth = omega arith in
-    rw c.in-Parents.is (spells_deep parents stages.Parents block _ plan _ c.args.depth deep_parents c.seen.ensures.block c.seen.ensures.plan lt c.put_parents.ensures)
+    record { spells = rw c.in-Parents.is (spells_deep parents stages.Parents block _ plan _ c.args.depth deep_parents c.seen.ensures.block c.seen.ensures.plan lt c.put_parents.ensures.spells); silent = c.put_parents.ensures.silent }
 
 pub returns-in-Children : goal.returns-in-Children
 returns-in-Children g c =
     let plan = c.args.view.now.plan.now in
     let block = slice_range c.args.view.now.blocks.now (64 * c.args.r) (64 * c.args.r + 64) in
     let lt : plan.plane < c.args.depth = omega arith in
-    rw c.in-Children.is (spells_deep children stages.Children block _ plan _ c.args.depth deep_children c.seen-in-Children.ensures.block c.seen-in-Children.ensures.plan lt c.put_children.ensures)
+    record { spells = rw c.in-Children.is (spells_deep children stages.Children block _ plan _ c.args.depth deep_children c.seen-in-Children.ensures.block c.seen-in-Children.ensures.plan lt c.put_children.ensures.spells); silent = c.put_children.ensures.silent }
 
 pub returns-in-Grandchildren : goal.returns-in-Grandchildren
 returns-in-Grandchildren g c =
     let plan = c.args.view.now.plan.now in
     let block = slice_range c.args.view.now.blocks.now (64 * c.args.r) (64 * c.args.r + 64) in
     let lt : plan.plane < c.args.depth = omega arith in
-    rw c.in-Grandchildren.is (spells_deep grandchildren stages.Grandchildren block _ plan _ c.args.depth deep_grandchildren c.seen-in-Grandchildren.ensures.block c.seen-in-Grandchildren.ensures.plan lt c.put_grandchildren.ensures)
+    record { spells = rw c.in-Grandchildren.is (spells_deep grandchildren stages.Grandchildren block _ plan _ c.args.depth deep_grandchildren c.seen-in-Grandchildren.ensures.block c.seen-in-Grandchildren.ensures.plan lt c.put_grandchildren.ensures.spells); silent = c.put_grandchildren.ensures.silent }
 
 pub returns-in-Refinement : goal.returns-in-Refinement
 returns-in-Refinement g c =
     let plan = c.args.view.now.plan.now in
     let block = slice_range c.args.view.now.blocks.now (64 * c.args.r) (64 * c.args.r + 64) in
     let lt : plan.plane < c.args.depth = omega arith in
-    rw c.in-Refinement.is (spells_deep refinement stages.Refinement block _ plan _ c.args.depth deep_refinement c.seen-in-Refinement.ensures.block c.seen-in-Refinement.ensures.plan lt (c.put_refinement.ensures c.args.spoken.now.tables.now.book))
+    record { spells = rw c.in-Refinement.is (spells_deep refinement stages.Refinement block _ plan _ c.args.depth deep_refinement c.seen-in-Refinement.ensures.block c.seen-in-Refinement.ensures.plan lt (c.put_refinement.ensures.spells c.args.spoken.now.tables.now.book)); silent = c.put_refinement.ensures.silent }

@@ -1,17 +1,18 @@
-use Rattle.std.proofs.Common.{◌∙◌, sym, ap, subst, arith}
+use Rattle.std.proofs.Common.{subst, arith}
 use Rattle.std.specs.Prelude.{Err}
 use Rattle.std.proofs.lemmas.Result.{err_from_is_err_and}
 use Rattle.bit_pipe.specs.Standing.{stand}
 use Rattle.plane_defs.specs.Profile.{profile}
-use Rattle.block_masks.specs.declared.gaggle.Gaggle.{Gaggle}
-use Rattle.block_masks.specs.Gaggles.{AreOptions}
 use Rattle.plane_coder.specs.Refining.{refining}
 use Rattle.plane_coder.specs.Spells.{Spells}
 use Rattle.plane_coder.specs.Speaks.{Speaks}
-use Rattle.plane_coder.proofs.Speaking.{speaks_both, spells_said}
-use Rattle.plane_coder.proofs.Spelling.{spells_both, spells_cut, spells_failed}
+use Rattle.plane_coder.proofs.Speaking.{silent_load, speaks_both, spells_said}
+use Rattle.plane_coder.proofs.Spelling.{spells_both, spells_cut}
 use Rattle.plane_coder.proofs.BlockSets.{refining_both, refining_parts}
 use Rattle.plane_coder.proofs.put.put_refinement.Goals as goal
+
+pub raws-requires-clause-room : goal.raws-requires-clause-room
+raws-requires-clause-room g c = omega (arith, silent_load c.args.speech.now c.requires.silent)
 
 pub say_refinement-requires : goal.say_refinement-requires
 say_refinement-requires g c = record {
@@ -19,13 +20,8 @@ say_refinement-requires g c = record {
   start = omega arith;
   within = omega arith;
   shown = c.refined-refined.ensures;
-  room = omega (arith, c.new-first.ensures.load, (c.raws.ensures profile).load);
+  room = omega (arith, silent_load c.args.speech.now c.requires.silent, (c.raws.ensures profile).load);
 }
-
-pub new-second-requires : goal.new-second-requires
-new-second-requires g c =
-    let options = (c.say_refinement-2.ensures profile).options ∙ (c.say_refinement.ensures profile).options ∙ (c.raws.ensures profile).options ∙ ap (λ (h : Gaggle). h.options) c.new-first.ensures.gaggle in
-    subst AreOptions (sym options) c.requires.known
 
 pub say_refinement-requires-2 : goal.say_refinement-requires-2
 say_refinement-requires-2 g c = record {
@@ -33,7 +29,7 @@ say_refinement-requires-2 g c = record {
   start = omega arith;
   within = omega arith;
   shown = c.refined-refined.ensures;
-  room = omega (arith, c.new-first.ensures.load, (c.raws.ensures profile).load, (c.say_refinement.ensures profile).load);
+  room = omega (arith, silent_load c.args.speech.now c.requires.silent, (c.raws.ensures profile).load, (c.say_refinement.ensures profile).load);
 }
 
 pub say_refinement-requires-3 : goal.say_refinement-requires-3
@@ -42,7 +38,7 @@ say_refinement-requires-3 g c = record {
   start = omega arith;
   within = omega arith;
   shown = c.refined-refined.ensures;
-  room = omega (arith, c.new-second.ensures.load);
+  room = omega (arith, silent_load c.put.new.self c.in_ok-put.ensures.silent);
 }
 
 pub say_refinement-requires-4 : goal.say_refinement-requires-4
@@ -51,33 +47,42 @@ say_refinement-requires-4 g c = record {
   start = omega arith;
   within = omega arith;
   shown = c.refined-refined.ensures;
-  room = omega (arith, c.new-second.ensures.load, (c.say_refinement-3.ensures profile).load);
+  room = omega (arith, silent_load c.put.new.self c.in_ok-put.ensures.silent, (c.say_refinement-3.ensures profile).load);
 }
 
 pub returns-in_err-put : goal.returns-in_err-put
-returns-in_err-put g c book =
+returns-in_err-put g c =
     let s = c.args.seen.now in
     let block = s.block.now in
     let weights = s.plan.now.weights.shifts in
     let plane = s.plan.now.plane in
-    let raws = subst (λ l. Speaks book c.new-first.result c.raws.new.self l 4) c.refinement.ensures.bits (c.raws.ensures book) in
-    let says = subst (λ l. Speaks book c.new-first.result c.say_refinement-2.new.speech l 32) (refining_parts block weights plane 1 3 12 16)
-    (speaks_both 16 16 (speaks_both 4 12 raws (c.say_refinement.ensures book)) (c.say_refinement-2.ensures book)) in
-    let p = err_from_is_err_and c.from_residual.result c.from_residual.ensures.1 in
-    let first = spells_said 32 c.requires.«open» c.new-first.ensures.gaggle c.new-first.ensures.empty says c.in_err-put.ensures in
     let k = g.O.OctetOut.sink in
-    rw (p.1, p.2) (spells_failed (subst (λ l. Spells k book c.args.gaggle.now c.say_refinement-2.new.speech.gaggle (Err c.in_err-put.field-0.0) (stand k c.args.out.now) (stand k c.put.new.out) l) (refining_both block weights plane 1 31 32) (spells_cut (refining block weights plane 32 32) first)))
+    let p = err_from_is_err_and c.from_residual.result c.from_residual.ensures.1 in
+    record {
+      spells = λ book.
+          let raws = subst (λ l. Speaks book c.args.speech.now c.raws.new.self l 4) c.refinement.ensures.bits (c.raws.ensures book) in
+          let says = subst (λ l. Speaks book c.args.speech.now c.say_refinement-2.new.speech l 32) (refining_parts block weights plane 1 3 12 16)
+          (speaks_both 16 16 (speaks_both 4 12 raws (c.say_refinement.ensures book)) (c.say_refinement-2.ensures book)) in
+          let first = spells_said 32 c.requires.«open» c.requires.silent says c.in_err-put.ensures.puts c.in_err-put.ensures.gaggle in
+          rw (p.1, p.2) (subst (λ l. Spells k book c.args.speech.now.gaggle c.put.new.self.gaggle (Err c.in_err-put.field-0.0) (stand k c.args.out.now) (stand k c.put.new.out) l) (refining_both block weights plane 1 31 32) (spells_cut (refining block weights plane 32 32) first));
+      silent = c.in_err-put.ensures.silent;
+    }
 
 pub returns : goal.returns
-returns g c book =
+returns g c =
     let s = c.args.seen.now in
     let block = s.block.now in
     let weights = s.plan.now.weights.shifts in
     let plane = s.plan.now.plane in
-    let raws = subst (λ l. Speaks book c.new-first.result c.raws.new.self l 4) c.refinement.ensures.bits (c.raws.ensures book) in
-    let says = subst (λ l. Speaks book c.new-first.result c.say_refinement-2.new.speech l 32) (refining_parts block weights plane 1 3 12 16)
-    (speaks_both 16 16 (speaks_both 4 12 raws (c.say_refinement.ensures book)) (c.say_refinement-2.ensures book)) in
     let k = g.O.OctetOut.sink in
-    let first = spells_said 32 c.requires.«open» c.new-first.ensures.gaggle c.new-first.ensures.empty says c.in_ok-put.ensures in
-    let second = spells_said 32 first.is_open c.new-second.ensures.gaggle c.new-second.ensures.empty (subst (λ l. Speaks book c.new-second.result c.say_refinement-4.new.speech l 32) (refining_both block weights plane 32 16 16) (speaks_both 16 16 (c.say_refinement-3.ensures book) (c.say_refinement-4.ensures book))) c.put-2.ensures in
-    subst (λ l. Spells k book c.args.gaggle.now c.say_refinement-4.new.speech.gaggle c.put-2.result (stand k c.args.out.now) (stand k c.put-2.new.out) l) (refining_both block weights plane 1 31 32) (spells_both first second)
+    record {
+      spells = λ book.
+          let raws = subst (λ l. Speaks book c.args.speech.now c.raws.new.self l 4) c.refinement.ensures.bits (c.raws.ensures book) in
+          let says = subst (λ l. Speaks book c.args.speech.now c.say_refinement-2.new.speech l 32) (refining_parts block weights plane 1 3 12 16)
+          (speaks_both 16 16 (speaks_both 4 12 raws (c.say_refinement.ensures book)) (c.say_refinement-2.ensures book)) in
+          let first = spells_said 32 c.requires.«open» c.requires.silent says c.in_ok-put.ensures.puts c.in_ok-put.ensures.gaggle in
+          let rest = subst (λ l. Speaks book c.put.new.self c.say_refinement-4.new.speech l 32) (refining_both block weights plane 32 16 16) (speaks_both 16 16 (c.say_refinement-3.ensures book) (c.say_refinement-4.ensures book)) in
+          let second = spells_said 32 first.is_open c.in_ok-put.ensures.silent rest c.put-2.ensures.puts c.put-2.ensures.gaggle in
+          subst (λ l. Spells k book c.args.speech.now.gaggle c.put-2.new.self.gaggle c.put-2.result (stand k c.args.out.now) (stand k c.put-2.new.out) l) (refining_both block weights plane 1 31 32) (spells_both first second);
+      silent = c.put-2.ensures.silent;
+    }

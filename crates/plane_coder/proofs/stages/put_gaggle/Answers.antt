@@ -15,12 +15,13 @@ use Rattle.plane_coder.proofs.stages.put_gaggle.Goals as goal
 pub loop-place-init : goal.loop-place-init
 loop-place-init g c =
     let f = of_block (plane_in c.args.view.now (depths_of c.args.marks.now)) c.args.stage in
-    record { so_far = none_spelled f (16 * c.args.g) _ _ c.requires.«open»; is_open = c.requires.«open» }
+    record { so_far = none_spelled f (16 * c.args.g) _ _ c.requires.«open»; is_open = c.requires.«open»; silent = c.requires.silent }
 
 pub put_block_at-requires : goal.put_block_at-requires
 put_block_at-requires g c = record {
   «open» = c.loop-place.invariant.is_open;
   same = c.requires.same ∙ sym c.loop-place.invariant.so_far.options;
+  silent = c.loop-place.invariant.silent;
   tables = c.requires.tables;
   whole = c.requires.whole;
   within = omega (arith, c.min-place-end.ensures, c.loop-place-test.true, c.requires.within);
@@ -30,10 +31,11 @@ pub loop-place-preserved : goal.loop-place-preserved
 loop-place-preserved g c =
     let i = c.loop-place.invariant in
     let f = of_block (plane_in c.args.view.now (depths_of c.args.marks.now)) c.args.stage in
-    let p = c.in_ok-put_block_at.ensures in
+    let p = c.in_ok-put_block_at.ensures.spells in
     record {
       so_far = more_spelled f (16 * c.args.g) c.loop-place.place _ refl i.so_far p;
       is_open = p.is_open;
+      silent = c.in_ok-put_block_at.ensures.silent;
     }
 
 pub returns-in_err-put_block_at : goal.returns-in_err-put_block_at
@@ -41,13 +43,19 @@ returns-in_err-put_block_at g c =
     let p = err_from_is_err_and c.from_residual.result c.from_residual.ensures.1 in
     let plane = plane_in c.args.view.now (depths_of c.args.marks.now) in
     let below : c.loop-place.place < gaggle_size plane c.args.g = omega (arith, c.min-place-end.ensures, c.loop-place-test.true, length-depths_of c.args.marks.now) in
-    rw (p.1, p.2)
-    (spelled_ended (of_block plane c.args.stage) (16 * c.args.g) c.loop-place.place (gaggle_size plane c.args.g) _ below refl c.loop-place.invariant.so_far c.in_err-put_block_at.ensures)
+    record {
+      spells = rw (p.1, p.2)
+          (spelled_ended (of_block plane c.args.stage) (16 * c.args.g) c.loop-place.place (gaggle_size plane c.args.g) _ below refl c.loop-place.invariant.so_far c.in_err-put_block_at.ensures.spells);
+      silent = c.in_err-put_block_at.ensures.silent;
+    }
 
 pub returns : goal.returns
 returns g c =
     let plane = plane_in c.args.view.now (depths_of c.args.marks.now) in
     let all : c.loop-place.place ≡ gaggle_size plane c.args.g =
     omega (arith, c.min-place-end.ensures, c.loop-place-test.false, c.loop-place.auto.place-end, length-depths_of c.args.marks.now) in
-    subst (λ n. Spells g.O.OctetOut.sink c.args.view.now.tables.now.book c.args.gaggle.now c.loop-place.gaggle (Ok tt) (stand g.O.OctetOut.sink c.args.out.now) (stand g.O.OctetOut.sink c.loop-place.out)
-    (flat_map (of_block plane c.args.stage) (span (16 * c.args.g) n))) all c.loop-place.invariant.so_far
+    record {
+      spells = subst (λ n. Spells g.O.OctetOut.sink c.args.view.now.tables.now.book c.args.speech.now.gaggle c.loop-place.speech.gaggle (Ok tt) (stand g.O.OctetOut.sink c.args.out.now) (stand g.O.OctetOut.sink c.loop-place.out)
+          (flat_map (of_block plane c.args.stage) (span (16 * c.args.g) n))) all c.loop-place.invariant.so_far;
+      silent = c.loop-place.invariant.silent;
+    }

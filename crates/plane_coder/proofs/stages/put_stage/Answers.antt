@@ -1,4 +1,5 @@
-use Rattle.std.proofs.Common.{◌≡◌, ◌*◌, ◌<◌, length, ◌∙◌, sym, subst, arith}
+use Rattle.std.proofs.Common.{◌≡◌, ◌*◌, ◌<◌, length, ap, ◌∙◌, sym, subst, arith}
+use Rattle.block_masks.specs.declared.gaggle.Gaggle.{Gaggle}
 use Rattle.std.proofs.lemmas.Result.{err_from_is_err_and}
 use Rattle.plane_defs.specs.Planes.{gaggles, gaggle_items, before_stage}
 use Rattle.plane_defs.specs.Marks.{depths_of}
@@ -20,10 +21,10 @@ loop-g-init g c =
       agree = none_agree p c.args.number c.args.marks.now c.requires.agree;
     }
 
-pub new-spoken-requires : goal.new-spoken-requires
-new-spoken-requires g c =
+pub new-speech-requires : goal.new-speech-requires
+new-speech-requires g c =
     let within : 16 * c.loop-g.g < length c.args.marks.now = omega (arith, c.div_ceil-g-end.ensures, c.loop-g-test.true) in
-    subst AreOptions (sym (c.load-gaggle.ensures.options ∙ c.loop-g.invariant.same.options c.loop-g.g)) (c.requires.known.at c.loop-g.g within)
+    subst AreOptions (sym (c.load.ensures.options ∙ c.loop-g.invariant.same.options c.loop-g.g)) (c.requires.known.at c.loop-g.g within)
 
 pub loop-g-preserved : goal.loop-g-preserved
 loop-g-preserved g c =
@@ -33,21 +34,17 @@ loop-g-preserved g c =
     let m1 = c.loop-g.marks in
     let p = plane_in view (depths_of m0) in
     let below : c.loop-g.g < gaggles p = omega (arith, c.div_ceil-g-end.ensures, c.loop-g-test.true, length-depths_of m0) in
-    let options = c.load-gaggle.ensures.options ∙ i.same.options c.loop-g.g in
-    let agrees = subst (λ f. Agrees f (before_stage p c.args.number c.loop-g.g)) (sym c.load-gaggle.ensures.sent) (i.agree.todo c.loop-g.g (omega arith) below) in
-    let put = gaggle_puts view (depths_of m0) (depths_of m1) (options_at m0) c.stage_at.result c.args.number c.loop-g.g i.same.depths c.stage_at.ensures options agrees c.in_ok-put_gaggle.ensures in
-    let later = gaggle_agrees view (depths_of m0) (depths_of m1) c.stage_at.result c.args.number c.loop-g.g i.same.depths c.stage_at.ensures agrees c.in_ok-put_gaggle.ensures in
+    let gaggle = c.new-speech.ensures.gaggle in
+    let options = ap (λ (h : Gaggle). h.options) gaggle ∙ c.load.ensures.options ∙ i.same.options c.loop-g.g in
+    let agrees = subst (λ f. Agrees f (before_stage p c.args.number c.loop-g.g)) (sym (ap (λ (h : Gaggle). h.sent) gaggle ∙ c.load.ensures.sent)) (i.agree.todo c.loop-g.g (omega arith) below) in
+    let put = gaggle_puts view (depths_of m0) (depths_of m1) (options_at m0) c.stage_at.result c.args.number c.loop-g.g i.same.depths c.stage_at.ensures options agrees c.in_ok-put_gaggle.ensures.spells in
+    let later = gaggle_agrees view (depths_of m0) (depths_of m1) c.stage_at.result c.args.number c.loop-g.g i.same.depths c.stage_at.ensures agrees c.in_ok-put_gaggle.ensures.spells in
     record {
       so_far = more_put (gaggle_items view.tables.now.book (options_at m0) p c.args.number) c.loop-g.g i.so_far put.ends;
-      is_open = c.in_ok-put_gaggle.ensures.is_open;
-      same = same_stored m0 m1 _ c.loop-g.g _ i.same c.store.ensures (c.in_ok-put_gaggle.ensures.options ∙ c.load-gaggle.ensures.options);
+      is_open = c.in_ok-put_gaggle.ensures.spells.is_open;
+      same = same_stored m0 m1 _ c.loop-g.g _ i.same c.store.ensures (c.in_ok-put_gaggle.ensures.spells.options ∙ ap (λ (h : Gaggle). h.options) gaggle ∙ c.load.ensures.options);
       agree = more_agree p c.args.number m1 _ c.loop-g.g _ i.agree c.store.ensures later;
     }
-
-pub store-requires-clause-known : goal.store-requires-clause-known
-store-requires-clause-known g c =
-    let within : 16 * c.loop-g.g < length c.args.marks.now = omega (arith, c.div_ceil-g-end.ensures, c.loop-g-test.true) in
-    subst AreOptions (sym (c.in_ok-put_gaggle.ensures.options ∙ c.load-gaggle.ensures.options ∙ c.loop-g.invariant.same.options c.loop-g.g)) (c.requires.known.at c.loop-g.g within)
 
 pub returns-in_err-put_gaggle : goal.returns-in_err-put_gaggle
 returns-in_err-put_gaggle g c =
@@ -58,9 +55,10 @@ returns-in_err-put_gaggle g c =
     let m1 = c.loop-g.marks in
     let p = plane_in view (depths_of m0) in
     let below : c.loop-g.g < gaggles p = omega (arith, c.div_ceil-g-end.ensures, c.loop-g-test.true, length-depths_of m0) in
-    let options = c.load-gaggle.ensures.options ∙ i.same.options c.loop-g.g in
-    let agrees = subst (λ f. Agrees f (before_stage p c.args.number c.loop-g.g)) (sym c.load-gaggle.ensures.sent) (i.agree.todo c.loop-g.g (omega arith) below) in
-    let put = gaggle_puts view (depths_of m0) (depths_of m1) (options_at m0) c.stage_at.result c.args.number c.loop-g.g i.same.depths c.stage_at.ensures options agrees c.in_err-put_gaggle.ensures in
+    let gaggle = c.new-speech.ensures.gaggle in
+    let options = ap (λ (h : Gaggle). h.options) gaggle ∙ c.load.ensures.options ∙ i.same.options c.loop-g.g in
+    let agrees = subst (λ f. Agrees f (before_stage p c.args.number c.loop-g.g)) (sym (ap (λ (h : Gaggle). h.sent) gaggle ∙ c.load.ensures.sent)) (i.agree.todo c.loop-g.g (omega arith) below) in
+    let put = gaggle_puts view (depths_of m0) (depths_of m1) (options_at m0) c.stage_at.result c.args.number c.loop-g.g i.same.depths c.stage_at.ensures options agrees c.in_err-put_gaggle.ensures.spells in
     rw (e.1, e.2) (record {
       puts = put_ended (gaggle_items view.tables.now.book (options_at m0) p c.args.number) c.loop-g.g (gaggles p) below i.so_far put;
       is_open = tt;
