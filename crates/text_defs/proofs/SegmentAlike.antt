@@ -94,7 +94,7 @@ module _ (head : SegmentHead) (fits : IsHead head) (xs ys : List (List ℤ)) (de
             let both = plane_both o.book (o.words b) (u.words b) (λ g. record { at = λ n low high. k.at b g n low high }) (λ g. record { at = λ n low high. l.at b g n low high })
             xs ys depths head.image.weights.shifts b (q_of head) acs in (
               subst (λ c. StepsAlike (plane_reading o.book (o.words b) (plane_at head xs depths b) (stages_sent head b)) (plane_reading c (u.words b) (plane_at head ys depths b) (stages_sent head b))) books
-              (both (stages_sent head b) (sent_most head b fits.stage)).0,
+                  (both (stages_sent head b) (sent_most head b fits.stage)).0,
               λ said more.
                   let under : head.stop.plane < b = omega arith in
                   let whole : said_of (plane_reading o.book (o.words b) (plane_at head xs depths b) 5) ≡ said_of (plane_reading u.book (u.words b) (plane_at head ys depths b) 5) =
