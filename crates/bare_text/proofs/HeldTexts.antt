@@ -31,7 +31,7 @@ pub record HeldAfter (h : SegmentHead) (blocks : List (List ℤ)) (depths : List
   pub count : ℕ
   pub part : Part
   pub parts : octets ≡ head ++ rest
-  pub holds : HoldsItems h size rest (given_blocks h blocks depths options count) part
+  pub holds : HoldsItems options.book h size rest (given_blocks h blocks depths options count) part
   pub all : h.limit ≡ 0 → count ≡ length (segment_items h blocks depths options)
 
 module _ (h : SegmentHead) (blocks : List (List ℤ)) (depths : List ℕ) (options : Options) (fits : IsHead h) (spellable : IsSpellable h blocks depths) (words : AreWordOptions options)
@@ -91,6 +91,7 @@ module _ (h : SegmentHead) (blocks : List (List ℤ)) (depths : List ℕ) (optio
       blocks = blocks;
       depths = depths;
       options = options;
+      of_book = refl;
       count = length items;
       more = zeros;
       items = record {
@@ -154,6 +155,7 @@ module _ (h : SegmentHead) (blocks : List (List ℤ)) (depths : List ℕ) (optio
             blocks = blocks;
             depths = depths;
             options = options;
+            of_book = refl;
             count = c.count;
             more = c.more;
             items = record {

@@ -4,6 +4,7 @@ use Rattle.std.specs.Prelude.{Option, Result, Ok, Err, MatchResult}
 use Rattle.std.specs.List.{flat_map}
 use Rattle.item_defs.specs.Items.{text}
 use Rattle.bit_pipe.specs.Sinks.{SinkOf}
+use Rattle.plane_defs.specs.Profile.{profile}
 use Rattle.wave_defs.specs.Held.{blocks_in}
 use Rattle.segment_defs.specs.declared.head.SegmentHead.{SegmentHead}
 use Rattle.segment_defs.specs.Depths.{block_depths, depth_dc_of, depth_ac_of}
@@ -15,6 +16,7 @@ use Rattle.segment_head.specs.declared.carried.Carried.{Carried}
 use Rattle.segment_head.specs.Parts.{part_1}
 use Rattle.segment_head.proofs.WrittenHeads.{length_4, length-head_bits}
 use Rattle.segment_code.specs.Text.{GivesText, BreaksWithin}
+use Rattle.segment_code.proofs.ProfileSound.{profile_sound}
 use Rattle.segment_code.proofs.Bounded.{is_bounded}
 use Rattle.segment_code.proofs.Encoding.{IsBounded}
 use Rattle.bare_text.specs.Writing.{carried_after, fields_where, bare_head_bits, bare_bits, bare_text}
@@ -48,10 +50,10 @@ pub bare_bounded : (before : Option SegmentHead) (h : SegmentHead) (cells : List
     IsBounded h.image.word h.limit h.fill (length (bare_bits before h (blocks_in cells)))
 bare_bounded before h cells fits ten count dc ac =
     let blocks = blocks_in cells in
-    let items = text (segment_items h blocks (block_depths blocks) (chosen_options h blocks)) in
+    let items = text (segment_items h blocks (block_depths blocks) (chosen_options profile h blocks)) in
     let short = bare_head_short (carried_after before h) h ten in
-    fewer h.image.word h.limit h.fill (length (bare_bits before h blocks)) (length (coded_bits h blocks))
-    (omega (arith, short, length-append (bare_head_bits (carried_after before h) h) items, length-append (head_bits h) items, length-head_bits h ten)) (is_bounded h cells fits ten count dc ac)
+    fewer h.image.word h.limit h.fill (length (bare_bits before h blocks)) (length (coded_bits profile h blocks))
+    (omega (arith, short, length-append (bare_head_bits (carried_after before h) h) items, length-append (head_bits h) items, length-head_bits h ten)) (is_bounded profile profile_sound h cells fits ten count dc ac)
 
 -- the sink is so at the return too
 pub told : {S E : Type 0} (k : SinkOf S) (out : S) (r : Result ℕ E) (before : Option SegmentHead) (h : SegmentHead) (blocks : List (List ℤ)) (u v : S) → u ≡ v →

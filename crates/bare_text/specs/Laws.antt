@@ -1,6 +1,7 @@
 -- The laws that heads with absent parts keep.
 use Rattle.std.specs.Prelude.{◌≡◌, ◌<◌, ◌≤◌, ℕ, ℤ, List, ◌++◌, length, Option, None, Some, Ok}
 use Rattle.item_defs.specs.Bits.{octets_of}
+use Rattle.plane_defs.specs.Profile.{profile}
 use Rattle.segment_defs.specs.declared.head.SegmentHead.{SegmentHead}
 use Rattle.segment_defs.specs.Depths.{block_depths, depth_ac_of}
 use Rattle.segment_defs.specs.Head.{IsHead, part_2, part_3, part_4}
@@ -45,7 +46,7 @@ pub record HoldsText (before : Option SegmentHead) (h : SegmentHead) (blocks : L
   pub w : List (List ℤ)
   pub part : Part
   pub octets : bare_text before h blocks ≡ bare_head before h ++ rest
-  pub holds : HoldsItems h (length (bare_head before h)) rest w part
+  pub holds : HoldsItems profile h (length (bare_head before h)) rest w part
   pub exact : h.limit ≡ 0 → HasNoStop h → w ≡ blocks
 
 abbrev pub BareTextsHold : Type 0

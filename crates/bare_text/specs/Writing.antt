@@ -5,6 +5,7 @@ use Rattle.std.specs.List.{flat_map}
 use Rattle.std.specs.Str.{bytes_eq}
 use Rattle.item_defs.specs.Bits.{octets_of}
 use Rattle.item_defs.specs.Items.{text}
+use Rattle.plane_defs.specs.Profile.{profile}
 use Rattle.segment_defs.specs.declared.head.SegmentHead.{SegmentHead}
 use Rattle.segment_defs.specs.Depths.{block_depths}
 use Rattle.segment_defs.specs.Head.{Field, field_bits, part_2, part_3, part_4}
@@ -43,7 +44,7 @@ bare_head_bits carried head =
 abbrev pub bare_bits : Option SegmentHead → SegmentHead → List (List ℤ) → List Bool
 bare_bits before head blocks =
     bare_head_bits (carried_after before head) head
-    ++ text (segment_items head blocks (block_depths blocks) (chosen_options head blocks))
+    ++ text (segment_items head blocks (block_depths blocks) (chosen_options profile head blocks))
 
 -- the octets of the text: the limit counts this head
 unfoldable pub bare_text : Option SegmentHead → SegmentHead → List (List ℤ) → List ℕ

@@ -12,6 +12,7 @@ use crate::write::put_bare_head;
 use bit_pipe::{BitOut, Failed, OctetOut, PutFault};
 use segment_code::encode_items;
 use segment_head::SegmentHead;
+use word_codes::profile_book;
 
 /// Writes the text of a segment as it is in a bare stream, and returns its length in octets (docs/formats.md, "Bare texts"). Its head
 /// carries the parts that differ from those in force, which are those of the head `before`; the first head carries all. The limit
@@ -100,5 +101,5 @@ fn put_text<O: OctetOut>(
     ensures depths { depths_of marks.new ≡ depths_of marks.old }
 {
     put_bare_head(out, before, head)?;
-    encode_items(out, head, blocks, marks)
+    encode_items(out, head, blocks, marks, &profile_book())
 }

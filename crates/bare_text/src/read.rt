@@ -22,10 +22,11 @@ pub struct BareHead {
 
 impl BareHead {
     ghost use Rattle.std.specs.Prelude.{◌*◌};
+    ghost use Rattle.plane_defs.specs.Profile.{profile};
     ghost use Rattle.segment_code.specs.DecodedItems.{DecodesItems};
 
     /// Reads the items of the text after this head, with their padding and fill, and no octet more (docs/formats.md, "Bare
-    /// texts"). Blocks, marks and the answer are those of `SegmentReader::decode_items`.
+    /// texts"). The reader is of the profile's book. Blocks, marks and the answer are those of `SegmentReader::decode_items`.
     ///
     /// # Errors
     ///
@@ -37,11 +38,12 @@ impl BareHead {
         blocks: &mut [i32],
         marks: &mut [i32],
     ) -> Result<Part, SegmentFault>
+        requires book { reader.now.tables.book ≡ profile }
         requires fits { IsHead self.now.head }
         requires size { self.now.size ≤ 20 }
         requires count { length blocks.old ≡ 64 * length marks.old }
         requires marks { length marks.old ≡ self.now.head.blocks }
-        ensures decodes { DecodesItems I.source self.now.head self.now.size result input.old input.new blocks.new }
+        ensures decodes { DecodesItems I.source profile self.now.head self.now.size result input.old input.new blocks.new }
         ensures sizes { (length blocks.new ≡ length blocks.old) × (length marks.new ≡ length marks.old) }
     {
         reader.decode_items(input, &self.head, self.size, blocks, marks)

@@ -12,8 +12,8 @@ use Rattle.item_defs.proofs.Texts.{text-cons}
 use Rattle.number_defs.specs.DcPart.{dc_bits}
 use Rattle.number_defs.specs.Depths.{depth_bits}
 use Rattle.number_defs.proofs.DcBits.{few_bits}
-use Rattle.plane_defs.specs.Codes.{is_prefix, code_bits, table, table_place, code_at, codes_of}
-use Rattle.plane_defs.specs.Profile.{profile}
+use Rattle.base_122.specs.declared.book.Book.{Book}
+use Rattle.plane_defs.specs.Codes.{is_book_sound, is_prefix, code_bits, table, table_place, code_at, codes_of}
 use Rattle.plane_defs.proofs.ReadOnce.{begins}
 use Rattle.plane_defs.proofs.SpanLists.{length-map-span, get_or-map-span}
 use Rattle.plane_defs.proofs.Tables.{sound_table}
@@ -26,16 +26,16 @@ use Rattle.segment_defs.specs.Head.{IsHead, head_bits}
 use Rattle.segment_defs.specs.SegmentItems.{Options, dc_shift, segment_items}
 use Rattle.text_defs.specs.Spellable.{IsSpellable, AreWordOptions, AreNumberOptions}
 use Rattle.text_defs.proofs.SegmentItems.{depth_bits_few}
-use Rattle.text_defs.proofs.SoundItems.{shape_at, segment_shapes, profile_sound}
+use Rattle.text_defs.proofs.SoundItems.{shape_at, segment_shapes}
 use Rattle.segment_code.proofs.TextBits.{texts_are_short}
 
 -- ---- in enough bits some spelling stands first
 
 -- a unary part is as long as its limit at most, and some code begins any eight bits
-pub data IsShort (s : Shape) : Type 0 where
-  is_fixed : (w : ℕ) → s ≡ fixed w → IsShort s
-  is_zeros : (limit : ℕ) → limit ≤ 1024 → s ≡ zeros_to limit → IsShort s
-  is_coded : (n option : ℕ) → 2 ≤ n → n ≤ 4 → option + 1 < n → s ≡ coded (codes_of profile n option) → IsShort s
+pub data IsShort (book : Book) (s : Shape) : Type 0 where
+  is_fixed : (w : ℕ) → s ≡ fixed w → IsShort book s
+  is_zeros : (limit : ℕ) → limit ≤ 1024 → s ≡ zeros_to limit → IsShort book s
+  is_coded : (n option : ℕ) → 2 ≤ n → n ≤ 4 → option + 1 < n → s ≡ coded (codes_of book n option) → IsShort book s
 
 fixed_first : (w : ℕ) (bits : List Bool) → Lacks (fixed w) bits → length bits < w
 fixed_first w bits lacks = elim (cases_lt (length bits) w) [
@@ -72,29 +72,29 @@ prefix_split (true ∷ xs) (false ∷ bits) e = absurd cc
 prefix_split (false ∷ xs) (true ∷ bits) e = absurd cc
 prefix_split (false ∷ xs) (false ∷ bits) e = let r = prefix_split xs bits e in (r.0, ap (λ l. false ∷ l) r.1)
 
-coded_first : (n option : ℕ) → 2 ≤ n → n ≤ 4 → option + 1 < n → (bits : List Bool) → Lacks (coded (codes_of profile n option)) bits → length bits < 8
-coded_first n option low high known bits lacks = elim (cases_lt (length bits) 8) [
+coded_first : (book : Book) → is_book_sound book ≡ true → (n option : ℕ) → 2 ≤ n → n ≤ 4 → option + 1 < n → (bits : List Bool) → Lacks (coded (codes_of book n option)) bits → length bits < 8
+coded_first book sound n option low high known bits lacks = elim (cases_lt (length bits) 8) [
   | inl lt ↦ lt
   | inr enough ↦
       let first : List Bool = take 8 bits in
       let long : length first ≡ 8 = length-take-le 8 bits enough in
       let small : value_of first < 2 ^ 8 = subst (λ n. value_of first < 2 ^ n) long (value_below first) in
       let same : bits_of 8 (value_of first) ≡ first = ap (λ n. bits_of n (value_of first)) (sym long) ∙ bits_of-value_of first in
-      let c = begins (table profile (table_place n option)) (2 ^ n) (value_of first) (sound_table profile n option profile_sound low high known) (omega (arith, small)) in
-      let split = prefix_split (code_bits (code_at profile n option c.0)) first (ap (is_prefix (code_bits (code_at profile n option c.0))) (sym same) ∙ c.2) in
-      let code : get_or (codes_of profile n option) c.0 [] ≡ code_bits (code_at profile n option c.0) = get_or-map-span (λ s. code_bits (code_at profile n option s)) (2 ^ n) c.0 [] c.1 in
-      let whole : bits ≡ code_bits (code_at profile n option c.0) ++ (split.0 ++ drop 8 bits) =
-      sym (take-append-drop 8 bits) ∙ ap (λ l. l ++ drop 8 bits) split.1 ∙ append_assoc (code_bits (code_at profile n option c.0)) split.0 (drop 8 bits) in
-      absurd (lacks c.0 (split.0 ++ drop 8 bits) (omega (arith, c.1, length-map-span (λ s. code_bits (code_at profile n option s)) (2 ^ n))) (whole ∙ ap (λ l. l ++ (split.0 ++ drop 8 bits)) (sym code)))
+      let c = begins (table book (table_place n option)) (2 ^ n) (value_of first) (sound_table book n option sound low high known) (omega (arith, small)) in
+      let split = prefix_split (code_bits (code_at book n option c.0)) first (ap (is_prefix (code_bits (code_at book n option c.0))) (sym same) ∙ c.2) in
+      let code : get_or (codes_of book n option) c.0 [] ≡ code_bits (code_at book n option c.0) = get_or-map-span (λ s. code_bits (code_at book n option s)) (2 ^ n) c.0 [] c.1 in
+      let whole : bits ≡ code_bits (code_at book n option c.0) ++ (split.0 ++ drop 8 bits) =
+      sym (take-append-drop 8 bits) ∙ ap (λ l. l ++ drop 8 bits) split.1 ∙ append_assoc (code_bits (code_at book n option c.0)) split.0 (drop 8 bits) in
+      absurd (lacks c.0 (split.0 ++ drop 8 bits) (omega (arith, c.1, length-map-span (λ s. code_bits (code_at book n option s)) (2 ^ n))) (whole ∙ ap (λ l. l ++ (split.0 ++ drop 8 bits)) (sym code)))
 ]
 
 -- ---- the items of a text
 
 short_items : (head : SegmentHead) (values : List (List ℤ)) (depths : List ℕ) (options : Options) → IsHead head → AreWordOptions options → (m : ℕ) → m < length (segment_items head values depths options) →
-    IsShort (item_at (segment_items head values depths options) m).form.shape
+    IsShort options.book (item_at (segment_items head values depths options) m).form.shape
 short_items head values depths options fits words m lt =
-    shape_at IsShort 1024 (λ w. is_fixed w refl) (λ limit le. is_zeros limit le refl) (λ n option low high known. is_coded n option low high known refl) (segment_items head values depths options) m
-    (segment_shapes IsShort 1024 (λ w. is_fixed w refl) (λ limit le. is_zeros limit le refl) (λ n option low high known. is_coded n option low high known refl) head values depths options words
+    shape_at options.book (IsShort options.book) 1024 (λ w. is_fixed w refl) (λ limit le. is_zeros limit le refl) (λ n option low high known. is_coded n option low high known refl) (segment_items head values depths options) m
+    (segment_shapes options.book (IsShort options.book) 1024 (λ w. is_fixed w refl) (λ limit le. is_zeros limit le refl) (λ n option low high known. is_coded n option low high known refl) head values depths options.dcs options.depths options.words words
     (let mono : 2 ^ dc_bits head.depth_dc head.depth_ac (dc_shift head) ≤ 2 ^ 10 = pow_mono (few_bits head.depth_dc head.depth_ac (dc_shift head)) in mono)
     (let mono : 2 ^ depth_bits head.depth_ac ≤ 2 ^ 10 = pow_mono (depth_bits_few head.depth_ac fits.depth_ac) in mono)) lt
 
@@ -107,22 +107,22 @@ item_within (i ∷ is) (suc m) lt =
     omega (arith, rest, ap length (text-cons i is), length-append (item_bits i) (text is), ap length (text-cons i (take m is)), length-append (item_bits i) (text (take m is)))
 
 -- bits in which no spelling of an item stands first are few
-brief_at : (i : Item) (bits : List Bool) → IsShort i.form.shape → Lacks i.form.shape bits → length bits ≤ 1024 + length (item_bits i)
-brief_at i bits (is_fixed w e) lacks =
+brief_at : (book : Book) → is_book_sound book ≡ true → (i : Item) (bits : List Bool) → IsShort book i.form.shape → Lacks i.form.shape bits → length bits ≤ 1024 + length (item_bits i)
+brief_at book sound i bits (is_fixed w e) lacks =
     let few = fixed_first w bits (subst (λ s. Lacks s bits) e lacks) in
     let long : length (item_bits i) ≡ w = ap (λ s. length (spelling s i.said)) e ∙ length-bits_of w i.said in
     omega (arith, few, long)
-brief_at i bits (is_zeros limit le e) lacks = elim (cases_lt (length bits) limit) [
+brief_at book sound i bits (is_zeros limit le e) lacks = elim (cases_lt (length bits) limit) [
   | inl lt ↦ omega (arith, lt, le)
   | inr enough ↦ let r = zeros_first limit bits enough in absurd (subst (λ s. Lacks s bits) e lacks r.0 r.2.0 r.1 r.2.1)
 ]
-brief_at i bits (is_coded n option low high known e) lacks = let few = coded_first n option low high known bits (subst (λ s. Lacks s bits) e lacks) in omega (arith, few)
+brief_at book sound i bits (is_coded n option low high known e) lacks = let few = coded_first book sound n option low high known bits (subst (λ s. Lacks s bits) e lacks) in omega (arith, few)
 
 pub cut_below : {I : Type 0} (k : SourceOf I) (head : SegmentHead) (size : ℕ) → size ≤ 20 → (old : I) (start stop : Coming I) → BeginsIn old (bound_of head.limit) size start → (values : List (List ℤ)) (depths : List ℕ) (options : Options) → IsHead head →
     length head.image.weights.shifts ≡ 10 → IsSpellable head values depths → AreWordOptions options → AreNumberOptions head options → (m : ℕ) → BreaksAt k (segment_items head values depths options) m start stop → stop.used < 2 ^ 35
 cut_below k head size small old start stop begins values depths options fits ten spellable words numbers m q =
     let items = segment_items head values depths options in
-    let few = brief_at (item_at items m) q.some (short_items head values depths options fits words m q.within) q.lacks in
+    let few = brief_at options.book words.sound (item_at items m) q.some (short_items head values depths options fits words m q.within) q.lacks in
     let inside = item_within items m q.within in
-    let short = texts_are_short head values depths options fits ten spellable numbers in
+    let short = texts_are_short head values depths options fits ten spellable words numbers in
     omega (arith, small, few, inside, short, length-append (head_bits head) (text items), q.taken.used, begins.used, length-append (text (take m items)) q.some)

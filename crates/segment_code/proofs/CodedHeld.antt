@@ -10,6 +10,7 @@ use Rattle.item_defs.specs.Items.{Item, text}
 use Rattle.item_defs.specs.Readings.{AreItems}
 use Rattle.item_defs.specs.Padding.{rounded, padded_length, padding, padded}
 use Rattle.item_defs.proofs.OctetBits.{length-octets_of, bits_of_octets-octets_of}
+use Rattle.base_122.specs.declared.book.Book.{Book}
 use Rattle.segment_defs.specs.declared.head.SegmentHead.{SegmentHead}
 use Rattle.segment_defs.specs.Head.{IsHead, head_bits, head_length}
 use Rattle.segment_defs.specs.Depths.{block_depths}
@@ -42,32 +43,32 @@ head_most : (last : Bool) → cond last 20 19 ≤ 20
 head_most true = omega arith
 head_most false = omega arith
 
-module _ (h : SegmentHead) (blocks : List (List ℤ)) (ok : IsHead h) (ten : length h.image.weights.shifts ≡ 10) where
+module _ (book : Book) (h : SegmentHead) (blocks : List (List ℤ)) (ok : IsHead h) (ten : length h.image.weights.shifts ≡ 10) where
   abbrev items : List Item
-  items = segment_items h blocks (block_depths blocks) (chosen_options h blocks)
+  items = segment_items h blocks (block_depths blocks) (chosen_options book h blocks)
 
   abbrev zeros : List Bool
-  zeros = copies (padding h.image.word h.limit h.fill (length (coded_bits h blocks))) false
+  zeros = copies (padding h.image.word h.limit h.fill (length (coded_bits book h blocks))) false
 
   -- what stands after the head, before the cut
   abbrev after : List Bool
   after = text items ++ zeros
 
   abbrev all : ℕ
-  all = padded_length h.image.word h.limit h.fill (length (coded_bits h blocks))
+  all = padded_length h.image.word h.limit h.fill (length (coded_bits book h blocks))
 
-  used : length (coded_bits h blocks) ≡ 8 * head_length h + length (text items)
+  used : length (coded_bits book h blocks) ≡ 8 * head_length h + length (text items)
   used = omega (arith, length-append (head_bits h) (text items), length-head_bits h ten)
 
   long : length after + 8 * head_length h ≡ all
   long =
-      let p = length-padded h.image.word h.limit h.fill (coded_bits h blocks) ok.image.word.0 in
-      omega (arith, p, length-append (coded_bits h blocks) zeros, length-append (text items) zeros, used)
+      let p = length-padded h.image.word h.limit h.fill (coded_bits book h blocks) ok.image.word.0 in
+      omega (arith, p, length-append (coded_bits book h blocks) zeros, length-append (text items) zeros, used)
 
   eights : length after ≡ 8 * (all / 8 - head_length h)
-  eights = omega (arith, long, whole_octets h.image.word h.limit (length (coded_bits h blocks)) h.fill)
+  eights = omega (arith, long, whole_octets h.image.word h.limit (length (coded_bits book h blocks)) h.fill)
 
-  parts : octets_of (padded h.image.word h.limit h.fill (coded_bits h blocks)) ≡ octets_of (head_bits h) ++ octets_of after
+  parts : octets_of (padded h.image.word h.limit h.fill (coded_bits book h blocks)) ≡ octets_of (head_bits h) ++ octets_of after
   parts = ap octets_of (append_assoc (head_bits h) (text items) zeros) ∙ octets_of-append (head_length h) (head_bits h) after (length-head_bits h ten)
 
   head_octets : length (octets_of (head_bits h)) ≡ head_length h
@@ -81,21 +82,21 @@ module _ (h : SegmentHead) (blocks : List (List ℤ)) (ok : IsHead h) (ten : len
 
   -- ---- no limit
 
-  rest_unlimited : h.limit ≡ 0 → drop (head_length h) (coded h blocks) ≡ octets_of after
+  rest_unlimited : h.limit ≡ 0 → drop (head_length h) (coded book h blocks) ≡ octets_of after
   unfolding coded text_octets
   rest_unlimited none =
       let there : (h.limit == 0) ≡ true = grind (arith, nat_tests) in
-      ap (λ b. drop (head_length h) (cond b (octets_of (padded h.image.word h.limit h.fill (coded_bits h blocks))) (take h.limit (octets_of (padded h.image.word h.limit h.fill (coded_bits h blocks)))))) there
+      ap (λ b. drop (head_length h) (cond b (octets_of (padded h.image.word h.limit h.fill (coded_bits book h blocks))) (take h.limit (octets_of (padded h.image.word h.limit h.fill (coded_bits book h blocks)))))) there
       ∙ ap (drop (head_length h)) parts ∙ drop_at (octets_of (head_bits h)) (octets_of after) (head_length h) head_octets
 
   -- ---- a limit
 
-  rest_limited : (h.limit == 0) ≡ false → head_length h ≤ h.limit → drop (head_length h) (coded h blocks) ≡ take (h.limit - head_length h) (octets_of after)
+  rest_limited : (h.limit == 0) ≡ false → head_length h ≤ h.limit → drop (head_length h) (coded book h blocks) ≡ take (h.limit - head_length h) (octets_of after)
   unfolding coded text_octets
   rest_limited some room =
       let n = h.limit - head_length h in
       let whole : h.limit ≡ length (octets_of (head_bits h)) + n = omega (arith, head_octets) in
-      ap (λ b. drop (head_length h) (cond b (octets_of (padded h.image.word h.limit h.fill (coded_bits h blocks))) (take h.limit (octets_of (padded h.image.word h.limit h.fill (coded_bits h blocks)))))) some
+      ap (λ b. drop (head_length h) (cond b (octets_of (padded h.image.word h.limit h.fill (coded_bits book h blocks))) (take h.limit (octets_of (padded h.image.word h.limit h.fill (coded_bits book h blocks)))))) some
       ∙ ap (λ o. drop (head_length h) (take h.limit o)) parts
       ∙ ap (λ k. drop (head_length h) (take k (octets_of (head_bits h) ++ octets_of after))) whole
       ∙ ap (drop (head_length h)) (take-append-add (octets_of (head_bits h)) (octets_of after) n)
@@ -119,19 +120,20 @@ module _ (h : SegmentHead) (blocks : List (List ℤ)) (ok : IsHead h) (ten : len
 
   -- ---- the text holds something
 
-  module _ (spellable : IsSpellable h blocks (block_depths blocks)) (words : AreWordOptions (chosen_options h blocks)) (numbers : AreNumberOptions h (chosen_options h blocks))
+  module _ (spellable : IsSpellable h blocks (block_depths blocks)) (words : AreWordOptions (chosen_options book h blocks)) (numbers : AreNumberOptions h (chosen_options book h blocks))
       (low : (r : ℕ) → r < length (block_depths blocks) → get_or (block_depths blocks) r 0 ≤ h.depth_ac) where
     are : AreItems items
-    are = segment_are_items h blocks (block_depths blocks) (chosen_options h blocks) ok spellable words numbers low
+    are = segment_are_items h blocks (block_depths blocks) (chosen_options book h blocks) ok spellable words numbers low
 
     held_by : (rest : List ℕ) (m : ℕ) (more : List Bool) → Front items m (bits_read h rest) more → IsTaken h rest items m more →
-        (w : List (List ℤ)) × Holds h rest w
+        (w : List (List ℤ)) × Holds book h rest w
     held_by rest m more front taken = (
-      given_blocks h blocks (block_depths blocks) (chosen_options h blocks) m,
+      given_blocks h blocks (block_depths blocks) (chosen_options book h blocks) m,
       record {
         blocks = blocks;
         depths = block_depths blocks;
-        options = chosen_options h blocks;
+        options = chosen_options book h blocks;
+        of_book = refl;
         count = m;
         more = more;
         reading = record { spellable = spellable; known = words; front = front };
@@ -140,28 +142,28 @@ module _ (h : SegmentHead) (blocks : List (List ℤ)) (ok : IsHead h) (ten : len
       },
     )
 
-    unlimited : h.limit ≡ 0 → (w : List (List ℤ)) × Holds h (drop (head_length h) (coded h blocks)) w
+    unlimited : h.limit ≡ 0 → (w : List (List ℤ)) × Holds book h (drop (head_length h) (coded book h blocks)) w
     unlimited none =
-        let rest = drop (head_length h) (coded h blocks) in
+        let rest = drop (head_length h) (coded book h blocks) in
         let there : (h.limit == 0) ≡ true = grind (arith, nat_tests) in
         let bits : bits_read h rest ≡ after = ap (λ b. bits_of_octets (cond b rest (take (h.limit - head_length h) rest))) there ∙ ap bits_of_octets (rest_unlimited none) ∙ after_bits in
         let plain : h.fill ≡ false = elim (cases_Bool h.fill) [ inl filled ↦ absurd (ok.fill filled none) | inr plain ↦ plain ] in
         let count : length rest ≡ all / 8 - head_length h = ap length (rest_unlimited none) ∙ after_octets in
         let total : length_of h rest ≡ rounded (8 * h.image.word) (8 * head_length h + length (text items)) / 8 =
-        omega (arith, count, long, ap (λ f. padded_length h.image.word h.limit f (length (coded_bits h blocks))) plain, ap (rounded (8 * h.image.word)) used) in
+        omega (arith, count, long, ap (λ f. padded_length h.image.word h.limit f (length (coded_bits book h blocks))) plain, ap (rounded (8 * h.image.word)) used) in
         held_by rest (length items) zeros (subst (λ b. Front items (length items) b zeros) (sym bits) (whole_front items zeros are))
         (inl (refl, total ∙ sym (ap (λ f. cond f h.limit (rounded (8 * h.image.word) (8 * head_length h + length (text items)) / 8)) plain)))
 
-    limited : IsLimit h.image.word h.limit → 32 ≤ h.limit → (w : List (List ℤ)) × Holds h (drop (head_length h) (coded h blocks)) w
+    limited : IsLimit h.image.word h.limit → 32 ≤ h.limit → (w : List (List ℤ)) × Holds book h (drop (head_length h) (coded book h blocks)) w
     limited l room =
-        let rest = drop (head_length h) (coded h blocks) in
+        let rest = drop (head_length h) (coded book h blocks) in
         let n = h.limit - head_length h in
         let there : (h.limit == 0) ≡ false = grind (arith, nat_tests) in
         let fits : head_length h ≤ h.limit = omega (arith, head_most h.last) in
         let is : rest ≡ take n (octets_of after) = rest_limited there fits in
         let bits : bits_read h rest ≡ take (8 * n) after =
         ap (λ b. bits_of_octets (cond b rest (take n rest))) there ∙ ap (λ r. bits_of_octets (take n r)) is ∙ ap bits_of_octets (twice n) ∙ first_bits n in
-        let least = padded_least h.image.word h.limit (length (coded_bits h blocks)) h.fill ok.image.word.0 in
+        let least = padded_least h.image.word h.limit (length (coded_bits book h blocks)) h.fill ok.image.word.0 in
         elim (cases_lt (8 * n) (length (text items))) [
           | inl cut ↦
               let shorter : take (8 * n) after ≡ take (8 * n) (text items) = take-append-le (8 * n) (text items) zeros (omega (arith, cut)) in
@@ -173,22 +175,22 @@ module _ (h : SegmentHead) (blocks : List (List ℤ)) (ok : IsHead h) (ten : len
               let k = 8 * n - length (text items) in
               let more : take (8 * n) after ≡ text items ++ take k zeros =
               (let e : 8 * n ≡ length (text items) + k = omega arith in ap (λ j. take j after) e) ∙ take-append-add (text items) zeros k in
-              let within = padded_within h.image.word h.limit (length (coded_bits h blocks)) h.fill l (omega (arith, used, whole, fits)) in
+              let within = padded_within h.image.word h.limit (length (coded_bits book h blocks)) h.fill l (omega (arith, used, whole, fits)) in
               let short : all / 8 - head_length h ≤ n = omega (arith, within) in
               let count : length rest ≡ all / 8 - head_length h = ap length (is ∙ take_all n (octets_of after) (omega (arith, after_octets, short))) ∙ after_octets in
               held_by rest (length items) (take k zeros) (subst (λ b. Front items (length items) b (take k zeros)) (sym (bits ∙ more)) (whole_front items (take k zeros) are))
               (inl (refl, omega (arith, count, long) ∙ expected within (ap (rounded (8 * h.image.word)) used)))
         ]
       where
-        expected : all ≤ 8 * h.limit → rounded (8 * h.image.word) (length (coded_bits h blocks)) ≡ rounded (8 * h.image.word) (8 * head_length h + length (text items)) → all / 8 ≡ expected_length h items
+        expected : all ≤ 8 * h.limit → rounded (8 * h.image.word) (length (coded_bits book h blocks)) ≡ rounded (8 * h.image.word) (8 * head_length h + length (text items)) → all / 8 ≡ expected_length h items
         expected within same = by_fill h.fill within
           where
-            by_fill : (f : Bool) → padded_length h.image.word h.limit f (length (coded_bits h blocks)) ≤ 8 * h.limit →
-                padded_length h.image.word h.limit f (length (coded_bits h blocks)) / 8 ≡ cond f h.limit (rounded (8 * h.image.word) (8 * head_length h + length (text items)) / 8)
+            by_fill : (f : Bool) → padded_length h.image.word h.limit f (length (coded_bits book h blocks)) ≤ 8 * h.limit →
+                padded_length h.image.word h.limit f (length (coded_bits book h blocks)) / 8 ≡ cond f h.limit (rounded (8 * h.image.word) (8 * head_length h + length (text items)) / 8)
             by_fill true le = omega (arith, le)
             by_fill false le = omega (arith, same)
 
-    pub coded_held : (w : List (List ℤ)) × Holds h (drop (head_length h) (coded h blocks)) w
+    pub coded_held : (w : List (List ℤ)) × Holds book h (drop (head_length h) (coded book h blocks)) w
     coded_held = elim ok.limit [
       | inl none ↦ unlimited none
       | inr some ↦ limited (record { octets = ok.image.word.0; some = omega (arith, some.0); whole = some.2 }) some.0

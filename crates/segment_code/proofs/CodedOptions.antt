@@ -6,11 +6,11 @@ use Rattle.std.proofs.lemmas.Bool.Decides.{nat_tests}
 use Rattle.number_defs.specs.Gaggles.{is_option}
 use Rattle.number_defs.specs.Depths.{depth_bits}
 use Rattle.number_defs.proofs.Chosen.{heuristic_is, optimal_is}
+use Rattle.plane_defs.specs.Codes.{is_book_sound}
 use Rattle.plane_defs.specs.Spans.{span}
 use Rattle.base_122.specs.declared.book.Book.{Book}
 use Rattle.plane_defs.specs.Choice.{is_cheapest, cheapest, symbol_counts}
 use Rattle.plane_defs.specs.Planes.{Plane, counted, chosen}
-use Rattle.plane_defs.specs.Profile.{profile}
 use Rattle.plane_defs.specs.Spelled.{option_of}
 use Rattle.plane_defs.proofs.Alike.{all_filter}
 use Rattle.plane_defs.proofs.Above.{all_span}
@@ -36,16 +36,16 @@ cheapest_below book n counts some =
     first_below n (filter (is_cheapest book n counts) (span 0 n)) some
     (all_filter (λ k. k < n) (is_cheapest book n counts) (span 0 n) (all_span (λ k. k < n) 0 n (λ k low high. omega arith)))
 
-chosen_below : (p : Plane) (g n : ℕ) → 2 ≤ n → n ≤ 4 → option_of (chosen profile p g) n < n
-chosen_below p g zero low high = absurd (omega arith)
-chosen_below p g (suc zero) low high = absurd (omega arith)
-chosen_below p g (suc (suc zero)) low high = cheapest_below profile 2 (symbol_counts 2 (counted p g)) (omega arith)
-chosen_below p g (suc (suc (suc zero))) low high = cheapest_below profile 3 (symbol_counts 3 (counted p g)) (omega arith)
-chosen_below p g (suc (suc (suc (suc zero)))) low high = cheapest_below profile 4 (symbol_counts 4 (counted p g)) (omega arith)
-chosen_below p g (suc (suc (suc (suc (suc n))))) low high = absurd (omega arith)
+chosen_below : (book : Book) (p : Plane) (g n : ℕ) → 2 ≤ n → n ≤ 4 → option_of (chosen book p g) n < n
+chosen_below book p g zero low high = absurd (omega arith)
+chosen_below book p g (suc zero) low high = absurd (omega arith)
+chosen_below book p g (suc (suc zero)) low high = cheapest_below book 2 (symbol_counts 2 (counted p g)) (omega arith)
+chosen_below book p g (suc (suc (suc zero))) low high = cheapest_below book 3 (symbol_counts 3 (counted p g)) (omega arith)
+chosen_below book p g (suc (suc (suc (suc zero)))) low high = cheapest_below book 4 (symbol_counts 4 (counted p g)) (omega arith)
+chosen_below book p g (suc (suc (suc (suc (suc n))))) low high = absurd (omega arith)
 
-pub words_are : (head : SegmentHead) (blocks : List (List ℤ)) → AreWordOptions (chosen_options head blocks)
-words_are head blocks = record { at = λ b g n low high. chosen_below (plane_at head blocks (block_depths blocks) b) g n low high }
+pub words_are : (book : Book) → is_book_sound book ≡ true → (head : SegmentHead) (blocks : List (List ℤ)) → AreWordOptions (chosen_options book head blocks)
+words_are book sound head blocks = record { sound = sound; at = λ b g n low high. chosen_below book (plane_at head blocks (block_depths blocks) b) g n low high }
 
 -- ---- numbers
 
@@ -60,8 +60,8 @@ deep_bits = refl
 two_from : (d b : ℕ) → (not (nat_le 2 d) || nat_le 2 b) ≡ true → 2 ≤ d → 2 ≤ b
 two_from d b e two = grind (arith, nat_tests)
 
-pub numbers_are : (head : SegmentHead) (blocks : List (List ℤ)) → IsHead head → AreNumberOptions head (chosen_options head blocks)
-numbers_are head blocks ok = record {
+pub numbers_are : (book : Book) (head : SegmentHead) (blocks : List (List ℤ)) → IsHead head → AreNumberOptions head (chosen_options book head blocks)
+numbers_are book head blocks ok = record {
   dcs = λ two g lt. choice_is head.best_dc _ _ two;
   depths = λ two g lt.
       choice_is head.best_ac (depth_bits head.depth_ac) _
@@ -82,6 +82,6 @@ within_greatest f (x ∷ xs) most (suc r) = within_greatest f xs (max most (f x)
 -- ---- the law
 
 pub coded_holds : CodedHolds
-coded_holds head blocks ok ten spellable depth =
-    coded_held head blocks ok ten spellable (words_are head blocks) (numbers_are head blocks ok)
+coded_holds book sound head blocks ok ten spellable depth =
+    coded_held book head blocks ok ten spellable (words_are book sound head blocks) (numbers_are book head blocks ok)
     (λ r lt. omega (arith, within_greatest block_depth blocks 0 r, depth))

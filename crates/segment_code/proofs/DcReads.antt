@@ -6,6 +6,7 @@ use Rattle.std.proofs.lemmas.Bool.{cases_lt}
 use Rattle.std.proofs.lemmas.Bool.Decides.{nat_tests}
 use Rattle.std.proofs.lemmas.List.{get_or_past, length-map}
 use Rattle.std.proofs.lemmas.Nat.{pow_pos}
+use Rattle.base_122.specs.declared.book.Book.{Book}
 use Rattle.wave_defs.specs.Blocks as wave_blocks
 use Rattle.wave_defs.specs.Held.{block_at}
 use Rattle.bit_pipe.specs.Sources.{SourceOf}
@@ -116,9 +117,9 @@ module _ {I : Type 0} {k : SourceOf I} {a b : Coming I} {result : Result Part Te
 
   -- ---- what is given of them
 
-  module _ (numbers : ℕ → ℕ) (words : ℕ → ℕ → List ℕ) where
+  module _ (book : Book) (numbers : ℕ → ℕ) (words : ℕ → ℕ → List ℕ) where
     abbrev pub options : Options
-    options = record { dcs = t.options; depths = numbers; words = words }
+    options = record { book = book; dcs = t.options; depths = numbers; words = words }
 
     pub part_is : dc_part_items head values options ≡ dc_items head.depth_dc head.depth_ac (dc_shift head) t.dcs t.options
     part_is = ap (λ ds. dc_items head.depth_dc head.depth_ac (dc_shift head) ds t.options) (dcs_back t.dcs)

@@ -9,6 +9,7 @@ use Rattle.item_defs.specs.Items.{Item, Refusal, bad_option, bad_delta, bad_dept
 use Rattle.item_defs.specs.Padding.{rounded, padded_length}
 use Rattle.item_defs.specs.Readings.{AreItems, item_at}
 use Rattle.item_defs.proofs.OctetBits.{octets_append, octets_both, length-bits_of_octets}
+use Rattle.base_122.specs.declared.book.Book.{Book}
 use Rattle.wave_defs.specs.Held.{blocks_in}
 use Rattle.bit_pipe.specs.Bounds.{bound_of}
 use Rattle.bit_pipe.specs.Faults as faults
@@ -105,7 +106,7 @@ module _ {I : Type 0} (k : SourceOf I) (head : SegmentHead) (size : ℕ) (old : 
   went_so : k.Went old stop.source
   went_so = subst (λ s. k.Went s stop.source) begins.source p.went
 
-  pub decodes_here : (r : Result Part SegmentFault) (blocks : List ℤ) → EndsItems k head size r p.octets old stop.source blocks → DecodesItems k head size r old stop.source blocks
+  pub decodes_here : {book : Book} (r : Result Part SegmentFault) (blocks : List ℤ) → EndsItems k book head size r p.octets old stop.source blocks → DecodesItems k book head size r old stop.source blocks
   decodes_here r blocks e = record {
     octets = p.octets;
     small = p.small;
@@ -115,7 +116,7 @@ module _ {I : Type 0} (k : SourceOf I) (head : SegmentHead) (size : ℕ) (old : 
     ends = e;
   }
 
-  pub decodes_then : (r : Result Part SegmentFault) (blocks : List ℤ) (count : ℕ) (part : Part) (new : I) (q : Passes k count part r stop.source new) → EndsItems k head size r (p.octets ++ q.octets) old new blocks → DecodesItems k head size r old new blocks
+  pub decodes_then : {book : Book} (r : Result Part SegmentFault) (blocks : List ℤ) (count : ℕ) (part : Part) (new : I) (q : Passes k count part r stop.source new) → EndsItems k book head size r (p.octets ++ q.octets) old new blocks → DecodesItems k book head size r old new blocks
   decodes_then r blocks count part new q e = record {
     octets = p.octets ++ q.octets;
     small = octets_both p.octets q.octets p.small q.small;
@@ -132,7 +133,7 @@ module _ {I : Type 0} (k : SourceOf I) (head : SegmentHead) (size : ℕ) (old : 
 
 module _ {I : Type 0} (k : SourceOf I) (head : SegmentHead) (size : ℕ) (old : I) (start stop : Coming I) (begins : BeginsIn old (bound_of head.limit) size start)
     (values : List (List ℤ)) (depths : List ℕ) (options : Options) (spellable : IsSpellable head values depths) (words : AreWordOptions options) where
-  refused_by : (m s : ℕ) (name : Refusal) (q : RefusesAt k (segment_items head values depths options) m s name start stop) → AreItems (take m (segment_items head values depths options)) → RefusesItem head size q.taken.octets name
+  refused_by : (m s : ℕ) (name : Refusal) (q : RefusesAt k (segment_items head values depths options) m s name start stop) → AreItems (take m (segment_items head values depths options)) → RefusesItem options.book head size q.taken.octets name
   refused_by m s name q are =
       let items = segment_items head values depths options in
       let next : List Bool = spelling (item_at items m).form.shape s in
@@ -140,6 +141,7 @@ module _ {I : Type 0} (k : SourceOf I) (head : SegmentHead) (size : ℕ) (old : 
         blocks = values;
         depths = depths;
         options = options;
+        of_book = refl;
         count = m;
         more = next ++ stop.pending;
         items = items_here k head size old start stop begins _ q.taken values depths options spellable words m next refl (omega (arith, q.within)) are;
@@ -147,11 +149,11 @@ module _ {I : Type 0} (k : SourceOf I) (head : SegmentHead) (size : ℕ) (old : 
       }
 
   pub decodes_refused : (m s : ℕ) (name : Refusal) → RefusesAt k (segment_items head values depths options) m s name start stop → AreItems (take m (segment_items head values depths options)) → (blocks : List ℤ) →
-      DecodesItems k head size (Err (of_text (faults.of_refusal name))) old stop.source blocks
+      DecodesItems k options.book head size (Err (of_text (faults.of_refusal name))) old stop.source blocks
   decodes_refused m s name q are blocks = decodes_here k head size old start stop begins _ q.taken (Err (of_text (faults.of_refusal name))) blocks (by_name name q are)
     where
       by_name : (name : Refusal) (q : RefusesAt k (segment_items head values depths options) m s name start stop) → AreItems (take m (segment_items head values depths options)) →
-          EndsItems k head size (Err (of_text (faults.of_refusal name))) q.taken.octets old stop.source blocks
+          EndsItems k options.book head size (Err (of_text (faults.of_refusal name))) q.taken.octets old stop.source blocks
       by_name bad_option q are = refused_by m s bad_option q are
       by_name bad_delta q are = refused_by m s bad_delta q are
       by_name bad_depth q are = refused_by m s bad_depth q are
@@ -160,10 +162,10 @@ module _ {I : Type 0} (k : SourceOf I) (head : SegmentHead) (size : ℕ) (old : 
   -- ---- the input fails
 
   pub decodes_failed : (m : ℕ) (e : InFault) → BreaksAt k (segment_items head values depths options) m start stop → FailsSo k e start stop → (blocks : List ℤ) →
-      DecodesItems k head size (Err (of_text (faults.of_input e))) old stop.source blocks
+      DecodesItems k options.book head size (Err (of_text (faults.of_input e))) old stop.source blocks
   decodes_failed m e q f blocks = decodes_here k head size old start stop begins _ q.taken (Err (of_text (faults.of_input e))) blocks (by_fault e (subst (λ s. Fails k e s stop.source) begins.source f.cause))
     where
-      by_fault : (e : InFault) → Fails k e old stop.source → EndsItems k head size (Err (of_text (faults.of_input e))) q.taken.octets old stop.source blocks
+      by_fault : (e : InFault) → Fails k e old stop.source → EndsItems k options.book head size (Err (of_text (faults.of_input e))) q.taken.octets old stop.source blocks
       by_fault inputs.ReadFault c = c
       by_fault inputs.LongInput c = c
       by_fault inputs.Broken c = c
@@ -213,13 +215,14 @@ module _ {I : Type 0} (k : SourceOf I) (head : SegmentHead) (size : ℕ) (old : 
     long more = omega (arith, length-append p.octets more)
 
     whole_ends : (r : Result Part SegmentFault) (count : ℕ) (more : List ℕ) (new : I) → 8 * (div_ceil stop.used 8 + count) ≡ wanted_bits head stop.used → EndsLength k count Whole r more stop.source new →
-        EndsItems k head size r (p.octets ++ more) old new blocks
+        EndsItems k options.book head size r (p.octets ++ more) old new blocks
     whole_ends (Ok answered) count more new wanted e =
         let w = expected count wanted in
-        subst (HoldsItems head size (p.octets ++ more) (blocks_in blocks)) (sym e.0) (record {
+        subst (HoldsItems options.book head size (p.octets ++ more) (blocks_in blocks)) (sym e.0) (record {
           blocks = values;
           depths = depths;
           options = options;
+          of_book = refl;
           count = length (segment_items head values depths options);
           more = stop.pending ++ bits_of_octets more;
           items = all_read more (λ some. let l = wanted_within count wanted some in omega (arith, l, long more, e.1));
@@ -234,6 +237,7 @@ module _ {I : Type 0} (k : SourceOf I) (head : SegmentHead) (size : ℕ) (old : 
             blocks = values;
             depths = depths;
             options = options;
+            of_book = refl;
             count = length (segment_items head values depths options);
             more = stop.pending ++ bits_of_octets more;
             items = all_read more (λ some. let l = wanted_within count wanted some in omega (arith, l, long more, e.0));
@@ -249,7 +253,7 @@ module _ {I : Type 0} (k : SourceOf I) (head : SegmentHead) (size : ℕ) (old : 
     whole_ends (Err BadDepth) count more new wanted e = absurd e
     whole_ends (Err FalseFlag) count more new wanted e = absurd e
 
-    pub decodes_whole : (r : Result Part SegmentFault) (new : I) → EndsWhole k head stop.used r stop.source new → DecodesItems k head size r old new blocks
+    pub decodes_whole : (r : Result Part SegmentFault) (new : I) → EndsWhole k head stop.used r stop.source new → DecodesItems k options.book head size r old new blocks
     decodes_whole r new q = decodes_then k head size old start stop begins _ p r blocks q.count Whole new q.ends (whole_ends r q.count q.ends.octets new q.wanted q.ends.ends)
 
   -- ---- the text ends within an item
@@ -290,7 +294,7 @@ module _ {I : Type 0} (k : SourceOf I) (head : SegmentHead) (size : ℕ) (old : 
     octets_are : stop.pending ≡ [] → stop.used ≡ 8 * (size + length q.taken.octets)
     octets_are e = omega (arith, counted k head size old start stop begins _ q.taken, used_is k head size old start stop begins _ q.taken, ap length e)
 
-    short_cut : (below : (head.limit ≡ 0) ⊎ (stop.used < 8 * head.limit)) → LacksItems head size q.taken.octets
+    short_cut : (below : (head.limit ≡ 0) ⊎ (stop.used < 8 * head.limit)) → LacksItems options.book head size q.taken.octets
     short_cut below =
         let o = over below in
         let u = octets_are o.0 in
@@ -298,6 +302,7 @@ module _ {I : Type 0} (k : SourceOf I) (head : SegmentHead) (size : ℕ) (old : 
           blocks = values;
           depths = depths;
           options = options;
+          of_book = refl;
           count = m;
           more = q.some;
           items = cut_read o.0;
@@ -323,13 +328,14 @@ module _ {I : Type 0} (k : SourceOf I) (head : SegmentHead) (size : ℕ) (old : 
         empty [] e = refl
         empty (x ∷ l) e = absurd (omega (arith, e))
 
-    cut_held : head.limit ≢ 0 → 8 * head.limit ≤ stop.used → HoldsItems head size q.taken.octets (blocks_in blocks) Ended
+    cut_held : head.limit ≢ 0 → 8 * head.limit ≤ stop.used → HoldsItems options.book head size q.taken.octets (blocks_in blocks) Ended
     cut_held some full =
         let a = at_limit some full in
         record {
           blocks = values;
           depths = depths;
           options = options;
+          of_book = refl;
           count = m;
           more = q.some;
           items = cut_read a.0;
@@ -338,11 +344,11 @@ module _ {I : Type 0} (k : SourceOf I) (head : SegmentHead) (size : ℕ) (old : 
           so = q.within;
         }
 
-    pub decodes_cut : (r : Result Part SegmentFault) → EndsCut head stop.used r → DecodesItems k head size r old stop.source blocks
+    pub decodes_cut : (r : Result Part SegmentFault) → EndsCut head stop.used r → DecodesItems k options.book head size r old stop.source blocks
     decodes_cut r c = by_limit c.ends
       where
-        by_limit : (((head.limit ≡ 0) ⊎ (stop.used < 8 * head.limit)) × (r ≡ Err ShortSegment)) ⊎ ((head.limit ≢ 0) × (8 * head.limit ≤ stop.used) × (r ≡ Ok Ended)) → DecodesItems k head size r old stop.source blocks
+        by_limit : (((head.limit ≡ 0) ⊎ (stop.used < 8 * head.limit)) × (r ≡ Err ShortSegment)) ⊎ ((head.limit ≢ 0) × (8 * head.limit ≤ stop.used) × (r ≡ Ok Ended)) → DecodesItems k options.book head size r old stop.source blocks
         by_limit (inl h) =
             let o = over h.0 in
-            subst (λ a. DecodesItems k head size a old stop.source blocks) (sym h.1) (decodes_here k head size old start stop begins _ q.taken (Err ShortSegment) blocks (o.1, short_cut h.0))
-        by_limit (inr (some, full, e)) = subst (λ a. DecodesItems k head size a old stop.source blocks) (sym e) (decodes_here k head size old start stop begins _ q.taken (Ok Ended) blocks (cut_held some full))
+            subst (λ a. DecodesItems k options.book head size a old stop.source blocks) (sym h.1) (decodes_here k head size old start stop begins _ q.taken (Err ShortSegment) blocks (o.1, short_cut h.0))
+        by_limit (inr (some, full, e)) = subst (λ a. DecodesItems k options.book head size a old stop.source blocks) (sym e) (decodes_here k head size old start stop begins _ q.taken (Ok Ended) blocks (cut_held some full))

@@ -4,6 +4,7 @@ use Rattle.std.specs.Prelude.{ℤ, pos, map}
 use Rattle.std.proofs.lemmas.Int.{ints}
 use Rattle.std.proofs.lemmas.List.{get_or-map, length-map}
 use Rattle.std.proofs.lemmas.List.FromFn.{length-map-range_with_len}
+use Rattle.base_122.specs.declared.book.Book.{Book}
 use Rattle.wave_defs.specs.Held.{block_at, blocks_in}
 use Rattle.plane_defs.specs.Marks.{depth_of, depths_of}
 use Rattle.dc_depths.specs.Marks as plain
@@ -45,10 +46,10 @@ are_depths blocks A e = record { low = λ i lt. rw (place i lt) (omega (arith, i
     place i lt = get_or-map pos (block_depths blocks) i 0 (pos 0) (omega (arith, length-map (block_depths blocks) pos))
 
 -- the block depths that are put are those of the coded text
-pub depths_put : (h : SegmentHead) (blocks : List (List ℤ)) (marks : List ℤ) (choice : ℕ → List ℕ → ℕ) → marks ≡ map pos (block_depths blocks) → choice ≡ choice_of h.best_ac →
+pub depths_put : (book : Book) (h : SegmentHead) (blocks : List (List ℤ)) (marks : List ℤ) (choice : ℕ → List ℕ → ℕ) → marks ≡ map pos (block_depths blocks) → choice ≡ choice_of h.best_ac →
     text (depth_items h.depth_ac (plain.depths_of marks) (depth_choices choice h.depth_ac (plain.depths_of marks))) ≡
-    text (depth_items h.depth_ac (block_depths blocks) (chosen_options h blocks).depths)
-depths_put h blocks marks choice e p =
+    text (depth_items h.depth_ac (block_depths blocks) (chosen_options book h blocks).depths)
+depths_put book h blocks marks choice e p =
     let same : plain.depths_of marks ≡ block_depths blocks = ap plain.depths_of e ∙ plain_depths (block_depths blocks) in
     ap (λ ds. text (depth_items h.depth_ac ds (depth_choices choice h.depth_ac ds))) same
     ∙ ap (λ c. text (depth_items h.depth_ac (block_depths blocks) (depth_choices c h.depth_ac (block_depths blocks)))) p

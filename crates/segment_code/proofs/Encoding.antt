@@ -9,6 +9,7 @@ use Rattle.item_defs.specs.Padding.{padded_length, padding, padded}
 use Rattle.item_defs.proofs.BitLists.{length-copies}
 use Rattle.item_defs.proofs.OctetBits.{length-octets_of, length-bits_of_octets, octets_of-bits_of_octets}
 use Rattle.item_defs.proofs.Rounding.{rounded_bounds}
+use Rattle.base_122.specs.declared.book.Book.{Book}
 use Rattle.bit_pipe.specs.Bounds.{bound_of}
 use Rattle.bit_pipe.specs.Sinks.{SinkOf, BrokeBits}
 use Rattle.bit_pipe.specs.Standing.{Standing, IsOpen, Begins, Adds, Breaks, Finishes, Closes}
@@ -167,9 +168,9 @@ module _ {S : Type 0} (k : SinkOf S) (out : S) (s t : Standing S) (word limit : 
   ]
 
 -- the sink stands so at the return too
-pub told : {S E : Type 0} (k : SinkOf S) (out : S) (r : Result ℕ E) (h : SegmentHead) (blocks : List (List ℤ)) (u v : S) → u ≡ v →
-    MatchResult r (λ octets. GivesText k out u (text_octets h.image.word h.limit h.fill (coded_bits h blocks)) octets) (λ _. BreaksWithin k out u (text_octets h.image.word h.limit h.fill (coded_bits h blocks))) →
-    MatchResult r (λ octets. GivesText k out v (coded h blocks) octets) (λ _. BreaksWithin k out v (coded h blocks))
+pub told : {S E : Type 0} (k : SinkOf S) (out : S) (r : Result ℕ E) (book : Book) (h : SegmentHead) (blocks : List (List ℤ)) (u v : S) → u ≡ v →
+    MatchResult r (λ octets. GivesText k out u (text_octets h.image.word h.limit h.fill (coded_bits book h blocks)) octets) (λ _. BreaksWithin k out u (text_octets h.image.word h.limit h.fill (coded_bits book h blocks))) →
+    MatchResult r (λ octets. GivesText k out v (coded book h blocks) octets) (λ _. BreaksWithin k out v (coded book h blocks))
 unfolding coded
-told k out (Ok n) h blocks u v e m = subst (λ x. GivesText k out x (text_octets h.image.word h.limit h.fill (coded_bits h blocks)) n) e m
-told k out (Err x) h blocks u v e m = subst (λ y. BreaksWithin k out y (text_octets h.image.word h.limit h.fill (coded_bits h blocks))) e m
+told k out (Ok n) book h blocks u v e m = subst (λ x. GivesText k out x (text_octets h.image.word h.limit h.fill (coded_bits book h blocks)) n) e m
+told k out (Err x) book h blocks u v e m = subst (λ y. BreaksWithin k out y (text_octets h.image.word h.limit h.fill (coded_bits book h blocks))) e m

@@ -2,6 +2,7 @@
 use Rattle.std.proofs.Common.{◌≡◌, ℕ, ◌*◌, ◌≤◌, List, length, take, sym, ap, ◌∙◌, subst, ℤ}
 use Rattle.std.specs.Prelude.{Result, Ok, Err}
 use Rattle.item_defs.specs.Readings.{AreItems, whole, ended, refused}
+use Rattle.base_122.specs.declared.book.Book.{Book}
 use Rattle.wave_defs.specs.Held.{blocks_in}
 use Rattle.bit_pipe.specs.Answers.{part_answer, items_read}
 use Rattle.bit_pipe.specs.Bounds.{bound_of}
@@ -38,8 +39,8 @@ used_same a b m n e = ap (λ q. q.1) (pair_of (record { 0 = a; 1 = m }) (record 
 part_same : (a b : Part) (m n : ℕ) → of_pair a m ≡ of_pair b n → a ≡ b
 part_same a b m n e = ap (λ q. q.0) (pair_of (record { 0 = a; 1 = m }) (record { 0 = b; 1 = n }) e)
 
-module _ {I : Type 0} (k : SourceOf I) (head : SegmentHead) (size : ℕ) (old mid : I) (now : List ℤ) where
-  pub used_within : (part : Part) (used : ℕ) → TakesFrom k head size (Ok (record { 0 = part; 1 = used })) old mid now → used ≤ 8 * bound_of head.limit
+module _ {I : Type 0} {book : Book} (k : SourceOf I) (head : SegmentHead) (size : ℕ) (old mid : I) (now : List ℤ) where
+  pub used_within : (part : Part) (used : ℕ) → TakesFrom k book head size (Ok (record { 0 = part; 1 = used })) old mid now → used ≤ 8 * bound_of head.limit
   used_within part used f = by_ending f.text.ending f.text.read.ends (f.answer ∙ ap (λ a. with_used a f.stop.used) f.text.answer)
     where
       by_ending : (e : Ending) → EndsReading k (segment_items head f.text.values f.text.depths f.text.options) e f.start f.stop → Ok (record { 0 = part; 1 = used }) ≡ with_used (part_answer e) f.stop.used → used ≤ 8 * bound_of head.limit
@@ -48,30 +49,32 @@ module _ {I : Type 0} (k : SourceOf I) (head : SegmentHead) (size : ℕ) (old mi
       by_ending (stopped (refused m s name)) r a = absurd cc
       by_ending (failed m e) r a = absurd cc
 
-  pub fault_decoded : (fault : TextFault) → TakesFrom k head size (Err fault) old mid now → DecodesItems k head size (Err (of_text fault)) old mid now
-  fault_decoded fault f = subst (λ s. DecodesItems k head size (Err (of_text fault)) old s now) f.stands (by_ending f.text.ending f.text.read.ends f.text.are (f.answer ∙ ap (λ a. with_used a f.stop.used) f.text.answer))
+  pub fault_decoded : (fault : TextFault) → TakesFrom k book head size (Err fault) old mid now → DecodesItems k book head size (Err (of_text fault)) old mid now
+  fault_decoded fault f = subst (λ s. DecodesItems k book head size (Err (of_text fault)) old s now) f.stands
+      (subst (λ b. DecodesItems k b head size (Err (of_text fault)) old f.stop.source now) f.text.of_book (by_ending f.text.ending f.text.read.ends f.text.are (f.answer ∙ ap (λ a. with_used a f.stop.used) f.text.answer)))
     where
       by_ending : (e : Ending) → EndsReading k (segment_items head f.text.values f.text.depths f.text.options) e f.start f.stop →
           AreItems (take (items_read (length (segment_items head f.text.values f.text.depths f.text.options)) e) (segment_items head f.text.values f.text.depths f.text.options)) →
-          Err fault ≡ with_used (part_answer e) f.stop.used → DecodesItems k head size (Err (of_text fault)) old f.stop.source now
+          Err fault ≡ with_used (part_answer e) f.stop.used → DecodesItems k f.text.options.book head size (Err (of_text fault)) old f.stop.source now
       by_ending (stopped whole) r are a = absurd cc
       by_ending (stopped (ended m)) r are a = absurd cc
       by_ending (stopped (refused m s name)) r are a =
           let same : fault ≡ faults.of_refusal name = cc in
-          subst (λ e. DecodesItems k head size (Err (of_text e)) old f.stop.source now) (sym same)
+          subst (λ e. DecodesItems k f.text.options.book head size (Err (of_text e)) old f.stop.source now) (sym same)
           (decoding.decodes_refused k head size old f.start f.stop f.begins f.text.values f.text.depths f.text.options f.text.spellable f.text.words m s name r are now)
       by_ending (failed m e) r are a =
           let same : fault ≡ faults.of_input e = cc in
-          subst (λ e. DecodesItems k head size (Err (of_text e)) old f.stop.source now) (sym same)
+          subst (λ e. DecodesItems k f.text.options.book head size (Err (of_text e)) old f.stop.source now) (sym same)
           (decoding.decodes_failed k head size old f.start f.stop f.begins f.text.values f.text.depths f.text.options f.text.spellable f.text.words m e r.0 r.1 now)
 
-  pub whole_decoded : IsHead head → (used : ℕ) (r : Result Part SegmentFault) (new : I) → TakesFrom k head size (Ok (record { 0 = Whole; 1 = used })) old mid now → EndsWhole k head used r mid new → DecodesItems k head size r old new now
-  whole_decoded fits used r new f q = by_ending f.text.ending f.text.read.ends f.text.are f.text.given (f.answer ∙ ap (λ a. with_used a f.stop.used) f.text.answer)
+  pub whole_decoded : IsHead head → (used : ℕ) (r : Result Part SegmentFault) (new : I) → TakesFrom k book head size (Ok (record { 0 = Whole; 1 = used })) old mid now → EndsWhole k head used r mid new → DecodesItems k book head size r old new now
+  whole_decoded fits used r new f q =
+      subst (λ b. DecodesItems k b head size r old new now) f.text.of_book (by_ending f.text.ending f.text.read.ends f.text.are f.text.given (f.answer ∙ ap (λ a. with_used a f.stop.used) f.text.answer))
     where
       by_ending : (e : Ending) → EndsReading k (segment_items head f.text.values f.text.depths f.text.options) e f.start f.stop →
           AreItems (take (items_read (length (segment_items head f.text.values f.text.depths f.text.options)) e) (segment_items head f.text.values f.text.depths f.text.options)) →
           blocks_in now ≡ given_blocks head f.text.values f.text.depths f.text.options (items_read (length (segment_items head f.text.values f.text.depths f.text.options)) e) →
-          Ok (record { 0 = Whole; 1 = used }) ≡ with_used (part_answer e) f.stop.used → DecodesItems k head size r old new now
+          Ok (record { 0 = Whole; 1 = used }) ≡ with_used (part_answer e) f.stop.used → DecodesItems k f.text.options.book head size r old new now
       by_ending (stopped whole) p are given a =
           let same = used_same Whole Whole used f.stop.used a in
           decoding.decodes_whole k head size old f.start f.stop f.begins f.text.values f.text.depths f.text.options f.text.spellable f.text.words fits p are now given r new
@@ -80,18 +83,19 @@ module _ {I : Type 0} (k : SourceOf I) (head : SegmentHead) (size : ℕ) (old mi
       by_ending (stopped (refused m s name)) p are given a = absurd cc
       by_ending (failed m e) p are given a = absurd cc
 
-  pub cut_decoded : size ≤ 20 → (used : ℕ) (r : Result Part SegmentFault) → IsHead head → length head.image.weights.shifts ≡ 10 → TakesFrom k head size (Ok (record { 0 = Ended; 1 = used })) old mid now → EndsCut head used r →
-      DecodesItems k head size r old mid now
-  cut_decoded small used r fits ten f q = by_ending f.text.ending f.text.read.ends f.text.are f.text.given (f.answer ∙ ap (λ a. with_used a f.stop.used) f.text.answer)
+  pub cut_decoded : size ≤ 20 → (used : ℕ) (r : Result Part SegmentFault) → IsHead head → length head.image.weights.shifts ≡ 10 → TakesFrom k book head size (Ok (record { 0 = Ended; 1 = used })) old mid now → EndsCut head used r →
+      DecodesItems k book head size r old mid now
+  cut_decoded small used r fits ten f q =
+      subst (λ b. DecodesItems k b head size r old mid now) f.text.of_book (by_ending f.text.ending f.text.read.ends f.text.are f.text.given (f.answer ∙ ap (λ a. with_used a f.stop.used) f.text.answer))
     where
       by_ending : (e : Ending) → EndsReading k (segment_items head f.text.values f.text.depths f.text.options) e f.start f.stop →
           AreItems (take (items_read (length (segment_items head f.text.values f.text.depths f.text.options)) e) (segment_items head f.text.values f.text.depths f.text.options)) →
           blocks_in now ≡ given_blocks head f.text.values f.text.depths f.text.options (items_read (length (segment_items head f.text.values f.text.depths f.text.options)) e) →
-          Ok (record { 0 = Ended; 1 = used }) ≡ with_used (part_answer e) f.stop.used → DecodesItems k head size r old mid now
+          Ok (record { 0 = Ended; 1 = used }) ≡ with_used (part_answer e) f.stop.used → DecodesItems k f.text.options.book head size r old mid now
       by_ending (stopped whole) p are given a = absurd (let e = part_same Ended Whole used f.stop.used a in cc)
       by_ending (stopped (ended m)) p are given a =
           let same = used_same Ended Ended used f.stop.used a in
-          subst (λ s. DecodesItems k head size r old s now) f.stands (decoding.decodes_cut k head size old f.start f.stop f.begins f.text.values f.text.depths f.text.options f.text.spellable f.text.words m p.0 p.1 are
+          subst (λ s. DecodesItems k f.text.options.book head size r old s now) f.stands (decoding.decodes_cut k head size old f.start f.stop f.begins f.text.values f.text.depths f.text.options f.text.spellable f.text.words m p.0 p.1 are
           (cut_below k head size small old f.start f.stop f.begins f.text.values f.text.depths f.text.options fits ten f.text.spellable f.text.words f.text.numbers m p.0) now given r
           (subst (λ n. EndsCut head n r) same q))
       by_ending (stopped (refused m s name)) p are given a = absurd cc

@@ -7,6 +7,7 @@ use Rattle.item_defs.specs.Bits.{bits_of_octets}
 use Rattle.item_defs.specs.Items.{Item, text}
 use Rattle.item_defs.specs.Padding.{rounded}
 use Rattle.item_defs.proofs.OctetBits.{octets_append}
+use Rattle.base_122.specs.declared.book.Book.{Book}
 use Rattle.bit_pipe.specs.declared.fault.Part.{Part}
 use Rattle.segment_defs.specs.declared.head.SegmentHead.{SegmentHead}
 use Rattle.segment_defs.specs.Head.{IsHead}
@@ -74,10 +75,10 @@ module _ (head : SegmentHead) (size : ℕ) (is js : List Item) (same : ItemsAlik
       let wanted : wanted_octets head size is ≡ wanted_octets head size js = ap (λ k. cond head.fill head.limit (rounded (8 * head.image.word) (8 * size + k) / 8)) r.1 in
       omega (arith, whole.1, other_whole.1, wanted, length-append rest more)
 
-pub no_prefix : (head : SegmentHead) (size : ℕ) (rest more : List ℕ) (v w : List (List ℤ)) (p q : Part) → IsHead head → HoldsItems head size rest v p → HoldsItems head size (rest ++ more) w q → more ≡ []
-no_prefix head size rest more v w p q fits a b =
-    let same = segment_alike head a.blocks b.blocks a.depths b.depths a.options b.options fits a.items.spellable b.items.spellable a.items.known b.items.known in
-    let back = segment_alike head b.blocks a.blocks b.depths a.depths b.options a.options fits b.items.spellable a.items.spellable b.items.known a.items.known in
+pub no_prefix : (book : Book) (head : SegmentHead) (size : ℕ) (rest more : List ℕ) (v w : List (List ℤ)) (p q : Part) → IsHead head → HoldsItems book head size rest v p → HoldsItems book head size (rest ++ more) w q → more ≡ []
+no_prefix book head size rest more v w p q fits a b =
+    let same = segment_alike head a.blocks b.blocks a.depths b.depths a.options b.options fits a.items.spellable b.items.spellable a.items.known b.items.known (a.of_book ∙ sym b.of_book) in
+    let back = segment_alike head b.blocks a.blocks b.depths a.depths b.options a.options fits b.items.spellable a.items.spellable b.items.known a.items.known (b.of_book ∙ sym a.of_book) in
     none_long more
     (none_more head size (segment_items head a.blocks a.depths a.options) (segment_items head b.blocks b.depths b.options) same back rest more a.count b.count a.more b.more a.items.front b.items.front a.all b.all b.items.within)
 
@@ -151,12 +152,12 @@ one_count is js same back bits m n left other a b s t p q = elim (cases_lt m n) 
   ]
 ]
 
-pub one_list : SameGiven → (head : SegmentHead) (size : ℕ) (rest : List ℕ) (v w : List (List ℤ)) (p q : Part) → IsHead head → HoldsItems head size rest v p → HoldsItems head size rest w q → v ≡ w
-one_list one head size rest v w p q fits a b =
+pub one_list : SameGiven → (book : Book) (head : SegmentHead) (size : ℕ) (rest : List ℕ) (v w : List (List ℤ)) (p q : Part) → IsHead head → HoldsItems book head size rest v p → HoldsItems book head size rest w q → v ≡ w
+one_list one book head size rest v w p q fits a b =
     let is = segment_items head a.blocks a.depths a.options in
     let js = segment_items head b.blocks b.depths b.options in
-    let same = segment_alike head a.blocks b.blocks a.depths b.depths a.options b.options fits a.items.spellable b.items.spellable a.items.known b.items.known in
-    let back = segment_alike head b.blocks a.blocks b.depths a.depths b.options a.options fits b.items.spellable a.items.spellable b.items.known a.items.known in
+    let same = segment_alike head a.blocks b.blocks a.depths b.depths a.options b.options fits a.items.spellable b.items.spellable a.items.known b.items.known (a.of_book ∙ sym b.of_book) in
+    let back = segment_alike head b.blocks a.blocks b.depths a.depths b.options a.options fits b.items.spellable a.items.spellable b.items.known a.items.known (b.of_book ∙ sym a.of_book) in
     let s = end_of head size rest is a.count a.more a.all in
     let t = end_of head size rest js b.count b.more b.all in
     let count : a.count ≡ b.count = one_count is js same back (bits_of_octets rest) a.count b.count a.more b.more a.items.front b.items.front s.0 t.0 s.1 t.1 in
@@ -164,6 +165,6 @@ one_list one head size rest v w p q fits a b =
     let rb = subst (λ m. Reading (unlimited head) rest b.blocks b.depths b.options m b.more) (sym count) (reading_unlimited head size rest b.blocks b.depths b.options b.count b.more b.items) in
     a.given
     ∙ given_unlimited head a.blocks a.depths a.options a.count
-    ∙ one (unlimited head) rest a.count a.blocks b.blocks a.depths b.depths a.options b.options a.more b.more (fits_unlimited head fits) ra rb
+    ∙ one (unlimited head) rest a.count a.blocks b.blocks a.depths b.depths a.options b.options a.more b.more (fits_unlimited head fits) (a.of_book ∙ sym b.of_book) ra rb
     ∙ ap (given_blocks (unlimited head) b.blocks b.depths b.options) count
     ∙ sym (b.given ∙ given_unlimited head b.blocks b.depths b.options b.count)

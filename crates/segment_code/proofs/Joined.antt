@@ -7,6 +7,7 @@ use Rattle.std.proofs.Math.Seq.{take-append-add}
 use Rattle.item_defs.specs.Bits.{bits_of_octets}
 use Rattle.item_defs.specs.Items.{Refusal, bad_option, bad_delta, bad_depth, false_flag}
 use Rattle.item_defs.proofs.OctetBits.{no_octets, octets_append, octets_both, octet_alone}
+use Rattle.base_122.specs.declared.book.Book.{Book}
 use Rattle.wave_defs.specs.Held.{blocks_in}
 use Rattle.bit_pipe.specs.declared.fault.InFault.{InFault}
 use Rattle.bit_pipe.specs.declared.fault.InFault.TheVariants as inputs
@@ -81,13 +82,14 @@ module _ (head : SegmentHead) where
 
   -- ---- each outcome
 
-  refused_here : (rest : List ℕ) (name : Refusal) → RefusesItem head (head_length head) rest name → RefusedBy head rest (at_item name)
+  refused_here : {book : Book} (rest : List ℕ) (name : Refusal) → RefusesItem book head (head_length head) rest name → RefusedBy book head rest (at_item name)
   refused_here rest name p further =
       let extra = bits_further rest further in
       record {
         blocks = p.blocks;
         depths = p.depths;
         options = p.options;
+        of_book = p.of_book;
         count = p.count;
         more = p.more ++ extra;
         reading = reading_further p.items further;
@@ -101,23 +103,25 @@ module _ (head : SegmentHead) where
         });
       }
 
-  lacking_here : (rest : List ℕ) → LacksItems head (head_length head) rest → Refused head rest short_segment
+  lacking_here : {book : Book} (rest : List ℕ) → LacksItems book head (head_length head) rest → Refused book head rest short_segment
   lacking_here rest p = record {
     blocks = p.blocks;
     depths = p.depths;
     options = p.options;
+    of_book = p.of_book;
     count = p.count;
     more = p.more;
     reading = reading_here p.items;
     cause = elim p.lacks [ inl whole ↦ inr (inl whole) | inr cut ↦ inr (inr cut) ];
   }
 
-  held_here : (rest : List ℕ) (blocks : List ℤ) (part : Part) → HoldsItems head (head_length head) rest (blocks_in blocks) part → HoldsPart head rest blocks part
+  held_here : {book : Book} (rest : List ℕ) (blocks : List ℤ) (part : Part) → HoldsItems book head (head_length head) rest (blocks_in blocks) part → HoldsPart book head rest blocks part
   held_here rest blocks part p = record {
     holds = record {
       blocks = p.blocks;
       depths = p.depths;
       options = p.options;
+      of_book = p.of_book;
       count = p.count;
       more = p.more;
       reading = reading_here p.items;
@@ -127,8 +131,8 @@ module _ (head : SegmentHead) where
     so = p.so;
   }
 
-  overlong_here : (rest : List ℕ) (octet : ℕ) (w : List (List ℤ)) (part : Part) → HoldsItems head (head_length head) rest w part → RefusedBy head (rest ++ octet ∷ []) overlong
-  overlong_here rest octet w part p further = by_end p.all
+  overlong_here : {book : Book} (rest : List ℕ) (octet : ℕ) (w : List (List ℤ)) (part : Part) → HoldsItems book head (head_length head) rest w part → RefusedBy book head (rest ++ octet ∷ []) overlong
+  overlong_here {book} rest octet w part p further = by_end p.all
     where
       again : rest ++ (octet ∷ further) ≡ (rest ++ octet ∷ []) ++ further
       again = sym (append_assoc rest (octet ∷ []) further)
@@ -137,20 +141,22 @@ module _ (head : SegmentHead) where
       longer = omega (arith, length-append rest (octet ∷ further))
 
       by_end : ((p.count ≡ length (segment_items head p.blocks p.depths p.options)) × (head_length head + length rest ≡ wanted_octets head (head_length head) (segment_items head p.blocks p.depths p.options))) ⊎ (NothingFollows (segment_items head p.blocks p.depths p.options) p.count p.more × (head.limit ≢ 0) × (head_length head + length rest ≡ head.limit)) →
-          Refused head ((rest ++ octet ∷ []) ++ further) overlong
-      by_end (inl whole) = subst (λ l. Refused head l overlong) again (record {
+          Refused book head ((rest ++ octet ∷ []) ++ further) overlong
+      by_end (inl whole) = subst (λ l. Refused book head l overlong) again (record {
         blocks = p.blocks;
         depths = p.depths;
         options = p.options;
+        of_book = p.of_book;
         count = p.count;
         more = p.more ++ bits_further rest (octet ∷ further);
         reading = reading_further p.items (octet ∷ further);
         cause = inr (inl (whole.0, omega (arith, whole.1, longer)));
       })
-      by_end (inr (follows, some, full)) = subst (λ l. Refused head l overlong) again (record {
+      by_end (inr (follows, some, full)) = subst (λ l. Refused book head l overlong) again (record {
         blocks = p.blocks;
         depths = p.depths;
         options = p.options;
+        of_book = p.of_book;
         count = p.count;
         more = p.more;
         reading = subst (Reading head (rest ++ (octet ∷ further)) p.blocks p.depths p.options p.count) (ap (λ l. p.more ++ l) (full_further rest (octet ∷ further) some full) ∙ append-nil p.more) (reading_further p.items (octet ∷ further));
@@ -159,11 +165,11 @@ module _ (head : SegmentHead) where
 
 -- ---- a call that asks for the end too
 
-module _ {I : Type 0} (k : SourceOf I) (head : SegmentHead) (old mid new : I) (blocks : List ℤ) where
-  pub fault_joined : (fault : SegmentFault) → DecodesItems k head (head_length head) (Err fault) old mid blocks → DecodesSegment k head (Err fault) old mid blocks
+module _ {I : Type 0} {book : Book} (k : SourceOf I) (head : SegmentHead) (old mid new : I) (blocks : List ℤ) where
+  pub fault_joined : (fault : SegmentFault) → DecodesItems k book head (head_length head) (Err fault) old mid blocks → DecodesSegment k book head (Err fault) old mid blocks
   fault_joined fault p = record { octets = p.octets; small = p.small; came = p.came; faults = p.faults; went = p.went; ends = by_fault fault p.ends }
     where
-      by_fault : (fault : SegmentFault) → EndsItems k head (head_length head) (Err fault) p.octets old mid blocks → EndsSegment k head (Err fault) p.octets old mid blocks
+      by_fault : (fault : SegmentFault) → EndsItems k book head (head_length head) (Err fault) p.octets old mid blocks → EndsSegment k book head (Err fault) p.octets old mid blocks
       by_fault BadOption e = refused_here head p.octets bad_option e
       by_fault BadDelta e = refused_here head p.octets bad_delta e
       by_fault BadDepth e = refused_here head p.octets bad_depth e
@@ -175,8 +181,8 @@ module _ {I : Type 0} (k : SourceOf I) (head : SegmentHead) (old mid new : I) (b
       by_fault ReadFault e = e
 
   -- the octets and one call for an octet after them
-  module _ {part : Part} (p : DecodesItems k head (head_length head) (Ok part) old mid blocks) where
-    none_more : {r : Result Part SegmentFault} → Comes (k.tail mid) (k.tail new) [] → k.faults mid ≤ k.faults new → k.Went mid new → EndsSegment k head r p.octets old new blocks → DecodesSegment k head r old new blocks
+  module _ {part : Part} (p : DecodesItems k book head (head_length head) (Ok part) old mid blocks) where
+    none_more : {r : Result Part SegmentFault} → Comes (k.tail mid) (k.tail new) [] → k.faults mid ≤ k.faults new → k.Went mid new → EndsSegment k book head r p.octets old new blocks → DecodesSegment k book head r old new blocks
     none_more came faults went ends = record {
       octets = p.octets;
       small = p.small;
@@ -186,18 +192,18 @@ module _ {I : Type 0} (k : SourceOf I) (head : SegmentHead) (old mid new : I) (b
       ends = ends;
     }
 
-    pub whole_joined : GivesOctet k (Ok None) mid new → DecodesSegment k head (Ok part) old new blocks
+    pub whole_joined : GivesOctet k (Ok None) mid new → DecodesSegment k book head (Ok part) old new blocks
     whole_joined q = none_more q.ends.0 q.faults q.went (q.ends.1, held_here head p.octets blocks part p.ends)
 
-    pub failed_joined : (e : InFault) → GivesOctet k (Err e) mid new → DecodesSegment k head (Err (of_input e)) old new blocks
+    pub failed_joined : (e : InFault) → GivesOctet k (Err e) mid new → DecodesSegment k book head (Err (of_input e)) old new blocks
     failed_joined e q = none_more q.ends.0 q.faults q.went (cause e q.ends.1)
       where
-        cause : (e : InFault) → Fails k e mid new → EndsSegment k head (Err (of_input e)) p.octets old new blocks
+        cause : (e : InFault) → Fails k e mid new → EndsSegment k book head (Err (of_input e)) p.octets old new blocks
         cause inputs.ReadFault f = rose_since (k.faults old) (k.faults mid) (k.faults new) p.faults f
         cause inputs.LongInput f = f
         cause inputs.Broken f = f
 
-    pub over_joined : (o : Option ℕ) → (o ≡ None → ⊥) → GivesOctet k (Ok o) mid new → DecodesSegment k head (Err Overlong) old new blocks
+    pub over_joined : (o : Option ℕ) → (o ≡ None → ⊥) → GivesOctet k (Ok o) mid new → DecodesSegment k book head (Err Overlong) old new blocks
     over_joined None some q = absurd (some refl)
     over_joined (Some octet) some q = record {
       octets = p.octets ++ octet ∷ [];

@@ -35,3 +35,4 @@ pub mod CodedOptions
 mod NoneAbove
 mod ExactTexts
 mod ItemEnds
+pub mod ProfileSound

@@ -9,6 +9,8 @@ use Rattle.std.proofs.lemmas.Nat.{pow_pos}
 use Rattle.item_defs.specs.Items.{Item, text, raw}
 use Rattle.item_defs.specs.Readings.{AreItems, whole}
 use Rattle.item_defs.proofs.ReadingLaws.{are_append}
+use Rattle.base_122.specs.declared.book.Book.{Book}
+use Rattle.plane_defs.specs.Codes.{is_book_sound}
 use Rattle.wave_defs.specs.Held.{block_at}
 use Rattle.bit_pipe.specs.Sources.{SourceOf}
 use Rattle.bit_pipe.specs.Coming.{Coming, Takes}
@@ -61,7 +63,7 @@ stops_there head values depths options e = ap (λ b. cond b (dc_part_items head 
 plain_option : (N : ℕ) → is_option N 0 ≡ true
 plain_option N = grind (arith, nat_tests)
 
-module _ {I : Type 0} {k : SourceOf I} {a b : Coming I} {result : Result Part TextFault} {before now : List ℤ} (head : SegmentHead) (fits : IsHead head) (t : TakesDc k head.depth_dc head.depth_ac (dc_shift head) result a b before now)
+module _ {I : Type 0} {k : SourceOf I} {a b : Coming I} {result : Result Part TextFault} {before now : List ℤ} (book : Book) (sound : is_book_sound book ≡ true) (head : SegmentHead) (fits : IsHead head) (t : TakesDc k head.depth_dc head.depth_ac (dc_shift head) result a b before now)
     (clear : AreClear before) (long : length before ≡ 64 * head.blocks) where
   abbrev part : List Item
   part = dc_items head.depth_dc head.depth_ac (dc_shift head) t.dcs t.options
@@ -93,54 +95,55 @@ module _ {I : Type 0} {k : SourceOf I} {a b : Coming I} {result : Result Part Te
   no_words b g = []
 
   abbrev only : Options
-  only = dc.options head t clear long no_numbers no_words
+  only = dc.options head t clear long book no_numbers no_words
 
   abbrev alone : List Item
   alone = segment_items head (dc.values head t clear long) none only
 
   part_is : dc_part_items head (dc.values head t clear long) only ≡ part
-  part_is = dc.part_is head t clear long no_numbers no_words
+  part_is = dc.part_is head t clear long book no_numbers no_words
 
   -- the number of a DC isn't whole where it isn't given
-  no_more : (numbers : ℕ → ℕ) (words : ℕ → ℕ → List ℕ) (n r : ℕ) → n ≡ m → r < head.blocks → t.given ≤ r → n < dc_through head (dc.values head t clear long) (dc.options head t clear long numbers words) r
-  no_more numbers words n r e lt past = elim (cases_lt n (dc_through head (dc.values head t clear long) (dc.options head t clear long numbers words) r)) [
+  no_more : (numbers : ℕ → ℕ) (words : ℕ → ℕ → List ℕ) (n r : ℕ) → n ≡ m → r < head.blocks → t.given ≤ r → n < dc_through head (dc.values head t clear long) (dc.options head t clear long book numbers words) r
+  no_more numbers words n r e lt past = elim (cases_lt n (dc_through head (dc.values head t clear long) (dc.options head t clear long book numbers words) r)) [
     | inl less ↦ less
     | inr there ↦
         let inside : r < length t.dcs = omega (arith, lt, dc.count head t clear long) in
-        let g = (t.given_are r inside).1 (omega (arith, there, e, dc.through_is head t clear long numbers words r)) in
+        let g = (t.given_are r inside).1 (omega (arith, there, e, dc.through_is head t clear long book numbers words r)) in
         absurd (omega (arith, g, past))
   ]
 
-  pub dc_alone : (read : Reads k alone t.ending a b) → AreItems (take (items_read (length alone) t.ending) alone) → items_read (length alone) t.ending ≡ m → TakesText k head result a b now
+  pub dc_alone : (read : Reads k alone t.ending a b) → AreItems (take (items_read (length alone) t.ending) alone) → items_read (length alone) t.ending ≡ m → TakesText k book head result a b now
   dc_alone read are same = record {
     values = dc.values head t clear long;
     depths = none;
     options = only;
+    of_book = refl;
     spellable = dc.spellable head t clear long none none_all none_few;
-    words = record { at = λ b g n low high. omega arith };
+    words = record { sound = sound; at = λ b g n low high. omega arith };
     numbers = record { dcs = λ two g lt. t.known two g; depths = λ two g lt. plain_option (depth_bits head.depth_ac) };
     ending = t.ending;
     read = read;
     answer = t.answer;
     are = are;
     given = blocks_are head (dc.values head t clear long) none only (items_read (length alone) t.ending) now (dc.now_long head t clear long) (λ r lt.
-        dc.block_given head t clear long no_numbers no_words none (items_read (length alone) t.ending) (λ s inside past. no_more no_numbers no_words (items_read (length alone) t.ending) s same inside past) (omega (arith, same)) r lt);
+        dc.block_given head t clear long book no_numbers no_words none (items_read (length alone) t.ending) (λ s inside past. no_more no_numbers no_words (items_read (length alone) t.ending) s same inside past) (omega (arith, same)) r lt);
   }
 
   -- the text stops there
-  pub dc_stops : head.stop.dc ≡ true → TakesText k head result a b now
+  pub dc_stops : head.stop.dc ≡ true → TakesText k book head result a b now
   dc_stops e =
       let same : alone ≡ part = stops_there head (dc.values head t clear long) none only e ∙ part_is in
       dc_alone (subst (λ l. Reads k l t.ending a b) (sym same) t.read) (are_take (items_read (length alone) t.ending) alone (subst AreItems (sym same) part_are)) (ap (λ l. items_read (length l) t.ending) same)
 
   -- the DC part is cut
-  pub dc_cut : IsCut t.ending → TakesText k head result a b now
+  pub dc_cut : IsCut t.ending → TakesText k book head result a b now
   dc_cut cut = by_stop head.stop.dc refl
     where
       rest : List Item
       rest = items_after_dc head (dc.values head t clear long) none only
 
-      by_stop : (s : Bool) → head.stop.dc ≡ s → TakesText k head result a b now
+      by_stop : (s : Bool) → head.stop.dc ≡ s → TakesText k book head result a b now
       by_stop true e = dc_stops e
       by_stop false e =
           let same : alone ≡ part ++ rest = planes_are head (dc.values head t clear long) none only e ∙ ap (λ l. l ++ rest) part_is in
@@ -164,7 +167,7 @@ module _ {I : Type 0} {k : SourceOf I} {a b : Coming I} {result : Result Part Te
     all_given r lt =
         let inside : r < length t.dcs = omega (arith, lt, dc.count head t clear long) in
         let through = through_within head (dc.values head t clear long) only r (omega (arith, lt, dc.values_all head t clear long)) in
-        (t.given_are r inside).1 (omega (arith, through, dc.through_is head t clear long no_numbers no_words r, ap length part_is, m_all))
+        (t.given_are r inside).1 (omega (arith, through, dc.through_is head t clear long book no_numbers no_words r, ap length part_is, m_all))
 
     pub dc_at : (r : ℕ) → r < head.blocks → get_or (block_at now r) 0 (pos 0) ≡ get_or t.dcs r (pos 0)
     dc_at r lt =
@@ -199,21 +202,22 @@ module _ {I : Type 0} {k : SourceOf I} {a b : Coming I} {result : Result Part Te
           depths_front head.depth_ac d.depths d.options d_read (depth_bits_few head.depth_ac fits.depth_ac) d.few
           (λ i lt le. d.low i ((d.given_are i lt).1 le) lt) (λ two g lt. d.known two g)
 
-      number_options : (words : ℕ → ℕ → List ℕ) → AreNumberOptions head (record { dcs = t.options; depths = d.options; words = words })
+      number_options : (words : ℕ → ℕ → List ℕ) → AreNumberOptions head (record { book = book; dcs = t.options; depths = d.options; words = words })
       number_options words = record { dcs = λ two g lt. t.known two g; depths = λ two g lt. d.known two g }
 
       -- ---- they are cut
 
       abbrev with_depths : Options
-      with_depths = dc.options head t clear long d.options no_words
+      with_depths = dc.options head t clear long book d.options no_words
 
-      pub depths_cut : IsCut d.ending → TakesText k head answered a c now
+      pub depths_cut : IsCut d.ending → TakesText k book head answered a c now
       depths_cut cut = record {
         values = dc.values head t clear long;
         depths = d.depths;
         options = with_depths;
+        of_book = refl;
         spellable = dc.spellable head t clear long d.depths depths_all d.few;
-        words = record { at = λ b g n low high. omega arith };
+        words = record { sound = sound; at = λ b g n low high. omega arith };
         numbers = number_options no_words;
         ending = later_by (length part) d.ending;
         read = subst (λ l. Reads k l (later_by (length part) d.ending) a c) (sym same) (reads_then part first (reads_cut rest cut d.read));
@@ -223,14 +227,14 @@ module _ {I : Type 0} {k : SourceOf I} {a b : Coming I} {result : Result Part Te
             (front_both (length part + d_read) part (depths_part ++ rest) (are_take (length part + d_read) part part_are)
             (subst (λ n. AreItems (take n (depths_part ++ rest))) past (subst AreItems (sym (take-append-le d_read depths_part rest (read_most d.read))) depths_front_are))));
         given = blocks_are head (dc.values head t clear long) d.depths with_depths _ now (dc.now_long head t clear long) (λ r lt.
-            dc.block_given head t clear long d.options no_words d.depths _ (λ s inside over. absurd (omega (arith, over, all_given s inside))) (omega (arith, size, m_most)) r lt);
+            dc.block_given head t clear long book d.options no_words d.depths _ (λ s inside over. absurd (omega (arith, over, all_given s inside))) (omega (arith, size, m_most)) r lt);
       }
         where
           rest : List Item
           rest = planes_items head (dc.values head t clear long) d.depths with_depths head.depth_ac
 
           same : segment_items head (dc.values head t clear long) d.depths with_depths ≡ part ++ (depths_part ++ rest)
-          same = planes_are head (dc.values head t clear long) d.depths with_depths goes_on ∙ ap (λ l. l ++ (depths_part ++ rest)) (dc.part_is head t clear long d.options no_words)
+          same = planes_are head (dc.values head t clear long) d.depths with_depths goes_on ∙ ap (λ l. l ++ (depths_part ++ rest)) (dc.part_is head t clear long book d.options no_words)
 
           size : items_read (length (segment_items head (dc.values head t clear long) d.depths with_depths)) (later_by (length part) d.ending) ≡ length part + d_read
           size =
@@ -290,9 +294,9 @@ module _ {I : Type 0} {k : SourceOf I} {a b : Coming I} {result : Result Part Te
 
         -- ---- the planes are read after them
 
-        module _ {e : Coming I} {last : List ℤ} {ended : Result Part TextFault} (p : TakesPlanes k head d.depths ended c e now last) where
+        module _ {e : Coming I} {last : List ℤ} {ended : Result Part TextFault} (p : TakesPlanes k book head d.depths ended c e now last) where
           abbrev options : Options
-          options = record { dcs = t.options; depths = d.options; words = p.words }
+          options = record { book = book; dcs = t.options; depths = d.options; words = p.words }
 
           abbrev planes : List Item
           planes = planes_items head p.values d.depths options head.depth_ac
@@ -337,12 +341,12 @@ module _ {I : Type 0} {k : SourceOf I} {a b : Coming I} {result : Result Part Te
           }
 
           known : AreWordOptions options
-          known = record { at = λ b g n low high. p.known b g n low high }
+          known = record { sound = sound; at = λ b g n low high. p.known b g n low high }
 
           planes_are_items : AreItems planes
           planes_are_items =
               flat_items (nth_plane_items head p.values d.depths options) (λ n.
-              plane_are_items (options.words (nth_plane head n)) (λ g. record { at = λ s lo hi. p.known (nth_plane head n) g s lo hi }) (plane_at head p.values d.depths (nth_plane head n)) spells.multiples (stages_sent head (nth_plane head n)))
+              plane_are_items book sound (options.words (nth_plane head n)) (λ g. record { at = λ s lo hi. p.known (nth_plane head n) g s lo hi }) (plane_at head p.values d.depths (nth_plane head n)) spells.multiples (stages_sent head (nth_plane head n)))
               (span 0 head.depth_ac)
 
           ending : Ending
@@ -357,12 +361,13 @@ module _ {I : Type 0} {k : SourceOf I} {a b : Coming I} {result : Result Part Te
           depths_whole : AreItems depths_part
           depths_whole = depths_are head.depth_ac d.depths d.options (depth_bits_few head.depth_ac fits.depth_ac) d.few deep (λ two g lt. d.known two g)
 
-          pub planes_read : TakesText k head ended a e last
+          pub planes_read : TakesText k book head ended a e last
           unfolding ending
           planes_read = record {
             values = p.values;
             depths = d.depths;
             options = options;
+            of_book = refl;
             spellable = spells;
             words = known;
             numbers = number_options p.words;

@@ -6,6 +6,9 @@ use Rattle.std.proofs.Math.Nat.{mul-le-mul_right}
 use Rattle.item_defs.specs.Bits.{bit}
 use Rattle.item_defs.specs.Items.{text}
 use Rattle.item_defs.proofs.Texts.{text-append}
+use Rattle.base_122.specs.declared.book.Book.{Book}
+use Rattle.plane_defs.proofs.StepItems.{AreOptionsOf}
+use Rattle.plane_defs.specs.Codes.{is_book_sound}
 use Rattle.plane_defs.specs.declared.sets.Set.{Set}
 use Rattle.plane_defs.specs.declared.sets.Set.TheVariants.{Descendants, Family, Grandchildren, Quad}
 use Rattle.plane_defs.specs.declared.stages.Stage.{Stage}
@@ -15,7 +18,6 @@ use Rattle.plane_defs.specs.declared.entries.Entry.TheVariants.{Bit}
 use Rattle.plane_defs.specs.Spans.{span}
 use Rattle.plane_defs.specs.Sets.{magnitude, coded, set_significant, newly_significant, flag_due, refined, children_of, quad_of}
 use Rattle.plane_defs.specs.Entries.{twos_bit, negative, word, flags, typed, parents, children, children_types, quads, quads_types, all_quads, grandchildren, refinement, significant_families, block_entries, stage_number}
-use Rattle.plane_defs.specs.Profile.{profile}
 use Rattle.plane_defs.specs.Planes.{Plane, gaggles, gaggle_size, of_block, of_gaggle, before_stage, gaggle_items, stage_items, plane_items}
 use Rattle.plane_defs.proofs.Fitting.{Fit, fit_each, fit_block}
 use Rattle.plane_defs.proofs.SpanLists.{length-map-filter, flat_map-span-suc}
@@ -99,36 +101,36 @@ all_stages_most (suc (suc (suc (suc zero)))) le = omega arith
 all_stages_most (suc (suc (suc (suc (suc zero))))) le = omega arith
 all_stages_most (suc (suc (suc (suc (suc (suc k)))))) le = absurd (omega arith)
 
-module _ (options : ℕ → List ℕ) (p : Plane) (short : length p.depths < 2 ^ 20) where
-  gaggle_few : (k g : ℕ) → length (text (gaggle_items profile options p k g)) ≤ 16 * stage_most (stage_number k)
+module _ (book : Book) (sound : is_book_sound book ≡ true) (options : ℕ → List ℕ) (known : (g : ℕ) → AreOptionsOf (options g)) (p : Plane) (short : length p.depths < 2 ^ 20) where
+  gaggle_few : (k g : ℕ) → length (text (gaggle_items book options p k g)) ≤ 16 * stage_most (stage_number k)
   gaggle_few k g =
       let stage = stage_number k in
       let places = span (16 * g) (gaggle_size p g) in
       let fit : Fit (of_gaggle p stage g) = fit_each (of_block p stage) places (λ r. fit_block stage (get_or p.blocks r []) (get_or p.depths r 0) p.weights p.number p.q) in
-      let spelled = spelled_few (options g) (before_stage p k g) (of_gaggle p stage g) fit in
+      let spelled = spelled_few book sound (options g) (known g) (before_stage p k g) (of_gaggle p stage g) fit in
       let sum = most_each (of_block p stage) (stage_most stage) places (λ r. block_most stage (get_or p.blocks r []) (get_or p.depths r 0) p.weights p.number p.q) in
       let count : length places ≤ 16 = omega (arith, length_span (16 * g) (gaggle_size p g)) in
       let most : length places * stage_most stage ≤ 16 * stage_most stage = mul-le-mul_right (stage_most stage) count in
       omega (arith, spelled, sum, most)
 
-  stage_few : (k : ℕ) → length (text (stage_items profile options p k)) ≤ 2 ^ 20 * stage_most (stage_number k)
+  stage_few : (k : ℕ) → length (text (stage_items book options p k)) ≤ 2 ^ 20 * stage_most (stage_number k)
   stage_few k =
-      let sum = text_each (gaggle_items profile options p k) (16 * stage_most (stage_number k)) (span 0 (gaggles p)) (gaggle_few k) in
+      let sum = text_each (gaggle_items book options p k) (16 * stage_most (stage_number k)) (span 0 (gaggles p)) (gaggle_few k) in
       let count : length (span 0 (gaggles p)) ≤ 65536 = omega (arith, short, length_span 0 (gaggles p)) in
       let most : length (span 0 (gaggles p)) * (16 * stage_most (stage_number k)) ≤ 65536 * (16 * stage_most (stage_number k)) = mul-le-mul_right (16 * stage_most (stage_number k)) count in
       omega (arith, sum, most)
 
-  stages_few : (k : ℕ) → length (text (plane_items profile options p k)) ≤ 2 ^ 20 * stages_most k
+  stages_few : (k : ℕ) → length (text (plane_items book options p k)) ≤ 2 ^ 20 * stages_most k
   unfolding span
   stages_few zero = omega arith
   stages_few (suc k) =
       let rest = stages_few k in
       let here = stage_few k in
-      let first = plane_items profile options p k in
-      let parts : plane_items profile options p (suc k) ≡ first ++ stage_items profile options p k =
-      let f = stage_items profile options p in
+      let first = plane_items book options p k in
+      let parts : plane_items book options p (suc k) ≡ first ++ stage_items book options p k =
+      let f = stage_items book options p in
       ap (λ m. flat_map f (span 0 m)) (sym (add-one k)) ∙ flat_map-span-suc f 0 k ∙ ap (λ m. flat_map f (span 0 k) ++ f m) (zero-add k) in
-      omega (arith, rest, here, ap (λ l. length (text l)) parts, ap length (text-append first (stage_items profile options p k)), length-append (text first) (text (stage_items profile options p k)))
+      omega (arith, rest, here, ap (λ l. length (text l)) parts, ap length (text-append first (stage_items book options p k)), length-append (text first) (text (stage_items book options p k)))
 
-  pub plane_few : (k : ℕ) → k ≤ 5 → length (text (plane_items profile options p k)) ≤ 2 ^ 20 * 338
+  pub plane_few : (k : ℕ) → k ≤ 5 → length (text (plane_items book options p k)) ≤ 2 ^ 20 * 338
   plane_few k le = omega (arith, stages_few k, all_stages_most k le)

@@ -9,7 +9,6 @@ use Rattle.bit_pipe.specs.declared.fault.PutFault.{PutFault}
 use Rattle.bit_pipe.proofs.Putting.{adds_start, puts_whole}
 use Rattle.wave_defs.specs.Held.{blocks_in}
 use Rattle.base_122.specs.declared.book.Book.{Book}
-use Rattle.plane_defs.specs.Profile.{profile}
 use Rattle.plane_defs.specs.Planes.{Plane, plane_items, chosen}
 use Rattle.plane_defs.specs.Reading.{plane_reading}
 use Rattle.plane_defs.proofs.SpanLists.{flat_map-span-none}
@@ -33,27 +32,26 @@ told_plane h cells depths plan n same number low weights =
     ∙ ap (λ b. at (block_depths (blocks_in cells)) h.image.weights b plan.q) number
     ∙ ap (λ q. at (block_depths (blocks_in cells)) h.image.weights (nth_plane h n) q) low
 
-plane_sent : (p : Plane) (last stages : ℕ) → last + 1 ≡ stages → text (chosen_items profile p last) ≡ text (plane_reading profile (chosen profile p) p stages)
-plane_sent p last stages e = ap (λ s. text (plane_items profile (chosen profile p) p s)) e ∙ sym (plane_text profile (chosen profile p) p stages)
+plane_sent : (book : Book) (p : Plane) (last stages : ℕ) → last + 1 ≡ stages → text (chosen_items book p last) ≡ text (plane_reading book (chosen book p) p stages)
+plane_sent book p last stages e = ap (λ s. text (plane_items book (chosen book p) p s)) e ∙ sym (plane_text book (chosen book p) p stages)
 
 module _ {S : Type 0} {k : SinkOf S} {r : Result (Unit {0}) PutFault} {s t : Standing S} where
-  pub plane_put : (book : Book) (h : SegmentHead) (cells : List ℤ) (depths : List ℕ) (plan : PlanePlan) (n : ℕ) → book ≡ profile → depths ≡ block_depths (blocks_in cells) →
+  pub plane_put : (book : Book) (h : SegmentHead) (cells : List ℤ) (depths : List ℕ) (plan : PlanePlan) (n : ℕ) → depths ≡ block_depths (blocks_in cells) →
       plan.plane ≡ nth_plane h n → plan.q ≡ q_of h → plan.weights ≡ h.image.weights → plan.last + 1 ≡ stages_sent h (nth_plane h n) →
-      Puts k r s t (text (chosen_items book (plane_of cells depths plan) plan.last)) → Puts k r s t (text (coded_plane h (blocks_in cells) n))
-  plane_put book h cells depths plan n is same number low weights last p =
+      Puts k r s t (text (chosen_items book (plane_of cells depths plan) plan.last)) → Puts k r s t (text (coded_plane book h (blocks_in cells) n))
+  plane_put book h cells depths plan n same number low weights last p =
       let plane = told_plane h cells depths plan n same number low weights in
       subst (λ bits. Puts k r s t bits) (
-      ap (λ b. text (chosen_items b (plane_of cells depths plan) plan.last)) is
-      ∙ ap (λ q. text (chosen_items profile q plan.last)) plane
-      ∙ plane_sent (plane_at h (blocks_in cells) (block_depths (blocks_in cells)) (nth_plane h n)) plan.last (stages_sent h (nth_plane h n)) last
+      ap (λ q. text (chosen_items book q plan.last)) plane
+      ∙ plane_sent book (plane_at h (blocks_in cells) (block_depths (blocks_in cells)) (nth_plane h n)) plan.last (stages_sent h (nth_plane h n)) last
       ) p
 
 -- a plane of which no stage is sent
-pub none_sent : {S : Type 0} (k : SinkOf S) (s : Standing S) (h : SegmentHead) (blocks : List (List ℤ)) (n : ℕ) → IsOpen s → stages_sent h (nth_plane h n) ≡ 0 →
-    Puts {T = Unit {0}} k (Ok tt) s s (text (coded_plane h blocks n))
-none_sent k s h blocks n ready none =
+pub none_sent : {S : Type 0} (k : SinkOf S) (s : Standing S) (book : Book) (h : SegmentHead) (blocks : List (List ℤ)) (n : ℕ) → IsOpen s → stages_sent h (nth_plane h n) ≡ 0 →
+    Puts {T = Unit {0}} k (Ok tt) s s (text (coded_plane book h blocks n))
+none_sent k s book h blocks n ready none =
     let b = nth_plane h n in
     let p = plane_at h blocks (block_depths blocks) b in
-    let nothing : text (coded_plane h blocks n) ≡ [] =
-    ap (λ m. text (plane_reading profile (chosen profile p) p m)) none ∙ ap text (flat_map-span-none _ 0) in
+    let nothing : text (coded_plane book h blocks n) ≡ [] =
+    ap (λ m. text (plane_reading book (chosen book p) p m)) none ∙ ap text (flat_map-span-none _ 0) in
     puts_whole (subst (λ bits. Adds k s s bits) (sym nothing) (adds_start k s ready))

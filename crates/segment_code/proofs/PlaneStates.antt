@@ -10,6 +10,7 @@ use Rattle.std.proofs.lemmas.Nat.{pow_pos}
 use Rattle.item_defs.specs.Items.{Item, text}
 use Rattle.item_defs.specs.Readings.{whole}
 use Rattle.item_defs.proofs.Texts.{text-append}
+use Rattle.base_122.specs.declared.book.Book.{Book}
 use Rattle.wave_defs.specs.Blocks as wave_blocks
 use Rattle.wave_defs.specs.Held.{block_at}
 use Rattle.bit_pipe.specs.Sources.{SourceOf}
@@ -30,7 +31,6 @@ use Rattle.plane_defs.specs.Sets.{magnitude, shift}
 use Rattle.plane_defs.specs.Laws.{IsMultiple}
 use Rattle.plane_defs.specs.Spelled.{option_of}
 use Rattle.plane_defs.specs.StepLaws.{SeenAlike}
-use Rattle.plane_defs.specs.Profile.{profile}
 use Rattle.plane_defs.specs.Reading.{plane_reading}
 use Rattle.plane_defs.proofs.Above.{all_span}
 use Rattle.plane_defs.proofs.Seen.{plane_sees}
@@ -152,7 +152,7 @@ blocks_at : (cells : List ℤ) (n r : ℕ) → r < n → get_or (blocks_of cells
 unfolding blocks_of
 blocks_at cells n r lt = get_or-map-span (block_at cells) n r [] lt
 
-module _ {I : Type 0} (k : SourceOf I) (head : SegmentHead) (depths : List ℕ) where
+module _ {I : Type 0} (k : SourceOf I) (book : Book) (head : SegmentHead) (depths : List ℕ) where
   no_words : ℕ → ℕ → List ℕ
   no_words b g = []
 
@@ -160,7 +160,7 @@ module _ {I : Type 0} (k : SourceOf I) (head : SegmentHead) (depths : List ℕ) 
   unfolding no_words
   none_known b g n low high = omega (arith, low)
 
-  pub above_start : (a : Coming I) (before : List ℤ) → IsIn a → HaveDcs head depths before → head.depth_ac ≤ 27 → 1 ≤ head.depth_ac → PlanesAbove k head depths (head.depth_ac - 1) a a before before
+  pub above_start : (a : Coming I) (before : List ℤ) → IsIn a → HaveDcs head depths before → head.depth_ac ≤ 27 → 1 ≤ head.depth_ac → PlanesAbove k book head depths (head.depth_ac - 1) a a before before
   above_start a before open_in have deep some =
       let n : ℕ = length depths in
       let values : List (List ℤ) = blocks_of before n in
@@ -177,13 +177,13 @@ module _ {I : Type 0} (k : SourceOf I) (head : SegmentHead) (depths : List ℕ) 
         size = refl;
       }
     where
-      none : (values : List (List ℤ)) → planes_items head values depths (with_words no_words) (head.depth_ac - (head.depth_ac - 1 + 1)) ≡ []
+      none : (values : List (List ℤ)) → planes_items head values depths (with_words book no_words) (head.depth_ac - (head.depth_ac - 1 + 1)) ≡ []
       none values =
           let z : head.depth_ac - (head.depth_ac - 1 + 1) ≡ 0 = omega (arith, some) in
-          ap (planes_items head values depths (with_words no_words)) z ∙ flat_map-span-none (nth_plane_items head values depths (with_words no_words)) 0
+          ap (planes_items head values depths (with_words book no_words)) z ∙ flat_map-span-none (nth_plane_items head values depths (with_words book no_words)) 0
 
   -- no plane is sent
-  pub none_sent : (a : Coming I) (before : List ℤ) → IsIn a → HaveDcs head depths before → head.depth_ac ≤ head.stop.plane → TakesPlanes k head depths (Ok Whole) a a before before
+  pub none_sent : (a : Coming I) (before : List ℤ) → IsIn a → HaveDcs head depths before → head.depth_ac ≤ head.stop.plane → TakesPlanes k book head depths (Ok Whole) a a before before
   none_sent a before open_in have low =
       let values : List (List ℤ) = blocks_of before (length depths) in
       record {
@@ -200,19 +200,19 @@ module _ {I : Type 0} (k : SourceOf I) (head : SegmentHead) (depths : List ℕ) 
         given = λ dcs numbers r lt. here dcs numbers _ r lt (omega arith);
       }
     where
-      none : (values : List (List ℤ)) → planes_items head values depths (with_words no_words) head.depth_ac ≡ []
+      none : (values : List (List ℤ)) → planes_items head values depths (with_words book no_words) head.depth_ac ≡ []
       none values =
-          let f = nth_plane_items head values depths (with_words no_words) in
+          let f = nth_plane_items head values depths (with_words book no_words) in
           let z : head.depth_ac ≡ 0 + head.depth_ac = omega arith in
           ap (λ n. flat_map f (span 0 n)) z ∙ rest_empty f 0 head.depth_ac (λ i from lt.
           let under : nth_plane head i < head.stop.plane = omega (arith, lt, low) in
-          ap (λ m. plane_reading profile (no_words (nth_plane head i)) (plane_at head values depths (nth_plane head i)) m) (sent_none head (nth_plane head i) under) ∙ flat_map-span-none _ 0) ∙ flat_map-span-none f 0
+          ap (λ m. plane_reading book (no_words (nth_plane head i)) (plane_at head values depths (nth_plane head i)) m) (sent_none head (nth_plane head i) under) ∙ flat_map-span-none _ 0) ∙ flat_map-span-none f 0
 
-      here : (dcs numbers : ℕ → ℕ) (m r : ℕ) → r < length depths → length (dc_part_items head (blocks_of before (length depths)) (record { dcs = dcs; depths = numbers; words = no_words })) ≤ m →
-          block_at before r ≡ given_block head (blocks_of before (length depths)) depths (record { dcs = dcs; depths = numbers; words = no_words }) m r
+      here : (dcs numbers : ℕ → ℕ) (m r : ℕ) → r < length depths → length (dc_part_items head (blocks_of before (length depths)) (record { book = book; dcs = dcs; depths = numbers; words = no_words })) ≤ m →
+          block_at before r ≡ given_block head (blocks_of before (length depths)) depths (record { book = book; dcs = dcs; depths = numbers; words = no_words }) m r
       here dcs numbers m r lt le =
           let values : List (List ℤ) = blocks_of before (length depths) in
-          let options : Options = record { dcs = dcs; depths = numbers; words = no_words } in
+          let options : Options = record { book = book; dcs = dcs; depths = numbers; words = no_words } in
           let h = have.at r lt in
           let at = blocks_at before (length depths) r lt in
           let within : r < length values = omega (arith, lt, blocks_long before (length depths)) in
@@ -230,9 +230,9 @@ module _ {I : Type 0} (k : SourceOf I) (head : SegmentHead) (depths : List ℕ) 
 
 -- ---- one plane more
 
-module _ {I : Type 0} {k : SourceOf I} (head : SegmentHead) (goes_on : head.stop.dc ≡ false) (depths : List ℕ) (p stages : ℕ) (inside : p < head.depth_ac) (sent : head.stop.plane ≤ p) (stages_are : stages_sent head p ≡ stages)
-    {a b c : Coming I} {before between now : List ℤ} {result : Result Part TextFault} (s : PlanesAbove k head depths p a b before between)
-    (t : TakesPlane k profile p (q_of head) head.image.weights.shifts stages depths result b c between now) where
+module _ {I : Type 0} {k : SourceOf I} {book : Book} (head : SegmentHead) (goes_on : head.stop.dc ≡ false) (depths : List ℕ) (p stages : ℕ) (inside : p < head.depth_ac) (sent : head.stop.plane ≤ p) (stages_are : stages_sent head p ≡ stages)
+    {a b c : Coming I} {before between now : List ℤ} {result : Result Part TextFault} (s : PlanesAbove k book head depths p a b before between)
+    (t : TakesPlane k book p (q_of head) head.image.weights.shifts stages depths result b c between now) where
   abbrev weights : List ℕ
   weights = head.image.weights.shifts
 
@@ -277,7 +277,7 @@ module _ {I : Type 0} {k : SourceOf I} (head : SegmentHead) (goes_on : head.stop
 
   module _ (dcs numbers : ℕ → ℕ) where
     abbrev options : Options
-    options = record { dcs = dcs; depths = numbers; words = words }
+    options = record { book = book; dcs = dcs; depths = numbers; words = words }
 
     abbrev plane_of : ℕ → List Item
     plane_of = nth_plane_items head t.values depths options
@@ -289,18 +289,18 @@ module _ {I : Type 0} {k : SourceOf I} (head : SegmentHead) (goes_on : head.stop
     first = planes_items head t.values depths options n
 
     abbrev here : List Item
-    here = plane_reading profile t.options (plane_with t.values depths weights p q) stages
+    here = plane_reading book t.options (plane_with t.values depths weights p q) stages
 
-    first_same : planes_items head s.values depths (with_words s.words) n ≡ first
+    first_same : planes_items head s.values depths (with_words book s.words) n ≡ first
     unfolding words
-    first_same = flat_same (nth_plane_items head s.values depths (with_words s.words)) plane_of (span 0 n) (all_span _ 0 n (λ i low lt. one i (omega arith)))
+    first_same = flat_same (nth_plane_items head s.values depths (with_words book s.words)) plane_of (span 0 n) (all_span _ 0 n (λ i low lt. one i (omega arith)))
       where
-        one : (i : ℕ) → i < n → nth_plane_items head s.values depths (with_words s.words) i ≡ plane_of i
+        one : (i : ℕ) → i < n → nth_plane_items head s.values depths (with_words book s.words) i ≡ plane_of i
         one i lt =
             let e : ℕ = nth_plane head i in
             let high : p < e = omega (arith, lt) in
-            plane_sees profile (s.words e) s.values t.values depths weights e q (stages_sent head e) (seen e high)
-            ∙ ap (λ w. plane_reading profile w (plane_at head t.values depths e) (stages_sent head e)) (sym (words_above s.words p e t.options high))
+            plane_sees book (s.words e) s.values t.values depths weights e q (stages_sent head e) (seen e high)
+            ∙ ap (λ w. plane_reading book w (plane_at head t.values depths e) (stages_sent head e)) (sym (words_above s.words p e t.options high))
 
     at_plane : nth_plane head n ≡ p
     at_plane = omega (arith, inside)
@@ -308,9 +308,9 @@ module _ {I : Type 0} {k : SourceOf I} (head : SegmentHead) (goes_on : head.stop
     here_same : plane_of n ≡ here
     unfolding words
     here_same =
-        ap (λ e. plane_reading profile (words_with s.words p t.options e) (plane_at head t.values depths e) (stages_sent head e)) at_plane
-        ∙ ap (λ w. plane_reading profile w (plane_at head t.values depths p) (stages_sent head p)) (words_here s.words p t.options)
-        ∙ ap (λ m. plane_reading profile t.options (plane_at head t.values depths p) m) stages_are
+        ap (λ e. plane_reading book (words_with s.words p t.options e) (plane_at head t.values depths e) (stages_sent head e)) at_plane
+        ∙ ap (λ w. plane_reading book w (plane_at head t.values depths p) (stages_sent head p)) (words_here s.words p t.options)
+        ∙ ap (λ m. plane_reading book t.options (plane_at head t.values depths p) m) stages_are
 
     taken : Takes k a b (text first)
     taken = subst (λ l. Takes k a b (text l)) first_same s.taken
@@ -325,17 +325,17 @@ module _ {I : Type 0} {k : SourceOf I} (head : SegmentHead) (goes_on : head.stop
       abbrev left : ℕ → ℕ
       left e = m - before_plane head t.values depths options (head.depth_ac - (e + 1))
 
-      in_plane : (e : ℕ) → given_in head t.values depths options m r e ≡ steps_given profile (words e) (plane_at head t.values depths e) (stages_sent head e) (left e) r
-      in_plane e = ap (λ d. cond d [] (steps_given profile (words e) (plane_at head t.values depths e) (stages_sent head e) (left e) r)) goes_on
+      in_plane : (e : ℕ) → given_in head t.values depths options m r e ≡ steps_given book (words e) (plane_at head t.values depths e) (stages_sent head e) (left e) r
+      in_plane e = ap (λ d. cond d [] (steps_given book (words e) (plane_at head t.values depths e) (stages_sent head e) (left e) r)) goes_on
 
       left_here : left p ≡ mp
       left_here = omega (arith, m_is)
 
-      here_steps : given_in head t.values depths options m r p ≡ steps_given profile t.options (plane_with t.values depths weights p q) stages mp r
+      here_steps : given_in head t.values depths options m r p ≡ steps_given book t.options (plane_with t.values depths weights p q) stages mp r
       unfolding words
       here_steps =
-          in_plane p ∙ ap (λ w. steps_given profile w (plane_at head t.values depths p) (stages_sent head p) (left p) r) (words_here s.words p t.options)
-          ∙ ap (λ m. steps_given profile t.options (plane_at head t.values depths p) m (left p) r) stages_are ∙ ap (λ m. steps_given profile t.options (plane_at head t.values depths p) stages m r) left_here
+          in_plane p ∙ ap (λ w. steps_given book w (plane_at head t.values depths p) (stages_sent head p) (left p) r) (words_here s.words p t.options)
+          ∙ ap (λ m. steps_given book t.options (plane_at head t.values depths p) m (left p) r) stages_are ∙ ap (λ m. steps_given book t.options (plane_at head t.values depths p) stages m r) left_here
 
       higher : (e : ℕ) → p < e → e < head.depth_ac → given_in head t.values depths options m r e ≡ all_stages (get_or t.values r []) (get_or depths r 0) weights e q
       higher e high within =
@@ -343,10 +343,10 @@ module _ {I : Type 0} {k : SourceOf I} (head : SegmentHead) (goes_on : head.stop
           let at : nth_plane head i ≡ e = omega (arith, within) in
           let stage : stages_sent head e ≡ 5 = sent_all head e (omega (arith, sent, high)) in
           let part = part_long _ _ _ (parts_of plane_of n i (omega (arith, high, within))) in
-          let long : length (plane_of i) ≡ length (plane_reading profile (words e) (plane_at head t.values depths e) 5) =
-          ap (λ d. length (plane_reading profile (words d) (plane_at head t.values depths d) (stages_sent head d))) at ∙ ap (λ m. length (plane_reading profile (words e) (plane_at head t.values depths e) m)) stage in
-          in_plane e ∙ ap (λ m. steps_given profile (words e) (plane_at head t.values depths e) m (left e) r) stage
-          ∙ plane_whole (words e) t.values depths weights e q (left e) r lt (omega (arith, part, long, m_is))
+          let long : length (plane_of i) ≡ length (plane_reading book (words e) (plane_at head t.values depths e) 5) =
+          ap (λ d. length (plane_reading book (words d) (plane_at head t.values depths d) (stages_sent head d))) at ∙ ap (λ m. length (plane_reading book (words e) (plane_at head t.values depths e) m)) stage in
+          in_plane e ∙ ap (λ m. steps_given book (words e) (plane_at head t.values depths e) m (left e) r) stage
+          ∙ plane_whole book (words e) t.values depths weights e q (left e) r lt (omega (arith, part, long, m_is))
 
       lower : (e : ℕ) → e < p → TellsNone (given_in head t.values depths options m r e)
       lower e low =
@@ -354,11 +354,11 @@ module _ {I : Type 0} {k : SourceOf I} (head : SegmentHead) (goes_on : head.stop
           let part = part_long _ _ _ (parts_of plane_of i n (omega (arith, low, inside))) in
           let most = read_most t.read in
           let none : left e ≡ 0 = omega (arith, part, ap length here_same, most, m_is) in
-          subst TellsNone (sym (in_plane e ∙ ap (λ m. steps_given profile (words e) (plane_at head t.values depths e) (stages_sent head e) m r) none))
-          (given_none profile (words e) (plane_at head t.values depths e) (stages_sent head e) r)
+          subst TellsNone (sym (in_plane e ∙ ap (λ m. steps_given book (words e) (plane_at head t.values depths e) (stages_sent head e) m r) none))
+          (given_none book (words e) (plane_at head t.values depths e) (stages_sent head e) r)
 
       plain : ArePlain (get_or t.values r []) p q (given_in head t.values depths options m r p)
-      plain = subst (ArePlain (get_or t.values r []) p q) (sym here_steps) (given_plain profile t.options (plane_with t.values depths weights p q) stages mp r)
+      plain = subst (ArePlain (get_or t.values r []) p q) (sym here_steps) (given_plain book t.options (plane_with t.values depths weights p q) stages mp r)
 
       tells : Tells p (given_in head t.values depths options m r p) (get_or t.values r []) (block_at between r) (block_at now r)
       tells = subst (λ l. Tells p l (get_or t.values r []) (block_at between r) (block_at now r)) (sym here_steps) (t.blocks r lt)
@@ -372,7 +372,7 @@ module _ {I : Type 0} {k : SourceOf I} (head : SegmentHead) (goes_on : head.stop
   -- ---- the last plane that is read
 
   takes_last : (others : List Item) → all_planes (λ g. 0) (λ g. 0) ≡ first (λ g. 0) (λ g. 0) ++ (here (λ g. 0) (λ g. 0) ++ others) → Reads k (here (λ g. 0) (λ g. 0) ++ others) t.ending b c →
-      items_read (length (here (λ g. 0) (λ g. 0) ++ others)) t.ending ≡ mp (λ g. 0) (λ g. 0) → ((r : ℕ) → r < length depths → get_or depths r 0 ≤ head.depth_ac) → TakesPlanes k head depths result a c before now
+      items_read (length (here (λ g. 0) (λ g. 0) ++ others)) t.ending ≡ mp (λ g. 0) (λ g. 0) → ((r : ℕ) → r < length depths → get_or depths r 0 ≤ head.depth_ac) → TakesPlanes k book head depths result a c before now
   takes_last others parts read count deep =
       let zero : ℕ → ℕ = λ g. 0 in
       let ending : Ending = later_by (length (first zero zero)) t.ending in
@@ -394,14 +394,14 @@ module _ {I : Type 0} {k : SourceOf I} (head : SegmentHead) (goes_on : head.stop
             block_is_given dcs numbers _ r lt (deep r lt) (ap (λ m. length (dc_part_items head t.values (options dcs numbers)) + length (depth_items head.depth_ac depths numbers) + m) size);
       }
 
-  pub takes_cut : IsCut t.ending → ((r : ℕ) → r < length depths → get_or depths r 0 ≤ head.depth_ac) → TakesPlanes k head depths result a c before now
+  pub takes_cut : IsCut t.ending → ((r : ℕ) → r < length depths → get_or depths r 0 ≤ head.depth_ac) → TakesPlanes k book head depths result a c before now
   takes_cut cut deep =
       let zero : ℕ → ℕ = λ g. 0 in
       let p = parts_of (plane_of zero zero) head.depth_ac n (omega (arith, inside)) in
       takes_last p.others (p.same ∙ ap (λ l. first zero zero ++ (l ++ p.others)) (here_same zero zero)) (reads_cut p.others cut t.read) (cut_same (length (here zero zero ++ p.others)) (length (here zero zero)) t.ending cut) deep
 
   -- the stop's plane
-  pub takes_stop : p ≡ head.stop.plane → ((r : ℕ) → r < length depths → get_or depths r 0 ≤ head.depth_ac) → TakesPlanes k head depths result a c before now
+  pub takes_stop : p ≡ head.stop.plane → ((r : ℕ) → r < length depths → get_or depths r 0 ≤ head.depth_ac) → TakesPlanes k book head depths result a c before now
   takes_stop last deep =
       let zero : ℕ → ℕ = λ g. 0 in
       let f = plane_of zero zero in
@@ -418,7 +418,7 @@ module _ {I : Type 0} {k : SourceOf I} (head : SegmentHead) (goes_on : head.stop
       none i low high =
           let e : ℕ = nth_plane head i in
           let under : e < head.stop.plane = omega (arith, low, high, last) in
-          ap (λ m. plane_reading profile (words e) (plane_at head t.values depths e) m) (sent_none head e under) ∙ flat_map-span-none _ 0
+          ap (λ m. plane_reading book (words e) (plane_at head t.values depths e) m) (sent_none head e under) ∙ flat_map-span-none _ 0
 
   -- ---- a whole plane above the stop's
 
@@ -426,17 +426,17 @@ module _ {I : Type 0} {k : SourceOf I} (head : SegmentHead) (goes_on : head.stop
     step_tells : (r : ℕ) → r < length depths → Tells p (all_stages (get_or t.values r []) (get_or depths r 0) weights p q) (get_or t.values r []) (block_at between r) (block_at now r)
     step_tells r lt =
         let zero : ℕ → ℕ = λ g. 0 in
-        let m : mp zero zero ≡ length (plane_reading profile t.options (plane_with t.values depths weights p q) 5) =
-        ap (items_read (length (here zero zero))) ended ∙ ap (λ d. length (plane_reading profile t.options (plane_with t.values depths weights p q) d)) five in
-        let steps : steps_given profile t.options (plane_with t.values depths weights p q) stages (mp zero zero) r ≡ all_stages (get_or t.values r []) (get_or depths r 0) weights p q =
-        ap (λ d. steps_given profile t.options (plane_with t.values depths weights p q) d (mp zero zero) r) five
-        ∙ plane_whole t.options t.values depths weights p q (mp zero zero) r lt (omega (arith, m)) in
+        let m : mp zero zero ≡ length (plane_reading book t.options (plane_with t.values depths weights p q) 5) =
+        ap (items_read (length (here zero zero))) ended ∙ ap (λ d. length (plane_reading book t.options (plane_with t.values depths weights p q) d)) five in
+        let steps : steps_given book t.options (plane_with t.values depths weights p q) stages (mp zero zero) r ≡ all_stages (get_or t.values r []) (get_or depths r 0) weights p q =
+        ap (λ d. steps_given book t.options (plane_with t.values depths weights p q) d (mp zero zero) r) five
+        ∙ plane_whole book t.options t.values depths weights p q (mp zero zero) r lt (omega (arith, m)) in
         subst (λ l. Tells p l (get_or t.values r []) (block_at between r) (block_at now r)) steps (t.blocks r lt)
 
     here_taken : Takes k b c (text (here (λ g. 0) (λ g. 0)))
     here_taken = (subst (λ x. Reads k (here (λ g. 0) (λ g. 0)) x b c) ended t.read).ends
 
-    pub next_above : PlanesAbove k head depths (p - 1) a c before now
+    pub next_above : PlanesAbove k book head depths (p - 1) a c before now
     next_above =
         let zero : ℕ → ℕ = λ g. 0 in
         let some : 1 ≤ p = omega (arith, high) in
@@ -459,5 +459,5 @@ module _ {I : Type 0} {k : SourceOf I} (head : SegmentHead) (goes_on : head.stop
         }
 
 -- more bits may be taken after whole planes
-pub in_above : {I : Type 0} {k : SourceOf I} {head : SegmentHead} {depths : List ℕ} {p : ℕ} {a b : Coming I} {before now : List ℤ} → IsIn a → PlanesAbove k head depths p a b before now → IsIn b
+pub in_above : {I : Type 0} {k : SourceOf I} {book : Book} {head : SegmentHead} {depths : List ℕ} {p : ℕ} {a b : Coming I} {before now : List ℤ} → IsIn a → PlanesAbove k book head depths p a b before now → IsIn b
 in_above h s = in_later h s.taken

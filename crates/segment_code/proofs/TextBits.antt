@@ -8,14 +8,13 @@ use Rattle.item_defs.proofs.Texts.{text-append}
 use Rattle.number_defs.specs.Depths.{depth_bits, depth_items}
 use Rattle.number_defs.specs.Laws.{AreFew, DcsFit}
 use Rattle.plane_defs.specs.Spans.{span}
-use Rattle.plane_defs.specs.Profile.{profile}
 use Rattle.plane_defs.proofs.ReadingTexts.{plane_text}
 use Rattle.segment_defs.specs.declared.head.SegmentHead.{SegmentHead}
 use Rattle.segment_defs.specs.Depths.{dc_of, dcs_of}
 use Rattle.segment_defs.specs.Head.{IsHead, head_bits}
 use Rattle.segment_defs.specs.SegmentItems.{Options, dc_shift, plane_at, stages_sent, dc_part_items, nth_plane, nth_plane_items, planes_items, items_after_dc, segment_items}
 use Rattle.segment_head.proofs.WrittenHeads.{length-head_bits}
-use Rattle.text_defs.specs.Spellable.{AreNumberOptions}
+use Rattle.text_defs.specs.Spellable.{AreWordOptions, AreNumberOptions}
 use Rattle.segment_code.specs.Laws.{TextsAreShort}
 use Rattle.segment_code.proofs.NumberBits.{dc_few, depths_few}
 use Rattle.segment_code.proofs.EntryBits.{text_each, length_span}
@@ -29,14 +28,14 @@ sent_most : (head : SegmentHead) (b : ℕ) → head.stop.stage < 4 → stages_se
 sent_most head b lt = grind (arith, nat_tests)
 
 module _ (h : SegmentHead) (blocks : List (List ℤ)) (depths : List ℕ) (o : Options) (ok : IsHead h) (ten : length h.image.weights.shifts ≡ 10) (blocks_all : length blocks ≡ h.blocks)
-    (depths_all : length depths ≡ h.blocks) (fit : DcsFit h.depth_dc h.depth_ac (dc_shift h) (dcs_of blocks)) (few : AreFew (depth_bits h.depth_ac) depths) (known : AreNumberOptions h o) where
+    (depths_all : length depths ≡ h.blocks) (fit : DcsFit h.depth_dc h.depth_ac (dc_shift h) (dcs_of blocks)) (few : AreFew (depth_bits h.depth_ac) depths) (words : AreWordOptions o) (known : AreNumberOptions h o) where
   plane_short : (n : ℕ) → length (text (nth_plane_items h blocks depths o n)) ≤ 2 ^ 20 * 338
   plane_short n =
       let b = nth_plane h n in
       let p = plane_at h blocks depths b in
       let sent = stages_sent h b in
-      let most = plane_few (o.words b) p (omega (arith, depths_all, ok.blocks)) sent (sent_most h b ok.stage) in
-      omega (arith, most, ap length (plane_text profile (o.words b) p sent))
+      let most = plane_few o.book words.sound (o.words b) (λ g. record { at = λ n low high. words.at b g n low high }) p (omega (arith, depths_all, ok.blocks)) sent (sent_most h b ok.stage) in
+      omega (arith, most, ap length (plane_text o.book (o.words b) p sent))
 
   planes_short : (n : ℕ) → length (text (planes_items h blocks depths o n)) ≤ n * (2 ^ 20 * 338)
   planes_short n = let all = text_each (nth_plane_items h blocks depths o) (2 ^ 20 * 338) (span 0 n) plane_short in omega (arith, all, length_span 0 n)
@@ -73,4 +72,5 @@ module _ (h : SegmentHead) (blocks : List (List ℤ)) (depths : List ℕ) (o : O
       omega (arith, items_short, length-append (head_bits h) items, length-head_bits h ten, head_short h.last)
 
 pub texts_are_short : TextsAreShort
-texts_are_short h blocks depths o ok ten spellable known = text_short h blocks depths o ok ten spellable.blocks_all spellable.depths_all spellable.dcs_fit spellable.depths_few known
+texts_are_short h blocks depths o ok ten spellable words known =
+    text_short h blocks depths o ok ten spellable.blocks_all spellable.depths_all spellable.dcs_fit spellable.depths_few words known

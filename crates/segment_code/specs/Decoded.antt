@@ -2,6 +2,7 @@
 use Rattle.std.specs.Prelude.{◌≡◌, ◌<◌, ◌≤◌, ℕ, ℤ, List, ◌++◌, length, Result, Ok, Err}
 use Rattle.item_defs.specs.Bits.{AreOctets}
 use Rattle.item_defs.specs.Items.{bad_option, bad_delta, bad_depth, false_flag}
+use Rattle.base_122.specs.declared.book.Book.{Book}
 use Rattle.wave_defs.specs.Held.{blocks_in}
 use Rattle.bit_pipe.specs.Sinks.{Rose}
 use Rattle.bit_pipe.specs.declared.fault.Part.{Part}
@@ -18,33 +19,33 @@ abbrev pub IsPart : Part → (count all : ℕ) → Type 0
 IsPart Whole count all = count ≡ all
 IsPart Ended count all = count < all
 
--- the octets after the head hold these blocks
-pub record HoldsPart (head : SegmentHead) (octets : List ℕ) (blocks : List ℤ) (part : Part) : Type 0 where
-  pub holds : Holds head octets (blocks_in blocks)
+-- the octets after the head hold these blocks, with the codes of this book
+pub record HoldsPart (book : Book) (head : SegmentHead) (octets : List ℕ) (blocks : List ℤ) (part : Part) : Type 0 where
+  pub holds : Holds book head octets (blocks_in blocks)
   pub so : IsPart part holds.count (length (segment_items head holds.blocks holds.depths holds.options))
 
 -- these octets are refused, whatever would follow
-abbrev pub RefusedBy : SegmentHead → List ℕ → SegmentRefusal → Type 0
-RefusedBy head octets name = (further : List ℕ) → Refused head (octets ++ further) name
+abbrev pub RefusedBy : Book → SegmentHead → List ℕ → SegmentRefusal → Type 0
+RefusedBy book head octets name = (further : List ℕ) → Refused book head (octets ++ further) name
 
-abbrev pub EndsSegment : {I : Type 0} → SourceOf I → SegmentHead → Result Part SegmentFault → List ℕ → I → I → List ℤ → Type 0
-EndsSegment k head (Ok part) octets old new blocks = IsOver (k.tail new) Plainly × HoldsPart head octets blocks part
-EndsSegment k head (Err BadOption) octets old new blocks = RefusedBy head octets (at_item bad_option)
-EndsSegment k head (Err BadDelta) octets old new blocks = RefusedBy head octets (at_item bad_delta)
-EndsSegment k head (Err BadDepth) octets old new blocks = RefusedBy head octets (at_item bad_depth)
-EndsSegment k head (Err FalseFlag) octets old new blocks = RefusedBy head octets (at_item false_flag)
-EndsSegment k head (Err ShortSegment) octets old new blocks = IsOver (k.tail new) Plainly × Refused head octets short_segment
-EndsSegment k head (Err Overlong) octets old new blocks = RefusedBy head octets overlong
-EndsSegment k head (Err BrokenSegment) octets old new blocks = IsOver (k.tail new) InPieces
-EndsSegment k head (Err LongInput) octets old new blocks = IsOver (k.tail new) TooLong
-EndsSegment k head (Err ReadFault) octets old new blocks = Rose (k.faults old) (k.faults new)
+abbrev pub EndsSegment : {I : Type 0} → SourceOf I → Book → SegmentHead → Result Part SegmentFault → List ℕ → I → I → List ℤ → Type 0
+EndsSegment k book head (Ok part) octets old new blocks = IsOver (k.tail new) Plainly × HoldsPart book head octets blocks part
+EndsSegment k book head (Err BadOption) octets old new blocks = RefusedBy book head octets (at_item bad_option)
+EndsSegment k book head (Err BadDelta) octets old new blocks = RefusedBy book head octets (at_item bad_delta)
+EndsSegment k book head (Err BadDepth) octets old new blocks = RefusedBy book head octets (at_item bad_depth)
+EndsSegment k book head (Err FalseFlag) octets old new blocks = RefusedBy book head octets (at_item false_flag)
+EndsSegment k book head (Err ShortSegment) octets old new blocks = IsOver (k.tail new) Plainly × Refused book head octets short_segment
+EndsSegment k book head (Err Overlong) octets old new blocks = RefusedBy book head octets overlong
+EndsSegment k book head (Err BrokenSegment) octets old new blocks = IsOver (k.tail new) InPieces
+EndsSegment k book head (Err LongInput) octets old new blocks = IsOver (k.tail new) TooLong
+EndsSegment k book head (Err ReadFault) octets old new blocks = Rose (k.faults old) (k.faults new)
 
 -- A segment's text was read: these octets came, and the answer is what they hold, the name by which they are refused, or how the
 -- input ended.
-pub record DecodesSegment {I : Type 0} (k : SourceOf I) (head : SegmentHead) (result : Result Part SegmentFault) (old new : I) (blocks : List ℤ) : Type 0 where
+pub record DecodesSegment {I : Type 0} (k : SourceOf I) (book : Book) (head : SegmentHead) (result : Result Part SegmentFault) (old new : I) (blocks : List ℤ) : Type 0 where
   pub octets : List ℕ
   pub small : AreOctets octets
   pub came : Comes (k.tail old) (k.tail new) octets
   pub faults : k.faults old ≤ k.faults new
   pub went : k.Went old new
-  pub ends : EndsSegment k head result octets old new blocks
+  pub ends : EndsSegment k book head result octets old new blocks

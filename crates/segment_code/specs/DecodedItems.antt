@@ -2,6 +2,7 @@
 use Rattle.std.specs.Prelude.{◌≤◌, ℕ, ℤ, List, Result, Ok, Err}
 use Rattle.item_defs.specs.Bits.{AreOctets}
 use Rattle.item_defs.specs.Items.{bad_option, bad_delta, bad_depth, false_flag}
+use Rattle.base_122.specs.declared.book.Book.{Book}
 use Rattle.wave_defs.specs.Held.{blocks_in}
 use Rattle.bit_pipe.specs.Sinks.{Rose}
 use Rattle.bit_pipe.specs.declared.fault.Part.{Part}
@@ -11,24 +12,24 @@ use Rattle.segment_code.specs.ItemsHeld.{HoldsItems, RefusesItem, LacksItems}
 use Rattle.segment_code.specs.declared.decode.SegmentFault.{SegmentFault}
 use Rattle.segment_code.specs.declared.decode.SegmentFault.TheVariants.{BadOption, BadDelta, BadDepth, FalseFlag, ShortSegment, Overlong, BrokenSegment, ReadFault, LongInput}
 
-abbrev pub EndsItems : {I : Type 0} → SourceOf I → SegmentHead → (size : ℕ) → Result Part SegmentFault → List ℕ → I → I → List ℤ → Type 0
-EndsItems k head size (Ok part) octets old new blocks = HoldsItems head size octets (blocks_in blocks) part
-EndsItems k head size (Err BadOption) octets old new blocks = RefusesItem head size octets bad_option
-EndsItems k head size (Err BadDelta) octets old new blocks = RefusesItem head size octets bad_delta
-EndsItems k head size (Err BadDepth) octets old new blocks = RefusesItem head size octets bad_depth
-EndsItems k head size (Err FalseFlag) octets old new blocks = RefusesItem head size octets false_flag
-EndsItems k head size (Err ShortSegment) octets old new blocks = IsOver (k.tail new) Plainly × LacksItems head size octets
-EndsItems k head size (Err Overlong) octets old new blocks = ⊥
-EndsItems k head size (Err BrokenSegment) octets old new blocks = IsOver (k.tail new) InPieces
-EndsItems k head size (Err LongInput) octets old new blocks = IsOver (k.tail new) TooLong
-EndsItems k head size (Err ReadFault) octets old new blocks = Rose (k.faults old) (k.faults new)
+abbrev pub EndsItems : {I : Type 0} → SourceOf I → Book → SegmentHead → (size : ℕ) → Result Part SegmentFault → List ℕ → I → I → List ℤ → Type 0
+EndsItems k book head size (Ok part) octets old new blocks = HoldsItems book head size octets (blocks_in blocks) part
+EndsItems k book head size (Err BadOption) octets old new blocks = RefusesItem book head size octets bad_option
+EndsItems k book head size (Err BadDelta) octets old new blocks = RefusesItem book head size octets bad_delta
+EndsItems k book head size (Err BadDepth) octets old new blocks = RefusesItem book head size octets bad_depth
+EndsItems k book head size (Err FalseFlag) octets old new blocks = RefusesItem book head size octets false_flag
+EndsItems k book head size (Err ShortSegment) octets old new blocks = IsOver (k.tail new) Plainly × LacksItems book head size octets
+EndsItems k book head size (Err Overlong) octets old new blocks = ⊥
+EndsItems k book head size (Err BrokenSegment) octets old new blocks = IsOver (k.tail new) InPieces
+EndsItems k book head size (Err LongInput) octets old new blocks = IsOver (k.tail new) TooLong
+EndsItems k book head size (Err ReadFault) octets old new blocks = Rose (k.faults old) (k.faults new)
 
 -- The octets of a text after its head were read, and no more: they are these, and the answer is what they hold, the name by which
 -- they are refused, or how the input ended.
-pub record DecodesItems {I : Type 0} (k : SourceOf I) (head : SegmentHead) (size : ℕ) (result : Result Part SegmentFault) (old new : I) (blocks : List ℤ) : Type 0 where
+pub record DecodesItems {I : Type 0} (k : SourceOf I) (book : Book) (head : SegmentHead) (size : ℕ) (result : Result Part SegmentFault) (old new : I) (blocks : List ℤ) : Type 0 where
   pub octets : List ℕ
   pub small : AreOctets octets
   pub came : Comes (k.tail old) (k.tail new) octets
   pub faults : k.faults old ≤ k.faults new
   pub went : k.Went old new
-  pub ends : EndsItems k head size result octets old new blocks
+  pub ends : EndsItems k book head size result octets old new blocks

@@ -4,6 +4,7 @@ use Rattle.std.specs.Prelude.{◌≡◌, ◌≢◌, ◌<◌, ◌≤◌, ◌⊎�
 use Rattle.item_defs.specs.Bits.{bits_of_octets}
 use Rattle.item_defs.specs.Items.{Item, Refusal, text}
 use Rattle.item_defs.specs.Padding.{rounded}
+use Rattle.base_122.specs.declared.book.Book.{Book}
 use Rattle.bit_pipe.specs.declared.fault.Part.{Part}
 use Rattle.segment_defs.specs.declared.head.SegmentHead.{SegmentHead}
 use Rattle.segment_defs.specs.SegmentItems.{Options, segment_items}
@@ -30,11 +31,12 @@ AreAll head size rest items count more =
     ((count ≡ length items) × (size + length rest ≡ wanted_octets head size items))
     ⊎ (NothingFollows items count more × (head.limit ≢ 0) × (size + length rest ≡ head.limit))
 
--- the octets after the head hold these blocks, and are exactly those of the text
-pub record HoldsItems (head : SegmentHead) (size : ℕ) (rest : List ℕ) (w : List (List ℤ)) (part : Part) : Type 0 where
+-- the octets after the head hold these blocks, with the codes of this book, and are exactly those of the text
+pub record HoldsItems (book : Book) (head : SegmentHead) (size : ℕ) (rest : List ℕ) (w : List (List ℤ)) (part : Part) : Type 0 where
   pub blocks : List (List ℤ)
   pub depths : List ℕ
   pub options : Options
+  pub of_book : options.book ≡ book
   pub count : ℕ
   pub more : List Bool
   pub items : ItemsIn head size rest blocks depths options count more
@@ -43,20 +45,22 @@ pub record HoldsItems (head : SegmentHead) (size : ℕ) (rest : List ℕ) (w : L
   pub so : IsPart part count (length (segment_items head blocks depths options))
 
 -- an item follows that its form refuses by this name
-pub record RefusesItem (head : SegmentHead) (size : ℕ) (rest : List ℕ) (name : Refusal) : Type 0 where
+pub record RefusesItem (book : Book) (head : SegmentHead) (size : ℕ) (rest : List ℕ) (name : Refusal) : Type 0 where
   pub blocks : List (List ℤ)
   pub depths : List ℕ
   pub options : Options
+  pub of_book : options.book ≡ book
   pub count : ℕ
   pub more : List Bool
   pub items : ItemsIn head size rest blocks depths options count more
   pub refusal : RefusalFollows (segment_items head blocks depths options) count more name
 
 -- the octets are fewer than the text has
-pub record LacksItems (head : SegmentHead) (size : ℕ) (rest : List ℕ) : Type 0 where
+pub record LacksItems (book : Book) (head : SegmentHead) (size : ℕ) (rest : List ℕ) : Type 0 where
   pub blocks : List (List ℤ)
   pub depths : List ℕ
   pub options : Options
+  pub of_book : options.book ≡ book
   pub count : ℕ
   pub more : List Bool
   pub items : ItemsIn head size rest blocks depths options count more

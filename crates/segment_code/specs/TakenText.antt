@@ -1,6 +1,7 @@
 -- What calls leave that read the items of a segment's text. (This project's own.)
 use Rattle.std.specs.Prelude.{◌≡◌, ℕ, ℤ, pos, List, length, take, slice_index_or, Result, Ok, Err}
 use Rattle.item_defs.specs.Readings.{AreItems}
+use Rattle.base_122.specs.declared.book.Book.{Book}
 use Rattle.wave_defs.specs.Held.{blocks_in}
 use Rattle.bit_pipe.specs.declared.fault.Part.{Part}
 use Rattle.bit_pipe.specs.declared.fault.TextFault.{TextFault}
@@ -20,10 +21,11 @@ pub record AreClear (cells : List ℤ) : Type 0 where
 
 -- The items of a segment were read, as far as they go, and none before the end is refused: the blocks are what they give. What they
 -- don't give of the values may be anything that can be spelled.
-pub record TakesText {I : Type 0} (k : SourceOf I) (head : SegmentHead) (result : Result Part TextFault) (old new : Coming I) (now : List ℤ) : Type 0 where
+pub record TakesText {I : Type 0} (k : SourceOf I) (book : Book) (head : SegmentHead) (result : Result Part TextFault) (old new : Coming I) (now : List ℤ) : Type 0 where
   pub values : List (List ℤ)
   pub depths : List ℕ
   pub options : Options
+  pub of_book : options.book ≡ book
   pub spellable : IsSpellable head values depths
   pub words : AreWordOptions options
   pub numbers : AreNumberOptions head options
@@ -39,11 +41,11 @@ with_used (Ok part) used = Ok (record { 0 = part; 1 = used })
 with_used (Err fault) used = Err fault
 
 -- they were read from an input that is after the head, of `size` octets
-pub record TakesFrom {I : Type 0} (k : SourceOf I) (head : SegmentHead) (size : ℕ) (result : Result (Part × ℕ) TextFault) (old new : I) (now : List ℤ) : Type 0 where
+pub record TakesFrom {I : Type 0} (k : SourceOf I) (book : Book) (head : SegmentHead) (size : ℕ) (result : Result (Part × ℕ) TextFault) (old new : I) (now : List ℤ) : Type 0 where
   pub start : Coming I
   pub begins : BeginsIn old (bound_of head.limit) size start
   pub stop : Coming I
   pub stands : stop.source ≡ new
   pub answered : Result Part TextFault
-  pub text : TakesText k head answered start stop now
+  pub text : TakesText k book head answered start stop now
   pub answer : result ≡ with_used answered stop.used

@@ -1,6 +1,7 @@
 -- What an encoder leaves in its sink (this project's own).
 use Rattle.std.specs.Prelude.{◌≡◌, ℕ, ℤ, List, ◌++◌, length, Result}
 use Rattle.item_defs.specs.Items.{text}
+use Rattle.base_122.specs.declared.book.Book.{Book}
 use Rattle.bit_pipe.specs.Sinks.{SinkOf, Rose}
 use Rattle.bit_pipe.specs.Standing.{Standing, Puts}
 use Rattle.bit_pipe.specs.declared.fault.PutFault.{PutFault}
@@ -23,5 +24,5 @@ pub record BreaksWithin {S : Type 0} (k : SinkOf S) (old new : S) (octets : List
   pub rose : Rose (k.counts old).faults (k.counts new).faults
 
 -- the items of a segment's text were put, with the options that a writer takes
-pub record EncodesItems {S T : Type 0} (k : SinkOf S) (head : SegmentHead) (blocks : List (List ℤ)) (result : Result T PutFault) (old new : Standing S) : Type 0 where
-  pub puts : Puts k result old new (text (segment_items head blocks (block_depths blocks) (chosen_options head blocks)))
+pub record EncodesItems {S T : Type 0} (k : SinkOf S) (book : Book) (head : SegmentHead) (blocks : List (List ℤ)) (result : Result T PutFault) (old new : Standing S) : Type 0 where
+  pub puts : Puts k result old new (text (segment_items head blocks (block_depths blocks) (chosen_options book head blocks)))

@@ -1,6 +1,6 @@
 // A segment's text, read.
-ghost use Rattle.std.specs.Prelude.{◌≡◌, ◌≤◌, ◌*◌, length};
-ghost use Rattle.plane_defs.specs.Profile.{profile};
+ghost use Rattle.std.specs.Prelude.{◌≡◌, ◌≤◌, ◌*◌, IsTrue, length};
+ghost use Rattle.plane_defs.specs.Codes.{is_book_sound};
 ghost use Rattle.segment_defs.specs.Head.{IsHead};
 ghost use Rattle.segment_code.specs.Decoded.{DecodesSegment};
 ghost use Rattle.segment_code.specs.DecodedItems.{DecodesItems};
@@ -8,9 +8,10 @@ ghost use Rattle.segment_code.specs.TakenText.{AreClear, TakesFrom};
 
 use crate::end_in::{end_cut, end_whole};
 use crate::text_in::take_text;
+use base_122::Book;
 use bit_pipe::{BitIn, InFault, OctetIn, Part, TextFault};
 use segment_head::SegmentHead;
-use word_codes::{WordTables, profile_book};
+use word_codes::WordTables;
 
 /// Why a segment's text isn't taken (docs/formats.md, "Reading a segment").
 #[derive(Clone, Copy, Debug, PartialEq, Eq)]
@@ -91,8 +92,7 @@ fn take_from<I: OctetIn>(
     requires count { length blocks.old ≡ 64 * length marks.old }
     requires marks { length marks.old ≡ head.now.blocks }
     requires clear { AreClear blocks.old }
-    requires book { tables.now.book ≡ profile }
-    ensures takes { TakesFrom I.source head.now size result input.old input.new blocks.new }
+    ensures takes { TakesFrom I.source tables.now.book head.now size result input.old input.new blocks.new }
     ensures sizes { (length blocks.new ≡ length blocks.old) × (length marks.new ≡ length marks.old) }
     ensures ten { length head.now.image.weights.shifts ≡ 10 }
 {
@@ -104,15 +104,18 @@ fn take_from<I: OctetIn>(
 /// Reads the texts of segments, by tables of their words that are made once.
 #[derive(Drop)]
 pub struct SegmentReader {
-    tables: WordTables,
-    ghost of_profile: { tables.book ≡ profile },
+    /// The tables of the words, as the reader's book has their codes.
+    pub tables: WordTables,
 }
 
 impl SegmentReader {
-    /// A reader of any segments.
-    pub fn new() -> SegmentReader {
+    /// A reader of the segments that were written with this book. The book is sound.
+    pub fn new(book: &Book) -> SegmentReader
+        requires sound { IsTrue (is_book_sound book.now) }
+        ensures book { result.tables.book ≡ book.now }
+    {
         SegmentReader {
-            tables: WordTables::new(&profile_book()),
+            tables: WordTables::new(book),
         }
     }
 
@@ -134,7 +137,7 @@ impl SegmentReader {
         requires fits { IsHead head.now }
         requires count { length blocks.old ≡ 64 * length marks.old }
         requires marks { length marks.old ≡ head.now.blocks }
-        ensures decodes { DecodesSegment I.source head.now result input.old input.new blocks.new }
+        ensures decodes { DecodesSegment I.source self.now.tables.book head.now result input.old input.new blocks.new }
         ensures sizes { (length blocks.new ≡ length blocks.old) × (length marks.new ≡ length marks.old) }
     {
         let part = self.decode_items(input, head, head.octets(), blocks, marks)?;
@@ -164,7 +167,7 @@ impl SegmentReader {
         requires size { size ≤ 20 }
         requires count { length blocks.old ≡ 64 * length marks.old }
         requires marks { length marks.old ≡ head.now.blocks }
-        ensures decodes { DecodesItems I.source head.now size result input.old input.new blocks.new }
+        ensures decodes { DecodesItems I.source self.now.tables.book head.now size result input.old input.new blocks.new }
         ensures sizes { (length blocks.new ≡ length blocks.old) × (length marks.new ≡ length marks.old) }
     {
         clear(blocks);
@@ -176,7 +179,7 @@ impl SegmentReader {
     }
 }
 
-/// The same for a single segment: `SegmentReader` serves many.
+/// The same for a single segment, with a sound book: `SegmentReader` serves many.
 ///
 /// # Errors
 ///
@@ -186,12 +189,14 @@ pub fn decode_segment<I: OctetIn>(
     head: &SegmentHead,
     blocks: &mut [i32],
     marks: &mut [i32],
+    book: &Book,
 ) -> Result<Part, SegmentFault>
+    requires sound { IsTrue (is_book_sound book.now) }
     requires fits { IsHead head.now }
     requires count { length blocks.old ≡ 64 * length marks.old }
     requires marks { length marks.old ≡ head.now.blocks }
-    ensures decodes { DecodesSegment I.source head.now result input.old input.new blocks.new }
+    ensures decodes { DecodesSegment I.source book.now head.now result input.old input.new blocks.new }
     ensures sizes { (length blocks.new ≡ length blocks.old) × (length marks.new ≡ length marks.old) }
 {
-    SegmentReader::new().decode(input, head, blocks, marks)
+    SegmentReader::new(book).decode(input, head, blocks, marks)
 }

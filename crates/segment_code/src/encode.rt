@@ -1,9 +1,10 @@
 // A segment's text.
-ghost use Rattle.std.specs.Prelude.{◌≡◌, ◌≤◌, ◌*◌, length, map, take, pos, MatchResult};
+ghost use Rattle.std.specs.Prelude.{◌≡◌, ◌≤◌, ◌*◌, IsTrue, length, map, take, pos, MatchResult};
 ghost use Rattle.item_defs.specs.Items.{text};
 ghost use Rattle.bit_pipe.specs.Standing.{stand, Adds, Breaks, Puts, IsReady, Writes};
 ghost use Rattle.wave_defs.specs.Held.{blocks_in};
 ghost use Rattle.plane_defs.specs.Marks.{depths_of};
+ghost use Rattle.plane_defs.specs.Codes.{is_book_sound};
 ghost use Rattle.segment_defs.specs.Depths.{block_depths, depth_dc_of, depth_ac_of};
 ghost use Rattle.segment_defs.specs.Head.{IsHead, head_length};
 ghost use Rattle.segment_defs.specs.Coded.{coded, coded_bits};
@@ -13,20 +14,23 @@ ghost use Rattle.segment_code.specs.Text.{GivesText, BreaksWithin, EncodesItems}
 
 use crate::planes::put_planes;
 use crate::tells::{plan_of, select_of};
+use base_122::Book;
 use bit_pipe::{BitOut, Failed, OctetOut, PutFault};
 use dc_depths::{DcPlan, put_dc, put_depths};
 use segment_head::{SegmentHead, write_head};
 
-/// Writes the text of a segment, and answers its length in octets (docs/formats.md, "Stops, cut and fill"). The sink was
-/// given nothing yet. The blocks are 64 weighted numbers each. The depths of the head and the marks are those of the blocks,
-/// as `segment_depths` answers them; the marks keep them in their lowest five bits, and what their other bits hold afterwards
-/// is left open. `Failed` comes only where the sink failed.
+/// Writes the text of a segment with the codes of a sound book, and answers its length in octets (docs/formats.md, "Stops, cut
+/// and fill"). The sink was given nothing yet. The blocks are 64 weighted numbers each. The depths of the head and the marks are
+/// those of the blocks, as `segment_depths` answers them; the marks keep them in their lowest five bits, and what their other
+/// bits hold afterwards is left open. `Failed` comes only where the sink failed.
 pub fn encode_segment<O: OctetOut>(
     out: &mut O,
     head: &SegmentHead,
     blocks: &[i32],
     marks: &mut [i32],
+    book: &Book,
 ) -> Result<u64, Failed>
+    requires sound { IsTrue (is_book_sound book.now) }
     requires fits { IsHead head.now }
     requires count { length blocks.now ≡ 64 * head.now.blocks }
     requires dc { head.now.depth_dc ≡ depth_dc_of (blocks_in blocks.now) }
@@ -34,12 +38,12 @@ pub fn encode_segment<O: OctetOut>(
     requires marks { marks.old ≡ map pos (block_depths (blocks_in blocks.now)) }
     requires none { (O.sink.counts out.old).given ≡ 0 }
     ensures text { MatchResult result
-        (λ octets. GivesText O.sink out.old out.new (coded head.now (blocks_in blocks.now)) octets)
-        (λ _. BreaksWithin O.sink out.old out.new (coded head.now (blocks_in blocks.now))) }
+        (λ octets. GivesText O.sink out.old out.new (coded book.now head.now (blocks_in blocks.now)) octets)
+        (λ _. BreaksWithin O.sink out.old out.new (coded book.now head.now (blocks_in blocks.now))) }
     ensures depths { depths_of marks.new ≡ depths_of marks.old }
 {
     let mut bits = BitOut::new(out, u64::from(head.limit), 0);
-    put_fitting(&mut bits, head, blocks, marks)?;
+    put_fitting(&mut bits, head, blocks, marks, book)?;
     bits.end(head.image.word, head.fill)
 }
 
@@ -49,7 +53,9 @@ fn put_fitting<O: OctetOut>(
     head: &SegmentHead,
     blocks: &[i32],
     marks: &mut [i32],
+    book: &Book,
 ) -> Result<(), Failed>
+    requires sound { IsTrue (is_book_sound book.now) }
     requires fits { IsHead head.now }
     requires open { IsReady O.sink out.old }
     requires room { 8 * head_length head.now ≤ (stand O.sink out.old).room }
@@ -58,12 +64,12 @@ fn put_fitting<O: OctetOut>(
     requires ac { head.now.depth_ac ≡ depth_ac_of (blocks_in blocks.now) }
     requires marks { marks.old ≡ map pos (block_depths (blocks_in blocks.now)) }
     ensures puts { MatchResult result
-        (λ _. Adds O.sink (stand O.sink out.old) (stand O.sink out.new) (take (stand O.sink out.old).room (coded_bits head.now (blocks_in blocks.now))))
-        (λ _. Breaks O.sink (stand O.sink out.old) (stand O.sink out.new) (take (stand O.sink out.old).room (coded_bits head.now (blocks_in blocks.now)))) }
+        (λ _. Adds O.sink (stand O.sink out.old) (stand O.sink out.new) (take (stand O.sink out.old).room (coded_bits book.now head.now (blocks_in blocks.now))))
+        (λ _. Breaks O.sink (stand O.sink out.old) (stand O.sink out.new) (take (stand O.sink out.old).room (coded_bits book.now head.now (blocks_in blocks.now)))) }
     ensures ten { length head.now.image.weights.shifts ≡ 10 }
     ensures depths { depths_of marks.new ≡ depths_of marks.old }
 {
-    match put_text(out, head, blocks, marks) {
+    match put_text(out, head, blocks, marks, book) {
         Ok(()) => Ok(()),
         Err(PutFault::Stopped) => Ok(()),
         Err(PutFault::WriteFault) => Err(Failed),
@@ -76,7 +82,9 @@ fn put_text<O: OctetOut>(
     head: &SegmentHead,
     blocks: &[i32],
     marks: &mut [i32],
+    book: &Book,
 ) -> Result<(), PutFault>
+    requires sound { IsTrue (is_book_sound book.now) }
     requires fits { IsHead head.now }
     requires open { IsReady O.sink out.old }
     requires room { 8 * head_length head.now ≤ (stand O.sink out.old).room }
@@ -84,17 +92,18 @@ fn put_text<O: OctetOut>(
     requires dc { head.now.depth_dc ≡ depth_dc_of (blocks_in blocks.now) }
     requires ac { head.now.depth_ac ≡ depth_ac_of (blocks_in blocks.now) }
     requires marks { marks.old ≡ map pos (block_depths (blocks_in blocks.now)) }
-    ensures puts { Writes O.sink result out.old out.new (coded_bits head.now (blocks_in blocks.now)) }
+    ensures puts { Writes O.sink result out.old out.new (coded_bits book.now head.now (blocks_in blocks.now)) }
     ensures ten { length head.now.image.weights.shifts ≡ 10 }
     ensures depths { depths_of marks.new ≡ depths_of marks.old }
 {
     let plan = plan_of(head);
     write_head(out, head)?;
-    put_items(out, head, &plan, blocks, marks)
+    put_items(out, head, &plan, blocks, marks, book)
 }
 
 /// Puts the items of a segment's text, which follow its head (docs/formats.md, "Stops, cut and fill"): the DC part, the block
-/// depths and the bit planes up to the stop. Blocks and marks are those of `encode_segment`. It neither pads nor ends the text.
+/// depths and the bit planes up to the stop. Blocks, marks and book are those of `encode_segment`. It neither pads nor ends the
+/// text.
 ///
 /// # Errors
 ///
@@ -104,17 +113,19 @@ pub fn encode_items<O: OctetOut>(
     head: &SegmentHead,
     blocks: &[i32],
     marks: &mut [i32],
+    book: &Book,
 ) -> Result<(), PutFault>
+    requires sound { IsTrue (is_book_sound book.now) }
     requires fits { IsHead head.now }
     requires open { IsReady O.sink out.old }
     requires count { length blocks.now ≡ 64 * head.now.blocks }
     requires dc { head.now.depth_dc ≡ depth_dc_of (blocks_in blocks.now) }
     requires ac { head.now.depth_ac ≡ depth_ac_of (blocks_in blocks.now) }
     requires marks { marks.old ≡ map pos (block_depths (blocks_in blocks.now)) }
-    ensures encodes { EncodesItems O.sink head.now (blocks_in blocks.now) result (stand O.sink out.old) (stand O.sink out.new) }
+    ensures encodes { EncodesItems O.sink book.now head.now (blocks_in blocks.now) result (stand O.sink out.old) (stand O.sink out.new) }
     ensures depths { depths_of marks.new ≡ depths_of marks.old }
 {
-    put_items(out, head, &plan_of(head), blocks, marks)
+    put_items(out, head, &plan_of(head), blocks, marks, book)
 }
 
 // Puts the items of a text by the plan of its DC part.
@@ -124,7 +135,9 @@ fn put_items<O: OctetOut>(
     plan: &DcPlan,
     blocks: &[i32],
     marks: &mut [i32],
+    book: &Book,
 ) -> Result<(), PutFault>
+    requires sound { IsTrue (is_book_sound book.now) }
     requires fits { IsHead head.now }
     requires open { IsReady O.sink out.old }
     requires plan_dc { plan.now.depth_dc ≡ head.now.depth_dc }
@@ -134,11 +147,11 @@ fn put_items<O: OctetOut>(
     requires dc { head.now.depth_dc ≡ depth_dc_of (blocks_in blocks.now) }
     requires ac { head.now.depth_ac ≡ depth_ac_of (blocks_in blocks.now) }
     requires marks { marks.old ≡ map pos (block_depths (blocks_in blocks.now)) }
-    ensures encodes { EncodesItems O.sink head.now (blocks_in blocks.now) result (stand O.sink out.old) (stand O.sink out.new) }
+    ensures encodes { EncodesItems O.sink book.now head.now (blocks_in blocks.now) result (stand O.sink out.old) (stand O.sink out.new) }
     ensures depths { depths_of marks.new ≡ depths_of marks.old }
 {
     put_dc(out, blocks, plan, select_of(head.best_dc))?;
-    put_rest(out, head, blocks, marks)
+    put_rest(out, head, blocks, marks, book)
 }
 
 // Puts the block depths and the planes, where the text doesn't stop at the DC numbers.
@@ -147,18 +160,20 @@ fn put_rest<O: OctetOut>(
     head: &SegmentHead,
     blocks: &[i32],
     marks: &mut [i32],
+    book: &Book,
 ) -> Result<(), PutFault>
+    requires sound { IsTrue (is_book_sound book.now) }
     requires fits { IsHead head.now }
     requires open { IsReady O.sink out.old }
     requires count { length blocks.now ≡ 64 * head.now.blocks }
     requires ac { head.now.depth_ac ≡ depth_ac_of (blocks_in blocks.now) }
     requires marks { marks.old ≡ map pos (block_depths (blocks_in blocks.now)) }
-    ensures puts { Writes O.sink result out.old out.new (text (coded_rest head.now (blocks_in blocks.now))) }
+    ensures puts { Writes O.sink result out.old out.new (text (coded_rest book.now head.now (blocks_in blocks.now))) }
     ensures depths { depths_of marks.new ≡ depths_of marks.old }
 {
     if head.stop.dc {
         return Ok(());
     }
     put_depths(out, marks, head.depth_ac, select_of(head.best_ac))?;
-    put_planes(out, head, blocks, marks)
+    put_planes(out, head, blocks, marks, book)
 }

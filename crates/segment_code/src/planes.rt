@@ -1,20 +1,20 @@
 // The bit planes of a segment.
-ghost use Rattle.std.specs.Prelude.{◌≡◌, ◌<◌, ◌≤◌, ◌*◌, length};
+ghost use Rattle.std.specs.Prelude.{◌≡◌, ◌<◌, ◌≤◌, ◌*◌, IsTrue, length};
 ghost use Rattle.item_defs.specs.Items.{text};
 ghost use Rattle.bit_pipe.specs.Standing.{IsReady, Writes};
 ghost use Rattle.wave_defs.specs.Held.{blocks_in};
 ghost use Rattle.plane_defs.specs.Marks.{depths_of};
-ghost use Rattle.plane_defs.specs.Profile.{profile};
+ghost use Rattle.plane_defs.specs.Codes.{is_book_sound};
 ghost use Rattle.segment_defs.specs.Depths.{block_depths};
 ghost use Rattle.segment_defs.specs.Head.{IsHead};
 ghost use Rattle.segment_defs.specs.SegmentItems.{stages_sent, q_of};
 ghost use Rattle.segment_code.specs.Parts.{coded_plane, coded_planes};
 
 use crate::tells::plan_of;
+use base_122::Book;
 use bit_pipe::{BitOut, OctetOut, PutFault};
 use plane_coder::{CodeTables, PlanePlan, put_plane_with};
 use segment_head::SegmentHead;
-use word_codes::profile_book;
 
 // How many stages of a plane are sent.
 fn stages_sent(head: &SegmentHead, plane: u8) -> u8
@@ -58,10 +58,9 @@ fn put_nth_plane<O: OctetOut>(
     requires fits { IsHead head.now }
     requires open { IsReady O.sink out.old }
     requires within { n < head.now.depth_ac }
-    requires book { tables.now.book ≡ profile }
     requires count { length blocks.now ≡ 64 * length marks.old }
     requires depths { depths_of marks.old ≡ block_depths (blocks_in blocks.now) }
-    ensures puts { Writes O.sink result out.old out.new (text (coded_plane head.now (blocks_in blocks.now) n)) }
+    ensures puts { Writes O.sink result out.old out.new (text (coded_plane tables.now.book head.now (blocks_in blocks.now) n)) }
     ensures depths { depths_of marks.new ≡ depths_of marks.old }
 {
     let plane = head.depth_ac - 1 - n;
@@ -79,15 +78,17 @@ pub(crate) fn put_planes<O: OctetOut>(
     head: &SegmentHead,
     blocks: &[i32],
     marks: &mut [i32],
+    book: &Book,
 ) -> Result<(), PutFault>
     requires fits { IsHead head.now }
+    requires sound { IsTrue (is_book_sound book.now) }
     requires open { IsReady O.sink out.old }
     requires count { length blocks.now ≡ 64 * length marks.old }
     requires depths { depths_of marks.old ≡ block_depths (blocks_in blocks.now) }
-    ensures puts { Writes O.sink result out.old out.new (text (coded_planes head.now (blocks_in blocks.now) head.now.depth_ac)) }
+    ensures puts { Writes O.sink result out.old out.new (text (coded_planes book.now head.now (blocks_in blocks.now) head.now.depth_ac)) }
     ensures depths { depths_of marks.new ≡ depths_of marks.old }
 {
-    let tables = CodeTables::new(&profile_book());
+    let tables = CodeTables::new(book);
     for n in 0..head.depth_ac {
         put_nth_plane(out, head, blocks, marks, &tables, n)?;
     }

@@ -3,7 +3,6 @@ ghost use Rattle.std.specs.Prelude.{◌≡◌, ◌<◌, ◌≤◌, ◌+◌, ◌-
 ghost use Rattle.bit_pipe.specs.declared.fault.Part.TheVariants.{Whole};
 ghost use Rattle.bit_pipe.specs.Coming.{coming, IsIn};
 ghost use Rattle.plane_defs.specs.Marks.{depths_of};
-ghost use Rattle.plane_defs.specs.Profile.{profile};
 ghost use Rattle.plane_reader.specs.Above.{AreSignificant};
 ghost use Rattle.plane_reader.specs.Taken.{AwaitPlane, TakesPlane};
 ghost use Rattle.segment_defs.specs.Head.{IsHead};
@@ -34,10 +33,9 @@ fn take_stages<I: OctetIn>(
     requires whole { length blocks.old ≡ 64 * length marks.old }
     requires plane { plane ≤ 26 }
     requires last { last ≤ 4 }
-    requires book { tables.now.book ≡ profile }
     requires awaits { AwaitPlane head.now.image.weights.shifts plane (q_of head.now) (depths_of marks.old) blocks.old }
     requires above { AreSignificant (plane + 1) blocks.old above.old }
-    ensures takes { TakesPlane I.source profile plane (q_of head.now) head.now.image.weights.shifts (last + 1) (depths_of marks.old)
+    ensures takes { TakesPlane I.source tables.now.book plane (q_of head.now) head.now.image.weights.shifts (last + 1) (depths_of marks.old)
         result (coming input.old) (coming input.new) blocks.old blocks.new }
     ensures depths { depths_of marks.new ≡ depths_of marks.old }
     ensures above { AreSignificant plane blocks.new above.new }
@@ -58,12 +56,11 @@ fn take_whole_planes<I: OctetIn>(
     requires fits { IsHead head.now }
     requires open { IsIn (coming input.old) }
     requires count { length blocks.old ≡ 64 * length marks.old }
-    requires book { tables.now.book ≡ profile }
     requires sent { head.now.stop.plane < head.now.depth_ac }
     requires goes_on { head.now.stop.dc ≡ false }
     requires dcs { HaveDcs head.now (depths_of marks.old) blocks.old }
     requires above { AreSignificant head.now.depth_ac blocks.old above.old }
-    ensures takes { TakesWholePlanes I.source head.now (depths_of marks.old) result (coming input.old) (coming input.new) blocks.old blocks.new }
+    ensures takes { TakesWholePlanes I.source tables.now.book head.now (depths_of marks.old) result (coming input.old) (coming input.new) blocks.old blocks.new }
     ensures depths { depths_of marks.new ≡ depths_of marks.old }
     ensures above { result ≡ Ok Whole → AreSignificant (head.now.stop.plane + 1) blocks.new above.new }
 {
@@ -88,10 +85,9 @@ pub(crate) fn take_planes<I: OctetIn>(
     requires fits { IsHead head.now }
     requires open { IsIn (coming input.old) }
     requires count { length blocks.old ≡ 64 * length marks.old }
-    requires book { tables.now.book ≡ profile }
     requires goes_on { head.now.stop.dc ≡ false }
     requires dcs { HaveDcs head.now (depths_of marks.old) blocks.old }
-    ensures takes { TakesPlanes I.source head.now (depths_of marks.old) result (coming input.old) (coming input.new) blocks.old blocks.new }
+    ensures takes { TakesPlanes I.source tables.now.book head.now (depths_of marks.old) result (coming input.old) (coming input.new) blocks.old blocks.new }
     ensures depths { depths_of marks.new ≡ depths_of marks.old }
 {
     if head.stop.plane >= head.depth_ac {

@@ -1,7 +1,6 @@
 // The items of a segment's text, read.
 ghost use Rattle.std.specs.Prelude.{◌≡◌, ◌*◌, length};
 ghost use Rattle.bit_pipe.specs.Coming.{coming, IsIn};
-ghost use Rattle.plane_defs.specs.Profile.{profile};
 ghost use Rattle.segment_defs.specs.Head.{IsHead};
 ghost use Rattle.segment_code.specs.TakenText.{AreClear, TakesText};
 
@@ -24,9 +23,8 @@ pub(crate) fn take_text<I: OctetIn>(
     requires open { IsIn (coming input.old) }
     requires count { length blocks.old ≡ 64 * length marks.old }
     requires marks { length marks.old ≡ head.now.blocks }
-    requires book { tables.now.book ≡ profile }
     requires clear { AreClear blocks.old }
-    ensures takes { TakesText I.source head.now result (coming input.old) (coming input.new) blocks.new }
+    ensures takes { TakesText I.source tables.now.book head.now result (coming input.old) (coming input.new) blocks.new }
     ensures sizes { (length blocks.new ≡ length blocks.old) × (length marks.new ≡ length marks.old) }
     ensures ten { length head.now.image.weights.shifts ≡ 10 }
 {

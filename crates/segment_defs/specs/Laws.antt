@@ -2,6 +2,7 @@
 use Rattle.std.specs.Prelude.{◌≡◌, ◌<◌, ◌≤◌, ◌^◌, ℕ, ℤ, true, List, ◌++◌, drop, unsigned_abs, All}
 use Rattle.item_defs.specs.Items.{text}
 use Rattle.number_defs.specs.Ranges.{IsInRange}
+use Rattle.base_122.specs.declared.book.Book.{Book}
 use Rattle.segment_defs.specs.declared.head.SegmentHead.{SegmentHead}
 use Rattle.segment_defs.specs.Head.{head_bits}
 use Rattle.segment_defs.specs.Coded.{coded_bits, dc_part}
@@ -25,4 +26,5 @@ pub record DepthsAreLeast : Type 0 where
 
 -- a text that stops at the DC numbers has the DC part alone after its head
 pub record StopsAtDc : Type 0 where
-  pub bits : (head : SegmentHead) (blocks : List (List ℤ)) → head.stop.dc ≡ true → coded_bits head blocks ≡ head_bits head ++ text (dc_part head blocks)
+  pub bits : (book : Book) (head : SegmentHead) (blocks : List (List ℤ)) → head.stop.dc ≡ true →
+      coded_bits book head blocks ≡ head_bits head ++ text (dc_part book head blocks)

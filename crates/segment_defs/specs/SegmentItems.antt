@@ -7,16 +7,17 @@ use Rattle.number_defs.specs.DcPart.{dc_q, dc_items}
 use Rattle.number_defs.specs.Depths.{depth_items}
 use Rattle.plane_defs.specs.Spans.{span}
 use Rattle.plane_defs.specs.Planes.{Plane}
-use Rattle.plane_defs.specs.Profile.{profile}
 use Rattle.plane_defs.specs.Reading.{plane_reading}
 use Rattle.base_122.specs.Weights.{shift_of}
+use Rattle.base_122.specs.declared.book.Book.{Book}
 use Rattle.base_122.specs.declared.weights.Band.TheVariants.{Ll3}
 use Rattle.segment_defs.specs.declared.head.SegmentHead.{SegmentHead}
 use Rattle.segment_defs.specs.Depths.{dcs_of}
 
--- what a text chooses: an option for each gaggle of DC numbers and of block depths, and for each plane and gaggle those
--- of words of two, three and four bits
+-- what a text chooses: the book of its codes, an option for each gaggle of DC numbers and of block depths, and for each
+-- plane and gaggle those of words of two, three and four bits
 pub record Options : Type 0 where
+  pub book : Book
   pub dcs : ℕ → ℕ
   pub depths : ℕ → ℕ
   pub words : ℕ → ℕ → List ℕ
@@ -49,7 +50,7 @@ nth_plane head n = head.depth_ac - (n + 1)
 abbrev pub nth_plane_items : SegmentHead → List (List ℤ) → List ℕ → Options → ℕ → List Item
 nth_plane_items head blocks depths options n =
     let b = nth_plane head n in
-    plane_reading profile (options.words b) (plane_at head blocks depths b) (stages_sent head b)
+    plane_reading options.book (options.words b) (plane_at head blocks depths b) (stages_sent head b)
 
 -- the first n planes from the top
 abbrev pub planes_items : SegmentHead → List (List ℤ) → List ℕ → Options → ℕ → List Item

@@ -7,6 +7,7 @@ use Rattle.std.proofs.lemmas.List.{same_lists, get_or_default, get_or-take, get_
 use Rattle.std.proofs.lemmas.List.FromFn.{get_or-map-range_with_len}
 use Rattle.std.proofs.Math.Seq.{take-append-add}
 use Rattle.port_122.specs.Outside.{Outside}
+use Rattle.plane_defs.specs.Profile.{profile}
 use Rattle.strip_coder.specs.Plans.{IsPlan, whole}
 use Rattle.base_122.specs.Sizes.{total_blocks, first_block}
 use Rattle.strip_coder.specs.declared.plan.Plan.{Plan}
@@ -143,7 +144,7 @@ text_is s old range full all long holds =
     let index = old.at.index in
     let segment = segment_of (whole s) all index in
     ap (text_for s index old.at.used) (segment_is old.blocks.items all old.at.filled (first_block s.setting.segment index) s.setting.segment (total_blocks s.setting.width s.rows) long full.full (cells_fit s old range full) holds.blocks)
-    ∙ ap (λ limit. coded (head_with (whole s) index limit (length segment) (depth_dc_of segment) (depth_ac_of segment)) segment) (share_same (whole s) index old.at.used (used_before (whole s) all index) holds.used)
+    ∙ ap (λ limit. coded profile (head_with (whole s) index limit (length segment) (depth_dc_of segment) (depth_ac_of segment)) segment) (share_same (whole s) index old.at.used (used_before (whole s) all index) holds.used)
 
 -- what differs in a work after its present segment was given to be written
 pub record Rewritten (old new : Work) : Type 0 where

@@ -1,5 +1,6 @@
 -- The segments of an image, as texts and packets.
 use Rattle.std.specs.Prelude.{ℕ, ℤ, List, [], length}
+use Rattle.plane_defs.specs.Profile.{profile}
 use Rattle.strip_coder.specs.declared.plan.Plan.{Plan}
 use Rattle.strip_coder.specs.Plans.{whole}
 use Rattle.segment_defs.specs.Coded.{coded}
@@ -15,7 +16,7 @@ text_of s index = record { apid = s.setting.apid; ancillary = ancillary_of (tell
 
 -- the text of the segment of this index, with these blocks, after texts of so many octets
 abbrev pub text_for : Plan → (index used : ℕ) → List (List ℤ) → List ℕ
-text_for s index used segment = coded (head_of (whole s) index used segment) segment
+text_for s index used segment = coded profile (head_of (whole s) index used segment) segment
 
 -- a packetiser has written the packets of so many segments of an image with these blocks, and nothing else
 abbrev pub progress_at : Plan → List (List ℤ) → ℕ → Progress

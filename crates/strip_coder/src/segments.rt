@@ -17,6 +17,7 @@ use port_122::{Failed, Port};
 use segment_code::{encode_segment, segment_depths};
 use segment_head::{ImagePart, SegmentHead};
 use space_packets::{Ancillary, Packetiser};
+use word_codes::profile_book;
 
 /// Writes the packets of the present segment, and returns the octets of its text.
 pub fn write_segment<X: Port>(
@@ -54,7 +55,7 @@ pub fn write_segment<X: Port>(
     );
     packets.begin(plan.setting.apid, ancillary(plan, at.index));
     let mut sink = packets.sink(port);
-    let Ok(octets) = encode_segment(&mut sink, &head, blocks, marks) else {
+    let Ok(octets) = encode_segment(&mut sink, &head, blocks, marks, &profile_book()) else {
         return Err(Failed);
     };
     let Ok(()) = packets.close(port) else {

@@ -85,11 +85,11 @@ one_more (j ∷ js) (suc m) lt = ap (λ l. j ∷ l) (one_more js m (omega (arith
 pub further_from : (head : SegmentHead) (rest : List ℕ) (m : ℕ) (xs ys : List (List ℤ)) (ds es : List ℕ) (o u : Options) (more after : List Bool) (said : ℕ) → IsHead head →
     Reading head rest xs ds o m more → IsSaid (item_at (segment_items head xs ds o) m).form.shape said → (item_at (segment_items head xs ds o) m).form.refusal said ≡ None →
     more ≡ spelling (item_at (segment_items head xs ds o) m).form.shape said ++ after → m < length (segment_items head xs ds o) →
-    IsSpellable head ys es → AreWordOptions u → Chooses m said (segment_items head xs ds o) (segment_items head ys es u) → Reading head rest ys es u (suc m) after
-further_from head rest m xs ys ds es o u more after said fits a says allowed read lt spellable known chosen =
+    IsSpellable head ys es → AreWordOptions u → o.book ≡ u.book → Chooses m said (segment_items head xs ds o) (segment_items head ys es u) → Reading head rest ys es u (suc m) after
+further_from head rest m xs ys ds es o u more after said fits a says allowed read lt spellable known books chosen =
     let is = segment_items head xs ds o in
     let js = segment_items head ys es u in
-    let alike = segment_alike head xs ys ds es o u fits a.spellable spellable a.known known in
+    let alike = segment_alike head xs ys ds es o u fits a.spellable spellable a.known known books in
     let front = same_front m is js alike a.front.within (omega (arith, chosen.within)) a.front.taken chosen.before in
     let form : (item_at is m).form ≡ (item_at js m).form = ((next_alike is js m alike a.front.within (omega (arith, chosen.within)) a.front.taken chosen.before).0 lt).1 in
     let j = item_at js m in

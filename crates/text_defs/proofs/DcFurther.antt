@@ -108,7 +108,7 @@ dc_times weights (b ∷ blocks) each (suc i) = dc_times weights blocks (λ r. ea
 pub dc_further : (head : SegmentHead) (rest : List ℕ) (m : ℕ) (xs : List (List ℤ)) (ds : List ℕ) (o : Options) (more after : List Bool) (said : ℕ) → IsHead head →
     Reading head rest xs ds o m more → m < length (dc_part_items head xs o) → MaySay (item_at (segment_items head xs ds o) m) said →
     more ≡ spelling (item_at (segment_items head xs ds o) m).form.shape said ++ after →
-    (ys : List (List ℤ)) × (es : List ℕ) × (u : Options) × Reading head rest ys es u (suc m) after
+    (ys : List (List ℤ)) × (es : List ℕ) × (u : Options) × (o.book ≡ u.book) × Reading head rest ys es u (suc m) after
 dc_further head rest m xs ds o more after said fits a lt may read =
     let D = dc_part_items head xs o in
     let A = after_dc head xs ds o in
@@ -119,8 +119,8 @@ dc_further head rest m xs ds o more after said fits a lt may read =
     let many : length (dcs_of xs) ≡ length xs = length-map xs dc_of in
     let r = dc_choice head.depth_dc head.depth_ac (dc_shift head) (dcs_of xs) o.dcs m said (omega (arith, many, p.blocks_all, fits.blocks.0)) p.dcs_fit (λ i. subst (λ s. IsTimes s (get_or (dcs_of xs) i (pos 0))) (dc_band head) (dc_times head.image.weights.shifts xs p.multiples i)) (first_are m D A all) lt (may_same _ _ said at may) in
     let ys : List (List ℤ) = map lone r.zs in
-    let u : Options = record { dcs = r.u; depths = o.depths; words = o.words } in
+    let u : Options = record { book = o.book; dcs = r.u; depths = o.depths; words = o.words } in
     let chosen : Chooses m said D (dc_part_items head ys u) = subst (λ l. Chooses m said D (dc_items head.depth_dc head.depth_ac (dc_shift head) l r.u)) (sym (lone_dcs r.zs)) r.chosen in
     let joined = choose_as m said _ _ _ _ parts (segment_parts head ys ds u) (choose_left m said D (dc_part_items head ys u) A (after_dc head ys ds u) lt chosen) in
     let long : m < length (segment_items head xs ds o) = omega (arith, lt, ap length parts, length-append D A) in
-    (ys, ds, u, further_from head rest m xs ys ds ds o u more after said fits a may.0 may.1 read long (lone_spellable head xs ds r.zs p (r.long ∙ many) r.fit (λ i. subst (λ s. IsTimes s (get_or r.zs i (pos 0))) (sym (dc_band head)) (r.times i))) (record { at = a.known.at }) joined)
+    (ys, ds, u, refl, further_from head rest m xs ys ds ds o u more after said fits a may.0 may.1 read long (lone_spellable head xs ds r.zs p (r.long ∙ many) r.fit (λ i. subst (λ s. IsTimes s (get_or r.zs i (pos 0))) (sym (dc_band head)) (r.times i))) (record { sound = a.known.sound; at = a.known.at }) refl joined)

@@ -165,7 +165,7 @@ blank_spellable head xs ds es p long few = record {
 pub depths_further : (head : SegmentHead) (rest : List ℕ) (m : ℕ) (xs : List (List ℤ)) (ds : List ℕ) (o : Options) (more after : List Bool) (said : ℕ) → IsHead head →
     Reading head rest xs ds o m more → head.stop.dc ≡ false → length (dc_part_items head xs o) ≤ m → m < length (dc_part_items head xs o) + length (depth_items head.depth_ac ds o.depths) →
     MaySay (item_at (segment_items head xs ds o) m) said → more ≡ spelling (item_at (segment_items head xs ds o) m).form.shape said ++ after →
-    (ys : List (List ℤ)) × (es : List ℕ) × (u : Options) × Reading head rest ys es u (suc m) after
+    (ys : List (List ℤ)) × (es : List ℕ) × (u : Options) × (o.book ≡ u.book) × Reading head rest ys es u (suc m) after
 depths_further head rest m xs ds o more after said fits a goes_on low high may read =
     let D = dc_part_items head xs o in
     let Z = depth_items head.depth_ac ds o.depths in
@@ -179,10 +179,10 @@ depths_further head rest m xs ds o more after said fits a goes_on low high may r
     let at : item_at (segment_items head xs ds o) m ≡ item_at Z c = ap (λ l. item_at l m) parts ∙ right_at m D (Z ++ P) low ∙ left_at c Z P within in
     let r = any_depths head.depth_ac ds o.depths c said fits.depth_ac p.depths_few (omega (arith, p.depths_all, fits.blocks.0)) all_depths within (may_same _ _ said at may) in
     let ys : List (List ℤ) = map blank xs in
-    let u : Options = record { dcs = o.dcs; depths = r.u; words = o.words } in
+    let u : Options = record { book = o.book; dcs = o.dcs; depths = r.u; words = o.words } in
     let same : said_of D ≡ said_of (dc_part_items head ys u) = ap (λ l. said_of (dc_items head.depth_dc head.depth_ac (dc_shift head) l o.dcs)) (sym (blank_dcs xs)) in
     let joined : Chooses m said (D ++ (Z ++ P)) (dc_part_items head ys u ++ (depth_items head.depth_ac r.es r.u ++ planes_items head ys r.es u head.depth_ac)) =
     choose_right m said D (dc_part_items head ys u) _ _ low same (choose_left c said Z (depth_items head.depth_ac r.es r.u) P _ within r.chosen) in
     let chosen = choose_as m said _ _ _ _ parts (planes_are head ys r.es u goes_on) joined in
     let long : m < length (segment_items head xs ds o) = omega (arith, high, ap length parts, length-append D (Z ++ P), length-append Z P) in
-    (ys, r.es, u, further_from head rest m xs ys ds r.es o u more after said fits a may.0 may.1 read long (blank_spellable head xs ds r.es p r.long r.few) (record { at = a.known.at }) chosen)
+    (ys, r.es, u, refl, further_from head rest m xs ys ds r.es o u more after said fits a may.0 may.1 read long (blank_spellable head xs ds r.es p r.long r.few) (record { sound = a.known.sound; at = a.known.at }) refl chosen)

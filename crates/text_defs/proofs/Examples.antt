@@ -51,7 +51,7 @@ abbrev first_blocks : List (List ℤ)
 first_blocks = (pos 5 ∷ negsuc 2 ∷ replicate 20 (pos 0) ++ pos 1 ∷ replicate 41 (pos 0)) ∷ []
 
 abbrev items_of : SegmentHead → List (List ℤ) → List Item
-items_of head blocks = segment_items head blocks (block_depths blocks) (chosen_options head blocks)
+items_of head blocks = segment_items head blocks (block_depths blocks) (chosen_options profile head blocks)
 
 first_depths : (depth_dc_of first_blocks ≡ 4) × (depth_ac_of first_blocks ≡ 2)
 unfolding size_of
@@ -62,7 +62,7 @@ unfolding size_of bits_of copies value_of bits_of_octets octets_of mapped unmapp
 first_text = refl
 
 -- what all of its items give
-first_given : given_blocks first_head first_blocks (block_depths first_blocks) (chosen_options first_head first_blocks) (length (items_of first_head first_blocks)) ≡ first_blocks
+first_given : given_blocks first_head first_blocks (block_depths first_blocks) (chosen_options profile first_head first_blocks) (length (items_of first_head first_blocks)) ≡ first_blocks
 unfolding size_of bits_of copies value_of bits_of_octets octets_of mapped unmapped value_items gaggle_items items_before coded_bits optimal heuristic greatest_suiting planes_before dc_items depth_items span symbol cost is_cheapest cheapest profile significant coded set_significant live enclosing_significant type_due flag_due newly_significant refined block_entries is_new is_last_hope block_steps word_of entry_reading segment_items blocks.place_of lib.Count.ones given_blocks
 first_given = refl
 
@@ -98,14 +98,14 @@ unfolding size_of bits_of copies value_of bits_of_octets octets_of mapped unmapp
 stopped_text = refl
 
 -- where the stop leaves the grandchildren out, they aren't given
-stopped_given : given_blocks (head_with usual 5 1 0 1) second_blocks (block_depths second_blocks) (chosen_options (head_with usual 5 1 0 1) second_blocks)
+stopped_given : given_blocks (head_with usual 5 1 0 1) second_blocks (block_depths second_blocks) (chosen_options profile (head_with usual 5 1 0 1) second_blocks)
     (length (items_of (head_with usual 5 1 0 1) second_blocks)) ≡ (pos 8 ∷ replicate 63 (pos 0)) ∷ []
 unfolding size_of bits_of copies value_of bits_of_octets octets_of mapped unmapped value_items gaggle_items items_before coded_bits optimal heuristic greatest_suiting planes_before dc_items depth_items span symbol cost is_cheapest cheapest profile significant coded set_significant live enclosing_significant type_due flag_due newly_significant refined block_entries is_new is_last_hope block_steps word_of entry_reading segment_items blocks.place_of lib.Count.ones given_blocks
 stopped_given = refl
 
 -- what the first items give: the DC's high bits, a number before its sign and after it, the DC's last bit, and all but a last bit
 abbrev given_of : ℕ → List (List ℤ)
-given_of m = given_blocks first_head first_blocks (block_depths first_blocks) (chosen_options first_head first_blocks) m
+given_of m = given_blocks first_head first_blocks (block_depths first_blocks) (chosen_options profile first_head first_blocks) m
 
 first_seven : given_of 7 ≡ (pos 4 ∷ pos 2 ∷ replicate 62 (pos 0)) ∷ []
 unfolding size_of bits_of copies value_of bits_of_octets octets_of mapped unmapped value_items gaggle_items items_before coded_bits optimal heuristic greatest_suiting planes_before dc_items depth_items span symbol cost is_cheapest cheapest profile significant coded set_significant live enclosing_significant type_due flag_due newly_significant refined block_entries is_new is_last_hope block_steps word_of entry_reading segment_items blocks.place_of lib.Count.ones given_blocks
@@ -152,7 +152,7 @@ abbrev many_blocks : List (List ℤ)
 many_blocks = replicate 100 (pos 1600 ∷ replicate 63 (pos 0))
 
 abbrev many_options : Options
-many_options = chosen_options many_head many_blocks
+many_options = chosen_options profile many_head many_blocks
 
 many_text : take 96 (text (segment_items many_head many_blocks (replicate 100 0) many_options)) ≡
     bits_of_octets (0x06 ∷ 0x47 ∷ 0xFF ∷ 0xF0 ∷ 0xFF ∷ 0xFF ∷ 0x0F ∷ 0xFF ∷ 0xF0 ∷ 0xFF ∷ 0xFF ∷ 0x0F ∷ [])

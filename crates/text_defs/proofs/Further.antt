@@ -25,7 +25,7 @@ goes_further head rest m xs ds o more after said fits a lt says allowed read =
       | inr past ↦ by_stop past head.stop.dc refl
     ]
   where
-    by_stop : length (dc_part_items head xs o) ≤ m → (t : Bool) → head.stop.dc ≡ t → (ys : List (List ℤ)) × (es : List ℕ) × (u : Options) × Reading head rest ys es u (suc m) after
+    by_stop : length (dc_part_items head xs o) ≤ m → (t : Bool) → head.stop.dc ≡ t → (ys : List (List ℤ)) × (es : List ℕ) × (u : Options) × (o.book ≡ u.book) × Reading head rest ys es u (suc m) after
     by_stop past true e = absurd (omega (arith, past, lt, ap length (dc_alone head xs ds o e)))
     by_stop past false e =
         elim (cases_lt m (length (dc_part_items head xs o) + length (depth_items head.depth_ac ds o.depths))) [

@@ -17,7 +17,6 @@ use Rattle.plane_defs.specs.Spans.{span}
 use Rattle.plane_defs.specs.Sets.{magnitude}
 use Rattle.plane_defs.specs.Laws.{IsMultiple}
 use Rattle.plane_defs.specs.Entries.{negative}
-use Rattle.plane_defs.specs.Profile.{profile}
 use Rattle.plane_defs.proofs.Above.{all_span}
 use Rattle.segment_defs.specs.declared.head.SegmentHead.{SegmentHead}
 use Rattle.segment_defs.specs.Head.{IsHead}
@@ -120,13 +119,13 @@ part_none head blocks depths options m r b lt = by_stop head.stop.dc
     zero_left n d z k lt = omega arith
 
     by_stop : (t : Bool) →
-        TellsNone (cond t [] (steps_given profile (options.words b) (plane_at head blocks depths b) (stages_sent head b) (m - before_plane head blocks depths options (head.depth_ac - (b + 1))) r))
+        TellsNone (cond t [] (steps_given options.book (options.words b) (plane_at head blocks depths b) (stages_sent head b) (m - before_plane head blocks depths options (head.depth_ac - (b + 1))) r))
     by_stop true = λ p. (refl, refl)
     by_stop false =
-        plane_none profile (options.words b) (plane_at head blocks depths b) (stages_sent head b) (m - before_plane head blocks depths options (head.depth_ac - (b + 1))) r
+        plane_none options.book (options.words b) (plane_at head blocks depths b) (stages_sent head b) (m - before_plane head blocks depths options (head.depth_ac - (b + 1))) r
         (zero_left m (length (dc_part_items head blocks options)) (length (depth_items head.depth_ac depths options.depths)) (length (planes_items head blocks depths options (head.depth_ac - (b + 1)))) lt)
 
-module _ (head : SegmentHead) (fits : IsHead head) (xs ys : List (List ℤ)) (ds es : List ℕ) (o u : Options) (p : IsSpellable head xs ds) (q : IsSpellable head ys es) (k : AreWordOptions o) (l : AreWordOptions u) (m : ℕ)
+module _ (head : SegmentHead) (fits : IsHead head) (xs ys : List (List ℤ)) (ds es : List ℕ) (o u : Options) (p : IsSpellable head xs ds) (q : IsSpellable head ys es) (k : AreWordOptions o) (l : AreWordOptions u) (books : o.book ≡ u.book) (m : ℕ)
     (said : SaySame m (segment_items head xs ds o) (segment_items head ys es u)) (all : AreItems (take m (segment_items head xs ds o))) (r : ℕ) (inside : r < head.blocks) where
   dc_said : SaySame m (dc_part_items head xs o) (dc_part_items head ys u)
   unfolding segment_items
@@ -149,7 +148,7 @@ module _ (head : SegmentHead) (fits : IsHead head) (xs ys : List (List ℤ)) (ds
   Y = block_of ys r
 
   told : (b : ℕ) → b < head.depth_ac → SameTold X Y b (given_in head xs ds o m r b) (given_in head ys es u m r b)
-  told b lt = told_in head fits xs ys o u k l ds es p q m r b lt inside said all
+  told b lt = told_in head fits xs ys o u k l books ds es p q m r b lt inside said all
 
   dc_x : get_or (dcs_of xs) r (pos 0) ≡ dc_of X
   dc_x = get_or-map dc_of xs r [] (pos 0) (omega (arith, inside, p.blocks_all))
@@ -266,7 +265,7 @@ module _ (head : SegmentHead) (fits : IsHead head) (xs ys : List (List ℤ)) (ds
 
 pub same_given : SameGiven
 unfolding given_blocks
-same_given head rest m xs ys ds es o u more other fits a b =
-    let agree = step_law head rest m xs ys ds es o u more other fits a b in
+same_given head rest m xs ys ds es o u more other fits books a b =
+    let agree = step_law head rest m xs ys ds es o u more other fits books a b in
     map_alike (given_block head xs ds o m) (given_block head ys es u m) (span 0 head.blocks)
-    (all_span _ 0 head.blocks (λ r low high. block_same head fits xs ys ds es o u a.spellable b.spellable a.known b.known m agree.said a.front.taken r (omega arith)))
+    (all_span _ 0 head.blocks (λ r low high. block_same head fits xs ys ds es o u a.spellable b.spellable a.known b.known books m agree.said a.front.taken r (omega arith)))

@@ -15,6 +15,7 @@ use Rattle.std.proofs.Math.Pow.{pow_mono}
 use Rattle.item_defs.specs.Bits.{bit}
 use Rattle.number_defs.specs.Ranges.{IsInRange, complement}
 use Rattle.number_defs.specs.DcPart.{depth_q, dc_q, dc_bits}
+use Rattle.base_122.specs.declared.book.Book.{Book}
 use Rattle.plane_defs.specs.Spans.{span}
 use Rattle.plane_defs.proofs.SpanLists.{get_or-map-span}
 use Rattle.plane_defs.specs.Sets.{magnitude, shift}
@@ -219,7 +220,7 @@ module _ (head : SegmentHead) (blocks : List (List ℤ)) (depths : List ℕ) (op
       (ac_part (suc i))
 
 -- Each number that a text holds is a multiple of its weight, by at most 2 ^ 27 in magnitude.
-pub holds_parts : (head : SegmentHead) (rest : List ℕ) (w : List (List ℤ)) → IsHead head → Holds head rest w → (r i : ℕ) → r < head.blocks → i < 64 →
+pub holds_parts : {book : Book} (head : SegmentHead) (rest : List ℕ) (w : List (List ℤ)) → IsHead head → Holds book head rest w → (r i : ℕ) → r < head.blocks → i < 64 →
     IsPart (shift head.image.weights.shifts i) (get_or (get_or w r []) i (pos 0))
 unfolding given_blocks
 holds_parts head rest w ok h r i lt few =

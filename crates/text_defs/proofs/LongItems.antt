@@ -4,7 +4,7 @@ use Rattle.std.specs.Prelude.{◌==◌, nat_le, ◌||◌}
 use Rattle.std.specs.List.{flat_map, list_any, list_all, AllByRecursion}
 use Rattle.std.proofs.lemmas.Bool.Decides.{nat_tests}
 use Rattle.std.proofs.lemmas.Nat.{pow_pos}
-use Rattle.item_defs.specs.Bits.{bits_of, value_of, copies}
+use Rattle.item_defs.specs.Bits.{bits_of, copies}
 use Rattle.item_defs.specs.Items.{Item, IsSaid, spelling, raw, plain, code}
 use Rattle.item_defs.specs.Readings.{item_at}
 use Rattle.item_defs.proofs.NumberBits.{length-bits_of}
@@ -13,19 +13,19 @@ use Rattle.number_defs.specs.Gaggles.{Kind, uncoded, identifier_bits, uncoded_va
 use Rattle.number_defs.specs.DcPart.{dc_q, dc_bits, dc_kind, dc_bit, high_items, planes_before, dc_planes, dc_items}
 use Rattle.number_defs.specs.Ranges.{shifted_height}
 use Rattle.number_defs.specs.Depths.{depth_bits, depth_kind, depth_items}
+use Rattle.base_122.specs.declared.book.Book.{Book}
 use Rattle.plane_defs.specs.declared.entries.Entry.{Entry}
 use Rattle.plane_defs.specs.declared.entries.Entry.TheVariants.{Bit, Word}
 use Rattle.plane_defs.specs.Spans.{span}
 use Rattle.plane_defs.specs.Entries.{IsEntry, stage_number}
 use Rattle.plane_defs.specs.Codes as codes
-use Rattle.plane_defs.specs.Codes.{symbol, codes_of, code_bits, code_at, word_item, option_item, identifier_width}
+use Rattle.plane_defs.specs.Codes.{symbol, table, table_place, is_book_sound, codes_of, code_bits, code_at, word_item, option_item, identifier_width}
 use Rattle.plane_defs.specs.Spelled.{is_word_of, option_of, opening}
-use Rattle.plane_defs.specs.Profile.{profile}
 use Rattle.plane_defs.specs.Steps.{Check, refuses, Step}
 use Rattle.plane_defs.specs.Planes.{Plane, gaggles, gaggle_size, before_stage}
 use Rattle.plane_defs.specs.Reading.{checked, checked_word, entry_reading, step_reading, read_after, steps_of_block, steps_of_gaggle, gaggle_reading, stage_reading, plane_reading}
 use Rattle.plane_defs.proofs.SpanLists.{length-map-span, get_or-map-span}
-use Rattle.plane_defs.proofs.Tables.{list_all-span-zero}
+use Rattle.plane_defs.proofs.Tables.{list_all-span-zero, table_len, sound_table}
 use Rattle.plane_defs.proofs.Above.{all_append}
 use Rattle.plane_defs.proofs.StepItems.{AreOptionsOf, Fits}
 use Rattle.plane_defs.proofs.PlaneSteps.{block_fits, flat_fits}
@@ -147,70 +147,57 @@ depths_long depth_ac depths options le = by_depth (eqb depth_ac 0) (eqb depth_ac
 
 -- ---- words
 
-codes_tested : (n o : ℕ) → 2 ≤ n → n ≤ 4 → o + 1 < n → list_all (λ s. nat_le 1 (code_at profile n o s).len) (span 0 (2 ^ n)) ≡ true
-unfolding profile span value_of
-codes_tested zero o low high lt = absurd (omega arith)
-codes_tested (suc zero) o low high lt = absurd (omega arith)
-codes_tested (suc (suc zero)) zero low high lt = refl
-codes_tested (suc (suc zero)) (suc o) low high lt = absurd (omega arith)
-codes_tested (suc (suc (suc zero))) zero low high lt = refl
-codes_tested (suc (suc (suc zero))) (suc zero) low high lt = refl
-codes_tested (suc (suc (suc zero))) (suc (suc o)) low high lt = absurd (omega arith)
-codes_tested (suc (suc (suc (suc zero)))) zero low high lt = refl
-codes_tested (suc (suc (suc (suc zero)))) (suc zero) low high lt = refl
-codes_tested (suc (suc (suc (suc zero)))) (suc (suc zero)) low high lt = refl
-codes_tested (suc (suc (suc (suc zero)))) (suc (suc (suc o))) low high lt = absurd (omega arith)
-codes_tested (suc (suc (suc (suc (suc n))))) o low high lt = absurd (omega arith)
+code_long : (book : Book) (n option s : ℕ) → is_book_sound book ≡ true → 2 ≤ n → n ≤ 4 → option + 1 < n → s < 2 ^ n → 1 ≤ (code_at book n option s).len
+code_long book n option s sound low high more lt =
+    (table_len (table book (table_place n option)) (2 ^ n) s (sound_table book n option sound low high more) lt).0
 
-word_long : (n option value : ℕ) → 2 ≤ n → n ≤ 4 → option < n → IsLong (word_item profile n option value)
-word_long n option value low high known = by_option (option == codes.uncoded n) refl
-  where
-    from_test : (n : ℕ) → nat_le 1 n ≡ true → 1 ≤ n
-    from_test n e = grind (arith, nat_tests)
+module _ (book : Book) (sound : is_book_sound book ≡ true) where
+  word_long : (n option value : ℕ) → 2 ≤ n → n ≤ 4 → option < n → IsLong (word_item book n option value)
+  word_long n option value low high known = by_option (option == codes.uncoded n) refl
+    where
+      by_option : (b : Bool) → (option == codes.uncoded n) ≡ b → IsLong (cond b (plain n value) (code (codes_of book n option) (symbol n value)))
+      by_option true e s said = fixed_long n s (omega arith)
+      by_option false e s said =
+          let more : option + 1 < n = grind (arith, nat_tests) in
+          let f = λ (s : ℕ). code_bits (code_at book n option s) in
+          let lt : s < 2 ^ n = omega (arith, said, length-map-span f (2 ^ n)) in
+          let long = code_long book n option s sound low high more lt in
+          let at : get_or (map f (span 0 (2 ^ n))) s [] ≡ f s = get_or-map-span f (2 ^ n) s [] lt in
+          subst (λ l. 1 ≤ length l) (sym at) (fixed_long (code_at book n option s).len (code_at book n option s).bits long)
 
-    by_option : (b : Bool) → (option == codes.uncoded n) ≡ b → IsLong (cond b (plain n value) (code (codes_of profile n option) (symbol n value)))
-    by_option true e s said = fixed_long n s (omega arith)
-    by_option false e s said =
-        let more : option + 1 < n = grind (arith, nat_tests) in
-        let f = λ (s : ℕ). code_bits (code_at profile n option s) in
-        let lt : s < 2 ^ n = omega (arith, said, length-map-span f (2 ^ n)) in
-        let long = from_test (code_at profile n option s).len (list_all-span-zero (λ s. nat_le 1 (code_at profile n option s).len) (2 ^ n) s (codes_tested n option low high more) lt) in
-        let at : get_or (map f (span 0 (2 ^ n))) s [] ≡ f s = get_or-map-span f (2 ^ n) s [] lt in
-        subst (λ l. 1 ≤ length l) (sym at) (fixed_long (code_at profile n option s).len (code_at profile n option s).bits long)
+  entry_long : (options : List ℕ) → AreOptionsOf options → (before : List Entry) (check : Check) (e : Entry) → IsEntry e → AllLong (entry_reading book options before check e)
+  unfolding entry_reading
+  entry_long options known before check (Bit b) fit = (λ n said. fixed_long 1 n (omega arith), tt)
+  entry_long options known before check (Word bits) fit = by_count (eqb bits.count 0) (eqb bits.count 1) refl refl
+    where
+      width : (n : ℕ) → 1 ≤ identifier_width n
+      width n = grind (arith, nat_tests)
 
-entry_long : (options : List ℕ) → AreOptionsOf options → (before : List Entry) (check : Check) (e : Entry) → IsEntry e → AllLong (entry_reading profile options before check e)
-unfolding entry_reading
-entry_long options known before check (Bit b) fit = (λ n said. fixed_long 1 n (omega arith), tt)
-entry_long options known before check (Word bits) fit = by_count (eqb bits.count 0) (eqb bits.count 1) refl refl
-  where
-    width : (n : ℕ) → 1 ≤ identifier_width n
-    width n = grind (arith, nat_tests)
+      opened : (b : Bool) → AllLong (cond b [] (option_item bits.count (option_of options bits.count) ∷ []))
+      opened true = tt
+      opened false = (λ n said. fixed_long (identifier_width bits.count) n (width bits.count), tt)
 
-    opened : (b : Bool) → AllLong (cond b [] (option_item bits.count (option_of options bits.count) ∷ []))
-    opened true = tt
-    opened false = (λ n said. fixed_long (identifier_width bits.count) n (width bits.count), tt)
+      by_count : (none one : Bool) → eqb bits.count 0 ≡ none → eqb bits.count 1 ≡ one →
+          AllLong (cond none [] (cond one (checked (refuses check) (raw bits.value) ∷ []) (opening options before bits.count ++ checked_word book bits.count (option_of options bits.count) bits.value check ∷ [])))
+      by_count true one e f = tt
+      by_count false true e f = (λ n said. fixed_long 1 n (omega arith), tt)
+      by_count false false e f =
+          let two : 2 ≤ bits.count = grind (arith, nat_tests) in
+          both (opening options before bits.count) _ (opened (list_any (is_word_of bits.count) before))
+          (word_long bits.count (option_of options bits.count) bits.value two fit.0 (known.at bits.count two fit.0), tt)
 
-    by_count : (none one : Bool) → eqb bits.count 0 ≡ none → eqb bits.count 1 ≡ one →
-        AllLong (cond none [] (cond one (checked (refuses check) (raw bits.value) ∷ []) (opening options before bits.count ++ checked_word profile bits.count (option_of options bits.count) bits.value check ∷ [])))
-    by_count true one e f = tt
-    by_count false true e f = (λ n said. fixed_long 1 n (omega arith), tt)
-    by_count false false e f =
-        let two : 2 ≤ bits.count = grind (arith, nat_tests) in
-        both (opening options before bits.count) _ (opened (list_any (is_word_of bits.count) before))
-        (word_long bits.count (option_of options bits.count) bits.value two fit.0 (known.at bits.count two fit.0), tt)
+  steps_long : (options : List ℕ) → AreOptionsOf options → (before : List Entry) (steps : List Step) → Fits steps → AllLong (read_after book options before steps)
+  steps_long options known before [] fit = tt
+  steps_long options known before (s ∷ steps) fit =
+      both (step_reading book options before s) _ (entry_long options known before s.check s.entry fit.0) (steps_long options known (before ++ s.entry ∷ []) steps fit.1)
 
-steps_long : (options : List ℕ) → AreOptionsOf options → (before : List Entry) (steps : List Step) → Fits steps → AllLong (read_after profile options before steps)
-steps_long options known before [] fit = tt
-steps_long options known before (s ∷ steps) fit =
-    both (step_reading profile options before s) _ (entry_long options known before s.check s.entry fit.0) (steps_long options known (before ++ s.entry ∷ []) steps fit.1)
-
-plane_long : (options : ℕ → List ℕ) → ((g : ℕ) → AreOptionsOf (options g)) → (p : Plane) (stages : ℕ) → AllLong (plane_reading profile options p stages)
-plane_long options known p stages =
-    flat (stage_reading profile options p) (λ k.
-    flat (gaggle_reading profile options p k) (λ g.
-    steps_long (options g) (known g) (before_stage p k g) (steps_of_gaggle p (stage_number k) g)
-    (flat_fits (steps_of_block p (stage_number k)) (λ r. block_fits (stage_number k) (get_or p.blocks r []) (get_or p.depths r 0) p.weights p.number p.q) (span (16 * g) (gaggle_size p g))))
-    (span 0 (gaggles p))) (span 0 stages)
+  plane_long : (options : ℕ → List ℕ) → ((g : ℕ) → AreOptionsOf (options g)) → (p : Plane) (stages : ℕ) → AllLong (plane_reading book options p stages)
+  plane_long options known p stages =
+      flat (stage_reading book options p) (λ k.
+      flat (gaggle_reading book options p k) (λ g.
+      steps_long (options g) (known g) (before_stage p k g) (steps_of_gaggle p (stage_number k) g)
+      (flat_fits (steps_of_block p (stage_number k)) (λ r. block_fits (stage_number k) (get_or p.blocks r []) (get_or p.depths r 0) p.weights p.number p.q) (span (16 * g) (gaggle_size p g))))
+      (span 0 (gaggles p))) (span 0 stages)
 
 -- ---- the whole text
 
@@ -227,5 +214,5 @@ segment_items_long head blocks depths options fits known = by_stop head.stop.dc
         both (dc_part_items head blocks options) _ first
         (both (depth_items head.depth_ac depths options.depths) _ (depths_long head.depth_ac depths options.depths fits.depth_ac)
         (flat (nth_plane_items head blocks depths options)
-        (λ n. plane_long (options.words (nth_plane head n)) (λ g. record { at = λ k low high. known.at (nth_plane head n) g k low high }) (plane_at head blocks depths (nth_plane head n)) (stages_sent head (nth_plane head n)))
+        (λ n. plane_long options.book known.sound (options.words (nth_plane head n)) (λ g. record { at = λ k low high. known.at (nth_plane head n) g k low high }) (plane_at head blocks depths (nth_plane head n)) (stages_sent head (nth_plane head n)))
         (span 0 head.depth_ac)))

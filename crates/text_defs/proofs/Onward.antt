@@ -12,7 +12,9 @@ use Rattle.number_defs.specs.Depths.{depth_bits}
 use Rattle.std.specs.Int.{int_shr}
 use Rattle.number_defs.proofs.DcRange.{dc_fits}
 use Rattle.number_defs.proofs.Heights.{half}
+use Rattle.base_122.specs.declared.book.Book.{Book}
 use Rattle.plane_defs.specs.Spans.{span}
+use Rattle.plane_defs.specs.Codes.{is_book_sound}
 use Rattle.plane_defs.proofs.SpanLists.{length-map-span, get_or-map-span}
 use Rattle.segment_defs.specs.declared.head.SegmentHead.{SegmentHead}
 use Rattle.segment_defs.specs.Head.{IsHead}
@@ -146,63 +148,65 @@ zero_spellable head fits = record {
   depths_few = λ i lt. omega (arith, zero_depth (span 0 head.blocks) i, pow_pos (depth_bits head.depth_ac));
 }
 
-pub no_options : Options
-no_options = record { dcs = λ g. 0; depths = λ g. 0; words = λ b g. [] }
+pub no_options : Book → Options
+no_options book = record { book = book; dcs = λ g. 0; depths = λ g. 0; words = λ b g. [] }
 
-pub first_reading : (head : SegmentHead) (rest : List ℕ) → IsHead head → Reading head rest (zero_blocks head.blocks) (zero_depths head.blocks) no_options 0 (bits_read head rest)
+pub first_reading : (book : Book) → is_book_sound book ≡ true → (head : SegmentHead) (rest : List ℕ) → IsHead head →
+    Reading head rest (zero_blocks head.blocks) (zero_depths head.blocks) (no_options book) 0 (bits_read head rest)
 unfolding no_options
-first_reading head rest fits = record {
+first_reading book sound head rest fits = record {
   spellable = zero_spellable head fits;
-  known = record { at = λ b g n low high. omega arith };
+  known = record { sound = sound; at = λ b g n low high. omega arith };
   front = record { within = omega arith; taken = tt; read = refl };
 }
 
 -- ---- outcomes
 
-abbrev pub Outcome : SegmentHead → List ℕ → Type 0
-Outcome head rest = ((w : List (List ℤ)) × Holds head rest w) ⊎ ((name : SegmentRefusal) × Refused head rest name)
+abbrev pub Outcome : Book → SegmentHead → List ℕ → Type 0
+Outcome book head rest = ((w : List (List ℤ)) × Holds book head rest w) ⊎ ((name : SegmentRefusal) × Refused book head rest name)
 
-module _ (head : SegmentHead) (rest : List ℕ) (xs : List (List ℤ)) (ds : List ℕ) (o : Options) (m : ℕ) (more : List Bool) (a : Reading head rest xs ds o m more) where
+module _ (head : SegmentHead) (rest : List ℕ) (xs : List (List ℤ)) (ds : List ℕ) (o : Options) (m : ℕ) (more : List Bool) (a : Reading head rest xs ds o m more)
+    (book : Book) (of_book : o.book ≡ book) where
   abbrev items : List Item
   items = segment_items head xs ds o
 
   -- all items are given
-  all_items : length items ≤ m → Outcome head rest
+  all_items : length items ≤ m → Outcome book head rest
   all_items past =
       let whole : m ≡ length items = omega (arith, past, a.front.within) in
       let wanted : ℕ = expected_length head items in
       elim (cases_lt (length_of head rest) wanted) [
-        | inl short ↦ inr (short_segment, record { blocks = xs; depths = ds; options = o; count = m; more = more; reading = a; cause = inr (inl (whole, short)) })
+        | inl short ↦ inr (short_segment, record { blocks = xs; depths = ds; options = o; of_book = of_book; count = m; more = more; reading = a; cause = inr (inl (whole, short)) })
         | inr enough ↦ elim (cases_lt wanted (length_of head rest)) [
-          | inl over ↦ inr (overlong, record { blocks = xs; depths = ds; options = o; count = m; more = more; reading = a; cause = inr (inl (whole, over)) })
+          | inl over ↦ inr (overlong, record { blocks = xs; depths = ds; options = o; of_book = of_book; count = m; more = more; reading = a; cause = inr (inl (whole, over)) })
           | inr fits ↦
               let exact : length_of head rest ≡ wanted = omega (arith, enough, fits) in
-              inl (given_blocks head xs ds o m, record { blocks = xs; depths = ds; options = o; count = m; more = more; reading = a; is_taken = inl (whole, exact); given = refl })
+              inl (given_blocks head xs ds o m, record { blocks = xs; depths = ds; options = o; of_book = of_book; count = m; more = more; reading = a; is_taken = inl (whole, exact); given = refl })
         ]
       ]
 
   -- no spelling stands next
-  cut_there : m < length items → Lacks (item_at items m).form.shape more → Outcome head rest
+  cut_there : m < length items → Lacks (item_at items m).form.shape more → Outcome book head rest
   cut_there within lacks = by_limit (cases_lt 0 head.limit)
     where
-      by_limit : (0 < head.limit) ⊎ (head.limit ≤ 0) → Outcome head rest
+      by_limit : (0 < head.limit) ⊎ (head.limit ≤ 0) → Outcome book head rest
       by_limit (inr none) =
           let zero_limit : head.limit ≡ 0 = omega (arith, none) in
-          inr (short_segment, record { blocks = xs; depths = ds; options = o; count = m; more = more; reading = a; cause = inr (inr (record { within = within; lacks = lacks }, inl zero_limit)) })
+          inr (short_segment, record { blocks = xs; depths = ds; options = o; of_book = of_book; count = m; more = more; reading = a; cause = inr (inr (record { within = within; lacks = lacks }, inl zero_limit)) })
       by_limit (inl some) =
           let limited : head.limit ≢ 0 = λ e. omega (arith, some, e) in
           elim (cases_lt (length_of head rest) head.limit) [
-            | inl short ↦ inr (short_segment, record { blocks = xs; depths = ds; options = o; count = m; more = more; reading = a; cause = inr (inr (record { within = within; lacks = lacks }, inr short)) })
+            | inl short ↦ inr (short_segment, record { blocks = xs; depths = ds; options = o; of_book = of_book; count = m; more = more; reading = a; cause = inr (inr (record { within = within; lacks = lacks }, inr short)) })
             | inr enough ↦ elim (cases_lt head.limit (length_of head rest)) [
-              | inl over ↦ inr (overlong, record { blocks = xs; depths = ds; options = o; count = m; more = more; reading = a; cause = inr (inr (record { within = within; lacks = lacks }, (limited, over))) })
+              | inl over ↦ inr (overlong, record { blocks = xs; depths = ds; options = o; of_book = of_book; count = m; more = more; reading = a; cause = inr (inr (record { within = within; lacks = lacks }, (limited, over))) })
               | inr fits ↦
                   let full : length_of head rest ≡ head.limit = omega (arith, enough, fits) in
-                  inl (given_blocks head xs ds o m, record { blocks = xs; depths = ds; options = o; count = m; more = more; reading = a; is_taken = inr (record { within = within; lacks = lacks }, record { limited = limited; full = full }); given = refl })
+                  inl (given_blocks head xs ds o m, record { blocks = xs; depths = ds; options = o; of_book = of_book; count = m; more = more; reading = a; is_taken = inr (record { within = within; lacks = lacks }, record { limited = limited; full = full }); given = refl })
             ]
           ]
 
   -- a reading stops here, or goes on
-  one_step : GoesFurther → IsHead head → ((ys : List (List ℤ)) (es : List ℕ) (u : Options) (after : List Bool) → length after < length more → Reading head rest ys es u (suc m) after → Outcome head rest) → Outcome head rest
+  one_step : GoesFurther → IsHead head → ((ys : List (List ℤ)) (es : List ℕ) (u : Options) (after : List Bool) → length after < length more → u.book ≡ book → Reading head rest ys es u (suc m) after → Outcome book head rest) → Outcome book head rest
   one_step goes fits then =
       elim (cases_lt m (length items)) [
         | inr past ↦ all_items past
@@ -212,18 +216,21 @@ module _ (head : SegmentHead) (rest : List ℕ) (xs : List (List ℤ)) (ds : Lis
         ]
       ]
     where
-      by_refusal : (within : m < length items) → (f : Follows (item_at items m).form.shape more) → (r : Option Refusal) → (item_at items m).form.refusal f.spelt ≡ r → Outcome head rest
+      by_refusal : (within : m < length items) → (f : Follows (item_at items m).form.shape more) → (r : Option Refusal) → (item_at items m).form.refusal f.spelt ≡ r → Outcome book head rest
       by_refusal within f (Some name) e =
-          inr (at_item name, record { blocks = xs; depths = ds; options = o; count = m; more = more; reading = a; cause = inl (record { within = within; spelt = f.spelt; says = f.says; refuses = e; after = f.after; read = f.read }) })
+          inr (at_item name, record { blocks = xs; depths = ds; options = o; of_book = of_book; count = m; more = more; reading = a; cause = inl (record { within = within; spelt = f.spelt; says = f.says; refuses = e; after = f.after; read = f.read }) })
       by_refusal within f None e =
           let r = goes head rest m xs ds o more f.after f.spelt fits a within f.says e f.read in
           let long = long_at items m (segment_items_long head xs ds o fits a.known) within f.spelt f.says in
-          then r.0 r.1 r.2 f.after (omega (arith, ap length f.read, length-append (spelling (item_at items m).form.shape f.spelt) f.after, long)) r.3
+          then r.0 r.1 r.2 f.after (omega (arith, ap length f.read, length-append (spelling (item_at items m).form.shape f.spelt) f.after, long)) (sym r.3 ∙ of_book) r.4
 
-loop : GoesFurther → (head : SegmentHead) (rest : List ℕ) → IsHead head → (fuel m : ℕ) (xs : List (List ℤ)) (ds : List ℕ) (o : Options) (more : List Bool) → length more ≤ fuel → Reading head rest xs ds o m more → Outcome head rest
-loop goes head rest fits zero m xs ds o more le a = one_step head rest xs ds o m more a goes fits (λ ys es u after lt b. absurd (omega (arith, lt, le)))
-loop goes head rest fits (suc fuel) m xs ds o more le a = one_step head rest xs ds o m more a goes fits (λ ys es u after lt b. loop goes head rest fits fuel (suc m) ys es u after (omega (arith, lt, le)) b)
+loop : GoesFurther → (book : Book) (head : SegmentHead) (rest : List ℕ) → IsHead head → (fuel m : ℕ) (xs : List (List ℤ)) (ds : List ℕ) (o : Options) (more : List Bool) → length more ≤ fuel → o.book ≡ book →
+    Reading head rest xs ds o m more → Outcome book head rest
+loop goes book head rest fits zero m xs ds o more le of_book a = one_step head rest xs ds o m more a book of_book goes fits (λ ys es u after lt same b. absurd (omega (arith, lt, le)))
+loop goes book head rest fits (suc fuel) m xs ds o more le of_book a =
+    one_step head rest xs ds o m more a book of_book goes fits (λ ys es u after lt same b. loop goes book head rest fits fuel (suc m) ys es u after (omega (arith, lt, le)) same b)
 
 pub outcome_from : GoesFurther → HasOutcome
-outcome_from goes head rest fits =
-    loop goes head rest fits (length (bits_read head rest)) 0 (zero_blocks head.blocks) (zero_depths head.blocks) no_options (bits_read head rest) (omega arith) (first_reading head rest fits)
+unfolding no_options
+outcome_from goes book sound head rest fits =
+    loop goes book head rest fits (length (bits_read head rest)) 0 (zero_blocks head.blocks) (zero_depths head.blocks) (no_options book) (bits_read head rest) (omega arith) refl (first_reading book sound head rest fits)

@@ -4,6 +4,7 @@ use Rattle.std.proofs.lemmas.Bool.{cases_lt}
 use Rattle.std.proofs.Math.Seq.{take-length}
 use Rattle.item_defs.specs.Items.{Item, Refusal, text}
 use Rattle.item_defs.specs.Padding.{rounded}
+use Rattle.base_122.specs.declared.book.Book.{Book}
 use Rattle.segment_defs.specs.declared.head.SegmentHead.{SegmentHead}
 use Rattle.segment_defs.specs.Head.{IsHead, head_length}
 use Rattle.segment_defs.specs.SegmentItems.{Options, segment_items}
@@ -15,32 +16,32 @@ use Rattle.text_defs.proofs.SegmentAlike.{segment_alike}
 use Rattle.text_defs.proofs.SoundItems.{segment_sound, sound_at}
 
 pub step_law : StepLaw
-step_law head rest m xs ys ds es o u more other fits a b =
+step_law head rest m xs ys ds es o u more other fits books a b =
     let is = segment_items head xs ds o in
     let js = segment_items head ys es u in
-    let same = segment_alike head xs ys ds es o u fits a.spellable b.spellable a.known b.known in
+    let same = segment_alike head xs ys ds es o u fits a.spellable b.spellable a.known b.known books in
     let r = fronts_agree is js m more other same a.front.within b.front.within a.front.taken b.front.taken (sym a.front.read ∙ b.front.read) in
     let next = next_alike is js m same a.front.within b.front.within a.front.taken r.0 in
     record { said = r.0; left = r.1; next = next.0; whole = next.1 }
 
 -- ---- two readings that end
 
-module _ (head : SegmentHead) (rest : List ℕ) (fits : IsHead head) (xs ys : List (List ℤ)) (ds es : List ℕ) (o u : Options) (m n : ℕ) (more other : List Bool)
+module _ (head : SegmentHead) (rest : List ℕ) (fits : IsHead head) (xs ys : List (List ℤ)) (ds es : List ℕ) (o u : Options) (books : o.book ≡ u.book) (m n : ℕ) (more other : List Bool)
     (a : Reading head rest xs ds o m more) (b : Reading head rest ys es u n other) where
   pub never_later : (s : End) → EndsSo (segment_items head xs ds o) m more s → n ≤ m
   never_later s ends =
       elim (cases_lt m n) [
-        | inl lt ↦ absurd (no_earlier_end (segment_items head xs ds o) (segment_items head ys es u) (bits_read head rest) (segment_alike head xs ys ds es o u fits a.spellable b.spellable a.known b.known) m n more other s lt a.front b.front ends)
+        | inl lt ↦ absurd (no_earlier_end (segment_items head xs ds o) (segment_items head ys es u) (bits_read head rest) (segment_alike head xs ys ds es o u fits a.spellable b.spellable a.known b.known books) m n more other s lt a.front b.front ends)
         | inr ge ↦ ge
       ]
 
-module _ (head : SegmentHead) (rest : List ℕ) (fits : IsHead head) (xs ys : List (List ℤ)) (ds es : List ℕ) (o u : Options) (more other : List Bool) where
+module _ (head : SegmentHead) (rest : List ℕ) (fits : IsHead head) (xs ys : List (List ℤ)) (ds es : List ℕ) (o u : Options) (books : o.book ≡ u.book) (more other : List Bool) where
   -- ends at one place
   at_one : (m : ℕ) → Reading head rest xs ds o m more → Reading head rest ys es u m other → (s t : End) → EndsSo (segment_items head xs ds o) m more s → EndsSo (segment_items head ys es u) m other t → s ≡ t
   at_one m a b s t p q =
       let is = segment_items head xs ds o in
       let js = segment_items head ys es u in
-      let same = segment_alike head xs ys ds es o u fits a.spellable b.spellable a.known b.known in
+      let same = segment_alike head xs ys ds es o u fits a.spellable b.spellable a.known b.known books in
       elim (cases_lt m (length is)) [
         | inl within ↦ one_end is js (bits_read head rest) same m more other s t (sound_at is m (segment_sound head xs ds o a.known) within) a.front b.front p q
         | inr past ↦
@@ -59,8 +60,8 @@ module _ (head : SegmentHead) (rest : List ℕ) (fits : IsHead head) (xs ys : Li
 
   pub ends_once : (m n : ℕ) → Reading head rest xs ds o m more → Reading head rest ys es u n other → (s t : End) → EndsSo (segment_items head xs ds o) m more s → EndsSo (segment_items head ys es u) n other t → (m ≡ n) × (s ≡ t)
   ends_once m n a b s t p q =
-      let one = never_later head rest fits xs ys ds es o u m n more other a b s p in
-      let two = never_later head rest fits ys xs es ds u o n m other more b a t q in
+      let one = never_later head rest fits xs ys ds es o u books m n more other a b s p in
+      let two = never_later head rest fits ys xs es ds u o (sym books) n m other more b a t q in
       let same : m ≡ n = omega arith in
       (same, at_one n (subst (λ k. Reading head rest xs ds o k more) same a) b s t (subst (λ k. EndsSo (segment_items head xs ds o) k more s) same p) q)
 
@@ -70,7 +71,7 @@ module _ (head : SegmentHead) (rest : List ℕ) (fits : IsHead head) (xs ys : Li
   one_length m n a b p q same =
       let is = segment_items head xs ds o in
       let js = segment_items head ys es u in
-      let alike = segment_alike head xs ys ds es o u fits a.spellable b.spellable a.known b.known in
+      let alike = segment_alike head xs ys ds es o u fits a.spellable b.spellable a.known b.known books in
       let front = subst (λ k. Front js k (bits_read head rest) other) (sym same) b.front in
       let r = fronts_agree is js m more other alike a.front.within front.within a.front.taken front.taken (sym a.front.read ∙ front.read) in
       let first : bits_read head rest ≡ text is ++ more = a.front.read ∙ ap (λ l. text l ++ more) (ap (λ k. take k is) p ∙ take-length is) in
@@ -138,24 +139,24 @@ name_of all_given d = d
 name_of nothing_follows d = d
 name_of (refusal_follows name) d = name
 
-module _ (head : SegmentHead) (rest : List ℕ) (fits : IsHead head) where
-  pub one_count : (v w : List (List ℤ)) (h : Holds head rest v) (k : Holds head rest w) → h.count ≡ k.count
+module _ (book : Book) (head : SegmentHead) (rest : List ℕ) (fits : IsHead head) where
+  pub one_count : (v w : List (List ℤ)) (h : Holds book head rest v) (k : Holds book head rest w) → h.count ≡ k.count
   one_count v w h k =
       let s = end_of_taken head rest (segment_items head h.blocks h.depths h.options) h.count h.more h.is_taken in
       let t = end_of_taken head rest (segment_items head k.blocks k.depths k.options) k.count k.more k.is_taken in
-      (ends_once head rest fits h.blocks k.blocks h.depths k.depths h.options k.options h.more k.more h.count k.count h.reading k.reading s.0 t.0 s.1 t.1).0
+      (ends_once head rest fits h.blocks k.blocks h.depths k.depths h.options k.options (h.of_book ∙ sym k.of_book) h.more k.more h.count k.count h.reading k.reading s.0 t.0 s.1 t.1).0
 
-  pub no_further : (m n : ℕ) (xs ys : List (List ℤ)) (ds es : List ℕ) (o u : Options) (more other : List Bool) → Reading head rest xs ds o m more → (name : Refusal) →
+  pub no_further : (m n : ℕ) (xs ys : List (List ℤ)) (ds es : List ℕ) (o u : Options) (more other : List Bool) → o.book ≡ u.book → Reading head rest xs ds o m more → (name : Refusal) →
       RefusalFollows (segment_items head xs ds o) m more name → Reading head rest ys es u n other → n ≤ m
-  no_further m n xs ys ds es o u more other a name refused b = never_later head rest fits xs ys ds es o u m n more other a b (refusal_follows name) refused
+  no_further m n xs ys ds es o u more other books a name refused b = never_later head rest fits xs ys ds es o u books m n more other a b (refusal_follows name) refused
 
-  pub not_both : (w : List (List ℤ)) (name : SegmentRefusal) → Holds head rest w → Refused head rest name → ⊥
+  pub not_both : (w : List (List ℤ)) (name : SegmentRefusal) → Holds book head rest w → Refused book head rest name → ⊥
   unfolding is_given is_cut
   not_both w name h k =
       let is = segment_items head h.blocks h.depths h.options in
       let js = segment_items head k.blocks k.depths k.options in
-      apart h.is_taken name k.cause (λ s t p q. ends_once head rest fits h.blocks k.blocks h.depths k.depths h.options k.options h.more k.more h.count k.count h.reading k.reading s t p q)
-      (λ p q e. one_length head rest fits h.blocks k.blocks h.depths k.depths h.options k.options h.more k.more h.count k.count h.reading k.reading p q e)
+      apart h.is_taken name k.cause (λ s t p q. ends_once head rest fits h.blocks k.blocks h.depths k.depths h.options k.options (h.of_book ∙ sym k.of_book) h.more k.more h.count k.count h.reading k.reading s t p q)
+      (λ p q e. one_length head rest fits h.blocks k.blocks h.depths k.depths h.options k.options (h.of_book ∙ sym k.of_book) h.more k.more h.count k.count h.reading k.reading p q e)
     where
       apart : IsTaken head rest (segment_items head h.blocks h.depths h.options) h.count h.more → (name : SegmentRefusal) → Cause head rest (segment_items head k.blocks k.depths k.options) k.count k.more name →
           ((s t : End) → EndsSo (segment_items head h.blocks h.depths h.options) h.count h.more s → EndsSo (segment_items head k.blocks k.depths k.options) k.count k.more t → (h.count ≡ k.count) × (s ≡ t)) →
@@ -174,11 +175,11 @@ module _ (head : SegmentHead) (rest : List ℕ) (fits : IsHead head) where
       apart (inr cut) name (inr (inl off)) once long = subst is_cut (once nothing_follows all_given cut.0 off.0).1 tt
       apart (inr cut) name (inr (inr off)) once long = not_off_limit head rest name cut.1 off.1
 
-  pub one_name : (a b : SegmentRefusal) → Refused head rest a → Refused head rest b → a ≡ b
+  pub one_name : (a b : SegmentRefusal) → Refused book head rest a → Refused book head rest b → a ≡ b
   unfolding name_of is_given is_cut
   one_name a b h k =
-      names a b h.cause k.cause (λ s t p q. ends_once head rest fits h.blocks k.blocks h.depths k.depths h.options k.options h.more k.more h.count k.count h.reading k.reading s t p q)
-      (λ p q e. one_length head rest fits h.blocks k.blocks h.depths k.depths h.options k.options h.more k.more h.count k.count h.reading k.reading p q e)
+      names a b h.cause k.cause (λ s t p q. ends_once head rest fits h.blocks k.blocks h.depths k.depths h.options k.options (h.of_book ∙ sym k.of_book) h.more k.more h.count k.count h.reading k.reading s t p q)
+      (λ p q e. one_length head rest fits h.blocks k.blocks h.depths k.depths h.options k.options (h.of_book ∙ sym k.of_book) h.more k.more h.count k.count h.reading k.reading p q e)
     where
       names : (a b : SegmentRefusal) → Cause head rest (segment_items head h.blocks h.depths h.options) h.count h.more a → Cause head rest (segment_items head k.blocks k.depths k.options) k.count k.more b →
           ((s t : End) → EndsSo (segment_items head h.blocks h.depths h.options) h.count h.more s → EndsSo (segment_items head k.blocks k.depths k.options) k.count k.more t → (h.count ≡ k.count) × (s ≡ t)) →
@@ -203,8 +204,8 @@ module _ (head : SegmentHead) (rest : List ℕ) (fits : IsHead head) where
 
 pub outcomes_exclude : OutcomesExclude
 outcomes_exclude = record {
-  one_name = λ head rest a b fits. one_name head rest fits a b;
-  not_both = λ head rest w name fits. not_both head rest fits w name;
-  one_count = λ head rest v w fits. one_count head rest fits v w;
-  no_further = λ head rest m n xs ys ds es o u more other fits. no_further head rest fits m n xs ys ds es o u more other;
+  one_name = λ book head rest a b fits. one_name book head rest fits a b;
+  not_both = λ book head rest w name fits. not_both book head rest fits w name;
+  one_count = λ book head rest v w fits. one_count book head rest fits v w;
+  no_further = λ head rest m n xs ys ds es o u more other fits. no_further o.book head rest fits m n xs ys ds es o u more other;
 }

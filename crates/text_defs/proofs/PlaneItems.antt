@@ -7,14 +7,14 @@ use Rattle.item_defs.specs.Bits.{digit}
 use Rattle.item_defs.specs.Items.{Item, raw, plain, code, false_flag, IsSaid, refused_where}
 use Rattle.item_defs.specs.Readings.{IsItem, AreItems}
 use Rattle.item_defs.proofs.ReadingLaws.{are_append}
+use Rattle.base_122.specs.declared.book.Book.{Book}
 use Rattle.plane_defs.specs.declared.entries.Entry.{Entry}
 use Rattle.plane_defs.specs.declared.entries.Entry.TheVariants.{Bit, Word}
 use Rattle.plane_defs.specs.Spans.{span}
 use Rattle.plane_defs.specs.Entries.{IsEntry, stage_number}
 use Rattle.plane_defs.specs.Codes as codes
-use Rattle.plane_defs.specs.Codes.{symbol, codes_of, code_bits, code_at, word_item, option_item, identifier_number, identifier_width, names_option}
+use Rattle.plane_defs.specs.Codes.{symbol, is_book_sound, codes_of, code_bits, code_at, word_item, option_item, identifier_number, identifier_width, names_option}
 use Rattle.plane_defs.specs.Spelled.{is_word_of, option_of, opening}
-use Rattle.plane_defs.specs.Profile.{profile}
 use Rattle.plane_defs.specs.Steps.{Check, refuses, Step}
 use Rattle.plane_defs.specs.StepLaws.{IsAllowed, value_of_entry}
 use Rattle.plane_defs.specs.Laws.{IsMultiple}
@@ -63,54 +63,7 @@ below_from m n e = grind (arith, nat_tests)
 symbol_below : (n v : ℕ) → 2 ≤ n → n ≤ 4 → v < 2 ^ n → symbol n v < 2 ^ n
 symbol_below n v low high lt = below_from (symbol n v) (2 ^ n) (list_all-span-zero (λ v. nat_lt (symbol n v) (2 ^ n)) (2 ^ n) v (symbols_below n low high) lt)
 
--- ---- words
-
-allowed : (b : Bool) → b ≡ false → cond b (Some false_flag) None ≡ None
-allowed b e = rw e refl
-
-word_is_item : (n option value : ℕ) (check : Check) → 2 ≤ n → n ≤ 4 → option < n → value < 2 ^ n → refuses check value ≡ false → IsItem (checked_word profile n option value check)
-word_is_item n option value check low high known lt passes =
-    (word_sound n option value low high known, said (option == codes.uncoded n), taken (option == codes.uncoded n))
-  where
-    said : (b : Bool) → IsSaid (cond b (plain n value) (code (codes_of profile n option) (symbol n value))).form.shape (cond b (plain n value) (code (codes_of profile n option) (symbol n value))).said
-    said true = lt
-    said false = omega (arith, symbol_below n value low high lt, length-map-span (λ s. code_bits (code_at profile n option s)) (2 ^ n))
-
-    taken : (b : Bool) → refused_where (λ k. refuses check (cond b k (word_of n k))) false_flag (cond b (plain n value) (code (codes_of profile n option) (symbol n value))).said ≡ None
-    taken true = allowed (refuses check value) passes
-    taken false = allowed (refuses check (word_of n (symbol n value))) (ap (refuses check) (word_of-symbol n value low high lt) ∙ passes)
-
-digit_below : (b : Bool) → digit b < 2 ^ 1
-digit_below true = omega arith
-digit_below false = omega arith
-
-entry_are_items : (options : List ℕ) → AreOptionsOf options → (before : List Entry) (check : Check) (e : Entry) → IsEntry e → refuses check (value_of_entry e) ≡ false → AreItems (entry_reading profile options before check e)
-unfolding entry_reading
-entry_are_items options known before check (Bit b) fit passes = ((tt, digit_below b, refl), tt)
-entry_are_items options known before check (Word bits) fit passes = by_count (eqb bits.count 0) (eqb bits.count 1) refl refl
-  where
-    opened : 2 ≤ bits.count → (b : Bool) → AreItems (cond b [] (option_item bits.count (option_of options bits.count) ∷ []))
-    opened two true = tt
-    opened two false = (option_is_item bits.count (option_of options bits.count) two fit.0 (known.at bits.count two fit.0), tt)
-
-    small : bits.count ≡ 1 → bits.value < 2 ^ 1
-    small e = subst (λ n. bits.value < 2 ^ n) e fit.1
-
-    by_count : (none one : Bool) → eqb bits.count 0 ≡ none → eqb bits.count 1 ≡ one →
-        AreItems (cond none [] (cond one (checked (refuses check) (raw bits.value) ∷ []) (opening options before bits.count ++ checked_word profile bits.count (option_of options bits.count) bits.value check ∷ [])))
-    by_count true one e f = tt
-    by_count false true e f = let z : bits.count ≡ 1 = grind (arith, nat_tests) in ((tt, small z, allowed (refuses check bits.value) passes), tt)
-    by_count false false e f =
-        let two : 2 ≤ bits.count = grind (arith, nat_tests) in
-        are_append (opening options before bits.count) _ (opened two (list_any (is_word_of bits.count) before))
-        (word_is_item bits.count (option_of options bits.count) bits.value check two fit.0 (known.at bits.count two fit.0) fit.1 passes, tt)
-
-steps_are_items : (options : List ℕ) → AreOptionsOf options → (before : List Entry) (steps : List Step) → Fits steps → AllByRecursion IsAllowed steps → AreItems (read_after profile options before steps)
-steps_are_items options known before [] fit all = tt
-steps_are_items options known before (s ∷ steps) fit all =
-    are_append (step_reading profile options before s) _ (entry_are_items options known before s.check s.entry fit.0 all.0) (steps_are_items options known (before ++ s.entry ∷ []) steps fit.1 all.1)
-
--- ---- a plane
+-- ---- lists of parts
 
 pub flat_items : {X : Type 0} (f : X → List Item) → ((x : X) → AreItems (f x)) → (xs : List X) → AreItems (flat_map f xs)
 flat_items f all [] = tt
@@ -120,12 +73,62 @@ pub flat_allowed : {X : Type 0} (f : X → List Step) → ((x : X) → AllByRecu
 flat_allowed f all [] = tt
 flat_allowed f all (x ∷ xs) = all_append IsAllowed (f x) (flat_map f xs) (all x) (flat_allowed f all xs)
 
-pub plane_are_items : (options : ℕ → List ℕ) → ((g : ℕ) → AreOptionsOf (options g)) → (p : Plane) → ((r : ℕ) → IsMultiple (get_or p.blocks r []) p.weights) → (stages : ℕ) →
-    AreItems (plane_reading profile options p stages)
-plane_are_items options known p whole stages =
-    flat_items (stage_reading profile options p) (λ k.
-    flat_items (gaggle_reading profile options p k) (λ g.
-    steps_are_items (options g) (known g) (before_stage p k g) (steps_of_gaggle p (stage_number k) g)
-    (flat_fits (steps_of_block p (stage_number k)) (λ r. block_fits (stage_number k) (get_or p.blocks r []) (get_or p.depths r 0) p.weights p.number p.q) (span (16 * g) (gaggle_size p g)))
-    (flat_allowed (steps_of_block p (stage_number k)) (λ r. block_is_allowed (stage_number k) (get_or p.blocks r []) (get_or p.depths r 0) p.weights p.number p.q (whole r)) (span (16 * g) (gaggle_size p g))))
-    (span 0 (gaggles p))) (span 0 stages)
+-- ---- words
+
+allowed : (b : Bool) → b ≡ false → cond b (Some false_flag) None ≡ None
+allowed b e = rw e refl
+
+module _ (book : Book) (sound : is_book_sound book ≡ true) where
+  word_is_item : (n option value : ℕ) (check : Check) → 2 ≤ n → n ≤ 4 → option < n → value < 2 ^ n → refuses check value ≡ false → IsItem (checked_word book n option value check)
+  word_is_item n option value check low high known lt passes =
+      (word_sound book sound n option value low high known, said (option == codes.uncoded n), taken (option == codes.uncoded n))
+    where
+      said : (b : Bool) → IsSaid (cond b (plain n value) (code (codes_of book n option) (symbol n value))).form.shape (cond b (plain n value) (code (codes_of book n option) (symbol n value))).said
+      said true = lt
+      said false = omega (arith, symbol_below n value low high lt, length-map-span (λ s. code_bits (code_at book n option s)) (2 ^ n))
+
+      taken : (b : Bool) → refused_where (λ k. refuses check (cond b k (word_of n k))) false_flag (cond b (plain n value) (code (codes_of book n option) (symbol n value))).said ≡ None
+      taken true = allowed (refuses check value) passes
+      taken false = allowed (refuses check (word_of n (symbol n value))) (ap (refuses check) (word_of-symbol n value low high lt) ∙ passes)
+
+  digit_below : (b : Bool) → digit b < 2 ^ 1
+  digit_below true = omega arith
+  digit_below false = omega arith
+
+  entry_are_items : (options : List ℕ) → AreOptionsOf options → (before : List Entry) (check : Check) (e : Entry) → IsEntry e → refuses check (value_of_entry e) ≡ false → AreItems (entry_reading book options before check e)
+  unfolding entry_reading
+  entry_are_items options known before check (Bit b) fit passes = ((tt, digit_below b, refl), tt)
+  entry_are_items options known before check (Word bits) fit passes = by_count (eqb bits.count 0) (eqb bits.count 1) refl refl
+    where
+      opened : 2 ≤ bits.count → (b : Bool) → AreItems (cond b [] (option_item bits.count (option_of options bits.count) ∷ []))
+      opened two true = tt
+      opened two false = (option_is_item bits.count (option_of options bits.count) two fit.0 (known.at bits.count two fit.0), tt)
+
+      small : bits.count ≡ 1 → bits.value < 2 ^ 1
+      small e = subst (λ n. bits.value < 2 ^ n) e fit.1
+
+      by_count : (none one : Bool) → eqb bits.count 0 ≡ none → eqb bits.count 1 ≡ one →
+          AreItems (cond none [] (cond one (checked (refuses check) (raw bits.value) ∷ []) (opening options before bits.count ++ checked_word book bits.count (option_of options bits.count) bits.value check ∷ [])))
+      by_count true one e f = tt
+      by_count false true e f = let z : bits.count ≡ 1 = grind (arith, nat_tests) in ((tt, small z, allowed (refuses check bits.value) passes), tt)
+      by_count false false e f =
+          let two : 2 ≤ bits.count = grind (arith, nat_tests) in
+          are_append (opening options before bits.count) _ (opened two (list_any (is_word_of bits.count) before))
+          (word_is_item bits.count (option_of options bits.count) bits.value check two fit.0 (known.at bits.count two fit.0) fit.1 passes, tt)
+
+  steps_are_items : (options : List ℕ) → AreOptionsOf options → (before : List Entry) (steps : List Step) → Fits steps → AllByRecursion IsAllowed steps → AreItems (read_after book options before steps)
+  steps_are_items options known before [] fit all = tt
+  steps_are_items options known before (s ∷ steps) fit all =
+      are_append (step_reading book options before s) _ (entry_are_items options known before s.check s.entry fit.0 all.0) (steps_are_items options known (before ++ s.entry ∷ []) steps fit.1 all.1)
+
+  -- ---- a plane
+
+  pub plane_are_items : (options : ℕ → List ℕ) → ((g : ℕ) → AreOptionsOf (options g)) → (p : Plane) → ((r : ℕ) → IsMultiple (get_or p.blocks r []) p.weights) → (stages : ℕ) →
+      AreItems (plane_reading book options p stages)
+  plane_are_items options known p whole stages =
+      flat_items (stage_reading book options p) (λ k.
+      flat_items (gaggle_reading book options p k) (λ g.
+      steps_are_items (options g) (known g) (before_stage p k g) (steps_of_gaggle p (stage_number k) g)
+      (flat_fits (steps_of_block p (stage_number k)) (λ r. block_fits (stage_number k) (get_or p.blocks r []) (get_or p.depths r 0) p.weights p.number p.q) (span (16 * g) (gaggle_size p g)))
+      (flat_allowed (steps_of_block p (stage_number k)) (λ r. block_is_allowed (stage_number k) (get_or p.blocks r []) (get_or p.depths r 0) p.weights p.number p.q (whole r)) (span (16 * g) (gaggle_size p g))))
+      (span 0 (gaggles p))) (span 0 stages)

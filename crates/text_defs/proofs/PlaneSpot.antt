@@ -4,6 +4,7 @@ use Rattle.std.specs.Prelude.{◌||◌}
 use Rattle.std.specs.List.{flat_map, list_any}
 use Rattle.std.proofs.lemmas.Bool.{cases_lt}
 use Rattle.std.proofs.lemmas.List.Folds.{list_any-append}
+use Rattle.base_122.specs.declared.book.Book.{Book}
 use Rattle.plane_defs.proofs.Alike.{all_of}
 use Rattle.item_defs.specs.Readings.{item_at}
 use Rattle.item_defs.specs.Laws.{said_of}
@@ -11,7 +12,6 @@ use Rattle.plane_defs.specs.declared.entries.Entry.{Entry}
 use Rattle.plane_defs.specs.Spans.{span}
 use Rattle.plane_defs.specs.Entries.{stage_number}
 use Rattle.plane_defs.specs.Spelled.{is_word_of, option_of}
-use Rattle.plane_defs.specs.Profile.{profile}
 use Rattle.plane_defs.specs.Steps.{Step, block_steps}
 use Rattle.plane_defs.specs.StepLaws.{entries_of, SameSteps, AcsAlike}
 use Rattle.plane_defs.specs.Laws.{IsMultiple}
@@ -41,17 +41,17 @@ flat_equal f g start (suc n) same =
     ∙ sym (flat_more g start n)
 
 -- steps that say the same are read the same
-read_same : (o : List ℕ) (before : List Entry) (ss ts : List Step) → SameSteps ss ts → entries_of ss ≡ entries_of ts → read_after profile o before ss ≡ read_after profile o before ts
-read_same o before [] [] same e = refl
-read_same o before [] (t ∷ ts) same e = absurd same
-read_same o before (s ∷ ss) [] same e = absurd same
-read_same o before (s ∷ ss) (t ∷ ts) same e =
+read_same : (book : Book) (o : List ℕ) (before : List Entry) (ss ts : List Step) → SameSteps ss ts → entries_of ss ≡ entries_of ts → read_after book o before ss ≡ read_after book o before ts
+read_same book o before [] [] same e = refl
+read_same book o before [] (t ∷ ts) same e = absurd same
+read_same book o before (s ∷ ss) [] same e = absurd same
+read_same book o before (s ∷ ss) (t ∷ ts) same e =
     let first : s.entry ≡ t.entry = head_same s.entry t.entry (entries_of ss) (entries_of ts) e in
-    let here : step_reading profile o before s ≡ step_reading profile o before t =
-    ap (λ x. entry_reading profile o before s.check x) first ∙ ap (λ k. entry_reading profile o before k t.entry) same.1 in
-    ap (λ l. l ++ read_after profile o (before ++ s.entry ∷ []) ss) here
-    ∙ ap (λ l. step_reading profile o before t ++ l)
-    (read_same o (before ++ s.entry ∷ []) ss ts (same.3 first) (tail_same s.entry t.entry (entries_of ss) (entries_of ts) e) ∙ ap (λ x. read_after profile o (before ++ x ∷ []) ts) first)
+    let here : step_reading book o before s ≡ step_reading book o before t =
+    ap (λ x. entry_reading book o before s.check x) first ∙ ap (λ k. entry_reading book o before k t.entry) same.1 in
+    ap (λ l. l ++ read_after book o (before ++ s.entry ∷ []) ss) here
+    ∙ ap (λ l. step_reading book o before t ++ l)
+    (read_same book o (before ++ s.entry ∷ []) ss ts (same.3 first) (tail_same s.entry t.entry (entries_of ss) (entries_of ts) e) ∙ ap (λ x. read_after book o (before ++ x ∷ []) ts) first)
 
 -- no part of a list has what the whole lacks
 none_in : (t : Entry → Bool) (f : ℕ → List Entry) (k i : ℕ) → list_any t (flat_map f (span 0 k)) ≡ false → i < k → list_any t (f i) ≡ false
@@ -64,7 +64,7 @@ none_in t f (suc k) i none lt =
       | inr last ↦ let at : 0 + k ≡ i = omega arith in subst (λ n. list_any t (f n) ≡ false) at (neither_right (list_any t (flat_map f (span 0 k))) _ parts)
     ]
 
-module _ (xs : List (List ℤ)) (depths weights : List ℕ) (number q : ℕ) where
+module _ (book : Book) (xs : List (List ℤ)) (depths weights : List ℕ) (number q : ℕ) where
   abbrev pub plane_with : List (List ℤ) → Plane
   plane_with blocks = record { blocks = blocks; depths = depths; weights = weights; number = number; q = q }
 
@@ -98,34 +98,34 @@ module _ (xs : List (List ℤ)) (depths weights : List ℕ) (number q : ℕ) whe
     sent_before i g le = flat_equal (λ n. of_gaggle (plane_with xs) (stage_number n) g) (λ n. of_gaggle (plane_with ys) (stage_number n) g) 0 i (λ n low high. gaggle_said n g (omega (arith, high)))
 
     module _ (o : ℕ → List ℕ) where
-      early_gaggle : (i g : ℕ) → i < k → gaggle_reading profile o (plane_with xs) i g ≡ gaggle_reading profile o (plane_with ys) i g
+      early_gaggle : (i g : ℕ) → i < k → gaggle_reading book o (plane_with xs) i g ≡ gaggle_reading book o (plane_with ys) i g
       early_gaggle i g lt =
-          ap (λ b. read_after profile (o g) b (steps_of_gaggle (plane_with xs) (stage_number i) g)) (sent_before i g (omega arith))
-          ∙ read_same (o g) (before_stage (plane_with ys) i g) _ _ (gaggle_alike i g (omega arith))
-          (gaggle_entries profile o (plane_with xs) (stage_number i) g ∙ gaggle_said i g lt ∙ sym (gaggle_entries profile o (plane_with ys) (stage_number i) g))
+          ap (λ b. read_after book (o g) b (steps_of_gaggle (plane_with xs) (stage_number i) g)) (sent_before i g (omega arith))
+          ∙ read_same book (o g) (before_stage (plane_with ys) i g) _ _ (gaggle_alike i g (omega arith))
+          (gaggle_entries book o (plane_with xs) (stage_number i) g ∙ gaggle_said i g lt ∙ sym (gaggle_entries book o (plane_with ys) (stage_number i) g))
 
-      pub early_stage : (i : ℕ) → i < k → stage_reading profile o (plane_with xs) i ≡ stage_reading profile o (plane_with ys) i
-      early_stage i lt = flat_equal (gaggle_reading profile o (plane_with xs) i) (gaggle_reading profile o (plane_with ys) i) 0 (gaggles (plane_with xs)) (λ g low high. early_gaggle i g lt)
+      pub early_stage : (i : ℕ) → i < k → stage_reading book o (plane_with xs) i ≡ stage_reading book o (plane_with ys) i
+      early_stage i lt = flat_equal (gaggle_reading book o (plane_with xs) i) (gaggle_reading book o (plane_with ys) i) 0 (gaggles (plane_with xs)) (λ g low high. early_gaggle i g lt)
 
       -- gaggles before that of block r
-      pub gaggle_before : (g : ℕ) → 16 * g + 16 ≤ r → gaggle_reading profile o (plane_with xs) k g ≡ gaggle_reading profile o (plane_with ys) k g
+      pub gaggle_before : (g : ℕ) → 16 * g + 16 ≤ r → gaggle_reading book o (plane_with xs) k g ≡ gaggle_reading book o (plane_with ys) k g
       gaggle_before g le =
-          ap (λ b. read_after profile (o g) b (steps_of_gaggle (plane_with xs) (stage_number k) g)) (sent_before k g (omega arith))
-          ∙ read_same (o g) (before_stage (plane_with ys) k g) _ _ (gaggle_alike k g (omega arith))
-          (gaggle_entries profile o (plane_with xs) (stage_number k) g
+          ap (λ b. read_after book (o g) b (steps_of_gaggle (plane_with xs) (stage_number k) g)) (sent_before k g (omega arith))
+          ∙ read_same book (o g) (before_stage (plane_with ys) k g) _ _ (gaggle_alike k g (omega arith))
+          (gaggle_entries book o (plane_with xs) (stage_number k) g
           ∙ flat_equal (of_block (plane_with xs) (stage_number k)) (of_block (plane_with ys) (stage_number k)) (16 * g) (gaggle_size (plane_with xs) g) (λ s low high. differs.others s (omega (arith, high, le)))
-          ∙ sym (gaggle_entries profile o (plane_with ys) (stage_number k) g))
+          ∙ sym (gaggle_entries book o (plane_with ys) (stage_number k) g))
 
-      pub gaggle_chosen : (g place c said : ℕ) → (spot : StepSpot (o g) (before_stage (plane_with xs) k g) (steps_of_gaggle (plane_with xs) (stage_number k) g) c said) → spot.e ≡ e →
+      pub gaggle_chosen : (g place c said : ℕ) → (spot : StepSpot book (o g) (before_stage (plane_with xs) k g) (steps_of_gaggle (plane_with xs) (stage_number k) g) c said) → spot.e ≡ e →
           (located : StepLocated (Steps xs k) (16 * g) (gaggle_size (plane_with xs) g) spot.place) → located.at ≡ r → located.rest ≡ j →
-          Chooses c said (gaggle_reading profile o (plane_with xs) k g) (gaggle_reading profile o (plane_with ys) k g)
+          Chooses c said (gaggle_reading book o (plane_with xs) k g) (gaggle_reading book o (plane_with ys) k g)
       gaggle_chosen g place c said spot same_e located at rest =
           let picked : EntriesChoose j e (entries_of (Steps xs k r)) (entries_of (Steps ys k r)) = entries_as j e _ _ _ _ (block_entries_are xs k r) (block_entries_are ys k r) differs.here in
           let there : EntriesChoose located.rest spot.e (entries_of (Steps xs k located.at)) (entries_of (Steps ys k located.at)) =
           subst (λ n. EntriesChoose n spot.e (entries_of (Steps xs k located.at)) (entries_of (Steps ys k located.at))) (sym rest)
           (subst (λ n. EntriesChoose j spot.e (entries_of (Steps xs k n)) (entries_of (Steps ys k n))) (sym at) (subst (λ x. EntriesChoose j x (entries_of (Steps xs k r)) (entries_of (Steps ys k r))) (sym same_e) picked)) in
           let entries = located.chosen (Steps ys k) spot.e (λ s low high. block_entries_are xs k s ∙ differs.others s (omega (arith, high, at)) ∙ sym (block_entries_are ys k s)) there in
-          subst (λ b. Chooses c said (gaggle_reading profile o (plane_with xs) k g) (read_after profile (o g) b (steps_of_gaggle (plane_with ys) (stage_number k) g))) (sent_before k g (omega arith))
+          subst (λ b. Chooses c said (gaggle_reading book o (plane_with xs) k g) (read_after book (o g) b (steps_of_gaggle (plane_with ys) (stage_number k) g))) (sent_before k g (omega arith))
           (spot.chosen (steps_of_gaggle (plane_with ys) (stage_number k) g) (gaggle_alike k g (omega arith)) entries)
 
   module _ (o : ℕ → List ℕ) (known : (g : ℕ) → AreOptionsOf (o g)) (multiples : (r : ℕ) → IsMultiple (get_or xs r []) weights) where
@@ -138,7 +138,7 @@ module _ (xs : List (List ℤ)) (depths weights : List ℕ) (number q : ℕ) whe
       pub within : j < length (block_steps (stage_number k) (get_or xs r []) (get_or depths r 0) weights number q)
       pub e : Entry
       pub replaces : let s = step_at (block_steps (stage_number k) (get_or xs r []) (get_or depths r 0) weights number q) j in Replaces s.check s.entry e
-      pub chosen : (ys : List (List ℤ)) → Differs ys k r j e → Chooses m said (plane_reading profile o (plane_with xs) stages) (plane_reading profile o (plane_with ys) stages)
+      pub chosen : (ys : List (List ℤ)) → Differs ys k r j e → Chooses m said (plane_reading book o (plane_with xs) stages) (plane_reading book o (plane_with ys) stages)
 
     pub record OptionSpot (stages m said : ℕ) : Type 0 where
       pub g : ℕ
@@ -147,18 +147,18 @@ module _ (xs : List (List ℤ)) (depths weights : List ℕ) (number q : ℕ) whe
       pub four : n ≤ 4
       pub option : ℕ
       pub is_known : option < n
-      pub chosen : (u : ℕ → List ℕ) → ((h : ℕ) → (h ≡ g → ⊥) → o h ≡ u h) → Elsewhere n (o g) (u g) → option_of (u g) n ≡ option → Chooses m said (plane_reading profile o (plane_with xs) stages) (plane_reading profile u (plane_with xs) stages)
+      pub chosen : (u : ℕ → List ℕ) → ((h : ℕ) → (h ≡ g → ⊥) → o h ≡ u h) → Elsewhere n (o g) (u g) → option_of (u g) n ≡ option → Chooses m said (plane_reading book o (plane_with xs) stages) (plane_reading book u (plane_with xs) stages)
 
     fits_of : (k g : ℕ) → Fits (steps_of_gaggle (plane_with xs) (stage_number k) g)
     fits_of k g = flat_fits (Steps xs k) (λ r. block_fits (stage_number k) (get_or xs r []) (get_or depths r 0) weights number q) (span (16 * g) (gaggle_size (plane_with xs) g))
 
-    pub plane_spot : (stages m said : ℕ) → stages ≤ 5 → m < length (plane_reading profile o (plane_with xs) stages) → MaySay (item_at (plane_reading profile o (plane_with xs) stages) m) said → BlockSpot stages m said ⊎ OptionSpot stages m said
+    pub plane_spot : (stages m said : ℕ) → stages ≤ 5 → m < length (plane_reading book o (plane_with xs) stages) → MaySay (item_at (plane_reading book o (plane_with xs) stages) m) said → BlockSpot stages m said ⊎ OptionSpot stages m said
     plane_spot stages m said most lt may =
-        let a = locate (stage_reading profile o (plane_with xs)) 0 stages m said lt may in
+        let a = locate (stage_reading book o (plane_with xs)) 0 stages m said lt may in
         let k : ℕ = a.at in
-        let b = locate (gaggle_reading profile o (plane_with xs) k) 0 (gaggles (plane_with xs)) a.rest said a.inside a.may in
+        let b = locate (gaggle_reading book o (plane_with xs) k) 0 (gaggles (plane_with xs)) a.rest said a.inside a.may in
         let g : ℕ = b.at in
-        elim (spot (o g) (known g) (before_stage (plane_with xs) k g) (steps_of_gaggle (plane_with xs) (stage_number k) g) b.rest said (fits_of k g)
+        elim (spot book (o g) (known g) (before_stage (plane_with xs) k g) (steps_of_gaggle (plane_with xs) (stage_number k) g) b.rest said (fits_of k g)
         (flat_allowed (Steps xs k) (λ r. block_is_allowed (stage_number k) (get_or xs r []) (get_or depths r 0) weights number q (multiples r)) (span (16 * g) (gaggle_size (plane_with xs) g))) b.inside b.may) [
           | inl s ↦
               let c = locate_step (Steps xs k) (16 * g) (gaggle_size (plane_with xs) g) s.place s.inside in
@@ -172,8 +172,8 @@ module _ (xs : List (List ℤ)) (depths weights : List ℕ) (number q : ℕ) whe
                 e = s.e;
                 replaces = subst (λ x. Replaces x.check x.entry s.e) c.same s.replaces;
                 chosen = λ ys differs.
-                    a.chosen (stage_reading profile o (plane_with ys)) (λ i low high. ap said_of (early_stage ys k c.at c.rest s.e (omega (arith, a.high, most)) differs o i high))
-                    (b.chosen (gaggle_reading profile o (plane_with ys) k) (λ h low high. ap said_of (gaggle_before ys k c.at c.rest s.e (omega (arith, a.high, most)) differs o h (omega (arith, high, c.low))))
+                    a.chosen (stage_reading book o (plane_with ys)) (λ i low high. ap said_of (early_stage ys k c.at c.rest s.e (omega (arith, a.high, most)) differs o i high))
+                    (b.chosen (gaggle_reading book o (plane_with ys) k) (λ h low high. ap said_of (gaggle_before ys k c.at c.rest s.e (omega (arith, a.high, most)) differs o h (omega (arith, high, c.low))))
                     (gaggle_chosen ys k c.at c.rest s.e (omega (arith, a.high, most)) differs o g s.place b.rest said s refl c refl refl));
               })
           | inr s ↦ inr (record {
@@ -184,18 +184,18 @@ module _ (xs : List (List ℤ)) (depths weights : List ℕ) (number q : ℕ) whe
             option = s.option;
             is_known = s.known;
             chosen = λ u same elsewhere here.
-                a.chosen (stage_reading profile u (plane_with xs)) (λ i low high. ap said_of (stage_options k g s.n u same elsewhere s.none i high))
-                (b.chosen (gaggle_reading profile u (plane_with xs) k) (λ h low high. ap said_of (other_gaggle u g same k h (λ e. omega (arith, e, high)))) (s.chosen (u g) elsewhere here));
+                a.chosen (stage_reading book u (plane_with xs)) (λ i low high. ap said_of (stage_options k g s.n u same elsewhere s.none i high))
+                (b.chosen (gaggle_reading book u (plane_with xs) k) (λ h low high. ap said_of (other_gaggle u g same k h (λ e. omega (arith, e, high)))) (s.chosen (u g) elsewhere here));
           })
         ]
       where
-        other_gaggle : (u : ℕ → List ℕ) (g : ℕ) → ((h : ℕ) → (h ≡ g → ⊥) → o h ≡ u h) → (k h : ℕ) → (h ≡ g → ⊥) → gaggle_reading profile o (plane_with xs) k h ≡ gaggle_reading profile u (plane_with xs) k h
-        other_gaggle u g same k h apart = ap (λ l. read_after profile l (before_stage (plane_with xs) k h) (steps_of_gaggle (plane_with xs) (stage_number k) h)) (same h apart)
+        other_gaggle : (u : ℕ → List ℕ) (g : ℕ) → ((h : ℕ) → (h ≡ g → ⊥) → o h ≡ u h) → (k h : ℕ) → (h ≡ g → ⊥) → gaggle_reading book o (plane_with xs) k h ≡ gaggle_reading book u (plane_with xs) k h
+        other_gaggle u g same k h apart = ap (λ l. read_after book l (before_stage (plane_with xs) k h) (steps_of_gaggle (plane_with xs) (stage_number k) h)) (same h apart)
 
         stage_options : (k g n : ℕ) (u : ℕ → List ℕ) → ((h : ℕ) → (h ≡ g → ⊥) → o h ≡ u h) → Elsewhere n (o g) (u g) → list_any (is_word_of n) (before_stage (plane_with xs) k g) ≡ false → (i : ℕ) → i < k →
-            stage_reading profile o (plane_with xs) i ≡ stage_reading profile u (plane_with xs) i
+            stage_reading book o (plane_with xs) i ≡ stage_reading book u (plane_with xs) i
         stage_options k g n u same elsewhere none i lt =
-            flat_equal (gaggle_reading profile o (plane_with xs) i) (gaggle_reading profile u (plane_with xs) i) 0 (gaggles (plane_with xs)) (λ h low high.
+            flat_equal (gaggle_reading book o (plane_with xs) i) (gaggle_reading book u (plane_with xs) i) 0 (gaggles (plane_with xs)) (λ h low high.
             elim (cases_lt h g) [
               | inl before ↦ other_gaggle u g same i h (λ e. omega (arith, e, before))
               | inr more ↦ elim (cases_lt g h) [
@@ -203,8 +203,8 @@ module _ (xs : List (List ℤ)) (depths weights : List ℕ) (number q : ℕ) whe
                 | inr le ↦
                     let at : g ≡ h = omega (arith, more, le) in
                     let lacks : list_any (is_word_of n) (entries_of (steps_of_gaggle (plane_with xs) (stage_number i) g)) ≡ false =
-                    ap (list_any (is_word_of n)) (gaggle_entries profile o (plane_with xs) (stage_number i) g) ∙ none_in (is_word_of n) (λ j. of_gaggle (plane_with xs) (stage_number j) g) k i none lt in
-                    subst (λ x. gaggle_reading profile o (plane_with xs) i x ≡ gaggle_reading profile u (plane_with xs) i x) at
-                    (read_options n (o g) (u g) elsewhere (before_stage (plane_with xs) i g) (steps_of_gaggle (plane_with xs) (stage_number i) g) (fits_of i g) lacks)
+                    ap (list_any (is_word_of n)) (gaggle_entries book o (plane_with xs) (stage_number i) g) ∙ none_in (is_word_of n) (λ j. of_gaggle (plane_with xs) (stage_number j) g) k i none lt in
+                    subst (λ x. gaggle_reading book o (plane_with xs) i x ≡ gaggle_reading book u (plane_with xs) i x) at
+                    (read_options book n (o g) (u g) elsewhere (before_stage (plane_with xs) i g) (steps_of_gaggle (plane_with xs) (stage_number i) g) (fits_of i g) lacks)
               ]
             ])

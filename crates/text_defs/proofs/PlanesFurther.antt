@@ -10,12 +10,12 @@ use Rattle.number_defs.specs.Ranges.{IsInRange, height_of, shifted_height, compl
 use Rattle.number_defs.specs.Gaggles.{number_items}
 use Rattle.number_defs.specs.DcPart.{dc_q, dc_bits, dc_kind, dc_bit, high_items, planes_before, dc_planes, dc_items}
 use Rattle.number_defs.specs.Depths.{depth_items}
+use Rattle.base_122.specs.declared.book.Book.{Book}
 use Rattle.plane_defs.specs.declared.entries.Entry.{Entry}
 use Rattle.plane_defs.specs.Sets.{magnitude}
 use Rattle.plane_defs.specs.Laws.{IsMultiple}
 use Rattle.plane_defs.specs.Entries.{stage_number, block_entries}
 use Rattle.plane_defs.specs.Spelled.{option_of}
-use Rattle.plane_defs.specs.Profile.{profile}
 use Rattle.plane_defs.specs.Reading.{plane_reading}
 use Rattle.plane_defs.specs.StepLaws.{AcsAlike, SeenAlike}
 use Rattle.plane_defs.proofs.Seen.{plane_sees}
@@ -118,6 +118,7 @@ pub record PlanesChosen (head : SegmentHead) (xs : List (List ℤ)) (ds : List �
   pub u : Options
   pub spellable : IsSpellable head ys ds
   pub known : AreWordOptions u
+  pub books : o.book ≡ u.book
   pub same_dc : dc_part_items head xs o ≡ dc_part_items head ys u
   pub same_depths : depth_items head.depth_ac ds o.depths ≡ depth_items head.depth_ac ds u.depths
   pub chosen : Chooses c said (planes_items head xs ds o head.depth_ac) (planes_items head ys ds u head.depth_ac)
@@ -175,16 +176,16 @@ module _ (head : SegmentHead) (xs : List (List ℤ)) (ds : List ℕ) (p : IsSpel
     seen_same : (w : List ℤ) (weights : List ℕ) (c : ℕ) → IsMultiple w weights → SeenAlike w w weights c
     seen_same w weights c m = record { alike = record { above = λ p ac. refl; first = m; second = m }; here = λ p ac. refl; signs = λ p ac e. refl; bits = λ p ac e. refl; dc = refl }
 
-    same_above : (o : Options) (c : ℕ) → b < c → plane_reading profile (o.words c) (plane_at head xs ds c) (stages_sent head c) ≡ plane_reading profile (o.words c) (plane_at head ys ds c) (stages_sent head c)
+    same_above : (o : Options) (c : ℕ) → b < c → plane_reading o.book (o.words c) (plane_at head xs ds c) (stages_sent head c) ≡ plane_reading o.book (o.words c) (plane_at head ys ds c) (stages_sent head c)
     same_above o c lt =
-        plane_sees profile (o.words c) xs ys ds head.image.weights.shifts c (q_of head) (stages_sent head c) (λ i.
+        plane_sees o.book (o.words c) xs ys ds head.image.weights.shifts c (q_of head) (stages_sent head c) (λ i.
         at i (λ w. SeenAlike (get_or xs i []) w head.image.weights.shifts c)
         (λ e. subst (λ n. SeenAlike (get_or xs n []) a.v head.image.weights.shifts c) (sym e) (seen_above (get_or xs r []) a.v b a.above head.image.weights.shifts c lt (p.multiples r) a.multiple (sym (a.dc c (omega (arith, lt))))))
         (seen_same (get_or xs i []) head.image.weights.shifts c (p.multiples i)))
 
-    differs : spots.Differs xs ds head.image.weights.shifts b (q_of head) ys k r j e
+    differs : (book : Book) → spots.Differs book xs ds head.image.weights.shifts b (q_of head) ys k r j e
     unfolding ys
-    differs = record {
+    differs book = record {
       acs = λ i.
           at i (λ w. AcsAlike (get_or xs i []) w head.image.weights.shifts b)
           (λ e. subst (λ n. AcsAlike (get_or xs n []) a.v head.image.weights.shifts b) (sym e) (record { above = acs_above (get_or xs r []) a.v b a.above (b + 1) (omega arith); first = p.multiples r; second = a.multiple }))
@@ -202,7 +203,7 @@ module _ (head : SegmentHead) (xs : List (List ℤ)) (ds : List ℕ) (p : IsSpel
 
   -- one option is another
   other_option : (o : Options) → AreWordOptions o → (b g n option : ℕ) → 2 ≤ n → n ≤ 4 → option < n → Options
-  other_option o known b g n option two four lt = record { dcs = o.dcs; depths = o.depths; words = in_plane o.words b g (with_option (o.words b g) n option) }
+  other_option o known b g n option two four lt = record { book = o.book; dcs = o.dcs; depths = o.depths; words = in_plane o.words b g (with_option (o.words b g) n option) }
 
   in_plane_small : (o : Options) → AreWordOptions o → (b g n option : ℕ) → option < n → (c h l : ℕ) → 2 ≤ l → l ≤ 4 → option_of (in_plane o.words b g (with_option (o.words b g) n option) c h) l < l
   unfolding in_plane in_gaggle
@@ -226,7 +227,7 @@ module _ (head : SegmentHead) (xs : List (List ℤ)) (ds : List ℕ) (p : IsSpel
       let q : ℕ = q_of head in
       let stages : ℕ = stages_sent head b in
       let deep : b < head.depth_ac = omega (arith, l.high) in
-      elim (spots.plane_spot xs ds shifts b q (o.words b) (λ g. record { at = λ m low high. known.at b g m low high }) p.multiples stages l.rest said (sent_most head b fits.stage) l.inside l.may) [
+      elim (spots.plane_spot o.book xs ds shifts b q (o.words b) (λ g. record { at = λ m low high. known.at b g m low high }) p.multiples stages l.rest said (sent_most head b fits.stage) l.inside l.may) [
         | inl s ↦
             let a = may_choose s.k (omega (arith, s.sent, sent_most head b fits.stage)) (get_or xs s.r []) (get_or ds s.r 0) shifts b q s.j s.e (p.whole s.r (omega (arith, s.inside, p.blocks_all, p.depths_all))) (p.multiples s.r) (p.below s.r) s.within s.replaces in
             let new = ys b s.k s.r s.j s.e deep s.inside a in
@@ -235,11 +236,12 @@ module _ (head : SegmentHead) (xs : List (List ℤ)) (ds : List ℕ) (p : IsSpel
               u = o;
               spellable = spells b s.k s.r s.j s.e deep s.inside a;
               known = known;
+              books = refl;
               same_dc = same_part b s.k s.r s.j s.e deep s.inside a o;
               same_depths = refl;
               chosen =
                   l.chosen (nth_plane_items head new ds o) (λ m low high. ap said_of (same_above b s.k s.r s.j s.e deep s.inside a o (nth_plane head m) (omega (arith, high, l.high))))
-                  (s.chosen new (differs b s.k s.r s.j s.e deep s.inside a));
+                  (s.chosen new (differs b s.k s.r s.j s.e deep s.inside a o.book));
             }
         | inr s ↦
             let u = other_option o known b s.g s.n s.option s.two s.four s.is_known in
@@ -247,16 +249,17 @@ module _ (head : SegmentHead) (xs : List (List ℤ)) (ds : List ℕ) (p : IsSpel
               ys = xs;
               u = u;
               spellable = p;
-              known = record { at = λ c h m low high. in_plane_small o known b s.g s.n s.option s.is_known c h m low high };
+              known = record { sound = known.sound; at = λ c h m low high. in_plane_small o known b s.g s.n s.option s.is_known c h m low high };
+              books = refl;
               same_dc = refl;
               same_depths = refl;
               chosen =
                   l.chosen (nth_plane_items head xs ds u)
                   (λ m low high.
                   let other : eqb (nth_plane head m) b ≡ false = not_equal (nth_plane head m) b (λ e. omega (arith, e, high, l.high)) in
-                  ap (λ w. said_of (plane_reading profile w (plane_at head xs ds (nth_plane head m)) (stages_sent head (nth_plane head m))))
+                  ap (λ w. said_of (plane_reading o.book w (plane_at head xs ds (nth_plane head m)) (stages_sent head (nth_plane head m))))
                   (sym (ap (λ t. cond t (in_gaggle (o.words (nth_plane head m)) s.g (with_option (o.words b s.g) s.n s.option)) (o.words (nth_plane head m))) other)))
-                  (subst (λ w. Chooses l.rest said (plane_reading profile (o.words b) (plane_at head xs ds b) stages) (plane_reading profile w (plane_at head xs ds b) stages))
+                  (subst (λ w. Chooses l.rest said (plane_reading o.book (o.words b) (plane_at head xs ds b) stages) (plane_reading o.book w (plane_at head xs ds b) stages))
                   (sym (ap (λ t. cond t (in_gaggle (o.words b) s.g (with_option (o.words b s.g) s.n s.option)) (o.words b)) (itself b)))
                   (s.chosen (in_gaggle (o.words b) s.g (with_option (o.words b s.g) s.n s.option))
                   (λ h apart. sym (ap (λ t. cond t (with_option (o.words b s.g) s.n s.option) (o.words b h)) (not_equal h s.g apart)))
@@ -268,7 +271,7 @@ module _ (head : SegmentHead) (xs : List (List ℤ)) (ds : List ℕ) (p : IsSpel
 pub planes_further : ((k : ℕ) → k < 5 → MayChoose k) → (head : SegmentHead) (rest : List ℕ) (m : ℕ) (xs : List (List ℤ)) (ds : List ℕ) (o : Options) (more after : List Bool) (said : ℕ) → IsHead head →
     Reading head rest xs ds o m more → head.stop.dc ≡ false → length (dc_part_items head xs o) + length (depth_items head.depth_ac ds o.depths) ≤ m → m < length (segment_items head xs ds o) →
     MaySay (item_at (segment_items head xs ds o) m) said → more ≡ spelling (item_at (segment_items head xs ds o) m).form.shape said ++ after →
-    (ys : List (List ℤ)) × (es : List ℕ) × (u : Options) × Reading head rest ys es u (suc m) after
+    (ys : List (List ℤ)) × (es : List ℕ) × (u : Options) × (o.book ≡ u.book) × Reading head rest ys es u (suc m) after
 planes_further may_choose head rest m xs ds o more after said fits a goes_on low lt may read =
     let D = dc_part_items head xs o in
     let Z = depth_items head.depth_ac ds o.depths in
@@ -280,4 +283,4 @@ planes_further may_choose head rest m xs ds o more after said fits a goes_on low
     let joined = choose_right m said D (dc_part_items head r.ys r.u) _ _ (omega (arith, low)) (ap said_of r.same_dc)
     (choose_right c said Z (depth_items head.depth_ac ds r.u.depths) _ _ (omega (arith, low)) (ap said_of r.same_depths) r.chosen) in
     let chosen = choose_as m said _ _ _ _ parts (planes_are head r.ys ds r.u goes_on) joined in
-    (r.ys, ds, r.u, further_from head rest m xs r.ys ds ds o r.u more after said fits a may.0 may.1 read lt r.spellable r.known chosen)
+    (r.ys, ds, r.u, r.books, further_from head rest m xs r.ys ds ds o r.u more after said fits a may.0 may.1 read lt r.spellable r.known r.books chosen)

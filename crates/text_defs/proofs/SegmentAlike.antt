@@ -15,7 +15,6 @@ use Rattle.number_defs.proofs.SegmentSteps.{dcs_alike, depths_alike}
 use Rattle.number_defs.proofs.NotRefused.{depths_allowed, depths_said}
 use Rattle.plane_defs.specs.Spans.{span}
 use Rattle.plane_defs.specs.Sets.{magnitude, significant}
-use Rattle.plane_defs.specs.Profile.{profile}
 use Rattle.plane_defs.specs.Reading.{plane_reading}
 use Rattle.plane_defs.specs.StepLaws.{SameAc, AcsAlike}
 use Rattle.plane_defs.proofs.SpanLists.{flat_map-span-suc}
@@ -59,7 +58,7 @@ none_reached w plane d p deep small = let m : 2 ^ d ≤ 2 ^ plane = pow_mono dee
 -- ---- the planes
 
 module _ (head : SegmentHead) (fits : IsHead head) (xs ys : List (List ℤ)) (depths : List ℕ) (o u : Options)
-    (p : IsSpellable head xs depths) (q : IsSpellable head ys depths) (k : AreWordOptions o) (l : AreWordOptions u)
+    (p : IsSpellable head xs depths) (q : IsSpellable head ys depths) (k : AreWordOptions o) (l : AreWordOptions u) (books : o.book ≡ u.book)
     (deep : (r : ℕ) → get_or depths r 0 ≤ head.depth_ac) where
   abbrev Reached : ℕ → Type 0
   Reached plane = (r : ℕ) → SameAc (get_or xs r []) (get_or ys r []) plane
@@ -85,22 +84,24 @@ module _ (head : SegmentHead) (fits : IsHead head) (xs ys : List (List ℤ)) (de
       elim (cases_lt b head.stop.plane) [
         | inl below ↦
             let none = sent_none head b below in (
-              subst (λ s. StepsAlike (plane_reading profile (o.words b) (plane_at head xs depths b) s) (plane_reading profile (u.words b) (plane_at head ys depths b) s)) (sym none) tt,
+              subst (λ s. StepsAlike (plane_reading o.book (o.words b) (plane_at head xs depths b) s) (plane_reading u.book (u.words b) (plane_at head ys depths b) s)) (sym none) tt,
               λ said more. absurd (omega arith),
             )
         | inr sent ↦
             let next : head.depth_ac - n ≡ b + 1 = omega arith in
             let above : Reached (b + 1) = subst Reached next (reached (omega arith)) in
             let acs : (r : ℕ) → AcsAlike (get_or xs r []) (get_or ys r []) head.image.weights.shifts b = λ r. record { above = above r; first = p.multiples r; second = q.multiples r } in
-            let both = plane_both profile (o.words b) (u.words b) (λ g. record { at = λ n low high. k.at b g n low high }) (λ g. record { at = λ n low high. l.at b g n low high })
+            let both = plane_both o.book (o.words b) (u.words b) (λ g. record { at = λ n low high. k.at b g n low high }) (λ g. record { at = λ n low high. l.at b g n low high })
             xs ys depths head.image.weights.shifts b (q_of head) acs in (
-              (both (stages_sent head b) (sent_most head b fits.stage)).0,
+              subst (λ c. StepsAlike (plane_reading o.book (o.words b) (plane_at head xs depths b) (stages_sent head b)) (plane_reading c (u.words b) (plane_at head ys depths b) (stages_sent head b))) books
+                  (both (stages_sent head b) (sent_most head b fits.stage)).0,
               λ said more.
                   let under : head.stop.plane < b = omega arith in
-                  let whole : said_of (plane_reading profile (o.words b) (plane_at head xs depths b) 5) ≡ said_of (plane_reading profile (u.words b) (plane_at head ys depths b) 5) =
-                  subst (λ s. said_of (plane_reading profile (o.words b) (plane_at head xs depths b) s) ≡ said_of (plane_reading profile (u.words b) (plane_at head ys depths b) s)) (sent_all head b under) said in
-                  let settled = numbers_settle profile (o.words b) (u.words b) (λ g. record { at = λ n low high. k.at b g n low high }) (λ g. record { at = λ n low high. l.at b g n low high })
-                  xs ys depths head.image.weights.shifts b (q_of head) acs (λ r n ac. p.below r n ac.0) (λ r n ac. q.below r n ac.0) whole in
+                  let whole : said_of (plane_reading o.book (o.words b) (plane_at head xs depths b) 5) ≡ said_of (plane_reading u.book (u.words b) (plane_at head ys depths b) 5) =
+                  subst (λ s. said_of (plane_reading o.book (o.words b) (plane_at head xs depths b) s) ≡ said_of (plane_reading u.book (u.words b) (plane_at head ys depths b) s)) (sent_all head b under) said in
+                  let settled = numbers_settle o.book (o.words b) (u.words b) (λ g. record { at = λ n low high. k.at b g n low high }) (λ g. record { at = λ n low high. l.at b g n low high })
+                  xs ys depths head.image.weights.shifts b (q_of head) acs (λ r n ac. p.below r n ac.0) (λ r n ac. q.below r n ac.0)
+                  (subst (λ c. said_of (plane_reading o.book (o.words b) (plane_at head xs depths b) 5) ≡ said_of (plane_reading c (u.words b) (plane_at head ys depths b) 5)) (sym books) whole) in
                   let here : b ≡ head.depth_ac - suc n = omega arith in
                   subst Reached here (λ r. elim (cases_lt r (length depths)) [ inl inside ↦ settled r inside | inr outside ↦ past b r outside ]),
             )
@@ -132,10 +133,10 @@ module _ (head : SegmentHead) (fits : IsHead head) (xs ys : List (List ℤ)) (de
 
 -- ---- the whole text
 
-pub segment_alike : (head : SegmentHead) (xs ys : List (List ℤ)) (ds es : List ℕ) (o u : Options) → IsHead head → IsSpellable head xs ds → IsSpellable head ys es → AreWordOptions o → AreWordOptions u →
+pub segment_alike : (head : SegmentHead) (xs ys : List (List ℤ)) (ds es : List ℕ) (o u : Options) → IsHead head → IsSpellable head xs ds → IsSpellable head ys es → AreWordOptions o → AreWordOptions u → o.book ≡ u.book →
     ItemsAlike (segment_items head xs ds o) (segment_items head ys es u)
 unfolding segment_items
-segment_alike head xs ys ds es o u fits p q k l = by_stop head.stop.dc
+segment_alike head xs ys ds es o u fits p q k l books = by_stop head.stop.dc
   where
     same_blocks : length (dcs_of xs) ≡ length (dcs_of ys)
     same_blocks = length-map xs dc_of ∙ p.blocks_all ∙ sym q.blocks_all ∙ sym (length-map ys dc_of)
@@ -160,7 +161,7 @@ segment_alike head xs ys ds es o u fits p q k l = by_stop head.stop.dc
         ] in
         let other : IsSpellable head ys ds = subst (IsSpellable head ys) (sym same) q in
         subst (λ d. ItemsAlike (planes_items head xs ds o head.depth_ac) (planes_items head ys d u head.depth_ac)) same
-        (alike_from _ _ (planes_both head fits xs ys ds o u p other k l deep head.depth_ac (omega arith)).0)
+        (alike_from _ _ (planes_both head fits xs ys ds o u p other k l books deep head.depth_ac (omega arith)).0)
 
     by_stop : (b : Bool) →
         ItemsAlike (cond b (dc_part_items head xs o) (dc_part_items head xs o ++ (depth_items head.depth_ac ds o.depths ++ planes_items head xs ds o head.depth_ac)))

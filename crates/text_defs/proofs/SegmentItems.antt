@@ -49,7 +49,7 @@ segment_are_items head blocks depths options fits spellable words numbers low = 
     third : AreItems (planes_items head blocks depths options head.depth_ac)
     third =
         flat_items (nth_plane_items head blocks depths options) (λ n.
-        plane_are_items (options.words (nth_plane head n)) (λ g. record { at = λ k lo hi. words.at (nth_plane head n) g k lo hi }) (plane_at head blocks depths (nth_plane head n)) spellable.multiples (stages_sent head (nth_plane head n)))
+        plane_are_items options.book words.sound (options.words (nth_plane head n)) (λ g. record { at = λ k lo hi. words.at (nth_plane head n) g k lo hi }) (plane_at head blocks depths (nth_plane head n)) spellable.multiples (stages_sent head (nth_plane head n)))
         (span 0 head.depth_ac)
 
     by_stop : (b : Bool) → AreItems (cond b (dc_part_items head blocks options) (dc_part_items head blocks options ++ (depth_items head.depth_ac depths options.depths ++ planes_items head blocks depths options head.depth_ac)))

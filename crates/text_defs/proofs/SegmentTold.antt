@@ -2,15 +2,14 @@
 use Rattle.std.proofs.Common.{◌≡◌, ℕ, ◌+◌, ◌-◌, ◌/◌, ◌<◌, ◌≤◌, inl, inr, Bool, true, false, cond, List, [], ◌++◌, length, take, ap, sym, ◌∙◌, subst, arith, ℤ, get_or}
 use Rattle.std.proofs.lemmas.Bool.{cases_lt}
 use Rattle.std.proofs.lemmas.List.{get_or_past, length-map}
-use Rattle.item_defs.specs.Readings.{AreItems}
+use Rattle.item_defs.specs.Readings.{AreItems, StepsAlike}
 use Rattle.number_defs.specs.Depths.{depth_items}
 use Rattle.number_defs.proofs.SegmentSteps.{dcs_alike, depths_alike}
 use Rattle.number_defs.proofs.NotRefused.{depths_allowed, depths_said}
 use Rattle.base_122.specs.declared.book.Book.{Book}
 use Rattle.plane_defs.specs.Entries.{stage_number}
-use Rattle.plane_defs.specs.Profile.{profile}
 use Rattle.plane_defs.specs.Planes.{Plane}
-use Rattle.plane_defs.specs.Reading.{steps_of_block}
+use Rattle.plane_defs.specs.Reading.{steps_of_block, plane_reading}
 use Rattle.plane_defs.specs.StepLaws.{SameAc, AcsAlike}
 use Rattle.plane_defs.proofs.StepItems.{AreOptionsOf}
 use Rattle.plane_defs.proofs.SpanLists.{flat_map-span-none}
@@ -36,15 +35,15 @@ plane_none book options p stages m r e = subst (λ n. TellsNone (steps_given boo
 
 -- the steps that are given in the nth plane from the top
 abbrev pub given_nth : SegmentHead → List (List ℤ) → List ℕ → Options → (k r n b : ℕ) → List Step
-given_nth head blocks depths options k r n b = steps_given profile (options.words b) (plane_at head blocks depths b) (stages_sent head b) k r
+given_nth head blocks depths options k r n b = steps_given options.book (options.words b) (plane_at head blocks depths b) (stages_sent head b) k r
 
-module _ (head : SegmentHead) (fits : IsHead head) (xs ys : List (List ℤ)) (o u : Options) (k : AreWordOptions o) (l : AreWordOptions u) where
+module _ (head : SegmentHead) (fits : IsHead head) (xs ys : List (List ℤ)) (o u : Options) (k : AreWordOptions o) (l : AreWordOptions u) (books : o.book ≡ u.book) where
   abbrev ToldAt : (ds es : List ℕ) (m c r n b : ℕ) → Type 0
   ToldAt ds es m c r n b = SameTold (block_of xs r) (block_of ys r) b (given_nth head xs ds o m r n b) (given_nth head ys es u c r n b)
 
   nothing_at : (ds es : List ℕ) (m c r n b : ℕ) → m ≡ 0 → c ≡ 0 → ToldAt ds es m c r n b
   nothing_at ds es m c r n b e f =
-      from_none (block_of xs r) (block_of ys r) b _ _ (plane_none profile (o.words b) (plane_at head xs ds b) (stages_sent head b) m r e) (plane_none profile (u.words b) (plane_at head ys es b) (stages_sent head b) c r f)
+      from_none (block_of xs r) (block_of ys r) b _ _ (plane_none o.book (o.words b) (plane_at head xs ds b) (stages_sent head b) m r e) (plane_none u.book (u.words b) (plane_at head ys es b) (stages_sent head b) c r f)
 
   module _ (ds : List ℕ) (p : IsSpellable head xs ds) (q : IsSpellable head ys ds) (deep : (r : ℕ) → get_or ds r 0 ≤ head.depth_ac) where
     -- the items of the planes stand next
@@ -55,7 +54,7 @@ module _ (head : SegmentHead) (fits : IsHead head) (xs ys : List (List ℤ)) (o 
         let left = parts_of (nth_plane_items head xs ds o) head.depth_ac n within in
         let right = parts_of (nth_plane_items head ys ds u) head.depth_ac n within in
         let whole = planes.say_as m _ _ _ _ left.same right.same e in
-        let both = planes_both head fits xs ys ds o u p q k l deep n (omega arith) in
+        let both = planes_both head fits xs ys ds o u p q k l books deep n (omega arith) in
         elim (split m (planes_items head xs ds o n) (planes_items head ys ds u n) _ _ both.0 whole) [
           | inl early ↦ nothing_at ds ds _ _ r n b (omega (arith, early.first)) (omega (arith, early.second))
           | inr past ↦ elim (cases_lt b head.stop.plane) [
@@ -69,10 +68,14 @@ module _ (head : SegmentHead) (fits : IsHead head) (xs ys : List (List ℤ)) (o 
                 let lb : (g : ℕ) → AreOptionsOf (u.words b g) = λ g. record { at = λ n low high. l.at b g n low high } in
                 let most = sent_most head b fits.stage in
                 let c : ℕ = m - length (planes_items head xs ds o n) in
-                let alike = (plane_both profile (o.words b) (u.words b) kb lb xs ys ds head.image.weights.shifts b (q_of head) acs (stages_sent head b) most).0 in
-                let first = first_part c (nth_plane_items head xs ds o n) (nth_plane_items head ys ds u n) left.others right.others alike past.rest in
-                let told = planes.plane_told profile (o.words b) (u.words b) kb lb xs ys ds head.image.weights.shifts b (q_of head) acs (stages_sent head b) r c most inside first in
-                subst (λ a. ToldAt ds ds c a r n b) (ap (λ a. m - a) past.long) told
+                let alike = (plane_both o.book (o.words b) (u.words b) kb lb xs ys ds head.image.weights.shifts b (q_of head) acs (stages_sent head b) most).0 in
+                let first = first_part c (nth_plane_items head xs ds o n) (nth_plane_items head ys ds u n) left.others right.others
+                (subst (λ z. StepsAlike (nth_plane_items head xs ds o n) (plane_reading z (u.words b) (plane_at head ys ds b) (stages_sent head b))) books alike) past.rest in
+                let told = planes.plane_told o.book (o.words b) (u.words b) kb lb xs ys ds head.image.weights.shifts b (q_of head) acs (stages_sent head b) r c most inside
+                (subst (λ z. SaySame c (nth_plane_items head xs ds o n) (plane_reading z (u.words b) (plane_at head ys ds b) (stages_sent head b))) (sym books) first) in
+                let told_by : ToldAt ds ds c c r n b =
+                subst (λ z. SameTold (block_of xs r) (block_of ys r) b (given_nth head xs ds o c r n b) (steps_given z (u.words b) (plane_at head ys ds b) (stages_sent head b) c r)) books told in
+                subst (λ a. ToldAt ds ds c a r n b) (ap (λ a. m - a) past.long) told_by
           ]
         ]
       where
@@ -81,8 +84,8 @@ module _ (head : SegmentHead) (fits : IsHead head) (xs ys : List (List ℤ)) (o 
             let b = nth_plane head n in
             let empty : (blocks : List (List ℤ)) (options : Options) (a : ℕ) → given_nth head blocks ds options a r n b ≡ [] =
             λ blocks options a.
-            ap (λ s. steps_given profile (options.words b) (plane_at head blocks ds b) s a r) e
-            ∙ flat_map-span-none (λ k. whole_steps profile (options.words b (r / 16)) (entries_before (plane_at head blocks ds b) k r) (a - count_before profile (options.words b) (plane_at head blocks ds b) k r) (steps_of_block (plane_at head blocks ds b) (stage_number k) r)) 0 in
+            ap (λ s. steps_given options.book (options.words b) (plane_at head blocks ds b) s a r) e
+            ∙ flat_map-span-none (λ k. whole_steps options.book (options.words b (r / 16)) (entries_before (plane_at head blocks ds b) k r) (a - count_before options.book (options.words b) (plane_at head blocks ds b) k r) (steps_of_block (plane_at head blocks ds b) (stage_number k) r)) 0 in
             subst (λ l. SameTold (block_of xs r) (block_of ys r) b l (given_nth head ys ds u c r n b)) (sym (empty xs o a))
             (subst (λ l. SameTold (block_of xs r) (block_of ys r) b [] l) (sym (empty ys u c)) (none_told (block_of xs r) (block_of ys r) b))
 

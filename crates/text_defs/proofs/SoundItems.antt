@@ -4,21 +4,20 @@ use Rattle.std.specs.Prelude.{◌==◌}
 use Rattle.std.specs.List.{flat_map, list_any, AllByRecursion}
 use Rattle.std.proofs.lemmas.Bool.Decides.{nat_tests}
 use Rattle.std.proofs.Math.Pow.{pow_mono}
-use Rattle.item_defs.specs.Bits.{bits_of, value_of}
 use Rattle.item_defs.specs.Items.{Item, Shape, fixed, zeros_to, coded, raw, plain, code}
 use Rattle.item_defs.specs.Readings.{IsSound, item_at}
 use Rattle.number_defs.specs.Gaggles.{Kind, identifier_bits, uncoded, uncoded_value, unary_part, rest_part, value_items, lead_items, gaggle_items, items_before, places, gaggle_count}
 use Rattle.number_defs.specs.DcPart.{dc_q, dc_bits, dc_kind, dc_bit, high_items, planes_before, dc_planes, dc_items}
 use Rattle.number_defs.specs.Ranges.{shifted_height}
 use Rattle.number_defs.specs.Depths.{depth_bits, depth_kind, depth_items}
+use Rattle.base_122.specs.declared.book.Book.{Book}
 use Rattle.plane_defs.specs.declared.entries.Entry.{Entry}
 use Rattle.plane_defs.specs.declared.entries.Entry.TheVariants.{Bit, Word}
 use Rattle.plane_defs.specs.Spans.{span}
 use Rattle.plane_defs.specs.Entries.{IsEntry, stage_number}
 use Rattle.plane_defs.specs.Codes as codes
-use Rattle.plane_defs.specs.Codes.{symbol, codes_of, word_item, option_item, is_table_sound, is_book_sound}
+use Rattle.plane_defs.specs.Codes.{symbol, codes_of, word_item, option_item, is_book_sound}
 use Rattle.plane_defs.specs.Spelled.{is_word_of, option_of, opening}
-use Rattle.plane_defs.specs.Profile.{profile}
 use Rattle.plane_defs.specs.Steps.{Check, refuses, Step}
 use Rattle.plane_defs.specs.Planes.{Plane, gaggles, gaggle_size, before_stage}
 use Rattle.plane_defs.specs.Reading.{checked, checked_word, entry_reading, step_reading, read_after, steps_of_block, steps_of_gaggle, gaggle_reading, stage_reading, plane_reading}
@@ -33,8 +32,8 @@ use Rattle.text_defs.specs.Spellable.{AreWordOptions}
 
 -- ---- what holds of the shapes of a text's items: of any fixed number of bits, of unary parts up to a limit and of the words' codes
 
-module _ (P : Shape → Type 0) (most : ℕ) (fixed_is : (w : ℕ) → P (fixed w)) (zeros_is : (limit : ℕ) → limit ≤ most → P (zeros_to limit))
-    (codes_are : (n option : ℕ) → 2 ≤ n → n ≤ 4 → option + 1 < n → P (coded (codes_of profile n option))) where
+module _ (book : Book) (P : Shape → Type 0) (most : ℕ) (fixed_is : (w : ℕ) → P (fixed w)) (zeros_is : (limit : ℕ) → limit ≤ most → P (zeros_to limit))
+    (codes_are : (n option : ℕ) → 2 ≤ n → n ≤ 4 → option + 1 < n → P (coded (codes_of book n option))) where
   abbrev pub HasShape : Item → Type 0
   HasShape i = P i.form.shape
 
@@ -107,14 +106,14 @@ module _ (P : Shape → Type 0) (most : ℕ) (fixed_is : (w : ℕ) → P (fixed 
 
   -- ---- words
 
-  pub word_is : (n option value : ℕ) → 2 ≤ n → n ≤ 4 → option < n → HasShape (word_item profile n option value)
+  pub word_is : (n option value : ℕ) → 2 ≤ n → n ≤ 4 → option < n → HasShape (word_item book n option value)
   word_is n option value low high known = by_option (option == codes.uncoded n) refl
     where
-      by_option : (b : Bool) → (option == codes.uncoded n) ≡ b → P (cond b (plain n value) (code (codes_of profile n option) (symbol n value))).form.shape
+      by_option : (b : Bool) → (option == codes.uncoded n) ≡ b → P (cond b (plain n value) (code (codes_of book n option) (symbol n value))).form.shape
       by_option true e = fixed_is n
       by_option false e = let more : option + 1 < n = grind (arith, nat_tests) in codes_are n option low high more
 
-  entry_is : (options : List ℕ) → AreOptionsOf options → (before : List Entry) (check : Check) (e : Entry) → IsEntry e → AllShapes (entry_reading profile options before check e)
+  entry_is : (options : List ℕ) → AreOptionsOf options → (before : List Entry) (check : Check) (e : Entry) → IsEntry e → AllShapes (entry_reading book options before check e)
   unfolding entry_reading
   entry_is options known before check (Bit b) fit = (fixed_is 1, tt)
   entry_is options known before check (Word bits) fit = by_count (eqb bits.count 0) (eqb bits.count 1) refl refl
@@ -124,7 +123,7 @@ module _ (P : Shape → Type 0) (most : ℕ) (fixed_is : (w : ℕ) → P (fixed 
       opened false = (fixed_is (codes.identifier_width bits.count), tt)
 
       by_count : (none one : Bool) → eqb bits.count 0 ≡ none → eqb bits.count 1 ≡ one →
-          AllShapes (cond none [] (cond one (checked (refuses check) (raw bits.value) ∷ []) (opening options before bits.count ++ checked_word profile bits.count (option_of options bits.count) bits.value check ∷ [])))
+          AllShapes (cond none [] (cond one (checked (refuses check) (raw bits.value) ∷ []) (opening options before bits.count ++ checked_word book bits.count (option_of options bits.count) bits.value check ∷ [])))
       by_count true one e f = tt
       by_count false true e f = (fixed_is 1, tt)
       by_count false false e f =
@@ -132,25 +131,28 @@ module _ (P : Shape → Type 0) (most : ℕ) (fixed_is : (w : ℕ) → P (fixed 
           both (opening options before bits.count) _ (opened (list_any (is_word_of bits.count) before))
           (word_is bits.count (option_of options bits.count) bits.value two fit.0 (known.at bits.count two fit.0), tt)
 
-  steps_are : (options : List ℕ) → AreOptionsOf options → (before : List Entry) (steps : List Step) → Fits steps → AllShapes (read_after profile options before steps)
+  steps_are : (options : List ℕ) → AreOptionsOf options → (before : List Entry) (steps : List Step) → Fits steps → AllShapes (read_after book options before steps)
   steps_are options known before [] fit = tt
   steps_are options known before (s ∷ steps) fit =
-      both (step_reading profile options before s) _ (entry_is options known before s.check s.entry fit.0) (steps_are options known (before ++ s.entry ∷ []) steps fit.1)
+      both (step_reading book options before s) _ (entry_is options known before s.check s.entry fit.0) (steps_are options known (before ++ s.entry ∷ []) steps fit.1)
 
-  plane_is : (options : ℕ → List ℕ) → ((g : ℕ) → AreOptionsOf (options g)) → (p : Plane) (stages : ℕ) → AllShapes (plane_reading profile options p stages)
+  plane_is : (options : ℕ → List ℕ) → ((g : ℕ) → AreOptionsOf (options g)) → (p : Plane) (stages : ℕ) → AllShapes (plane_reading book options p stages)
   plane_is options known p stages =
-      flat (stage_reading profile options p) (λ k.
-      flat (gaggle_reading profile options p k) (λ g.
+      flat (stage_reading book options p) (λ k.
+      flat (gaggle_reading book options p k) (λ g.
       steps_are (options g) (known g) (before_stage p k g) (steps_of_gaggle p (stage_number k) g)
       (flat_fits (steps_of_block p (stage_number k)) (λ r. block_fits (stage_number k) (get_or p.blocks r []) (get_or p.depths r 0) p.weights p.number p.q) (span (16 * g) (gaggle_size p g))))
       (span 0 (gaggles p))) (span 0 stages)
 
   -- ---- the whole text
 
-  pub segment_shapes : (head : SegmentHead) (blocks : List (List ℤ)) (depths : List ℕ) (options : Options) → AreWordOptions options → 2 ^ dc_bits head.depth_dc head.depth_ac (dc_shift head) ≤ most → 2 ^ depth_bits head.depth_ac ≤ most →
+  pub segment_shapes : (head : SegmentHead) (blocks : List (List ℤ)) (depths : List ℕ) (dcs numbers : ℕ → ℕ) (words : ℕ → ℕ → List ℕ) →
+      let options : Options = record { book = book; dcs = dcs; depths = numbers; words = words } in
+      AreWordOptions options → 2 ^ dc_bits head.depth_dc head.depth_ac (dc_shift head) ≤ most → 2 ^ depth_bits head.depth_ac ≤ most →
       AllShapes (segment_items head blocks depths options)
   unfolding segment_items
-  segment_shapes head blocks depths options known dc_small depth_small =
+  segment_shapes head blocks depths dcs numbers words known dc_small depth_small =
+      let options : Options = record { book = book; dcs = dcs; depths = numbers; words = words } in
       let first = dcs_are head.depth_dc head.depth_ac (dc_shift head) (dcs_of blocks) options.dcs dc_small in
       where_true head.stop.dc _ _ first
       (both (dc_part_items head blocks options) _ first
@@ -161,25 +163,23 @@ module _ (P : Shape → Type 0) (most : ℕ) (fixed_is : (w : ℕ) → P (fixed 
 
 -- ---- no code stands first in another
 
-pub profile_sound : is_book_sound profile ≡ true
-unfolding is_table_sound profile bits_of value_of span
-profile_sound = refl
-
 abbrev pub HasSound : Item → Type 0
 HasSound i = IsSound i.form.shape
 
 abbrev pub AllSound : List Item → Type 0
 AllSound items = AllByRecursion HasSound items
 
-codes_sound : (n option : ℕ) → 2 ≤ n → n ≤ 4 → option + 1 < n → IsSound (coded (codes_of profile n option))
-codes_sound n option low high more = codes_read.words profile n option profile_sound low high more
+codes_sound : (book : Book) → is_book_sound book ≡ true → (n option : ℕ) → 2 ≤ n → n ≤ 4 → option + 1 < n → IsSound (coded (codes_of book n option))
+codes_sound book sound n option low high more = codes_read.words book n option sound low high more
 
 pub sound_at : (is : List Item) (m : ℕ) → AllSound is → m < length is → HasSound (item_at is m)
-sound_at is m all lt = shape_at IsSound 0 (λ w. tt) (λ limit le. tt) codes_sound is m all lt
+sound_at [] m all lt = absurd (omega arith)
+sound_at (i ∷ is) zero all lt = all.0
+sound_at (i ∷ is) (suc m) all lt = sound_at is m all.1 (omega arith)
 
-pub word_sound : (n option value : ℕ) → 2 ≤ n → n ≤ 4 → option < n → HasSound (word_item profile n option value)
-word_sound n option value low high known = word_is IsSound 0 (λ w. tt) (λ limit le. tt) codes_sound n option value low high known
+pub word_sound : (book : Book) → is_book_sound book ≡ true → (n option value : ℕ) → 2 ≤ n → n ≤ 4 → option < n → HasSound (word_item book n option value)
+word_sound book sound n option value low high known = word_is book IsSound 0 (λ w. tt) (λ limit le. tt) (codes_sound book sound) n option value low high known
 
 pub segment_sound : (head : SegmentHead) (blocks : List (List ℤ)) (depths : List ℕ) (options : Options) → AreWordOptions options → AllSound (segment_items head blocks depths options)
 segment_sound head blocks depths options known =
-    segment_shapes IsSound (2 ^ dc_bits head.depth_dc head.depth_ac (dc_shift head) + 2 ^ depth_bits head.depth_ac) (λ w. tt) (λ limit le. tt) codes_sound head blocks depths options known (omega arith) (omega arith)
+    segment_shapes options.book IsSound (2 ^ dc_bits head.depth_dc head.depth_ac (dc_shift head) + 2 ^ depth_bits head.depth_ac) (λ w. tt) (λ limit le. tt) (codes_sound options.book known.sound) head blocks depths options.dcs options.depths options.words known (omega arith) (omega arith)

@@ -8,12 +8,12 @@ use Rattle.std.proofs.lemmas.List.Folds.{list_any-append}
 use Rattle.item_defs.specs.Items.{Item, raw}
 use Rattle.item_defs.specs.Readings.{item_at}
 use Rattle.item_defs.specs.Laws.{said_of}
+use Rattle.base_122.specs.declared.book.Book.{Book}
 use Rattle.plane_defs.specs.declared.entries.Entry.{Entry}
 use Rattle.plane_defs.specs.declared.entries.Entry.TheVariants.{Bit, Word}
 use Rattle.plane_defs.specs.Entries.{IsEntry}
 use Rattle.plane_defs.specs.Codes.{option_item}
 use Rattle.plane_defs.specs.Spelled.{is_word_of, option_of, opening}
-use Rattle.plane_defs.specs.Profile.{profile}
 use Rattle.plane_defs.specs.Steps.{Check, refuses, Step}
 use Rattle.plane_defs.specs.StepLaws.{entries_of, SameSteps, IsAllowed}
 use Rattle.plane_defs.specs.Reading.{checked, checked_word, entry_reading, step_reading, read_after}
@@ -30,106 +30,107 @@ or_false : (b : Bool) → (b || false) ≡ b
 or_false true = refl
 or_false false = refl
 
--- ---- options of other lengths
+module _ (book : Book) where
+  -- ---- options of other lengths
 
-abbrev Items : (none one : Bool) → List ℕ → List Entry → Check → (n v : ℕ) → List Item
-Items none one o before check n v =
-    cond none [] (cond one (checked (refuses check) (raw v) ∷ []) (opening o before n ++ checked_word profile n (option_of o n) v check ∷ []))
+  abbrev Items : (none one : Bool) → List ℕ → List Entry → Check → (n v : ℕ) → List Item
+  Items none one o before check n v =
+      cond none [] (cond one (checked (refuses check) (raw v) ∷ []) (opening o before n ++ checked_word book n (option_of o n) v check ∷ []))
 
-pub entry_options : (n : ℕ) (o u : List ℕ) → Elsewhere n o u → (before : List Entry) (check : Check) (x : Entry) → IsEntry x → is_word_of n x ≡ false → entry_reading profile o before check x ≡ entry_reading profile u before check x
-unfolding entry_reading
-entry_options n o u same before check (Bit b) fit other = refl
-entry_options n o u same before check (Word bits) fit other = by_count (eqb bits.count 0) (eqb bits.count 1) refl refl
-  where
-    by_count : (none one : Bool) → eqb bits.count 0 ≡ none → eqb bits.count 1 ≡ one → Items none one o before check bits.count bits.value ≡ Items none one u before check bits.count bits.value
-    by_count true one e f = refl
-    by_count false true e f = refl
-    by_count false false e f =
-        let two : 2 ≤ bits.count = grind (arith, nat_tests) in
-        ap (λ option. cond (list_any (is_word_of bits.count) before) [] (option_item bits.count option ∷ []) ++ checked_word profile bits.count option bits.value check ∷ [])
-        (same bits.count two fit.0 (unequal bits.count n other))
+  pub entry_options : (n : ℕ) (o u : List ℕ) → Elsewhere n o u → (before : List Entry) (check : Check) (x : Entry) → IsEntry x → is_word_of n x ≡ false → entry_reading book o before check x ≡ entry_reading book u before check x
+  unfolding entry_reading
+  entry_options n o u same before check (Bit b) fit other = refl
+  entry_options n o u same before check (Word bits) fit other = by_count (eqb bits.count 0) (eqb bits.count 1) refl refl
+    where
+      by_count : (none one : Bool) → eqb bits.count 0 ≡ none → eqb bits.count 1 ≡ one → Items none one o before check bits.count bits.value ≡ Items none one u before check bits.count bits.value
+      by_count true one e f = refl
+      by_count false true e f = refl
+      by_count false false e f =
+          let two : 2 ≤ bits.count = grind (arith, nat_tests) in
+          ap (λ option. cond (list_any (is_word_of bits.count) before) [] (option_item bits.count option ∷ []) ++ checked_word book bits.count option bits.value check ∷ [])
+          (same bits.count two fit.0 (unequal bits.count n other))
 
-pub read_options : (n : ℕ) (o u : List ℕ) → Elsewhere n o u → (before : List Entry) (ss : List Step) → Fits ss → list_any (is_word_of n) (entries_of ss) ≡ false → read_after profile o before ss ≡ read_after profile u before ss
-read_options n o u same before [] fit none = refl
-read_options n o u same before (s ∷ ss) fit none =
-    ap (λ l. l ++ read_after profile o (before ++ s.entry ∷ []) ss) (entry_options n o u same before s.check s.entry fit.0 (neither_left (is_word_of n s.entry) _ none))
-    ∙ ap (λ l. step_reading profile u before s ++ l) (read_options n o u same (before ++ s.entry ∷ []) ss fit.1 (neither_right (is_word_of n s.entry) _ none))
+  pub read_options : (n : ℕ) (o u : List ℕ) → Elsewhere n o u → (before : List Entry) (ss : List Step) → Fits ss → list_any (is_word_of n) (entries_of ss) ≡ false → read_after book o before ss ≡ read_after book u before ss
+  read_options n o u same before [] fit none = refl
+  read_options n o u same before (s ∷ ss) fit none =
+      ap (λ l. l ++ read_after book o (before ++ s.entry ∷ []) ss) (entry_options n o u same before s.check s.entry fit.0 (neither_left (is_word_of n s.entry) _ none))
+      ∙ ap (λ l. step_reading book u before s ++ l) (read_options n o u same (before ++ s.entry ∷ []) ss fit.1 (neither_right (is_word_of n s.entry) _ none))
 
--- ---- steps
+  -- ---- steps
 
-pub record StepSpot (o : List ℕ) (before : List Entry) (ss : List Step) (c said : ℕ) : Type 0 where
-  pub place : ℕ
-  pub inside : place < length ss
-  pub e : Entry
-  pub replaces : Replaces (step_at ss place).check (step_at ss place).entry e
-  pub chosen : (ts : List Step) → SameSteps ss ts → EntriesChoose place e (entries_of ss) (entries_of ts) → Chooses c said (read_after profile o before ss) (read_after profile o before ts)
+  pub record StepSpot (o : List ℕ) (before : List Entry) (ss : List Step) (c said : ℕ) : Type 0 where
+    pub place : ℕ
+    pub inside : place < length ss
+    pub e : Entry
+    pub replaces : Replaces (step_at ss place).check (step_at ss place).entry e
+    pub chosen : (ts : List Step) → SameSteps ss ts → EntriesChoose place e (entries_of ss) (entries_of ts) → Chooses c said (read_after book o before ss) (read_after book o before ts)
 
-pub record NameSpot (o : List ℕ) (before : List Entry) (ss : List Step) (c said : ℕ) : Type 0 where
-  pub n : ℕ
-  pub two : 2 ≤ n
-  pub four : n ≤ 4
-  pub option : ℕ
-  pub known : option < n
-  pub none : list_any (is_word_of n) before ≡ false
-  pub chosen : (u : List ℕ) → Elsewhere n o u → option_of u n ≡ option → Chooses c said (read_after profile o before ss) (read_after profile u before ss)
+  pub record NameSpot (o : List ℕ) (before : List Entry) (ss : List Step) (c said : ℕ) : Type 0 where
+    pub n : ℕ
+    pub two : 2 ≤ n
+    pub four : n ≤ 4
+    pub option : ℕ
+    pub known : option < n
+    pub none : list_any (is_word_of n) before ≡ false
+    pub chosen : (u : List ℕ) → Elsewhere n o u → option_of u n ≡ option → Chooses c said (read_after book o before ss) (read_after book u before ss)
 
--- the first step's entry is another
-first_step : (o : List ℕ) (before : List Entry) (s : Step) (ss : List Step) (c said : ℕ) → c < length (step_reading profile o before s) → (e : Entry) → Chooses c said (step_reading profile o before s) (entry_reading profile o before s.check e) →
-    (ts : List Step) → SameSteps (s ∷ ss) ts → EntriesChoose 0 e (entries_of (s ∷ ss)) (entries_of ts) → Chooses c said (read_after profile o before (s ∷ ss)) (read_after profile o before ts)
-first_step o before s ss c said lt e chosen [] same picked = absurd same
-first_step o before s ss c said lt e chosen (t ∷ ts) same picked =
-    let here : entry_reading profile o before s.check e ≡ step_reading profile o before t =
-    ap (λ x. entry_reading profile o before s.check x) (sym picked.next) ∙ ap (λ k. entry_reading profile o before k t.entry) same.1 in
-    choose_left c said (step_reading profile o before s) (step_reading profile o before t) _ _ lt (subst (λ l. Chooses c said (step_reading profile o before s) l) here chosen)
+  -- the first step's entry is another
+  first_step : (o : List ℕ) (before : List Entry) (s : Step) (ss : List Step) (c said : ℕ) → c < length (step_reading book o before s) → (e : Entry) → Chooses c said (step_reading book o before s) (entry_reading book o before s.check e) →
+      (ts : List Step) → SameSteps (s ∷ ss) ts → EntriesChoose 0 e (entries_of (s ∷ ss)) (entries_of ts) → Chooses c said (read_after book o before (s ∷ ss)) (read_after book o before ts)
+  first_step o before s ss c said lt e chosen [] same picked = absurd same
+  first_step o before s ss c said lt e chosen (t ∷ ts) same picked =
+      let here : entry_reading book o before s.check e ≡ step_reading book o before t =
+      ap (λ x. entry_reading book o before s.check x) (sym picked.next) ∙ ap (λ k. entry_reading book o before k t.entry) same.1 in
+      choose_left c said (step_reading book o before s) (step_reading book o before t) _ _ lt (subst (λ l. Chooses c said (step_reading book o before s) l) here chosen)
 
--- the first step is the same
-later_step : (o : List ℕ) (before : List Entry) (s : Step) (ss : List Step) (c said : ℕ) → length (step_reading profile o before s) ≤ c → (place : ℕ) (e : Entry) →
-    ((ts : List Step) → SameSteps ss ts → EntriesChoose place e (entries_of ss) (entries_of ts) → Chooses (c - length (step_reading profile o before s)) said (read_after profile o (before ++ s.entry ∷ []) ss) (read_after profile o (before ++ s.entry ∷ []) ts)) →
-    (ts : List Step) → SameSteps (s ∷ ss) ts → EntriesChoose (suc place) e (entries_of (s ∷ ss)) (entries_of ts) → Chooses c said (read_after profile o before (s ∷ ss)) (read_after profile o before ts)
-later_step o before s ss c said le place e chosen [] same picked = absurd same
-later_step o before s ss c said le place e chosen (t ∷ ts) same picked =
-    let first : s.entry ≡ t.entry = head_same s.entry t.entry _ _ picked.before in
-    let here : step_reading profile o before s ≡ step_reading profile o before t =
-    ap (λ x. entry_reading profile o before s.check x) first ∙ ap (λ k. entry_reading profile o before k t.entry) same.1 in
-    let rest = chosen ts (same.3 first) (record { within = omega (arith, picked.within); before = tail_same s.entry t.entry _ _ picked.before; next = picked.next }) in
-    choose_right c said (step_reading profile o before s) (step_reading profile o before t) _ _ le (ap said_of here)
-    (subst (λ x. Chooses (c - length (step_reading profile o before s)) said (read_after profile o (before ++ s.entry ∷ []) ss) (read_after profile o (before ++ x ∷ []) ts)) first rest)
+  -- the first step is the same
+  later_step : (o : List ℕ) (before : List Entry) (s : Step) (ss : List Step) (c said : ℕ) → length (step_reading book o before s) ≤ c → (place : ℕ) (e : Entry) →
+      ((ts : List Step) → SameSteps ss ts → EntriesChoose place e (entries_of ss) (entries_of ts) → Chooses (c - length (step_reading book o before s)) said (read_after book o (before ++ s.entry ∷ []) ss) (read_after book o (before ++ s.entry ∷ []) ts)) →
+      (ts : List Step) → SameSteps (s ∷ ss) ts → EntriesChoose (suc place) e (entries_of (s ∷ ss)) (entries_of ts) → Chooses c said (read_after book o before (s ∷ ss)) (read_after book o before ts)
+  later_step o before s ss c said le place e chosen [] same picked = absurd same
+  later_step o before s ss c said le place e chosen (t ∷ ts) same picked =
+      let first : s.entry ≡ t.entry = head_same s.entry t.entry _ _ picked.before in
+      let here : step_reading book o before s ≡ step_reading book o before t =
+      ap (λ x. entry_reading book o before s.check x) first ∙ ap (λ k. entry_reading book o before k t.entry) same.1 in
+      let rest = chosen ts (same.3 first) (record { within = omega (arith, picked.within); before = tail_same s.entry t.entry _ _ picked.before; next = picked.next }) in
+      choose_right c said (step_reading book o before s) (step_reading book o before t) _ _ le (ap said_of here)
+      (subst (λ x. Chooses (c - length (step_reading book o before s)) said (read_after book o (before ++ s.entry ∷ []) ss) (read_after book o (before ++ x ∷ []) ts)) first rest)
 
-module _ (o : List ℕ) (known : AreOptionsOf o) where
-  pub spot : (before : List Entry) (ss : List Step) (c said : ℕ) → Fits ss → AllByRecursion IsAllowed ss → c < length (read_after profile o before ss) → MaySay (item_at (read_after profile o before ss) c) said →
-      StepSpot o before ss c said ⊎ NameSpot o before ss c said
-  spot before [] c said fit allowed lt may = absurd (omega (arith, lt))
-  spot before (s ∷ ss) c said fit allowed lt may =
-      let first = step_reading profile o before s in
-      let rest = read_after profile o (before ++ s.entry ∷ []) ss in
-      elim (cases_lt c (length first)) [
-        | inl low ↦ elim (entry_spot o known before s.check s.entry c said fit.0 allowed.0 low (may_same _ _ said (left_at c first rest low) may)) [
-          | inl r ↦ inl (record { place = 0; inside = omega arith; e = r.e; replaces = r.replaces; chosen = first_step o before s ss c said low r.e r.chosen })
-          | inr r ↦ inr (record {
-            n = r.n;
-            two = r.two;
-            four = r.four;
-            option = r.option;
-            known = r.known;
-            none = r.none;
-            chosen = λ u same here. choose_left c said first (step_reading profile u before s) rest (read_after profile u (before ++ s.entry ∷ []) ss) low (r.chosen u same here);
-          })
+  module _ (o : List ℕ) (known : AreOptionsOf o) where
+    pub spot : (before : List Entry) (ss : List Step) (c said : ℕ) → Fits ss → AllByRecursion IsAllowed ss → c < length (read_after book o before ss) → MaySay (item_at (read_after book o before ss) c) said →
+        StepSpot o before ss c said ⊎ NameSpot o before ss c said
+    spot before [] c said fit allowed lt may = absurd (omega (arith, lt))
+    spot before (s ∷ ss) c said fit allowed lt may =
+        let first = step_reading book o before s in
+        let rest = read_after book o (before ++ s.entry ∷ []) ss in
+        elim (cases_lt c (length first)) [
+          | inl low ↦ elim (entry_spot book o known before s.check s.entry c said fit.0 allowed.0 low (may_same _ _ said (left_at c first rest low) may)) [
+            | inl r ↦ inl (record { place = 0; inside = omega arith; e = r.e; replaces = r.replaces; chosen = first_step o before s ss c said low r.e r.chosen })
+            | inr r ↦ inr (record {
+              n = r.n;
+              two = r.two;
+              four = r.four;
+              option = r.option;
+              known = r.known;
+              none = r.none;
+              chosen = λ u same here. choose_left c said first (step_reading book u before s) rest (read_after book u (before ++ s.entry ∷ []) ss) low (r.chosen u same here);
+            })
+          ]
+          | inr late ↦ elim (spot (before ++ s.entry ∷ []) ss (c - length first) said fit.1 allowed.1 (omega (arith, lt, late, length-append first rest)) (may_same _ _ said (right_at c first rest late) may)) [
+            | inl r ↦ inl (record { place = suc r.place; inside = omega (arith, r.inside); e = r.e; replaces = r.replaces; chosen = later_step o before s ss c said late r.place r.e r.chosen })
+            | inr r ↦
+                let parts : (list_any (is_word_of r.n) before || list_any (is_word_of r.n) (s.entry ∷ [])) ≡ false = sym (list_any-append (is_word_of r.n) before (s.entry ∷ [])) ∙ r.none in
+                inr (record {
+                  n = r.n;
+                  two = r.two;
+                  four = r.four;
+                  option = r.option;
+                  known = r.known;
+                  none = neither_left (list_any (is_word_of r.n) before) _ parts;
+                  chosen = λ u same here.
+                      choose_right c said first (step_reading book u before s) rest (read_after book u (before ++ s.entry ∷ []) ss) late
+                      (ap said_of (entry_options r.n o u same before s.check s.entry fit.0 (sym (or_false (is_word_of r.n s.entry)) ∙ neither_right (list_any (is_word_of r.n) before) _ parts)))
+                      (r.chosen u same here);
+                })
+          ]
         ]
-        | inr late ↦ elim (spot (before ++ s.entry ∷ []) ss (c - length first) said fit.1 allowed.1 (omega (arith, lt, late, length-append first rest)) (may_same _ _ said (right_at c first rest late) may)) [
-          | inl r ↦ inl (record { place = suc r.place; inside = omega (arith, r.inside); e = r.e; replaces = r.replaces; chosen = later_step o before s ss c said late r.place r.e r.chosen })
-          | inr r ↦
-              let parts : (list_any (is_word_of r.n) before || list_any (is_word_of r.n) (s.entry ∷ [])) ≡ false = sym (list_any-append (is_word_of r.n) before (s.entry ∷ [])) ∙ r.none in
-              inr (record {
-                n = r.n;
-                two = r.two;
-                four = r.four;
-                option = r.option;
-                known = r.known;
-                none = neither_left (list_any (is_word_of r.n) before) _ parts;
-                chosen = λ u same here.
-                    choose_right c said first (step_reading profile u before s) rest (read_after profile u (before ++ s.entry ∷ []) ss) late
-                    (ap said_of (entry_options r.n o u same before s.check s.entry fit.0 (sym (or_false (is_word_of r.n s.entry)) ∙ neither_right (list_any (is_word_of r.n) before) _ parts)))
-                    (r.chosen u same here);
-              })
-        ]
-      ]

@@ -12,7 +12,6 @@ use Rattle.number_defs.specs.Given.{numbers_through}
 use Rattle.plane_defs.specs.Spans.{span}
 use Rattle.plane_defs.specs.Sets.{magnitude}
 use Rattle.plane_defs.specs.Entries.{negative}
-use Rattle.plane_defs.specs.Profile.{profile}
 use Rattle.plane_defs.specs.Steps.{Step}
 use Rattle.segment_defs.specs.declared.head.SegmentHead.{SegmentHead}
 use Rattle.segment_defs.specs.Depths.{dc_of, dcs_of}
@@ -50,7 +49,7 @@ before_plane head blocks depths options n =
 abbrev pub given_in : SegmentHead → List (List ℤ) → List ℕ → Options → (m r b : ℕ) → List Step
 given_in head blocks depths options m r b =
     if head.stop.dc then [] else
-    steps_given profile (options.words b) (plane_at head blocks depths b) (stages_sent head b)
+    steps_given options.book (options.words b) (plane_at head blocks depths b) (stages_sent head b)
     (m - before_plane head blocks depths options (head.depth_ac - (b + 1))) r
 
 -- ---- the numbers

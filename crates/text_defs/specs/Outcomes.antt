@@ -4,6 +4,7 @@ use Rattle.std.specs.Prelude.{◌≡◌, ◌≢◌, ◌<◌, ◌⊎◌, ℕ, ◌
 use Rattle.item_defs.specs.Bits.{bits_of_octets}
 use Rattle.item_defs.specs.Items.{Item, Refusal, text}
 use Rattle.item_defs.specs.Padding.{rounded}
+use Rattle.base_122.specs.declared.book.Book.{Book}
 use Rattle.segment_defs.specs.declared.head.SegmentHead.{SegmentHead}
 use Rattle.segment_defs.specs.Head.{head_length}
 use Rattle.segment_defs.specs.SegmentItems.{Options, segment_items}
@@ -44,10 +45,12 @@ abbrev pub IsTaken : SegmentHead → List ℕ → List Item → ℕ → List Boo
 IsTaken head rest items m more =
     ((m ≡ length items) × (length_of head rest ≡ expected_length head items)) ⊎ (NothingFollows items m more × IsCut head rest)
 
-pub record Holds (head : SegmentHead) (rest : List ℕ) (w : List (List ℤ)) : Type 0 where
+-- the text holds these blocks, with the codes of this book
+pub record Holds (book : Book) (head : SegmentHead) (rest : List ℕ) (w : List (List ℤ)) : Type 0 where
   pub blocks : List (List ℤ)
   pub depths : List ℕ
   pub options : Options
+  pub of_book : options.book ≡ book
   pub count : ℕ
   pub more : List Bool
   pub reading : Reading head rest blocks depths options count more
@@ -78,10 +81,11 @@ IsRefusedItem items m more (at_item name) = RefusalFollows items m more name
 IsRefusedItem items m more short_segment = ⊥
 IsRefusedItem items m more overlong = ⊥
 
-pub record Refused (head : SegmentHead) (rest : List ℕ) (name : SegmentRefusal) : Type 0 where
+pub record Refused (book : Book) (head : SegmentHead) (rest : List ℕ) (name : SegmentRefusal) : Type 0 where
   pub blocks : List (List ℤ)
   pub depths : List ℕ
   pub options : Options
+  pub of_book : options.book ≡ book
   pub count : ℕ
   pub more : List Bool
   pub reading : Reading head rest blocks depths options count more

@@ -6,6 +6,7 @@ use Rattle.number_defs.specs.DcPart.{dc_bits}
 use Rattle.number_defs.specs.Depths.{depth_bits}
 use Rattle.number_defs.specs.Laws.{AreFew, DcsFit}
 use Rattle.plane_defs.specs.Sets.{magnitude}
+use Rattle.plane_defs.specs.Codes.{is_book_sound}
 use Rattle.plane_defs.specs.Laws.{IsMultiple}
 use Rattle.plane_defs.specs.Spelled.{option_of}
 use Rattle.segment_defs.specs.declared.head.SegmentHead.{SegmentHead}
@@ -29,8 +30,10 @@ pub record IsSpellable (head : SegmentHead) (blocks : List (List ℤ)) (depths :
   pub below : (r p : ℕ) → 1 ≤ p → magnitude (block_of blocks r) p < 2 ^ get_or depths r 0
   pub depths_few : AreFew (depth_bits head.depth_ac) depths
 
--- the options of words are some of their lengths; those of numbers are checked by the forms of their identifiers
+-- the options of words are some of their lengths, and their codes those of a sound book; the options of numbers are checked
+-- by the forms of their identifiers
 pub record AreWordOptions (options : Options) : Type 0 where
+  pub sound : is_book_sound options.book ≡ true
   pub at : (b g n : ℕ) → 2 ≤ n → n ≤ 4 → option_of (options.words b g) n < n
 
 -- the options of numbers that their identifiers name

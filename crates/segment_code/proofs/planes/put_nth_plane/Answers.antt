@@ -10,7 +10,7 @@ returns-then-stages-eq0-clause-puts g c =
     let h = c.args.head.now in
     let place : nth_plane h c.args.n ≡ h.depth_ac - 1 - c.args.n = omega arith in
     let stages : stages_sent h (nth_plane h c.args.n) ≡ 0 = ap (stages_sent h) place ∙ sym c.stages_sent-stages.ensures.is ∙ c.if-stages-eq0.true in
-    none_sent g.O.OctetOut.sink _ h (blocks_in c.args.blocks.now) c.args.n c.requires.open stages
+    none_sent g.O.OctetOut.sink _ c.args.tables.now.book h (blocks_in c.args.blocks.now) c.args.n c.requires.open stages
 
 pub returns-clause-puts : goal.returns-clause-puts
 returns-clause-puts g c =
@@ -18,5 +18,5 @@ returns-clause-puts g c =
     let plan = c.plane_plan-plan in
     let place : nth_plane h c.args.n ≡ h.depth_ac - 1 - c.args.n = omega arith in
     let stages : stages_sent h (nth_plane h c.args.n) ≡ c.stages_sent-stages.result = ap (stages_sent h) place ∙ sym c.stages_sent-stages.ensures.is in
-    plane_put c.args.tables.now.book h c.args.blocks.now (depths_of c.args.marks.now) plan.result c.args.n c.requires.book c.requires.depths
+    plane_put c.args.tables.now.book h c.args.blocks.now (depths_of c.args.marks.now) plan.result c.args.n c.requires.depths
     (plan.ensures.plane ∙ sym place) plan.ensures.q plan.ensures.weights (omega (arith, plan.ensures.last, stages, c.if-stages-eq0.false)) c.put_plane_with.ensures.puts

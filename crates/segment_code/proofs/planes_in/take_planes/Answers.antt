@@ -13,7 +13,7 @@ at_stop : (head : SegmentHead) → stages_sent head head.stop.plane ≡ head.sto
 at_stop head = let e : stages_sent head head.stop.plane ≡ head.stop.stage + 2 = grind (arith, nat_tests) in e ∙ omega arith
 
 pub returns-then-head-clause-takes : goal.returns-then-head-clause-takes
-returns-then-head-clause-takes g c = none_sent g.I.OctetIn.source c.args.head.now (depths_of c.args.marks.now) (coming c.args.input.now) c.args.blocks.now c.requires.open c.requires.dcs (omega arith)
+returns-then-head-clause-takes g c = none_sent g.I.OctetIn.source c.args.tables.now.book c.args.head.now (depths_of c.args.marks.now) (coming c.args.input.now) c.args.blocks.now c.requires.open c.requires.dcs (omega arith)
 
 pub returns-in_err-take_whole_planes-clause-takes : goal.returns-in_err-take_whole_planes-clause-takes
 returns-in_err-take_whole_planes-clause-takes g c =

@@ -11,9 +11,9 @@ use Rattle.segment_code.proofs.planes_in.take_whole_planes.Goals as goal
 
 pub loop-n-init : goal.loop-n-init
 loop-n-init g c = record {
-  above = subst (λ p. PlanesAbove g.I.OctetIn.source c.args.head.now (depths_of c.args.marks.now) p (coming c.args.input.now) (coming c.args.input.now) c.args.blocks.now c.args.blocks.now)
+  above = subst (λ p. PlanesAbove g.I.OctetIn.source c.args.tables.now.book c.args.head.now (depths_of c.args.marks.now) p (coming c.args.input.now) (coming c.args.input.now) c.args.blocks.now c.args.blocks.now)
       (let z : c.args.head.now.depth_ac - 1 ≡ c.args.head.now.depth_ac - 1 - 0 = omega arith in z)
-      (above_start g.I.OctetIn.source c.args.head.now (depths_of c.args.marks.now) (coming c.args.input.now) c.args.blocks.now c.requires.open c.requires.dcs c.requires.fits.depth_ac (omega (arith, c.requires.sent)));
+      (above_start g.I.OctetIn.source c.args.tables.now.book c.args.head.now (depths_of c.args.marks.now) (coming c.args.input.now) c.args.blocks.now c.requires.open c.requires.dcs c.requires.fits.depth_ac (omega (arith, c.requires.sent)));
   depths = refl;
   marked = let z : c.args.head.now.depth_ac ≡ c.args.head.now.depth_ac - 0 = omega arith in subst (λ p. AreSignificant p c.args.blocks.now c.args.above.now) z c.requires.above;
   is_in = c.requires.open;
@@ -55,7 +55,7 @@ loop-n-preserved g c =
     let ended = whole_ending t.ending t.answer in
     let next : plane - 1 ≡ head.depth_ac - 1 - (c.loop-n.n + 1) = omega arith in
     record {
-      above = subst (λ p. PlanesAbove g.I.OctetIn.source head (depths_of c.args.marks.now) p (coming c.args.input.now) (coming c.take_stages.new.input) c.args.blocks.now c.take_stages.new.blocks) next
+      above = subst (λ p. PlanesAbove g.I.OctetIn.source c.args.tables.now.book head (depths_of c.args.marks.now) p (coming c.args.input.now) (coming c.take_stages.new.input) c.args.blocks.now c.take_stages.new.blocks) next
           (next_above head c.requires.goes_on (depths_of c.args.marks.now) plane 5 (omega (arith, high)) (omega (arith, high)) (sent_all head plane high) c.loop-n.invariant.above t refl high ended);
       depths = c.in_ok-take_stages.ensures.depths ∙ c.loop-n.invariant.depths;
       marked =
@@ -69,7 +69,7 @@ returns-clause-takes g c =
     let head = c.args.head.now in
     let last : head.depth_ac - 1 - c.loop-n.n ≡ head.stop.plane = omega (arith, c.loop-n-test.false, c.loop-n.auto.n-end, c.requires.sent) in
     record {
-      ends = subst (λ p. PlanesAbove g.I.OctetIn.source head (depths_of c.args.marks.now) p (coming c.args.input.now) (coming c.loop-n.input) c.args.blocks.now c.loop-n.blocks) last c.loop-n.invariant.above;
+      ends = subst (λ p. PlanesAbove g.I.OctetIn.source c.args.tables.now.book head (depths_of c.args.marks.now) p (coming c.args.input.now) (coming c.loop-n.input) c.args.blocks.now c.loop-n.blocks) last c.loop-n.invariant.above;
     }
 
 pub take_stages-requires-clause-above : goal.take_stages-requires-clause-above

@@ -1,5 +1,7 @@
 use Rattle.std.proofs.Common.{rules, Ok, Err, ◌≡◌, ◌<◌, ◌≤◌, ◌*◌, ◌∙◌, ◌++◌, ℕ, ℤ, List, length, refl, sym, ap, subst, arith}
 use Rattle.port_122.specs.Outside.{Outside}
+use Rattle.base_122.specs.declared.book.Book.{Book}
+use Rattle.plane_defs.specs.Profile.{profile}
 use Rattle.strip_coder.specs.Plans.{IsPlan, whole}
 use Rattle.strip_coder.specs.declared.plan.Plan.{Plan}
 use Rattle.segment_defs.specs.declared.head.SegmentHead.{SegmentHead}
@@ -43,11 +45,12 @@ begun_to : (a b : Stage) → a ≡ b → IsBegun b → IsBegun a
 begun_to a b e begun = subst IsBegun (sym e) begun
 
 -- the text of the head that was made
-made : (s : Plan) (index used limit count depth_dc depth_ac : ℕ) (head : SegmentHead) (cells : List ℤ) → head ≡ head_with (whole s) index limit count depth_dc depth_ac →
+made : (book : Book) → book ≡ profile → (s : Plan) (index used limit count depth_dc depth_ac : ℕ) (head : SegmentHead) (cells : List ℤ) → head ≡ head_with (whole s) index limit count depth_dc depth_ac →
     limit ≡ share (whole s) index used → length cells ≡ 64 * count → depth_dc ≡ depth_dc_of (blocks_in cells) → depth_ac ≡ depth_ac_of (blocks_in cells) →
-    coded head (blocks_in cells) ≡ text_for s index used (blocks_in cells)
-made s index used limit count depth_dc depth_ac head cells e l f dc ac =
-    ap (λ h. coded h (blocks_in cells)) (e ∙ ap (λ n. head_with (whole s) index n count depth_dc depth_ac) l)
+    coded book head (blocks_in cells) ≡ text_for s index used (blocks_in cells)
+made book is s index used limit count depth_dc depth_ac head cells e l f dc ac =
+    ap (λ b. coded b head (blocks_in cells)) is
+    ∙ ap (λ h. coded profile h (blocks_in cells)) (e ∙ ap (λ n. head_with (whole s) index n count depth_dc depth_ac) l)
     ∙ text_same s index used count depth_dc depth_ac (blocks_in cells) (omega (arith, length-blocks_in cells, f)) dc ac
 
 -- and it isn't empty
@@ -75,7 +78,7 @@ returns-in_default g c =
     let broken = c.in_default.ensures.text in
     let depths = c.segment_depths-depth_dc in
     let long : length cells ≡ 64 * length depths.new.marks = omega (arith, c.requires.blocks, depths.auto.marks) in
-    let same = made s c.args.at.now.index c.args.at.now.used c.share-limit.result _ depths.result.0 depths.result.1 c.make_head-head.result cells c.make_head-head.ensures c.share-limit.ensures long depths.ensures.dc depths.ensures.ac in
+    let same = made c.profile_book.result c.profile_book.ensures.profile s c.args.at.now.index c.args.at.now.used c.share-limit.result _ depths.result.0 depths.result.1 c.make_head-head.result cells c.make_head-head.ensures c.share-limit.ensures long depths.ensures.dc depths.ensures.ac in
     let off = sink_breaks_off g.X.Port.outside c.sink-sink.result c.encode_segment.new.out c.args.packets.now (text_of s c.args.at.now.index) c.args.port.now broken.front begins c.sink-sink.ensures.same_port least broken.broke in
     let whole : broken.front ++ broken.more ≡ text_for s c.args.at.now.index c.args.at.now.used (blocks_in cells) = sym broken.parts ∙ same in
     let some : 0 < length (broken.front ++ broken.more) = subst (λ xs. 0 < length xs) (sym whole) (some_text s c.args.at.now.index c.args.at.now.used cells c.requires.in_range) in
@@ -100,7 +103,7 @@ close-requires-clause-some g c =
     let given = c.in-Ok.ensures.text in
     let depths = c.segment_depths-depth_dc in
     let long : length cells ≡ 64 * length depths.new.marks = omega (arith, c.requires.blocks, depths.auto.marks) in
-    let same = made s c.args.at.now.index c.args.at.now.used c.share-limit.result _ depths.result.0 depths.result.1 c.make_head-head.result cells c.make_head-head.ensures c.share-limit.ensures long depths.ensures.dc depths.ensures.ac in
+    let same = made c.profile_book.result c.profile_book.ensures.profile s c.args.at.now.index c.args.at.now.used c.share-limit.result _ depths.result.0 depths.result.1 c.make_head-head.result cells c.make_head-head.ensures c.share-limit.ensures long depths.ensures.dc depths.ensures.ac in
     let gave = rw same at given.gave in
     let sent = sink_goes_on g.X.Port.outside c.sink-sink.result c.encode_segment.new.out c.args.packets.now (text_of s c.args.at.now.index) c.args.port.now _ begins c.sink-sink.ensures.same_port least gave in
     let waits : 0 < length c.encode_segment.new.out.packets.now.pending = some_wait c.args.packets.now (text_for s c.args.at.now.index c.args.at.now.used (blocks_in cells)) (some_text s c.args.at.now.index c.args.at.now.used cells c.requires.in_range) sent in
@@ -117,7 +120,7 @@ returns-in_default-close g c =
     let given = c.in-Ok.ensures.text in
     let depths = c.segment_depths-depth_dc in
     let long : length cells ≡ 64 * length depths.new.marks = omega (arith, c.requires.blocks, depths.auto.marks) in
-    let same = made s index used c.share-limit.result _ depths.result.0 depths.result.1 c.make_head-head.result cells c.make_head-head.ensures c.share-limit.ensures long depths.ensures.dc depths.ensures.ac in
+    let same = made c.profile_book.result c.profile_book.ensures.profile s index used c.share-limit.result _ depths.result.0 depths.result.1 c.make_head-head.result cells c.make_head-head.ensures c.share-limit.ensures long depths.ensures.dc depths.ensures.ac in
     let gave = rw same at given.gave in
     let sent = sink_goes_on g.X.Port.outside c.sink-sink.result c.encode_segment.new.out c.args.packets.now (text_of s index) c.args.port.now _ begins c.sink-sink.ensures.same_port least gave in
     text_closed {T = Unit {0}} {E = Unit {0}} (Err tt) c.args.packets.now _ c.close.new.self (text_of s index) (text_for s index used (blocks_in cells)) (g.X.Port.outside c.args.port.now) _ (g.X.Port.outside c.close.new.port) least refl
@@ -135,7 +138,7 @@ returns g c =
     let given = c.in-Ok.ensures.text in
     let depths = c.segment_depths-depth_dc in
     let long : length cells ≡ 64 * length depths.new.marks = omega (arith, c.requires.blocks, depths.auto.marks) in
-    let same = made s index used c.share-limit.result _ depths.result.0 depths.result.1 c.make_head-head.result cells c.make_head-head.ensures c.share-limit.ensures long depths.ensures.dc depths.ensures.ac in
+    let same = made c.profile_book.result c.profile_book.ensures.profile s index used c.share-limit.result _ depths.result.0 depths.result.1 c.make_head-head.result cells c.make_head-head.ensures c.share-limit.ensures long depths.ensures.dc depths.ensures.ac in
     let gave = rw same at given.gave in
     let sent = sink_goes_on g.X.Port.outside c.sink-sink.result c.encode_segment.new.out c.args.packets.now (text_of s index) c.args.port.now _ begins c.sink-sink.ensures.same_port least gave in (
       text_closed {T = Unit {0}} {E = Unit {0}} (Ok tt) c.args.packets.now _ c.close.new.self (text_of s index) (text_for s index used (blocks_in cells)) (g.X.Port.outside c.args.port.now) _ (g.X.Port.outside c.close.new.port) least refl
