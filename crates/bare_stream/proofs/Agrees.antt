@@ -5,6 +5,7 @@ use Rattle.std.proofs.lemmas.Bool.Decides.{nat_tests}
 use Rattle.base_122.specs.Ranges.{is_within, rows_range}
 use Rattle.base_122.specs.Sizes.{block_count}
 use Rattle.segment_defs.specs.declared.head.SegmentHead.{SegmentHead}
+use Rattle.segment_defs.specs.declared.head.ImagePart.{ImagePart}
 use Rattle.segment_defs.specs.declared.fault.HeadFault.{HeadFault}
 use Rattle.segment_defs.specs.Reading.{refused_where, first_refusal}
 use Rattle.bare_text.specs.Agreement.{columns, blocks_before, first_agrees, blocks_agree, last_agrees, count_agrees, image_agrees, height_at, agreement_tests}
@@ -131,3 +132,43 @@ few_blocks first index head e more wide =
     let room = g.room in
     let same = g.blocks in
     omega (arith, room, same, wide)
+
+-- ---- heads that agree
+
+pub same_flag : (b : Bool) → beq b b ≡ true
+same_flag true = refl
+same_flag false = refl
+
+pub same_number : (n : ℕ) → (n == n) ≡ true
+same_number n = grind (arith, nat_tests)
+
+pub so_both : (a b : Bool) → a ≡ true → b ≡ true → (a && b) ≡ true
+so_both true b e f = f
+so_both false b e f = absurd cc
+
+pub is_le : (a b : ℕ) → a ≤ b → nat_le a b ≡ true
+is_le a b le = grind (arith, nat_tests)
+
+pub is_lt : (a b : ℕ) → a < b → nat_lt a b ≡ true
+is_lt a b lt = grind (arith, nat_tests)
+
+pub is_equal : (a b : ℕ) → a ≡ b → (a == b) ≡ true
+is_equal a b e = grind (arith, nat_tests)
+
+pub same_image : (image : ImagePart) → image_agrees image image ≡ true
+same_image a =
+    so_both _ _ (same_flag a.signed) (so_both _ _ (same_number a.depth) (so_both _ _ (same_number a.width) (so_both _ _ (same_number a.word) ((bytes_eq-Decides a.weights.shifts a.weights.shifts).1 refl))))
+
+passed : (b : Bool) (fault : HeadFault) (tests : List (Option HeadFault)) → b ≡ true → first_refusal tests ≡ None → first_refusal (refused_where (not b) fault ∷ tests) ≡ None
+passed true fault tests e f = f
+passed false fault tests e f = absurd cc
+
+-- a head agrees for which each point is so
+pub all_agree : (first : SegmentHead) (index : ℕ) (head : SegmentHead) → Agrees first index head → AgreesWith first index head
+unfolding agreement_tests
+all_agree first index head a =
+    passed (first_agrees index head) _ _ a.flag
+    (passed (blocks_agree first head) _ _ a.blocks
+    (passed (last_agrees first index head) _ _ a.last
+    (passed (count_agrees index head) _ _ a.count
+    (passed (image_agrees head.image first.image) _ _ a.image refl))))

@@ -138,7 +138,7 @@ module _ {X : Type 0} (outside : X → Outside) (wish : DecodeWish) (s t : PortI
         (gave_told outside wish.octets start r [] s t before_it reads.went reads.octets reads.came all told) reads.ends
 
     pub first_refused : (fault : BareFault) → ChecksHead wish.pixels read.head 0 read.head (Err fault) → DecodesBare wish start now (Err fault)
-    first_refused fault x = check_faulted outside wish start r front t none_in_force 0 now_read force refl read.head (λ all told. let h = first_told all told in (h.0, h.1)) fault x
+    first_refused fault x = check_faulted outside wish start r front t none_in_force 0 now_read force refl read.head (λ all told. let h = first_told all told in (h.0, h.1)) (λ none. refl) fault x
 
     pub no_memory : DecodesBare wish start now (Err Memory)
     no_memory = ended_at outside wish start r front t now_read (Err Memory) now_gave tt (begins_with outside wish start r front t now_read none_in_force force)

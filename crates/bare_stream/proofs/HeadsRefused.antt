@@ -1,6 +1,6 @@
 -- A decoder that ends at the head of a segment.
 use Rattle.std.proofs.Common.{◌≡◌, ◌≤◌, ◌<◌, ◌+◌, ℕ, ℤ, List, [], ◌∷◌, ◌++◌, length, take, refl, ap, arith, inl}
-use Rattle.std.specs.Prelude.{nat_lt, Bool, true, false, if◌then◌else◌, Option, None, Some, Err}
+use Rattle.std.specs.Prelude.{nat_lt, Bool, true, false, if◌then◌else◌, Option, None, Some, unwrap_or, Err}
 use Rattle.std.proofs.lemmas.Bool.Decides.{nat_tests}
 use Rattle.std.proofs.lemmas.List.{length-take}
 use Rattle.port_122.specs.Outside.{Outside, IsUsedUp}
@@ -16,7 +16,7 @@ use Rattle.bare_stream.specs.declared.fault.BareCause.TheVariants.{Head}
 use Rattle.bare_stream.specs.Input.{waiting, tail_with}
 use Rattle.bare_stream.specs.Inputs.{source_of}
 use Rattle.bare_stream.specs.SegmentsRead.{AreTexts}
-use Rattle.bare_stream.specs.Decoded.{DecidesHead, Refuses}
+use Rattle.bare_stream.specs.Decoded.{DecidesHead, Refuses, first_of}
 
 -- ---- the end of the input
 
@@ -85,6 +85,11 @@ are_so first before index [] (b ∷ blocks) f are = absurd are
 are_so first before index (t ∷ texts) [] f are = absurd are
 are_so {P = P} {Q = Q} first before index (t ∷ texts) (b ∷ blocks) f are =
     record { head = are.head; after = are.after; is = are.is; agrees = are.agrees; goes_on = (are.goes_on.0, are_so {P = P} {Q = Q} first are.after (index + 1) texts blocks f are.goes_on.1) }
+
+-- the first head, or this one if it is the first
+pub first_is : (first : SegmentHead) (texts : List (List ℕ)) (head : SegmentHead) → (texts ≡ [] → head ≡ first) → unwrap_or (first_of first texts) head ≡ first
+first_is first [] head starts = starts refl
+first_is first (t ∷ texts) head starts = refl
 
 -- ---- a head that is refused
 

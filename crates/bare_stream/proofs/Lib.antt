@@ -24,3 +24,12 @@ mod LastGiven
 mod WalkOn
 mod StreamRead
 mod FirstHead
+mod SegmentCounts
+mod ImageHeads
+mod ImageTexts
+mod ImagePictures
+mod ItemsApart
+mod StreamFollowed
+mod RefusedNot
+mod StreamWhole
+mod GivenBack

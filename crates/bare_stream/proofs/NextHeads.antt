@@ -22,13 +22,13 @@ use Rattle.bare_stream.specs.Inputs.{source_of}
 use Rattle.bare_stream.specs.Heads.{TakesHead, ChecksHead}
 use Rattle.bare_stream.specs.BareStream.{AgreesWith}
 use Rattle.bare_stream.specs.SegmentsRead.{SegmentsRead, AreTexts, BeginsSo, Told, pixels_at, shape_with}
-use Rattle.bare_stream.specs.Decoded.{HeadThen, ReadThen, Refuses, BareReasons, BeginsBy, GivesRead, EndsSo, DecodesBare}
+use Rattle.bare_stream.specs.Decoded.{HeadThen, ReadThen, Refuses, BareReasons, BeginsBy, GivesRead, EndsSo, DecodesBare, first_of}
 use Rattle.bare_stream.specs.Reads.{HasRead, InForceAfter, ShowsRead}
 use Rattle.picture_rows.specs.Pictures.{shown}
 use Rattle.bare_stream.specs.Walks.{IsAt, IsHeadOf}
 use Rattle.bare_stream.specs.declared.walk.Walk.{Walk}
 use Rattle.bare_stream.proofs.ReadsOn.{read_on, read_on-gave, gave_told, still_told}
-use Rattle.bare_stream.proofs.HeadsRefused.{are_so, head_refused, ends_long, not_broken}
+use Rattle.bare_stream.proofs.HeadsRefused.{are_so, first_is, head_refused, ends_long, not_broken}
 
 module _ {X : Type 0} (outside : X → Outside) (wish : DecodeWish) (start : Outside) (r : SegmentsRead) (part : List ℕ) (t : PortIn X) (read : HasRead outside wish.octets start r part t) where
   abbrev now : Outside
@@ -48,14 +48,14 @@ module _ {X : Type 0} (outside : X → Outside) (wish : DecodeWish) (start : Out
   }
 
   pub read_then : (before : PartsInForce) (Next : Option SegmentHead → ℕ → PartsInForce → List ℕ → Type 0) → BeginsSo r.first r.texts × AreTexts r.first none_in_force 0 r.texts r.blocks (λ b. b ≡ before) →
-      Next (Some r.first) (length r.texts) before (part ++ waiting t) → ReadThen read.took (Some r) Next
+      Next (first_of r.first r.texts) (length r.texts) before (part ++ waiting t) → ReadThen read.took (Some r) Next
   read_then before Next are next = (
     read.going,
     (
       part ++ waiting t,
       read.octets,
       are.0,
-      are_so {P = λ b. b ≡ before} {Q = λ b. Next (Some r.first) (length r.texts) b (part ++ waiting t)} r.first none_in_force 0 r.texts r.blocks (λ b e. subst (λ p. Next (Some r.first) (length r.texts) p (part ++ waiting t)) (sym e) next) are.1,
+      are_so {P = λ b. b ≡ before} {Q = λ b. Next (first_of r.first r.texts) (length r.texts) b (part ++ waiting t)} r.first none_in_force 0 r.texts r.blocks (λ b e. subst (λ p. Next (first_of r.first r.texts) (length r.texts) p (part ++ waiting t)) (sym e) next) are.1,
     ),
   )
 
@@ -94,9 +94,9 @@ module _ {X : Type 0} (outside : X → Outside) (wish : DecodeWish) (start : Out
       (λ all told.
       let here = rest_told outside wish start r reads.went.gave t read all told in
       let same = gave_told outside wish.octets start r [] s t at reads.went reads.octets reads.came all told in
-      let refused = head_refused outside wish.pixels (Some r.first) before i t here.0 reads.octets fault here.1 reads.ends.0 reads.ends.1 in
+      let refused = head_refused outside wish.pixels (first_of r.first r.texts) before i t here.0 reads.octets fault here.1 reads.ends.0 reads.ends.1 in
       read_then outside wish start r reads.went.gave t read before (λ first next b rest. (i ≡ next) × Refuses wish.pixels first b i rest (outside t.port.now) (Head fault)) (force all told)
-      (x.0 ∙ is, subst (λ l. Refuses wish.pixels (Some r.first) before i (l ++ waiting t) (outside t.port.now) (Head fault)) same refused))
+      (x.0 ∙ is, subst (λ l. Refuses wish.pixels (first_of r.first r.texts) before i (l ++ waiting t) (outside t.port.now) (Head fault)) same refused))
   head_faulted (Refused i BadOption) x = absurd x
   head_faulted (Refused i BadDelta) x = absurd x
   head_faulted (Refused i BadDepth) x = absurd x
@@ -106,7 +106,10 @@ module _ {X : Type 0} (outside : X → Outside) (wish : DecodeWish) (start : Out
 
 -- the head was read, and doesn't agree or reports too many pixels
 module _ {X : Type 0} (outside : X → Outside) (wish : DecodeWish) (start : Outside) (r : SegmentsRead) (front : List ℕ) (t : PortIn X) (before : PartsInForce) (index : ℕ) (read : HasRead outside wish.octets start r front t) (force : InForceAfter start r before) (is : index ≡ length r.texts)
-    (head : SegmentHead) (front_read : Told start ((bare_head_read before front ≡ Ok head) × (length front ≡ bare_length front))) where
+    (head : SegmentHead) (front_read : Told start ((bare_head_read before front ≡ Ok head) × (length front ≡ bare_length front))) (starts : r.texts ≡ [] → head ≡ r.first) where
+  first_head : r.first ≡ unwrap_or (first_of r.first r.texts) head
+  first_head = sym (first_is r.first r.texts head starts)
+
   pub check_faulted : (fault : BareFault) → ChecksHead wish.pixels r.first index head (Err fault) → DecodesBare wish start (outside t.port.now) (Err fault)
   check_faulted ReadFault x = absurd x
   check_faulted WriteFault x = absurd x
@@ -117,13 +120,22 @@ module _ {X : Type 0} (outside : X → Outside) (wish : DecodeWish) (start : Out
       (λ all told.
       let f = front_read all told in
       read_then outside wish start r front t read before (λ first index b rest. HeadThen b rest (λ head size more. AgreesWith (unwrap_or first head) index head × (pixels ≡ pixels_at (unwrap_or first head) index head) × (wish.pixels < pixels))) (force all told)
-      (record { front = front; rest = waiting t; head = head; parts = refl; read = f.0; whole = f.1; goes_on = subst (λ n. AgreesWith r.first n head × (pixels ≡ pixels_at r.first n head) × (wish.pixels < pixels)) is x }))
+      (record {
+        front = front;
+        rest = waiting t;
+        head = head;
+        parts = refl;
+        read = f.0;
+        whole = f.1;
+        goes_on = subst (λ k. AgreesWith k (length r.texts) head × (pixels ≡ pixels_at k (length r.texts) head) × (wish.pixels < pixels)) first_head
+            (subst (λ n. AgreesWith r.first n head × (pixels ≡ pixels_at r.first n head) × (wish.pixels < pixels)) is x);
+      }))
   check_faulted (Refused i (Head fault)) x =
       ended_at outside wish start r front t read (Err (Refused i (Head fault))) read.gave_is tt
       (λ all told.
       let f = front_read all told in
       read_then outside wish start r front t read before (λ first next b rest. (i ≡ next) × Refuses wish.pixels first b i rest (outside t.port.now) (Head fault)) (force all told)
-      (x.0 ∙ is, inr (record { front = front; rest = waiting t; head = head; parts = refl; read = f.0; whole = f.1; goes_on = subst (λ n. first_refusal (agreement_tests r.first n head) ≡ Some fault) (sym x.0) x.1 })))
+      (x.0 ∙ is, inr (record { front = front; rest = waiting t; head = head; parts = refl; read = f.0; whole = f.1; goes_on = subst (λ k. first_refusal (agreement_tests k i head) ≡ Some fault) first_head (subst (λ n. first_refusal (agreement_tests r.first n head) ≡ Some fault) (sym x.0) x.1) })))
   check_faulted (Refused i BadOption) x = absurd x
   check_faulted (Refused i BadDelta) x = absurd x
   check_faulted (Refused i BadDepth) x = absurd x
@@ -163,7 +175,8 @@ module _ {X : Type 0} (outside : X → Outside) (wish : DecodeWish) (start : Out
         starts = λ none. absurd (let index = at.index in let size = ap length none in omega (arith, later, index, size));
       }
 
-  pub next_faulted : (fault : BareFault) → ChecksHead w.pixels w.first w.index read.head (Err fault) → DecodesBare wish start (outside t.port.now) (Err fault)
-  next_faulted fault x =
-      check_faulted outside wish start r front t w.parts w.index now_read force at.index read.head (λ all told. let h = head_told all told in (h.0, h.1)) fault
+  pub next_faulted : 0 < w.index → (fault : BareFault) → ChecksHead w.pixels w.first w.index read.head (Err fault) → DecodesBare wish start (outside t.port.now) (Err fault)
+  next_faulted later fault x =
+      check_faulted outside wish start r front t w.parts w.index now_read force at.index read.head (λ all told. let h = head_told all told in (h.0, h.1))
+      (λ none. absurd (let index = at.index in let size = ap length none in omega (arith, later, index, size))) fault
       (subst (λ p. ChecksHead p r.first w.index read.head (Err fault)) at.pixels (subst (λ h. ChecksHead w.pixels h w.index read.head (Err fault)) (sym at.first) x))

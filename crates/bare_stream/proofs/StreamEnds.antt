@@ -16,7 +16,7 @@ use Rattle.bare_text.specs.Laws.{BareHeadsEndThere}
 use Rattle.bare_stream.specs.BareStream.{IsText, TextThen, TextsFrom, StartsWith, BareStream, BareStreamsEndThere, geometry_at}
 
 -- of two lists that begin another one, one begins the other
-two_fronts : (a b x y : List ℕ) → a ++ x ≡ b ++ y → ((more : List ℕ) × (b ≡ a ++ more)) ⊎ ((more : List ℕ) × (a ≡ b ++ more))
+pub two_fronts : (a b x y : List ℕ) → a ++ x ≡ b ++ y → ((more : List ℕ) × (b ≡ a ++ more)) ⊎ ((more : List ℕ) × (a ≡ b ++ more))
 two_fronts [] b x y e = inl (b, refl)
 two_fronts (p ∷ a) [] x y e = inr (p ∷ a, refl)
 two_fronts (p ∷ a) (q ∷ b) x y e =
@@ -31,7 +31,7 @@ two_fronts (p ∷ a) (q ∷ b) x y e =
 abbrev reads : SegmentHead → Result SegmentHead HeadFault
 reads head = Ok head
 
-ok_one : (g h : SegmentHead) → reads g ≡ reads h → g ≡ h
+pub ok_one : (g h : SegmentHead) → reads g ≡ reads h → g ≡ h
 ok_one g h e = cc
 
 module _ (heads : BareHeadsEndThere) (items : ItemsEndThere) where
@@ -53,7 +53,7 @@ module _ (heads : BareHeadsEndThere) (items : ItemsEndThere) where
     pub blocks : v ≡ w
     pub after : a ≡ b
 
-  one_text : (before : PartsInForce) (s t x y : List ℕ) (g h : SegmentHead) (v w : List (List ℤ)) (a b : PartsInForce) → IsText before s g v a → IsText before t h w b → s ++ x ≡ t ++ y →
+  pub one_text : (before : PartsInForce) (s t x y : List ℕ) (g h : SegmentHead) (v w : List (List ℤ)) (a b : PartsInForce) → IsText before s g v a → IsText before t h w b → s ++ x ≡ t ++ y →
       SameText s t g h v w a b
   one_text before s t x y g h v w a b first second e =
       let spread : first.front ++ (first.rest ++ x) ≡ second.front ++ (second.rest ++ y) =
@@ -94,7 +94,7 @@ module _ (heads : BareHeadsEndThere) (items : ItemsEndThere) where
   nothing_left [] b e = e
   nothing_left (x ∷ a) b e = absurd cc
 
-  clash : (b : Bool) → b ≡ true → b ≡ false → ⊥
+  pub clash : (b : Bool) → b ≡ true → b ≡ false → ⊥
   clash b e f = cc
 
   one_stream : (first : SegmentHead) (g h : Geometry) (before : PartsInForce) (index : ℕ) (octets more : List ℕ) (v w : List (List (List ℤ))) →
@@ -127,7 +127,7 @@ module _ (heads : BareHeadsEndThere) (items : ItemsEndThere) where
         blocks = ap (λ z. z ∷ (v' ∷ vs)) s.blocks ∙ ap (λ l. w ∷ l) next.blocks;
       }
 
-  one_first : (octets more : List ℕ) (a b : SegmentHead) → StartsWith a octets → StartsWith b (octets ++ more) → a ≡ b
+  pub one_first : (octets more : List ℕ) (a b : SegmentHead) → StartsWith a octets → StartsWith b (octets ++ more) → a ≡ b
   one_first octets more a b x y =
       let joined : x.front ++ (x.rest ++ more) ≡ y.front ++ y.rest = sym (append_assoc x.front x.rest more) ∙ ap (λ l. l ++ more) (sym x.parts) ∙ y.parts in
       let front = heads.one none_in_force x.front y.front (x.rest ++ more) y.rest a b x.read y.read x.whole y.whole joined in

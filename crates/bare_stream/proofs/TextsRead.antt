@@ -1,6 +1,6 @@
 -- The text of the next segment is read, or a decoder ends in it.
-use Rattle.std.proofs.Common.{◌≡◌, ◌≤◌, ℕ, ℤ, List, ◌++◌, length, refl, sym, ap, ◌∙◌, subst, arith, append_assoc}
-use Rattle.std.specs.Prelude.{Some, Result, Ok, Err}
+use Rattle.std.proofs.Common.{◌≡◌, ◌≤◌, ℕ, ℤ, List, [], ◌++◌, length, refl, sym, ap, ◌∙◌, subst, arith, append_assoc}
+use Rattle.std.specs.Prelude.{Some, unwrap_or, Result, Ok, Err}
 use Rattle.std.proofs.lemmas.List.{append-nil}
 use Rattle.port_122.specs.Outside.{Outside}
 use Rattle.port_122.proofs.Stretches.{rose_since}
@@ -25,12 +25,12 @@ use Rattle.bare_stream.specs.Inputs.{source_of}
 use Rattle.bare_stream.specs.BareStream.{AgreesWith}
 use Rattle.bare_stream.specs.Heads.{FaultOf}
 use Rattle.bare_stream.specs.SegmentsRead.{SegmentsRead, AgreeingText, Told, pixels_at, shape_with}
-use Rattle.bare_stream.specs.Decoded.{MayFollow, ItemRefused, ReadThen, Refuses, BeginsBy, DecodesBare}
+use Rattle.bare_stream.specs.Decoded.{MayFollow, ItemRefused, ReadThen, Refuses, BeginsBy, DecodesBare, first_of}
 use Rattle.bare_stream.specs.Reads.{HasRead, ShowsRead}
 use Rattle.bare_stream.specs.Walks.{IsAt, IsNext, IsHeadOf}
 use Rattle.picture_rows.specs.Pictures.{shown}
 use Rattle.bare_stream.proofs.ReadsOn.{read_on, read_on-gave, gave_told}
-use Rattle.bare_stream.proofs.HeadsRefused.{ends_plain, ends_long, not_broken}
+use Rattle.bare_stream.proofs.HeadsRefused.{first_is, ends_plain, ends_long, not_broken}
 use Rattle.bare_stream.proofs.NextHeads.{ended_at, read_then, rest_told}
 
 abbrev no_error : SegmentFault → Result Part SegmentFault
@@ -46,6 +46,9 @@ module _ {X : Type 0} (outside : X → Outside) (wish : DecodeWish) (start : Out
     agrees = subst (λ h. AgreesWith h w.index read.head) (sym at.first) next.agrees;
     few = subst (λ p. pixels_at r.first w.index read.head ≤ p) at.pixels (subst (λ h. pixels_at h w.index read.head ≤ w.pixels) (sym at.first) next.few);
   }
+
+  may_begin : (r.texts ≡ [] → read.head ≡ r.first) → MayFollow wish.pixels (unwrap_or (first_of r.first r.texts) read.head) w.index read.head
+  may_begin starts = subst (λ h. MayFollow wish.pixels h w.index read.head) (sym (first_is r.first r.texts read.head starts)) may_follow
 
   module _ (cells : List ℤ) (f : SegmentFault) (x : DecodesItems (source_of outside) read.head read.size (no_error f) s t cells) where
     abbrev gave : List ℕ
@@ -63,13 +66,13 @@ module _ {X : Type 0} (outside : X → Outside) (wish : DecodeWish) (start : Out
         subst (λ e. BeginsBy e now_read.took r) (sym now_read.going) (read_then outside wish start r (front ++ gave) t now_read before (λ first index b rest. Unit {0}) (h.begins, h.are) tt)
 
     -- an item is refused
-    item_refused : (name : Refusal) → RefusesItem read.head read.size x.octets name → Told start (ItemRefused wish.pixels (Some r.first) before w.index ((front ++ gave) ++ waiting t) name)
+    item_refused : (name : Refusal) → RefusesItem read.head read.size x.octets name → Told start (ItemRefused wish.pixels (first_of r.first r.texts) before w.index ((front ++ gave) ++ waiting t) name)
     item_refused name refuses all told =
         let h = head all told in
         let same : RefusesItem read.head (length front) gave name = subst (λ n. RefusesItem read.head n gave name) h.size (subst (λ l. RefusesItem read.head read.size l name) (is_gave all told) refuses) in
-        record { front = front; rest = gave ++ waiting t; head = read.head; parts = append_assoc front gave (waiting t); read = h.head; whole = h.whole; goes_on = (may_follow, (gave, waiting t, refl, same)) }
+        record { front = front; rest = gave ++ waiting t; head = read.head; parts = append_assoc front gave (waiting t); read = h.head; whole = h.whole; goes_on = (may_begin h.starts, (gave, waiting t, refl, same)) }
 
-    reason_for : (cause : BareCause) → Told start (Refuses wish.pixels (Some r.first) before w.index ((front ++ gave) ++ waiting t) now cause) →
+    reason_for : (cause : BareCause) → Told start (Refuses wish.pixels (first_of r.first r.texts) before w.index ((front ++ gave) ++ waiting t) now cause) →
         Told start (ReadThen now_read.took (Some r) (λ first index b rest. (w.index ≡ index) × Refuses wish.pixels first b w.index rest now cause))
     reason_for cause why all told =
         let h = head all told in
@@ -98,7 +101,7 @@ module _ {X : Type 0} (outside : X → Outside) (wish : DecodeWish) (start : Out
       let rest : x.went.gave ++ waiting t ≡ x.went.gave = ap (λ l. x.went.gave ++ l) over.none ∙ append-nil x.went.gave in
       let lacks : LacksItems read.head (length front) (x.went.gave ++ waiting t) =
       subst (LacksItems read.head (length front)) (sym rest) (subst (λ n. LacksItems read.head n x.went.gave) h.size (subst (LacksItems read.head read.size) (is_gave cells faults.ShortSegment x all told) x.ends.1)) in
-      (record { front = front; rest = x.went.gave ++ waiting t; head = read.head; parts = append_assoc front x.went.gave (waiting t); read = h.head; whole = h.whole; goes_on = (may_follow, lacks) }, over.end))))
+      (record { front = front; rest = x.went.gave ++ waiting t; head = read.head; parts = append_assoc front x.went.gave (waiting t); read = h.head; whole = h.whole; goes_on = (may_begin h.starts, lacks) }, over.end))))
   items_faulted cells faults.Overlong fault x e = absurd x.ends
   items_faulted cells faults.BrokenSegment fault x e = subst (λ f. DecodesBare wish start now (Err f)) (sym e)
       (ended_at outside wish start r (front ++ x.went.gave) t (now_read cells faults.BrokenSegment x) (Err LongInput) (now_read cells faults.BrokenSegment x).gave_is tt

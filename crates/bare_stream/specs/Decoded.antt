@@ -72,12 +72,17 @@ Refuses pixels first before index octets now Trailing = ⊥
 
 -- ---- the decoder
 
+-- the first head, if a segment was read
+abbrev pub first_of : SegmentHead → (texts : List (List ℕ)) → Option SegmentHead
+first_of first [] = None
+first_of first (t ∷ texts) = Some first
+
 -- The octets that were taken are those of the segments that were read, and others; and it is so of the number of these segments, the parts
 -- in force after them and the other octets. Without a first head none was read.
 abbrev pub ReadThen : (took : List ℕ) → Option SegmentsRead → (Option SegmentHead → (index : ℕ) → PartsInForce → List ℕ → Type 0) → Type 0
 ReadThen took None Next = Next None 0 none_in_force took
 ReadThen took (Some r) Next =
-    (r.ended ≡ None) × ((rest : List ℕ) × (took ≡ concat r.texts ++ rest) × BeginsSo r.first r.texts × AreTexts r.first none_in_force 0 r.texts r.blocks (λ before. Next (Some r.first) (length r.texts) before rest))
+    (r.ended ≡ None) × ((rest : List ℕ) × (took ≡ concat r.texts ++ rest) × BeginsSo r.first r.texts × AreTexts r.first none_in_force 0 r.texts r.blocks (λ before. Next (first_of r.first r.texts) (length r.texts) before rest))
 
 -- the octets that were taken are a bare stream, of which each segment was read, and these
 abbrev pub StreamThen : (took : List ℕ) → Option SegmentsRead → (more : List ℕ) → (index : ℕ) → Geometry → Type 0

@@ -8,6 +8,7 @@ pub mod Works
 pub mod Steps
 pub mod RowsIn
 pub mod BareStream
+pub mod Images
 pub mod Laws
 pub mod Pieces
 pub mod Input
@@ -15,6 +16,7 @@ pub mod InputLaws
 pub mod Inputs
 pub mod SegmentsRead
 pub mod Decoded
+pub mod RoundTrip
 pub mod Blocks
 pub mod Heads
 pub mod Reads

@@ -3,7 +3,9 @@
 #![tactic(auto)]
 
 ghost use Rattle.bare_stream.specs.BareStream.{BareStreamsEndThere};
+ghost use Rattle.bare_stream.specs.Images.{ImagesAreBareStreams};
 ghost use Rattle.bare_stream.specs.Laws.{LastRowSettlesTexts};
+ghost use Rattle.bare_stream.specs.RoundTrip.{BareRoundTrip, StreamsAreRead};
 
 mod blocks;
 mod decode;
@@ -23,7 +25,7 @@ mod tests;
 mod text;
 mod walk;
 
-use bare_text::bare_heads_end_there;
+use bare_text::{bare_heads_end_there, bare_heads_undo, bare_texts_hold};
 pub use decode::decode_bare;
 pub use encode::encode_bare;
 pub use fault::{BareCause, BareFault};
@@ -41,3 +43,30 @@ pub const fn bare_streams_end_there()
 pub const fn last_row_settles_texts()
     ensures { LastRowSettlesTexts }
 {}
+
+/// The octets that are written for an image are a bare stream: it reports the image's size, and holds the image's blocks if nothing is
+/// left out.
+pub const fn images_are_bare_streams()
+    ensures { ImagesAreBareStreams }
+{
+    bare_texts_hold();
+    bare_heads_undo();
+    bare_streams_end_there();
+}
+
+/// A bare stream within the caps isn't refused: it is read whole and all its rows are given, unless the port or the memory fails.
+pub const fn bare_streams_are_read()
+    ensures { StreamsAreRead }
+{
+    bare_heads_end_there();
+    items_end_there();
+    bare_streams_end_there();
+}
+
+/// The bare stream of an image gives the image back: a decoder that takes it gives the raster, if nothing is left out.
+pub const fn bare_round_trip()
+    ensures { BareRoundTrip }
+{
+    images_are_bare_streams();
+    bare_streams_are_read();
+}

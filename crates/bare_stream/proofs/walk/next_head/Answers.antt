@@ -15,4 +15,4 @@ returns-in-Ok-check_head-clause-run g c = λ wish start r at force. (
 
 pub returns-in-Err-check_head-clause-run : goal.returns-in-Err-check_head-clause-run
 returns-in-Err-check_head-clause-run g c = λ wish start r at force.
-    next_faulted g.X.Port.outside wish start r c.args.input.now c.take_head.new.input c.args.walk.now c.take_head.new.parts at force c.in-Ok.read c.in-Ok.ensures.takes c.in-Err-check_head.fault c.in-Err-check_head.ensures
+    next_faulted g.X.Port.outside wish start r c.args.input.now c.take_head.new.input c.args.walk.now c.take_head.new.parts at force c.in-Ok.read c.in-Ok.ensures.takes c.requires.later c.in-Err-check_head.fault c.in-Err-check_head.ensures

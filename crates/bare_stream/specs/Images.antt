@@ -1,0 +1,45 @@
+-- What the bare stream of an image says, and what a decoder gives of it. (This project's own.)
+use Rattle.std.specs.Prelude.{◌≡◌, ◌<◌, ℕ, ℤ, min, List, [], length, map, slice_index_or, Some}
+use Rattle.std.specs.List.{range_with_len}
+use Rattle.base_122.specs.Setting.{geometry_of}
+use Rattle.base_122.specs.Sizes.{total_blocks}
+use Rattle.base_122.specs.declared.geometry.Geometry.{Geometry}
+use Rattle.base_122.specs.declared.setting.Setting.{Setting}
+use Rattle.stream_defs.specs.Output.{head_for, image_blocks, segment_of, segments_of}
+use Rattle.strip_decoder.specs.Containment.{ArePixels}
+use Rattle.strip_decoder.specs.RoundTrip.{SendsAll}
+use Rattle.bare_text.specs.Laws.{in_force}
+use Rattle.bare_stream.specs.Bare.{bare, head_before, segment_octets}
+use Rattle.bare_stream.specs.BareStream.{IsText, BareStream}
+use Rattle.bare_stream.specs.Rasters.{IsBare}
+
+-- an image of a setting of a bare stream, whose ten weights and whose pixels are in range
+pub record IsBareImage (s : Setting) (x : ℕ → ℕ → ℤ) : Type 0 where
+  pub setting : IsBare s
+  pub weights : length s.weights.shifts ≡ 10
+  pub pixels : ArePixels s s.rows x
+
+-- the geometry of its stream: the image is 0, and each segment but the last has as many blocks as the first
+abbrev pub bare_geometry : Setting → Geometry
+bare_geometry s = record (geometry_of s) { segment = min s.segment (total_blocks s.width s.rows); image = 0 }
+
+-- the blocks of an image, segment by segment
+abbrev pub image_segments : Setting → (ℕ → ℕ → ℤ) → List (List (List ℤ))
+image_segments s x = map (segment_of s (image_blocks s x)) (range_with_len 0 (segments_of s))
+
+-- the text of the segment of this index holds these blocks, by a reader that has read the head before
+abbrev pub IsSegmentText : Setting → List (List ℤ) → (index : ℕ) → List (List ℤ) → Type 0
+IsSegmentText s all index blocks =
+    IsText (in_force (head_before s all index)) (segment_octets s all index) (head_for s all index) blocks (in_force (Some (head_for s all index)))
+
+-- The stream of an image says its geometry and holds these blocks, text by text. If nothing is left out, they are those of the image.
+pub record SaysImage (s : Setting) (x : ℕ → ℕ → ℤ) (w : List (List (List ℤ))) : Type 0 where
+  pub stream : BareStream (bare s x) (bare_geometry s) w
+  pub count : length w ≡ segments_of s
+  pub texts : (index : ℕ) → index < segments_of s → IsSegmentText s (image_blocks s x) index (slice_index_or w index [])
+  pub exact : SendsAll s → w ≡ image_segments s x
+
+-- The octets that are written for an image are a bare stream, which says this and nothing else.
+pub record ImagesAreBareStreams : Type 0 where
+  pub says : (s : Setting) (x : ℕ → ℕ → ℤ) → IsBareImage s x → (w : List (List (List ℤ))) × SaysImage s x w
+  pub only : (s : Setting) (x : ℕ → ℕ → ℤ) (g : Geometry) (w : List (List (List ℤ))) → IsBareImage s x → BareStream (bare s x) g w → (g ≡ bare_geometry s) × SaysImage s x w
