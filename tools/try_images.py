@@ -2,7 +2,7 @@
 
 Each image is encoded by both, and its packets are decoded. Then some packets are lost, or octets changed, and what is
 left is decoded, looked at and listed, and its damage found. The rows of some cameras are muxed, and the packets of one
-are picked. Status, output and note have to be the same each time, and the packets of an image that leave nothing out
+are picked. The image is also encoded as a bare stream, which is decoded whole, cut, and with octets changed. Status, output and note have to be the same each time, and the packets of an image that leave nothing out
 have to give its raster.
 """
 
@@ -73,7 +73,20 @@ def try_image(pair, chance):
         pair.ask(["rects", "pixels=1000000"], left)
         pair.ask(["look", "pixels=1000000"], left)
         pair.ask(["list"], left)
+    size = [f"width={width}", f"rows={rows}", f"depth={depth}", f"signed={signed}"]
+    try_bare(pair, chance, size, words, given, is_whole)
     try_cameras(pair, chance)
+
+
+def try_bare(pair, chance, size, words, given, is_whole):
+    """An image as a bare stream, which has no packets and no total, and that stream decoded whole, cut and changed."""
+    absent = ("packet=", "total=", "fill=") if any(it.startswith("total=") for it in words) else ("packet=",)
+    kept = [it for it in words if not it.startswith(absent)]
+    _, octets, _ = pair.ask(["bare-encode", *size, *kept], given)
+    status, picture, _ = pair.ask(["bare-decode"], octets)
+    assert status == 0 and (picture == given or not is_whole)
+    for left in (octets[: chance.randrange(len(octets))], octets + b"\0", changed(chance, octets)):
+        pair.ask(["bare-decode", "pixels=1000000"], left)
 
 
 def try_cameras(pair, chance):

@@ -100,5 +100,17 @@ cp nothing output
 expect 3 "strip122: no segment" look apid=102
 expect 2 "strip122: out of range: cameras" mux width=17 rows=17 apid=2046 cameras=2
 
+# A bare stream, whole and with an octet too few.
+tail -c 22 packets >bare
+cp black in
+cp bare output
+expect 0 "" bare-encode width=17 rows=17
+cp bare in
+cp black output
+expect 0 "" bare-decode
+head -c 21 bare >in
+cp nothing output
+expect 3 "strip122: segment 0 refused" bare-decode
+
 [ $wrong = 0 ] && echo "$count runs: output, note and status are as they should be"
 exit $wrong

@@ -1,5 +1,6 @@
 // The memory for the blocks of one segment, and the items of its text.
 ghost use Rattle.std.specs.Prelude.{◌≡◌, ◌≤◌, ◌*◌, take, length};
+ghost use Rattle.plane_defs.specs.Profile.{profile};
 ghost use Rattle.segment_defs.specs.Head.{IsHead};
 ghost use Rattle.bare_stream.specs.Inputs.{source_of};
 ghost use Rattle.segment_code.specs.DecodedItems.{DecodesItems};
@@ -11,6 +12,7 @@ use bare_text::{BareHead, SegmentFault, SegmentReader};
 use bit_pipe::Part;
 use port_122::Port;
 use std::alloc::{AllocError, Global};
+use word_codes::profile_book;
 
 /// What the texts of segments are read with: the blocks of one segment, and a state for each.
 #[derive(Drop)]
@@ -18,6 +20,7 @@ pub struct Room {
     pub reader: SegmentReader,
     pub blocks: Vec<i32>,
     pub marks: Vec<i32>,
+    ghost of_profile: { reader.tables.book ≡ profile },
 }
 
 impl Room {
@@ -33,7 +36,7 @@ impl Room {
         let blocks = vec![in alloc; 0; 64 * count]?;
         let marks = vec![in alloc; 0; count]?;
         Ok(Room {
-            reader: SegmentReader::new(),
+            reader: SegmentReader::new(&profile_book()),
             blocks,
             marks,
         })
@@ -64,11 +67,12 @@ pub fn read_items<X: Port>(
     blocks: &mut [i32],
     marks: &mut [i32],
 ) -> Result<Part, SegmentFault>
+    requires book { reader.now.tables.book ≡ profile }
     requires fits { IsHead read.now.head }
     requires size { read.now.size ≤ 20 }
     requires blocks { 64 * read.now.head.blocks ≤ length blocks.old }
     requires marks { read.now.head.blocks ≤ length marks.old }
-    ensures items { DecodesItems (source_of X.outside) read.now.head read.now.size result input.old input.new (take (64 * read.now.head.blocks) blocks.new) }
+    ensures items { DecodesItems (source_of X.outside) profile read.now.head read.now.size result input.old input.new (take (64 * read.now.head.blocks) blocks.new) }
     ensures sizes { (length blocks.new ≡ length blocks.old) × (length marks.new ≡ length marks.old) }
 {
     let count = read.head.blocks as usize;

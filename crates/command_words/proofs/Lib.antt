@@ -5,3 +5,4 @@ pub mod WordLists
 pub mod OneMeaning
 pub mod Made
 pub mod Places
+pub mod OwnKeys

@@ -1,5 +1,5 @@
 -- What the values make is in range.
-use Rattle.std.proofs.Common.{◌≡◌, ◌≤◌, ◌+◌, ◌*◌, ℕ, List, [], ◌∷◌, refl, arith, subst, true, false}
+use Rattle.std.proofs.Common.{◌≡◌, ◌≤◌, ◌+◌, ◌*◌, ℕ, List, [], ◌∷◌, refl, arith, ap, subst, true, false}
 use Rattle.std.specs.Prelude.{Option, Some, None, Result, Ok, IfOk, IfSome, Bool, not, unwrap_or, cond, find, nat_le, ◌==◌, ◌||◌}
 use Rattle.std.specs.Option.{option_map}
 use Rattle.std.proofs.lemmas.Bool.{and_parts, or_right}
@@ -10,16 +10,16 @@ use Rattle.base_122.specs.declared.range.FieldRange.{FieldRange}
 use Rattle.base_122.specs.declared.field.Field.TheVariants as field
 use Rattle.base_122.proofs.RangeChecks.{within, in_range-from_none}
 use Rattle.command_words.specs.declared.tables.Task.{Task}
-use Rattle.command_words.specs.declared.tables.Task.TheVariants.{Encode, Mux, Read, Info, Pick, Make, Trial}
+use Rattle.command_words.specs.declared.tables.Task.TheVariants.{Encode, Mux, Read, Info, Pick, BareEncode, BareDecode, Make, Trial}
 use Rattle.command_words.specs.declared.tables.Key.{Key}
 use Rattle.command_words.specs.declared.tables.Key.TheVariants as key
 use Rattle.command_words.specs.declared.command.Command.{Command}
 use Rattle.command_words.specs.declared.command.WordFault.{WordFault}
 use Rattle.command_words.specs.declared.command.WordFault.TheVariants.{MissingKey, OutOfRange}
 use Rattle.command_words.specs.declared.values.Value.{Value}
-use Rattle.command_words.specs.Values.{number_of}
+use Rattle.command_words.specs.Values.{number_of, cap_of}
 use Rattle.command_words.specs.Tables.{command_of, row_of, Finds, setting_of, wish_of, number_at, given_number}
-use Rattle.command_words.specs.Commands.{is_small, leaves_rows_open, cameras_test, passes, after, first_missing, first_refused, field_of, made, IsInRange}
+use Rattle.command_words.specs.Commands.{is_small, leaves_rows_open, cameras_test, passes, after, first_missing, first_refused, field_of, made, LacksTotal, IsInRange}
 
 -- the first key passes, and so do those after it
 passed : (b : Bool) (key : Key) (field : Field) (rest : Option Key) → (row_of key).field ≡ Some field →
@@ -57,6 +57,8 @@ open_is_zero Mux finds b h = or_right (number_at finds key.Rows == 0) b h
 open_is_zero Pick finds b h = or_right (number_at finds key.Rows == 0) b h
 open_is_zero Info finds b h = or_right (number_at finds key.Rows == 0) b h
 open_is_zero (Read reading) finds b h = or_right (number_at finds key.Rows == 0) b h
+open_is_zero BareEncode finds b h = or_right (number_at finds key.Rows == 0) b h
+open_is_zero BareDecode finds b h = or_right (number_at finds key.Rows == 0) b h
 open_is_zero Make finds b h = or_right (number_at finds key.Rows == 0) b h
 open_is_zero Trial finds b h = or_right (number_at finds key.Rows == 0) b h
 
@@ -111,23 +113,27 @@ given_in_range finds key range within = by (finds key) refl
     by (Some value) is = subst (λ o. IsWithin range (number_of (unwrap_or o (row_of key).default))) is within
 
 -- no key that is tested is out of range
-pub command_in_range : (task : Task) (finds : Finds) → field_of (first_refused task finds) ≡ None → IsInRange (command_of task finds)
-command_in_range Encode finds e = (all_in_range Encode finds e).setting
-command_in_range Mux finds e =
+pub command_in_range : (task : Task) (finds : Finds) → LacksTotal task finds → field_of (first_refused task finds) ≡ None → IsInRange (command_of task finds)
+command_in_range Encode finds lacks e = (all_in_range Encode finds e).setting
+command_in_range Mux finds lacks e =
     let all = all_in_range Mux finds e in
     let few = cameras_in_range finds (number_at finds key.Apid) (number_at finds key.Cameras) all.cameras in
     (all.setting, all.rows refl, record { least = few.0; most = few.1; apids = few.2 })
-command_in_range Info finds e =
+command_in_range Info finds lacks e =
     let all = all_in_range Info finds e in
     (given_in_range finds key.Apid apid_range all.wish.apid, all.wish.octets)
-command_in_range Pick finds e =
+command_in_range Pick finds lacks e =
     let all = all_in_range Pick finds e in
     (all.wish, given_in_range finds key.Image image_range all.image)
-command_in_range (Read reading) finds e = (all_in_range (Read reading) finds e).wish
-command_in_range Make finds e =
+command_in_range (Read reading) finds lacks e = (all_in_range (Read reading) finds e).wish
+command_in_range BareEncode finds lacks e =
+    let all = all_in_range BareEncode finds e in
+    (all.setting, all.rows refl, ap (λ found. cap_of (unwrap_or found (row_of key.Total).default)) lacks)
+command_in_range BareDecode finds lacks e = (all_in_range BareDecode finds e).wish
+command_in_range Make finds lacks e =
     let all = all_in_range Make finds e in
     record { width = all.setting.width; rows = all.rows refl; depth = all.setting.depth }
-command_in_range Trial finds e =
+command_in_range Trial finds lacks e =
     let all = all_in_range Trial finds e in
     let small : nat_le (number_at finds key.Width * number_at finds key.Rows) 16777216 ≡ true = all.small in
     (all.setting, all.rows refl, grind (arith, nat_tests, small))
@@ -136,6 +142,6 @@ ok_after : (fault : Field → WordFault) (first : Option Field) (result : Result
 ok_after fault None result ok = ok refl
 ok_after fault (Some field) result ok = tt
 
-pub made_in_range : (task : Task) (keys : List Key) (finds : Finds) → IfOk (made task keys finds) IsInRange
-made_in_range task keys finds =
-    ok_after MissingKey (field_of (first_missing keys finds)) _ (λ _. ok_after OutOfRange (field_of (first_refused task finds)) (Ok (command_of task finds)) (command_in_range task finds))
+pub made_in_range : (task : Task) (keys : List Key) (finds : Finds) → LacksTotal task finds → IfOk (made task keys finds) IsInRange
+made_in_range task keys finds lacks =
+    ok_after MissingKey (field_of (first_missing keys finds)) _ (λ _. ok_after OutOfRange (field_of (first_refused task finds)) (Ok (command_of task finds)) (command_in_range task finds lacks))

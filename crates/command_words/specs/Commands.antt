@@ -1,5 +1,5 @@
 -- What the values make: a command, or the first thing that is wrong with them. This project's own.
-use Rattle.std.specs.Prelude.{◌≤◌, ◌+◌, ◌*◌, ℕ, IfSome, ◌&&◌, ◌||◌, ◌==◌, nat_le, Bool, true, false, not, List, find, is_some, option_and_then, Option, Some, None, Result, Ok, Err}
+use Rattle.std.specs.Prelude.{◌≡◌, ◌≤◌, ◌+◌, ◌*◌, ℕ, IfSome, ◌&&◌, ◌||◌, ◌==◌, nat_le, Bool, true, false, not, List, find, is_some, option_and_then, Option, Some, None, Result, Ok, Err}
 use Rattle.std.specs.List.{list_all}
 use Rattle.base_122.specs.Weights.{is_shift}
 use Rattle.base_122.specs.Ranges.{IsWithin, is_within, width_range, rows_range, depth_range, apid_range, image_range, octets_range, plane_range, stage_range, limit_test, total_test, IsInRange as IsSettingInRange, IsWishInRange}
@@ -7,14 +7,14 @@ use Rattle.base_122.specs.declared.field.Field.{Field}
 use Rattle.base_122.specs.declared.setting.Setting.{Setting}
 use Rattle.raster_rows.specs.declared.made.MadeImage.{MadeImage}
 use Rattle.command_words.specs.declared.tables.Task.{Task}
-use Rattle.command_words.specs.declared.tables.Task.TheVariants.{Encode as to_encode, Trial as to_try}
+use Rattle.command_words.specs.declared.tables.Task.TheVariants.{Encode as to_encode, BareEncode as to_bare_encode, Trial as to_try}
 use Rattle.command_words.specs.declared.tables.Key.{Key}
 use Rattle.command_words.specs.declared.tables.Key.TheVariants.{Width, Rows, Limit, Word, Total, Apid, Cameras, Image}
 use Rattle.command_words.specs.declared.tables.Range.{Range}
 use Rattle.command_words.specs.declared.tables.Range.TheVariants.{All as any_value, Number as number_range, Cap as cap_range, Rows as few_rows, Limit as limit_range, Total as total_range, Fill as fill_range, Stop as stop_range, Weights as weights_range, Cameras as cameras_range}
 use Rattle.command_words.specs.declared.tables.TheConstants.{ALL}
 use Rattle.command_words.specs.declared.command.Command.{Command}
-use Rattle.command_words.specs.declared.command.Command.TheVariants.{Encode, Mux, Read, Info, Pick, Make, Trial}
+use Rattle.command_words.specs.declared.command.Command.TheVariants.{Encode, Mux, Read, Info, Pick, BareEncode, BareDecode, Make, Trial}
 use Rattle.command_words.specs.declared.command.WordFault.{WordFault}
 use Rattle.command_words.specs.declared.command.WordFault.TheVariants.{MissingKey, OutOfRange}
 use Rattle.command_words.specs.Values.{cap_of, flag_of, stop_of, weights_of}
@@ -73,6 +73,11 @@ after fault (Some field) result = Err (fault field)
 abbrev pub made : Task → List Key → Finds → Result Command WordFault
 made task keys finds = after MissingKey (field_of (first_missing keys finds)) (after OutOfRange (field_of (first_refused task finds)) (Ok (command_of task finds)))
 
+-- a total that wasn't found is 0; `bare-encode` has no key for it
+abbrev pub LacksTotal : Task → Finds → Type 0
+LacksTotal to_bare_encode finds = finds Total ≡ None
+LacksTotal task finds = Unit {0}
+
 -- A made image has the ranges of a setting.
 pub record IsMadeInRange (made : MadeImage) : Type 0 where
   pub width : IsWithin width_range made.width
@@ -92,5 +97,7 @@ IsInRange (Mux setting cameras) = IsSettingInRange setting × IsWithin rows_rang
 IsInRange (Read reading wish) = IsWishInRange wish
 IsInRange (Info apid octets) = IfSome apid (IsWithin apid_range) × IsWithin octets_range octets
 IsInRange (Pick wish image) = IsWishInRange wish × IfSome image (IsWithin image_range)
+IsInRange (BareEncode setting) = IsSettingInRange setting × IsWithin rows_range setting.rows × (setting.total ≡ 0)
+IsInRange (BareDecode wish) = IsWishInRange wish
 IsInRange (Make made) = IsMadeInRange made
 IsInRange (Trial setting seed) = IsSettingInRange setting × IsWithin rows_range setting.rows × (setting.width * setting.rows ≤ 16777216)

@@ -6,9 +6,9 @@ use Rattle.base_122.specs.declared.setting.Setting.{Setting}
 use Rattle.base_122.specs.declared.wish.DecodeWish.{DecodeWish}
 use Rattle.raster_rows.specs.declared.made.MadeImage.{MadeImage}
 use Rattle.command_words.specs.declared.tables.Task.{Task}
-use Rattle.command_words.specs.declared.tables.Task.TheVariants.{Encode as to_encode, Mux as to_mux, Read as to_read, Info as to_info, Pick as to_pick, Make as to_make, Trial as to_try}
+use Rattle.command_words.specs.declared.tables.Task.TheVariants.{Encode as to_encode, Mux as to_mux, Read as to_read, Info as to_info, Pick as to_pick, BareEncode as to_bare_encode, BareDecode as to_bare_decode, Make as to_make, Trial as to_try}
 use Rattle.command_words.specs.declared.command.Command.{Command}
-use Rattle.command_words.specs.declared.command.Command.TheVariants.{Encode, Mux, Read, Info, Pick, Make, Trial}
+use Rattle.command_words.specs.declared.command.Command.TheVariants.{Encode, Mux, Read, Info, Pick, BareEncode, BareDecode, Make, Trial}
 use Rattle.command_words.specs.declared.tables.Key.{Key}
 use Rattle.command_words.specs.declared.tables.Key.TheVariants.{Width, Rows, Depth, Signed, Segment, Limit, Fill, Word, Stop, Weights, Select, Apid, Image, Packet, Pixels, Octets, Total, Cameras, Seed}
 use Rattle.command_words.specs.declared.tables.Range.TheVariants.{All as any_value}
@@ -122,5 +122,7 @@ command_of to_mux finds = Mux (setting_of finds) (number_at finds Cameras)
 command_of (to_read reading) finds = Read reading (wish_of finds)
 command_of to_info finds = Info (given_number finds Apid) (cap_of (value_at finds Octets))
 command_of to_pick finds = Pick (wish_of finds) (given_number finds Image)
+command_of to_bare_encode finds = BareEncode (setting_of finds)
+command_of to_bare_decode finds = BareDecode (wish_of finds)
 command_of to_make finds = Make (made_image_of finds)
 command_of to_try finds = Trial (setting_of finds) (number_at finds Seed)

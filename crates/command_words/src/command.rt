@@ -16,6 +16,10 @@ pub enum Command {
     Info(Option<u16>, u64),
     /// Packets in, those of one APID out; if there is the number of an image, those of that image alone. The wish has no cap on pixels.
     Pick(DecodeWish, Option<u16>),
+    /// A raster in, its bare stream out. The height is known before, and there is no total.
+    BareEncode(Setting),
+    /// A bare stream in, its picture out. The wish has no APID of its own.
+    BareDecode(DecodeWish),
     Make(MadeImage),
     /// A setting, and the seed of the made image.
     Trial(Setting, u32),

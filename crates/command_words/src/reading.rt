@@ -4,7 +4,7 @@ ghost use Rattle.command_words.specs.declared.command.Command.{Command};
 ghost use Rattle.command_words.specs.declared.command.WordFault.{WordFault};
 ghost use Rattle.command_words.specs.Words.{texts, Says, IsPlaced};
 ghost use Rattle.command_words.specs.Tables.{given_number, command_of};
-ghost use Rattle.command_words.specs.Commands.{made, first_missing, first_refused, field_of, IsInRange};
+ghost use Rattle.command_words.specs.Commands.{made, first_missing, first_refused, field_of, LacksTotal, IsInRange};
 ghost use Rattle.command_words.specs.Given.{finds_of};
 
 use crate::command::{Command, WordFault};
@@ -58,6 +58,8 @@ fn command_of(task: Task, given: &Given) -> Command
         Task::Read(reading) => Command::Read(reading, given.wish()),
         Task::Info => Command::Info(given_number(given, Key::Apid), given.cap(Key::Octets)),
         Task::Pick => Command::Pick(given.wish(), given_number(given, Key::Image)),
+        Task::BareEncode => Command::BareEncode(given.setting()),
+        Task::BareDecode => Command::BareDecode(given.wish()),
         Task::Make => Command::Make(given.made_image()),
         Task::Trial => Command::Trial(given.setting(), given.number(Key::Seed)),
     }
@@ -65,6 +67,7 @@ fn command_of(task: Task, given: &Given) -> Command
 
 // The command of these values, where they make one.
 fn make_command(task: Task, keys: &[Key], given: &Given) -> Result<Command, WordFault>
+    requires { LacksTotal task (finds_of given.now) }
     ensures { result ≡ made task keys.now (finds_of given.now) }
 {
     if let Some(field) = field_of(first_missing(keys, given)) {

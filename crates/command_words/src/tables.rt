@@ -13,6 +13,8 @@ pub enum Task {
     Read(Reading),
     Info,
     Pick,
+    BareEncode,
+    BareDecode,
     Make,
     Trial,
 }
@@ -173,7 +175,7 @@ macro_rules! key_group {
 pub const GROUPS: [(&str, &[Key]); 4] = [
     key_group! { "what\n": Width Rows Depth Signed Seed },
     key_group! { "how much to keep\n": Limit Total Fill Stop Weights Select },
-    key_group! { "packets\n": Segment Word Apid Cameras Image Packet },
+    key_group! { "segments and packets\n": Segment Word Apid Cameras Image Packet },
     key_group! { "reading\n": Pixels Octets },
 ];
 
@@ -185,12 +187,12 @@ macro_rules! command_row {
 }
 
 /// The table of commands.
-pub const COMMANDS: [CommandRow; 11] = [
-    command_row! { "encode": Task::Encode, "raster in, space packets out, each as soon as the rows determine it",
+pub const COMMANDS: [CommandRow; 13] = [
+    command_row! { "encode": Task::Encode, "raster in, space packets out, each as soon as it is determined",
         Width Rows Depth Signed Segment Limit Fill Word Stop Weights Select Apid Image Packet Total },
-    command_row! { "mux": Task::Mux, "rows of cameras in, packets out, each as soon as the rows determine it",
+    command_row! { "mux": Task::Mux, "rows of cameras in, packets out, each as soon as it is determined",
         Width Rows Depth Signed Segment Limit Fill Word Stop Weights Select Apid Image Packet Total Cameras },
-    command_row! { "decode": Task::Read(Reading::Decode), "packets in, raster out, each row as soon as the packets determine it",
+    command_row! { "decode": Task::Read(Reading::Decode), "packets in, raster out, each row as soon as it is determined",
         Apid Pixels Octets },
     command_row! { "damage": Task::Read(Reading::Damage), "packets in, one line FIRST-LAST out for each range of damaged rows",
         Apid Pixels Octets },
@@ -200,13 +202,17 @@ pub const COMMANDS: [CommandRow; 11] = [
         Apid Pixels Octets },
     command_row! { "list": Task::Read(Reading::List), "packets in, one line out for each: its number and its fate",
         Apid Octets },
-    command_row! { "info": Task::Info, "packets in, one line out for each image, of all APIDs if none is given",
+    command_row! { "info": Task::Info, "packets in, one line out for each image, of one APID or of all",
         Apid Octets },
-    command_row! { "pick": Task::Pick, "packets in, those of an APID out, or of an image of it that is given",
+    command_row! { "pick": Task::Pick, "packets in, those of an APID out, or of one image of it",
         Apid Image Octets },
+    command_row! { "bare-encode": Task::BareEncode, "raster in, a bare stream out: segments without packets",
+        Width Rows Depth Signed Segment Limit Fill Word Stop Weights Select },
+    command_row! { "bare-decode": Task::BareDecode, "a bare stream in, raster out, each row as soon as it is determined",
+        Pixels Octets },
     command_row! { "make": Task::Make, "a made raster out; it reads no input",
         Width Rows Depth Signed Seed },
-    command_row! { "trial": Task::Trial, "encodes and decodes a made image in memory; one line out with the counts",
+    command_row! { "trial": Task::Trial, "encodes and decodes a made image in memory; a line of counts out",
         Width Rows Depth Signed Segment Limit Fill Word Stop Weights Select Apid Image Packet Total Seed },
 ];
 

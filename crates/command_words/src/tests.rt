@@ -263,6 +263,7 @@ fn only_encode_leaves_the_rows_open(rt: HostRuntime) -> Result<(), Fail> {
         ("trial width=17 rows=0", Field::Rows),
         ("make width=17 rows=0", Field::Rows),
         ("mux width=17 rows=0", Field::Rows),
+        ("bare-encode width=17 rows=0", Field::Rows),
     ] {
         assert_eq!(rt;
             said(&rt, text)?,
@@ -328,6 +329,42 @@ fn a_pick_may_have_an_image(rt: HostRuntime) -> Result<(), Fail> {
     assert_eq!(rt;
         said(&rt, "pick image=65536")?,
         Err(WordFault::OutOfRange(Field::Image))
+    );
+    Ok(())
+}
+
+#[test]
+fn a_bare_stream_has_no_packets(rt: HostRuntime) -> Result<(), Fail> {
+    let setting = Setting {
+        segment: 16,
+        limit: 40,
+        fill: true,
+        ..Setting::usual(17, 17)
+    };
+    let text = "bare-encode fill=1 limit=40 segment=16 width=17 rows=17";
+    assert_eq!(rt; said(&rt, text)?, Ok(Command::BareEncode(setting)));
+    let wish = DecodeWish {
+        pixels: 5,
+        octets: 9,
+        ..DecodeWish::usual()
+    };
+    let text = "bare-decode octets=9 pixels=5";
+    assert_eq!(rt; said(&rt, text)?, Ok(Command::BareDecode(wish)));
+    for key in ["apid=100", "image=0", "packet=64", "total=0"] {
+        let text = format!(in rt.alloc(); "bare-encode width=17 rows=17 {key}")?;
+        assert_eq!(rt;
+            said(&rt, text.as_str())?,
+            Err(WordFault::BadWord { place: 3 }),
+            "{key}"
+        );
+    }
+    assert_eq!(rt;
+        said(&rt, "bare-decode apid=100")?,
+        Err(WordFault::BadWord { place: 1 })
+    );
+    assert_eq!(rt;
+        said(&rt, "bare-encode width=17")?,
+        Err(WordFault::MissingKey(Field::Rows))
     );
     Ok(())
 }

@@ -6,12 +6,12 @@ use itoa::Buffer;
 use std::alloc::{AllocError, Global};
 
 // The column at which the commands of a key are listed, and that at which a line ends at the latest.
-const COMMANDS_AT: usize = 47;
+const COMMANDS_AT: usize = 45;
 
 const LINE_END: usize = 80;
 
 // The column at which it is told what a command does.
-const ABOUT_AT: usize = 8;
+const ABOUT_AT: usize = 13;
 
 /// What a user is told of all commands: a line for each.
 pub fn commands_usage(alloc: Global) -> Result<String, AllocError> {
@@ -88,7 +88,7 @@ fn push_range(text: &mut String, row: KeyRow) -> Result<(), AllocError> {
         Range::Limit => {
             text.push_str("0|")?;
             push_numbers(text, FieldRange::LIMIT)?;
-            text.push_str(", a multiple of word")
+            text.push_str(", multiple of word")
         }
         Range::Total => text.push_str("0|36n..2^40, n segments, no limit"),
         Range::Fill => text.push_str("0|1, 1 with a limit or a total"),

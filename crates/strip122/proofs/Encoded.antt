@@ -72,7 +72,7 @@ module _ (s : Setting) (answers : EncoderCauses) (given : List ℕ → List ℕ)
       by WriteFault k three = omega (arith, three)
 
   -- and nothing else is encoded
-  encoder_law : Law (encoder s answers given whole)
+  pub encoder_law : Law (encoder s answers given whole)
   encoder_law = record {
     ends = encoder_ends;
     right = right_raster;

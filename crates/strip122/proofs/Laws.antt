@@ -7,7 +7,7 @@ use Rattle.quick_look.specs.Looks.{LookAnswers, LookAsks}
 use Rattle.damage_rects.specs.Listing.{RectAnswers}
 use Rattle.command_words.specs.declared.tables.Reading.TheVariants.{Decode, Damage, Look, Rects, List}
 use Rattle.command_words.specs.declared.command.Command.{Command}
-use Rattle.command_words.specs.declared.command.Command.TheVariants.{Encode, Mux, Read, Info, Pick, Make, Trial}
+use Rattle.command_words.specs.declared.command.Command.TheVariants.{Encode, Mux, Read, Info, Pick, BareEncode, BareDecode, Make, Trial}
 use Rattle.strip122.specs.Decoding.{AsksFound}
 use Rattle.strip122.specs.Muxing.{camera_settings}
 use Rattle.strip122.specs.Run.{behaviour}
@@ -18,22 +18,26 @@ use Rattle.strip122.specs.Listing.{lister, picker, informer}
 use Rattle.strip122.proofs.Listed.{reader_law, list_reads, pick_reads, info_reads}
 use Rattle.strip122.proofs.PacketInputs.{picture_law}
 use Rattle.strip122.proofs.Encoded.{encode_law}
+use Rattle.bare_stream.specs.RoundTrip.{StreamsAreRead}
+use Rattle.strip122.proofs.BareRuns.{bare_encode_law, bare_decode_law}
 use Rattle.strip122.proofs.Muxed.{mux_law}
 use Rattle.strip122.proofs.Statuses.{make_law, try_law}
 
-pub law : (command : Command) → Law (behaviour command)
-law (Encode setting) = encode_law setting
-law (Mux setting cameras) = mux_law (camera_settings setting cameras)
-law (Read Decode wish) = picture_law wish (Answers wish) (Asks wish) (decode_says wish)
-law (Read Damage wish) = picture_law wish (FindAnswers wish) (AsksFound wish) (find_says wish)
-law (Read Look wish) = picture_law wish (LookAnswers wish) (LookAsks wish) (look_says wish)
-law (Read Rects wish) = picture_law wish (RectAnswers wish) (AsksFound wish) (rects_say wish)
-law (Read List wish) = reader_law (lister wish) (list_reads wish)
-law (Info apid octets) = let wish : InfoWish = record { apid = apid; octets = octets } in reader_law (informer wish) (info_reads wish)
-law (Pick wish image) = reader_law (picker wish image) (pick_reads wish image)
-law (Make made) = make_law made
-law (Trial setting seed) = try_law setting seed
+pub law : StreamsAreRead → (command : Command) → Law (behaviour command)
+law streams (Encode setting) = encode_law setting
+law streams (Mux setting cameras) = mux_law (camera_settings setting cameras)
+law streams (Read Decode wish) = picture_law wish (Answers wish) (Asks wish) (decode_says wish)
+law streams (Read Damage wish) = picture_law wish (FindAnswers wish) (AsksFound wish) (find_says wish)
+law streams (Read Look wish) = picture_law wish (LookAnswers wish) (LookAsks wish) (look_says wish)
+law streams (Read Rects wish) = picture_law wish (RectAnswers wish) (AsksFound wish) (rects_say wish)
+law streams (Read List wish) = reader_law (lister wish) (list_reads wish)
+law streams (Info apid octets) = let wish : InfoWish = record { apid = apid; octets = octets } in reader_law (informer wish) (info_reads wish)
+law streams (Pick wish image) = reader_law (picker wish image) (pick_reads wish image)
+law streams (BareEncode setting) = bare_encode_law setting
+law streams (BareDecode wish) = bare_decode_law streams wish
+law streams (Make made) = make_law made
+law streams (Trial setting seed) = try_law setting seed
 
 -- what follows for this status
-pub ends_at : (command : Command) (old new : Outside) (status n : ℕ) → (behaviour command).performs old new status → status ≡ n → AtStatus (behaviour command) old new n
-ends_at command old new status n run is = subst (AtStatus (behaviour command) old new) is ((law command).ends old new status run)
+pub ends_at : StreamsAreRead → (command : Command) (old new : Outside) (status n : ℕ) → (behaviour command).performs old new status → status ≡ n → AtStatus (behaviour command) old new n
+ends_at streams command old new status n run is = subst (AtStatus (behaviour command) old new) is ((law streams command).ends old new status run)

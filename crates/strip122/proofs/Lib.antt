@@ -15,4 +15,5 @@ pub mod Encoded
 pub mod CameraWorks
 pub mod Muxed
 pub mod Behaviours
+pub mod BareRuns
 pub mod Laws

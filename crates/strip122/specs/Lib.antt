@@ -6,6 +6,7 @@ pub mod Ran
 pub mod Behaviours
 pub mod Encoding
 pub mod Muxing
+pub mod BareStreams
 pub mod Listing
 pub mod Decoding
 pub mod Pictures

@@ -10,6 +10,8 @@ use Rattle.camera_mux.specs.declared.mux.MuxFault.{MuxFault}
 use Rattle.camera_mux.specs.declared.mux.MuxFault.TheVariants.{ReadFault as mux_read_failed, WriteFault as mux_write_failed, Short as mux_short, Long as mux_long, BadCamera, BadPixel as bad_camera_pixel}
 use Rattle.strip_decoder.specs.declared.decode.DecodeFault.{DecodeFault}
 use Rattle.strip_decoder.specs.declared.decode.DecodeFault.TheVariants.{ReadFault as read_failed, WriteFault as write_failed, NoSegment, TooManyPixels, LongInput, Memory}
+use Rattle.bare_stream.specs.declared.fault.BareFault.{BareFault}
+use Rattle.bare_stream.specs.declared.fault.BareFault.TheVariants.{ReadFault as bare_read_failed, WriteFault as bare_write_failed, TooManyPixels as bare_many_pixels, LongInput as bare_long, Refused, Memory as bare_memory}
 use Rattle.packet_list.specs.declared.list.ListFault.{ListFault}
 use Rattle.packet_list.specs.declared.list.ListFault.TheVariants.{ReadFault as list_read_failed, WriteFault as list_write_failed, LongInput as list_long, Memory as list_memory}
 use Rattle.command_words.specs.declared.command.WordFault.{WordFault}
@@ -112,6 +114,23 @@ decoder_fault_line LongInput = codes "strip122: input too long\n"
 decoder_fault_line read_failed = codes "strip122: read fault\n"
 decoder_fault_line write_failed = codes "strip122: write fault\n"
 decoder_fault_line Memory = memory_line
+
+-- the status and the note for each fault of the decoder of bare streams
+abbrev pub bare_fault_status : BareFault → ℕ
+bare_fault_status (Refused index cause) = 3
+bare_fault_status (bare_many_pixels pixels) = 3
+bare_fault_status bare_long = 3
+bare_fault_status bare_read_failed = 4
+bare_fault_status bare_write_failed = 5
+bare_fault_status bare_memory = 6
+
+abbrev pub bare_fault_line : BareFault → List ℕ
+bare_fault_line (Refused index cause) = codes "strip122: segment " ++ decimal index ++ codes " refused\n"
+bare_fault_line (bare_many_pixels pixels) = codes "strip122: too many pixels, " ++ decimal pixels ++ codes "\n"
+bare_fault_line bare_long = codes "strip122: input too long\n"
+bare_fault_line bare_read_failed = codes "strip122: read fault\n"
+bare_fault_line bare_write_failed = codes "strip122: write fault\n"
+bare_fault_line bare_memory = memory_line
 
 -- the status and the note for each fault of a list
 abbrev pub list_fault_status : ListFault → ℕ

@@ -4,7 +4,7 @@ use Rattle.port_122.specs.Outside.{Outside, Since, NoRead, Rose}
 use Rattle.base_122.specs.declared.setting.Setting.{Setting}
 use Rattle.raster_rows.specs.declared.made.MadeImage.{MadeImage}
 use Rattle.command_words.specs.declared.command.Command.{Command}
-use Rattle.command_words.specs.declared.command.Command.TheVariants.{Encode, Mux, Read, Info, Pick, Make, Trial}
+use Rattle.command_words.specs.declared.command.Command.TheVariants.{Encode, Mux, Read, Info, Pick, BareEncode, BareDecode, Make, Trial}
 use Rattle.command_words.specs.declared.command.WordFault.{WordFault}
 use Rattle.raster_rows.specs.Made.{made_value}
 use Rattle.strip122.specs.declared.trial.TrialDone.{TrialDone}
@@ -14,6 +14,7 @@ use Rattle.strip122.specs.Ran.{LacksMemory}
 use Rattle.strip122.specs.Behaviours.{Behaviour, Never, OnlyNotes}
 use Rattle.strip122.specs.Decoding.{reads}
 use Rattle.strip122.specs.Encoding.{encodes}
+use Rattle.strip122.specs.BareStreams.{encodes_bare, decodes_bare}
 use Rattle.strip122.specs.Listing.{reads_packets, picker, informer}
 use Rattle.strip122.specs.Muxing.{muxes, camera_settings}
 use Rattle.strip122.specs.Notes.{IsNoted, word_line}
@@ -101,6 +102,8 @@ behaviour (Mux setting cameras) = muxes (camera_settings setting cameras)
 behaviour (Read reading wish) = reads reading wish
 behaviour (Info apid octets) = reads_packets (informer (record { apid = apid; octets = octets }))
 behaviour (Pick wish image) = reads_packets (picker wish image)
+behaviour (BareEncode setting) = encodes_bare setting
+behaviour (BareDecode wish) = decodes_bare wish
 behaviour (Make made) = makes made
 behaviour (Trial setting seed) = tries setting seed
 

@@ -5,9 +5,11 @@ ghost use Rattle.camera_mux.specs.MuxProgress.{AreSettings, CanMux};
 ghost use Rattle.command_words.specs.Commands.{AreCameras};
 ghost use Rattle.strip122.specs.Notes.{fault_status, mux_fault_status};
 ghost use Rattle.strip122.specs.Encoding.{Encodes};
+ghost use Rattle.strip122.specs.BareStreams.{EncodesBare};
 ghost use Rattle.strip122.specs.Muxing.{Muxes, camera_settings};
 
 use crate::notes::{note_fault, note_line, note_mux_fault};
+use bare_stream::encode_bare;
 use base_122::Setting;
 use camera_mux::{MuxFault, cameras_are_kept, mux_rows};
 use port_122::Port;
@@ -47,6 +49,26 @@ pub fn encode<X: Port>(alloc: Global, setting: &Setting, port: &mut X) -> u8
         return 6;
     };
     match encode_rows(port, setting, &mut work) {
+        Ok(_) => 0,
+        Err(fault) => {
+            note_fault(port, fault);
+            fault_status(fault)
+        }
+    }
+}
+
+/// The command `bare-encode`. The memory is taken first, so if there is none nothing was read.
+pub fn bare_encode<X: Port>(alloc: Global, setting: &Setting, port: &mut X) -> u8
+    requires range { IsInRange setting.now }
+    requires height { IsWithin rows_range setting.now.rows }
+    requires no_total { setting.now.total ≡ 0 }
+    ensures { EncodesBare setting.now (X.outside port.old) (X.outside port.new) result }
+{
+    let Ok(mut work) = Work::new(alloc, setting) else {
+        note_line(port, "strip122: no memory\n");
+        return 6;
+    };
+    match encode_bare(port, setting, &mut work) {
         Ok(_) => 0,
         Err(fault) => {
             note_fault(port, fault);

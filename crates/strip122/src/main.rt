@@ -11,6 +11,7 @@ ghost use Rattle.strip122.specs.Run.{Runs};
 ghost use Rattle.strip122.specs.declared.Answer.{Answer};
 ghost use Rattle.strip122.specs.Answers.{IsAnswer, words_fault};
 
+mod bare;
 mod damage_notes;
 mod encoders;
 mod make;

@@ -2,9 +2,10 @@
 ghost use Rattle.std.specs.Prelude.{◌≡◌, ◌<◌, ◌++◌, length, codes, decimal};
 ghost use Rattle.std.specs.Fmt.{signed_decimal};
 ghost use Rattle.command_words.specs.Words.{texts, IsPlaced};
-ghost use Rattle.strip122.specs.Notes.{Notes, word_at, field_text, word_line, short_line, fault_line, mux_fault_line, decoder_fault_line, list_fault_line};
+ghost use Rattle.strip122.specs.Notes.{Notes, word_at, field_text, word_line, short_line, fault_line, mux_fault_line, decoder_fault_line, bare_fault_line, list_fault_line};
 
 use arrayvec::ArrayString;
+use bare_stream::BareFault;
 use base_122::Field;
 use camera_mux::MuxFault;
 use command_words::WordFault;
@@ -196,6 +197,30 @@ pub fn note_decoder_fault<X: Port>(port: &mut X, fault: DecodeFault)
         DecodeFault::ReadFault => note_line(port, "strip122: read fault\n"),
         DecodeFault::WriteFault => note_line(port, "strip122: write fault\n"),
         DecodeFault::Memory => note_line(port, "strip122: no memory\n"),
+    }
+}
+
+fn segment_line(index: u32) -> Line
+    ensures { result.bytes ≡ codes "strip122: segment " ++ decimal index ++ codes " refused\n" }
+{
+    let mut line = ArrayString::new();
+    line.push_str("strip122: segment ");
+    line.push_str(Buffer::new().format(index));
+    line.push_str(" refused\n");
+    line
+}
+
+/// Notes a fault of the decoder of bare streams.
+pub fn note_bare_fault<X: Port>(port: &mut X, fault: BareFault)
+    ensures { Notes (X.outside port.old) (X.outside port.new) (bare_fault_line fault) }
+{
+    match fault {
+        BareFault::Refused { index, .. } => note_line(port, segment_line(index).as_str()),
+        BareFault::TooManyPixels { pixels } => note_line(port, pixels_line(pixels).as_str()),
+        BareFault::LongInput => note_line(port, "strip122: input too long\n"),
+        BareFault::ReadFault => note_line(port, "strip122: read fault\n"),
+        BareFault::WriteFault => note_line(port, "strip122: write fault\n"),
+        BareFault::Memory => note_line(port, "strip122: no memory\n"),
     }
 }
 

@@ -1,4 +1,5 @@
 // Tests of whole runs.
+mod bare;
 mod endless;
 mod faults;
 mod heights;

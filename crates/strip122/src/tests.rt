@@ -7,17 +7,19 @@ const HELP: &str = "\
 usage: strip122 COMMAND [KEY=VALUE ..]
        strip122 help | version
 
-encode  raster in, space packets out, each as soon as the rows determine it
-mux     rows of cameras in, packets out, each as soon as the rows determine it
-decode  packets in, raster out, each row as soon as the packets determine it
-damage  packets in, one line FIRST-LAST out for each range of damaged rows
-rects   packets in, one line ROWS COLUMNS out for each damaged rectangle
-look    packets in, a small picture out, with one value for each block
-list    packets in, one line out for each: its number and its fate
-info    packets in, one line out for each image, of all APIDs if none is given
-pick    packets in, those of an APID out, or of an image of it that is given
-make    a made raster out; it reads no input
-trial   encodes and decodes a made image in memory; one line out with the counts
+encode       raster in, space packets out, each as soon as it is determined
+mux          rows of cameras in, packets out, each as soon as it is determined
+decode       packets in, raster out, each row as soon as it is determined
+damage       packets in, one line FIRST-LAST out for each range of damaged rows
+rects        packets in, one line ROWS COLUMNS out for each damaged rectangle
+look         packets in, a small picture out, with one value for each block
+list         packets in, one line out for each: its number and its fate
+info         packets in, one line out for each image, of one APID or of all
+pick         packets in, those of an APID out, or of one image of it
+bare-encode  raster in, a bare stream out: segments without packets
+bare-decode  a bare stream in, raster out, each row as soon as it is determined
+make         a made raster out; it reads no input
+trial        encodes and decodes a made image in memory; a line of counts out
 
 A raster has its rows from the top. A pixel has one octet if depth is at most 8,
 else two, the higher first. With rows=0, encode takes rows until the input ends.
@@ -29,30 +31,31 @@ the commands that have the key. pick has no default for image, and info none for
 apid.
 
 what
-  width=17..1048575 (required)                  encode mux make trial
-  rows=0|17..262144, 0 for encode (required)    encode mux make trial
-  depth=1..16 (8)                               encode mux make trial
-  signed=0|1 (0)                                encode mux make trial
-  seed=0..4294967295 (0)                        make trial
+  width=17..1048575 (required)                encode mux bare-encode make trial
+  rows=0|17..262144, 0 for encode (required)  encode mux bare-encode make trial
+  depth=1..16 (8)                             encode mux bare-encode make trial
+  signed=0|1 (0)                              encode mux bare-encode make trial
+  seed=0..4294967295 (0)                      make trial
 how much to keep
-  limit=0|32..134217724, a multiple of word (0) encode mux trial
-  total=0|36n..2^40, n segments, no limit (0)   encode mux trial
-  fill=0|1, 1 with a limit or a total (0)       encode mux trial
-  stop=dc|P.S, P 0..27, S 0..3 (0.3)            encode mux trial
-  weights=ten digits 0..3 (0111222333)          encode mux trial
-  select=heuristic|optimal (optimal)            encode mux trial
-packets
-  segment=16..1048575 (64)                      encode mux trial
-  word=1..4 (1)                                 encode mux trial
-  apid=0..2046 (100)                            encode mux decode damage rects
-                                                look list info pick trial
-  cameras=1..16, with APIDs from apid on (1)    mux
-  image=0..65535 (0)                            encode mux pick trial
-  packet=64..65536 (1024)                       encode mux trial
+  limit=0|32..134217724, multiple of word (0) encode mux bare-encode trial
+  total=0|36n..2^40, n segments, no limit (0) encode mux trial
+  fill=0|1, 1 with a limit or a total (0)     encode mux bare-encode trial
+  stop=dc|P.S, P 0..27, S 0..3 (0.3)          encode mux bare-encode trial
+  weights=ten digits 0..3 (0111222333)        encode mux bare-encode trial
+  select=heuristic|optimal (optimal)          encode mux bare-encode trial
+segments and packets
+  segment=16..1048575 (64)                    encode mux bare-encode trial
+  word=1..4 (1)                               encode mux bare-encode trial
+  apid=0..2046 (100)                          encode mux decode damage rects
+                                              look list info pick trial
+  cameras=1..16, with APIDs from apid on (1)  mux
+  image=0..65535 (0)                          encode mux pick trial
+  packet=64..65536 (1024)                     encode mux trial
 reading
-  pixels=0..1099511627776 (4294967296)          decode damage rects look
-  octets=1..1099511627776 (1099511627776)       decode damage rects look list
-                                                info pick
+  pixels=0..1099511627776 (4294967296)        decode damage rects look
+                                              bare-decode
+  octets=1..1099511627776 (1099511627776)     decode damage rects look list info
+                                              pick bare-decode
 
 status  0 done, 1 rows are damaged, the height is unknown or the packets can't
         be read on, 2 bad words, 3 bad input, 4 read fault, 5 write fault,

@@ -11,14 +11,17 @@ ghost use Rattle.command_words.specs.Words.{texts, Says, IsPlaced};
 ghost use Rattle.command_words.specs.Commands.{IsInRange};
 ghost use Rattle.base_122.specs.declared.wish.DecodeWish.{DecodeWish};
 ghost use Rattle.strip122.specs.Pictures.{GaveLook, GavePicture};
+ghost use Rattle.strip122.specs.BareStreams.{GaveBare};
 ghost use Rattle.strip122.specs.Behaviours.{IsSteady, Completes};
 ghost use Rattle.strip122.specs.Run.{Refuses, Makes, Tries, Runs, behaviour};
 
-use crate::encoders::{encode, mux};
+use crate::bare::bare_decode;
+use crate::encoders::{bare_encode, encode, mux};
 use crate::make::write_made;
 use crate::notes::{note_line, note_refusal};
 use crate::packets::{info, pick, read};
 use crate::trial::{give_trial, run_trial};
+use bare_stream::{bare_round_trip, bare_streams_are_read};
 use base_122::Setting;
 use camera_defs::picking_keeps;
 use command_words::{Command, WordFault, read_words};
@@ -83,6 +86,8 @@ fn perform<X: Port>(alloc: Global, command: &Command, port: &mut X) -> u8
         Command::Read(reading, wish) => read(alloc, *reading, wish, port),
         Command::Info(apid, octets) => info(alloc, *apid, *octets, port),
         Command::Pick(wish, image) => pick(alloc, wish, *image, port),
+        Command::BareEncode(setting) => bare_encode(alloc, setting, port),
+        Command::BareDecode(wish) => bare_decode(alloc, wish, port),
         Command::Make(made) => make(made, port),
         Command::Trial(setting, seed) => trial(alloc, setting, *seed, port),
     }
@@ -124,12 +129,18 @@ pub fn run<X: Port>(alloc: Global, words: &[String], port: &mut X) -> u8
     // A look at all packets of an image has the coefficients of its lowest subband.
     ensures look { (wish : DecodeWish) → Says (texts words.now) (Ok (Command.Read Reading.Look wish)) → (result ≡ 0) ⊎ (result ≡ 1) →
         GaveLook wish (X.outside port.old) (X.outside port.new) }
+
+    // The picture of an image's bare stream is the image.
+    ensures bare_picture { (wish : DecodeWish) → Says (texts words.now) (Ok (Command.BareDecode wish)) → result ≡ 0 →
+        GaveBare wish (X.outside port.old) (X.outside port.new) }
 {
     picking_keeps();
     decoding_stays_in_rects();
     looks_are_of_images();
     decoding_contains();
     round_trip();
+    bare_streams_are_read();
+    bare_round_trip();
     match read_words(words) {
         Ok(command) => perform(alloc, &command, port),
         Err(fault) => refuse(words, fault, port),

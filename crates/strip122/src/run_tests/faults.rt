@@ -99,6 +99,16 @@ fn encoding_and_decoding(rt: HostRuntime) -> Result<(), Fail> {
 }
 
 #[test]
+fn bare_streams(rt: HostRuntime) -> Result<(), Fail> {
+    let stream = done(&rt, "bare-encode width=17 rows=17", &[0; 289])?;
+    for piece in [1, 7, WHOLE] {
+        fail_each(&rt, "bare-encode width=17 rows=17", &[0; 289], piece)?;
+        fail_each(&rt, "bare-decode", &stream, piece)?;
+    }
+    Ok(())
+}
+
+#[test]
 fn decoding_without_the_last_segment(rt: HostRuntime) -> Result<(), Fail> {
     let given = done(&rt, "encode width=64 rows=0 segment=16", &[0; 3072])?;
     assert_eq!(rt; given.len(), 154);

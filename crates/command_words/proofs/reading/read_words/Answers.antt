@@ -9,7 +9,12 @@ use Rattle.command_words.proofs.WordLists.{first_word}
 use Rattle.command_words.proofs.OneMeaning.{says_one, says_first, says_rest}
 use Rattle.command_words.proofs.Places.{words_placed}
 use Rattle.command_words.proofs.Made.{made_in_range}
+use Rattle.command_words.proofs.OwnKeys.{lacks_total}
 use Rattle.command_words.proofs.reading.read_words.Goals as goal
+
+pub make_command-requires : goal.make_command-requires
+make_command-requires c = lacks_total (string_bytes c.first-item.result) c.in-Some.task c.in-Some.keys.now _ (finds_of c.in-Ok.given)
+    (ap command_named (sym c.as_str.ensures.value) ∙ c.in-Some.ensures) c.in-Ok.ensures
 
 pub returns-in_default-command_named-clause-only : goal.returns-in_default-command_named-clause-only
 returns-in_default-command_named-clause-only c said says =
@@ -27,7 +32,9 @@ returns-in-Ok-clause-only c said says =
 
 pub returns-in-Ok-clause-range : goal.returns-in-Ok-clause-range
 returns-in-Ok-clause-range c =
-    subst (λ made. IfOk made IsInRange) (sym c.make_command.ensures) (made_in_range c.in-Some.task c.in-Some.keys.now (finds_of c.in-Ok.given))
+    subst (λ made. IfOk made IsInRange) (sym c.make_command.ensures) (made_in_range c.in-Some.task c.in-Some.keys.now (finds_of c.in-Ok.given)
+    (lacks_total (string_bytes c.first-item.result) c.in-Some.task c.in-Some.keys.now _ (finds_of c.in-Ok.given)
+    (ap command_named (sym c.as_str.ensures.value) ∙ c.in-Some.ensures) c.in-Ok.ensures))
 
 pub returns-in-Ok-clause-place : goal.returns-in-Ok-clause-place
 returns-in-Ok-clause-place c =

@@ -1,9 +1,10 @@
 use Rattle.std.proofs.Common.{◌≡◌, sym, subst}
 use Rattle.std.specs.Prelude.{Ok}
-use Rattle.command_words.specs.declared.command.Command.TheVariants.{Read}
+use Rattle.command_words.specs.declared.command.Command.TheVariants.{Read, BareDecode}
 use Rattle.command_words.specs.declared.tables.Reading.TheVariants.{Decode, Look}
 use Rattle.command_words.specs.Words.{texts, Says}
 use Rattle.strip122.specs.Run.{behaviour}
+use Rattle.strip122.proofs.BareRuns.{gave_bare}
 use Rattle.strip122.proofs.Behaviours.{completes, refused}
 use Rattle.strip122.proofs.GavePictures.{gave_look, gave_picture}
 use Rattle.strip122.proofs.Laws.{law, ends_at}
@@ -11,47 +12,47 @@ use Rattle.strip122.proofs.top.run.Goals as goal
 
 pub returns-in-Ok-clause-done : goal.returns-in-Ok-clause-done
 returns-in-Ok-clause-done g c zero =
-    (c.in-Ok.command, subst (Says (texts c.args.words.now)) c.in-Ok.is c.read_words.ensures.says, ends_at c.in-Ok.command _ _ c.perform.result 0 c.perform.ensures zero)
+    (c.in-Ok.command, subst (Says (texts c.args.words.now)) c.in-Ok.is c.read_words.ensures.says, ends_at c.bare_streams_are_read.ensures c.in-Ok.command _ _ c.perform.result 0 c.perform.ensures zero)
 
 pub returns-in-Ok-clause-refused : goal.returns-in-Ok-clause-refused
 returns-in-Ok-clause-refused g c = (
-  λ two. absurd (ends_at c.in-Ok.command _ _ c.perform.result 2 c.perform.ensures two),
+  λ two. absurd (ends_at c.bare_streams_are_read.ensures c.in-Ok.command _ _ c.perform.result 2 c.perform.ensures two),
   λ (fault, says). absurd (let e = c.read_words.ensures.only _ says in let f = c.in-Ok.is in cc),
 )
 
 pub returns-in-Ok-clause-part : goal.returns-in-Ok-clause-part
 returns-in-Ok-clause-part g c one =
-    (c.in-Ok.command, subst (Says (texts c.args.words.now)) c.in-Ok.is c.read_words.ensures.says, ends_at c.in-Ok.command _ _ c.perform.result 1 c.perform.ensures one)
+    (c.in-Ok.command, subst (Says (texts c.args.words.now)) c.in-Ok.is c.read_words.ensures.says, ends_at c.bare_streams_are_read.ensures c.in-Ok.command _ _ c.perform.result 1 c.perform.ensures one)
 
 pub returns-in-Ok-clause-input_refused : goal.returns-in-Ok-clause-input_refused
 returns-in-Ok-clause-input_refused g c three =
-    (c.in-Ok.command, subst (Says (texts c.args.words.now)) c.in-Ok.is c.read_words.ensures.says, ends_at c.in-Ok.command _ _ c.perform.result 3 c.perform.ensures three)
+    (c.in-Ok.command, subst (Says (texts c.args.words.now)) c.in-Ok.is c.read_words.ensures.says, ends_at c.bare_streams_are_read.ensures c.in-Ok.command _ _ c.perform.result 3 c.perform.ensures three)
 
 pub returns-in-Ok-clause-read_fault : goal.returns-in-Ok-clause-read_fault
-returns-in-Ok-clause-read_fault g c four = ends_at c.in-Ok.command _ _ c.perform.result 4 c.perform.ensures four
+returns-in-Ok-clause-read_fault g c four = ends_at c.bare_streams_are_read.ensures c.in-Ok.command _ _ c.perform.result 4 c.perform.ensures four
 
 pub returns-in-Ok-clause-write_fault : goal.returns-in-Ok-clause-write_fault
-returns-in-Ok-clause-write_fault g c five = ends_at c.in-Ok.command _ _ c.perform.result 5 c.perform.ensures five
+returns-in-Ok-clause-write_fault g c five = ends_at c.bare_streams_are_read.ensures c.in-Ok.command _ _ c.perform.result 5 c.perform.ensures five
 
 pub returns-in-Ok-clause-no_memory : goal.returns-in-Ok-clause-no_memory
 returns-in-Ok-clause-no_memory g c six =
-    (c.in-Ok.command, subst (Says (texts c.args.words.now)) c.in-Ok.is c.read_words.ensures.says, ends_at c.in-Ok.command _ _ c.perform.result 6 c.perform.ensures six)
+    (c.in-Ok.command, subst (Says (texts c.args.words.now)) c.in-Ok.is c.read_words.ensures.says, ends_at c.bare_streams_are_read.ensures c.in-Ok.command _ _ c.perform.result 6 c.perform.ensures six)
 
 pub returns-in-Ok-clause-complete : goal.returns-in-Ok-clause-complete
 returns-in-Ok-clause-complete g c command says input steady =
     let same : command ≡ c.in-Ok.command = let e = c.read_words.ensures.only (Ok command) says in let f = c.in-Ok.is in cc in
     completes (behaviour command) _ _ c.perform.result
-    ((law command).ends _ _ c.perform.result
+    ((law c.bare_streams_are_read.ensures command).ends _ _ c.perform.result
     (subst (λ k. (behaviour k).performs (g.X.Port.outside c.args.port.now) (g.X.Port.outside c.perform.new.port) c.perform.result) (sym same) c.perform.ensures))
-    ((law command).right _ _ input) steady
+    ((law c.bare_streams_are_read.ensures command).right _ _ input) steady
 
 pub returns-in-Ok-clause-wrong_input : goal.returns-in-Ok-clause-wrong_input
 returns-in-Ok-clause-wrong_input g c command says input steady =
     let same : command ≡ c.in-Ok.command = let e = c.read_words.ensures.only (Ok command) says in let f = c.in-Ok.is in cc in
     refused (behaviour command) _ _ c.perform.result
-    ((law command).ends _ _ c.perform.result
+    ((law c.bare_streams_are_read.ensures command).ends _ _ c.perform.result
     (subst (λ k. (behaviour k).performs (g.X.Port.outside c.args.port.now) (g.X.Port.outside c.perform.new.port) c.perform.result) (sym same) c.perform.ensures))
-    ((law command).wrong_whole _ _ input) ((law command).wrong_part _ _ input) steady
+    ((law c.bare_streams_are_read.ensures command).wrong_whole _ _ input) ((law c.bare_streams_are_read.ensures command).wrong_part _ _ input) steady
 
 pub returns-in-Err-clause-complete : goal.returns-in-Err-clause-complete
 returns-in-Err-clause-complete g c command says input steady =
@@ -80,3 +81,13 @@ returns-in-Ok-clause-look g c wish says given =
 pub returns-in-Err-clause-look : goal.returns-in-Err-clause-look
 returns-in-Err-clause-look g c wish says given =
     absurd (let e = c.read_words.ensures.only (Ok (Read Look wish)) says in let f = c.in-Err.is in cc)
+
+pub returns-in-Ok-clause-bare_picture : goal.returns-in-Ok-clause-bare_picture
+returns-in-Ok-clause-bare_picture g c wish says zero =
+    let same : BareDecode wish ≡ c.in-Ok.command = let e = c.read_words.ensures.only (Ok (BareDecode wish)) says in let f = c.in-Ok.is in cc in
+    gave_bare c.bare_round_trip.ensures wish _ _ c.perform.result
+    (subst (λ k. (behaviour k).performs (g.X.Port.outside c.args.port.now) (g.X.Port.outside c.perform.new.port) c.perform.result) (sym same) c.perform.ensures) zero
+
+pub returns-in-Err-clause-bare_picture : goal.returns-in-Err-clause-bare_picture
+returns-in-Err-clause-bare_picture g c wish says zero =
+    absurd (let e = c.read_words.ensures.only (Ok (BareDecode wish)) says in let f = c.in-Err.is in cc)

@@ -1,0 +1,8 @@
+use Rattle.strip122.proofs.BareRuns.{bare_lacks_memory, bare_encoded, bare_encode_failed}
+use Rattle.strip122.proofs.encoders.bare_encode.Goals as goal
+
+pub returns-in_default : goal.returns-in_default
+returns-in_default g c = bare_lacks_memory c.args.setting.now _ _ c.note_line.ensures
+
+pub returns : goal.returns
+returns g c = bare_encode_failed c.args.setting.now _ _ _ c.in-Err.fault c.fault_status.result c.in-Err.ensures.encodes c.note_fault.ensures c.fault_status.ensures

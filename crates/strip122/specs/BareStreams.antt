@@ -1,0 +1,132 @@
+-- What a run of `bare-encode` and `bare-decode` leaves. This project's own.
+use Rattle.std.specs.Prelude.{◌≡◌, ◌≤◌, ℕ, ℤ, List, [], length, Option, Some, Result, Ok, Err}
+use Rattle.port_122.specs.Outside.{Outside, GivenBy, Since, AtEnd}
+use Rattle.base_122.specs.declared.geometry.Geometry.{Geometry}
+use Rattle.base_122.specs.declared.setting.Setting.{Setting}
+use Rattle.base_122.specs.declared.wish.DecodeWish.{DecodeWish}
+use Rattle.strip_coder.specs.Rasters.{image_of}
+use Rattle.strip_coder.specs.Answers.{TookRaster}
+use Rattle.bare_stream.specs.Bare.{bare}
+use Rattle.bare_stream.specs.Rasters.{texts_for}
+use Rattle.bare_stream.specs.Answers.{BareAnswers}
+use Rattle.bare_stream.specs.BareStream.{BareStream}
+use Rattle.bare_stream.specs.Images.{IsBareImage}
+use Rattle.bare_stream.specs.RoundTrip.{IsWithinCaps, GivesImage}
+use Rattle.bare_stream.specs.SegmentsRead.{SegmentsRead, Told, all_rows}
+use Rattle.bare_stream.specs.Decoded.{BareReasons, GivesRead, EndsSo, AsksRead}
+use Rattle.bare_stream.specs.declared.fault.BareFault.{BareFault}
+use Rattle.strip122.specs.Notes.{IsNoted, bare_fault_status, bare_fault_line}
+use Rattle.strip122.specs.Ran.{Asking, Ran, CausedWithin}
+use Rattle.strip122.specs.Behaviours.{Behaviour, Never}
+use Rattle.strip122.specs.Encoding.{RunsEncoder, encoder}
+
+-- ---- `bare-encode`
+
+-- one run: at a read call the texts of the settled segments are given
+abbrev pub EncodesBare : Setting → (old new : Outside) (status : ℕ) → Type 0
+EncodesBare setting = RunsEncoder (BareAnswers setting) (texts_for setting)
+
+-- The whole raster was taken and the end read, and the bare stream of its image is given.
+pub record EncodedBare (setting : Setting) (old new : Outside) : Type 0 where
+  pub took : List ℕ
+  pub since : Since old new took (bare setting (image_of setting took)) [] (GivenBy (texts_for setting) took)
+  pub raster : TookRaster setting setting.rows took
+  pub ended : AtEnd new
+
+abbrev pub encodes_bare : Setting → Behaviour
+encodes_bare setting = encoder setting (BareAnswers setting) (texts_for setting) (EncodedBare setting)
+
+-- ---- `bare-decode`: all that a run leaves
+
+-- the status and the note for each answer
+abbrev pub bare_status : Result Geometry BareFault → ℕ
+bare_status (Ok g) = 0
+bare_status (Err fault) = bare_fault_status fault
+
+abbrev pub bare_line : Result Geometry BareFault → List ℕ
+bare_line (Ok g) = []
+bare_line (Err fault) = bare_fault_line fault
+
+-- Why it was answered so, where these segments were read: what is given, how it ended, and the reason.
+pub record BareCauses (wish : DecodeWish) (read : Option SegmentsRead) (old new : Outside) (took gave : List ℕ) (answer : Result Geometry BareFault) : Type 0 where
+  pub gives : GivesRead answer gave read
+  pub ends : EndsSo answer old new
+  pub reason : Told old (BareReasons wish new took read answer)
+
+-- what is done at a read call: exactly the rows are given that the segments so far determine
+abbrev pub AsksBare : Option SegmentsRead → Asking
+AsksBare read old took gave = AsksRead read gave
+
+-- one run, with the segments that were read
+abbrev pub DecodesStream : DecodeWish → (old new : Outside) (status : ℕ) → Type 0
+DecodesStream wish old new status =
+    (read : Option SegmentsRead) × Ran (CausedWithin wish.octets (BareCauses wish read)) (AsksBare read) bare_status bare_line old new status
+
+-- ---- what follows for one status
+
+-- The octets are a bare stream of this geometry, within the caps: they are fewer than may be taken, and their image has no more pixels than
+-- are wished. Then no header of theirs reports more.
+pub record IsStreamOf (wish : DecodeWish) (octets : List ℕ) (g : Geometry) : Type 0 where
+  pub blocks : List (List (List ℤ))
+  pub stream : BareStream octets g blocks
+  pub caps : IsWithinCaps wish octets g
+
+-- a bare stream within the caps was taken, and the picture of all its segments is given
+abbrev pub GivesPicture : DecodeWish → (took gave : List ℕ) → Geometry → Type 0
+GivesPicture wish took gave g = (is : IsStreamOf wish took g) × (gave ≡ all_rows g is.blocks)
+
+-- A bare stream was read to the end of the input, and its picture is given.
+pub record DecodedBare (wish : DecodeWish) (old new : Outside) : Type 0 where
+  pub g : Geometry
+  pub took : List ℕ
+  pub gave : List ℕ
+  pub read : Option SegmentsRead
+  pub since : Since old new took gave [] (AsksRead read gave)
+  pub ended : AtEnd new
+  pub picture : Told old (GivesPicture wish took gave g)
+
+-- The decoder refused its input: the cause and the note name the same fault.
+pub record BareRefuses (wish : DecodeWish) (old new : Outside) : Type 0 where
+  pub fault : BareFault
+  pub took : List ℕ
+  pub gave : List ℕ
+  pub wrote : List ℕ
+  pub read : Option SegmentsRead
+  pub since : Since old new took gave wrote (AsksRead read gave)
+  pub within : length took ≤ wish.octets
+  pub input : bare_fault_status fault ≡ 3
+  pub cause : BareCauses wish read old new took gave (Err fault)
+  pub noted : IsNoted old new wrote (bare_fault_line fault)
+
+-- there is no memory for the decoder: nothing is given
+pub record BareLacksMemory (wish : DecodeWish) (old new : Outside) : Type 0 where
+  pub took : List ℕ
+  pub wrote : List ℕ
+  pub read : Option SegmentsRead
+  pub since : Since old new took [] wrote (AsksRead read [])
+  pub within : length took ≤ wish.octets
+
+-- ---- the behaviour
+
+-- it takes a bare stream within the caps, and no other octets
+abbrev pub decodes_bare : DecodeWish → Behaviour
+decodes_bare wish = record {
+  performs = DecodesStream wish;
+  whole = DecodedBare wish;
+  part = Never;
+  refuses = BareRefuses wish;
+  nothing = BareLacksMemory wish;
+  right = λ old. (input : List ℕ) × (old.rest ≡ Some input) × (g : Geometry) × IsStreamOf wish input g;
+  wrong = λ old. (input : List ℕ) × (old.rest ≡ Some input) × ((g : Geometry) → IsStreamOf wish input g → ⊥);
+}
+
+-- ---- the round trip
+
+-- A picture was given. If the stream is that of an image from which nothing was left out, what is given is the image's raster.
+pub record GaveBare (wish : DecodeWish) (old new : Outside) : Type 0 where
+  pub g : Geometry
+  pub took : List ℕ
+  pub gave : List ℕ
+  pub read : Option SegmentsRead
+  pub since : Since old new took gave [] (AsksRead read gave)
+  pub back : Told old ((s : Setting) (x : ℕ → ℕ → ℤ) → IsBareImage s x → took ≡ bare s x → GivesImage s x gave g)

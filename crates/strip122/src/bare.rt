@@ -1,0 +1,34 @@
+// The command that reads a bare stream.
+ghost use Rattle.std.specs.Prelude.{◌≡◌};
+ghost use Rattle.strip122.specs.Notes.{bare_fault_status};
+ghost use Rattle.strip122.specs.BareStreams.{DecodesStream};
+
+use crate::notes::note_bare_fault;
+use bare_stream::{BareFault, decode_bare};
+use base_122::DecodeWish;
+use port_122::Port;
+use std::alloc::Global;
+
+fn bare_fault_status(fault: BareFault) -> u8
+    ensures { result ≡ bare_fault_status fault }
+{
+    match fault {
+        BareFault::LongInput | BareFault::TooManyPixels { .. } | BareFault::Refused { .. } => 3,
+        BareFault::ReadFault => 4,
+        BareFault::WriteFault => 5,
+        BareFault::Memory => 6,
+    }
+}
+
+/// The command `bare-decode`: a bare stream in, its picture out. If there is no memory nothing is given.
+pub fn bare_decode<X: Port>(alloc: Global, wish: &DecodeWish, port: &mut X) -> u8
+    ensures { DecodesStream wish.now (X.outside port.old) (X.outside port.new) result }
+{
+    match decode_bare(alloc, port, wish) {
+        Ok(_) => 0,
+        Err(fault) => {
+            note_bare_fault(port, fault);
+            bare_fault_status(fault)
+        }
+    }
+}
