@@ -13,6 +13,7 @@ use Rattle.item_defs.specs.Padding.{padding, padded}
 use Rattle.item_defs.proofs.BitLists.{length-copies}
 use Rattle.item_defs.proofs.OctetBits.{length-octets_of}
 use Rattle.item_defs.proofs.Rounding.{rounded_bounds}
+use Rattle.plane_defs.specs.Profile.{profile}
 use Rattle.segment_defs.specs.declared.head.SegmentHead.{SegmentHead}
 use Rattle.segment_defs.specs.Coded.{chosen_options, coded, coded_bits}
 use Rattle.segment_defs.specs.Depths.{block_depths}
@@ -23,7 +24,8 @@ use Rattle.segment_defs.specs.Text.{text_octets}
 use Rattle.segment_head.proofs.WrittenFields.{octets_of-append}
 use Rattle.segment_head.proofs.WrittenHeads.{head_undoes, length-head_bits}
 use Rattle.segment_code.specs.Laws.{TextsAreShort}
-use Rattle.segment_code.proofs.CodedOptions.{numbers_are}
+use Rattle.segment_code.proofs.ProfileSound.{profile_sound}
+use Rattle.segment_code.proofs.CodedOptions.{words_are, numbers_are}
 use Rattle.packet_assembly.proofs.HeadLengths.{head_within}
 use Rattle.packet_defs.specs.Packets.{part_of, part_size}
 use Rattle.stream_defs.specs.Output.{head_for, image_blocks, segment_of, segment_text, segments_of}
@@ -63,13 +65,13 @@ take_less m n xs = elim (cases_lt n m) [
 
 module _ (h : SegmentHead) (blocks : List (List ℤ)) (ok : IsHead h) (ten : length h.image.weights.shifts ≡ 10) (small : h.count < 256) where
   abbrev bits : List Bool
-  bits = coded_bits h blocks
+  bits = coded_bits profile h blocks
 
   abbrev zeros : List Bool
   zeros = copies (padding h.image.word h.limit h.fill (length bits)) false
 
   abbrev after : List Bool
-  after = text (segment_items h blocks (block_depths blocks) (chosen_options h blocks)) ++ zeros
+  after = text (segment_items h blocks (block_depths blocks) (chosen_options profile h blocks)) ++ zeros
 
   abbrev all : List ℕ
   all = octets_of (padded h.image.word h.limit h.fill bits)
@@ -84,7 +86,7 @@ module _ (h : SegmentHead) (blocks : List (List ℤ)) (ok : IsHead h) (ten : len
       let k : ℕ = m - n in
       let most = head_most h.last in
       let whole : m ≡ length (octets_of hb) + k = omega (arith, octets_long, some, most) in
-      let parts : all ≡ octets_of hb ++ octets_of after = ap octets_of (append_assoc hb (text (segment_items h blocks (block_depths blocks) (chosen_options h blocks))) zeros) ∙ octets_of-append n hb after bits_long in
+      let parts : all ≡ octets_of hb ++ octets_of after = ap octets_of (append_assoc hb (text (segment_items h blocks (block_depths blocks) (chosen_options profile h blocks))) zeros) ∙ octets_of-append n hb after bits_long in
       ap (λ o. head_read (take m o)) parts
       ∙ ap (λ j. head_read (take j (octets_of hb ++ octets_of after))) whole
       ∙ ap head_read (take-append-add (octets_of hb) (octets_of after) k)
@@ -93,7 +95,7 @@ module _ (h : SegmentHead) (blocks : List (List ℤ)) (ok : IsHead h) (ten : len
       ∙ head_undoes h (take (8 * k) after) ok small ten
 
   -- and so do those of the text, which the limit may cut
-  text_tells : (m : ℕ) → 20 ≤ m → head_read (take m (coded h blocks)) ≡ Ok h
+  text_tells : (m : ℕ) → 20 ≤ m → head_read (take m (coded profile h blocks)) ≡ Ok h
   unfolding coded text_octets
   text_tells m some = by (h.limit == 0) refl
     where
@@ -104,7 +106,7 @@ module _ (h : SegmentHead) (blocks : List (List ℤ)) (ok : IsHead h) (ten : len
           ap head_read (take_less m h.limit all) ∙ told (min m h.limit) (omega (arith, some, least))
 
   -- it isn't too long
-  text_short : length (head_bits h ++ text (segment_items h blocks (block_depths blocks) (chosen_options h blocks))) < 2 ^ 34 → length (coded h blocks) < 2 ^ 32
+  text_short : length (head_bits h ++ text (segment_items h blocks (block_depths blocks) (chosen_options profile h blocks))) < 2 ^ 34 → length (coded profile h blocks) < 2 ^ 32
   unfolding coded text_octets
   text_short few = by (h.limit == 0)
     where
@@ -143,7 +145,7 @@ images_coded short s x range height ten pixels = record {
       let blocks = segment_of s (image_blocks s x) index in
       let h = head_for s (image_blocks s x) index in
       let ok = head_fits s x range height pixels index lt in
-      text_short h blocks ok ten (count_small index) (short h blocks (block_depths blocks) (chosen_options h blocks) ok ten (spells s x range height pixels index lt) (numbers_are h blocks ok));
+      text_short h blocks ok ten (count_small index) (short h blocks (block_depths blocks) (chosen_options profile h blocks) ok ten (spells s x range height pixels index lt) (words_are profile profile_sound h blocks) (numbers_are profile h blocks ok));
   blocks = λ index lt. length-segment s x range height pixels index;
 }
   where

@@ -5,6 +5,7 @@ use Rattle.std.specs.List.{range_with_len}
 use Rattle.std.specs.Str.{bytes_eq}
 use Rattle.std.proofs.lemmas.Bool.{false≢true}
 use Rattle.std.proofs.lemmas.Bool.Decides.{nat_tests}
+use Rattle.plane_defs.specs.Profile.{profile}
 use Rattle.segment_defs.specs.declared.head.SegmentHead.{SegmentHead}
 use Rattle.segment_defs.specs.declared.fault.HeadFault.{HeadFault}
 use Rattle.segment_defs.specs.Head.{head_length}
@@ -12,6 +13,7 @@ use Rattle.segment_defs.specs.Reading.{head_read}
 use Rattle.segment_head.proofs.ReadHeads.{read_fits}
 use Rattle.text_defs.proofs.OutcomeLaws.{outcomes_exclude}
 use Rattle.text_defs.proofs.Further.{has_outcome}
+use Rattle.segment_code.proofs.ProfileSound.{profile_sound}
 use Rattle.packet_defs.specs.Reading.{flags_in, text_in}
 use Rattle.stream_defs.specs.Fates.{closes, kept_in}
 use Rattle.stream_defs.specs.Received.{number_of_part, packets_at, IsComplete, text_of_parts, IsReceived, ReceivedIn}
@@ -82,11 +84,11 @@ decide_received packets index = elim (decide_complete (packets_at index packets)
     by_head whole (Ok head) e =
         let ok = read_fits _ head e in
         let octets = drop (head_length head) (text_of_parts (packets_at index packets)) in
-        elim (has_outcome head octets ok) [
+        elim (has_outcome profile profile_sound head octets ok) [
           | inl held ↦ inl (held.0, record { whole = whole; head = head; head_is = e; accepted = held.1 })
           | inr refused ↦ inr (λ w x.
               let there = subst (λ h. holds_after h (text_of_parts (packets_at index packets)) w) (some_head _ x.head head x.head_is e) x.accepted in
-              outcomes_exclude.not_both head octets w refused.0 ok there refused.1)
+              outcomes_exclude.not_both profile head octets w refused.0 ok there refused.1)
         ]
 
 number_of : (packets : List (List ℕ)) (index : ℕ) → Decided packets index → Option (List (List ℤ))

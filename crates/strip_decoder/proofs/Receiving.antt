@@ -4,6 +4,7 @@ use Rattle.std.specs.Prelude.{true, false, None, Some, Result, Ok, MatchOption, 
 use Rattle.std.proofs.lemmas.Bool.{cases_lt}
 use Rattle.std.proofs.lemmas.List.{drop-append-le}
 use Rattle.bit_pipe.specs.Sources.{Plainly, InPieces, Tail}
+use Rattle.plane_defs.specs.Profile.{profile}
 use Rattle.segment_defs.specs.declared.head.SegmentHead.{SegmentHead}
 use Rattle.segment_defs.specs.Head.{IsHead, head_length}
 use Rattle.segment_defs.specs.declared.fault.HeadFault.{HeadFault}
@@ -37,10 +38,10 @@ in_pieces e = absurd cc
 -- ---- one list of numbers
 
 -- a text holds one list of blocks
-one_held : (head : SegmentHead) (rest : List ℕ) (v w : List (List ℤ)) → IsHead head → Holds head rest v → Holds head rest w → v ≡ w
+one_held : (head : SegmentHead) (rest : List ℕ) (v w : List (List ℤ)) → IsHead head → Holds profile head rest v → Holds profile head rest w → v ≡ w
 one_held head rest v w ok h k =
-    let count = outcomes_exclude.one_count head rest v w ok h k in
-    let same = same_given head rest h.count h.blocks k.blocks h.depths k.depths h.options k.options h.more k.more ok h.reading
+    let count = outcomes_exclude.one_count profile head rest v w ok h k in
+    let same = same_given head rest h.count h.blocks k.blocks h.depths k.depths h.options k.options h.more k.more ok (h.of_book ∙ sym k.of_book) h.reading
     (subst (λ n. Reading head rest k.blocks k.depths k.options n k.more) (sym count) k.reading) in
     h.given ∙ same ∙ ap (given_blocks head k.blocks k.depths k.options) count ∙ sym k.given
 
@@ -154,7 +155,7 @@ module _ (apid : ℕ) (passed : List (List ℕ)) (a : Assembling) (start : Segme
 
   -- it was accepted, and the packets that were passed have closed it: so it is received, whatever follows
   pub is_received : (rest : List ℕ) (went next : List (List ℕ)) (later : List (List ℕ)) (w : List (List ℤ)) → future a rest ≡ went ++ later → last_index (after_all apid there went).last ≡ Some index → is_closed (after_all apid there went).last ≡ true →
-      Holds start.head (text_tail a rest).octets w → IsReceived holds_after (kept apid fresh (passed ++ (went ++ next))) index w
+      Holds profile start.head (text_tail a rest).octets w → IsReceived holds_after (kept apid fresh (passed ++ (went ++ next))) index w
   is_received rest went next later w are last closed holds =
       let plain = from_closed apid index there went (part_in b.packet) last_is index_is last closed in
       let on : tail_past apid b.before b.packet (went ++ next) InPieces ≡ tail_past apid b.before b.packet went InPieces = from_more apid there went next InPieces InPieces in_pieces plain in
@@ -165,12 +166,12 @@ module _ (apid : ℕ) (passed : List (List ℕ)) (a : Assembling) (start : Segme
         whole = (tells (went ++ next)).complete (ap (λ (t : Tail). t.ends) on ∙ plain);
         head = start.head;
         head_is = head_there (went ++ next);
-        accepted = subst (λ zs. Holds start.head zs w) (sym octets) holds;
+        accepted = subst (λ zs. Holds profile start.head zs w) (sym octets) holds;
       }
 
   -- it was refused, or it breaks off: so it isn't received, however many of the packets to come follow
   pub not_received : (rest : List ℕ) (next more : List (List ℕ)) (w : List (List ℤ)) → future a rest ≡ next ++ more →
-      ((text_tail a rest).ends ≡ Plainly → (w : List (List ℤ)) → Holds start.head (text_tail a rest).octets w → ⊥) → IsReceived holds_after (kept apid fresh (passed ++ next)) index w → ⊥
+      ((text_tail a rest).ends ≡ Plainly → (w : List (List ℤ)) → Holds profile start.head (text_tail a rest).octets w → ⊥) → IsReceived holds_after (kept apid fresh (passed ++ next)) index w → ⊥
   not_received rest next more w are refused x =
       let plain = (tells next).plain x.whole in
       let all = all_there rest next more are plain in
@@ -178,7 +179,7 @@ module _ (apid : ℕ) (passed : List (List ℕ)) (a : Assembling) (start : Segme
       let octets : drop (head_length start.head) (text_of_parts (packets_at index (kept apid fresh (passed ++ next)))) ≡ (text_tail a rest).octets =
       octets_after next ∙ sym (ap (λ (t : Tail). t.octets) all) in
       let holds = subst (λ head. holds_after head (text_of_parts (packets_at index (kept apid fresh (passed ++ next)))) w) same x.accepted in
-      refused (ap (λ (t : Tail). t.ends) all ∙ plain) w (subst (λ zs. Holds start.head zs w) octets holds)
+      refused (ap (λ (t : Tail). t.ends) all ∙ plain) w (subst (λ zs. Holds profile start.head zs w) octets holds)
 
   -- while its text is open it isn't received
   pub open_received : (next : List (List ℕ)) (w : List (List ℤ)) → last_index (after_all apid there next).last ≡ Some index → is_closed (after_all apid there next).last ≡ false → IsReceived holds_after (kept apid fresh (passed ++ next)) index w → ⊥

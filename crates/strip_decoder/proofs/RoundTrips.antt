@@ -17,7 +17,9 @@ use Rattle.base_122.proofs.SizeBounds.{three-le-block_count}
 use Rattle.packet_defs.specs.Streams.{framing}
 use Rattle.raster_rows.specs.Pixels.{clamped, pixel_octets, raster_octets}
 use Rattle.raster_rows.proofs.Numbers.{clamped_is}
+use Rattle.plane_defs.specs.Profile.{profile}
 use Rattle.segment_code.specs.Laws.{CodedHolds, CodedHoldsExactly, TextsAreShort}
+use Rattle.segment_code.proofs.ProfileSound.{profile_sound}
 use Rattle.stream_defs.specs.Damage.{whole_missing}
 use Rattle.stream_defs.specs.Begun.{begun_in, height}
 use Rattle.stream_defs.proofs.PlacedLaws.{is_not_open, within_not}
@@ -105,7 +107,7 @@ module _ (short : TextsAreShort) (holds : CodedHolds) (exact : CodedHoldsExactly
             let h = head_for u all index in
             let plane : h.stop.plane ≡ 0 = ap (λ b. if b then 0 else s.stop.plane) sends.goes_on ∙ sends.plane in
             let stage : h.stop.stage ≡ 3 = ap (λ b. if b then 3 else s.stop.stage) sends.goes_on ∙ sends.stage in
-            e ∙ ap Some ((exact h blocks (head_fits u x range is.height.0 pixels index lt) is.weights (spells u x range is.height.0 pixels index lt) refl (share_none u index (used_before u all index) sends.total ∙ sends.limit)
+            e ∙ ap Some ((exact profile profile_sound h blocks (head_fits u x range is.height.0 pixels index lt) is.weights (spells u x range is.height.0 pixels index lt) refl (share_none u index (used_before u all index) sends.total ∙ sends.limit)
             (record { goes_on = sends.goes_on; plane = plane; stage = stage }) w).0 (held_by short s rows x is received received_is index w lt e))
 
     -- so each block is there with its numbers

@@ -6,6 +6,7 @@ use Rattle.std.proofs.lemmas.Bool.Decides.{nat_tests}
 use Rattle.std.proofs.lemmas.Nat.{div_below}
 use Rattle.port_122.specs.Outside.{Outside}
 use Rattle.base_122.specs.Sizes.{first_block}
+use Rattle.plane_defs.specs.Profile.{profile}
 use Rattle.wave_defs.specs.Held.{blocks_in}
 use Rattle.segment_defs.specs.declared.head.SegmentHead.{SegmentHead}
 use Rattle.text_defs.specs.Outcomes.{Holds}
@@ -108,7 +109,7 @@ module _ {S : Type 0} (k : SinkOf S) (w : Run) (now new : Outside) (a b : Assemb
   told_before rest told = before_loses now.rest new.rest goes.passes.took rest goes.passes.since.rest told
 
   -- it is received
-  decides_some : (v : List (List ℤ)) → b.held ≡ None → is_closed b.state.last ≡ true → ((rest : List ℕ) → now.rest ≡ Some rest → Holds start.head (text_tail a rest).octets v) → Decides (Some v)
+  decides_some : (v : List (List ℤ)) → b.held ≡ None → is_closed b.state.last ≡ true → ((rest : List ℕ) → now.rest ≡ Some rest → Holds profile start.head (text_tail a rest).octets v) → Decides (Some v)
   decides_some v open_now closed holds rest told next more are =
       let state : after_all w.apid before goes.passed ≡ b.state = state_there goes.passed ∙ sym goes.passes.state in
       let stays = (goes.still open_now).1 ∙ last in
@@ -117,7 +118,7 @@ module _ {S : Type 0} (k : SinkOf S) (w : Run) (now new : Outside) (a b : Assemb
       (ap (λ (s : FateState). last_index s.last) state ∙ stays) (ap (λ (s : FateState). is_closed s.last) state ∙ closed) (holds (before_rest rest) (told_before rest told)))
 
   -- it isn't
-  decides_none : ((rest : List ℕ) → now.rest ≡ Some rest → (text_tail a rest).ends ≡ Plainly → (v : List (List ℤ)) → Holds start.head (text_tail a rest).octets v → ⊥) → Decides None
+  decides_none : ((rest : List ℕ) → now.rest ≡ Some rest → (text_tail a rest).ends ≡ Plainly → (v : List (List ℤ)) → Holds profile start.head (text_tail a rest).octets v → ⊥) → Decides None
   decides_none refused rest told next more are v x =
       let all : future a (before_rest rest) ≡ (goes.passed ++ next) ++ more = future_past goes.passes rest told ∙ ap (λ xs. goes.passed ++ xs) are ∙ sym (append_assoc goes.passed next more) in
       not_received w.apid passed a start index begun come.known.read.apid come.known.read.state unheld (before_rest rest) (goes.passed ++ next) more v all (refused (before_rest rest) (told_before rest told))

@@ -8,6 +8,7 @@ use Rattle.port_122.specs.Outside.{Outside, NoFewerFaults, Rose}
 use Rattle.port_122.proofs.Stretches.{rose_since}
 use Rattle.base_122.specs.Sizes.{first_block}
 use Rattle.base_122.specs.declared.geometry.Geometry.{Geometry}
+use Rattle.plane_defs.specs.Profile.{profile}
 use Rattle.wave_defs.specs.Line.{floor_div}
 use Rattle.wave_defs.specs.Blocks.{place_of, weight_at}
 use Rattle.wave_defs.specs.Held.{block_at, blocks_in}
@@ -35,7 +36,7 @@ use Rattle.strip_decoder.proofs.Between.{fewer_blocks, fits_ended, image_on, hel
 -- ---- the numbers that were read
 
 -- the numbers of a block that a text holds are parts of their weights
-weighted : (head : SegmentHead) (octets : List ℕ) (cells : List ℤ) (k : ℕ) → IsHead head → Holds head octets (blocks_in (cells_of head cells)) → 64 * head.blocks ≤ length cells → k < head.blocks →
+weighted : (head : SegmentHead) (octets : List ℕ) (cells : List ℤ) (k : ℕ) → IsHead head → Holds profile head octets (blocks_in (cells_of head cells)) → 64 * head.blocks ≤ length cells → k < head.blocks →
     AreWeighted (block_at cells k) head.image.weights.shifts
 weighted head octets cells k ok holds long lt =
     let weights = head.image.weights.shifts in

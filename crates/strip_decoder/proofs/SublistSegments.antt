@@ -5,7 +5,9 @@ use Rattle.std.proofs.lemmas.Bool.{false≢true}
 use Rattle.base_122.specs.Setting.{sized}
 use Rattle.base_122.specs.declared.setting.Setting.{Setting}
 use Rattle.packet_defs.specs.Streams.{whole_packets}
+use Rattle.plane_defs.specs.Profile.{profile}
 use Rattle.segment_code.specs.Laws.{CodedHolds, TextsAreShort}
+use Rattle.segment_code.proofs.ProfileSound.{profile_sound}
 use Rattle.stream_defs.specs.Chosen.{all_parts}
 use Rattle.stream_defs.specs.Fates.{fresh, kept}
 use Rattle.stream_defs.specs.Output.{head_for, image_blocks, segment_of, segment_text, segments_of, tells_last}
@@ -56,7 +58,7 @@ module _ (short : TextsAreShort) (s : Setting) (rows : ℕ) (x : ℕ → ℕ →
         by None e =
             let blocks = segment_of t all index in
             let image = are.image in
-            let held = holds (head_for t all index) blocks (head_fits t x (sized_range short s rows x image) image.height.0 pixels index lt) image.weights (spells t x (sized_range short s rows x image) image.height.0 pixels index lt) refl in
+            let held = holds profile profile_sound (head_for t all index) blocks (head_fits t x (sized_range short s rows x image) image.height.0 pixels index lt) image.weights (spells t x (sized_range short s rows x image) image.height.0 pixels index lt) refl in
             absurd (answered index None e held.0 (subst (λ ps. IsReceived holds_after (kept s.apid fresh ps) index held.0) (sym (packets_are short s rows x parts are))
             (received_each told t all coded parts are.choice holds_after index held.0 lt whole held.1)))
 

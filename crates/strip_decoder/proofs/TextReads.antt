@@ -5,6 +5,7 @@ use Rattle.std.specs.Option.{option_map}
 use Rattle.std.proofs.lemmas.List.{append-nil, take-append-le}
 use Rattle.port_122.specs.Outside.{Outside, Loses}
 use Rattle.port_122.proofs.Stretches.{rose_since}
+use Rattle.plane_defs.specs.Profile.{profile}
 use Rattle.wave_defs.specs.Held.{blocks_in}
 use Rattle.bit_pipe.specs.declared.fault.Part.{Part}
 use Rattle.bit_pipe.specs.Sources.{End, Plainly, TooLong, InPieces, Comes, IsOver}
@@ -70,7 +71,7 @@ module _ {X : Type 0} (outside : X → Outside) (s t : SegmentText X) where
 
   -- ---- a text that holds something
 
-  module _ (head : SegmentHead) (part : Part) (cells more : List ℤ) (long : length cells ≡ 64 * head.blocks) (d : DecodesSegment (segment_source outside) head (Ok part) s t cells) (new : Outside) (b : Assembling) where
+  module _ (head : SegmentHead) (part : Part) (cells more : List ℤ) (long : length cells ≡ 64 * head.blocks) (d : DecodesSegment (segment_source outside) profile head (Ok part) s t cells) (new : Outside) (b : Assembling) where
     goes : GoesOn old now s.assembly.now t.assembly.now
     goes = d.went.goes
 
@@ -93,10 +94,10 @@ module _ {X : Type 0} (outside : X → Outside) (s t : SegmentText X) where
       unheld = e.unheld;
       closed = e.closed;
       some = d.octets;
-      holds = subst (λ xs. Holds head d.octets (blocks_in xs)) cells_are d.ends.1.holds;
+      holds = subst (λ xs. Holds profile head d.octets (blocks_in xs)) cells_are d.ends.1.holds;
       told = λ before told.
           let x = whole before told in
-          (x.0, subst (λ zs. Holds head zs (blocks_in (cells_of head (cells ++ more)))) (sym x.1) (subst (λ xs. Holds head d.octets (blocks_in xs)) cells_are d.ends.1.holds));
+          (x.0, subst (λ zs. Holds profile head zs (blocks_in (cells_of head (cells ++ more)))) (sym x.1) (subst (λ xs. Holds profile head d.octets (blocks_in xs)) cells_are d.ends.1.holds));
     }
     ends_by (Ok false) e = record {
       goes = goes_both goes e.goes;
@@ -120,20 +121,20 @@ module _ {X : Type 0} (outside : X → Outside) (s t : SegmentText X) where
 
   -- ---- a text that is refused
 
-  module _ (head : SegmentHead) (cells : List ℤ) (fault : SegmentFault) (ok : IsHead head) (d : DecodesSegment (segment_source outside) head (Err fault) s t cells) where
+  module _ (head : SegmentHead) (cells : List ℤ) (fault : SegmentFault) (ok : IsHead head) (d : DecodesSegment (segment_source outside) profile head (Err fault) s t cells) where
     -- by its first octets
-    by_name : (name : SegmentRefusal) → RefusedBy head d.octets name → (before : List ℕ) → old.rest ≡ Some before → (w : List (List ℤ)) → Holds head (text_tail s.assembly.now before).octets w → ⊥
+    by_name : (name : SegmentRefusal) → RefusedBy profile head d.octets name → (before : List ℕ) → old.rest ≡ Some before → (w : List (List ℤ)) → Holds profile head (text_tail s.assembly.now before).octets w → ⊥
     by_name name refused before told w holds =
         let x = come d.octets before d.went.goes d.came told in
-        outcomes_exclude.not_both head (text_tail s.assembly.now before).octets w name ok holds (subst (λ zs. Refused head zs name) (sym x.octets_are) (refused (text_tail t.assembly.now x.rest).octets))
+        outcomes_exclude.not_both profile head (text_tail s.assembly.now before).octets w name ok holds (subst (λ zs. Refused profile head zs name) (sym x.octets_are) (refused (text_tail t.assembly.now x.rest).octets))
 
     -- as it is too short
-    by_end : IsOver ((segment_source outside).tail t) Plainly → Refused head d.octets short_segment → (before : List ℕ) → old.rest ≡ Some before → (w : List (List ℤ)) → Holds head (text_tail s.assembly.now before).octets w → ⊥
+    by_end : IsOver ((segment_source outside).tail t) Plainly → Refused profile head d.octets short_segment → (before : List ℕ) → old.rest ≡ Some before → (w : List (List ℤ)) → Holds profile head (text_tail s.assembly.now before).octets w → ⊥
     by_end over refused before told w holds =
         let x = come d.octets before d.went.goes d.came told in
         let none = over_by t.assembly.now now.rest x.rest Plainly x.told over in
         let whole : (text_tail s.assembly.now before).octets ≡ d.octets = x.octets_are ∙ ap (λ zs. d.octets ++ zs) none.0 ∙ append-nil d.octets in
-        outcomes_exclude.not_both head (text_tail s.assembly.now before).octets w short_segment ok holds (subst (λ zs. Refused head zs short_segment) (sym whole) refused)
+        outcomes_exclude.not_both profile head (text_tail s.assembly.now before).octets w short_segment ok holds (subst (λ zs. Refused profile head zs short_segment) (sym whole) refused)
 
     -- as it ends otherwise
     by_break : (ends : End) → (ends ≡ Plainly → ⊥) → IsOver ((segment_source outside).tail t) ends → (before : List ℕ) → old.rest ≡ Some before → (text_tail s.assembly.now before).ends ≡ Plainly → ⊥
@@ -142,14 +143,14 @@ module _ {X : Type 0} (outside : X → Outside) (s t : SegmentText X) where
         let none = over_by t.assembly.now now.rest x.rest ends x.told over in
         other (sym none.1 ∙ sym x.ends ∙ plain)
 
-  pub text_refused : (head : SegmentHead) (cells : List ℤ) (fault : SegmentFault) → IsHead head → (fault ≡ faults.ReadFault → ⊥) → DecodesSegment (segment_source outside) head (Err fault) s t cells →
+  pub text_refused : (head : SegmentHead) (cells : List ℤ) (fault : SegmentFault) → IsHead head → (fault ≡ faults.ReadFault → ⊥) → DecodesSegment (segment_source outside) profile head (Err fault) s t cells →
       (p x : X) (a y : Assembling) → s.port.now ≡ p → s.assembly.now ≡ a → x ≡ t.port.now → y ≡ t.assembly.now → Refuses (outside p) (outside x) a y head
   text_refused head cells fault ok other d p x a y begins from e f =
       subst (λ p. Refuses (outside p) (outside x) a y head) begins (subst (λ a. Refuses old (outside x) a y head) from
       (subst (λ x. Refuses old (outside x) s.assembly.now y head) (sym e) (subst (λ y. Refuses old now s.assembly.now y head) (sym f) record { goes = d.went.goes; told = by fault other d })))
     where
-      by : (fault : SegmentFault) → (fault ≡ faults.ReadFault → ⊥) → DecodesSegment (segment_source outside) head (Err fault) s t cells →
-          (before : List ℕ) → old.rest ≡ Some before → (text_tail s.assembly.now before).ends ≡ Plainly → (w : List (List ℤ)) → Holds head (text_tail s.assembly.now before).octets w → ⊥
+      by : (fault : SegmentFault) → (fault ≡ faults.ReadFault → ⊥) → DecodesSegment (segment_source outside) profile head (Err fault) s t cells →
+          (before : List ℕ) → old.rest ≡ Some before → (text_tail s.assembly.now before).ends ≡ Plainly → (w : List (List ℤ)) → Holds profile head (text_tail s.assembly.now before).octets w → ⊥
       by faults.BadOption other d before told plain w holds = by_name head cells faults.BadOption ok d _ d.ends before told w holds
       by faults.BadDelta other d before told plain w holds = by_name head cells faults.BadDelta ok d _ d.ends before told w holds
       by faults.BadDepth other d before told plain w holds = by_name head cells faults.BadDepth ok d _ d.ends before told w holds

@@ -4,6 +4,7 @@ use Rattle.std.specs.Prelude.{◌≡◌, ◌≤◌, ◌<◌, ◌+◌, ◌*◌, �
 use Rattle.port_122.specs.Outside.{Outside, Since}
 use Rattle.base_122.specs.Sizes.{first_block, segment_blocks}
 use Rattle.base_122.specs.declared.geometry.Geometry.{Geometry}
+use Rattle.plane_defs.specs.Profile.{profile}
 use Rattle.segment_defs.specs.Head.{head_length}
 use Rattle.text_defs.specs.Outcomes.{Holds}
 use Rattle.packet_defs.specs.Streams.{whole_packets, left_over, has_bad_version}
@@ -30,7 +31,7 @@ use Rattle.strip_decoder.specs.Segments.{HasImage}
 
 -- a text holds what its octets after the head hold
 abbrev pub holds_after : Acceptance
-holds_after head text numbers = Holds head (drop (head_length head) text) numbers
+holds_after head text numbers = Holds profile head (drop (head_length head) text) numbers
 
 abbrev pub Numbers : Type 0
 Numbers = sinks.Numbers

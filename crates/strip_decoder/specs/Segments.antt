@@ -4,6 +4,7 @@ use Rattle.port_122.specs.Outside.{Outside, Rose, NoFewerFaults}
 use Rattle.base_122.specs.Sizes.{first_block}
 use Rattle.base_122.specs.Ranges.{IsGeometryInRange}
 use Rattle.base_122.specs.declared.geometry.Geometry.{Geometry}
+use Rattle.plane_defs.specs.Profile.{profile}
 use Rattle.wave_defs.specs.Held.{blocks_in}
 use Rattle.bit_pipe.specs.declared.fault.InFault.TheVariants as in_faults
 use Rattle.bit_pipe.specs.Sources.{Plainly}
@@ -142,13 +143,13 @@ pub record Accepts (old new : Outside) (a b : Assembling) (head : SegmentHead) (
   pub unheld : b.held ≡ None
   pub closed : is_closed b.state.last ≡ true
   pub some : List ℕ
-  pub holds : Holds head some (blocks_in (cells_of head cells))
-  pub told : (rest : List ℕ) → old.rest ≡ Some rest → ((text_tail a rest).ends ≡ Plainly) × Holds head (text_tail a rest).octets (blocks_in (cells_of head cells))
+  pub holds : Holds profile head some (blocks_in (cells_of head cells))
+  pub told : (rest : List ℕ) → old.rest ≡ Some rest → ((text_tail a rest).ends ≡ Plainly) × Holds profile head (text_tail a rest).octets (blocks_in (cells_of head cells))
 
 -- It breaks off, or it holds nothing.
 pub record Refuses (old new : Outside) (a b : Assembling) (head : SegmentHead) : Type 0 where
   pub goes : assembling.GoesOn old new a b
-  pub told : (rest : List ℕ) → old.rest ≡ Some rest → (text_tail a rest).ends ≡ Plainly → (w : List (List ℤ)) → Holds head (text_tail a rest).octets w → ⊥
+  pub told : (rest : List ℕ) → old.rest ≡ Some rest → (text_tail a rest).ends ≡ Plainly → (w : List (List ℤ)) → Holds profile head (text_tail a rest).octets w → ⊥
 
 abbrev pub ReadsText : (old new : Outside) (a b : Assembling) (head : SegmentHead) (cells : List ℤ) → Result Bool DecodeFault → Type 0
 ReadsText old new a b head cells (Ok true) = Accepts old new a b head cells

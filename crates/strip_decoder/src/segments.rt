@@ -1,6 +1,7 @@
 // The segments of an image, one after another.
 ghost use Rattle.std.specs.Prelude.{◌≡◌, ◌≤◌, ◌*◌, true, length, vec_len};
 ghost use Rattle.base_122.specs.Ranges.{IsGeometryInRange};
+ghost use Rattle.plane_defs.specs.Profile.{profile};
 ghost use Rattle.segment_defs.specs.Head.{IsHead};
 ghost use Rattle.stream_defs.specs.Begun.{placed};
 ghost use Rattle.packet_assembly.specs.Assembling.{Assembling};
@@ -55,6 +56,7 @@ fn read_text<X: Port>(
     marks: &mut [i32],
 ) -> Result<bool, DecodeFault>
     requires head { IsHead head.now }
+    requires book { reader.now.tables.book ≡ profile }
     requires blocks { 64 * head.now.blocks ≤ length blocks.old }
     requires marks { head.now.blocks ≤ length marks.old }
     ensures { ReadsText (X.outside port.old) (X.outside port.new) assembly.old assembly.new head.now blocks.new result }

@@ -1,6 +1,7 @@
 // What a walk over segments holds.
 ghost use Rattle.std.specs.Prelude.{◌≡◌, ◌≤◌, ◌+◌, ◌*◌, IfOk, vec_len};
 ghost use Rattle.base_122.specs.Ranges.{IsGeometryInRange, IsWithin, rows_range};
+ghost use Rattle.plane_defs.specs.Profile.{profile};
 ghost use Rattle.stream_defs.specs.Begun.{placed};
 ghost use Rattle.strip_decoder.specs.Sinks.{MayEnd};
 ghost use Rattle.strip_decoder.specs.Steps.{walking, passed_in, IsStanding, IsFresh, HasGeometry};
@@ -10,6 +11,7 @@ use crate::sink::BlockSink;
 use base_122::{FieldRange, Geometry};
 use damage_rows::Damage;
 use segment_code::SegmentReader;
+use word_codes::profile_book;
 use std::alloc::{AllocError, Global};
 
 /// The block row and the column of the next block.
@@ -85,6 +87,7 @@ pub struct SegmentRoom {
     pub blocks: Vec<i32>,
     pub marks: Vec<i32>,
     pub pixels: u64,
+    ghost of_profile: { reader.tables.book ≡ profile },
 }
 
 impl SegmentRoom {
@@ -103,7 +106,7 @@ impl SegmentRoom {
         let blocks = vec![in alloc; 0; 64 * count]?;
         let marks = vec![in alloc; 0; count]?;
         Ok(SegmentRoom {
-            reader: SegmentReader::new(),
+            reader: SegmentReader::new(&profile_book()),
             blocks,
             marks,
             pixels,
