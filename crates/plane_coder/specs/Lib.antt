@@ -9,3 +9,4 @@ pub mod Refining
 pub mod Coding
 pub mod Speaks
 pub mod Fours
+pub mod Coders

@@ -1,5 +1,5 @@
 -- The numbers of a block as masks.
-use Rattle.std.specs.Prelude.{◌≡◌, ℕ, ◌+◌, ◌*◌, ℤ, pos, List, Option, None, Some, slice_range}
+use Rattle.std.specs.Prelude.{◌≡◌, ◌<◌, ◌≤◌, ℕ, ◌+◌, ◌*◌, ℤ, pos, List, Option, None, Some, slice_range}
 use lib.ListN.{get_or}
 use Rattle.item_defs.specs.Bits.{bit}
 use Rattle.plane_defs.specs.Sets.{magnitude, significant}
@@ -16,3 +16,8 @@ pub record IsView (block : List ℤ) (plane : ℕ) (m : Masks) : Type 0 where
 -- the masks that are kept are those of their blocks
 pub record AreKept (blocks : List ℤ) (plane : ℕ) (kept : List (Option Masks)) : Type 0 where
   pub at : (r : ℕ) (m : Masks) → get_or kept r None ≡ Some m → IsView (slice_range blocks (64 * r) (64 * r + 64)) plane m
+
+-- those before a place are of the plane, and the others of the plane above
+pub record AreLowered (blocks : List ℤ) (plane r : ℕ) (kept : List (Option Masks)) : Type 0 where
+  pub below : (k : ℕ) (m : Masks) → k < r → get_or kept k None ≡ Some m → IsView (slice_range blocks (64 * k) (64 * k + 64)) plane m
+  pub above : (k : ℕ) (m : Masks) → r ≤ k → get_or kept k None ≡ Some m → IsView (slice_range blocks (64 * k) (64 * k + 64)) (plane + 1) m

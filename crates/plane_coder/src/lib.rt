@@ -10,6 +10,7 @@
 #![tactic(auto)]
 
 mod choose;
+mod coder;
 mod fours;
 mod masks;
 mod plane;
@@ -24,5 +25,6 @@ mod tally;
 mod view;
 
 pub use block_masks::PlanePlan;
+pub use coder::PlaneCoder;
 pub use plane::{put_plane, put_plane_with};
 pub use tables::CodeTables;

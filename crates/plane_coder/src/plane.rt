@@ -19,7 +19,7 @@ use bit_pipe::{BitOut, OctetOut, PutFault};
 use block_masks::{CodedPlane, PlanePlan};
 
 // Puts the stages of a plane up to the last one asked, with the options of fewest bits.
-fn put_stages<O: OctetOut>(
+pub(crate) fn put_stages<O: OctetOut>(
     out: &mut BitOut<O>,
     view: &View,
     marks: &mut [i32],
