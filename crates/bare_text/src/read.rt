@@ -1,5 +1,6 @@
 // A head with absent parts, read.
 ghost use Rattle.std.specs.Prelude.{◌≡◌, ◌≤◌, length, IfOk};
+ghost use Rattle.plane_defs.specs.Profile.{profile};
 ghost use Rattle.segment_defs.specs.Head.{IsHead};
 ghost use Rattle.segment_defs.specs.Reading.{answer, first_refusal};
 ghost use Rattle.segment_defs.specs.declared.fault.HeadFault.TheVariants.{HeadShort};
@@ -12,6 +13,23 @@ use crate::parts::{PartsInForce, bare_length, read_completed};
 use bit_pipe::{InFault, OctetIn, Part};
 use segment_code::{SegmentFault, SegmentReader};
 use segment_head::{HeadFault, SegmentHead, carried_in};
+use word_codes::profile_book;
+
+/// Reads the items of bare texts, by tables of their words that are made once.
+#[derive(Drop)]
+pub struct BareReader {
+    reader: SegmentReader,
+    ghost of_profile: { reader.tables.book ≡ profile },
+}
+
+impl BareReader {
+    /// A reader of the items of any bare texts: they have the codes of the profile's book.
+    pub fn new() -> BareReader {
+        BareReader {
+            reader: SegmentReader::new(&profile_book()),
+        }
+    }
+}
 
 /// A head that was read, and how many octets it has where it is: it counts against the limit of its text.
 #[derive(Clone, Copy, Debug, PartialEq, Eq)]
@@ -22,23 +40,21 @@ pub struct BareHead {
 
 impl BareHead {
     ghost use Rattle.std.specs.Prelude.{◌*◌};
-    ghost use Rattle.plane_defs.specs.Profile.{profile};
     ghost use Rattle.segment_code.specs.DecodedItems.{DecodesItems};
 
     /// Reads the items of the text after this head, with their padding and fill, and no octet more (docs/formats.md, "Bare
-    /// texts"). The reader is of the profile's book. Blocks, marks and the answer are those of `SegmentReader::decode_items`.
+    /// texts"). Blocks, marks and the answer are those of `SegmentReader::decode_items`.
     ///
     /// # Errors
     ///
     /// As there.
     pub fn decode_items<I: OctetIn>(
         &self,
-        reader: &SegmentReader,
+        reader: &BareReader,
         input: &mut I,
         blocks: &mut [i32],
         marks: &mut [i32],
     ) -> Result<Part, SegmentFault>
-        requires book { reader.now.tables.book ≡ profile }
         requires fits { IsHead self.now.head }
         requires size { self.now.size ≤ 20 }
         requires count { length blocks.old ≡ 64 * length marks.old }
@@ -46,7 +62,9 @@ impl BareHead {
         ensures decodes { DecodesItems I.source profile self.now.head self.now.size result input.old input.new blocks.new }
         ensures sizes { (length blocks.new ≡ length blocks.old) × (length marks.new ≡ length marks.old) }
     {
-        reader.decode_items(input, &self.head, self.size, blocks, marks)
+        reader
+            .reader
+            .decode_items(input, &self.head, self.size, blocks, marks)
     }
 }
 

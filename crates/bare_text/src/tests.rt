@@ -1,17 +1,15 @@
 // Texts that were worked out by hand: 64 by 128 pixels of 0 in eight segments of 16 blocks.
 ghost use Rattle.std.specs.Prelude.{◌≡◌, ◌≤◌, ◌*◌, length, IfOk, IfSome};
-ghost use Rattle.plane_defs.specs.Profile.{profile};
 ghost use Rattle.segment_defs.specs.Head.{IsHead};
 
 use crate::agree::check_agreement;
 use crate::encode::encode_bare_text;
 use crate::parts::PartsInForce;
-use crate::read::{BareHead, BareHeadFault, read_bare_head};
+use crate::read::{BareHead, BareHeadFault, BareReader, read_bare_head};
 use bit_pipe::{OctetIn, Part, SliceIn, SliceOut};
-use segment_code::{SegmentFault, SegmentReader, segment_depths};
+use segment_code::{SegmentFault, segment_depths};
 use segment_head::{HeadFault, HeadField, SegmentHead};
 use std::process::Abort;
-use word_codes::profile_book;
 
 const FIRST: [u8; 21] = [
     0x80, 0x02, 0x07, 0x00, 0x00, 0x00, 0x00, 0x60, 0x00, 0x01, 0x0c, 0x88, 0x00, 0x04, 0x00, 0x00,
@@ -116,13 +114,12 @@ fn encode(
 // The text is read, and is written again after the head before; its head is returned.
 fn expect_text(
     rt: &impl Abort,
-    reader: &SegmentReader,
+    reader: &BareReader,
     text: &[u8],
     parts: &mut PartsInForce,
     before: Option<SegmentHead>,
 ) -> SegmentHead
     requires short { length text.now ≤ 21 }
-    requires book { reader.now.tables.book ≡ profile }
     requires before { IfSome before (λ h. IsHead h) }
     ensures { IsHead result }
 {
@@ -150,7 +147,7 @@ fn expect_text(
 
 #[test]
 fn texts_both_ways(rt: HostRuntime) {
-    let reader = SegmentReader::new(&profile_book());
+    let reader = BareReader::new();
     let mut parts = PartsInForce::none();
     let first = expect_text(&rt, &reader, &FIRST, &mut parts, None);
     expect_text(&rt, &reader, &SECOND, &mut parts, Some(first));
@@ -166,7 +163,7 @@ fn a_text_cut_in_its_items(rt: HostRuntime) {
     let read = read_bare_head(&mut input, &mut parts).expect(&rt, "a head");
     assert_eq!(rt; (read.head.blocks, first.blocks), (16, 16));
     let (mut blocks, mut marks) = ([7; 1024], [7; 16]);
-    let answer = read.decode_items(&SegmentReader::new(&profile_book()), &mut input, &mut blocks, &mut marks);
+    let answer = read.decode_items(&BareReader::new(), &mut input, &mut blocks, &mut marks);
     assert_eq!(rt; answer, Err(SegmentFault::ShortSegment));
 }
 
