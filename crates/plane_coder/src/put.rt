@@ -1,6 +1,7 @@
 // The stages of a block.
 
-ghost use Rattle.std.specs.Prelude.{◌≡◌, ◌+◌, ◌*◌, ◌&&◌, ◌<◌, ◌≤◌, [], cond, length, nat_lt, slice_range};
+ghost use Rattle.std.specs.Prelude.{◌≡◌, ◌+◌, ◌*◌, ◌&&◌, ◌<◌, ◌≤◌, [], cond, false, length, nat_lt, slice_range};
+ghost use Rattle.std.specs.Bool.{OnTrue};
 ghost use Rattle.bit_pipe.specs.Standing.{stand, IsReady};
 ghost use Rattle.plane_defs.specs.declared.sets.Set.TheVariants.{Grandchildren};
 ghost use Rattle.plane_defs.specs.Sets.{significant, set_significant, coded};
@@ -33,6 +34,13 @@ fn is_dc_bit_due(plan: &CodedPlane) -> bool
     ensures { result ≡ (coded plan.now.weights.shifts plan.now.plane 0 && nat_lt plan.now.plane plan.now.q) }
 {
     has(plan.coded, 0) && plan.plane < plan.q
+}
+
+// No block sends anything in this stage: it has the bits of the DC numbers, and they are not due.
+pub(crate) fn is_quiet(plan: &CodedPlane, number: u8) -> bool
+    ensures { OnTrue result ((number ≡ 0) × ((coded plan.now.weights.shifts plan.now.plane 0 && nat_lt plan.now.plane plan.now.q) ≡ false)) }
+{
+    number == 0 && !is_dc_bit_due(plan)
 }
 
 fn put_dc_bit<O: OctetOut>(
