@@ -18,7 +18,7 @@ use crate::speech::Speech;
 use crate::spoken::Spoken;
 use crate::view::View;
 use bit_pipe::{BitOut, OctetOut, PutFault};
-use block_masks::{CodedPlane, Sets, has};
+use block_masks::{CodedPlane, Sets, has, is_any_of};
 use plane_defs::Stage;
 
 // The bit of weight 2^place of a two's complement form.
@@ -165,6 +165,9 @@ fn put_refinement<O: OctetOut>(
     ensures silent { speech.new.count ≡ 0 }
 {
     let refined = seen.refined();
+    if !is_any_of(refined, 1, 63) {
+        return Ok(());
+    }
     speech.raws(seen.refinement(refined, 1, 3));
     say_refinement(speech, seen, refined, 1, 4);
     say_refinement(speech, seen, refined, 4, 8);
