@@ -11,3 +11,4 @@ mod BlockReads
 mod BlockStages
 mod Choosing
 pub mod Sending
+mod Quiet

@@ -81,7 +81,7 @@ module _ {S : Type 0} {k : SinkOf S} (f : ℕ → List Item) where
 
 -- ---- one gaggle in its stage
 
-before_more : (p : Plane) (j g : ℕ) → before_stage p j g ++ of_gaggle p (stage_number j) g ≡ before_stage p (j + 1) g
+pub before_more : (p : Plane) (j g : ℕ) → before_stage p j g ++ of_gaggle p (stage_number j) g ≡ before_stage p (j + 1) g
 before_more p j g =
     let f = λ (i : ℕ). of_gaggle p (stage_number i) g in
     more_of_span f 0 j (of_gaggle p (stage_number j) g) (ap f (sym (zero-add j)))

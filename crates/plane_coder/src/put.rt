@@ -1,6 +1,7 @@
 // The stages of a block.
 
-ghost use Rattle.std.specs.Prelude.{◌≡◌, ◌+◌, ◌*◌, ◌&&◌, ◌<◌, ◌≤◌, [], cond, length, nat_lt, slice_range};
+ghost use Rattle.std.specs.Prelude.{◌≡◌, ◌+◌, ◌*◌, ◌&&◌, ◌<◌, ◌≤◌, [], cond, false, length, nat_lt, slice_range};
+ghost use Rattle.std.specs.Bool.{OnTrue};
 ghost use Rattle.bit_pipe.specs.Standing.{stand, IsReady};
 ghost use Rattle.plane_defs.specs.declared.sets.Set.TheVariants.{Grandchildren};
 ghost use Rattle.plane_defs.specs.Sets.{significant, set_significant, coded};
@@ -17,7 +18,7 @@ use crate::speech::Speech;
 use crate::spoken::Spoken;
 use crate::view::View;
 use bit_pipe::{BitOut, OctetOut, PutFault};
-use block_masks::{CodedPlane, Sets, has};
+use block_masks::{CodedPlane, Sets, has, is_any_of};
 use plane_defs::Stage;
 
 // The bit of weight 2^place of a two's complement form.
@@ -33,6 +34,13 @@ fn is_dc_bit_due(plan: &CodedPlane) -> bool
     ensures { result ≡ (coded plan.now.weights.shifts plan.now.plane 0 && nat_lt plan.now.plane plan.now.q) }
 {
     has(plan.coded, 0) && plan.plane < plan.q
+}
+
+// No block sends anything in this stage: it has the bits of the DC numbers, and they are not due.
+pub(crate) fn is_quiet(plan: &CodedPlane, number: u8) -> bool
+    ensures { OnTrue result ((number ≡ 0) × ((coded plan.now.weights.shifts plan.now.plane 0 && nat_lt plan.now.plane plan.now.q) ≡ false)) }
+{
+    number == 0 && !is_dc_bit_due(plan)
 }
 
 fn put_dc_bit<O: OctetOut>(
@@ -157,6 +165,9 @@ fn put_refinement<O: OctetOut>(
     ensures silent { speech.new.count ≡ 0 }
 {
     let refined = seen.refined();
+    if !is_any_of(refined, 1, 63) {
+        return Ok(());
+    }
     speech.raws(seen.refinement(refined, 1, 3));
     say_refinement(speech, seen, refined, 1, 4);
     say_refinement(speech, seen, refined, 4, 8);

@@ -9,7 +9,7 @@ ghost use Rattle.block_masks.specs.Gaggles.{AllAgree, AreOptions, AreKnown, Same
 ghost use Rattle.plane_coder.specs.Spells.{Spells};
 ghost use Rattle.plane_coder.specs.Views.{plane_in};
 
-use crate::put::put_block;
+use crate::put::{is_quiet, put_block};
 use crate::speech::Speech;
 use crate::spoken::Spoken;
 use crate::view::View;
@@ -83,6 +83,9 @@ pub(crate) fn put_stage<O: OctetOut>(
     ensures agree { OnOk result (AllAgree (plane_in view.now (depths_of marks.old)) (number + 1) marks.new) }
     ensures kept { SameMarks marks.old marks.new }
 {
+    if is_quiet(view.plan, number) {
+        return Ok(());
+    }
     for g in 0..marks.len().div_ceil(16) {
         let mut speech = Speech::new(load(marks, g));
         let spoken = Spoken::new(view.tables, speech.gaggle.options);

@@ -1,15 +1,29 @@
-use Rattle.std.proofs.Common.{subst, arith}
-use Rattle.std.specs.Prelude.{Err}
+use Rattle.std.proofs.Common.{◌∙◌, sym, subst, arith}
+use Rattle.std.specs.Prelude.{Ok, Err}
 use Rattle.std.proofs.lemmas.Result.{err_from_is_err_and}
 use Rattle.bit_pipe.specs.Standing.{stand}
 use Rattle.plane_defs.specs.Profile.{profile}
+use Rattle.plane_defs.specs.Sets.{refined}
 use Rattle.plane_coder.specs.Refining.{refining}
 use Rattle.plane_coder.specs.Spells.{Spells}
 use Rattle.plane_coder.specs.Speaks.{Speaks}
 use Rattle.plane_coder.proofs.Speaking.{silent_load, speaks_both, spells_said}
-use Rattle.plane_coder.proofs.Spelling.{spells_both, spells_cut}
-use Rattle.plane_coder.proofs.BlockSets.{refining_both, refining_parts}
+use Rattle.plane_coder.proofs.Spelling.{spells_none, spells_both, spells_cut}
+use Rattle.plane_coder.proofs.BlockSets.{refining_both, refining_nothing, refining_parts}
 use Rattle.plane_coder.proofs.put.put_refinement.Goals as goal
+
+pub returns-then-not-is_any_of : goal.returns-then-not-is_any_of
+returns-then-not-is_any_of g c =
+    let s = c.args.seen.now in
+    let block = s.block.now in
+    let weights = s.plan.now.weights.shifts in
+    let plane = s.plan.now.plane in
+    let k = g.O.OctetOut.sink in
+    let told = sym c.if-not-is_any_of.true ∙ c.is_any_of.ensures (refined block weights plane) c.refined-refined.ensures in
+    record {
+      spells = λ book. subst (λ l. Spells k book c.args.speech.now.gaggle c.args.speech.now.gaggle (Ok tt) (stand k c.args.out.now) (stand k c.args.out.now) l) (refining_nothing block weights plane 1 63 told) (spells_none c.args.speech.now.gaggle _ c.requires.«open»);
+      silent = c.requires.silent;
+    }
 
 pub raws-requires-clause-room : goal.raws-requires-clause-room
 raws-requires-clause-room g c = omega (arith, silent_load c.args.speech.now c.requires.silent)

@@ -9,7 +9,20 @@ use Rattle.block_masks.proofs.Marking.{length-depths_of}
 use Rattle.block_masks.proofs.Marking.{same_marks, same_stored}
 use Rattle.block_masks.proofs.Agreeing.{none_agree, more_agree, all_agree}
 use Rattle.plane_coder.proofs.Sending.{none_put, more_put, put_ended, put_whole, gaggle_puts, gaggle_agrees}
+use Rattle.plane_coder.proofs.Quiet.{quiet_puts, quiet_agree}
 use Rattle.plane_coder.proofs.stages.put_stage.Goals as goal
+
+pub returns-then-is_quiet : goal.returns-then-is_quiet
+returns-then-is_quiet g c =
+    let m0 = c.args.marks.now in
+    let p = plane_in c.args.view.now (depths_of m0) in
+    let quiet = rw c.if-is_quiet.true at c.is_quiet.ensures in
+    record {
+      puts = quiet_puts p quiet.1 c.args.view.now.tables.now.book (options_at m0) c.args.number _ quiet.0 c.requires.open;
+      is_open = c.requires.open;
+      agree = quiet_agree p quiet.1 m0 c.args.number quiet.0 c.requires.agree;
+      kept = same_marks m0;
+    }
 
 pub loop-g-init : goal.loop-g-init
 loop-g-init g c =
