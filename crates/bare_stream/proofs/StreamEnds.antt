@@ -4,6 +4,7 @@ use Rattle.std.specs.Prelude.{Result, Ok}
 use Rattle.std.proofs.lemmas.List.{append-nil, append_cancel_left}
 use Rattle.base_122.specs.declared.geometry.Geometry.{Geometry}
 use Rattle.bit_pipe.specs.declared.fault.Part.{Part}
+use Rattle.plane_defs.specs.Profile.{profile}
 use Rattle.segment_defs.specs.declared.head.SegmentHead.{SegmentHead}
 use Rattle.segment_defs.specs.declared.fault.HeadFault.{HeadFault}
 use Rattle.segment_defs.specs.Head.{IsHead}
@@ -36,13 +37,13 @@ ok_one g h e = cc
 
 module _ (heads : BareHeadsEndThere) (items : ItemsEndThere) where
   -- octets after a head hold items of one length
-  same_items : (head : SegmentHead) (size : ℕ) (a b x y : List ℕ) (v w : List (List ℤ)) (p q : Part) → IsHead head → HoldsItems head size a v p → HoldsItems head size b w q → a ++ x ≡ b ++ y → a ≡ b
+  same_items : (head : SegmentHead) (size : ℕ) (a b x y : List ℕ) (v w : List (List ℤ)) (p q : Part) → IsHead head → HoldsItems profile head size a v p → HoldsItems profile head size b w q → a ++ x ≡ b ++ y → a ≡ b
   same_items head size a b x y v w p q fits first second e = elim (two_fronts a b x y e) [
     | inl longer ↦
-        let none = items.no_prefix head size a longer.0 v w p q fits first (subst (λ l. HoldsItems head size l w q) longer.1 second) in
+        let none = items.no_prefix profile head size a longer.0 v w p q fits first (subst (λ l. HoldsItems profile head size l w q) longer.1 second) in
         sym (longer.1 ∙ ap (λ l. a ++ l) none ∙ append-nil a)
     | inr shorter ↦
-        let none = items.no_prefix head size b shorter.0 w v q p fits second (subst (λ l. HoldsItems head size l v p) shorter.1 first) in
+        let none = items.no_prefix profile head size b shorter.0 w v q p fits second (subst (λ l. HoldsItems profile head size l v p) shorter.1 first) in
         shorter.1 ∙ ap (λ l. b ++ l) none ∙ append-nil b
   ]
 
@@ -62,13 +63,13 @@ module _ (heads : BareHeadsEndThere) (items : ItemsEndThere) where
       let head : g ≡ h = ok_one g h (sym first.read ∙ ap (bare_head_read before) front ∙ second.read) in
       let later : first.rest ++ x ≡ second.rest ++ y = append_cancel_left second.front (first.rest ++ x) (second.rest ++ y) (ap (λ l. l ++ (first.rest ++ x)) (sym front) ∙ spread) in
       let fits = heads.fits before first.front g first.read in
-      let held : HoldsItems g (length first.front) second.rest w second.part =
-      subst (λ k. HoldsItems k (length first.front) second.rest w second.part) (sym head) (subst (λ l. HoldsItems h (length l) second.rest w second.part) (sym front) second.holds) in
+      let held : HoldsItems profile g (length first.front) second.rest w second.part =
+      subst (λ k. HoldsItems profile k (length first.front) second.rest w second.part) (sym head) (subst (λ l. HoldsItems profile h (length l) second.rest w second.part) (sym front) second.holds) in
       let rest = same_items g (length first.front) first.rest second.rest x y v w first.part second.part fits first.holds held later in
       record {
         text = first.parts ∙ ap (λ l. l ++ first.rest) front ∙ ap (λ l. second.front ++ l) rest ∙ sym second.parts;
         head = head;
-        blocks = items.one g (length first.front) first.rest v w first.part second.part fits first.holds (subst (λ l. HoldsItems g (length first.front) l w second.part) (sym rest) held);
+        blocks = items.one profile g (length first.front) first.rest v w first.part second.part fits first.holds (subst (λ l. HoldsItems profile g (length first.front) l w second.part) (sym rest) held);
         after = first.force ∙ ap (parts_after before) front ∙ sym second.force;
       }
 

@@ -6,6 +6,7 @@ use Rattle.port_122.specs.Outside.{Outside}
 use Rattle.port_122.proofs.Stretches.{rose_since}
 use Rattle.base_122.specs.declared.wish.DecodeWish.{DecodeWish}
 use Rattle.item_defs.specs.Items.{Refusal, bad_option, bad_delta, bad_depth, false_flag}
+use Rattle.plane_defs.specs.Profile.{profile}
 use Rattle.wave_defs.specs.Held.{blocks_in}
 use Rattle.bit_pipe.specs.declared.fault.Part.{Part}
 use Rattle.segment_code.specs.DecodedItems.{DecodesItems}
@@ -47,7 +48,7 @@ module _ {X : Type 0} (outside : X → Outside) (wish : DecodeWish) (start : Out
     few = subst (λ p. pixels_at r.first w.index read.head ≤ p) at.pixels (subst (λ h. pixels_at h w.index read.head ≤ w.pixels) (sym at.first) next.few);
   }
 
-  module _ (cells : List ℤ) (f : SegmentFault) (x : DecodesItems (source_of outside) read.head read.size (no_error f) s t cells) where
+  module _ (cells : List ℤ) (f : SegmentFault) (x : DecodesItems (source_of outside) profile read.head read.size (no_error f) s t cells) where
     abbrev gave : List ℕ
     gave = x.went.gave
 
@@ -63,10 +64,10 @@ module _ {X : Type 0} (outside : X → Outside) (wish : DecodeWish) (start : Out
         subst (λ e. BeginsBy e now_read.took r) (sym now_read.going) (read_then outside wish start r (front ++ gave) t now_read before (λ first index b rest. Unit {0}) (h.begins, h.are) tt)
 
     -- an item is refused
-    item_refused : (name : Refusal) → RefusesItem read.head read.size x.octets name → Told start (ItemRefused wish.pixels (Some r.first) before w.index ((front ++ gave) ++ waiting t) name)
+    item_refused : (name : Refusal) → RefusesItem profile read.head read.size x.octets name → Told start (ItemRefused wish.pixels (Some r.first) before w.index ((front ++ gave) ++ waiting t) name)
     item_refused name refuses all told =
         let h = head all told in
-        let same : RefusesItem read.head (length front) gave name = subst (λ n. RefusesItem read.head n gave name) h.size (subst (λ l. RefusesItem read.head read.size l name) (is_gave all told) refuses) in
+        let same : RefusesItem profile read.head (length front) gave name = subst (λ n. RefusesItem profile read.head n gave name) h.size (subst (λ l. RefusesItem profile read.head read.size l name) (is_gave all told) refuses) in
         record { front = front; rest = gave ++ waiting t; head = read.head; parts = append_assoc front gave (waiting t); read = h.head; whole = h.whole; goes_on = (may_follow, (gave, waiting t, refl, same)) }
 
     reason_for : (cause : BareCause) → Told start (Refuses wish.pixels (Some r.first) before w.index ((front ++ gave) ++ waiting t) now cause) →
@@ -76,7 +77,7 @@ module _ {X : Type 0} (outside : X → Outside) (wish : DecodeWish) (start : Out
         read_then outside wish start r (front ++ gave) t now_read before (λ first index b rest. (w.index ≡ index) × Refuses wish.pixels first b w.index rest now cause) (h.begins, h.are) (at.index, why all told)
 
   -- it ends in the text
-  pub items_faulted : (cells : List ℤ) (f : SegmentFault) (fault : BareFault) → DecodesItems (source_of outside) read.head read.size (no_error f) s t cells → FaultOf w.index f fault → DecodesBare wish start now (Err fault)
+  pub items_faulted : (cells : List ℤ) (f : SegmentFault) (fault : BareFault) → DecodesItems (source_of outside) profile read.head read.size (no_error f) s t cells → FaultOf w.index f fault → DecodesBare wish start now (Err fault)
   items_faulted cells faults.BadOption fault x e = subst (λ f. DecodesBare wish start now (Err f)) (sym e)
       (ended_at outside wish start r (front ++ x.went.gave) t (now_read cells faults.BadOption x) (Err (Refused w.index BadOption)) (now_read cells faults.BadOption x).gave_is tt
       (reason_for cells faults.BadOption x BadOption (item_refused cells faults.BadOption x bad_option x.ends)))
@@ -96,8 +97,8 @@ module _ {X : Type 0} (outside : X → Outside) (wish : DecodeWish) (start : Out
       let here = rest_told outside wish start r (front ++ x.went.gave) t (now_read cells faults.ShortSegment x) all told in
       let over = ends_plain now.rest (waiting t) here.0 t.left here.1 x.ends.0 in
       let rest : x.went.gave ++ waiting t ≡ x.went.gave = ap (λ l. x.went.gave ++ l) over.none ∙ append-nil x.went.gave in
-      let lacks : LacksItems read.head (length front) (x.went.gave ++ waiting t) =
-      subst (LacksItems read.head (length front)) (sym rest) (subst (λ n. LacksItems read.head n x.went.gave) h.size (subst (LacksItems read.head read.size) (is_gave cells faults.ShortSegment x all told) x.ends.1)) in
+      let lacks : LacksItems profile read.head (length front) (x.went.gave ++ waiting t) =
+      subst (LacksItems profile read.head (length front)) (sym rest) (subst (λ n. LacksItems profile read.head n x.went.gave) h.size (subst (LacksItems profile read.head read.size) (is_gave cells faults.ShortSegment x all told) x.ends.1)) in
       (record { front = front; rest = x.went.gave ++ waiting t; head = read.head; parts = append_assoc front x.went.gave (waiting t); read = h.head; whole = h.whole; goes_on = (may_follow, lacks) }, over.end))))
   items_faulted cells faults.Overlong fault x e = absurd x.ends
   items_faulted cells faults.BrokenSegment fault x e = subst (λ f. DecodesBare wish start now (Err f)) (sym e)
@@ -115,7 +116,7 @@ module _ {X : Type 0} (outside : X → Outside) (wish : DecodeWish) (start : Out
       (omega (arith, left, none), begins cells faults.LongInput x all told)))
 
   -- it is read
-  module _ (cells : List ℤ) (part : Part) (x : DecodesItems (source_of outside) read.head read.size (Ok part) s t cells) where
+  module _ (cells : List ℤ) (part : Part) (x : DecodesItems (source_of outside) profile read.head read.size (Ok part) s t cells) where
     pub text_at : (v : Walk) → v.first ≡ w.first → v.index ≡ w.index → v.pixels ≡ w.pixels → v.picture ≡ w.picture → IsAt outside wish start r (front ++ x.went.gave) t v
     text_at v first index pixels picture = record {
       read = read_on outside wish.octets start r front s t at.read x.went;
@@ -129,8 +130,8 @@ module _ {X : Type 0} (outside : X → Outside) (wish : DecodeWish) (start : Out
     pub is_text : Told start (AgreeingText r.first before w.index (front ++ x.went.gave) (blocks_in cells) (λ h after. (h ≡ read.head) × (after ≡ w.parts)))
     is_text all told =
         let h = head all told in
-        let held : HoldsItems read.head (length front) x.went.gave (blocks_in cells) part =
-        subst (λ n. HoldsItems read.head n x.went.gave (blocks_in cells) part) h.size (subst (λ l. HoldsItems read.head read.size l (blocks_in cells) part) (gave_told outside wish.octets start r front s t at.read x.went x.octets x.came all told) x.ends) in
+        let held : HoldsItems profile read.head (length front) x.went.gave (blocks_in cells) part =
+        subst (λ n. HoldsItems profile read.head n x.went.gave (blocks_in cells) part) h.size (subst (λ l. HoldsItems profile read.head read.size l (blocks_in cells) part) (gave_told outside wish.octets start r front s t at.read x.went x.octets x.came all told) x.ends) in
         record {
           head = read.head;
           after = w.parts;

@@ -2,6 +2,7 @@
 use Rattle.std.specs.Prelude.{◌≡◌, ◌+◌, ℕ, ℤ, true, false, List, [], ◌∷◌, ◌++◌, length, None, Ok}
 use Rattle.base_122.specs.declared.geometry.Geometry.{Geometry}
 use Rattle.bit_pipe.specs.declared.fault.Part.{Part}
+use Rattle.plane_defs.specs.Profile.{profile}
 use Rattle.segment_defs.specs.declared.head.SegmentHead.{SegmentHead}
 use Rattle.segment_defs.specs.Reading.{first_refusal}
 use Rattle.segment_code.specs.ItemsHeld.{HoldsItems}
@@ -18,7 +19,7 @@ pub record IsText (before : PartsInForce) (octets : List ℕ) (head : SegmentHea
   pub read : bare_head_read before front ≡ Ok head
   pub whole : length front ≡ bare_length front
   pub part : Part
-  pub holds : HoldsItems head (length front) rest blocks part
+  pub holds : HoldsItems profile head (length front) rest blocks part
   pub force : after ≡ parts_after before front
 
 -- the head of the segment of this index agrees with the first head

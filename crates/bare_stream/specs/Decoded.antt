@@ -5,6 +5,7 @@ use Rattle.port_122.specs.Outside.{Outside, Since, AtEnd, Rose}
 use Rattle.base_122.specs.declared.geometry.Geometry.{Geometry}
 use Rattle.base_122.specs.declared.wish.DecodeWish.{DecodeWish}
 use Rattle.item_defs.specs.Items.{Refusal, bad_option, bad_delta, bad_depth, false_flag}
+use Rattle.plane_defs.specs.Profile.{profile}
 use Rattle.segment_defs.specs.declared.head.SegmentHead.{SegmentHead}
 use Rattle.segment_defs.specs.declared.fault.HeadFault.{HeadFault}
 use Rattle.segment_defs.specs.declared.fault.HeadFault.TheVariants.{HeadShort, MissingPart}
@@ -55,7 +56,7 @@ pub record MayFollow (pixels : ℕ) (first : SegmentHead) (index : ℕ) (head : 
 -- after a head that may follow there are octets of items, of which one is refused by this name
 abbrev pub ItemRefused : (pixels : ℕ) → (first : Option SegmentHead) → PartsInForce → (index : ℕ) → List ℕ → Refusal → Type 0
 ItemRefused pixels first before index octets name = HeadThen before octets (λ head size rest.
-    MayFollow pixels (unwrap_or first head) index head × ((items more : List ℕ) × (rest ≡ items ++ more) × RefusesItem head size items name))
+    MayFollow pixels (unwrap_or first head) index head × ((items more : List ℕ) × (rest ≡ items ++ more) × RefusesItem profile head size items name))
 
 -- The segment of this index, whose octets are the first of these, is none, with this cause. If it is the first one, its head is the first head.
 abbrev pub Refuses : (pixels : ℕ) → (first : Option SegmentHead) → PartsInForce → (index : ℕ) → List ℕ → (now : Outside) → BareCause → Type 0
@@ -67,7 +68,7 @@ Refuses pixels first before index octets now BadDelta = ItemRefused pixels first
 Refuses pixels first before index octets now BadDepth = ItemRefused pixels first before index octets bad_depth
 Refuses pixels first before index octets now FalseFlag = ItemRefused pixels first before index octets false_flag
 Refuses pixels first before index octets now Short =
-    HeadThen before octets (λ head size rest. MayFollow pixels (unwrap_or first head) index head × LacksItems head size rest) × AtEnd now
+    HeadThen before octets (λ head size rest. MayFollow pixels (unwrap_or first head) index head × LacksItems profile head size rest) × AtEnd now
 Refuses pixels first before index octets now Trailing = ⊥
 
 -- ---- the decoder

@@ -1,5 +1,6 @@
 // The memory for the blocks of one segment, and the items of its text.
 ghost use Rattle.std.specs.Prelude.{◌≡◌, ◌≤◌, ◌*◌, take, length};
+ghost use Rattle.plane_defs.specs.Profile.{profile};
 ghost use Rattle.segment_defs.specs.Head.{IsHead};
 ghost use Rattle.bare_stream.specs.Inputs.{source_of};
 ghost use Rattle.segment_code.specs.DecodedItems.{DecodesItems};
@@ -7,7 +8,7 @@ ghost use Rattle.bare_stream.specs.Heads.{FaultOf};
 
 use crate::fault::{BareCause, BareFault};
 use crate::input::PortIn;
-use bare_text::{BareHead, SegmentFault, SegmentReader};
+use bare_text::{BareHead, BareReader, SegmentFault};
 use bit_pipe::Part;
 use port_122::Port;
 use std::alloc::{AllocError, Global};
@@ -15,7 +16,7 @@ use std::alloc::{AllocError, Global};
 /// What the texts of segments are read with: the blocks of one segment, and a state for each.
 #[derive(Drop)]
 pub struct Room {
-    pub reader: SegmentReader,
+    pub reader: BareReader,
     pub blocks: Vec<i32>,
     pub marks: Vec<i32>,
 }
@@ -33,7 +34,7 @@ impl Room {
         let blocks = vec![in alloc; 0; 64 * count]?;
         let marks = vec![in alloc; 0; count]?;
         Ok(Room {
-            reader: SegmentReader::new(),
+            reader: BareReader::new(),
             blocks,
             marks,
         })
@@ -59,7 +60,7 @@ pub fn items_fault(fault: SegmentFault, index: u32) -> BareFault
 /// Reads the items of a text after its head into the first of these blocks.
 pub fn read_items<X: Port>(
     input: &mut PortIn<X>,
-    reader: &SegmentReader,
+    reader: &BareReader,
     read: &BareHead,
     blocks: &mut [i32],
     marks: &mut [i32],
@@ -68,7 +69,7 @@ pub fn read_items<X: Port>(
     requires size { read.now.size ≤ 20 }
     requires blocks { 64 * read.now.head.blocks ≤ length blocks.old }
     requires marks { read.now.head.blocks ≤ length marks.old }
-    ensures items { DecodesItems (source_of X.outside) read.now.head read.now.size result input.old input.new (take (64 * read.now.head.blocks) blocks.new) }
+    ensures items { DecodesItems (source_of X.outside) profile read.now.head read.now.size result input.old input.new (take (64 * read.now.head.blocks) blocks.new) }
     ensures sizes { (length blocks.new ≡ length blocks.old) × (length marks.new ≡ length marks.old) }
 {
     let count = read.head.blocks as usize;
