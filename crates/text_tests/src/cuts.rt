@@ -8,6 +8,7 @@ use gaggle_codes::{NumberRange, take_values};
 use segment_code::decode_segment;
 use segment_head::read_head;
 use std::test::Fail;
+use word_codes::profile_book;
 
 // Reads four signed numbers of four bits from a number of these bits.
 #[tactic(auto, using(bit_pipe::proofs::Taking::in_after_item))]
@@ -145,7 +146,13 @@ fn segments_cut_at_each_limit(rt: HostRuntime) -> Result<(), Fail> {
         assert_eq!(rt; (head.limit, head.blocks), (u32::from(limit), 16));
         let mut blocks = [7; 1024];
         let mut input = SliceIn::new(&text[19..usize::from(limit)]);
-        let answer = decode_segment(&mut input, &head, &mut blocks, &mut [7; 16]);
+        let answer = decode_segment(
+            &mut input,
+            &head,
+            &mut blocks,
+            &mut [7; 16],
+            &profile_book(),
+        );
         let part = if limit < 54 { Part::Ended } else { Part::Whole };
         assert_eq!(rt; answer, Ok(part), "limit {limit}");
         assert_eq!(rt;

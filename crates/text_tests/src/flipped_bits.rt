@@ -7,6 +7,7 @@ use bit_pipe::{Part, SliceIn};
 use segment_code::{SegmentFault, decode_segment};
 use segment_head::read_head;
 use std::process::Abort;
+use word_codes::profile_book;
 
 // A letter for each answer.
 fn letter_of(answer: Result<Part, SegmentFault>) -> u8 {
@@ -38,7 +39,13 @@ fn letter(text: &[u8], blocks: &mut [i32], marks: &mut [i32]) -> u8
     let Some(rest) = text.get(usize::from(head.octets())..) else {
         return b'H';
     };
-    letter_of(decode_segment(&mut SliceIn::new(rest), &head, blocks, marks))
+    letter_of(decode_segment(
+        &mut SliceIn::new(rest),
+        &head,
+        blocks,
+        marks,
+        &profile_book(),
+    ))
 }
 
 // Flips each bit of a text in turn. The rows have the letters for the bits of each octet, from the highest.

@@ -18,6 +18,8 @@ mod numbers;
 #[cfg(test)]
 mod numbers_read;
 #[cfg(test)]
+mod other_books;
+#[cfg(test)]
 mod planes;
 #[cfg(test)]
 mod planes_read;

@@ -7,6 +7,7 @@ use bit_pipe::SliceOut;
 use segment_code::{encode_segment, segment_depths};
 use segment_head::read_head;
 use std::process::Abort;
+use word_codes::profile_book;
 
 fn depths_of(rt: &impl Abort, blocks: &[i32], marks: &mut [i32]) -> (u8, u8)
     requires count { length blocks.now ≡ 64 * length marks.old }
@@ -40,7 +41,14 @@ fn encode(rt: &impl Abort, octets: &[u8], blocks: &[i32], marks: &mut [i32], int
     assert_eq!(rt; depths.0, head.depth_dc);
     assert_eq!(rt; depths.1, head.depth_ac);
     assert_eq!(rt; head.blocks, marks.len() as u32);
-    encode_segment(&mut SliceOut::new(into), &head, blocks, marks).expect(rt, "room")
+    encode_segment(
+        &mut SliceOut::new(into),
+        &head,
+        blocks,
+        marks,
+        &profile_book(),
+    )
+    .expect(rt, "room")
 }
 
 // The text of 17 by 17 pixels of 200 as one segment of nine blocks: no AC number, and 1,600 for each DC.

@@ -7,6 +7,7 @@ use bit_pipe::{Part, SliceIn};
 use segment_code::{SegmentFault, decode_segment};
 use segment_head::read_head;
 use std::process::Abort;
+use word_codes::profile_book;
 
 // Reads the text of a segment from its head on.
 fn decode(
@@ -23,7 +24,13 @@ fn decode(
     let rest = text
         .get(usize::from(head.octets())..)
         .expect(rt, "a head's octets");
-    decode_segment(&mut SliceIn::new(rest), &head, blocks, marks)
+    decode_segment(
+        &mut SliceIn::new(rest),
+        &head,
+        blocks,
+        marks,
+        &profile_book(),
+    )
 }
 
 // The answer to the head of one block that has three numbers, with other octets after it.
