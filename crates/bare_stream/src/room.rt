@@ -8,19 +8,17 @@ ghost use Rattle.bare_stream.specs.Heads.{FaultOf};
 
 use crate::fault::{BareCause, BareFault};
 use crate::input::PortIn;
-use bare_text::{BareHead, SegmentFault, SegmentReader};
+use bare_text::{BareHead, BareReader, SegmentFault};
 use bit_pipe::Part;
 use port_122::Port;
 use std::alloc::{AllocError, Global};
-use word_codes::profile_book;
 
 /// What the texts of segments are read with: the blocks of one segment, and a state for each.
 #[derive(Drop)]
 pub struct Room {
-    pub reader: SegmentReader,
+    pub reader: BareReader,
     pub blocks: Vec<i32>,
     pub marks: Vec<i32>,
-    ghost of_profile: { reader.tables.book ≡ profile },
 }
 
 impl Room {
@@ -36,7 +34,7 @@ impl Room {
         let blocks = vec![in alloc; 0; 64 * count]?;
         let marks = vec![in alloc; 0; count]?;
         Ok(Room {
-            reader: SegmentReader::new(&profile_book()),
+            reader: BareReader::new(),
             blocks,
             marks,
         })
@@ -62,12 +60,11 @@ pub fn items_fault(fault: SegmentFault, index: u32) -> BareFault
 /// Reads the items of a text after its head into the first of these blocks.
 pub fn read_items<X: Port>(
     input: &mut PortIn<X>,
-    reader: &SegmentReader,
+    reader: &BareReader,
     read: &BareHead,
     blocks: &mut [i32],
     marks: &mut [i32],
 ) -> Result<Part, SegmentFault>
-    requires book { reader.now.tables.book ≡ profile }
     requires fits { IsHead read.now.head }
     requires size { read.now.size ≤ 20 }
     requires blocks { 64 * read.now.head.blocks ≤ length blocks.old }

@@ -5,6 +5,7 @@ ghost use Rattle.bit_pipe.specs.Standing.{IsReady, Writes};
 ghost use Rattle.wave_defs.specs.Held.{blocks_in};
 ghost use Rattle.plane_defs.specs.Marks.{depths_of};
 ghost use Rattle.plane_defs.specs.Codes.{is_book_sound};
+ghost use Rattle.plane_coder.specs.Coders.{Keeps, book_of};
 ghost use Rattle.segment_defs.specs.Depths.{block_depths};
 ghost use Rattle.segment_defs.specs.Head.{IsHead};
 ghost use Rattle.segment_defs.specs.SegmentItems.{stages_sent, q_of};
@@ -13,7 +14,7 @@ ghost use Rattle.segment_code.specs.Parts.{coded_plane, coded_planes};
 use crate::tells::plan_of;
 use base_122::Book;
 use bit_pipe::{BitOut, OctetOut, PutFault};
-use plane_coder::{CodeTables, PlanePlan, put_plane_with};
+use plane_coder::{CodeTables, PlaneCoder, PlanePlan};
 use segment_head::SegmentHead;
 
 // How many stages of a plane are sent.
@@ -52,16 +53,19 @@ fn put_nth_plane<O: OctetOut>(
     head: &SegmentHead,
     blocks: &[i32],
     marks: &mut [i32],
-    tables: &CodeTables,
+    coder: &mut PlaneCoder,
     n: u8,
 ) -> Result<(), PutFault>
     requires fits { IsHead head.now }
     requires open { IsReady O.sink out.old }
     requires within { n < head.now.depth_ac }
+    requires keeps { Keeps blocks.now coder.old }
     requires count { length blocks.now ≡ 64 * length marks.old }
     requires depths { depths_of marks.old ≡ block_depths (blocks_in blocks.now) }
-    ensures puts { Writes O.sink result out.old out.new (text (coded_plane tables.now.book head.now (blocks_in blocks.now) n)) }
+    ensures puts { Writes O.sink result out.old out.new (text (coded_plane (book_of coder.old) head.now (blocks_in blocks.now) n)) }
     ensures depths { depths_of marks.new ≡ depths_of marks.old }
+    ensures book { book_of coder.new ≡ book_of coder.old }
+    ensures keeps { Keeps blocks.now coder.new }
 {
     let plane = head.depth_ac - 1 - n;
     let stages = stages_sent(head, plane);
@@ -69,7 +73,7 @@ fn put_nth_plane<O: OctetOut>(
         return Ok(());
     }
     let plan = plane_plan(head, plane, stages - 1);
-    put_plane_with(out, blocks, marks, &plan, tables)
+    coder.put(out, blocks, marks, &plan)
 }
 
 // Puts the planes from the top down, as far as they are sent.
@@ -89,8 +93,9 @@ pub(crate) fn put_planes<O: OctetOut>(
     ensures depths { depths_of marks.new ≡ depths_of marks.old }
 {
     let tables = CodeTables::new(book);
+    let mut coder = PlaneCoder::new(&tables);
     for n in 0..head.depth_ac {
-        put_nth_plane(out, head, blocks, marks, &tables, n)?;
+        put_nth_plane(out, head, blocks, marks, &mut coder, n)?;
     }
     Ok(())
 }

@@ -11,6 +11,8 @@ loop-n-init g c = record {
   so_far = none_put (coded_plane c.new-tables.result.book c.args.head.now (blocks_in c.args.blocks.now)) _ c.requires.open;
   is_open = c.requires.open;
   depths = refl;
+  book = c.new-coder.ensures.book;
+  keeps = c.new-coder.ensures.keeps c.args.blocks.now;
 }
 
 pub put_nth_plane-requires-clause-open : goal.put_nth_plane-requires-clause-open
@@ -23,10 +25,13 @@ pub loop-n-preserved : goal.loop-n-preserved
 loop-n-preserved g c =
     let i = c.loop-n.invariant in
     let p = c.in_ok-put_nth_plane.ensures in
+    let puts = rw i.book at p.puts in
     record {
-      so_far = more_put (coded_plane c.new-tables.result.book c.args.head.now (blocks_in c.args.blocks.now)) c.loop-n.n i.so_far p.puts.ends;
-      is_open = open_later i.is_open p.puts.ends;
+      so_far = more_put (coded_plane c.new-tables.result.book c.args.head.now (blocks_in c.args.blocks.now)) c.loop-n.n i.so_far puts.ends;
+      is_open = open_later i.is_open puts.ends;
       depths = p.depths ∙ i.depths;
+      book = p.book ∙ i.book;
+      keeps = p.keeps;
     }
 
 pub returns-in_err-put_nth_plane : goal.returns-in_err-put_nth_plane
@@ -34,9 +39,10 @@ returns-in_err-put_nth_plane g c =
     let e = err_from_is_err_and c.from_residual.result c.from_residual.ensures.1 in
     let i = c.loop-n.invariant in
     let p = c.in_err-put_nth_plane.ensures in
+    let puts = rw i.book at p.puts in
     let below : c.loop-n.n < c.args.head.now.depth_ac = omega (arith, c.loop-n-test.true) in
     rw (e.1, e.2) (record {
-      puts = rw c.new-tables.ensures at (put_ended (coded_plane c.new-tables.result.book c.args.head.now (blocks_in c.args.blocks.now)) c.loop-n.n c.args.head.now.depth_ac below i.so_far p.puts);
+      puts = rw c.new-tables.ensures at (put_ended (coded_plane c.new-tables.result.book c.args.head.now (blocks_in c.args.blocks.now)) c.loop-n.n c.args.head.now.depth_ac below i.so_far puts);
       depths = p.depths ∙ i.depths;
     })
 
