@@ -4,6 +4,7 @@ ghost use Rattle.std.specs.Prelude.{◌≡◌, ◌≤◌, ◌*◌, length};
 use bit_pipe::{Part, SliceIn, SliceOut};
 use segment_code::{SegmentFault, decode_segment, encode_segment, segment_depths};
 use segment_head::read_head;
+use word_codes::profile_book;
 
 // What a head says beside the depths and the number of blocks: the weights, two bits each, the octets of a code word, the
 // limit and whether it is filled, the stop, and how the options of DCs and depths are chosen.
@@ -82,7 +83,14 @@ pub(crate) fn put_text(
     if head.depth_dc != depths.0 || head.depth_ac != depths.1 || head.blocks != count {
         return 0;
     }
-    encode_segment(&mut SliceOut::new(into), &head, blocks, marks).unwrap_or(0)
+    encode_segment(
+        &mut SliceOut::new(into),
+        &head,
+        blocks,
+        marks,
+        &profile_book(),
+    )
+    .unwrap_or(0)
 }
 
 // What a text is answered. `ManyBlocks` says that there are more than there is room for, `Other` what can't come.
@@ -138,6 +146,7 @@ pub(crate) fn take_text(text: &[u8], blocks: &mut [i32], marks: &mut [i32]) -> (
         &head,
         &mut blocks[..numbers],
         &mut marks[..count],
+        &profile_book(),
     );
     (answer_of(given), numbers)
 }

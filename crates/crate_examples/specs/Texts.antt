@@ -1,6 +1,7 @@
 -- What a segment's text is read as, from its head on. This project's own.
 use Rattle.std.specs.Prelude.{◌≡◌, ℕ, List, drop, Result, Ok, Err}
 use Rattle.item_defs.specs.Items.{bad_option, bad_delta, bad_depth, false_flag}
+use Rattle.plane_defs.specs.Profile.{profile}
 use Rattle.segment_defs.specs.declared.head.SegmentHead.{SegmentHead}
 use Rattle.segment_defs.specs.Head.{head_length}
 use Rattle.segment_defs.specs.Reading.{head_read}
@@ -14,12 +15,12 @@ use Rattle.crate_examples.specs.declared.texts.NotRead.TheVariants.{BadHead, Bad
 
 -- octets after a head are refused by this name; no other comes where they stand in memory
 abbrev pub RefusedFor : SegmentHead → List ℕ → SegmentFault → Type 0
-RefusedFor head rest BadOption = Refused head rest (at_item bad_option)
-RefusedFor head rest BadDelta = Refused head rest (at_item bad_delta)
-RefusedFor head rest BadDepth = Refused head rest (at_item bad_depth)
-RefusedFor head rest FalseFlag = Refused head rest (at_item false_flag)
-RefusedFor head rest ShortSegment = Refused head rest short_segment
-RefusedFor head rest Overlong = Refused head rest overlong
+RefusedFor head rest BadOption = Refused profile head rest (at_item bad_option)
+RefusedFor head rest BadDelta = Refused profile head rest (at_item bad_delta)
+RefusedFor head rest BadDepth = Refused profile head rest (at_item bad_depth)
+RefusedFor head rest FalseFlag = Refused profile head rest (at_item false_flag)
+RefusedFor head rest ShortSegment = Refused profile head rest short_segment
+RefusedFor head rest Overlong = Refused profile head rest overlong
 RefusedFor head rest BrokenSegment = ⊥
 RefusedFor head rest ReadFault = ⊥
 RefusedFor head rest LongInput = ⊥
@@ -31,7 +32,7 @@ pub record IsRefused (text : List ℕ) (head : SegmentHead) (fault : SegmentFaul
 
 -- its blocks, or why there are none
 abbrev pub IsReadAs : List ℕ → Result SegmentBlocks NotRead → Type 0
-IsReadAs text (Ok got) = (head_read text ≡ Ok got.head) × HoldsPart got.head (drop (head_length got.head) text) got.numbers.items got.part
+IsReadAs text (Ok got) = (head_read text ≡ Ok got.head) × HoldsPart profile got.head (drop (head_length got.head) text) got.numbers.items got.part
 IsReadAs text (Err (BadHead fault)) = head_read text ≡ Err fault
 IsReadAs text (Err (BadText fault)) = (head : SegmentHead) × IsRefused text head fault
 IsReadAs text (Err NoMemory) = Unit {0}

@@ -5,6 +5,7 @@ use bit_pipe::{Part, SliceIn};
 use segment_code::{SegmentFault, decode_segment};
 use segment_head::{HeadFault, SegmentHead, read_head};
 use std::alloc::Global;
+use word_codes::profile_book;
 
 /// What a segment's text holds: 64 numbers for each block, and whether all items stood in the text or the limit cut them.
 #[derive(Drop)]
@@ -42,7 +43,13 @@ pub fn read_text(alloc: Global, text: &[u8]) -> Result<SegmentBlocks, NotRead>
     let Ok(mut marks) = vec![in alloc; 0; count] else {
         return Err(NotRead::NoMemory);
     };
-    match decode_segment(&mut SliceIn::new(rest), &head, &mut numbers, &mut marks) {
+    match decode_segment(
+        &mut SliceIn::new(rest),
+        &head,
+        &mut numbers,
+        &mut marks,
+        &profile_book(),
+    ) {
         Ok(part) => Ok(SegmentBlocks {
             head,
             part,
