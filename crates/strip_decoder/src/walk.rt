@@ -11,8 +11,8 @@ use crate::sink::BlockSink;
 use base_122::{FieldRange, Geometry};
 use damage_rows::Damage;
 use segment_code::SegmentReader;
-use word_codes::profile_book;
 use std::alloc::{AllocError, Global};
+use word_codes::profile_book;
 
 /// The block row and the column of the next block.
 #[derive(Clone, Copy, Debug, PartialEq, Eq)]
