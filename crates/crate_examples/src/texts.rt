@@ -43,9 +43,6 @@ pub fn read_text(alloc: Global, text: &[u8]) -> Result<SegmentBlocks, NotRead>
     let Ok(mut marks) = vec![in alloc; 0; count] else {
         return Err(NotRead::NoMemory);
     };
-<<<<<<< HEAD
-    match decode_segment(&mut SliceIn::new(rest), &head, &mut numbers, &mut marks, &profile_book()) {
-=======
     match decode_segment(
         &mut SliceIn::new(rest),
         &head,
@@ -53,7 +50,6 @@ pub fn read_text(alloc: Global, text: &[u8]) -> Result<SegmentBlocks, NotRead>
         &mut marks,
         &profile_book(),
     ) {
->>>>>>> a0416c17343f4e3b85bc7987e3578fcf7175442c
         Ok(part) => Ok(SegmentBlocks {
             head,
             part,

@@ -20,11 +20,7 @@ returns-in-Ok-decode_segment c =
     let decoded = c.in-Ok-decode_segment in
     let rest = rest_is c.args.text.now _ c.from.result (head_length head) c.new.ensures (c.from.ensures ∙ c.octets.ensures) in
     let same = with_items_is c.in-Ok-vec.numbers c.decode_segment.new.blocks (decoded.ensures.sizes.0 ∙ c.deref_mut.ensures.len) in
-<<<<<<< HEAD
-    (sym c.in-Ok.ensures.value, subst (λ numbers. HoldsPart profile head (drop (head_length head) c.args.text.now) numbers decoded.part) (sym same) (read_all head _ (Ok decoded.part) _ _ _ rest decoded.ensures.decodes))
-=======
     (sym c.in-Ok.ensures.value, subst (λ numbers. HoldsPart profile head (drop (head_length head) c.args.text.now) numbers decoded.part) (sym same) (read_all head _ (Ok decoded.part) _ _ _ rest (rw c.profile_book.ensures.profile at decoded.ensures.decodes)))
->>>>>>> a0416c17343f4e3b85bc7987e3578fcf7175442c
 
 pub returns-in-Err-decode_segment : goal.returns-in-Err-decode_segment
 returns-in-Err-decode_segment c =
