@@ -116,10 +116,10 @@ module _ (head : SegmentHead) (size : ℕ) (fits : IsHead head) (rest : List ℕ
     others = segment_items head b.blocks b.depths b.options
 
     alike : ItemsAlike is others
-    alike = segment_alike head a.blocks b.blocks a.depths b.depths a.options b.options fits a.items.spellable b.items.spellable a.items.known b.items.known
+    alike = segment_alike head a.blocks b.blocks a.depths b.depths a.options b.options fits a.items.spellable b.items.spellable a.items.known b.items.known (a.of_book ∙ sym b.of_book)
 
     alike_back : ItemsAlike others is
-    alike_back = segment_alike head b.blocks a.blocks b.depths a.depths b.options a.options fits b.items.spellable a.items.spellable b.items.known a.items.known
+    alike_back = segment_alike head b.blocks a.blocks b.depths a.depths b.options a.options fits b.items.spellable a.items.spellable b.items.known a.items.known (b.of_book ∙ sym a.of_book)
 
     -- the octets that are cut go on at least as far
     cut_at : (left : List ℕ) → NothingFollows is a.count a.more → rest ≡ items ++ left → ⊥
@@ -152,10 +152,10 @@ module _ (head : SegmentHead) (size : ℕ) (fits : IsHead head) (rest : List ℕ
     those = segment_items head b.blocks b.depths b.options
 
     same : ItemsAlike is those
-    same = segment_alike head a.blocks b.blocks a.depths b.depths a.options b.options fits a.items.spellable b.items.spellable a.items.known b.items.known
+    same = segment_alike head a.blocks b.blocks a.depths b.depths a.options b.options fits a.items.spellable b.items.spellable a.items.known b.items.known (a.of_book ∙ sym b.of_book)
 
     back : ItemsAlike those is
-    back = segment_alike head b.blocks a.blocks b.depths a.depths b.options a.options fits b.items.spellable a.items.spellable b.items.known a.items.known
+    back = segment_alike head b.blocks a.blocks b.depths a.depths b.options a.options fits b.items.spellable a.items.spellable b.items.known a.items.known (b.of_book ∙ sym a.of_book)
 
     front : Front is a.count (bits_of_octets (rest ++ more)) (a.more ++ bits_of_octets more)
     front = further rest more a.items.front
