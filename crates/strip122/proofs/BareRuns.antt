@@ -244,7 +244,7 @@ before_note {wish} {old} {new} r = record {
     given = r.since.given;
     noted = nothing_grown old.noted;
     asked = r.since.asked;
-    faults = r.since.faults;
+    faults = record { reads = r.since.faults.reads; writes = r.since.faults.writes; notes = r.since.faults.notes };
   };
   within = r.within;
   gives = r.cause.gives;
