@@ -77,11 +77,11 @@ least_blocks first index head e more =
 
 -- ---- a head that isn't the last
 
-pub record GoesOn (first : SegmentHead) (index : ℕ) (head : SegmentHead) : Type 0 where
+pub record Continues (first : SegmentHead) (index : ℕ) (head : SegmentHead) : Type 0 where
   pub blocks : head.blocks ≡ first.blocks
   pub room : blocks_before first index + first.blocks < 32768 * columns first
 
-pub goes_on : (first : SegmentHead) (index : ℕ) (head : SegmentHead) → AgreesWith first index head → head.last ≡ false → GoesOn first index head
+pub goes_on : (first : SegmentHead) (index : ℕ) (head : SegmentHead) → AgreesWith first index head → head.last ≡ false → Continues first index head
 goes_on first index head e more =
     let a = agrees first index head e in
     let b = both (if head.last then nat_le 1 head.blocks && nat_le head.blocks first.blocks else head.blocks == first.blocks) (nat_le 16 first.blocks || first.last) a.blocks in

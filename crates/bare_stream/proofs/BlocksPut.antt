@@ -9,12 +9,12 @@ use Rattle.base_122.specs.declared.geometry.Geometry.{Geometry}
 use Rattle.wave_defs.specs.Held.{block_at}
 use Rattle.stream_defs.specs.Settled.{rows_through, block_rows_before}
 use Rattle.picture_rows.specs.Fronts.{rows_of}
-use Rattle.picture_rows.specs.Pictures.{Shown, IsStanding, passed_in, total_in}
-use Rattle.picture_rows.specs.Steps.{BreaksOff, HasPassed, HasNextNumbers}
+use Rattle.picture_rows.specs.Pictures.{PictureState, IsCurrent, passed_in, total_in}
+use Rattle.picture_rows.specs.Steps.{StopsEarly, HasPassed, HasNextNumbers}
 use Rattle.picture_rows.proofs.RowsOut.{front_within, rows_through-rises}
 use Rattle.bare_stream.specs.Blocks.{HasNextBlocks, HasPutBlocks, PutsBlocks}
 
-pub none_put : (cells : List ℤ) (p : Shown) (a : Outside) → IsStanding p → HasPutBlocks cells 0 a a p p
+pub none_put : (cells : List ℤ) (p : PictureState) (a : Outside) → IsCurrent p → HasPutBlocks cells 0 a a p p
 none_put cells p a standing = record {
   standing = standing;
   geometry = refl;
@@ -22,11 +22,11 @@ none_put cells p a standing = record {
   goes = record { gave = []; out = since_start a NoRead; follows = λ numbers n. n.stands; given = λ numbers n. append-nil (rows_of p.geometry numbers p.at.next) };
 }
 
-pub puts_failed : {T E : Type 0} {a b : Outside} {p : Shown} (r : Result T E) (cells : List ℤ) (n : ℕ) (z : Shown) → IsErr r → BreaksOff (HasNextBlocks cells n p) (block_rows_before p.geometry (passed_in p + n)) a b p → PutsBlocks r cells n a b p z
+pub puts_failed : {T E : Type 0} {a b : Outside} {p : PictureState} (r : Result T E) (cells : List ℤ) (n : ℕ) (z : PictureState) → IsErr r → StopsEarly (HasNextBlocks cells n p) (block_rows_before p.geometry (passed_in p + n)) a b p → PutsBlocks r cells n a b p z
 puts_failed (Ok x) cells n z is broken = absurd (false≢true is)
 puts_failed (Err e) cells n z is broken = broken
 
-module _ (cells : List ℤ) (i : ℕ) {a b : Outside} (p x : Shown) (put : HasPutBlocks cells i a b p x) where
+module _ (cells : List ℤ) (i : ℕ) {a b : Outside} (p x : PictureState) (put : HasPutBlocks cells i a b p x) where
   -- the first ones, and the next
   first_ones : (n : ℕ) (numbers : ℕ → ℕ → ℤ) → i ≤ n → HasNextBlocks cells n p numbers → HasNextBlocks cells i p numbers
   first_ones n numbers le next = record { stands = next.stands; next = λ k j lt small. next.next k j (omega (arith, lt, le)) small }
@@ -40,7 +40,7 @@ module _ (cells : List ℤ) (i : ℕ) {a b : Outside} (p x : Shown) (put : HasPu
   so_far : (n : ℕ) (numbers : ℕ → ℕ → ℤ) → i < n → HasNextBlocks cells n p numbers → rows_of p.geometry numbers p.at.next ++ put.goes.gave ≡ rows_of p.geometry numbers x.at.next
   so_far n numbers lt next = put.goes.given numbers (first_ones n numbers (omega (arith, lt)) next)
 
-  pub put_then : {c : Outside} (z : Shown) → HasPassed (HasNextNumbers (block_at cells i) x) b c x z → HasPutBlocks cells (i + 1) a c p z
+  pub put_then : {c : Outside} (z : PictureState) → HasPassed (HasNextNumbers (block_at cells i) x) b c x z → HasPutBlocks cells (i + 1) a c p z
   put_then z one = record {
     standing = one.standing;
     geometry = one.geometry ∙ put.geometry;
@@ -57,8 +57,8 @@ module _ (cells : List ℤ) (i : ℕ) {a b : Outside} (p x : Shown) (put : HasPu
   }
 
   -- a write failed at the next
-  pub broke_then : {c : Outside} (n : ℕ) → i < n → IsStanding p → passed_in p + n ≤ total_in p → BreaksOff (HasNextNumbers (block_at cells i) x) (block_rows_before x.geometry (passed_in x + 1)) b c x →
-      BreaksOff (HasNextBlocks cells n p) (block_rows_before p.geometry (passed_in p + n)) a c p
+  pub broke_then : {c : Outside} (n : ℕ) → i < n → IsCurrent p → passed_in p + n ≤ total_in p → StopsEarly (HasNextNumbers (block_at cells i) x) (block_rows_before x.geometry (passed_in x + 1)) b c x →
+      StopsEarly (HasNextBlocks cells n p) (block_rows_before p.geometry (passed_in p + n)) a c p
   broke_then n lt standing room broken = record {
     gave = put.goes.gave ++ broken.gave;
     out = since_out put.goes.out broken.out;

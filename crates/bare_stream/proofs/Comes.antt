@@ -4,7 +4,7 @@ use Rattle.std.specs.Prelude.{Option, None, Bool, Err}
 use Rattle.std.proofs.lemmas.List.{length-take-le}
 use Rattle.std.proofs.lemmas.Nat.{div-mul-add}
 use Rattle.std.proofs.Math.Nat.{mul-le-mul_right}
-use Rattle.port_122.specs.Outside.{Outside, Since, GivenBy}
+use Rattle.port_122.specs.Outside.{Outside, Exchange, GivenBy}
 use Rattle.port_122.proofs.Stretches.{since_start, rose_since}
 use Rattle.port_122.proofs.ReadCalls.{since_prompt}
 use Rattle.base_122.specs.Sizes.{block_count, padded_size}
@@ -84,12 +84,12 @@ come_on s a b before old new come at same rows follows =
 -- ---- the segments before the present one are those that are settled
 
 -- the work as one that writes packets would be
-unfoldable shown : Setting → Work → Work
-shown s w = record w { packets = record { packet = s.packet; stage = Idle; texts = w.at.index; packets = 0; octets = 0; pending = [] } }
+unfoldable picture_state : Setting → Work → Work
+picture_state s w = record w { packets = record { packet = s.packet; stage = Idle; texts = w.at.index; packets = 0; octets = 0; pending = [] } }
 
 pub settled_now : (s : Setting) (w : Work) → IsBare s → IsAt s (block_count s.width) w → w.at.index < segments_of s → w.at.filled < present_size s w → rows_of w.strip < s.rows →
     w.at.index ≡ settled_in s s.rows (rows_of w.strip)
-unfolding shown
+unfolding picture_state
 settled_now s w bare at lt more less =
     let below : rows_of w.strip < padded_size s.rows = omega (arith, less) in
     let made = at.made in
@@ -97,7 +97,7 @@ settled_now s w bare at lt more less =
     let answered = at.rows.running still in
     let c = block_count s.width in
     let each : c * answered_of w.strip ≡ c * block_rows_in (rows_of w.strip) = ap (λ n. c * n) answered in
-    let running : IsRunning (plan s) (shown s w) = record {
+    let running : IsRunning (plan s) (picture_state s w) = record {
       gathered = record {
         made = record { row = made.row; blocks = made.blocks; marks = made.marks; strip = made.strip; packet = refl; room = made.room };
         share = record { left = λ some. absurd (some bare.no_total) };
@@ -112,7 +112,7 @@ settled_now s w bare at lt more less =
       answered = answered;
       running = still;
     } in
-    index_settled (plan s) (is_plan s bare) (rows_of w.strip) (shown s w) running refl (omega (arith, less)) (inl less)
+    index_settled (plan s) (is_plan s bare) (rows_of w.strip) (picture_state s w) running refl (omega (arith, less)) (inl less)
 
 -- ---- one more row
 
@@ -161,7 +161,7 @@ module _ (s : Setting) (bare : IsBare s) (before : Option SegmentHead) (p q : Ou
       ap (settled_texts s (come.took ++ part)) rows ∙ texts_at part
 
   -- octets of the next row were taken
-  part_taken : {m : Outside} (got : List ℕ) → Since q m got [] [] (InRow s.depth s.signed s.width got) → Since p m (come.took ++ got) come.gave [] (GivenBy (texts_for s) (come.took ++ got))
+  part_taken : {m : Outside} (got : List ℕ) → Exchange q m got [] [] (InRow s.depth s.signed s.width got) → Exchange p m (come.took ++ got) come.gave [] (GivenBy (texts_for s) (come.took ++ got))
   part_taken got read = since_prompt (texts_for s) come.since read
       (λ i j most r.
       let size = length-take-le i got most in
@@ -281,7 +281,7 @@ module _ (s : Setting) (bare : IsBare s) (old mid : Work) (less : old.at.rows < 
 
 module _ (s : Setting) (bare : IsBare s) (before : Option SegmentHead) (p q m : Outside) (old mid : Work) (got : List ℕ) (row : List ℤ) (lt : old.at.index < segments_of s)
     (more : old.at.filled < present_size s old) (less : old.at.rows < s.rows) (come : HasCome s (block_count s.width) before p q old) (only : OnlyRow old mid)
-    (read : Since q m got [] [] (InRow s.depth s.signed s.width got)) (size : length got ≡ row_length s) (in_range : FirstInRange s.depth s.signed got s.width)
+    (read : Exchange q m got [] [] (InRow s.depth s.signed s.width got)) (size : length got ≡ row_length s) (in_range : FirstInRange s.depth s.signed got s.width)
     (holds : HoldsRow s got row) (pad : IsPadded s.width row mid.row.items) (long : length mid.row.items ≡ padded_size s.width) (wide : vec_len mid.row ≡ padded_size s.width) where
   now_rows : (new : Work) → new.at.rows ≡ old.at.rows + 1 → raster_rows s new ≡ old.at.rows + 1
   now_rows new rows = omega (arith, rows, less)

@@ -7,7 +7,7 @@ use Rattle.port_122.proofs.Stretches.{since_start, since_weaker}
 use Rattle.base_122.specs.Sizes.{block_count, first_block}
 use Rattle.base_122.specs.declared.wish.DecodeWish.{DecodeWish}
 use Rattle.stream_defs.specs.Picture.{first_rows}
-use Rattle.picture_rows.specs.Pictures.{shown, IsFresh}
+use Rattle.picture_rows.specs.Pictures.{picture_state, IsFresh}
 use Rattle.picture_rows.proofs.RowsOut.{no_rows}
 use Rattle.segment_defs.specs.declared.head.SegmentHead.{SegmentHead}
 use Rattle.bare_text.specs.declared.parts.PartsInForce.{PartsInForce}
@@ -143,7 +143,7 @@ module _ {X : Type 0} (outside : X → Outside) (wish : DecodeWish) (s t : PortI
     pub no_memory : DecodesBare wish start now (Err Memory)
     no_memory = ended_at outside wish start r front t now_read (Err Memory) now_gave tt (begins_with outside wish start r front t now_read none_in_force force)
 
-    pub first_reading : (w : Walk) → w.first ≡ read.head → w.parts ≡ after → w.index ≡ 0 → w.pixels ≡ wish.pixels → IsFresh (shape_with read.head 262144) (shown w.picture) → IsReading outside wish start t w read
+    pub first_reading : (w : Walk) → w.first ≡ read.head → w.parts ≡ after → w.index ≡ 0 → w.pixels ≡ wish.pixels → IsFresh (shape_with read.head 262144) (picture_state w.picture) → IsReading outside wish start t w read
     first_reading w first parts index pixels new = record {
       r = r;
       front = front;

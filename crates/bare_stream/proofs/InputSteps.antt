@@ -4,7 +4,7 @@ use Rattle.std.specs.Prelude.{nat_lt, Bool, true, false, if◌then◌else◌, Op
 use Rattle.std.proofs.lemmas.Bool.Decides.{nat_tests}
 use Rattle.std.proofs.lemmas.List.{append-nil, append_cancel_right, length-take, take_all, drop-take, drop-drop, take-append-drop}
 use Rattle.std.proofs.Math.Seq.{take-append-add}
-use Rattle.port_122.specs.Outside.{Outside, Since, IsUsedUp, Loses}
+use Rattle.port_122.specs.Outside.{Outside, Exchange, IsUsedUp, Loses}
 use Rattle.port_122.proofs.Stretches.{since_start, since_weaker}
 use Rattle.bit_pipe.specs.Sources.{End, Tail, Plainly, TooLong, Comes, IsOver}
 use Rattle.bit_pipe.specs.declared.fault.InFault.{InFault}
@@ -32,7 +32,7 @@ module _ {X : Type 0} (outside : X → Outside) (s t : PortIn X) (xs : List ℕ)
     gave = xs;
     flow = append-nil (waiting s) ∙ waits;
     left = omega (arith, left);
-    since = subst (λ p. Since (outside s.port.now) (outside p.now) [] [] [] (AsksWithin (length (waiting s)) (length xs))) (sym port) (since_start (outside s.port.now) (AsksWithin (length (waiting s)) (length xs)));
+    since = subst (λ p. Exchange (outside s.port.now) (outside p.now) [] [] [] (AsksWithin (length (waiting s)) (length xs))) (sym port) (since_start (outside s.port.now) (AsksWithin (length (waiting s)) (length xs)));
   }
 
   pub given_comes : Comes (tail_of outside s) (tail_of outside t) xs

@@ -17,9 +17,9 @@ use Rattle.segment_defs.specs.Head.{IsHead}
 use Rattle.stream_defs.specs.Picture.{number_at, picture_of, whole_with}
 use Rattle.stream_defs.specs.Settled.{rows_through, block_rows_before}
 use Rattle.picture_rows.specs.Fronts.{rows_of}
-use Rattle.picture_rows.specs.Pictures.{Shown, shown, passed_in, total_in}
+use Rattle.picture_rows.specs.Pictures.{PictureState, picture_state, passed_in, total_in}
 use Rattle.picture_rows.specs.declared.picture.PictureAt.{PictureAt}
-use Rattle.picture_rows.specs.Steps.{BreaksOff, HasEnded as EndsAt}
+use Rattle.picture_rows.specs.Steps.{StopsEarly, HasEnded as EndsAt}
 use Rattle.bare_text.specs.Agreement.{blocks_before, height_at}
 use Rattle.bare_text.specs.declared.parts.PartsInForce.{PartsInForce}
 use Rattle.bare_text.specs.declared.read.BareHead.{BareHead}
@@ -82,7 +82,7 @@ module _ (w : Walk) (read : BareHead) (sound : IsSound w) (next : IsNext w read)
   pub last_fewer : height ≤ w.picture.geometry.rows
   last_fewer = let rows = ap (λ (g : Geometry). g.rows) sound.geometry in let most = end.most in omega (arith, rows, most)
 
-  pub last_more : passed_in (shown w.picture) < total_blocks w.picture.geometry.width height
+  pub last_more : passed_in (picture_state w.picture) < total_blocks w.picture.geometry.width height
   last_more =
       let wide = ap (λ (g : Geometry). total_blocks g.width height) sound.geometry in
       let some = end.some in
@@ -107,7 +107,7 @@ module _ (w : Walk) (read : BareHead) (sound : IsSound w) (next : IsNext w read)
       ]
 
   -- the picture with this height
-  module _ (e : Shown) (ended : EndsAt height (shown w.picture) e) where
+  module _ (e : PictureState) (ended : EndsAt height (picture_state w.picture) e) where
     pub passed_ended : passed_in e ≡ w.index * w.first.blocks
     passed_ended = ap₂ (λ (g : Geometry) (a : PictureAt). a.row * block_count g.width + a.column) ended.geometry ended.at ∙ sound.passed
 
@@ -192,9 +192,9 @@ module _ (w : Walk) (read : BareHead) (sound : IsSound w) (next : IsNext w read)
       blocks_all : w.index + 1 ≡ length all
       blocks_all = (let size = length-append r.blocks (held ∷ []) in let index = at.index in let same = at.read.same in omega (arith, size, index, same))
 
-      pub has_ended : (z : Walk) → HasPutBlocks cells read.head.blocks (outside t.port.now) (outside u.port.now) e (shown z.picture) → z.first ≡ w.first → z.index ≡ w.index + 1 → HasEnded outside wish start u z
+      pub has_ended : (z : Walk) → HasPutBlocks cells read.head.blocks (outside t.port.now) (outside u.port.now) e (picture_state z.picture) → z.first ≡ w.first → z.index ≡ w.index + 1 → HasEnded outside wish start u z
       has_ended z put first index =
-          let rows = rows_now shape r text held (Some g) at.read.gave cells read.head.blocks e shows last_long some few refl (shown z.picture) put (number_at (open_geometry r.first) (segments_in all)) (total_blocks w.first.image.width height) reached own ∙ closed in
+          let rows = rows_now shape r text held (Some g) at.read.gave cells read.head.blocks e shows last_long some few refl (picture_state z.picture) put (number_at (open_geometry r.first) (segments_in all)) (total_blocks w.first.image.width height) reached own ∙ closed in
           record {
             r = more;
             g = g;
@@ -212,7 +212,7 @@ module _ (w : Walk) (read : BareHead) (sound : IsSound w) (next : IsNext w read)
             stream = texts_told;
           }
 
-      pub last_broken : BreaksOff (HasNextBlocks cells read.head.blocks e) (block_rows_before e.geometry (passed_in e + read.head.blocks)) (outside t.port.now) (outside u.port.now) e → DecodesBare wish start (outside u.port.now) (Err WriteFault)
+      pub last_broken : StopsEarly (HasNextBlocks cells read.head.blocks e) (block_rows_before e.geometry (passed_in e + read.head.blocks)) (outside t.port.now) (outside u.port.now) e → DecodesBare wish start (outside u.port.now) (Err WriteFault)
       last_broken broken =
           let rows = rows_broken shape r text held (Some g) at.read.gave cells read.head.blocks e shows last_long some few refl (number_at (open_geometry r.first) (segments_in all)) (total_blocks w.first.image.width height) reached own broken in
           broken_off outside wish start r text broken.gave held t u at.read waits left broken.out broken.rose (Some g) rows.0 (rows.1 ∙ ap (take rows.0) closed)

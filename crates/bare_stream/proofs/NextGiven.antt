@@ -2,7 +2,7 @@
 use Rattle.std.proofs.Common.{◌≡◌, ◌≤◌, ◌<◌, ◌+◌, ◌*◌, ◌^◌, ℕ, ℤ, List, [], ◌∷◌, ◌++◌, length, take, refl, sym, ap, ◌∙◌, subst, arith, length-append}
 use Rattle.std.specs.Prelude.{Option, None, Some, Ok, Err, false}
 use Rattle.std.proofs.Math.Nat.{mul-le-mul_left}
-use Rattle.port_122.specs.Outside.{Outside, Since, NoRead, Rose}
+use Rattle.port_122.specs.Outside.{Outside, Exchange, NoRead, Rose}
 use Rattle.port_122.proofs.Stretches.{since_weaker, rose_since}
 use Rattle.base_122.specs.Sizes.{block_count, first_block, total_blocks}
 use Rattle.base_122.specs.declared.geometry.Geometry.{Geometry}
@@ -10,8 +10,8 @@ use Rattle.base_122.specs.declared.wish.DecodeWish.{DecodeWish}
 use Rattle.wave_defs.specs.Held.{blocks_in}
 use Rattle.segment_defs.specs.declared.head.SegmentHead.{SegmentHead}
 use Rattle.stream_defs.specs.Picture.{number_at}
-use Rattle.picture_rows.specs.Pictures.{shown, passed_in, total_in}
-use Rattle.picture_rows.specs.Steps.{BreaksOff}
+use Rattle.picture_rows.specs.Pictures.{picture_state, passed_in, total_in}
+use Rattle.picture_rows.specs.Steps.{StopsEarly}
 use Rattle.stream_defs.specs.Settled.{block_rows_before}
 use Rattle.bare_text.specs.declared.parts.PartsInForce.{PartsInForce}
 use Rattle.bare_text.specs.declared.read.BareHead.{BareHead}
@@ -28,7 +28,7 @@ use Rattle.bare_stream.specs.SegmentsRead.{SegmentsRead, AgreeingText, AreTexts,
 use Rattle.bare_stream.specs.Reads.{HasRead, InForceAfter, ShowsRead, AreNumbersOf}
 use Rattle.bare_stream.specs.Decoded.{BeginsWith, DecodesBare}
 use Rattle.bare_stream.specs.Walks.{IsSound, IsNext, IsAt, IsHeadOf, IsNextText}
-use Rattle.bare_stream.proofs.Agrees.{GoesOn, goes_on, same_weights}
+use Rattle.bare_stream.proofs.Agrees.{Continues, goes_on, same_weights}
 use Rattle.bare_stream.proofs.HeadsRefused.{are_so}
 use Rattle.bare_stream.proofs.RowsShown.{rows_open}
 use Rattle.bare_stream.proofs.SegmentMore.{with_more, asks_all, octets_all, are_more}
@@ -61,7 +61,7 @@ begins_so r before w front text read h next = begins_more r.first r.texts text h
 -- ---- a write failed
 
 module _ {X : Type 0} (outside : X → Outside) (wish : DecodeWish) (start : Outside) (r : SegmentsRead) (text more : List ℕ) (w : List (List ℤ)) (t u : PortIn X) (read : HasRead outside wish.octets start r text t)
-    (waits : waiting u ≡ waiting t) (left : u.left ≡ t.left) (out : Since (outside t.port.now) (outside u.port.now) [] more [] NoRead) (rose : Rose (outside t.port.now).write_faults (outside u.port.now).write_faults) (ended : Option Geometry) where
+    (waits : waiting u ≡ waiting t) (left : u.left ≡ t.left) (out : Exchange (outside t.port.now) (outside u.port.now) [] more [] NoRead) (rose : Rose (outside t.port.now).write_faults (outside u.port.now).write_faults) (ended : Option Geometry) where
   pub broken_off : (some : ℕ) → read.gave ++ more ≡ take some (rows_read (with_more r text w ended)) → Told start (BeginsWith read.took (Some (with_more r text w ended))) → DecodesBare wish start (outside u.port.now) (Err WriteFault)
   broken_off some rows reason = record {
     took = read.took;
@@ -82,11 +82,11 @@ total_is width =
     ap (λ n. block_count width * n) e ∙ (let f : block_count width * 32768 ≡ 32768 * block_count width = grind arith in f)
 
 module _ (w : Walk) (read : BareHead) (sound : IsSound w) (next : IsNext w read) where
-  pub passed_is : passed_in (shown w.picture) ≡ w.index * w.first.blocks
+  pub passed_is : passed_in (picture_state w.picture) ≡ w.index * w.first.blocks
   passed_is = sound.passed
 
   -- in the tallest image
-  pub total_in-is : total_in (shown w.picture) ≡ 32768 * block_count w.first.image.width
+  pub total_in-is : total_in (picture_state w.picture) ≡ 32768 * block_count w.first.image.width
   total_in-is = ap (λ (g : Geometry). total_blocks g.width g.rows) sound.geometry ∙ total_is w.first.image.width
 
   pub weights_are : (cells : List ℤ) → AreParts cells read.head.blocks read.head.image.weights.shifts → AreParts cells read.head.blocks w.picture.geometry.weights.shifts
@@ -97,7 +97,7 @@ module _ (w : Walk) (read : BareHead) (sound : IsSound w) (next : IsNext w read)
   cells_long few = let room = sound.room.blocks in omega (arith, few, room, w.room.blocks.ok.0)
 
   module _ (going : read.head.last ≡ false) where
-    on : GoesOn w.first w.index read.head
+    on : Continues w.first w.index read.head
     on = goes_on w.first w.index read.head next.agrees going
 
     pub next_size : read.head.blocks ≡ w.first.blocks
@@ -106,7 +106,7 @@ module _ (w : Walk) (read : BareHead) (sound : IsSound w) (next : IsNext w read)
     pub next_long : 64 * read.head.blocks ≤ length w.room.blocks.items
     next_long = cells_long (omega (arith, next_size))
 
-    pub next_room : passed_in (shown w.picture) + read.head.blocks ≤ total_in (shown w.picture)
+    pub next_room : passed_in (picture_state w.picture) + read.head.blocks ≤ total_in (picture_state w.picture)
     next_room = let room = on.room in omega (arith, sound.passed, total_in-is, next_size, room)
 
     pub next_index : w.index + 1 < 2 ^ 32
@@ -117,12 +117,12 @@ module _ (w : Walk) (read : BareHead) (sound : IsSound w) (next : IsNext w read)
         let wide = sound.first.image.width.1 in
         omega (arith, room, some, least, wide)
 
-    pub next_sound : {a b : Outside} (cells : List ℤ) (z : Walk) → z.first ≡ w.first → z.index ≡ w.index + 1 → z.room ≡ w.room → HasPutBlocks cells read.head.blocks a b (shown w.picture) (shown z.picture) → IsSound z
+    pub next_sound : {a b : Outside} (cells : List ℤ) (z : Walk) → z.first ≡ w.first → z.index ≡ w.index + 1 → z.room ≡ w.room → HasPutBlocks cells read.head.blocks a b (picture_state w.picture) (picture_state z.picture) → IsSound z
     next_sound cells z first index room put =
         let more : (w.index + 1) * w.first.blocks ≡ w.index * w.first.blocks + w.first.blocks = grind arith in
         let total = total_is w.first.image.width in
         let below = on.room in
-        let passed : passed_in (shown z.picture) ≡ first_block w.first.blocks (w.index + 1) = (let c = put.count in omega (arith, c, sound.passed, next_size, more)) in
+        let passed : passed_in (picture_state z.picture) ≡ first_block w.first.blocks (w.index + 1) = (let c = put.count in omega (arith, c, sound.passed, next_size, more)) in
         let left : first_block w.first.blocks (w.index + 1) < total_blocks w.first.image.width 262144 = omega (arith, more, total, below) in
         record {
           first = subst (λ h. IsHead h) (sym first) sound.first;
@@ -175,9 +175,9 @@ module _ (w : Walk) (read : BareHead) (sound : IsSound w) (next : IsNext w read)
     some : 1 ≤ r.first.blocks
     some = rw at.first sound.first.blocks.0
 
-    pub next_at : (z : Walk) → HasPutBlocks cells read.head.blocks (outside t.port.now) (outside u.port.now) (shown w.picture) (shown z.picture) → z.first ≡ w.first → z.index ≡ w.index + 1 → z.pixels ≡ w.pixels → IsAt outside wish start more [] u z
+    pub next_at : (z : Walk) → HasPutBlocks cells read.head.blocks (outside t.port.now) (outside u.port.now) (picture_state w.picture) (picture_state z.picture) → z.first ≡ w.first → z.index ≡ w.index + 1 → z.pixels ≡ w.pixels → IsAt outside wish start more [] u z
     next_at z put first index pixels =
-        let put' = subst (λ n. HasPutBlocks cells n (outside t.port.now) (outside u.port.now) (shown w.picture) (shown z.picture)) size_is put in
+        let put' = subst (λ n. HasPutBlocks cells n (outside t.port.now) (outside u.port.now) (picture_state w.picture) (picture_state z.picture)) size_is put in
         let is : held ≡ blocks_in (take (64 * r.first.blocks) cells) = ap (λ n. blocks_in (take (64 * n) cells)) size_is in
         let long' = subst (λ n. 64 * n ≤ length cells) size_is long in
         record {
@@ -185,11 +185,11 @@ module _ (w : Walk) (read : BareHead) (sound : IsSound w) (next : IsNext w read)
           first = at.first ∙ sym first;
           index = index ∙ ap (λ n. n + 1) at.index ∙ sym (length-append r.texts (text ∷ []));
           pixels = pixels ∙ at.pixels;
-          shows = subst (λ l. ShowsRead (shape_with r.first 262144) more l (shown z.picture)) (sym (whole_read-gave outside wish.octets start r text held cells t u at.read w z at.shows waits left put' wide some long' is room_is))
+          shows = subst (λ l. ShowsRead (shape_with r.first 262144) more l (picture_state z.picture)) (sym (whole_read-gave outside wish.octets start r text held cells t u at.read w z at.shows waits left put' wide some long' is room_is))
               (whole_shown outside wish.octets start r text held cells t u at.read w z at.shows waits left put' wide some long' is room_is);
         }
 
-    pub next_broken : (broken : BreaksOff (HasNextBlocks cells read.head.blocks (shown w.picture)) (block_rows_before w.picture.geometry (passed_in (shown w.picture) + read.head.blocks)) (outside t.port.now) (outside u.port.now) (shown w.picture)) →
+    pub next_broken : (broken : StopsEarly (HasNextBlocks cells read.head.blocks (picture_state w.picture)) (block_rows_before w.picture.geometry (passed_in (picture_state w.picture) + read.head.blocks)) (outside t.port.now) (outside u.port.now) (picture_state w.picture)) →
         DecodesBare wish start (outside u.port.now) (Err WriteFault)
     next_broken broken =
         let numbers = number_at (open_geometry r.first) (segments_in (r.blocks ++ held ∷ [])) in
@@ -198,8 +198,8 @@ module _ (w : Walk) (read : BareHead) (sound : IsSound w) (next : IsNext w read)
         let all : (length r.blocks + 1) * r.first.blocks ≡ length r.blocks * r.first.blocks + r.first.blocks = grind arith in
         let n = first_block r.first.blocks (length (r.blocks ++ held ∷ [])) in
         let n_is : n ≡ length r.blocks * r.first.blocks + r.first.blocks = ap (λ k. k * r.first.blocks) count ∙ all in
-        let passed : passed_in (shown w.picture) + read.head.blocks ≡ n = (let p = at.shows.passed in omega (arith, p, size_is, n_is)) in
-        let rows = rows_broken (shape_with r.first 262144) r text held None at.read.gave cells read.head.blocks (shown w.picture) at.shows long some (omega (arith, size_is)) refl numbers n passed own broken in
+        let passed : passed_in (picture_state w.picture) + read.head.blocks ≡ n = (let p = at.shows.passed in omega (arith, p, size_is, n_is)) in
+        let rows = rows_broken (shape_with r.first 262144) r text held None at.read.gave cells read.head.blocks (picture_state w.picture) at.shows long some (omega (arith, size_is)) refl numbers n passed own broken in
         let room : n < total_blocks r.first.image.width 262144 = (let b = room_is in omega (arith, b, n_is)) in
         broken_off outside wish start r text broken.gave held t u at.read waits left broken.out broken.rose None rows.0
         (rows.1 ∙ ap (take rows.0) (rows_open r.first (r.blocks ++ held ∷ []) wide room))

@@ -24,7 +24,7 @@ use Rattle.bare_stream.specs.BareStream.{AgreesWith}
 use Rattle.bare_stream.specs.SegmentsRead.{SegmentsRead, AreTexts, BeginsSo, Told, pixels_at, shape_with}
 use Rattle.bare_stream.specs.Decoded.{HeadThen, ReadThen, Refuses, BareReasons, BeginsBy, GivesRead, EndsSo, DecodesBare, first_of}
 use Rattle.bare_stream.specs.Reads.{HasRead, InForceAfter, ShowsRead}
-use Rattle.picture_rows.specs.Pictures.{shown}
+use Rattle.picture_rows.specs.Pictures.{picture_state}
 use Rattle.bare_stream.specs.Walks.{IsAt, IsHeadOf}
 use Rattle.bare_stream.specs.declared.walk.Walk.{Walk}
 use Rattle.bare_stream.proofs.ReadsOn.{read_on, read_on-gave, gave_told, still_told}
@@ -154,7 +154,7 @@ module _ {X : Type 0} (outside : X → Outside) (wish : DecodeWish) (start : Out
   now_read = read_on outside wish.octets start r [] s t at.read reads.went
 
   pub now_at : (v : Walk) → v ≡ record w { parts = after } → IsAt outside wish start r front t v
-  now_at v e = subst (IsAt outside wish start r front t) (sym e) (record { read = now_read; first = at.first; index = at.index; pixels = at.pixels; shows = subst (λ l. ShowsRead (shape_with r.first 262144) r l (shown w.picture)) (sym (read_on-gave outside wish.octets start r [] s t at.read reads.went)) at.shows })
+  now_at v e = subst (IsAt outside wish start r front t) (sym e) (record { read = now_read; first = at.first; index = at.index; pixels = at.pixels; shows = subst (λ l. ShowsRead (shape_with r.first 262144) r l (picture_state w.picture)) (sym (read_on-gave outside wish.octets start r [] s t at.read reads.went)) at.shows })
 
   head_told : Told start ((bare_head_read w.parts front ≡ Ok read.head) × (length front ≡ bare_length front) × (read.size ≡ length front) × (after ≡ parts_after w.parts front))
   head_told all told =

@@ -6,7 +6,7 @@ use Rattle.std.proofs.lemmas.List.{append-nil, take_min, take-append-le}
 use Rattle.std.proofs.lemmas.Nat.{le-div}
 use Rattle.std.proofs.Math.Nat.{mul-le-mul, mul-le-mul_left}
 use Rattle.std.proofs.Math.Seq.{take-append-add, take-append_seam}
-use Rattle.port_122.specs.Outside.{Outside, Since, AtStart, GivenBy, ReadFailed}
+use Rattle.port_122.specs.Outside.{Outside, Exchange, AtStart, GivenBy, ReadFailed}
 use Rattle.port_122.proofs.Stretches.{since_out, rose_since}
 use Rattle.port_122.proofs.ReadCalls.{since_prompt}
 use Rattle.base_122.specs.Sizes.{block_count, total_blocks, first_block}
@@ -165,7 +165,7 @@ module _ (s : Setting) (is_bare : IsBare s) (column : ℕ) (before : Option Segm
           in_range = all_whole s (raster_rows s w) come.took come.whole come.in_range;
         };
         used = come.used ∙ ap length gave_all;
-        since = subst (λ g. Since p q come.took g [] (GivenBy (texts_for s) come.took)) gave_all come.since;
+        since = subst (λ g. Exchange p q come.took g [] (GivenBy (texts_for s) come.took)) gave_all come.since;
       }
 
 -- ---- the end is asked for
@@ -203,7 +203,7 @@ module _ (s : Setting) (is_bare : IsBare s) (p q : Outside) (w : Work) (all : Al
   took_longest : length all.took ≡ most_length s
   took_longest = longest s is_bare all.took all.raster.whole
 
-  asked_end : {d : Outside} {more : List ℕ} → Since q d more [] [] AtStart → Since p d (all.took ++ more) (bare s (image_of s all.took)) [] (GivenBy (texts_for s) (all.took ++ more))
+  asked_end : {d : Outside} {more : List ℕ} → Exchange q d more [] [] AtStart → Exchange p d (all.took ++ more) (bare s (image_of s all.took)) [] (GivenBy (texts_for s) (all.took ++ more))
   asked_end {more = more} read = since_prompt (texts_for s) all.since read (λ i j most h. let e = given_all (take i more) in omega (arith, h.1, ap length e))
 
   same_took : all.took ++ [] ≡ all.took
@@ -213,7 +213,7 @@ module _ (s : Setting) (is_bare : IsBare s) (p q : Outside) (w : Work) (all : Al
   run_done {d = d} done segments packets octets end = record {
     took = all.took;
     gave = bare s (image_of s all.took);
-    since = subst (λ t. Since p d t (bare s (image_of s all.took)) [] (GivenBy (texts_for s) t)) same_took (asked_end end.0);
+    since = subst (λ t. Exchange p d t (bare s (image_of s all.took)) [] (GivenBy (texts_for s) t)) same_took (asked_end end.0);
     answer = (all.raster, end.1, refl, record { segments = segments; packets = packets; octets = octets ∙ all.used });
   }
 
@@ -236,7 +236,7 @@ module _ (s : Setting) (is_bare : IsBare s) (p q : Outside) (w : Work) (all : Al
   run_unread {d = d} failed = record {
     took = all.took;
     gave = bare s (image_of s all.took);
-    since = subst (λ t. Since p d t (bare s (image_of s all.took)) [] (GivenBy (texts_for s) t)) same_took (asked_end failed.since);
+    since = subst (λ t. Exchange p d t (bare s (image_of s all.took)) [] (GivenBy (texts_for s) t)) same_took (asked_end failed.since);
     answer = (
       rose_since all.since.faults.reads failed.rose,
       (let m = took_longest in omega (arith, m)),

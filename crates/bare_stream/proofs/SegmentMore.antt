@@ -5,7 +5,7 @@ use Rattle.std.specs.List.{concat}
 use Rattle.std.proofs.lemmas.Bool.Decides.{nat_tests}
 use Rattle.std.proofs.lemmas.List.{append-nil, take-append-le}
 use Rattle.std.proofs.Math.Seq.{take-length}
-use Rattle.port_122.specs.Outside.{Outside, Since, NoRead}
+use Rattle.port_122.specs.Outside.{Outside, Exchange, NoRead}
 use Rattle.port_122.proofs.Stretches.{since_out, since_weaker}
 use Rattle.base_122.specs.declared.geometry.Geometry.{Geometry}
 use Rattle.segment_defs.specs.declared.head.SegmentHead.{SegmentHead}
@@ -93,9 +93,9 @@ module _ (r : SegmentsRead) (text : List ℕ) (w : List (List ℤ)) (ended : Opt
 -- ---- one more text
 
 module _ {X : Type 0} (outside : X → Outside) (cap : ℕ) (start : Outside) (r : SegmentsRead) (text more : List ℕ) (w : List (List ℤ)) (t u : PortIn X) (read : HasRead outside cap start r text t)
-    (waits : waiting u ≡ waiting t) (left : u.left ≡ t.left) (out : Since (outside t.port.now) (outside u.port.now) [] more [] NoRead) where
+    (waits : waiting u ≡ waiting t) (left : u.left ≡ t.left) (out : Exchange (outside t.port.now) (outside u.port.now) [] more [] NoRead) where
   -- the read calls of all that was read
-  pub asks_all : (ended : Option Geometry) → Since start (outside u.port.now) read.took (read.gave ++ more) [] (λ i j. IsPrompt (with_more r text w ended) (read.gave ++ more) i j × (i ≤ length (concat (with_more r text w ended).texts) + 0) × (j ≤ length (read.gave ++ more)))
+  pub asks_all : (ended : Option Geometry) → Exchange start (outside u.port.now) read.took (read.gave ++ more) [] (λ i j. IsPrompt (with_more r text w ended) (read.gave ++ more) i j × (i ≤ length (concat (with_more r text w ended).texts) + 0) × (j ≤ length (read.gave ++ more)))
   asks_all ended = since_out (since_weaker read.since (λ i j le asks. let a = asks_more r text w ended read.going read.same read.gave more i j asks in (a.0, a.1, let size = length-append read.gave more in let k = asks.2 in omega (arith, size, k)))) out
 
   pub octets_all : (ended : Option Geometry) → read.took ≡ concat (with_more r text w ended).texts ++ waiting u

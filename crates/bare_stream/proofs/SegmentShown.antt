@@ -11,8 +11,8 @@ use Rattle.base_122.specs.declared.geometry.Geometry.{Geometry}
 use Rattle.wave_defs.specs.Held.{block_at, blocks_in}
 use Rattle.stream_defs.specs.Settled.{rows_through, block_rows_before}
 use Rattle.picture_rows.specs.Fronts.{rows_of}
-use Rattle.picture_rows.specs.Pictures.{Shown, passed_in}
-use Rattle.picture_rows.specs.Steps.{BreaksOff}
+use Rattle.picture_rows.specs.Pictures.{PictureState, passed_in}
+use Rattle.picture_rows.specs.Steps.{StopsEarly}
 use Rattle.picture_rows.proofs.RowsOut.{rows_out}
 use Rattle.bare_stream.specs.SegmentsRead.{SegmentsRead, open_geometry}
 use Rattle.bare_stream.specs.Reads.{AreNumbersOf, ShowsRead}
@@ -72,7 +72,7 @@ module _ (r : SegmentsRead) (text : List ℕ) (w : List (List ℤ)) (ended : Opt
 
 -- ---- the picture
 
-module _ (g : Geometry) (r : SegmentsRead) (text : List ℕ) (w : List (List ℤ)) (ended : Option Geometry) (gave : List ℕ) (cells : List ℤ) (count : ℕ) (p : Shown) (shows : ShowsRead g r gave p)
+module _ (g : Geometry) (r : SegmentsRead) (text : List ℕ) (w : List (List ℤ)) (ended : Option Geometry) (gave : List ℕ) (cells : List ℤ) (count : ℕ) (p : PictureState) (shows : ShowsRead g r gave p)
     (long : 64 * count ≤ length cells) (some : 1 ≤ r.first.blocks) (few : count ≤ r.first.blocks) (is : w ≡ blocks_in (take (64 * count) cells)) where
   -- the next blocks are those of the segment
   pub next_blocks : (numbers : ℕ → ℕ → ℤ) → AreNumbersOf (with_more r text w ended) numbers → HasNextBlocks cells count p numbers
@@ -87,7 +87,7 @@ module _ (g : Geometry) (r : SegmentsRead) (text : List ℕ) (w : List (List ℤ
   given_before : (numbers : ℕ → ℕ → ℤ) → AreNumbersOf (with_more r text w ended) numbers → gave ≡ rows_of p.geometry numbers p.at.next
   given_before numbers are = shows.given numbers (numbers_before r text w ended numbers are some)
 
-  module _ {a b : Outside} (q : Shown) (put : HasPutBlocks cells count a b p q) where
+  module _ {a b : Outside} (q : PictureState) (put : HasPutBlocks cells count a b p q) where
     given_now : (numbers : ℕ → ℕ → ℤ) → AreNumbersOf (with_more r text w ended) numbers → gave ++ put.goes.gave ≡ rows_of q.geometry numbers q.at.next
     given_now numbers are =
         ap (λ l. l ++ put.goes.gave) (given_before numbers are) ∙ put.goes.given numbers (next_blocks numbers are)
@@ -111,7 +111,7 @@ module _ (g : Geometry) (r : SegmentsRead) (text : List ℕ) (w : List (List ℤ
 
   -- a write failed
   pub rows_broken : {a b : Outside} (numbers : ℕ → ℕ → ℤ) (n : ℕ) → passed_in p + count ≡ n → AreNumbersOf (with_more r text w ended) numbers →
-      (broken : BreaksOff (HasNextBlocks cells count p) (block_rows_before p.geometry (passed_in p + count)) a b p) → (some : ℕ) × (gave ++ broken.gave ≡ take some (rows_of g numbers (rows_through g (block_rows_before g n))))
+      (broken : StopsEarly (HasNextBlocks cells count p) (block_rows_before p.geometry (passed_in p + count)) a b p) → (some : ℕ) × (gave ++ broken.gave ≡ take some (rows_of g numbers (rows_through g (block_rows_before g n))))
   rows_broken numbers n at are broken =
       let there = broken.given numbers (next_blocks numbers are) in (
         there.0,

@@ -2,7 +2,7 @@
 use Rattle.std.proofs.Common.{◌≡◌, ℕ, List, [], ◌++◌, length, take, drop, sym, ap, ◌∙◌, subst, arith, append_assoc}
 use Rattle.std.proofs.lemmas.List.{take-append-drop}
 use Rattle.std.proofs.Math.Seq.{take-append_seam}
-use Rattle.port_122.specs.Outside.{Outside, Since, NoRead, Rose}
+use Rattle.port_122.specs.Outside.{Outside, Exchange, NoRead, Rose}
 use Rattle.port_122.proofs.Stretches.{since_out, rose_since}
 use Rattle.segment_code.specs.Text.{GivesText, BreaksWithin}
 use Rattle.bare_stream.specs.declared.sink.TextSink.{TextSink}
@@ -22,10 +22,10 @@ pub out_to : {X : Type 0} (outside : X → Outside) (x y : X) {p : Outside} {tex
 out_to outside x y {p = p} {text = text} {octets = octets} e out = subst (λ z. TextOut p (outside z) text octets) (sym e) out
 
 -- these octets are written, and the text has more
-cut_at : {p q : Outside} (text wrote more : List ℕ) → text ≡ wrote ++ more → Since p q [] wrote [] NoRead → Rose p.write_faults q.write_faults → TextCut p q text
+cut_at : {p q : Outside} (text wrote more : List ℕ) → text ≡ wrote ++ more → Exchange p q [] wrote [] NoRead → Rose p.write_faults q.write_faults → TextCut p q text
 cut_at {p = p} {q = q} text wrote more e out rose = record {
   some = length wrote;
-  out = subst (λ l. Since p q [] l [] NoRead) (sym (ap (take (length wrote)) e ∙ take-append_seam wrote more)) out;
+  out = subst (λ l. Exchange p q [] l [] NoRead) (sym (ap (take (length wrote)) e ∙ take-append_seam wrote more)) out;
   rose = rose;
 }
 
@@ -54,8 +54,8 @@ module _ {X : Type 0} (outside : X → Outside) (s u : TextSink X) (port : X) (t
 
     pub text_flushed : (v : TextSink X) → s.given ≡ 0 → HasFlushed outside u v → TextOut (outside port) (outside v.port.now) text octets
     text_flushed v fresh flushed = record {
-      out = subst (λ x. Since (outside x) (outside v.port.now) [] text [] NoRead) same
-          (subst (λ l. Since (outside s.port.now) (outside v.port.now) [] l [] NoRead) (sym text_is) (since_out gives.gave.out flushed.out));
+      out = subst (λ x. Exchange (outside x) (outside v.port.now) [] text [] NoRead) same
+          (subst (λ l. Exchange (outside s.port.now) (outside v.port.now) [] l [] NoRead) (sym text_is) (since_out gives.gave.out flushed.out));
       count = gives.count;
       few = (let few = gives.gave.few (omega (arith, fresh)) in let given = gives.gave.given in let count = gives.count in omega (arith, few, given, count, fresh));
     }

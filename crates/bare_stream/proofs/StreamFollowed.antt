@@ -25,10 +25,10 @@ use Rattle.bare_stream.proofs.StreamEnds.{one_text, clash}
 
 module _ (first : SegmentHead) (g : Geometry) where
   -- the texts after those that were read
-  pub record Later (before : PartsInForce) (index : ℕ) (octets : List ℕ) (GoesOn : PartsInForce → Type 0) : Type 0 where
+  pub record Later (before : PartsInForce) (index : ℕ) (octets : List ℕ) (Continues : PartsInForce → Type 0) : Type 0 where
     pub blocks : List (List (List ℤ))
     pub from : TextsFrom first g before index octets blocks
-    pub so : GoesOn before
+    pub so : Continues before
 
   -- all blocks of the stream, by its height
   pub record HasAll (index n : ℕ) : Type 0 where
@@ -58,25 +58,25 @@ module _ (heads : BareHeadsEndThere) (items : ItemsEndThere) (first : SegmentHea
 
   -- ---- after some texts
 
-  pub followed : (GoesOn : PartsInForce → Type 0) (before : PartsInForce) (index : ℕ) (octets rest : List ℕ) (w : List (List (List ℤ))) (texts : List (List ℕ)) (blocks : List (List (List ℤ))) →
-      TextsFrom first g before index octets w → AreTexts first before index texts blocks GoesOn → octets ≡ concat texts ++ rest → (after : PartsInForce) × Later first g after (index + length texts) rest GoesOn
-  followed GoesOn before index octets rest w [] [] a b e =
+  pub followed : (Continues : PartsInForce → Type 0) (before : PartsInForce) (index : ℕ) (octets rest : List ℕ) (w : List (List (List ℤ))) (texts : List (List ℕ)) (blocks : List (List (List ℤ))) →
+      TextsFrom first g before index octets w → AreTexts first before index texts blocks Continues → octets ≡ concat texts ++ rest → (after : PartsInForce) × Later first g after (index + length texts) rest Continues
+  followed Continues before index octets rest w [] [] a b e =
       let none : index ≡ index + 0 = omega arith in
       (before, record { blocks = w; from = subst (λ n. TextsFrom first g before n rest w) none (subst (λ o. TextsFrom first g before index o w) e a); so = b })
-  followed GoesOn before index octets rest w [] (c ∷ blocks) a b e = absurd b
-  followed GoesOn before index octets rest w (t ∷ texts) [] a b e = absurd b
-  followed GoesOn before index octets rest [] (t ∷ texts) (c ∷ blocks) a b e = absurd a
-  followed GoesOn before index octets rest (v ∷ []) (t ∷ texts) (c ∷ blocks) a b e =
+  followed Continues before index octets rest w [] (c ∷ blocks) a b e = absurd b
+  followed Continues before index octets rest w (t ∷ texts) [] a b e = absurd b
+  followed Continues before index octets rest [] (t ∷ texts) (c ∷ blocks) a b e = absurd a
+  followed Continues before index octets rest (v ∷ []) (t ∷ texts) (c ∷ blocks) a b e =
       let joined : a.text ++ a.rest ≡ t ++ (concat texts ++ rest) = sym a.parts ∙ e ∙ append_assoc t (concat texts) rest in
       let same = one_text heads items before a.text t a.rest (concat texts ++ rest) a.head b.head v c a.after b.after a.is b.is joined in
       absurd (clash heads items b.head.last (ap (λ h. h.last) (sym same.head) ∙ a.goes_on.0) b.goes_on.0)
-  followed GoesOn before index octets rest (v ∷ (v' ∷ vs)) (t ∷ texts) (c ∷ blocks) a b e =
+  followed Continues before index octets rest (v ∷ (v' ∷ vs)) (t ∷ texts) (c ∷ blocks) a b e =
       let joined : a.text ++ a.rest ≡ t ++ (concat texts ++ rest) = sym a.parts ∙ e ∙ append_assoc t (concat texts) rest in
       let same = one_text heads items before a.text t a.rest (concat texts ++ rest) a.head b.head v c a.after b.after a.is b.is joined in
       let later : a.rest ≡ concat texts ++ rest = append_cancel_left t a.rest (concat texts ++ rest) (ap (λ l. l ++ a.rest) (sym same.text) ∙ joined) in
-      let next = followed GoesOn a.after (index + 1) a.rest rest (v' ∷ vs) texts blocks a.goes_on.1 (subst (λ p. AreTexts first p (index + 1) texts blocks GoesOn) (sym same.after) b.goes_on.1) later in
+      let next = followed Continues a.after (index + 1) a.rest rest (v' ∷ vs) texts blocks a.goes_on.1 (subst (λ p. AreTexts first p (index + 1) texts blocks Continues) (sym same.after) b.goes_on.1) later in
       let count : index + 1 + length texts ≡ index + length (t ∷ texts) = omega arith in
-      (next.0, subst (λ n. Later first g next.0 n rest GoesOn) count next.1)
+      (next.0, subst (λ n. Later first g next.0 n rest Continues) count next.1)
 
   -- ---- the next text
 

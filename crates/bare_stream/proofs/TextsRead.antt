@@ -29,7 +29,7 @@ use Rattle.bare_stream.specs.SegmentsRead.{SegmentsRead, AgreeingText, Told, pix
 use Rattle.bare_stream.specs.Decoded.{MayFollow, ItemRefused, ReadThen, Refuses, BeginsBy, DecodesBare, first_of}
 use Rattle.bare_stream.specs.Reads.{HasRead, ShowsRead}
 use Rattle.bare_stream.specs.Walks.{IsAt, IsNext, IsHeadOf}
-use Rattle.picture_rows.specs.Pictures.{shown}
+use Rattle.picture_rows.specs.Pictures.{picture_state}
 use Rattle.bare_stream.proofs.ReadsOn.{read_on, read_on-gave, gave_told}
 use Rattle.bare_stream.proofs.HeadsRefused.{first_is, ends_plain, ends_long, not_broken}
 use Rattle.bare_stream.proofs.NextHeads.{ended_at, read_then, rest_told}
@@ -126,8 +126,8 @@ module _ {X : Type 0} (outside : X → Outside) (wish : DecodeWish) (start : Out
       first = at.first ∙ sym first;
       index = index ∙ at.index;
       pixels = pixels ∙ at.pixels;
-      shows = subst (λ p. ShowsRead (shape_with r.first 262144) r (read_on outside wish.octets start r front s t at.read x.went).gave (shown p)) (sym picture)
-          (subst (λ l. ShowsRead (shape_with r.first 262144) r l (shown w.picture)) (sym (read_on-gave outside wish.octets start r front s t at.read x.went)) at.shows);
+      shows = subst (λ p. ShowsRead (shape_with r.first 262144) r (read_on outside wish.octets start r front s t at.read x.went).gave (picture_state p)) (sym picture)
+          (subst (λ l. ShowsRead (shape_with r.first 262144) r l (picture_state w.picture)) (sym (read_on-gave outside wish.octets start r front s t at.read x.went)) at.shows);
     }
 
     pub is_text : Told start (AgreeingText r.first before w.index (front ++ x.went.gave) (blocks_in cells) (λ h after. (h ≡ read.head) × (after ≡ w.parts)))

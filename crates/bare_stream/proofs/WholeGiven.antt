@@ -5,7 +5,7 @@ use Rattle.port_122.specs.Outside.{Outside}
 use Rattle.base_122.specs.Sizes.{first_block, total_blocks}
 use Rattle.wave_defs.specs.Held.{blocks_in}
 use Rattle.stream_defs.specs.Picture.{number_at}
-use Rattle.picture_rows.specs.Pictures.{shown, passed_in}
+use Rattle.picture_rows.specs.Pictures.{picture_state, passed_in}
 use Rattle.bare_stream.specs.declared.input.PortIn.{PortIn}
 use Rattle.bare_stream.specs.declared.walk.Walk.{Walk}
 use Rattle.bare_stream.specs.Blocks.{HasPutBlocks}
@@ -17,8 +17,8 @@ use Rattle.bare_stream.proofs.SegmentShown.{shows_more, rows_now}
 use Rattle.bare_stream.proofs.RowsShown.{rows_open}
 
 module _ {X : Type 0} (outside : X → Outside) (cap : ℕ) (start : Outside) (r : SegmentsRead) (text : List ℕ) (w : List (List ℤ)) (cells : List ℤ) (t u : PortIn X) (read : HasRead outside cap start r text t)
-    (v z : Walk) (shows : ShowsRead (shape_with r.first 262144) r read.gave (shown v.picture)) (waits : waiting u ≡ waiting t) (left : u.left ≡ t.left)
-    (put : HasPutBlocks cells r.first.blocks (outside t.port.now) (outside u.port.now) (shown v.picture) (shown z.picture)) (wide : 17 ≤ r.first.image.width) (some : 1 ≤ r.first.blocks)
+    (v z : Walk) (shows : ShowsRead (shape_with r.first 262144) r read.gave (picture_state v.picture)) (waits : waiting u ≡ waiting t) (left : u.left ≡ t.left)
+    (put : HasPutBlocks cells r.first.blocks (outside t.port.now) (outside u.port.now) (picture_state v.picture) (picture_state z.picture)) (wide : 17 ≤ r.first.image.width) (some : 1 ≤ r.first.blocks)
     (long : 64 * r.first.blocks ≤ length cells) (is : w ≡ blocks_in (take (64 * r.first.blocks) cells)) (room : first_block r.first.blocks (length r.blocks) + r.first.blocks < total_blocks r.first.image.width 262144) where
   abbrev pub more : SegmentsRead
   more = with_more r text w None
@@ -33,8 +33,8 @@ module _ {X : Type 0} (outside : X → Outside) (cap : ℕ) (start : Outside) (r
 
   rows : read.gave ++ put.goes.gave ≡ rows_read more
   rows =
-      let at : passed_in (shown v.picture) + r.first.blocks ≡ first_block r.first.blocks (length (r.blocks ++ w ∷ [])) = ap (λ n. n + r.first.blocks) shows.passed ∙ sym one_more in
-      rows_now (shape_with r.first 262144) r text w None read.gave cells r.first.blocks (shown v.picture) shows long some (omega arith) is (shown z.picture) put
+      let at : passed_in (picture_state v.picture) + r.first.blocks ≡ first_block r.first.blocks (length (r.blocks ++ w ∷ [])) = ap (λ n. n + r.first.blocks) shows.passed ∙ sym one_more in
+      rows_now (shape_with r.first 262144) r text w None read.gave cells r.first.blocks (picture_state v.picture) shows long some (omega arith) is (picture_state z.picture) put
       (number_at (open_geometry r.first) (segments_in (r.blocks ++ w ∷ []))) (first_block r.first.blocks (length (r.blocks ++ w ∷ []))) at own
       ∙ rows_open r.first (r.blocks ++ w ∷ []) wide (omega (arith, room, one_more))
 
@@ -46,5 +46,5 @@ module _ {X : Type 0} (outside : X → Outside) (cap : ℕ) (start : Outside) (r
   unfolding whole_read
   whole_read-gave = segment_read-gave outside cap start r text put.goes.gave w t u read waits left put.goes.out rows
 
-  pub whole_shown : ShowsRead (shape_with r.first 262144) more (read.gave ++ put.goes.gave) (shown z.picture)
-  whole_shown = shows_more (shape_with r.first 262144) r text w None read.gave cells r.first.blocks (shown v.picture) shows long some (omega arith) is (shown z.picture) put refl
+  pub whole_shown : ShowsRead (shape_with r.first 262144) more (read.gave ++ put.goes.gave) (picture_state z.picture)
+  whole_shown = shows_more (shape_with r.first 262144) r text w None read.gave cells r.first.blocks (picture_state v.picture) shows long some (omega arith) is (picture_state z.picture) put refl

@@ -41,7 +41,7 @@ geometry_at first index last = record {
 
 -- octets begin with a text whose head agrees with the first one, and with its head, the parts in force after it and the octets after it
 -- it goes on so
-pub record TextThen (first : SegmentHead) (before : PartsInForce) (index : ℕ) (octets : List ℕ) (blocks : List (List ℤ)) (GoesOn : SegmentHead → PartsInForce → List ℕ → Type 0) : Type 0 where
+pub record TextThen (first : SegmentHead) (before : PartsInForce) (index : ℕ) (octets : List ℕ) (blocks : List (List ℤ)) (Continues : SegmentHead → PartsInForce → List ℕ → Type 0) : Type 0 where
   pub text : List ℕ
   pub rest : List ℕ
   pub head : SegmentHead
@@ -49,7 +49,7 @@ pub record TextThen (first : SegmentHead) (before : PartsInForce) (index : ℕ) 
   pub parts : octets ≡ text ++ rest
   pub is : IsText before text head blocks after
   pub agrees : AgreesWith first index head
-  pub goes_on : GoesOn head after rest
+  pub goes_on : Continues head after rest
 
 -- these octets are the texts of the segments from this index on, with these blocks; the last has the last flag, and no other has it
 abbrev pub TextsFrom : (first : SegmentHead) → Geometry → PartsInForce → (index : ℕ) → List ℕ → List (List (List ℤ)) → Type 0

@@ -1,7 +1,7 @@
 -- How a decoder of a bare stream ends, by what it took and gave. (This project's own.)
 use Rattle.std.specs.Prelude.{◌≡◌, ◌≤◌, ◌<◌, ◌⊎◌, ℕ, ◌*◌, List, [], ◌∷◌, ◌++◌, length, take, unwrap_or, Option, None, Some, Result, Ok, Err}
 use Rattle.std.specs.List.{concat}
-use Rattle.port_122.specs.Outside.{Outside, Since, AtEnd, Rose}
+use Rattle.port_122.specs.Outside.{Outside, Exchange, AtEnd, Rose}
 use Rattle.base_122.specs.declared.geometry.Geometry.{Geometry}
 use Rattle.base_122.specs.declared.wish.DecodeWish.{DecodeWish}
 use Rattle.item_defs.specs.Items.{Refusal, bad_option, bad_delta, bad_depth, false_flag}
@@ -25,14 +25,14 @@ use Rattle.bare_stream.specs.SegmentsRead.{SegmentsRead, AreTexts, BeginsSo, IsP
 -- ---- why a segment is none
 
 -- the octets begin with a head that is read by itself, and it goes on so with the head, its octets and those after it
-pub record HeadThen (before : PartsInForce) (octets : List ℕ) (GoesOn : SegmentHead → (size : ℕ) → List ℕ → Type 0) : Type 0 where
+pub record HeadThen (before : PartsInForce) (octets : List ℕ) (Continues : SegmentHead → (size : ℕ) → List ℕ → Type 0) : Type 0 where
   pub front : List ℕ
   pub rest : List ℕ
   pub head : SegmentHead
   pub parts : octets ≡ front ++ rest
   pub read : bare_head_read before front ≡ Ok head
   pub whole : length front ≡ bare_length front
-  pub goes_on : GoesOn head (length front) rest
+  pub goes_on : Continues head (length front) rest
 
 -- Which octets decide that a head is refused: for a short one those to the end, for a missing part the first three, else the whole head.
 abbrev pub DecidesHead : HeadFault → (front rest : List ℕ) → (now : Outside) → Type 0
@@ -141,7 +141,7 @@ pub record DecodesBare (wish : DecodeWish) (old new : Outside) (result : Result 
   pub took : List ℕ
   pub gave : List ℕ
   pub read : Option SegmentsRead
-  pub since : Since old new took gave [] (AsksRead read gave)
+  pub since : Exchange old new took gave [] (AsksRead read gave)
   pub within : length took ≤ wish.octets
   pub gives : GivesRead result gave read
   pub ends : EndsSo result old new

@@ -1,6 +1,6 @@
 -- What is known of the octets of a port that are taken up to a cap. (This project's own.)
 use Rattle.std.specs.Prelude.{◌≡◌, ◌≤◌, ◌<◌, ◌+◌, ◌-◌, ℕ, List, [], ◌∷◌, ◌++◌, length, take, drop, Bool, true, false, nat_lt, if◌then◌else◌, Option, None, Some, Result, Ok, Err}
-use Rattle.port_122.specs.Outside.{Outside, Since, AtStart, AtEnd, Rose}
+use Rattle.port_122.specs.Outside.{Outside, Exchange, AtStart, AtEnd, Rose}
 use Rattle.bit_pipe.specs.Sources.{Plainly, TooLong, Tail, Comes, IsOver}
 use Rattle.bit_pipe.specs.Sinks.{Rose as SinkRose}
 use Rattle.bit_pipe.specs.declared.fault.InFault.{InFault}
@@ -30,7 +30,7 @@ pub record Went {X : Type 0} (outside : X → Outside) (old new : PortIn X) : Ty
   pub gave : List ℕ
   pub flow : waiting old ++ took ≡ gave ++ waiting new
   pub left : length took + new.left ≡ old.left
-  pub since : Since (outside old.port.now) (outside new.port.now) took [] [] (AsksWithin (length (waiting old)) (length gave))
+  pub since : Exchange (outside old.port.now) (outside new.port.now) took [] [] (AsksWithin (length (waiting old)) (length gave))
 
 -- why a read of a piece ended so
 abbrev pub EndsFill : Result Bool InFault → (old new : Outside) → (left : ℕ) → List ℕ → Type 0
@@ -44,7 +44,7 @@ EndsFill (Err Broken) old new left took = ⊥
 pub record FillsPiece {X : Type 0} (outside : X → Outside) (result : Result Bool InFault) (old new : PortIn X) : Type 0 where
   pub port : new.port.ghost_name ≡ old.port.ghost_name
   pub left : length (waiting new) + new.left ≡ old.left
-  pub since : Since (outside old.port.now) (outside new.port.now) (waiting new) [] [] AtStart
+  pub since : Exchange (outside old.port.now) (outside new.port.now) (waiting new) [] [] AtStart
   pub ends : EndsFill result (outside old.port.now) (outside new.port.now) old.left (waiting new)
 
 -- an octet waits, or none comes

@@ -1,7 +1,7 @@
 -- Octets that are taken from a port go on. These laws are here since the meaning of a source holds them.
 use Rattle.std.proofs.Common.{ℕ, ◌≡◌, ◌+◌, List, [], ◌++◌, length, refl, sym, ap, ◌∙◌, arith, append_assoc, length-append}
 use Rattle.std.proofs.lemmas.List.{append-nil}
-use Rattle.port_122.specs.Outside.{Outside, Since}
+use Rattle.port_122.specs.Outside.{Outside, Exchange}
 use Rattle.port_122.proofs.Stretches.{since_start, since_then, since_weaker}
 use Rattle.bare_stream.specs.declared.input.PortIn.{PortIn}
 use Rattle.bare_stream.specs.Input.{Went, AsksWithin, waiting}
@@ -26,7 +26,7 @@ went_both outside s t u first next =
     let sizes : length (waiting s) + length first.took ≡ length first.gave + length (waiting t) =
     sym (length-append (waiting s) first.took) ∙ ap length first.flow ∙ length-append first.gave (waiting t) in
     let all = length-append first.gave next.gave in
-    let weaker : Since (outside s.port.now) (outside t.port.now) first.took [] [] (AsksWithin (length (waiting s)) (length (first.gave ++ next.gave))) =
+    let weaker : Exchange (outside s.port.now) (outside t.port.now) first.took [] [] (AsksWithin (length (waiting s)) (length (first.gave ++ next.gave))) =
     since_weaker first.since (λ i j le asks. (asks.0, omega (arith, asks.1, all))) in
     record {
       port = next.port ∙ first.port;

@@ -1,12 +1,12 @@
 -- How far a decoder has read a bare stream. (This project's own.)
 use Rattle.std.specs.Prelude.{◌≡◌, ◌≤◌, ◌+◌, ◌<◌, ℕ, ℤ, List, [], ◌++◌, length, None}
 use Rattle.std.specs.List.{concat}
-use Rattle.port_122.specs.Outside.{Outside, Since}
+use Rattle.port_122.specs.Outside.{Outside, Exchange}
 use Rattle.base_122.specs.Sizes.{first_block}
 use Rattle.base_122.specs.declared.geometry.Geometry.{Geometry}
 use Rattle.stream_defs.specs.Picture.{number_at}
 use Rattle.picture_rows.specs.Fronts.{rows_of}
-use Rattle.picture_rows.specs.Pictures.{Shown, IsStanding, StandsFor, passed_in}
+use Rattle.picture_rows.specs.Pictures.{PictureState, IsCurrent, Represents, passed_in}
 use Rattle.bare_text.specs.declared.parts.PartsInForce.{PartsInForce}
 use Rattle.bare_text.specs.InForce.{none_in_force}
 use Rattle.bare_stream.specs.declared.input.PortIn.{PortIn}
@@ -24,7 +24,7 @@ pub record HasRead {X : Type 0} (outside : X → Outside) (cap : ℕ) (start : O
   pub same : length r.texts ≡ length r.blocks
   pub took : List ℕ
   pub gave : List ℕ
-  pub since : Since start (outside input.port.now) took gave [] (AsksIn r part gave)
+  pub since : Exchange start (outside input.port.now) took gave [] (AsksIn r part gave)
   pub gave_is : gave ≡ rows_read r
   pub octets : took ≡ concat r.texts ++ (part ++ waiting input)
   pub left : length took + input.left ≡ cap
@@ -38,9 +38,9 @@ pub record AreNumbersOf (r : SegmentsRead) (numbers : ℕ → ℕ → ℤ) : Typ
   pub at : (block i : ℕ) → block < first_block r.first.blocks (length r.blocks) → i < 64 → numbers block i ≡ number_at (open_geometry r.first) (segments_in r.blocks) block i
 
 -- a picture of this geometry has passed the blocks of these segments, and these octets are given
-pub record ShowsRead (g : Geometry) (r : SegmentsRead) (gave : List ℕ) (p : Shown) : Type 0 where
-  pub standing : IsStanding p
+pub record ShowsRead (g : Geometry) (r : SegmentsRead) (gave : List ℕ) (p : PictureState) : Type 0 where
+  pub standing : IsCurrent p
   pub geometry : p.geometry ≡ g
   pub passed : passed_in p ≡ first_block r.first.blocks (length r.blocks)
-  pub stands : (numbers : ℕ → ℕ → ℤ) → AreNumbersOf r numbers → StandsFor numbers p
+  pub stands : (numbers : ℕ → ℕ → ℤ) → AreNumbersOf r numbers → Represents numbers p
   pub given : (numbers : ℕ → ℕ → ℤ) → AreNumbersOf r numbers → gave ≡ rows_of p.geometry numbers p.at.next

@@ -1,6 +1,6 @@
 -- The rows of a raster that a work took, and the texts that were given for them. (This project's own.)
 use Rattle.std.specs.Prelude.{◌≡◌, ◌*◌, ℕ, ℤ, Bool, min, List, [], length, Option, Result, Ok, Err}
-use Rattle.port_122.specs.Outside.{Outside, Since, GivenBy}
+use Rattle.port_122.specs.Outside.{Outside, Exchange, GivenBy}
 use Rattle.base_122.specs.declared.setting.Setting.{Setting}
 use Rattle.wave_defs.specs.Held.{SameWithin}
 use Rattle.segment_defs.specs.declared.head.SegmentHead.{SegmentHead}
@@ -35,7 +35,7 @@ pub record HasCome (s : Setting) (column : ℕ) (before : Option SegmentHead) (p
   pub given : (y : ℕ → ℕ → ℤ) → BeginsSo s took w y → gave ≡ first_texts s (image_blocks s y) w.at.index
   pub head : (y : ℕ → ℕ → ℤ) → BeginsSo s took w y → before ≡ head_before s (image_blocks s y) w.at.index
   pub used : w.at.used ≡ length gave
-  pub since : Since p q took gave [] (GivenBy (texts_for s) took)
+  pub since : Exchange p q took gave [] (GivenBy (texts_for s) took)
 
 -- what a step leaves that may take a row: a block row came, or none, or the run is over
 abbrev pub StepsOn : Result Bool EncodeFault → Setting → Option SegmentHead → Outside → Outside → Work → Type 0
@@ -47,4 +47,4 @@ pub record AllTexts (s : Setting) (p q : Outside) (w : Work) : Type 0 where
   pub took : List ℕ
   pub raster : TookRaster s s.rows took
   pub used : w.at.used ≡ length (bare s (image_of s took))
-  pub since : Since p q took (bare s (image_of s took)) [] (GivenBy (texts_for s) took)
+  pub since : Exchange p q took (bare s (image_of s took)) [] (GivenBy (texts_for s) took)

@@ -73,20 +73,20 @@ pub record IsPrompt (r : SegmentsRead) (gave : List ℕ) (i j : ℕ) : Type 0 wh
 -- ---- what they are
 
 -- the octets are the text of the segment of this index with these blocks, and its head agrees with the first one
-pub record AgreeingText (first : SegmentHead) (before : PartsInForce) (index : ℕ) (octets : List ℕ) (blocks : List (List ℤ)) (GoesOn : SegmentHead → PartsInForce → Type 0) : Type 0 where
+pub record AgreeingText (first : SegmentHead) (before : PartsInForce) (index : ℕ) (octets : List ℕ) (blocks : List (List ℤ)) (Continues : SegmentHead → PartsInForce → Type 0) : Type 0 where
   pub head : SegmentHead
   pub after : PartsInForce
   pub is : IsText before octets head blocks after
   pub agrees : AgreesWith first index head
-  pub goes_on : GoesOn head after
+  pub goes_on : Continues head after
 
 -- the octets of segments from this index on, none of which is the last, and their blocks; and what is so of the parts in force after them
 abbrev pub AreTexts : (first : SegmentHead) → PartsInForce → (index : ℕ) → List (List ℕ) → List (List (List ℤ)) → (PartsInForce → Type 0) → Type 0
-AreTexts first before index [] [] GoesOn = GoesOn before
-AreTexts first before index [] (b ∷ blocks) GoesOn = ⊥
-AreTexts first before index (t ∷ texts) [] GoesOn = ⊥
-AreTexts first before index (t ∷ texts) (b ∷ blocks) GoesOn =
-    AgreeingText first before index t b (λ head after. (head.last ≡ false) × AreTexts first after (index + 1) texts blocks GoesOn)
+AreTexts first before index [] [] Continues = Continues before
+AreTexts first before index [] (b ∷ blocks) Continues = ⊥
+AreTexts first before index (t ∷ texts) [] Continues = ⊥
+AreTexts first before index (t ∷ texts) (b ∷ blocks) Continues =
+    AgreeingText first before index t b (λ head after. (head.last ≡ false) × AreTexts first after (index + 1) texts blocks Continues)
 
 -- the first head is that of the first of these texts, if there is one
 abbrev pub BeginsSo : (first : SegmentHead) → List (List ℕ) → Type 0

@@ -1,6 +1,6 @@
 -- What the steps of the encoder leave. (This project's own.)
 use Rattle.std.specs.Prelude.{◌≡◌, ◌≤◌, ◌+◌, ◌*◌, ◌^◌, ℕ, ℤ, List, [], length, take, Bool, false, if◌then◌else◌, Result, MatchResult, Option}
-use Rattle.port_122.specs.Outside.{Outside, Since, NoRead, Rose}
+use Rattle.port_122.specs.Outside.{Outside, Exchange, NoRead, Rose}
 use Rattle.base_122.specs.Sizes.{block_count}
 use Rattle.base_122.specs.declared.setting.Setting.{Setting}
 use Rattle.wave_defs.specs.Held.{blocks_in}
@@ -80,14 +80,14 @@ head_now s index segment = head_with s index s.limit (length segment) (depth_dc_
 
 -- this text is written, and has so many octets
 pub record TextOut (p q : Outside) (text : List ℕ) (octets : ℕ) : Type 0 where
-  pub out : Since p q [] text [] NoRead
+  pub out : Exchange p q [] text [] NoRead
   pub count : octets ≡ length text
   pub few : octets ≤ 2 ^ 32
 
 -- a write failed, and a prefix of this text is written
 pub record TextCut (p q : Outside) (text : List ℕ) : Type 0 where
   pub some : ℕ
-  pub out : Since p q [] (take some text) [] NoRead
+  pub out : Exchange p q [] (take some text) [] NoRead
   pub rose : Rose p.write_faults q.write_faults
 
 -- the text of a segment with this head is written

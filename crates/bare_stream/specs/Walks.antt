@@ -1,7 +1,7 @@
 -- What the steps of a decoder leave that go from segment to segment of a bare stream. (This project's own.)
 use Rattle.std.specs.Prelude.{◌≡◌, ◌≤◌, ◌<◌, ◌+◌, ◌*◌, ℕ, List, [], ◌++◌, length, take, vec_len, Some, Ok}
 use Rattle.std.specs.List.{concat}
-use Rattle.port_122.specs.Outside.{Outside, Since}
+use Rattle.port_122.specs.Outside.{Outside, Exchange}
 use Rattle.base_122.specs.Sizes.{first_block, total_blocks}
 use Rattle.base_122.specs.declared.geometry.Geometry.{Geometry}
 use Rattle.base_122.specs.declared.wish.DecodeWish.{DecodeWish}
@@ -11,7 +11,7 @@ use Rattle.bare_text.specs.declared.read.BareHead.{BareHead}
 use Rattle.bare_text.specs.InForce.{none_in_force, bare_length, parts_after}
 use Rattle.bare_text.specs.Reading.{bare_head_read}
 use Rattle.wave_defs.specs.Held.{blocks_in}
-use Rattle.picture_rows.specs.Pictures.{shown, IsStanding, passed_in}
+use Rattle.picture_rows.specs.Pictures.{picture_state, IsCurrent, passed_in}
 use Rattle.bare_stream.specs.declared.input.PortIn.{PortIn}
 use Rattle.bare_stream.specs.declared.walk.Walk.{Walk}
 use Rattle.bare_stream.specs.BareStream.{AgreesWith, BareStream, geometry_at}
@@ -25,9 +25,9 @@ pub record IsSound (w : Walk) : Type 0 where
   pub first : IsHead w.first
   pub ten : length w.first.image.weights.shifts ≡ 10
   pub room : IsRoom w.first.blocks (vec_len w.room.blocks) (vec_len w.room.marks)
-  pub standing : IsStanding (shown w.picture)
+  pub standing : IsCurrent (picture_state w.picture)
   pub geometry : w.picture.geometry ≡ shape_with w.first 262144
-  pub passed : passed_in (shown w.picture) ≡ first_block w.first.blocks w.index
+  pub passed : passed_in (picture_state w.picture) ≡ first_block w.first.blocks w.index
   pub left : first_block w.first.blocks w.index < total_blocks w.first.image.width 262144
 
 -- the head of the next segment agrees with the first one, and reports no more pixels than are wished
@@ -45,7 +45,7 @@ pub record IsAt {X : Type 0} (outside : X → Outside) (wish : DecodeWish) (star
   pub first : r.first ≡ w.first
   pub index : w.index ≡ length r.texts
   pub pixels : w.pixels ≡ wish.pixels
-  pub shows : ShowsRead (shape_with r.first 262144) r read.gave (shown w.picture)
+  pub shows : ShowsRead (shape_with r.first 262144) r read.gave (picture_state w.picture)
 
 -- the next head was read from these octets: if it is the first one, it is the first head
 pub record IsHeadOf (r : SegmentsRead) (before after : PartsInForce) (front : List ℕ) (read : BareHead) : Type 0 where
@@ -80,7 +80,7 @@ pub record HasEnded {X : Type 0} (outside : X → Outside) (wish : DecodeWish) (
   pub index : w.index ≡ length r.blocks
   pub took : List ℕ
   pub gave : List ℕ
-  pub since : Since start (outside input.port.now) took gave [] (IsPrompt r gave)
+  pub since : Exchange start (outside input.port.now) took gave [] (IsPrompt r gave)
   pub gave_is : gave ≡ rows_read r
   pub octets : took ≡ concat r.texts ++ waiting input
   pub left : length took + input.left ≡ wish.octets

@@ -1,6 +1,6 @@
 // The blocks of a segment, to a picture.
 ghost use Rattle.std.specs.Prelude.{◌≤◌, ◌+◌, ◌*◌, length};
-ghost use Rattle.picture_rows.specs.Pictures.{shown, passed_in, total_in, IsStanding};
+ghost use Rattle.picture_rows.specs.Pictures.{picture_state, passed_in, total_in, IsCurrent};
 ghost use Rattle.bare_stream.specs.Blocks.{AreParts, PutsBlocks};
 
 use picture_rows::{Picture, put_block};
@@ -13,11 +13,11 @@ pub fn put_blocks<X: Port>(
     blocks: &[i32],
     count: usize,
 ) -> Result<(), Failed>
-    requires standing { IsStanding (shown picture.old) }
-    requires room { passed_in (shown picture.old) + count ≤ total_in (shown picture.old) }
+    requires standing { IsCurrent (picture_state picture.old) }
+    requires room { passed_in (picture_state picture.old) + count ≤ total_in (picture_state picture.old) }
     requires whole { 64 * count ≤ length blocks.now }
     requires parts { AreParts blocks.now count picture.old.geometry.weights.shifts }
-    ensures { PutsBlocks result blocks.now count (X.outside port.old) (X.outside port.new) (shown picture.old) (shown picture.new) }
+    ensures { PutsBlocks result blocks.now count (X.outside port.old) (X.outside port.new) (picture_state picture.old) (picture_state picture.new) }
 {
     for place in 0..count {
         put_block(port, picture, &blocks[64 * place..64 * place + 64])?;

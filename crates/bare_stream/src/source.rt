@@ -16,7 +16,7 @@ ghost use Rattle.bare_stream.specs.RowsIn.{HasCome, StepsOn};
 use base_122::Setting;
 use port_122::Port;
 use raster_rows::{pad_row, read_row};
-use strip_coder::{EncodeFault, Work, put_block, row_fault};
+use strip_coder::{EncodeFault, Work, gather_block, row_fault};
 
 // Puts the row into the strip, and returns whether a block row came with it.
 fn push(setting: &Setting, work: &mut Work) -> bool
@@ -135,7 +135,7 @@ fn put_next(setting: &Setting, work: &mut Work, column: u32)
     ensures { HasPut setting.now column work.old work.new }
 {
     let place = work.at.filled as usize;
-    put_block(
+    gather_block(
         &work.strip,
         &setting.weights,
         column,

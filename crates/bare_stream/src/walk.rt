@@ -9,7 +9,7 @@ ghost use Rattle.bare_stream.specs.Decoded.{DecodesBare};
 ghost use Rattle.bare_stream.specs.Heads.{ExpectsEnd};
 ghost use Rattle.bare_stream.specs.Inputs.{source_of};
 ghost use Rattle.bare_stream.specs.Reads.{InForceAfter};
-ghost use Rattle.picture_rows.specs.Pictures.{shown, IsFresh};
+ghost use Rattle.picture_rows.specs.Pictures.{picture_state, IsFresh};
 ghost use Rattle.bare_stream.specs.SegmentsRead.{SegmentsRead, Told, shape_with};
 ghost use Rattle.bare_stream.specs.Walks.{IsSound, IsNext, IsAt, IsHeadOf, IsNextText, IsReading, HasEnded};
 ghost use Rattle.bare_stream.specs.Blocks.{AreParts};
@@ -50,7 +50,7 @@ impl Walk {
         requires fits { IsHead first.now }
         ensures sound { IfOk result (λ w. IsSound w) }
         ensures begins { IfOk result (λ w. (w.first ≡ first.now) × (w.parts ≡ parts) × (w.index ≡ 0) × (w.pixels ≡ pixels)) }
-        ensures fresh { IfOk result (λ w. IsFresh (shape_with first.now 262144) (shown w.picture)) }
+        ensures fresh { IfOk result (λ w. IsFresh (shape_with first.now 262144) (picture_state w.picture)) }
     {
         let room = Room::new(alloc, first.blocks)?;
         let rows = FieldRange::ROWS.most as u32;

@@ -10,7 +10,7 @@
 
 mod gaggle;
 mod masks;
-mod nibbles;
+mod mask_sets;
 mod picks;
 mod plan;
 mod sets;
@@ -20,10 +20,10 @@ mod walk;
 
 pub use gaggle::{Gaggle, depth_of, families_of, gaggle_in, load, mark_of, store, with_families};
 pub use masks::{all_having_bit, all_negative, all_reaching, reaching};
-pub use nibbles::{beside, both, either, four, has, is_any, joined, masked, one, part, three};
+pub use mask_sets::{except, both, either, four, has, is_any, joined, masked, one, part, three};
 pub use picks::{pick, spread};
 pub use plan::{CodedPlane, PlanePlan};
 pub use sets::{Sets, is_any_of, quads_of};
 pub use setting::set_bits;
 pub use stages::stage_at;
-pub use walk::{Parted, first_in, part_first, without};
+pub use walk::{Parted, first_in, split_lowest, without};

@@ -7,7 +7,7 @@ ghost use Rattle.plane_defs.specs.Sets.{magnitude, significant};
 ghost use Rattle.plane_defs.specs.Entries.{negative as is_negative};
 ghost use Rattle.block_masks.specs.Masks.{Shows};
 
-use crate::nibbles::joined;
+use crate::mask_sets::joined;
 use std::simd::prelude::*;
 
 // Reads sixteen numbers for the proof, which then knows that each fits its type. No code is left of it.

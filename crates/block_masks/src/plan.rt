@@ -6,7 +6,7 @@ ghost use Rattle.block_masks.specs.Masks.{Shows};
 ghost use Rattle.block_masks.specs.Places.{IsOneBand};
 ghost use Rattle.block_masks.specs.SetMasks.{AreSets, AreQuads};
 
-use crate::nibbles::{joined, masked};
+use crate::mask_sets::{joined, masked};
 use crate::sets::{Sets, quads_of};
 use base_122::Weights;
 use block_families::place_of;

@@ -6,7 +6,7 @@ ghost use Rattle.plane_defs.specs.Spans.{span};
 ghost use Rattle.block_masks.specs.Masks.{Shows};
 ghost use Rattle.block_masks.specs.SetMasks.{AreSets, AreQuads};
 
-use crate::nibbles::{four, is_any, part, three};
+use crate::mask_sets::{four, is_any, part, three};
 
 /// Some position of a part of a mask is told.
 #[inline(always)]

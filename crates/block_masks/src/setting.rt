@@ -7,7 +7,7 @@ ghost use Rattle.item_defs.specs.Bits.{bit};
 ghost use Rattle.block_masks.specs.BitsSet.{with_bit, SetsBits, SetsPart};
 
 use crate::masks::read;
-use crate::nibbles::{both, has, part};
+use crate::mask_sets::{both, has, part};
 use crate::walk::{first_in, without};
 use std::simd::prelude::*;
 

@@ -37,7 +37,7 @@ pub struct Parted {
 
 /// The first position of a mask that has some, and the others.
 #[inline(always)]
-pub fn part_first(mask: u64) -> Parted
+pub fn split_lowest(mask: u64) -> Parted
     requires some { 0 < mask }
     ensures { IsParted mask result.first result.others }
 {

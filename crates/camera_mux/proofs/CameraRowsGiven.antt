@@ -16,7 +16,7 @@ use Rattle.strip_coder.specs.declared.encode.EncodeDone.{EncodeDone}
 use Rattle.strip_coder.specs.declared.work.Work.{Work}
 use Rattle.strip_coder.specs.Plans.{tallest}
 use Rattle.strip_coder.specs.Rasters.{row_length, image_of, settled_octets}
-use Rattle.strip_coder.specs.Works.{FollowsRows, StandsFor}
+use Rattle.strip_coder.specs.Works.{FollowsRows, Represents}
 use Rattle.strip_coder.specs.Steps.{RowIs, EndsImage, EndBreaks}
 use Rattle.strip_coder.proofs.PlanLaws.{tall_height, known_tallest}
 use Rattle.strip_coder.proofs.RowsGiven.{same_rows, settled_same, rows_whole}
@@ -51,7 +51,7 @@ module _ (s : Setting) (k : ℕ) (raster got : List ℕ) (whole : length raster 
   itself = record { at = λ i j hi hj. refl }
 
 module _ (s : Setting) (range : IsInRange s) (known : s.rows ≢ 0) (k : ℕ) (less : k < tallest s) (raster : List ℕ) (whole : length raster ≡ k * row_length s) (old : Work)
-    (stands : StandsFor s k (image_of s raster) old) where
+    (stands : Represents s k (image_of s raster) old) where
   -- what was given before
   from_is : (got : List ℕ) → settled_octets s raster k ≡ joined (front_packets s (tallest s) (image_of s (raster ++ got)) old.at.index)
   from_is got =
@@ -96,7 +96,7 @@ module _ (s : Setting) (range : IsInRange s) (known : s.rows ≢ 0) (k : ℕ) (l
     got : List ℕ
     got = takes.got
 
-    stands_next : StandsFor s (k + 1) (image_of s (raster ++ takes.got)) new
+    stands_next : Represents s (k + 1) (image_of s (raster ++ takes.got)) new
     stands_next = record {
       taken = takes.taken;
       follows = λ y same. takes.follows y (stands.follows y (before_is s k raster takes.got whole y same)) (has_row s k raster takes.got whole y same);

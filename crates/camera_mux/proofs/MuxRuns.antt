@@ -3,7 +3,7 @@ use Rattle.std.proofs.Common.{◌≡◌, ◌⊎◌, inl, inr, ◌≤◌, ◌<◌
 use Rattle.std.specs.Prelude.{slice_index, EachIndex, None, Some, Err}
 use Rattle.std.proofs.lemmas.Bool.{cases_lt}
 use Rattle.std.proofs.lemmas.List.{append-nil, take_all}
-use Rattle.port_122.specs.Outside.{Outside, Since, NoRead, ReadFailed}
+use Rattle.port_122.specs.Outside.{Outside, Exchange, NoRead, ReadFailed}
 use Rattle.port_122.proofs.Stretches.{since_out, since_weaker, rose_since}
 use Rattle.port_122.proofs.ReadCalls.{since_in, since_asked}
 use Rattle.base_122.specs.declared.setting.Setting.{Setting}
@@ -130,9 +130,9 @@ module _ {settings : List Setting} {works : List Work} {start now : Outside} {v 
     row_octets got = append_assoc (octets_of come.records) (camera ∷ []) got
 
     -- a part of it was taken
-    part_since : {q : Outside} (got : List ℕ) → Since m q got [] [] (InRow (setting_at settings camera).depth (setting_at settings camera).signed (setting_at settings camera).width got) →
-        Since start q (octets_of come.records ++ camera ∷ got) (mux_out settings come.records) [] (AsksMux settings come.records)
-    part_since {q = q} got read = subst (λ t. Since start q t (mux_out settings come.records) [] (AsksMux settings come.records)) (row_octets got)
+    part_since : {q : Outside} (got : List ℕ) → Exchange m q got [] [] (InRow (setting_at settings camera).depth (setting_at settings camera).signed (setting_at settings camera).width got) →
+        Exchange start q (octets_of come.records ++ camera ∷ got) (mux_out settings come.records) [] (AsksMux settings come.records)
+    part_since {q = q} got read = subst (λ t. Exchange start q t (mux_out settings come.records) [] (AsksMux settings come.records)) (row_octets got)
         (since_in (since_asked come.since octet here) read
         (λ i j le r.
         let t = length (octets_of come.records ++ camera ∷ []) + i in
@@ -140,8 +140,8 @@ module _ {settings : List Setting} {works : List Work} {start now : Outside} {v 
         subst (AsksMux settings come.records t) g (asks_at settings come.records t (omega (arith, length-append (octets_of come.records) (camera ∷ []))))))
 
     -- all of it was, and octets were given after it
-    pub whole_since : {between q : Outside} (got part : List ℕ) → TakesOctets (setting_at settings camera) m between got → Since between q [] part [] NoRead →
-        Since start q (octets_of (come.records ++ record { camera = camera; row = got } ∷ [])) (mux_out settings come.records ++ part) [] (AsksMux settings (come.records ++ record { camera = camera; row = got } ∷ []))
+    pub whole_since : {between q : Outside} (got part : List ℕ) → TakesOctets (setting_at settings camera) m between got → Exchange between q [] part [] NoRead →
+        Exchange start q (octets_of (come.records ++ record { camera = camera; row = got } ∷ [])) (mux_out settings come.records ++ part) [] (AsksMux settings (come.records ++ record { camera = camera; row = got } ∷ []))
     whole_since {q = q} got part row out =
         let r : CameraRow = record { camera = camera; row = got } in
         let Q : ℕ → ℕ → Type 0 = AsksMux settings (come.records ++ r ∷ []) in
@@ -155,7 +155,7 @@ module _ {settings : List Setting} {works : List Work} {start now : Outside} {v 
         let size = length-append (octets_of come.records) (camera ∷ []) in
         let inside = x.0 in
         subst (Q t) g (asks_in settings come.records r t (omega (arith, size)) (omega (arith, size, inside, whole)))) in
-        subst (λ t. Since start q t (mux_out settings come.records ++ part) [] Q) (row_octets got ∙ sym (octets_more come.records r)) (since_out all out)
+        subst (λ t. Exchange start q t (mux_out settings come.records ++ part) [] Q) (row_octets got ∙ sym (octets_more come.records r)) (since_out all out)
 
     pub can_follow : {between : Outside} (got : List ℕ) → TakesOctets (setting_at settings camera) m between got → CanFollow settings come.records (record { camera = camera; row = got })
     can_follow got row = let a = awaited in record { known = known; misses = a.misses; whole = row.whole; in_range = row.in_range }
@@ -209,7 +209,7 @@ module _ {settings : List Setting} {works : List Work} {start now : Outside} {v 
           rest = [];
           gave = mux_out settings come.records ++ x.cut.gave;
           accepted = accepted_more come.records r settings come.accepted (can_follow x.got x.octets);
-          since = subst (λ t. Since start q t (mux_out settings come.records ++ x.cut.gave) [] (AsksMux settings (come.records ++ r ∷ []))) (sym (append-nil (octets_of (come.records ++ r ∷ []))))
+          since = subst (λ t. Exchange start q t (mux_out settings come.records ++ x.cut.gave) [] (AsksMux settings (come.records ++ r ∷ []))) (sym (append-nil (octets_of (come.records ++ r ∷ []))))
               (whole_since x.got x.cut.gave x.octets x.cut.out);
           answer = (
             rose_since come.since.faults.writes (rose_since octet.faults.writes (rose_since x.octets.since.faults.writes x.rose)),

@@ -6,7 +6,7 @@ use Rattle.std.proofs.lemmas.Bool.{cases_eq, eq-eqb, ne_eqb}
 use Rattle.std.proofs.lemmas.List.{length-set, get_or-set_same, get_or-set_other}
 use Rattle.std.proofs.lemmas.List.Sums.{sum_by-set}
 use Rattle.std.proofs.Math.Nat.{mul-le-mul}
-use Rattle.port_122.specs.Outside.{Outside, Since}
+use Rattle.port_122.specs.Outside.{Outside, Exchange}
 use Rattle.base_122.specs.Ranges.{IsInRange}
 use Rattle.base_122.specs.declared.setting.Setting.{Setting}
 use Rattle.raster_rows.specs.Pixels.{pixel_size}
@@ -63,8 +63,8 @@ module _ {settings : List Setting} {works : List Work} {start now m q : Outside}
       x.then_are ∙ ap (λ zs. settled_octets (setting_at settings camera) zs (count_of camera come.records + 1)) (sym rastered)
       ∙ ap (settled_octets (setting_at settings camera) (raster_of camera now_records)) (sym counted)
 
-  given : Since start q (octets_of now_records) (mux_out settings now_records) [] (AsksMux settings now_records)
-  given = subst (λ g. Since start q (octets_of now_records) g [] (AsksMux settings now_records)) (sym (out_with come.records r settings x.gave settles))
+  given : Exchange start q (octets_of now_records) (mux_out settings now_records) [] (AsksMux settings now_records)
+  given = subst (λ g. Exchange start q (octets_of now_records) g [] (AsksMux settings now_records)) (sym (out_with come.records r settings x.gave settles))
       (whole_since come camera known some octet x.got x.gave x.octets x.out)
 
   left_now : (c : ℕ) → c < length settings → slice_index (set v.left camera (slice_index v.left camera - 1)) c + count_of c now_records ≡ (setting_at settings c).rows

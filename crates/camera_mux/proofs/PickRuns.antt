@@ -6,7 +6,7 @@ use Rattle.std.proofs.lemmas.Bool.{false≢true}
 use Rattle.std.proofs.lemmas.List.{append-nil, take-append-le, take_all, take-append-drop}
 use Rattle.std.proofs.lemmas.List.Elements.{filter-append}
 use Rattle.std.proofs.Math.Seq.{take-append-add}
-use Rattle.port_122.specs.Outside.{Outside, Since, NoRead, IsUsedUp}
+use Rattle.port_122.specs.Outside.{Outside, Exchange, NoRead, IsUsedUp}
 use Rattle.port_122.proofs.Stretches.{since_start, since_out, since_weaker, each_of_both}
 use Rattle.port_122.proofs.ReadCalls.{since_in}
 use Rattle.base_122.specs.declared.wish.DecodeWish.{DecodeWish}
@@ -62,8 +62,8 @@ asks_gave : (apid : ℕ) (image : Option ℕ) (took gave g : List ℕ) (i j : �
 asks_gave apid image took gave g i j asks = (omega (arith, asks.0, length-append gave g), take-append-le j gave g asks.0 ∙ asks.1)
 
 -- some octets more were given
-pub gave_on : {wish : DecodeWish} {image : Option ℕ} {start now new : Outside} {v : Intake} {packets : ℕ} {g : List ℕ} → (come : HasPicked wish image start now v packets) → Since now new [] g [] NoRead →
-    Since start new come.took (joined (picked_of wish.apid image come.passed) ++ g) [] (AsksPicked wish.apid image come.took (joined (picked_of wish.apid image come.passed) ++ g))
+pub gave_on : {wish : DecodeWish} {image : Option ℕ} {start now new : Outside} {v : Intake} {packets : ℕ} {g : List ℕ} → (come : HasPicked wish image start now v packets) → Exchange now new [] g [] NoRead →
+    Exchange start new come.took (joined (picked_of wish.apid image come.passed) ++ g) [] (AsksPicked wish.apid image come.took (joined (picked_of wish.apid image come.passed) ++ g))
 gave_on {wish = wish} {image = image} {g = g} come gives =
     let gave = joined (picked_of wish.apid image come.passed) in
     since_out (since_weaker come.since (λ i j le r. asks_gave wish.apid image come.took gave g i j r)) gives
@@ -95,7 +95,7 @@ module _ {wish : DecodeWish} {image : Option ℕ} {start now new : Outside} {v u
         ap (λ n. take n given) here ∙ take_all (length given) given (omega arith) ∙ ap (λ ps. joined (picked_of wish.apid image ps)) (sym (same_whole i r.0)),
       )
 
-  since_filled : Since start new (come.took ++ x.took) (joined (picked_of wish.apid image come.passed)) [] (AsksPicked wish.apid image (come.took ++ x.took) (joined (picked_of wish.apid image come.passed)))
+  since_filled : Exchange start new (come.took ++ x.took) (joined (picked_of wish.apid image come.passed)) [] (AsksPicked wish.apid image (come.took ++ x.took) (joined (picked_of wish.apid image come.passed)))
   since_filled =
       let given = joined (picked_of wish.apid image come.passed) in
       since_in (since_weaker come.since (λ i j le r. asks_took wish.apid image come.took x.took given i j le r)) x.since (λ i j le r. asks_now i j r)
@@ -153,7 +153,7 @@ past_one apid cap u took passed read whole =
       count = refl;
     })
 
-end_past : (apid : ℕ) (now new : Outside) (u : Intake) (xs ys : List (List ℕ)) {g : List ℕ} {Q : ℕ → ℕ → Type 0} → Since now new [] g [] Q → begins_packet u.pending ≡ true → SawEnd now (reading apid u xs None) → SawEnd new (reading apid (answered apid u) ys None)
+end_past : (apid : ℕ) (now new : Outside) (u : Intake) (xs ys : List (List ℕ)) {g : List ℕ} {Q : ℕ → ℕ → Type 0} → Exchange now new [] g [] Q → begins_packet u.pending ≡ true → SawEnd now (reading apid u xs None) → SawEnd new (reading apid (answered apid u) ys None)
 end_past apid now new u xs ys gives whole before = subst (λ v. SawEnd new (reading apid v ys None)) (sym (answered_packet apid u whole))
     (λ rest told ended. before rest (before_loses now.rest new.rest [] rest gives.rest told) ended)
 
@@ -168,7 +168,7 @@ given_one {wish = wish} {image = image} {start = start} {new = new} {packets = p
     subst (λ w. HasPicked wish image start new w (packets + 1)) (sym x.stands) (record {
       took = come.took;
       passed = all;
-      since = subst (λ gave. Since start new come.took gave [] (AsksPicked wish.apid image come.took gave)) (sym more) (gave_on come x.gives);
+      since = subst (λ gave. Exchange start new come.took gave [] (AsksPicked wish.apid image come.took gave)) (sym more) (gave_on come x.gives);
       read = past_one wish.apid wish.octets x.full come.took come.passed come.read x.holds.whole;
       at_end = end_past wish.apid x.between new x.full come.passed all x.gives x.holds.whole come.at_end;
       packets_are = ap (λ n. n + 1) come.packets_are ∙ sym (count_more wish.apid image come.passed packet x.holds.test);
@@ -185,7 +185,7 @@ passed_one {wish = wish} {image = image} {start = start} {new = new} {packets = 
     subst (λ w. HasPicked wish image start new w packets) (sym x.stands) (record {
       took = come.took;
       passed = all;
-      since = subst (λ ps. Since start new come.took (joined ps) [] (AsksPicked wish.apid image come.took (joined ps))) (sym same) come.since;
+      since = subst (λ ps. Exchange start new come.took (joined ps) [] (AsksPicked wish.apid image come.took (joined ps))) (sym same) come.since;
       read = past_one wish.apid wish.octets x.full come.took come.passed come.read x.holds.whole;
       at_end = end_past wish.apid new new x.full come.passed all (since_start new NoRead) x.holds.whole come.at_end;
       packets_are = come.packets_are ∙ ap length (sym same);

@@ -1,6 +1,6 @@
 -- How a mux ends, by what it took and gave. This project's own.
 use Rattle.std.specs.Prelude.{◌≡◌, ◌<◌, ◌≤◌, ◌-◌, ◌^◌, ℕ, ℤ, min, List, [], ◌∷◌, ◌++◌, length, take, Result, Ok, Err}
-use Rattle.port_122.specs.Outside.{Outside, Since, AtEnd, Rose}
+use Rattle.port_122.specs.Outside.{Outside, Exchange, AtEnd, Rose}
 use Rattle.base_122.specs.declared.setting.Setting.{Setting}
 use Rattle.raster_rows.specs.Pixels.{whole_pixels}
 use Rattle.raster_rows.specs.RowReads.{FirstInRange, IsFirstBad}
@@ -65,5 +65,5 @@ pub record Muxes (settings : List Setting) (old new : Outside) (result : Result 
   pub rest : List ℕ
   pub gave : List ℕ
   pub accepted : AreAccepted settings records
-  pub since : Since old new (octets_of records ++ rest) gave [] (AsksMux settings records)
+  pub since : Exchange old new (octets_of records ++ rest) gave [] (AsksMux settings records)
   pub answer : Answers settings old new records rest gave result

@@ -1,11 +1,11 @@
 -- The progress of a mux since it began. This project's own.
 use Rattle.std.specs.Prelude.{◌≡◌, ◌≢◌, ◌<◌, ◌≤◌, ◌+◌, ◌-◌, ◌*◌, ◌^◌, ℕ, min, sum, List, [], ◌∷◌, length, take, slice_index, slice_index_or, slice_set, Option, None, Some}
-use Rattle.port_122.specs.Outside.{Outside, Since, AtStart, AtEnd}
+use Rattle.port_122.specs.Outside.{Outside, Exchange, AtStart, AtEnd}
 use Rattle.base_122.specs.Ranges.{IsInRange}
 use Rattle.base_122.specs.declared.setting.Setting.{Setting}
 use Rattle.strip_coder.specs.declared.work.Work.{Work}
 use Rattle.strip_coder.specs.Rasters.{row_length, image_of}
-use Rattle.strip_coder.specs.Works.{IsMadeFor, StandsFor}
+use Rattle.strip_coder.specs.Works.{IsMadeFor, Represents}
 use Rattle.camera_mux.specs.declared.mux.MuxDone.{MuxDone}
 use Rattle.camera_mux.specs.declared.muxing.Progress.{Progress}
 use Rattle.camera_mux.specs.Records.{CameraRow, setting_at, octets_of, count_of, raster_of, AreAccepted}
@@ -37,13 +37,13 @@ pub record AsksMux (settings : List Setting) (records : List CameraRow) (i j : �
 -- a work is ready for the next row of its camera's image, after k rows of a raster
 pub record IsReady (s : Setting) (k : ℕ) (raster : List ℕ) (w : Work) : Type 0 where
   pub made : IsMadeFor s w
-  pub stands : 0 < k → k < s.rows → StandsFor s k (image_of s raster) w
+  pub stands : 0 < k → k < s.rows → Represents s k (image_of s raster) w
 
 -- These records were taken, and what they settle was given.
 pub record HasMuxed (settings : List Setting) (works : List Work) (start now : Outside) (v : Progress) : Type 0 where
   pub records : List CameraRow
   pub accepted : AreAccepted settings records
-  pub since : Since start now (octets_of records) (mux_out settings records) [] (AsksMux settings records)
+  pub since : Exchange start now (octets_of records) (mux_out settings records) [] (AsksMux settings records)
   pub left : (camera : ℕ) → camera < length settings → slice_index v.left camera + count_of camera records ≡ (setting_at settings camera).rows
   pub others : (camera : ℕ) → length settings ≤ camera → slice_index v.left camera ≡ 0
   pub ready : (camera : ℕ) (d : Work) → camera < length settings → IsReady (setting_at settings camera) (count_of camera records) (raster_of camera records) (slice_index_or works camera d)
@@ -68,8 +68,8 @@ pub record IsUnbegun (settings : List Setting) (v : Progress) : Type 0 where
 
 -- an octet was read, or the end was there
 abbrev pub SawOctet : (old new : Outside) → Option ℕ → Type 0
-SawOctet old new None = Since old new [] [] [] AtStart × AtEnd new
-SawOctet old new (Some octet) = Since old new (octet ∷ []) [] [] AtStart
+SawOctet old new None = Exchange old new [] [] [] AtStart × AtEnd new
+SawOctet old new (Some octet) = Exchange old new (octet ∷ []) [] [] AtStart
 
 -- one record more of a camera, whose row has so many octets
 abbrev pub with_record : Progress → (camera octets : ℕ) → MuxDone → Progress

@@ -1,6 +1,6 @@
 -- How a pick of packets ends, by what it took and gave. This project's own.
 use Rattle.std.specs.Prelude.{◌≡◌, ◌≤◌, ℕ, List, [], length, take, false, Option, Result, Ok, Err}
-use Rattle.port_122.specs.Outside.{Outside, Since, Rose}
+use Rattle.port_122.specs.Outside.{Outside, Exchange, Rose}
 use Rattle.base_122.specs.declared.wish.DecodeWish.{DecodeWish}
 use Rattle.packet_defs.specs.Streams.{whole_packets, left_over, has_bad_version, framing}
 use Rattle.packet_assembly.specs.Readings.{IsReadOut}
@@ -32,6 +32,6 @@ Answers wish image old new took gave (Err Memory) = (old ≡ new) × (took ≡ [
 pub record Picks (wish : DecodeWish) (image : Option ℕ) (old new : Outside) (result : Result ListDone ListFault) : Type 0 where
   pub took : List ℕ
   pub gave : List ℕ
-  pub since : Since old new took gave [] (AsksPicked wish.apid image took gave)
+  pub since : Exchange old new took gave [] (AsksPicked wish.apid image took gave)
   pub within : length took ≤ wish.octets
   pub answer : Answers wish image old new took gave result

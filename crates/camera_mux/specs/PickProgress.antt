@@ -1,6 +1,6 @@
 -- The progress of a pick since it began: what it took, and which packets it gave. This project's own.
 use Rattle.std.specs.Prelude.{◌≡◌, ◌≤◌, ℕ, List, [], length, take, Option, None}
-use Rattle.port_122.specs.Outside.{Outside, Since}
+use Rattle.port_122.specs.Outside.{Outside, Exchange}
 use Rattle.base_122.specs.declared.wish.DecodeWish.{DecodeWish}
 use Rattle.packet_defs.specs.declared.packet.Framing.{Framing}
 use Rattle.packet_defs.specs.Packets.{joined}
@@ -30,7 +30,7 @@ reading apid v passed found = record {
 pub record HasPicked (wish : DecodeWish) (image : Option ℕ) (start now : Outside) (v : Intake) (packets : ℕ) : Type 0 where
   pub took : List ℕ
   pub passed : List (List ℕ)
-  pub since : Since start now took (joined (picked_of wish.apid image passed)) [] (AsksPicked wish.apid image took (joined (picked_of wish.apid image passed)))
+  pub since : Exchange start now took (joined (picked_of wish.apid image passed)) [] (AsksPicked wish.apid image took (joined (picked_of wish.apid image passed)))
   pub read : HasRead wish.apid wish.octets (reading wish.apid v passed None) took passed
   pub at_end : SawEnd now (reading wish.apid v passed None)
   pub packets_are : packets ≡ length (picked_of wish.apid image passed)

@@ -1,7 +1,7 @@
 -- What a step leaves that picks one packet. This project's own.
 use Rattle.std.specs.Prelude.{◌≡◌, ◌≤◌, ℕ, Bool, true, false, [], length, take, Option, None, Some, Result, Ok, Err}
 use Rattle.bit_pipe.specs.declared.fault.InFault.TheVariants as in_faults
-use Rattle.port_122.specs.Outside.{Outside, Since, NoRead, Rose}
+use Rattle.port_122.specs.Outside.{Outside, Exchange, NoRead, Rose}
 use Rattle.packet_defs.specs.declared.packet.Framing.{Framing}
 use Rattle.packet_defs.specs.declared.packet.PacketRead.{PacketRead}
 use Rattle.packet_defs.specs.declared.packet.PacketRead.TheVariants.{Mine, Skipped, Ended, Fault}
@@ -32,7 +32,7 @@ pub record GivesNext (apid : ℕ) (image : Option ℕ) (old new : Outside) (v w 
   pub between : Outside
   pub full : Intake
   pub holds : HoldsNext apid image old between v full true
-  pub gives : Since between new [] (first_packet full.pending) [] NoRead
+  pub gives : Exchange between new [] (first_packet full.pending) [] NoRead
   pub stands : w ≡ answered apid full
 
 -- it wasn't picked
@@ -49,7 +49,7 @@ pub record FailsToGive (apid : ℕ) (image : Option ℕ) (old new : Outside) (v 
   pub rose : Rose between.write_faults new.write_faults
   pub some : ℕ
   pub within : some ≤ length (first_packet full.pending)
-  pub gives : Since between new [] (take some (first_packet full.pending)) [] NoRead
+  pub gives : Exchange between new [] (take some (first_packet full.pending)) [] NoRead
 
 -- there is no next packet: the end is read, or what can't be read on
 pub record EndsPick (apid : ℕ) (old new : Outside) (v : Intake) (found : Option Framing) : Type 0 where

@@ -1,6 +1,6 @@
 -- What a step leaves that takes one row of a camera. This project's own.
 use Rattle.std.specs.Prelude.{◌≡◌, ◌≢◌, ◌<◌, ◌≤◌, ◌+◌, ◌^◌, ℕ, ℤ, List, [], ◌++◌, length, take}
-use Rattle.port_122.specs.Outside.{Outside, Since, AtEnd, NoRead, Rose}
+use Rattle.port_122.specs.Outside.{Outside, Exchange, AtEnd, NoRead, Rose}
 use Rattle.base_122.specs.declared.setting.Setting.{Setting}
 use Rattle.packet_defs.specs.Packets.{joined}
 use Rattle.raster_rows.specs.Pixels.{pixel_at, whole_pixels}
@@ -12,8 +12,8 @@ use Rattle.stream_defs.specs.SettledImages.{front_packets, settled_in}
 use Rattle.strip_coder.specs.declared.work.Work.{Work}
 use Rattle.strip_coder.specs.Plans.{plan_of, tallest}
 use Rattle.strip_coder.specs.Rasters.{row_length, image_of, settled_octets}
-use Rattle.strip_coder.specs.Works.{HasTaken, FollowsRows, StandsFor}
-use Rattle.strip_coder.specs.Steps.{GoesOn, IsRowInRange, RowIs, tall_blocks}
+use Rattle.strip_coder.specs.Works.{HasTaken, FollowsRows, Represents}
+use Rattle.strip_coder.specs.Steps.{Continues, IsRowInRange, RowIs, tall_blocks}
 use Rattle.camera_mux.specs.declared.mux.MuxDone.{MuxDone}
 use Rattle.camera_mux.specs.declared.mux.MuxFault.{MuxFault}
 use Rattle.camera_mux.specs.declared.mux.MuxFault.TheVariants.{ReadFault, WriteFault, Short, Long, BadCamera, BadPixel}
@@ -36,13 +36,13 @@ pub record HasRow (s : Setting) (x : ℕ → ℕ → ℤ) (k : ℕ) (got : List 
 
 -- A whole row in range was taken.
 pub record TakesOctets (s : Setting) (p q : Outside) (got : List ℕ) : Type 0 where
-  pub since : Since p q got [] [] (InRow s.depth s.signed s.width got)
+  pub since : Exchange p q got [] [] (InRow s.depth s.signed s.width got)
   pub whole : length got ≡ row_length s
   pub in_range : FirstInRange s.depth s.signed got s.width
 
 -- Less than a row was taken, and each whole pixel is in range.
 pub record LacksOctets (s : Setting) (p q : Outside) (got : List ℕ) : Type 0 where
-  pub since : Since p q got [] [] (InRow s.depth s.signed s.width got)
+  pub since : Exchange p q got [] [] (InRow s.depth s.signed s.width got)
   pub inside : length got < row_length s
   pub in_range : FirstInRange s.depth s.signed got (whole_pixels s.depth got)
 
@@ -58,12 +58,12 @@ pub record TakesCameraRow (s : Setting) (k : ℕ) (p q : Outside) (old new : Wor
   pub row : (x : ℕ → ℕ → ℤ) → HasRow s x k got → RowIs s x k new
   pub faults : between.write_faults ≤ q.write_faults
   pub follows : (x : ℕ → ℕ → ℤ) → FollowsRows s x old → HasRow s x k got → FollowsRows s x new
-  pub goes : (x : ℕ → ℕ → ℤ) → FollowsRows s x old → HasRow s x k got → GoesOn (plan_of s (tallest s)) (tall_blocks s x) old.at.index new.at.index between q
+  pub goes : (x : ℕ → ℕ → ℤ) → FollowsRows s x old → HasRow s x k got → Continues (plan_of s (tallest s)) (tall_blocks s x) old.at.index new.at.index between q
 
 -- A write failed: a prefix of all these octets is out, of which some were out before.
 pub record IsCut (before all : List ℕ) (p q : Outside) : Type 0 where
   pub gave : List ℕ
-  pub out : Since p q [] gave [] NoRead
+  pub out : Exchange p q [] gave [] NoRead
   pub some : ℕ
   pub front : before ++ gave ≡ take some all
 
@@ -79,7 +79,7 @@ abbrev pub FailsInRow : Setting → (k : ℕ) → Place → (p q : Outside) → 
 FailsInRow s k place p q old ReadFault = (got : List ℕ) × LacksOctets s p q got × Rose p.read_faults q.read_faults
 FailsInRow s k place p q old (Short octets) = (got : List ℕ) × LacksOctets s p q got × AtEnd q × (octets ≡ place.octets + length got)
 FailsInRow s k place p q old (BadPixel camera row column value) =
-    (got : List ℕ) × Since p q got [] [] (InRow s.depth s.signed s.width got) × (length got ≤ row_length s) × (camera ≡ place.camera) × (row ≡ k) × IsFirstBad s.depth s.signed got column value
+    (got : List ℕ) × Exchange p q got [] [] (InRow s.depth s.signed s.width got) × (length got ≤ row_length s) × (camera ≡ place.camera) × (row ≡ k) × IsFirstBad s.depth s.signed got column value
 FailsInRow s k place p q old WriteFault = CutsCameraRow s k p q old
 FailsInRow s k place p q old Long = ⊥
 FailsInRow s k place p q old (BadCamera number camera) = ⊥
@@ -97,9 +97,9 @@ pub record GivesRow (s : Setting) (k : ℕ) (raster : List ℕ) (p q : Outside) 
   pub got : List ℕ
   pub octets : TakesOctets s p between got
   pub gave : List ℕ
-  pub out : Since between q [] gave [] NoRead
+  pub out : Exchange between q [] gave [] NoRead
   pub then_are : settled_octets s raster k ++ gave ≡ settled_octets s (raster ++ got) (k + 1)
-  pub stands : k + 1 < s.rows → StandsFor s (k + 1) (image_of s (raster ++ got)) new
+  pub stands : k + 1 < s.rows → Represents s (k + 1) (image_of s (raster ++ got)) new
   pub done_is : DoneAt s (image_of s (raster ++ got)) (k + 1) done
 
 pub record CutsRow (s : Setting) (k : ℕ) (raster : List ℕ) (p q : Outside) : Type 0 where
@@ -113,7 +113,7 @@ abbrev pub FailsAtRow : Setting → (k : ℕ) (raster : List ℕ) → Place → 
 FailsAtRow s k raster place p q ReadFault = (got : List ℕ) × LacksOctets s p q got × Rose p.read_faults q.read_faults
 FailsAtRow s k raster place p q (Short octets) = (got : List ℕ) × LacksOctets s p q got × AtEnd q × (octets ≡ place.octets + length got)
 FailsAtRow s k raster place p q (BadPixel camera row column value) =
-    (got : List ℕ) × Since p q got [] [] (InRow s.depth s.signed s.width got) × (length got ≤ row_length s) × (camera ≡ place.camera) × (row ≡ k) × IsFirstBad s.depth s.signed got column value
+    (got : List ℕ) × Exchange p q got [] [] (InRow s.depth s.signed s.width got) × (length got ≤ row_length s) × (camera ≡ place.camera) × (row ≡ k) × IsFirstBad s.depth s.signed got column value
 FailsAtRow s k raster place p q WriteFault = CutsRow s k raster p q
 FailsAtRow s k raster place p q Long = ⊥
 FailsAtRow s k raster place p q (BadCamera number camera) = ⊥

@@ -3,7 +3,7 @@ ghost use Rattle.std.specs.Prelude.{◌≡◌, ◌≢◌, ◌<◌, ◌*◌, ◌^
 ghost use Rattle.base_122.specs.Ranges.{IsInRange};
 ghost use Rattle.strip_coder.specs.Plans.{plan_of, tallest};
 ghost use Rattle.strip_coder.specs.Rasters.{row_length, image_of};
-ghost use Rattle.strip_coder.specs.Works.{IsMadeFor, HasTaken, StandsFor};
+ghost use Rattle.strip_coder.specs.Works.{IsMadeFor, HasTaken, Represents};
 ghost use Rattle.camera_mux.specs.RowSteps.{fault_of, ShortOf, TakesCameraRow, FailsInRow, GivesRow, FailsAtRow};
 
 use crate::mux::{MuxDone, MuxFault};
@@ -33,7 +33,7 @@ pub(crate) fn take_camera_row<X: Port>(
     requires few { work.old.at.rows < tallest setting.now }
     requires octets { place.octets < 2 ^ 63 }
     ensures made { IsMadeFor setting.now work.new }
-    ensures row { (raster : List ℕ) → length raster ≡ work.old.at.rows * row_length setting.now → StandsFor setting.now work.old.at.rows (image_of setting.now raster) work.old → MatchResult result
+    ensures row { (raster : List ℕ) → length raster ≡ work.old.at.rows * row_length setting.now → Represents setting.now work.old.at.rows (image_of setting.now raster) work.old → MatchResult result
         (λ done. GivesRow setting.now work.old.at.rows raster (X.outside port.old) (X.outside port.new) work.new done)
         (λ fault. FailsAtRow setting.now work.old.at.rows raster place (X.outside port.old) (X.outside port.new) fault) }
 {

@@ -5,7 +5,7 @@ ghost use Rattle.base_122.specs.Ranges.{IsInRange};
 ghost use Rattle.strip_coder.specs.declared.work.Work.{Work};
 ghost use Rattle.strip_coder.specs.Plans.{plan_of, tallest};
 ghost use Rattle.strip_coder.specs.Rasters.{row_length, image_of};
-ghost use Rattle.strip_coder.specs.Works.{IsMadeFor, HasTaken, StandsFor};
+ghost use Rattle.strip_coder.specs.Works.{IsMadeFor, HasTaken, Represents};
 ghost use Rattle.camera_mux.specs.Records.{setting_at};
 ghost use Rattle.camera_mux.specs.RowSteps.{GivesRow, FailsAtRow};
 ghost use Rattle.camera_mux.specs.MuxProgress.{AreSettings, CanMux, IsReady, HasMuxed, IsUnbegun, SawOctet, with_record};
@@ -149,7 +149,7 @@ fn make_ready(setting: &Setting, work: &mut Work, row: u32)
     requires taken { 0 < row → HasTaken (plan_of setting.now (tallest setting.now)) row work.old }
     requires few { row < setting.now.rows }
     ensures taken { HasTaken (plan_of setting.now (tallest setting.now)) row work.new }
-    ensures stands { (raster : List ℕ) → IsReady setting.now row raster work.old → StandsFor setting.now row (image_of setting.now raster) work.new }
+    ensures stands { (raster : List ℕ) → IsReady setting.now row raster work.old → Represents setting.now row (image_of setting.now raster) work.new }
 {
     if row == 0 {
         start_image(setting, work);

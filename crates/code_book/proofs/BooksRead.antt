@@ -1,7 +1,7 @@
 -- A book that was read whole.
 use Rattle.std.proofs.Common.{◌≡◌, ◌<◌, ℕ, Bool, true, false, List, [], length, refl, ◌∙◌, subst, arith, Option, None, Some, IfSome, IfErr, Result, Ok, Err, if◌then◌else◌}
 use Rattle.std.proofs.lemmas.List.{take_all}
-use Rattle.port_122.specs.Outside.{Outside, Since}
+use Rattle.port_122.specs.Outside.{Outside, Exchange}
 use Rattle.base_122.specs.declared.book.Book.{Book}
 use Rattle.code_book.specs.declared.fault.BookFault.{BookFault}
 use Rattle.code_book.specs.declared.fault.BookFault.TheVariants.{ReadFault, Short, BadMark, BadLength, BadBits, Clash, Incomplete}
@@ -51,7 +51,7 @@ answers old new took (Err (Incomplete table)) kind is = is
 pub book_taken : {old new : Outside} {octets : List ℕ} {result : Result Book BookFault} → FilledTo old new octets 138 → result ≡ book_read octets → ReadsBook old new result
 book_taken {old = old} {new = new} {octets = octets} {result = result} p is = record {
   took = octets;
-  since = subst (λ took. Since old new took [] [] (λ i j. i < 138)) (take_all 138 octets (omega (arith, p.room))) p.since;
+  since = subst (λ took. Exchange old new took [] [] (λ i j. i < 138)) (take_all 138 octets (omega (arith, p.room))) p.since;
   answer = answers old new octets result (rw is (read_kind octets)) (p.room, is);
 }
 

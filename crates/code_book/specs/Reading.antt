@@ -2,7 +2,7 @@
 use Rattle.std.specs.Prelude.{◌≡◌, ◌<◌, ℕ, ◌+◌, ◌*◌, ◌&&◌, ◌==◌, Bool, nat_lt, if◌then◌else◌, List, [], length, map, Option, None, Some, Result, Ok, Err}
 use Rattle.std.specs.List.{sum_by, range_with_len}
 use lib.ListN.{get_or}
-use Rattle.port_122.specs.Outside.{Outside, Since, AtEnd, Rose}
+use Rattle.port_122.specs.Outside.{Outside, Exchange, AtEnd, Rose}
 use Rattle.base_122.specs.declared.book.Code.{Code}
 use Rattle.base_122.specs.declared.book.Book.{Book}
 use Rattle.plane_defs.specs.Codes.{no_code}
@@ -52,5 +52,5 @@ BookAnswers old new took result = (length took ≡ 138) × (result ≡ book_read
 -- One run over a port: what it took, and why it ended so. It asks only while octets of the book are missing.
 pub record ReadsBook (old new : Outside) (result : Result Book BookFault) : Type 0 where
   pub took : List ℕ
-  pub since : Since old new took [] [] (λ i j. i < 138)
+  pub since : Exchange old new took [] [] (λ i j. i < 138)
   pub answer : BookAnswers old new took result

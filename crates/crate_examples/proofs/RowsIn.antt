@@ -4,7 +4,7 @@ use Rattle.std.specs.Prelude.{Result, Ok, Err, MatchResult, OnOk, Vec}
 use Rattle.std.specs.Vec.{with_items}
 use Rattle.std.proofs.lemmas.List.{append-nil, with_items_is, get_or-take, get_or-drop, take_min, take-append-le}
 use Rattle.std.proofs.Math.Nat.{mul-le-mul_left, mul-le-mul_right}
-use Rattle.port_122.specs.Outside.{Outside, Since, NoRead, Rose}
+use Rattle.port_122.specs.Outside.{Outside, Exchange, NoRead, Rose}
 use Rattle.port_122.proofs.Stretches.{since_start, since_out, rose_since}
 use Rattle.base_122.specs.Ranges.{IsInRange}
 use Rattle.base_122.specs.Setting.{IsHeight, sized}
@@ -23,8 +23,8 @@ use Rattle.strip_coder.specs.declared.work.Work.{Work}
 use Rattle.strip_coder.specs.Answers.{DoneFor}
 use Rattle.strip_coder.specs.Plans.{plan_of, tallest}
 use Rattle.strip_coder.proofs.PlanLaws.{known_tallest}
-use Rattle.strip_coder.specs.Works.{IsMadeFor, HasTaken, FollowsRows, StandsForNone}
-use Rattle.strip_coder.specs.Steps.{GoesOn, BreaksOff, IsRowInRange, RowIs, TakesRow, BreaksAt, EndsImage, EndBreaks}
+use Rattle.strip_coder.specs.Works.{IsMadeFor, HasTaken, FollowsRows, RepresentsNone}
+use Rattle.strip_coder.specs.Steps.{Continues, StopsEarly, IsRowInRange, RowIs, TakesRow, BreaksAt, EndsImage, EndBreaks}
 use Rattle.crate_examples.specs.Frames.{HasOctets, LastStands, HasGiven, GaveAll, BrokeOff}
 
 -- ---- octets in a row
@@ -94,11 +94,11 @@ module _ (s : Setting) (rows : ℕ) (image : ℕ → ℕ → ℤ) where
       let front = take_front some (joined (front_packets s rows image (index + 1))) rest.0 in
       (front.0, front.1 ∙ ap (take front.0) (sym rest.1 ∙ ap (λ k. joined (packets_of (tells_last s) (sized s rows) all k)) e))
 
-  module _ (start now next : Outside) (index : ℕ) (since : Since start now [] (joined (front_packets s rows image index)) [] NoRead) where
-    gave_on : (to : ℕ) → GoesOn (plan_of s rows) (image_blocks (sized s rows) image) index to now next → Since start next [] (joined (front_packets s rows image to)) [] NoRead
-    gave_on to goes = subst (λ gave. Since start next [] gave [] NoRead) goes.then_are (since_out since goes.out)
+  module _ (start now next : Outside) (index : ℕ) (since : Exchange start now [] (joined (front_packets s rows image index)) [] NoRead) where
+    gave_on : (to : ℕ) → Continues (plan_of s rows) (image_blocks (sized s rows) image) index to now next → Exchange start next [] (joined (front_packets s rows image to)) [] NoRead
+    gave_on to goes = subst (λ gave. Exchange start next [] gave [] NoRead) goes.then_are (since_out since goes.out)
 
-    broke : (gathered : ℕ) → rows ≡ s.rows → Rose now.write_faults next.write_faults → BreaksOff (plan_of s rows) (image_blocks (sized s rows) image) index gathered now next →
+    broke : (gathered : ℕ) → rows ≡ s.rows → Rose now.write_faults next.write_faults → StopsEarly (plan_of s rows) (image_blocks (sized s rows) image) index gathered now next →
         BrokeOff s image start next
     broke gathered known rose part =
         let front = segments_front part.index part.some part.inside in
@@ -106,7 +106,7 @@ module _ (s : Setting) (rows : ℕ) (image : ℕ → ℕ → ℤ) where
         record {
           rose = rose_since since.faults.writes rose;
           some = front.0;
-          since = subst (λ gave. Since start next [] gave [] NoRead) gave (since_out since part.out);
+          since = subst (λ gave. Exchange start next [] gave [] NoRead) gave (since_out since part.out);
         }
 
 -- ---- no row yet
@@ -119,7 +119,7 @@ none_out s rows w range least_rows taken =
     let least : w.at.index * 16 ≤ w.at.index * s.segment = mul-le-mul_left {m = 16} {n = s.segment} w.at.index range.segment.0 in
     omega (arith, none, blocks, least)
 
-pub none_given : (s : Setting) (image : ℕ → ℕ → ℤ) (start : Outside) (w : Work) → IsInRange s → s.rows ≢ 0 → StandsForNone s w → HasGiven s image start start w
+pub none_given : (s : Setting) (image : ℕ → ℕ → ℤ) (start : Outside) (w : Work) → IsInRange s → s.rows ≢ 0 → RepresentsNone s w → HasGiven s image start start w
 none_given s image start w range known stands =
     let all = image_blocks (sized s (tallest s)) image in
     let height = known_height s range known in
@@ -130,7 +130,7 @@ none_given s image start w range known stands =
       taken = subst (λ k. HasTaken (plan_of s (tallest s)) k w) (sym stands.taken.rows) stands.taken;
       follows = stands.follows image;
       last = λ some. absurd (omega (arith, some, stands.taken.rows));
-      since = subst (λ gave. Since start start [] gave [] NoRead) (sym none) (since_start start NoRead);
+      since = subst (λ gave. Exchange start start [] gave [] NoRead) (sym none) (since_start start NoRead);
     }
 
 -- ---- a row more
@@ -152,7 +152,7 @@ module _ {T E : Type 0} (s : Setting) (now next : Outside) (w new : Work) (resul
       by (Err failed) breaks = tt
 
 module _ (s : Setting) (image : ℕ → ℕ → ℤ) (start now next : Outside) (w new : Work) (known : s.rows ≢ 0) (follows : FollowsRows s image w)
-    (since : Since start now [] (joined (front_packets s (tallest s) image w.at.index)) [] NoRead) (is : RowIs s image w.at.rows w) where
+    (since : Exchange start now [] (joined (front_packets s (tallest s) image w.at.index)) [] NoRead) (is : RowIs s image w.at.rows w) where
   pub row_given : {T E : Type 0} (result : Result T E) → IsRowInRange s w.row.items → MatchResult result (λ _. TakesRow s w.at.rows now next w new) (λ _. BreaksAt s w.at.rows now next w new) →
       MatchResult result (λ _. HasGiven s image start next new) (λ _. BrokeOff s image start next)
   row_given (Ok done) in_range takes =
@@ -192,14 +192,14 @@ all_given s image start now next w new result range known given all = by result
     is : RowIs s image (rows - 1) w
     is = (last_row s image start now w range known given all).1
 
-    since : Since start now [] (joined (front_packets s rows image w.at.index)) [] NoRead
-    since = subst (λ n. Since start now [] (joined (front_packets s n image w.at.index)) [] NoRead) (known_tallest s known ∙ sym all) given.since
+    since : Exchange start now [] (joined (front_packets s rows image w.at.index)) [] NoRead
+    since = subst (λ n. Exchange start now [] (joined (front_packets s n image w.at.index)) [] NoRead) (known_tallest s known ∙ sym all) given.since
 
     by : {E : Type 0} (r : Result EncodeDone E) → MatchResult r (λ done. EndsImage s rows now next w new done) (λ _. EndBreaks s rows now next w new) →
         MatchResult r (λ done. GaveAll s image start next done) (λ _. BrokeOff s image start next)
     by (Ok done) ends = record {
       counts = subst (λ n. DoneFor s n image done) all (ends.done image given.follows is);
-      since = subst (λ n. Since start next [] (output s n image) [] NoRead) all
+      since = subst (λ n. Exchange start next [] (output s n image) [] NoRead) all
           (gave_on s rows image start now next w.at.index since (segments_of (sized s rows)) (ends.goes image given.follows is));
     }
     by (Err failed) breaks = broke s rows image start now next w.at.index since _ all breaks.rose (breaks.breaks image given.follows is)

@@ -1,6 +1,6 @@
 -- What is given of an image whose rows stand in memory. This project's own.
 use Rattle.std.specs.Prelude.{◌≡◌, ◌<◌, ◌-◌, ℕ, ℤ, false, [], take}
-use Rattle.port_122.specs.Outside.{Outside, Since, NoRead, Rose}
+use Rattle.port_122.specs.Outside.{Outside, Exchange, NoRead, Rose}
 use Rattle.base_122.specs.declared.setting.Setting.{Setting}
 use Rattle.packet_defs.specs.Packets.{joined}
 use Rattle.stream_defs.specs.Output.{output}
@@ -25,15 +25,15 @@ pub record HasGiven (s : Setting) (image : ℕ → ℕ → ℤ) (start now : Out
   pub taken : HasTaken (plan_of s (tallest s)) w.at.rows w
   pub follows : FollowsRows s image w
   pub last : 0 < w.at.rows → LastStands s image w
-  pub since : Since start now [] (joined (front_packets s (tallest s) image w.at.index)) [] NoRead
+  pub since : Exchange start now [] (joined (front_packets s (tallest s) image w.at.index)) [] NoRead
 
 -- all packets of the image were given
 pub record GaveAll (s : Setting) (image : ℕ → ℕ → ℤ) (start now : Outside) (done : EncodeDone) : Type 0 where
   pub counts : DoneFor s s.rows image done
-  pub since : Since start now [] (output s s.rows image) [] NoRead
+  pub since : Exchange start now [] (output s s.rows image) [] NoRead
 
 -- a write failed, and no more than a front of them was given
 pub record BrokeOff (s : Setting) (image : ℕ → ℕ → ℤ) (start now : Outside) : Type 0 where
   pub rose : Rose start.write_faults now.write_faults
   pub some : ℕ
-  pub since : Since start now [] (take some (output s s.rows image)) [] NoRead
+  pub since : Exchange start now [] (take some (output s s.rows image)) [] NoRead

@@ -6,7 +6,7 @@ use Rattle.std.specs.Option.{option_map}
 use Rattle.std.proofs.lemmas.Bool.{false≢true}
 use Rattle.std.proofs.lemmas.Nat.{le-div}
 use Rattle.std.proofs.Math.Nat.{div-le_of_le-mul, div-mul-le_self, mul-le-mul_right}
-use Rattle.port_122.specs.Outside.{Outside, Since, NoRead, WritesAll}
+use Rattle.port_122.specs.Outside.{Outside, Exchange, NoRead, WritesAll}
 use Rattle.port_122.proofs.Stretches.{since_out, since_weaker, rose_since}
 use Rattle.base_122.specs.Sizes.{block_count}
 use Rattle.base_122.specs.declared.geometry.Geometry.{Geometry}
@@ -170,10 +170,10 @@ module _ (wish : DecodeWish) (old mid : Outside) (took gave : List ℕ) (walked 
 silent : (wish : DecodeWish) (old new : Outside) (r : Result (Walked Gaps) DecodeFault) → (x : Walks gap_sink wish old new r) → x.gave ≡ []
 silent wish old new r x = elim x.for_some [ inl none ↦ none | inr some ↦ some.part ]
 
-silent_since : (wish : DecodeWish) (old new : Outside) (r : Result (Walked Gaps) DecodeFault) → (x : Walks gap_sink wish old new r) → Since old new x.took [] [] (AsksSilent wish x.took)
+silent_since : (wish : DecodeWish) (old new : Outside) (r : Result (Walked Gaps) DecodeFault) → (x : Walks gap_sink wish old new r) → Exchange old new x.took [] [] (AsksSilent wish x.took)
 silent_since wish old new r x =
     let none = silent wish old new r x in
-    subst (λ zs. Since old new x.took zs [] (AsksSilent wish x.took)) none
+    subst (λ zs. Exchange old new x.took zs [] (AsksSilent wish x.took)) none
     (since_weaker x.since (λ i j le asks. (omega (arith, asks.0, ap length none), asks.1)))
 
 -- a fault ended it
@@ -199,7 +199,7 @@ abbrev pub lines_of : Walked Gaps → List Gap → List ℕ
 lines_of walked gaps = rect_lines (flat_map (gap_rects walked.done.written walked.done.geometry.width) gaps)
 
 -- what was found is so after the lines
-found_later : {g : List ℕ} (wish : DecodeWish) (old mid new : Outside) (took gave : List ℕ) (walked : Walked Gaps) (gaps : List Gap) → IsWalked gap_sink wish old mid took gave walked → AllGaps walked gaps → Since mid new [] g [] NoRead → AreLines wish old new took (lines_of walked gaps) walked.done
+found_later : {g : List ℕ} (wish : DecodeWish) (old mid new : Outside) (took gave : List ℕ) (walked : Walked Gaps) (gaps : List Gap) → IsWalked gap_sink wish old mid took gave walked → AllGaps walked gaps → Exchange mid new [] g [] NoRead → AreLines wish old new took (lines_of walked gaps) walked.done
 found_later wish old mid new took gave walked gaps found are out = record {
   found = record {
     geometry = found.geometry;

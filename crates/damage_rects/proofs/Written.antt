@@ -6,13 +6,13 @@ use Rattle.std.proofs.lemmas.Bool.{false≢true}
 use Rattle.std.proofs.lemmas.Grind.{flat_map-append}
 use Rattle.std.proofs.lemmas.List.{append-nil, take-append-drop, take-append-le, take_more, take_all}
 use Rattle.std.proofs.Math.Seq.{take-append-add}
-use Rattle.port_122.specs.Outside.{Outside, Since, NoRead, Rose, WritesAll}
+use Rattle.port_122.specs.Outside.{Outside, Exchange, NoRead, Rose, WritesAll}
 use Rattle.port_122.proofs.Stretches.{since_start, since_out, rose_since}
 use Rattle.rect_defs.specs.declared.rect.Rect.{Rect}
 use Rattle.rect_defs.specs.RectLines.{rect_line, rect_lines}
 
 module _ {X : Type 0} (f : X → List ℕ) (xs : List X) where
-  pub given_none : (a : Outside) → Since a a [] (flat_map f (take 0 xs)) [] NoRead
+  pub given_none : (a : Outside) → Exchange a a [] (flat_map f (take 0 xs)) [] NoRead
   given_none a = since_start a NoRead
 
   more : (i : ℕ) (d : X) → i < length xs → flat_map f (take (i + 1) xs) ≡ flat_map f (take i xs) ++ f (get_or xs i d)
@@ -27,13 +27,13 @@ module _ {X : Type 0} (f : X → List ℕ) (xs : List X) where
       ∙ append_assoc (flat_map f (take i xs)) (f (get_or xs i d)) (flat_map f (drop (i + 1) xs))
 
   -- the next one was given
-  pub given_more : (a b c : Outside) (i : ℕ) (x : X) → i < length xs → x ≡ get_or xs i x → Since a b [] (flat_map f (take i xs)) [] NoRead → Since b c [] (f x) [] NoRead → Since a c [] (flat_map f (take (i + 1) xs)) [] NoRead
+  pub given_more : (a b c : Outside) (i : ℕ) (x : X) → i < length xs → x ≡ get_or xs i x → Exchange a b [] (flat_map f (take i xs)) [] NoRead → Exchange b c [] (f x) [] NoRead → Exchange a c [] (flat_map f (take (i + 1) xs)) [] NoRead
   given_more a b c i x lt is before out =
-      subst (λ zs. Since a c [] zs [] NoRead) (ap (λ y. flat_map f (take i xs) ++ f y) is ∙ sym (more i x lt)) (since_out before out)
+      subst (λ zs. Exchange a c [] zs [] NoRead) (ap (λ y. flat_map f (take i xs) ++ f y) is ∙ sym (more i x lt)) (since_out before out)
 
   -- or a part of it
-  pub given_part : {T E : Type 0} (r : Result T E) (a b c : Outside) (i : ℕ) (x : X) → IsErr r → i < length xs → x ≡ get_or xs i x → Since a b [] (flat_map f (take i xs)) [] NoRead →
-      Rose b.write_faults c.write_faults × ((n : ℕ) × (n ≤ length (f x)) × Since b c [] (take n (f x)) [] NoRead) → WritesAll r a c (flat_map f xs)
+  pub given_part : {T E : Type 0} (r : Result T E) (a b c : Outside) (i : ℕ) (x : X) → IsErr r → i < length xs → x ≡ get_or xs i x → Exchange a b [] (flat_map f (take i xs)) [] NoRead →
+      Rose b.write_faults c.write_faults × ((n : ℕ) × (n ≤ length (f x)) × Exchange b c [] (take n (f x)) [] NoRead) → WritesAll r a c (flat_map f xs)
   given_part (Ok y) a b c i x fails lt is before failed = absurd (false≢true fails)
   given_part (Err e) a b c i x fails lt is before failed =
       let n = failed.1.0 in
@@ -48,13 +48,13 @@ module _ {X : Type 0} (f : X → List ℕ) (xs : List X) where
         (
           length first + n,
           omega (arith, le, ap length all, length-append first (one ++ later), length-append one later),
-          subst (λ zs. Since a c [] zs [] NoRead) (sym front) (since_out before failed.1.2),
+          subst (λ zs. Exchange a c [] zs [] NoRead) (sym front) (since_out before failed.1.2),
         ),
       )
 
   -- all were given
-  pub given_all : (a b : Outside) (i : ℕ) → length xs ≤ i → Since a b [] (flat_map f (take i xs)) [] NoRead → Since a b [] (flat_map f xs) [] NoRead
-  given_all a b i le out = subst (λ ys. Since a b [] (flat_map f ys) [] NoRead) (take_all i xs le) out
+  pub given_all : (a b : Outside) (i : ℕ) → length xs ≤ i → Exchange a b [] (flat_map f (take i xs)) [] NoRead → Exchange a b [] (flat_map f xs) [] NoRead
+  given_all a b i le out = subst (λ ys. Exchange a b [] (flat_map f ys) [] NoRead) (take_all i xs le) out
 
 -- ---- the lines of rectangles
 

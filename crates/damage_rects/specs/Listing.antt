@@ -1,6 +1,6 @@
 -- How a search for rectangles ends, by what it took and gave. This project's own.
 use Rattle.std.specs.Prelude.{◌≡◌, ◌⊎◌, ◌≤◌, ℕ, List, [], length, take, false, None, Some, Result, Ok, Err}
-use Rattle.port_122.specs.Outside.{Outside, Since, Rose}
+use Rattle.port_122.specs.Outside.{Outside, Exchange, Rose}
 use Rattle.base_122.specs.declared.wish.DecodeWish.{DecodeWish}
 use Rattle.packet_defs.specs.Streams.{left_over, has_bad_version}
 use Rattle.stream_defs.specs.Begun.{HasFewPixels, begun_in}
@@ -51,6 +51,6 @@ RectAnswers wish old new took gave (Err Memory) = gave ≡ []
 pub record ListsRects (wish : DecodeWish) (old new : Outside) (result : Result DecodeDone DecodeFault) : Type 0 where
   pub took : List ℕ
   pub gave : List ℕ
-  pub since : Since old new took gave [] (AsksSilent wish took)
+  pub since : Exchange old new took gave [] (AsksSilent wish took)
   pub within : length took ≤ wish.octets
   pub answer : RectAnswers wish old new took gave result

@@ -81,7 +81,7 @@ fn take_high<I: OctetIn>(
 }
 
 // Takes the DC bit planes, from the highest down.
-fn take_planes<I: OctetIn>(
+fn take_dc_planes<I: OctetIn>(
     input: &mut BitIn<I>,
     blocks: &mut [i32],
     plan: &DcPlan,
@@ -129,5 +129,5 @@ pub fn take_dc<I: OctetIn>(
     let Part::Whole = take_high(input, blocks, plan)? else {
         return Ok(Part::Ended);
     };
-    take_planes(input, blocks, plan)
+    take_dc_planes(input, blocks, plan)
 }

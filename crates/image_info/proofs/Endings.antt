@@ -4,7 +4,7 @@ use Rattle.std.specs.Prelude.{false, Option, None, Some, Ok, Err}
 use Rattle.std.proofs.lemmas.Bool.{false≢true}
 use Rattle.bit_pipe.specs.declared.fault.InFault.{InFault}
 use Rattle.bit_pipe.specs.declared.fault.InFault.TheVariants as in_faults
-use Rattle.port_122.specs.Outside.{Outside, Since, NoRead, Rose}
+use Rattle.port_122.specs.Outside.{Outside, Exchange, NoRead, Rose}
 use Rattle.port_122.proofs.Stretches.{rose_since, since_out}
 use Rattle.packet_defs.specs.declared.packet.Framing.{Framing}
 use Rattle.packet_defs.specs.declared.packet.PacketRead.{PacketRead}
@@ -74,7 +74,7 @@ few_whole {wish = wish} come whole =
 
 -- all lines were given
 pub all_informed : {wish : InfoWish} {start now new last : Outside} {v : Intake} {table : List ImageEntry} {found : Option Framing} (count : ℕ) → HasTabled wish start now v table → EndsInfo now new v found →
-    Since new last [] (lines_of table) [] NoRead → count ≡ length table → Informs wish start last (Ok (record { images = count; framing = found }))
+    Exchange new last [] (lines_of table) [] NoRead → count ≡ length table → Informs wish start last (Ok (record { images = count; framing = found }))
 all_informed {wish = wish} {new = new} {last = last} {table = table} {found = found} count before x gives is =
     let come = filled before x.taken in
     let read = with_answer wish.octets x.full come.took come.passed found come.read in
@@ -96,7 +96,7 @@ all_informed {wish = wish} {new = new} {last = last} {table = table} {found = fo
 
 -- a prefix of them was given
 pub write_failed : {wish : InfoWish} {start now new last : Outside} {v : Intake} {table : List ImageEntry} {found : Option Framing} → HasTabled wish start now v table → EndsInfo now new v found →
-    Rose new.write_faults last.write_faults × ((n : ℕ) × (n ≤ length (lines_of table)) × Since new last [] (take n (lines_of table)) [] NoRead) → Informs wish start last (Err WriteFault)
+    Rose new.write_faults last.write_faults × ((n : ℕ) × (n ≤ length (lines_of table)) × Exchange new last [] (take n (lines_of table)) [] NoRead) → Informs wish start last (Err WriteFault)
 write_failed {wish = wish} {new = new} {last = last} {table = table} {found = found} before x (rose, (n, le, gives)) =
     let come = filled before x.taken in
     let read = with_answer wish.octets x.full come.took come.passed found come.read in

@@ -4,7 +4,7 @@ use Rattle.std.specs.Prelude.{Bool, true, false, ◌||◌, Option, None, Some, R
 use Rattle.std.proofs.lemmas.Bool.{false≢true}
 use Rattle.std.proofs.lemmas.List.{append-nil, take-append-le, take-append-drop}
 use Rattle.std.proofs.Math.Seq.{take-append-add}
-use Rattle.port_122.specs.Outside.{Outside, Since, IsUsedUp}
+use Rattle.port_122.specs.Outside.{Outside, Exchange, IsUsedUp}
 use Rattle.port_122.proofs.Stretches.{since_start, since_weaker, each_of_both}
 use Rattle.port_122.proofs.ReadCalls.{since_in}
 use Rattle.packet_defs.specs.declared.packet.Framing.{Framing}
@@ -52,7 +52,7 @@ reading v passed found = record {
 pub record HasTabled (wish : InfoWish) (start now : Outside) (v : Intake) (table : List ImageEntry) : Type 0 where
   pub took : List ℕ
   pub passed : List (List ℕ)
-  pub since : Since start now took [] [] (AsksFew wish.apid took)
+  pub since : Exchange start now took [] [] (AsksFew wish.apid took)
   pub read : HasRead 0 wish.octets (reading v passed None) took passed
   pub at_end : SawEnd now (reading v passed None)
   pub table_of : IsTable wish.apid passed table
@@ -84,7 +84,7 @@ module _ {wish : InfoWish} {start now new : Outside} {v u : Intake} {table : Lis
   asks_now : (i j : ℕ) → AsksUndecided v x.took i j → AsksFew wish.apid (come.took ++ x.took) (length come.took + i) (0 + j)
   asks_now i j r = (omega (arith, r.1), subst (λ ps. length (images wish.apid ps) ≤ most_images) (sym (same_whole i r.0)) few_images)
 
-  since_filled : Since start new (come.took ++ x.took) [] [] (AsksFew wish.apid (come.took ++ x.took))
+  since_filled : Exchange start new (come.took ++ x.took) [] [] (AsksFew wish.apid (come.took ++ x.took))
   since_filled = since_in (since_weaker come.since (λ i j le r. asks_took wish.apid come.took x.took i j le r)) x.since (λ i j le r. asks_now i j r)
 
   -- where the end was seen, nothing is left

@@ -1,6 +1,6 @@
 -- How a list of images ends, by what it took and gave. This project's own.
 use Rattle.std.specs.Prelude.{◌≡◌, ◌≤◌, ◌<◌, ℕ, List, [], length, take, false, Option, Result, Ok, Err}
-use Rattle.port_122.specs.Outside.{Outside, Since, Rose}
+use Rattle.port_122.specs.Outside.{Outside, Exchange, Rose}
 use Rattle.packet_defs.specs.Streams.{whole_packets, left_over, has_bad_version, framing}
 use Rattle.packet_assembly.specs.Readings.{IsReadOut}
 use Rattle.image_info.specs.declared.info.InfoWish.{InfoWish}
@@ -45,6 +45,6 @@ Answers wish old new took gave (Err Memory) = (old ≡ new) × (took ≡ []) × 
 pub record Informs (wish : InfoWish) (old new : Outside) (result : Result InfoDone InfoFault) : Type 0 where
   pub took : List ℕ
   pub gave : List ℕ
-  pub since : Since old new took gave [] (AsksFew wish.apid took)
+  pub since : Exchange old new took gave [] (AsksFew wish.apid took)
   pub within : length took ≤ wish.octets
   pub answer : Answers wish old new took gave result

@@ -3,8 +3,8 @@ use Rattle.std.proofs.Common.{◌≡◌, ℕ, suc, ◌+◌, ◌*◌, ◌<◌, �
 use native.Mathlib.Nat.{add-mul}
 use Rattle.wave_defs.specs.Rings.{AreRows}
 use Rattle.inverse_strip.specs.declared.columns.Columns.{Columns}
-use Rattle.inverse_strip.specs.declared.level.Level.{Level}
-use Rattle.inverse_strip.specs.declared.stage.Stage.{Stage}
+use Rattle.inverse_strip.specs.declared.level.InverseLevel.{InverseLevel}
+use Rattle.inverse_strip.specs.declared.stage.LevelStage.{LevelStage}
 use Rattle.inverse_strip.specs.declared.strip.StripInverse.{StripInverse}
 use Rattle.inverse_strip.specs.Samples.{row_samples, columns_samples, level_samples, stage_samples, strip_samples}
 
@@ -30,7 +30,7 @@ columns-samples s =
     let room = s.room_stands in
     omega arith
 
-level-samples : (s : Level) → level_samples s ≡ 18 * s.left.width
+level-samples : (s : InverseLevel) → level_samples s ≡ 18 * s.left.width
 level-samples s =
     let left = columns-samples s.left in
     let right = columns-samples s.right in
@@ -39,7 +39,7 @@ level-samples s =
     let c = s.right_room in
     omega arith
 
-stage-samples : (n : ℕ) (s : Stage) → s.kept ≡ n → stage_samples s ≡ 19 * s.level.left.width + (n * s.level.left.width + n * s.level.left.width + n * s.level.left.width)
+stage-samples : (n : ℕ) (s : LevelStage) → s.kept ≡ n → stage_samples s ≡ 19 * s.level.left.width + (n * s.level.left.width + n * s.level.left.width + n * s.level.left.width)
 stage-samples n s e =
     let w = s.level.left.width in
     let level = level-samples s.level in

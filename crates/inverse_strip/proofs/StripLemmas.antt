@@ -8,7 +8,7 @@ use Rattle.inverse_strip.specs.Cells.{HasBlockRow, number_in}
 use Rattle.wave_defs.specs.Rings.{RowsWithin}
 use Rattle.wave_defs.proofs.LevelWithin.{IsWithin-more}
 use Rattle.inverse_strip.specs.Kept.{AreSmall, half_more, Counts, HasRow}
-use Rattle.inverse_strip.specs.declared.level.Level.{Level}
+use Rattle.inverse_strip.specs.declared.level.InverseLevel.{InverseLevel}
 use Rattle.inverse_strip.specs.Level.{IsSmallLevel}
 
 -- wider bounds
@@ -21,7 +21,7 @@ small-more b m w evens highs le s = record {
   highs = rows-more b m w highs le s.highs;
 }
 
-pub IsSmallLevel-more : (b m : ℕ) (s : Level) → b ≤ m → IsSmallLevel b s → IsSmallLevel m s
+pub IsSmallLevel-more : (b m : ℕ) (s : InverseLevel) → b ≤ m → IsSmallLevel b s → IsSmallLevel m s
 IsSmallLevel-more b m s le small = record {
   left = small-more b m _ _ _ le small.left;
   right = small-more b m _ _ _ le small.right;

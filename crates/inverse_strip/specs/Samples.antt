@@ -1,8 +1,8 @@
 -- How many samples the rolling inverse holds: the lengths of all lists of numbers inside it.
 use Rattle.std.specs.Prelude.{ℕ, ◌+◌, ℤ, List, [], ◌∷◌, length, vec_len}
 use Rattle.inverse_strip.specs.declared.columns.Columns.{Columns}
-use Rattle.inverse_strip.specs.declared.level.Level.{Level}
-use Rattle.inverse_strip.specs.declared.stage.Stage.{Stage}
+use Rattle.inverse_strip.specs.declared.level.InverseLevel.{InverseLevel}
+use Rattle.inverse_strip.specs.declared.stage.LevelStage.{LevelStage}
 use Rattle.inverse_strip.specs.declared.strip.StripInverse.{StripInverse}
 
 abbrev pub row_samples : List (List ℤ) → ℕ
@@ -12,10 +12,10 @@ row_samples (x ∷ xs) = length x + row_samples xs
 abbrev pub columns_samples : Columns → ℕ
 columns_samples s = row_samples s.evens + row_samples s.highs + vec_len s.room
 
-abbrev pub level_samples : Level → ℕ
+abbrev pub level_samples : InverseLevel → ℕ
 level_samples s = columns_samples s.left + columns_samples s.right + vec_len s.left_row + vec_len s.right_row
 
-abbrev pub stage_samples : Stage → ℕ
+abbrev pub stage_samples : LevelStage → ℕ
 stage_samples s = level_samples s.level + vec_len s.low + row_samples s.hl + row_samples s.lh + row_samples s.hh
 
 abbrev pub strip_samples : StripInverse → ℕ

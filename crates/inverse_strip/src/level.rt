@@ -11,7 +11,7 @@ use std::alloc::{AllocError, Global};
 /// What is kept of the four bands of a level, of which some rows were taken, and how many rows of the
 /// image were given. The left columns are those of LL and LH, the right ones those of HL and HH.
 #[derive(Drop)]
-pub struct Level {
+pub struct InverseLevel {
     pub left: Columns,
     pub right: Columns,
     pub given: usize,
@@ -25,7 +25,7 @@ pub struct Level {
     ghost waits: { Waits left.taken given },
 }
 
-impl Level {
+impl InverseLevel {
     ghost use Rattle.std.specs.Prelude.{◌≡◌, ◌≢◌, ℕ, ◌+◌, ◌*◌, ◌-◌, ◌/◌, ◌^◌, ◌<◌, ◌≤◌, ℤ, length, vec_len, IfOk, IsTrue, ◌↔◌};
     ghost use Rattle.wave_defs.specs.Level.{Quarters, joined};
     ghost use Rattle.wave_defs.specs.Within.{AllWithin};
@@ -34,7 +34,7 @@ impl Level {
     ghost use Rattle.inverse_strip.specs.Level.{FollowLevel, IsSmallLevel};
 
     /// No row was taken. The bands have rows of `width` samples.
-    pub fn new(alloc: Global, width: usize) -> Result<Level, AllocError>
+    pub fn new(alloc: Global, width: usize) -> Result<InverseLevel, AllocError>
         requires { 3 ≤ width }
         ensures width { IfOk result (λ s. s.left.width ≡ width) }
         ensures taken { IfOk result (λ s. s.left.taken ≡ 0) }
@@ -46,7 +46,7 @@ impl Level {
         let right = Columns::new(alloc, width)?;
         let left_row = vec![in alloc; 0; width]?;
         let right_row = vec![in alloc; 0; width]?;
-        Ok(Level {
+        Ok(InverseLevel {
             left,
             right,
             given: 0,

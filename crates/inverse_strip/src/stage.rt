@@ -4,15 +4,15 @@ ghost use Rattle.std.specs.Prelude.{◌≡◌, ℕ, ◌+◌, ◌*◌, ◌-◌, �
 ghost use Rattle.wave_defs.specs.Rings.{AreRows, RowsWithin};
 
 use crate::block_row::BlockRow;
-use crate::level::Level;
+use crate::level::InverseLevel;
 use crate::wide::turn_wide;
 use line_rings::RowRing;
 use std::alloc::{AllocError, Global};
 
 /// A level, the newest rows of its three high bands, of which so many came, and room for a row.
 #[derive(Drop)]
-pub struct Stage {
-    pub level: Level,
+pub struct LevelStage {
+    pub level: InverseLevel,
     pub low: Vec<i64>,
     pub kept: usize,
     pub came: usize,
@@ -30,7 +30,7 @@ pub struct Stage {
     ghost waits: { came ≤ level.left.taken + kept },
 }
 
-impl Stage {
+impl LevelStage {
     ghost use Rattle.std.specs.Prelude.{◌≡◌, ◌≢◌, ℕ, ◌+◌, ◌*◌, ◌-◌, ◌/◌, ◌^◌, ◌<◌, ◌≤◌, ℤ, length, vec_len, IfOk};
     ghost use Rattle.wave_defs.specs.Level.{Quarters, joined};
     ghost use Rattle.wave_defs.specs.Within.{AllWithin};
@@ -42,7 +42,7 @@ impl Stage {
     ghost use Rattle.inverse_strip.specs.Cells.{HasBlockRow};
 
     /// No row came. The bands have rows of `width` samples, and `kept` rows of each high one may wait.
-    pub fn new(alloc: Global, width: usize, kept: usize) -> Result<Stage, AllocError>
+    pub fn new(alloc: Global, width: usize, kept: usize) -> Result<LevelStage, AllocError>
         requires wide { 3 ≤ width }
         requires some { 1 ≤ kept }
         ensures width { IfOk result (λ s. s.level.left.width ≡ width) }
@@ -53,12 +53,12 @@ impl Stage {
         ensures follows { IfOk result (λ s. (q : Quarters) → FollowStage q s) }
         ensures small { IfOk result (λ s. (m : ℕ) → IsSmallLevel m s.level) }
     {
-        let level = Level::new(alloc, width)?;
+        let level = InverseLevel::new(alloc, width)?;
         let low = vec![in alloc; 0; width]?;
         let hl = RowRing::new(alloc, kept, width, 0)?;
         let lh = RowRing::new(alloc, kept, width, 0)?;
         let hh = RowRing::new(alloc, kept, width, 0)?;
-        Ok(Stage {
+        Ok(LevelStage {
             level,
             low,
             kept,
@@ -122,7 +122,7 @@ impl Stage {
     }
 
     /// Takes the next row from the level before, whose bands have `height` rows in all.
-    pub fn feed(&mut self, before: &mut Level, height: usize)
+    pub fn feed(&mut self, before: &mut InverseLevel, height: usize)
         requires wide { self.old.level.left.width ≡ 2 * before.old.left.width }
         requires few { before.old.left.taken < 2 ^ 32 }
         requires few_here { self.old.level.left.taken < 2 ^ 32 - 1 }

@@ -6,8 +6,8 @@ ghost use Rattle.inverse_strip.specs.Kept.{Counts};
 ghost use Rattle.inverse_strip.specs.Level.{IsSmallLevel};
 
 use crate::block_row::BlockRow;
-use crate::level::Level;
-use crate::stage::Stage;
+use crate::level::InverseLevel;
+use crate::stage::LevelStage;
 use base_122::Band;
 use block_families::Place;
 use std::alloc::{AllocError, Global};
@@ -17,9 +17,9 @@ use std::alloc::{AllocError, Global};
 #[derive(Drop)]
 pub struct StripInverse {
     height: usize,
-    third: Level,
-    second: Stage,
-    first: Stage,
+    third: InverseLevel,
+    second: LevelStage,
+    first: LevelStage,
     row: Vec<i64>,
     next: BlockRow,
     ghost high: { 3 ≤ height },
@@ -168,9 +168,9 @@ impl StripInverse {
         ensures follows { IfOk result (λ s. (p : Pyramid) (r : ℕ) → FollowStrip p r s) }
     {
         let columns = width as usize / 8;
-        let third = Level::new(alloc, columns)?;
-        let second = Stage::new(alloc, 2 * columns, 6)?;
-        let first = Stage::new(alloc, 4 * columns, 13)?;
+        let third = InverseLevel::new(alloc, columns)?;
+        let second = LevelStage::new(alloc, 2 * columns, 6)?;
+        let first = LevelStage::new(alloc, 4 * columns, 13)?;
         let row = vec![in alloc; 0; 8 * columns]?;
         let next = BlockRow::new(alloc, columns)?;
         Ok(StripInverse {

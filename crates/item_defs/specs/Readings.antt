@@ -46,7 +46,7 @@ later n (ended m) = ended (n + m)
 later n (refused m spelt name) = refused (n + m) spelt name
 
 -- the first item is a prefix of these bits, and the others are in the rest up to a stop
-pub record GoesOn (item : Item) (bits : List Bool) (others : List Bool → Stop → Type 0) (stop : Stop) : Type 0 where
+pub record Continues (item : Item) (bits : List Bool) (others : List Bool → Stop → Type 0) (stop : Stop) : Type 0 where
   pub more : List Bool
   pub then : Stop
   pub read : bits ≡ item_bits item ++ more
@@ -66,4 +66,4 @@ pub record IsRefused (item : Item) (bits : List Bool) (stop : Stop) : Type 0 whe
 -- a reading of these bits as these items stops so
 abbrev pub Stops : List Item → List Bool → Stop → Type 0
 Stops [] bits stop = stop ≡ whole
-Stops (i ∷ is) bits stop = GoesOn i bits (Stops is) stop ⊎ (((stop ≡ ended 0) × Lacks i.form.shape bits) ⊎ IsRefused i bits stop)
+Stops (i ∷ is) bits stop = Continues i bits (Stops is) stop ⊎ (((stop ≡ ended 0) × Lacks i.form.shape bits) ⊎ IsRefused i bits stop)

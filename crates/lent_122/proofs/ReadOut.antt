@@ -2,7 +2,7 @@
 use Rattle.std.proofs.Common.{◌≡◌, ◌<◌, ◌∙◌, ℕ, true, false, List, [], ◌∷◌, ◌++◌, length, refl, sym, ap, subst, inl, inr, arith, append_assoc}
 use Rattle.std.specs.Prelude.{Some}
 use Rattle.std.proofs.lemmas.Bool.{false≢true}
-use Rattle.port_122.specs.Outside.{Outside, Since}
+use Rattle.port_122.specs.Outside.{Outside, Exchange}
 use Rattle.port_122.proofs.Told.{end_told}
 use Rattle.packet_defs.specs.Packets.{joined}
 use Rattle.packet_defs.specs.Streams.{Splits, begins_packet, has_bad_version, left_over, place_after, whole_packets, framing_at, framing}
@@ -53,7 +53,7 @@ reads_bad took more bad =
       framing_is = framing_bad (place_after took) (left_over took) bad ∙ ap (λ n. Some (BadVersion n)) place ∙ sym (framing_bad (place_after (took ++ more)) (left_over (took ++ more)) left);
     }
 
-pub reads_all : {g w : List ℕ} {Q : ℕ → ℕ → Type 0} (cap : ℕ) (took packets : List ℕ) (old new : Outside) → Since old new took g w Q → old.rest ≡ Some packets → IsReadOut cap new took → ReadsAll took packets
+pub reads_all : {g w : List ℕ} {Q : ℕ → ℕ → Type 0} (cap : ℕ) (took packets : List ℕ) (old new : Outside) → Exchange old new took g w Q → old.rest ≡ Some packets → IsReadOut cap new took → ReadsAll took packets
 reads_all cap took packets old new since told (inl bad) =
     let front = took_front old.rest new.rest packets took told since.rest in
     subst (ReadsAll took) (sym front.1) (reads_bad took front.0 bad)

@@ -11,7 +11,7 @@ use Rattle.packet_assembly.specs.declared.note.Passed.{Passed}
 use Rattle.packet_assembly.specs.declared.note.SegmentStart.{SegmentStart}
 use Rattle.packet_assembly.specs.Assembling.{Assembling, Passes, StaysAt, StaysOpen, is_closed, last_index}
 use Rattle.packet_assembly.specs.Notes.{PassesNext}
-use Rattle.packet_assembly.specs.Segments.{GoesOn, BeganAt}
+use Rattle.packet_assembly.specs.Segments.{Continues, BeganAt}
 use Rattle.packet_assembly.specs.Passing.{goes_nowhere, goes_both}
 use Rattle.packet_assembly.specs.Tails.{told_tail}
 use Rattle.packet_assembly.specs.Texts.{ComesSo, FailsSo, FillsText, Silent}
@@ -22,7 +22,7 @@ use Rattle.packet_assembly.proofs.TailSteps.{tail_broken, tail_goes_on, tail_sam
 
 -- packets were passed within a text, and no octet of it was given
 pub record Filled (old new : Outside) (a b : Assembling) : Type 0 where
-  pub goes : GoesOn old new a b
+  pub goes : Continues old new a b
   pub quiet : Quiet old new a b
   pub comes : ComesSo old new a b []
   pub unheld : b.held ≡ None
@@ -60,7 +60,7 @@ module _ {old mid new : Outside} {a b c : Assembling} {told : Passed} (x : Fille
       let one = one_on {P = StaysOpen b} next (open_now b x.unheld going) in
       let first = none_first b.apid b.state one.packet (sym (ap (λ (t : Passed). t.start) one.told_is) ∙ none) in
       let same : StaysAt b c.state = ap (λ s. last_index s.last) one.state ∙ stays b.apid b.state one.packet first in
-      let goes : GoesOn mid new b c = record { passed = one.packet ∷ []; passes = one.passes; still = λ e. (x.unheld, same); begins_none = λ e. (first, tt); began = λ e start h. absurd (let no : None ≡ Some start = sym (one.held ∙ x.unheld) ∙ h in cc); held_on = λ start h. absurd (let no : None ≡ Some start = sym x.unheld ∙ h in cc) } in
+      let goes : Continues mid new b c = record { passed = one.packet ∷ []; passes = one.passes; still = λ e. (x.unheld, same); begins_none = λ e. (first, tt); began = λ e start h. absurd (let no : None ≡ Some start = sym (one.held ∙ x.unheld) ∙ h in cc); held_on = λ start h. absurd (let no : None ≡ Some start = sym x.unheld ∙ h in cc) } in
       record {
         goes = goes_both x.goes goes;
         quiet = quiet_more x.quiet empty going one first;
@@ -90,7 +90,7 @@ module _ {old mid new : Outside} {a b c : Assembling} {told : Passed} (x : Fille
       } in
       let begins = some_first b.apid b.state one.packet start (sym (ap (λ (t : Passed). t.start) one.told_is) ∙ some) in
       let began : BeganAt b (one.packet ∷ []) start c.text = record { front = []; packet = one.packet; passed_are = refl; none_before = tt; starts = begins.starts; text_is = one.text ∙ begins.text } in
-      let goes : GoesOn mid new b (record c { held = Some start }) = record {
+      let goes : Continues mid new b (record c { held = Some start }) = record {
         passed = one.packet ∷ [];
         passes = passes;
         still = λ e. absurd (let no : Some start ≡ None = e in cc);
@@ -114,9 +114,9 @@ module _ {old mid new : Outside} {a b c : Assembling} (x : Filled old mid a b) (
   silent_none : NoneOn (StaysOpen b) mid new b c → Silent old new a
   silent_none none = quiet_then x.quiet empty going none.passes.took none.asks
 
-  goes_none : NoneOn (StaysOpen b) mid new b c → GoesOn old new a c
+  goes_none : NoneOn (StaysOpen b) mid new b c → Continues old new a c
   goes_none none =
-      let goes : GoesOn mid new b c = record {
+      let goes : Continues mid new b c = record {
         passed = [];
         passes = none.passes;
         still = λ e. (x.unheld, ap (λ s. last_index s.last) none.state);

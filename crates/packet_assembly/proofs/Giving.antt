@@ -5,7 +5,7 @@ use Rattle.std.specs.Option.{option_map}
 use Rattle.bit_pipe.specs.Sources.{Tail, Comes}
 use Rattle.port_122.specs.Outside.{Outside}
 use Rattle.packet_assembly.specs.Assembling.{Assembling}
-use Rattle.packet_assembly.specs.Segments.{GoesOn}
+use Rattle.packet_assembly.specs.Segments.{Continues}
 use Rattle.packet_assembly.specs.Tails.{text_tail, told_tail}
 use Rattle.packet_assembly.specs.Texts.{FillsText, TakesOctet}
 use Rattle.packet_assembly.proofs.TailSteps.{unheld_tail, comes_then}
@@ -22,7 +22,7 @@ tails_differ b octet (Some rest) unheld =
     let f = unheld_tail b rest unheld in
     (ap (λ (t : Tail). t.octets) e ∙ ap (λ (t : Tail). octet ∷ t.octets) (sym f), ap (λ (t : Tail). t.ends) e ∙ sym (ap (λ (t : Tail). t.ends) f))
 
-goes_less : {old new : Outside} {a b : Assembling} (octet : ℕ) → b.held ≡ None → GoesOn old new a (with_octet octet b) → GoesOn old new a b
+goes_less : {old new : Outside} {a b : Assembling} (octet : ℕ) → b.held ≡ None → Continues old new a (with_octet octet b) → Continues old new a b
 goes_less octet unheld g =
     let p = g.passes in
     record {

@@ -4,7 +4,7 @@ use Rattle.std.specs.Prelude.{false, None}
 use Rattle.std.specs.List.{AllByRecursion}
 use Rattle.std.proofs.lemmas.List.{append-nil, take-append-le}
 use Rattle.std.proofs.Math.Seq.{take-append-add}
-use Rattle.port_122.specs.Outside.{Outside, Since}
+use Rattle.port_122.specs.Outside.{Outside, Exchange}
 use Rattle.port_122.proofs.Stretches.{since_start, since_then, since_weaker, each_of_both}
 use Rattle.packet_defs.specs.Packets.{joined}
 use Rattle.packet_defs.specs.Streams.{IsPacket, whole_packets}
@@ -32,7 +32,7 @@ pub record Quiet (old new : Outside) (a b : Assembling) : Type 0 where
   pub packets_are : AllByRecursion IsPacket passed
   pub apid : b.apid ≡ a.apid
   pub state : b.state ≡ after_all a.apid a.state passed
-  pub asks : Since old new took [] [] (AsksNoneReady a took)
+  pub asks : Exchange old new took [] [] (AsksNoneReady a took)
   pub none_ready : b.text ≡ [] → is_closed b.state.last ≡ false → NoneReady a passed
 
 pub quiet_nothing : (p : Outside) (a : Assembling) → a.held ≡ None → Quiet p p a a
@@ -48,11 +48,11 @@ quiet_nothing p a unheld = record {
 }
 
 -- a stretch whose packets left the text open, and then one in which no packet came before a read
-none_ready_then : {old mid new : Outside} {a b : Assembling} → (q : Quiet old mid a b) → (more : List ℕ) → NoneReady a q.passed → Since mid new more [] [] (AsksNone b more) →
-    Since old new (q.took ++ more) [] [] (AsksNoneReady a (q.took ++ more))
+none_ready_then : {old mid new : Outside} {a b : Assembling} → (q : Quiet old mid a b) → (more : List ℕ) → NoneReady a q.passed → Exchange mid new more [] [] (AsksNone b more) →
+    Exchange old new (q.took ++ more) [] [] (AsksNoneReady a (q.took ++ more))
 none_ready_then {old = old} {mid = mid} {a = a} {b = b} q more none_ready asks =
     let took = q.took ++ more in
-    let first : Since old mid q.took [] [] (AsksNoneReady a took) =
+    let first : Exchange old mid q.took [] [] (AsksNoneReady a took) =
     since_weaker q.asks (λ i j le r. (subst (λ zs. NoneReady a (whole_packets (a.intake.pending ++ zs))) (sym (take-append-le i q.took more le)) r.0, r.1)) in
     let here = λ (i : ℕ) (none : whole_packets (b.intake.pending ++ take i more) ≡ []).
     ap (λ zs. whole_packets (a.intake.pending ++ zs)) (take-append-add q.took more i)
@@ -62,7 +62,7 @@ none_ready_then {old = old} {mid = mid} {a = a} {b = b} q more none_ready asks =
     since_then first asks (λ i j le r. (subst (λ ps. NoneReady a ps) (sym (here i r.0)) none_ready, omega (arith, r.1)))
 
 -- a read that found no packet
-pub quiet_then : {old mid new : Outside} {a b : Assembling} → (q : Quiet old mid a b) → b.text ≡ [] → is_closed b.state.last ≡ false → (more : List ℕ) → Since mid new more [] [] (AsksNone b more) →
+pub quiet_then : {old mid new : Outside} {a b : Assembling} → (q : Quiet old mid a b) → b.text ≡ [] → is_closed b.state.last ≡ false → (more : List ℕ) → Exchange mid new more [] [] (AsksNone b more) →
     Silent old new a
 quiet_then q empty going more asks = record { took = q.took ++ more; asks = none_ready_then q more (q.none_ready empty going) asks }
 

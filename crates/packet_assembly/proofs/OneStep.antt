@@ -4,7 +4,7 @@ use Rattle.std.specs.Prelude.{Bool, true, false, Option, Some, None, Result, Ok,
 use Rattle.std.proofs.lemmas.List.{append-nil, take-append-drop}
 use Rattle.bit_pipe.specs.declared.fault.InFault.{InFault}
 use Rattle.bit_pipe.specs.declared.fault.InFault.TheVariants.{ReadFault, LongInput, Broken}
-use Rattle.port_122.specs.Outside.{Outside, Since, AtEnd, IsUsedUp, Rose}
+use Rattle.port_122.specs.Outside.{Outside, Exchange, AtEnd, IsUsedUp, Rose}
 use Rattle.port_122.proofs.Stretches.{since_weaker}
 use Rattle.packet_defs.specs.declared.packet.PacketRead.{PacketRead}
 use Rattle.packet_defs.specs.declared.packet.PacketRead.TheVariants.{Mine, Skipped, Ended, Fault}
@@ -56,7 +56,7 @@ pub record OneOn (P : FateState → Type 0) (old new : Outside) (a b : Assemblin
   pub state : b.state ≡ after a.apid a.state packet
   pub text : b.text ≡ text_brought a.apid a.state packet
   pub held : b.held ≡ a.held
-  pub asks : Since old new passes.took [] [] (AsksNone a passes.took)
+  pub asks : Exchange old new passes.took [] [] (AsksNone a passes.took)
   pub less : measure b < measure a
   pub is_packet : IsPacket packet
   pub comes : (rest : List ℕ) → new.rest ≡ Some rest → coming a.intake (passes.took ++ rest) ≡ packet ++ coming b.intake rest
@@ -134,7 +134,7 @@ pub record NoneOn (P : FateState → Type 0) (old new : Outside) (a b : Assembli
   pub state : b.state ≡ a.state
   pub text : b.text ≡ []
   pub held : b.held ≡ a.held
-  pub asks : Since old new passes.took [] [] (AsksNone a passes.took)
+  pub asks : Exchange old new passes.took [] [] (AsksNone a passes.took)
   pub comes : (rest : List ℕ) → new.rest ≡ Some rest → coming a.intake (passes.took ++ rest) ≡ coming b.intake rest
   pub sees : (rest : List ℕ) → new.rest ≡ Some rest → sees_end a.intake (passes.took ++ rest) ≡ sees_end b.intake rest
 

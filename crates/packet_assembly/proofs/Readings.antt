@@ -6,7 +6,7 @@ use Rattle.std.proofs.lemmas.Bool.Decides.{nat_tests}
 use Rattle.std.proofs.lemmas.List.{append-nil, take_all}
 use Rattle.bit_pipe.specs.declared.fault.InFault.{InFault}
 use Rattle.bit_pipe.specs.declared.fault.InFault.TheVariants as in_faults
-use Rattle.port_122.specs.Outside.{Outside, Since, IsUsedUp}
+use Rattle.port_122.specs.Outside.{Outside, Exchange, IsUsedUp}
 use Rattle.port_122.proofs.Stretches.{each_of_both, at_end_later}
 use Rattle.packet_defs.specs.Packets.{joined}
 use Rattle.packet_defs.specs.Tests.{when, first_of}
@@ -87,10 +87,10 @@ end_on {old = old} {new = new} {a = a} {b = b} {went = went} q before rest told 
         )
 
 -- what stood after octets were written stands so
-pub end_later : {Q : ℕ → ℕ → Type 0} {now new : Outside} {g : List ℕ} (a : Assembling) → Since now new [] g [] Q → SawEnd now a → SawEnd new a
+pub end_later : {Q : ℕ → ℕ → Type 0} {now new : Outside} {g : List ℕ} (a : Assembling) → Exchange now new [] g [] Q → SawEnd now a → SawEnd new a
 end_later {now = now} {new = new} a out before rest told = before rest (before_loses now.rest new.rest [] rest out.rest told)
 
-pub out_later : {Q : ℕ → ℕ → Type 0} {g : List ℕ} (cap : ℕ) (now new : Outside) (took : List ℕ) → Since now new [] g [] Q → IsReadOut cap now took → IsReadOut cap new took
+pub out_later : {Q : ℕ → ℕ → Type 0} {g : List ℕ} (cap : ℕ) (now new : Outside) (took : List ℕ) → Exchange now new [] g [] Q → IsReadOut cap now took → IsReadOut cap new took
 out_later cap now new took since (inl bad) = inl bad
 out_later cap now new took since (inr over) = inr (at_end_later since over.0, λ rest told. over.1 rest (before_loses now.rest new.rest [] rest since.rest told))
 

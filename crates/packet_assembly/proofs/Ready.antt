@@ -7,7 +7,7 @@ use Rattle.bit_pipe.specs.Sources.{Comes}
 use Rattle.port_122.specs.Outside.{Outside}
 use Rattle.packet_assembly.specs.declared.note.SegmentStart.{SegmentStart}
 use Rattle.packet_assembly.specs.Assembling.{Assembling, Passes, StaysOpen}
-use Rattle.packet_assembly.specs.Segments.{GoesOn}
+use Rattle.packet_assembly.specs.Segments.{Continues}
 use Rattle.packet_assembly.specs.Tails.{text_tail, tail_after}
 use Rattle.packet_assembly.specs.TextSource.{text_ready}
 use Rattle.packet_assembly.specs.Passing.{passes_none}
@@ -34,7 +34,7 @@ module _ (a : Assembling) (count : ℕ) (le : count ≤ length (text_ready a)) w
           rw e (parted, refl)
       by (Some start) e = rw (e, none_where_held start e) (refl, refl)
 
-  pub goes_past : (now : Outside) → GoesOn now now a (past a count)
+  pub goes_past : (now : Outside) → Continues now now a (past a count)
   goes_past now =
       let p : Passes (StaysOpen a) now now a a [] = passes_none now a in
       record {

@@ -129,7 +129,7 @@ long_read apid u fault e =
 -- ---- what stands afterwards
 
 -- a reader that went on by no octet
-pub record GoesOn (u w : Intake) : Type 0 where
+pub record Continues (u w : Intake) : Type 0 where
   pub cap : w.cap ≡ u.cap
   pub taken : w.taken ≡ u.taken
   pub shorter : length w.pending ≤ length u.pending
@@ -138,20 +138,20 @@ pub answered_none_text : (apid : ℕ) (u : Intake) → begins_packet u.pending �
 unfolding answered
 answered_none_text apid u none = rw none refl
 
-answered_goes : (apid : ℕ) (u : Intake) → GoesOn u (answered apid u)
+answered_goes : (apid : ℕ) (u : Intake) → Continues u (answered apid u)
 unfolding answered
 answered_goes apid u = by_front (begins_packet u.pending) refl
   where
-    by_front : (b : Bool) → begins_packet u.pending ≡ b → GoesOn u (answered apid u)
+    by_front : (b : Bool) → begins_packet u.pending ≡ b → Continues u (answered apid u)
     by_front true e = rw e (record { cap = refl; taken = refl; shorter = omega (arith, length-drop (told_length u.pending) u.pending) })
     by_front false e = rw e (record { cap = refl; taken = refl; shorter = omega arith })
 
-here : (apid : ℕ) (u w : Intake) → w ≡ answered apid u → GoesOn u w
-here apid u w e = subst (λ w. GoesOn u w) (sym e) (answered_goes apid u)
+here : (apid : ℕ) (u w : Intake) → w ≡ answered apid u → Continues u w
+here apid u w e = subst (λ w. Continues u w) (sym e) (answered_goes apid u)
 
-pub ends_go : (apid : ℕ) (p q : Outside) (u w : Intake) (result : Result PacketRead InFault) → EndsPacket apid p q u w result → GoesOn u w
+pub ends_go : (apid : ℕ) (p q : Outside) (u w : Intake) (result : Result PacketRead InFault) → EndsPacket apid p q u w result → Continues u w
 ends_go apid p q u w (Ok read) ends = here apid u w ends.1
-ends_go apid p q u w (Err ReadFault) ends = subst (λ w. GoesOn u w) (sym ends.2) (record { cap = refl; taken = refl; shorter = omega arith })
+ends_go apid p q u w (Err ReadFault) ends = subst (λ w. Continues u w) (sym ends.2) (record { cap = refl; taken = refl; shorter = omega arith })
 ends_go apid p q u w (Err LongInput) ends = here apid u w ends.1
 ends_go apid p q u w (Err Broken) ends = here apid u w ends.1
 

@@ -4,7 +4,7 @@ use Rattle.std.specs.List.{AllByRecursion}
 use Rattle.segment_defs.specs.declared.head.SegmentHead.{SegmentHead}
 use Rattle.segment_defs.specs.Head.{head_length}
 use Rattle.segment_defs.specs.Reading.{head_read}
-use Rattle.port_122.specs.Outside.{Outside, Since}
+use Rattle.port_122.specs.Outside.{Outside, Exchange}
 use Rattle.packet_defs.specs.declared.packet.Framing.{Framing}
 use Rattle.packet_defs.specs.Packets.{joined}
 use Rattle.packet_defs.specs.Reading.{ancillary_in, text_in}
@@ -73,7 +73,7 @@ AsksAt P a took i j = P (state_with a (take i took)) × (j ≡ 0)
 -- these packets.
 pub record Passes (P : FateState → Type 0) (old new : Outside) (a b : Assembling) (passed : List (List ℕ)) : Type 0 where
   pub took : List ℕ
-  pub since : Since old new took [] [] (AsksAt P a took)
+  pub since : Exchange old new took [] [] (AsksAt P a took)
   pub octets_are : a.intake.pending ++ took ≡ joined passed ++ b.intake.pending
   pub packets_are : AllByRecursion IsPacket passed
   pub apid : b.apid ≡ a.apid

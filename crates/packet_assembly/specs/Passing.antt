@@ -3,7 +3,7 @@ use Rattle.std.proofs.Common.{◌≡◌, ℕ, List, [], ◌∷◌, ◌++◌, tak
 use Rattle.std.specs.List.{AllByRecursion}
 use Rattle.std.proofs.lemmas.List.{append-nil, take-append-le}
 use Rattle.std.proofs.Math.Seq.{take-append-add}
-use Rattle.port_122.specs.Outside.{Outside, Since, Loses}
+use Rattle.port_122.specs.Outside.{Outside, Exchange, Loses}
 use Rattle.port_122.proofs.Stretches.{since_start, since_then, since_weaker, each_of_both}
 use Rattle.packet_defs.specs.Packets.{joined}
 use Rattle.packet_defs.specs.Streams.{IsPacket, Splits, whole_packets, left_over}
@@ -16,7 +16,7 @@ use Rattle.std.specs.Prelude.{Option, None, Some}
 use Rattle.packet_assembly.specs.declared.note.SegmentStart.{SegmentStart}
 use Rattle.packet_assembly.specs.Assembling.{Assembling, state_with, AsksAt, Passes, BeginsNone, Starts}
 use Rattle.packet_assembly.specs.Comings.{coming, sees_end}
-use Rattle.packet_assembly.specs.Segments.{GoesOn, BeganAt}
+use Rattle.packet_assembly.specs.Segments.{Continues, BeganAt}
 
 -- packets before octets
 both_split : (packets : List (List ℕ)) (rest : List ℕ) → AllByRecursion IsPacket packets → Splits (joined packets ++ rest) (packets ++ whole_packets rest) (left_over rest)
@@ -75,7 +75,7 @@ pub passes_then : {P Q : FateState → Type 0} {old mid new : Outside} {a b c : 
     Passes P old mid a b xs → Passes Q mid new b c ys → Passes P old new a c (xs ++ ys)
 passes_then {P = P} {Q = Q} {old = old} {mid = mid} {new = new} {a = a} {b = b} {c = c} {xs = xs} {ys = ys} f p q =
     let took = p.took ++ q.took in
-    let first : Since old mid p.took [] [] (AsksAt P a took) =
+    let first : Exchange old mid p.took [] [] (AsksAt P a took) =
     since_weaker p.since (λ i j le r. (subst (λ zs. P (state_with a zs)) (sym (take-append-le i p.took q.took le)) r.0, r.1)) in
     let here = λ (i : ℕ). ap (state_with a) (take-append-add p.took q.took i) ∙ state_on p (take i q.took) in
     record {
@@ -106,7 +106,7 @@ begins_both : (apid : ℕ) (s : FateState) (xs ys : List (List ℕ)) → BeginsN
 begins_both apid s [] ys p q = q
 begins_both apid s (x ∷ xs) ys p q = (p.0, begins_both apid (after apid s x) xs ys p.1 q)
 
-pub goes_nowhere : (p : Outside) (a : Assembling) → GoesOn p p a a
+pub goes_nowhere : (p : Outside) (a : Assembling) → Continues p p a a
 goes_nowhere p a = record {
   passed = [];
   passes = passes_none p a;
@@ -116,7 +116,7 @@ goes_nowhere p a = record {
   held_on = λ start h. (refl, h, refl);
 }
 
-module _ {old mid new : Outside} {a b c : Assembling} (p : GoesOn old mid a b) (q : GoesOn mid new b c) where
+module _ {old mid new : Outside} {a b c : Assembling} (p : Continues old mid a b) (q : Continues mid new b c) where
   -- the packets of both stretches, from the start of the first
   none_both : c.held ≡ None → BeginsNone a.apid a.state (p.passed ++ q.passed)
   none_both e =
@@ -174,7 +174,7 @@ module _ {old mid new : Outside} {a b c : Assembling} (p : GoesOn old mid a b) (
       let y = q.held_on start x.1 in
       (ap (λ zs. zs ++ q.passed) x.0 ∙ y.0, y.1, y.2 ∙ x.2)
 
-  pub goes_both : GoesOn old new a c
+  pub goes_both : Continues old new a c
   goes_both = record {
     passed = p.passed ++ q.passed;
     passes = passes_then (λ s open_there. let x = p.still open_there.unheld in record { unheld = x.0; unclosed = open_there.unclosed; same = open_there.same ∙ x.1 }) p.passes q.passes;

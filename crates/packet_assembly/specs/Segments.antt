@@ -72,7 +72,7 @@ pub record BeganAt (a : Assembling) (passed : List (List ℕ)) (start : SegmentS
 -- Some calls went on within a text: packets were passed, and at each read call the octets that were taken so far left the text
 -- of the same segment open. Where no other segment was begun, that segment is still the last one's; else the last packet that was
 -- passed begins the other one, and no call goes further.
-pub record GoesOn (old new : Outside) (a b : Assembling) : Type 0 where
+pub record Continues (old new : Outside) (a b : Assembling) : Type 0 where
   pub passed : List (List ℕ)
   pub passes : Passes (StaysOpen a) old new a b passed
   pub still : b.held ≡ None → (a.held ≡ None) × StaysAt a b.state

@@ -5,7 +5,7 @@ use Rattle.bit_pipe.specs.Sources.{SourceOf}
 use Rattle.port_122.specs.Outside.{Outside}
 use Rattle.packet_assembly.specs.declared.text.SegmentText.{SegmentText}
 use Rattle.packet_assembly.specs.Assembling.{Assembling}
-use Rattle.packet_assembly.specs.Segments.{GoesOn}
+use Rattle.packet_assembly.specs.Segments.{Continues}
 use Rattle.packet_assembly.specs.Passing.{goes_nowhere, goes_both}
 use Rattle.packet_assembly.specs.Tails.{told_tail}
 
@@ -13,7 +13,7 @@ use Rattle.packet_assembly.specs.Tails.{told_tail}
 pub record Went {X : Type 0} (outside : X → Outside) (s t : SegmentText X) : Type 0 where
   pub assembly : t.assembly.ghost_name ≡ s.assembly.ghost_name
   pub port : t.port.ghost_name ≡ s.port.ghost_name
-  pub goes : GoesOn (outside s.port.now) (outside t.port.now) s.assembly.now t.assembly.now
+  pub goes : Continues (outside s.port.now) (outside t.port.now) s.assembly.now t.assembly.now
 
 pub went_nowhere : {X : Type 0} (outside : X → Outside) (s : SegmentText X) → Went outside s s
 went_nowhere outside s = record { assembly = refl; port = refl; goes = goes_nowhere (outside s.port.now) s.assembly.now }

@@ -3,13 +3,13 @@ use Rattle.std.specs.Prelude.{◌≡◌, ◌<◌, ◌++◌, ℕ, take, List, [],
 use Rattle.bit_pipe.specs.Sources.{Plainly, TooLong, InPieces, Comes, IsOver}
 use Rattle.bit_pipe.specs.declared.fault.InFault.{InFault}
 use Rattle.bit_pipe.specs.declared.fault.InFault.TheVariants.{ReadFault, LongInput, Broken}
-use Rattle.port_122.specs.Outside.{Outside, Since, Rose}
+use Rattle.port_122.specs.Outside.{Outside, Exchange, Rose}
 use Rattle.packet_defs.specs.Streams.{whole_packets}
 use Rattle.stream_defs.specs.declared.fate.FateState.{FateState}
 use Rattle.stream_defs.specs.Fates.{after}
 use Rattle.packet_assembly.specs.Assembling.{Assembling, is_first, is_closed}
 use Rattle.packet_assembly.specs.Notes.{text_brought}
-use Rattle.packet_assembly.specs.Segments.{GoesOn}
+use Rattle.packet_assembly.specs.Segments.{Continues}
 use Rattle.packet_assembly.specs.Tails.{told_tail}
 
 -- why no octet came
@@ -50,13 +50,13 @@ AsksNoneReady a took i j = NoneReady a (whole_packets (a.intake.pending ++ take 
 -- no read call but such
 pub record Silent (old new : Outside) (a : Assembling) : Type 0 where
   pub took : List ℕ
-  pub asks : Since old new took [] [] (AsksNoneReady a took)
+  pub asks : Exchange old new took [] [] (AsksNoneReady a took)
 
 -- ---- the calls
 
 -- The text's next octet, or its end, or why there is none. At the end the packets that were passed have closed the text.
 pub record TakesOctet (old new : Outside) (a b : Assembling) (result : Result (Option ℕ) InFault) : Type 0 where
-  pub goes : GoesOn old new a b
+  pub goes : Continues old new a b
   pub silent : Silent old new a
   pub closed : result ≡ Ok None → (b.held ≡ None) × (is_closed b.state.last ≡ true)
   pub ends : EndsTaken old new a b result
@@ -68,7 +68,7 @@ EndsFilling old new a b (Err fault) = FailsSo fault old new b
 
 -- octets of the text wait, or its end, or why there is none
 pub record FillsText (old new : Outside) (a b : Assembling) (result : Result Bool InFault) : Type 0 where
-  pub goes : GoesOn old new a b
+  pub goes : Continues old new a b
   pub silent : Silent old new a
   pub comes : ComesSo old new a b []
   pub unheld : IfOk result (λ _. b.held ≡ None)

@@ -7,7 +7,7 @@ use Rattle.std.proofs.Math.Seq.{take-append-add}
 use Rattle.base_122.specs.declared.wish.DecodeWish.{DecodeWish}
 use Rattle.bit_pipe.specs.declared.fault.InFault.{InFault}
 use Rattle.bit_pipe.specs.declared.fault.InFault.TheVariants.{ReadFault, LongInput, Broken}
-use Rattle.port_122.specs.Outside.{Outside, Since, NoRead}
+use Rattle.port_122.specs.Outside.{Outside, Exchange, NoRead}
 use Rattle.port_122.proofs.Stretches.{since_start, since_then, since_out, since_weaker}
 use Rattle.packet_defs.specs.Packets.{joined}
 use Rattle.packet_defs.specs.Streams.{begins_packet, whole_packets, left_over}
@@ -43,8 +43,8 @@ asks_gave : (apid : ℕ) (took gave g : List ℕ) (i j : ℕ) → AsksListed api
 asks_gave apid took gave g i j asks = (omega (arith, asks.0, length-append gave g), take-append-le j gave g asks.0 ∙ asks.1)
 
 -- some octets more were given
-pub gave_on : {wish : DecodeWish} {start now new : Outside} {a : Assembling} {packets : ℕ} {before g : List ℕ} → (come : HasListed wish start now a packets before) → Since now new [] g [] NoRead →
-    Since start new come.took (come.gave ++ g) [] (AsksListed wish.apid come.took (come.gave ++ g))
+pub gave_on : {wish : DecodeWish} {start now new : Outside} {a : Assembling} {packets : ℕ} {before g : List ℕ} → (come : HasListed wish start now a packets before) → Exchange now new [] g [] NoRead →
+    Exchange start new come.took (come.gave ++ g) [] (AsksListed wish.apid come.took (come.gave ++ g))
 gave_on {wish = wish} {g = g} come gives = since_out (since_weaker come.since (λ i j le r. asks_gave wish.apid come.took come.gave g i j r)) gives
 
 -- what was due was given
@@ -74,7 +74,7 @@ some_whole octets more there none =
     false≢true (sym s.none_left ∙ ap begins_packet (sym same) ∙ begins_more octets more there)
 
 module _ {wish : DecodeWish} {start now new : Outside} {a b : Assembling} {packets : ℕ} {waiting : List ℕ} {went : List (List ℕ)} (come : HasListed wish start now a packets waiting)
-    (due : (waiting ≡ []) ⊎ (begins_packet a.intake.pending ≡ true)) (q : Passes Anywhere now new a b went) (asks : Since now new q.took [] [] (AsksNone a q.took)) where
+    (due : (waiting ≡ []) ⊎ (begins_packet a.intake.pending ≡ true)) (q : Passes Anywhere now new a b went) (asks : Exchange now new q.took [] [] (AsksNone a q.took)) where
   -- at a read call of the step no packet more is whole
   same_whole : (i : ℕ) → whole_packets (a.intake.pending ++ take i q.took) ≡ [] → whole_packets (take (length come.took + i) (come.took ++ q.took)) ≡ come.passed
   same_whole i none =
@@ -96,13 +96,13 @@ module _ {wish : DecodeWish} {start now new : Outside} {a b : Assembling} {packe
         ap (λ n. take n come.gave) here ∙ take_all (length come.gave) come.gave (omega arith) ∙ all_given i r.0 ∙ ap (lines_of wish.apid) (sym (same_whole i r.0)),
       )
 
-  pub read_since : Since start new (come.took ++ q.took) come.gave [] (AsksListed wish.apid (come.took ++ q.took) come.gave)
+  pub read_since : Exchange start new (come.took ++ q.took) come.gave [] (AsksListed wish.apid (come.took ++ q.took) come.gave)
   read_since =
       let took : List ℕ = come.took ++ q.took in
       let Q : ℕ → ℕ → Type 0 = AsksListed wish.apid took come.gave in
-      let first : Since start now come.took come.gave [] Q = since_weaker come.since (λ i j le r. asks_took wish.apid come.took q.took come.gave i j le r) in
-      let both : Since start new took (come.gave ++ []) [] Q = since_then first asks (λ i j le r. asks_now i j r) in
-      subst (λ zs. Since start new took zs [] Q) (append-nil come.gave) both
+      let first : Exchange start now come.took come.gave [] Q = since_weaker come.since (λ i j le r. asks_took wish.apid come.took q.took come.gave i j le r) in
+      let both : Exchange start new took (come.gave ++ []) [] Q = since_then first asks (λ i j le r. asks_now i j r) in
+      subst (λ zs. Exchange start new took zs [] Q) (append-nil come.gave) both
 
 -- ---- the steps
 

@@ -1,6 +1,6 @@
 -- The progress of a list since it began: what it took, and for which packets it gave the lines. This project's own.
 use Rattle.std.specs.Prelude.{◌≡◌, ◌≤◌, ℕ, List, [], ◌++◌, length, take}
-use Rattle.port_122.specs.Outside.{Outside, Since}
+use Rattle.port_122.specs.Outside.{Outside, Exchange}
 use Rattle.base_122.specs.declared.wish.DecodeWish.{DecodeWish}
 use Rattle.packet_assembly.specs.Assembling.{Assembling}
 use Rattle.packet_assembly.specs.Readings.{HasRead, SawEnd}
@@ -16,7 +16,7 @@ pub record HasListed (wish : DecodeWish) (start now : Outside) (a : Assembling) 
   pub passed : List (List ℕ)
   pub gave : List ℕ
   pub lines_are : gave ++ waiting ≡ lines_of wish.apid passed
-  pub since : Since start now took gave [] (AsksListed wish.apid took gave)
+  pub since : Exchange start now took gave [] (AsksListed wish.apid took gave)
   pub read : HasRead wish.apid wish.octets a took passed
   pub at_end : SawEnd now a
   pub packets_are : packets ≡ length passed

@@ -2,7 +2,7 @@
 use Rattle.std.specs.Prelude.{◌≡◌, ◌≤◌, ◌⊎◌, ℕ, List, [], ◌++◌, length, take, Bool, true, false, Option, None, Some, Result, Ok, Err, MatchResult}
 use Rattle.bit_pipe.specs.declared.fault.InFault.{InFault}
 use Rattle.bit_pipe.specs.declared.fault.InFault.TheVariants as in_faults
-use Rattle.port_122.specs.Outside.{Outside, Since, NoRead, Rose}
+use Rattle.port_122.specs.Outside.{Outside, Exchange, NoRead, Rose}
 use Rattle.packet_defs.specs.Streams.{begins_packet}
 use Rattle.packet_assembly.specs.declared.note.PacketNote.{PacketNote}
 use Rattle.packet_assembly.specs.Assembling.{Assembling}
@@ -15,7 +15,7 @@ use Rattle.packet_list.specs.Lines.{line_of}
 pub record GaveDue (old new : Outside) (a : Assembling) (before waiting : List ℕ) : Type 0 where
   pub gave : List ℕ
   pub lines_are : gave ++ waiting ≡ before
-  pub gives : Since old new [] gave [] NoRead
+  pub gives : Exchange old new [] gave [] NoRead
   pub due : (waiting ≡ []) ⊎ (begins_packet a.intake.pending ≡ true)
 
 -- a write of the lines that waited failed
@@ -23,7 +23,7 @@ pub record GavePart (old new : Outside) (before : List ℕ) : Type 0 where
   pub rose : Rose old.write_faults new.write_faults
   pub some : ℕ
   pub within : some ≤ length before
-  pub gives : Since old new [] (take some before) [] NoRead
+  pub gives : Exchange old new [] (take some before) [] NoRead
 
 abbrev pub GivesDue : {T E : Type 0} → (old new : Outside) → Assembling → (before waiting : List ℕ) → Result T E → Type 0
 GivesDue old new a before waiting result = MatchResult result (λ _. GaveDue old new a before waiting) (λ _. GavePart old new before)

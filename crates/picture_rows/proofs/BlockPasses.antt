@@ -19,15 +19,15 @@ use Rattle.inverse_strip.specs.Strip.{columns_of, height_of, taken_of, next_of, 
 use Rattle.inverse_strip.proofs.NextLemmas.{IsNext-blocks}
 use Rattle.picture_rows.specs.declared.picture.PictureAt.{PictureAt}
 use Rattle.picture_rows.specs.Fronts.{bands_of, rows_of}
-use Rattle.picture_rows.specs.Pictures.{Shown, IsSized, IsStanding, StandsFor, HasRoom, passed_in}
-use Rattle.picture_rows.specs.Steps.{GoesOn, BreaksOff, StoodFor, HasNone, HasNextSet, HasNextNumbers, HasPassed, PassesBlock, GivesRows}
+use Rattle.picture_rows.specs.Pictures.{PictureState, IsSized, IsCurrent, Represents, HasRoom, passed_in}
+use Rattle.picture_rows.specs.Steps.{Continues, StopsEarly, Represented, HasNone, HasNextSet, HasNextNumbers, HasPassed, PassesBlock, GivesRows}
 use Rattle.picture_rows.proofs.BandBlocks.{coefficient_with, part_is, zero_is}
 use Rattle.picture_rows.proofs.RowGives.{completes_before, goes_then, breaks_then}
 
 -- ---- past one block
 
 -- the next block is in a block row of the picture
-pub row_there : (p : Shown) → IsSized p → HasRoom p → p.at.row < block_count p.geometry.rows
+pub row_there : (p : PictureState) → IsSized p → HasRoom p → p.at.row < block_count p.geometry.rows
 row_there p sized room = elim (cases_lt p.at.row (block_count p.geometry.rows)) [
   | inl lt ↦ lt
   | inr ge ↦ absurd (
@@ -38,7 +38,7 @@ row_there p sized room = elim (cases_lt p.at.row (block_count p.geometry.rows)) 
 ]
 
 -- the picture at another column
-abbrev pub at_column : Shown → ℕ → Shown
+abbrev pub at_column : PictureState → ℕ → PictureState
 at_column p column = record p { at = record p.at { column = column } }
 
 -- the columns of blocks as the code has them
@@ -49,7 +49,7 @@ pub columns_end : (g : Geometry) (n : ℕ) → n ≡ padded_size g.width → {k 
 columns_end g n e le = omega (arith, e, le)
 
 -- within its block row
-pub column_passed : (p : Shown) (a : Outside) → IsStanding p → HasRoom p → p.at.column + 1 < block_count p.geometry.width →
+pub column_passed : (p : PictureState) (a : Outside) → IsCurrent p → HasRoom p → p.at.column + 1 < block_count p.geometry.width →
     HasPassed (HasNextSet p) a a p (at_column p (p.at.column + 1))
 column_passed p a standing room lt =
     let sized = standing.sized in
@@ -92,10 +92,10 @@ pub record RowTaken (s t : StripInverse) : Type 0 where
   pub follows : (p : Pyramid) (r : ℕ) → FollowStrip p r s → IsNext p (taken_of s) s → FollowStrip p r t
 
 -- the picture past its block row
-abbrev pub past_row : Shown → StripInverse → Shown
+abbrev pub past_row : PictureState → StripInverse → PictureState
 past_row p strip = record p { strip = strip; at = record p.at { column = 0; row = p.at.row + 1 } }
 
-module _ (p : Shown) (t : StripInverse) (standing : IsStanding p) (room : HasRoom p) (last : block_count p.geometry.width ≤ p.at.column + 1) (pushed : RowTaken p.strip t) where
+module _ (p : PictureState) (t : StripInverse) (standing : IsCurrent p) (room : HasRoom p) (last : block_count p.geometry.width ≤ p.at.column + 1) (pushed : RowTaken p.strip t) where
   full : p.at.column + 1 ≡ block_count p.geometry.width
   full = let column = standing.sized.column in omega (arith, column, last)
 
@@ -107,7 +107,7 @@ module _ (p : Shown) (t : StripInverse) (standing : IsStanding p) (room : HasRoo
       let more = is.more in
       record { more = omega (arith, more, pushed.taken); whole = λ e. absurd (omega (arith, e, sized.taken, sized.height, inside)) }
 
-  row_stands : (numbers : ℕ → ℕ → ℤ) → HasNextSet p numbers → StandsFor numbers (past_row p t)
+  row_stands : (numbers : ℕ → ℕ → ℤ) → HasNextSet p numbers → Represents numbers (past_row p t)
   row_stands numbers set =
       let sized = standing.sized in
       let bands = bands_of p.geometry numbers in
@@ -118,7 +118,7 @@ module _ (p : Shown) (t : StripInverse) (standing : IsStanding p) (room : HasRoo
         unset = λ column i le lt small. pushed.zero _;
       }
 
-  row_goes : (a : Outside) → GoesOn (HasNextSet p) a a p (past_row p t)
+  row_goes : (a : Outside) → Continues (HasNextSet p) a a p (past_row p t)
   row_goes a = record {
     gave = [];
     out = since_start a NoRead;
@@ -127,7 +127,7 @@ module _ (p : Shown) (t : StripInverse) (standing : IsStanding p) (room : HasRoo
   }
 
   -- and the rows were given that come with it
-  pub row_passed : (a b : Outside) (z : Shown) → HasNone a b (past_row p t) z → HasPassed (HasNextSet p) a b p z
+  pub row_passed : (a b : Outside) (z : PictureState) → HasNone a b (past_row p t) z → HasPassed (HasNextSet p) a b p z
   row_passed a b z rows =
       let same = rows.same in
       let geometry = same.geometry in
@@ -150,10 +150,10 @@ module _ (p : Shown) (t : StripInverse) (standing : IsStanding p) (room : HasRoo
       let column = standing.sized.column in
       sym (div-mul-add (p.at.row + 1) c 0 (omega (arith, column))) ∙ ap (λ n. n / c) count
 
-  pub row_broke : (a b : Outside) → BreaksOff (StoodFor (past_row p t)) (p.at.row + 1) a b (past_row p t) → BreaksOff (HasNextSet p) (block_rows_before p.geometry (passed_in p + 1)) a b p
-  row_broke a b broken = subst (λ r. BreaksOff (HasNextSet p) r a b p) rows_whole (breaks_then refl (λ numbers before stands. stands) (row_goes a) broken)
+  pub row_broke : (a b : Outside) → StopsEarly (Represented (past_row p t)) (p.at.row + 1) a b (past_row p t) → StopsEarly (HasNextSet p) (block_rows_before p.geometry (passed_in p + 1)) a b p
+  row_broke a b broken = subst (λ r. StopsEarly (HasNextSet p) r a b p) rows_whole (breaks_then refl (λ numbers before stands. stands) (row_goes a) broken)
 
-  pub rows_passed : {T E : Type 0} (r : Result T E) (a b : Outside) (z : Shown) → GivesRows r a b (past_row p t) z → PassesBlock r (HasNextSet p) a b p z
+  pub rows_passed : {T E : Type 0} (r : Result T E) (a b : Outside) (z : PictureState) → GivesRows r a b (past_row p t) z → PassesBlock r (HasNextSet p) a b p z
   rows_passed (Ok x) a b z rows = row_passed a b z rows
   rows_passed (Err e) a b z broken = row_broke a b broken
 
@@ -164,7 +164,7 @@ abbrev through : Geometry → PictureAt → ℕ
 through g at = rows_through g (block_rows_before g (at.row * block_count g.width + at.column + 1))
 
 -- so they are set
-passes_set : {T E : Type 0} {B C : (ℕ → ℕ → ℤ) → Type 0} (r : Result T E) (p q z : Shown) (a b : Outside) → q.geometry ≡ p.geometry → q.at ≡ p.at → ((numbers : ℕ → ℕ → ℤ) → B numbers → C numbers) → PassesBlock r C a b q z → PassesBlock r B a b p z
+passes_set : {T E : Type 0} {B C : (ℕ → ℕ → ℤ) → Type 0} (r : Result T E) (p q z : PictureState) (a b : Outside) → q.geometry ≡ p.geometry → q.at ≡ p.at → ((numbers : ℕ → ℕ → ℤ) → B numbers → C numbers) → PassesBlock r C a b q z → PassesBlock r B a b p z
 passes_set {B = B} {C = C} (Ok x) p q z a b same at f passed = record {
   standing = passed.standing;
   geometry = passed.geometry ∙ same;
@@ -193,7 +193,7 @@ passes_set {B = B} {C = C} (Err e) p q z a b same at f broken = record {
 -- ---- a lost block
 
 -- a block whose numbers are 0 was set
-pub zero_set : (p : Shown) → IsStanding p → (numbers : ℕ → ℕ → ℤ) → HasNextNumbers [] p numbers → HasNextSet p numbers
+pub zero_set : (p : PictureState) → IsCurrent p → (numbers : ℕ → ℕ → ℤ) → HasNextNumbers [] p numbers → HasNextSet p numbers
 zero_set p standing numbers lost =
     let g = p.geometry in
     let stands = lost.stands in
@@ -212,7 +212,7 @@ zero_set p standing numbers lost =
       unset = λ column i le lt small. stands.unset column i (omega (arith, le)) lt small;
     }
 
-pub block_loses : {T E : Type 0} (r : Result T E) (p z : Shown) (a b : Outside) → IsStanding p → PassesBlock r (HasNextSet p) a b p z → PassesBlock r (HasNextNumbers [] p) a b p z
+pub block_loses : {T E : Type 0} (r : Result T E) (p z : PictureState) (a b : Outside) → IsCurrent p → PassesBlock r (HasNextSet p) a b p z → PassesBlock r (HasNextNumbers [] p) a b p z
 block_loses r p z a b standing passed = passes_set r p p z a b refl refl (zero_set p standing) passed
 
 -- ---- a block that was put
@@ -233,10 +233,10 @@ apart c d i j hi hj same =
     first ∙ ap (λ n. n / block_side p.band) columns ∙ ap (λ n. (block_side q.band * d + q.column) / n) side ∙ second
 
 -- the picture with another strip
-abbrev pub with_strip : Shown → StripInverse → Shown
+abbrev pub with_strip : PictureState → StripInverse → PictureState
 with_strip p strip = record p { strip = strip }
 
-module _ (p : Shown) (t : StripInverse) (xs : List ℤ) (standing : IsStanding p) (room : HasRoom p) (keeps : Keeps p.strip t)
+module _ (p : PictureState) (t : StripInverse) (xs : List ℤ) (standing : IsCurrent p) (room : HasRoom p) (keeps : Keeps p.strip t)
     (scattered : Scatters (numbers_of p.strip) (numbers_of t) p.geometry.weights.shifts p.at.column xs) where
   -- another block has the numbers that it had
   stays : (column i : ℕ) → i < 64 → (column ≡ p.at.column → ⊥) → numbers_of t (place_in column i) ≡ numbers_of p.strip (place_in column i)
@@ -263,5 +263,5 @@ module _ (p : Shown) (t : StripInverse) (xs : List ℤ) (standing : IsStanding p
         unset = λ column i le lt small. stays column i small (λ e. absurd (omega (arith, e, le))) ∙ stands.unset column i (omega (arith, le)) lt small;
       }
 
-  pub block_puts : {T E : Type 0} (r : Result T E) (a b : Outside) (z : Shown) → PassesBlock r (HasNextSet (with_strip p t)) a b (with_strip p t) z → PassesBlock r (HasNextNumbers xs p) a b p z
+  pub block_puts : {T E : Type 0} (r : Result T E) (a b : Outside) (z : PictureState) → PassesBlock r (HasNextSet (with_strip p t)) a b (with_strip p t) z → PassesBlock r (HasNextNumbers xs p) a b p z
   block_puts r a b z passed = passes_set r p (with_strip p t) z a b refl refl block_set passed

@@ -11,7 +11,7 @@ use Rattle.inverse_strip.specs.declared.strip.StripInverse.{StripInverse}
 use Rattle.inverse_strip.specs.Kept.{IsCompletion}
 use Rattle.inverse_strip.specs.Strip.{columns_of, height_of, taken_of, next_of, numbers_of, FollowStrip}
 use Rattle.picture_rows.specs.declared.picture.PictureAt.{PictureAt}
-use Rattle.picture_rows.specs.Pictures.{Shown, IsSized, IsStanding, passed_in, total_in}
+use Rattle.picture_rows.specs.Pictures.{PictureState, IsSized, IsCurrent, passed_in, total_in}
 use Rattle.picture_rows.specs.Steps.{HasEnded}
 use Rattle.picture_rows.proofs.Heights.{rows_of_shorter}
 
@@ -25,11 +25,11 @@ pub record StripEnded (rows : ℕ) (s t : StripInverse) : Type 0 where
   pub follows : (p : Pyramid) (r : ℕ) → FollowStrip p r s → FollowStrip p r t
 
 -- the picture with another height and strip
-abbrev pub ended : Shown → ℕ → StripInverse → Shown
+abbrev pub ended : PictureState → ℕ → StripInverse → PictureState
 ended p rows strip = record p { geometry = record p.geometry { rows = rows }; strip = strip }
 
 -- the next block is in a block row of the lower image
-pub row_before : (p : Shown) (rows : ℕ) → passed_in p < total_blocks p.geometry.width rows → p.at.row < block_count rows
+pub row_before : (p : PictureState) (rows : ℕ) → passed_in p < total_blocks p.geometry.width rows → p.at.row < block_count rows
 row_before p rows room = elim (cases_lt p.at.row (block_count rows)) [
   | inl lt ↦ lt
   | inr ge ↦ absurd (
@@ -39,7 +39,7 @@ row_before p rows room = elim (cases_lt p.at.row (block_count rows)) [
       omega (arith, all, turned, room))
 ]
 
-module _ (p : Shown) (rows padded : ℕ) (t : StripInverse) (standing : IsStanding p) (range : IsWithin rows_range rows) (fewer : rows ≤ p.geometry.rows)
+module _ (p : PictureState) (rows padded : ℕ) (t : StripInverse) (standing : IsCurrent p) (range : IsWithin rows_range rows) (fewer : rows ≤ p.geometry.rows)
     (more : passed_in p < total_blocks p.geometry.width rows) (whole : padded ≡ padded_size rows) (strip : StripEnded padded p.strip t) where
   open_row : p.at.row < block_count rows
   open_row = row_before p rows more
@@ -86,10 +86,10 @@ module _ (p : Shown) (rows padded : ℕ) (t : StripInverse) (standing : IsStandi
 -- ---- past the end
 
 -- the picture has passed the blocks that it had passed
-pub ended-passed : (rows : ℕ) (p q : Shown) → HasEnded rows p q → passed_in q ≡ passed_in p
+pub ended-passed : (rows : ℕ) (p q : PictureState) → HasEnded rows p q → passed_in q ≡ passed_in p
 ended-passed rows p q end =
     ap (λ (g : Geometry). q.at.row * block_count g.width + q.at.column) end.geometry ∙ ap (λ (at : PictureAt). at.row * block_count p.geometry.width + at.column) end.at
 
 -- of those of the lower image
-pub ended-total : (rows : ℕ) (p q : Shown) → HasEnded rows p q → total_in q ≡ total_blocks p.geometry.width rows
+pub ended-total : (rows : ℕ) (p q : PictureState) → HasEnded rows p q → total_in q ≡ total_blocks p.geometry.width rows
 ended-total rows p q end = ap (λ (g : Geometry). total_blocks g.width g.rows) end.geometry

@@ -7,7 +7,7 @@ use Rattle.std.specs.List.{range_with_len}
 use Rattle.std.proofs.lemmas.List.{append-nil, take-append-le}
 use Rattle.std.proofs.Math.Seq.{take-append-add}
 use Rattle.std.proofs.lemmas.List.FromFn.{take-map-range_with_len}
-use Rattle.port_122.specs.Outside.{Outside, Since, NoRead, Rose}
+use Rattle.port_122.specs.Outside.{Outside, Exchange, NoRead, Rose}
 use Rattle.port_122.proofs.Stretches.{since_start, since_out, rose_since}
 use Rattle.base_122.specs.Sizes.{block_count}
 use Rattle.base_122.specs.declared.geometry.Geometry.{Geometry}
@@ -24,8 +24,8 @@ use Rattle.inverse_strip.specs.declared.strip.StripInverse.{StripInverse}
 use Rattle.inverse_strip.specs.Strip.{columns_of, height_of, taken_of, next_of, numbers_of, row_of, FollowStrip}
 use Rattle.inverse_strip.specs.Kept.{IsCompletion, HasNext, IsIdle}
 use Rattle.picture_rows.specs.Fronts.{bands_of, rows_of}
-use Rattle.picture_rows.specs.Pictures.{Shown, IsSized, StandsTo, StandsFor}
-use Rattle.picture_rows.specs.Steps.{GoesOn, BreaksOff, StoodFor, SameBut, HasGiven, HasNone, HasGivenSome, GivesRow, GivesRows}
+use Rattle.picture_rows.specs.Pictures.{PictureState, IsSized, RepresentsTo, Represents}
+use Rattle.picture_rows.specs.Steps.{Continues, StopsEarly, Represented, SameBut, HasGiven, HasNone, HasGivenSome, GivesRow, GivesRows}
 
 -- ---- the first rows as octets
 
@@ -113,10 +113,10 @@ pub record NoneMade (s t : StripInverse) : Type 0 where
   pub follows : (p : Pyramid) (r : ℕ) → IsCompletion (taken_of s) (height_of s) r → FollowStrip p r s → FollowStrip p r t
 
 -- the picture with another strip and next row
-abbrev pub stepped : Shown → StripInverse → ℕ → Shown
+abbrev pub stepped : PictureState → StripInverse → ℕ → PictureState
 stepped p strip next = record p { strip = strip; at = record p.at { next = next } }
 
-completes : (p : Shown) → IsSized p → IsCompletion (taken_of p.strip) (height_of p.strip) (block_count p.geometry.rows)
+completes : (p : PictureState) → IsSized p → IsCompletion (taken_of p.strip) (height_of p.strip) (block_count p.geometry.rows)
 completes p sized =
     let rows = sized.rows in
     let taken = sized.taken in
@@ -128,7 +128,7 @@ completes_before s t r taken height is =
     let more = is.more in
     record { more = omega (arith, more, taken); whole = λ e. is.whole (taken ∙ e ∙ sym height) ∙ height }
 
-sized_on : (p : Shown) (t : StripInverse) (next : ℕ) → IsSized p → height_of t ≡ height_of p.strip → columns_of t ≡ columns_of p.strip → taken_of t ≡ taken_of p.strip → next_of t ≡ next →
+sized_on : (p : PictureState) (t : StripInverse) (next : ℕ) → IsSized p → height_of t ≡ height_of p.strip → columns_of t ≡ columns_of p.strip → taken_of t ≡ taken_of p.strip → next_of t ≡ next →
     (p.at.row < block_count p.geometry.rows → next ≤ 8 * p.at.row - 21) → IsSized (stepped p t next)
 sized_on p t next sized height width taken given most = record {
   range = sized.range;
@@ -142,18 +142,18 @@ sized_on p t next sized height width taken given most = record {
   next_most = most;
 }
 
-stands_on : (p : Shown) (t : StripInverse) (next columns : ℕ) (numbers : ℕ → ℕ → ℤ) → ((r : ℕ) → IsCompletion (taken_of t) (height_of t) r → FollowStrip (bands_of p.geometry numbers) r t) →
-    ((q : Place) → numbers_of t q ≡ numbers_of p.strip q) → StandsTo columns numbers p → StandsTo columns numbers (stepped p t next)
+stands_on : (p : PictureState) (t : StripInverse) (next columns : ℕ) (numbers : ℕ → ℕ → ℤ) → ((r : ℕ) → IsCompletion (taken_of t) (height_of t) r → FollowStrip (bands_of p.geometry numbers) r t) →
+    ((q : Place) → numbers_of t q ≡ numbers_of p.strip q) → RepresentsTo columns numbers p → RepresentsTo columns numbers (stepped p t next)
 stands_on p t next columns numbers strip same stands = record {
   strip = strip;
   set = λ column i lt small. same _ ∙ stands.set column i lt small;
   unset = λ column i le lt small. same _ ∙ stands.unset column i le lt small;
 }
 
-pub same_but : (p : Shown) (t : StripInverse) (next : ℕ) → SameBut p (stepped p t next)
+pub same_but : (p : PictureState) (t : StripInverse) (next : ℕ) → SameBut p (stepped p t next)
 same_but p t next = record { geometry = refl; row = refl; column = refl }
 
-module _ (p : Shown) (t : StripInverse) (sized : IsSized p) (made : RowMade p.strip t) where
+module _ (p : PictureState) (t : StripInverse) (sized : IsSized p) (made : RowMade p.strip t) where
   could_next : HasNext p.at.row p.at.next (block_count p.geometry.rows)
   could_next = subst (λ h. HasNext p.at.row p.at.next h) sized.height (subst (λ n. HasNext p.at.row n (height_of p.strip)) sized.next (subst (λ k. HasNext k (next_of p.strip) (height_of p.strip)) sized.taken made.could))
 
@@ -174,13 +174,13 @@ module _ (p : Shown) (t : StripInverse) (sized : IsSized p) (made : RowMade p.st
           let within = sized.rows in
           most_next (omega (arith, other, within))
 
-  follows_next : (numbers : ℕ → ℕ → ℤ) → StandsFor numbers p → StandsFor numbers (stepped p t (p.at.next + 1))
+  follows_next : (numbers : ℕ → ℕ → ℤ) → Represents numbers p → Represents numbers (stepped p t (p.at.next + 1))
   follows_next numbers stands =
       stands_on p t (p.at.next + 1) p.at.column numbers
       (λ r is. let before = completes_before p.strip t r made.taken made.height is in made.follows _ r before (stands.strip r before)) made.numbers stands
 
   -- the octets of the row
-  octets_next : length (row_of t) ≡ 8 * columns_of t → (numbers : ℕ → ℕ → ℤ) → StandsFor numbers p →
+  octets_next : length (row_of t) ≡ 8 * columns_of t → (numbers : ℕ → ℕ → ℤ) → Represents numbers p →
       pixel_octets p.geometry.depth (map (clamped p.geometry.depth p.geometry.signed) (take p.geometry.width (row_of t)))
       ≡ pixel_octets p.geometry.depth (row_pixels p.geometry.width (whole_with p.geometry numbers p.at.next))
   octets_next long numbers stands =
@@ -191,7 +191,7 @@ module _ (p : Shown) (t : StripInverse) (sized : IsSized p) (made : RowMade p.st
 
   -- a row of the picture was given
   pub row_given : length (row_of t) ≡ 8 * columns_of t → (a b : Outside) → p.at.next < p.geometry.rows →
-      Since a b [] (pixel_octets p.geometry.depth (map (clamped p.geometry.depth p.geometry.signed) (take p.geometry.width (row_of t)))) [] NoRead → HasGiven a b p (stepped p t (p.at.next + 1))
+      Exchange a b [] (pixel_octets p.geometry.depth (map (clamped p.geometry.depth p.geometry.signed) (take p.geometry.width (row_of t)))) [] NoRead → HasGiven a b p (stepped p t (p.at.next + 1))
   row_given long a b lt out = record {
     sized = sized_next;
     same = same_but p t (p.at.next + 1);
@@ -223,7 +223,7 @@ module _ (p : Shown) (t : StripInverse) (sized : IsSized p) (made : RowMade p.st
   -- a part of a row of the picture was given
   pub row_broken : length (row_of t) ≡ 8 * columns_of t → (a b : Outside) (m : ℕ) → p.at.next < p.geometry.rows → Rose a.write_faults b.write_faults →
       let octets = pixel_octets p.geometry.depth (map (clamped p.geometry.depth p.geometry.signed) (take p.geometry.width (row_of t))) in
-      m ≤ length octets → Since a b [] (take m octets) [] NoRead → BreaksOff (StoodFor p) p.at.row a b p
+      m ≤ length octets → Exchange a b [] (take m octets) [] NoRead → StopsEarly (Represented p) p.at.row a b p
   row_broken long a b m lt rose le out = record {
     gave = _;
     out = out;
@@ -239,16 +239,16 @@ module _ (p : Shown) (t : StripInverse) (sized : IsSized p) (made : RowMade p.st
         front-part g numbers p.at.next m all octets later.0 whole le;
   }
 
-pub row_failed : {E : Type 0} {a b : Outside} {p : Shown} (q : Shown) (r : Result Bool E) → IsErr r → BreaksOff (StoodFor p) p.at.row a b p → GivesRow r a b p q
+pub row_failed : {E : Type 0} {a b : Outside} {p : PictureState} (q : PictureState) (r : Result Bool E) → IsErr r → StopsEarly (Represented p) p.at.row a b p → GivesRow r a b p q
 row_failed q (Ok x) is broken = absurd (false≢true is)
 row_failed q (Err e) is broken = broken
 
-pub rows_failed : {T E : Type 0} {a b : Outside} {p : Shown} (q : Shown) (r : Result T E) → IsErr r → BreaksOff (StoodFor p) p.at.row a b p → GivesRows r a b p q
+pub rows_failed : {T E : Type 0} {a b : Outside} {p : PictureState} (q : PictureState) (r : Result T E) → IsErr r → StopsEarly (Represented p) p.at.row a b p → GivesRows r a b p q
 rows_failed q (Ok x) is broken = absurd (false≢true is)
 rows_failed q (Err e) is broken = broken
 
 -- none was left
-pub row_none : (p : Shown) (t : StripInverse) (a : Outside) → IsSized p → NoneMade p.strip t → HasNone a a p (stepped p t p.at.next)
+pub row_none : (p : PictureState) (t : StripInverse) (a : Outside) → IsSized p → NoneMade p.strip t → HasNone a a p (stepped p t p.at.next)
 row_none p t a sized none = record {
   standing = record {
     sized = sized_on p t p.at.next sized none.height none.width none.taken (none.next ∙ sized.next) sized.next_most;
@@ -274,8 +274,8 @@ row_none p t a sized none = record {
 -- ---- one stretch after another
 
 -- rows go on, and then more of them
-pub goes_then : {B C : (ℕ → ℕ → ℤ) → Type 0} {a b c : Outside} {x y z : Shown} → y.geometry ≡ x.geometry → ((numbers : ℕ → ℕ → ℤ) → B numbers → StandsFor numbers y → C numbers) →
-    GoesOn B a b x y → GoesOn C b c y z → GoesOn B a c x z
+pub goes_then : {B C : (ℕ → ℕ → ℤ) → Type 0} {a b c : Outside} {x y z : PictureState} → y.geometry ≡ x.geometry → ((numbers : ℕ → ℕ → ℤ) → B numbers → Represents numbers y → C numbers) →
+    Continues B a b x y → Continues C b c y z → Continues B a c x z
 goes_then {B = B} {C = C} {a = a} {b = b} {c = c} {x = x} {y = y} {z = z} same f u v = record {
   gave = u.gave ++ v.gave;
   out = since_out u.out v.out;
@@ -288,8 +288,8 @@ goes_then {B = B} {C = C} {a = a} {b = b} {c = c} {x = x} {y = y} {z = z} same f
 }
 
 -- rows go on, and then a write fails
-pub breaks_then : {B C : (ℕ → ℕ → ℤ) → Type 0} {r : ℕ} {a b c : Outside} {x y : Shown} → y.geometry ≡ x.geometry → ((numbers : ℕ → ℕ → ℤ) → B numbers → StandsFor numbers y → C numbers) →
-    GoesOn B a b x y → BreaksOff C r b c y → BreaksOff B r a c x
+pub breaks_then : {B C : (ℕ → ℕ → ℤ) → Type 0} {r : ℕ} {a b c : Outside} {x y : PictureState} → y.geometry ≡ x.geometry → ((numbers : ℕ → ℕ → ℤ) → B numbers → Represents numbers y → C numbers) →
+    Continues B a b x y → StopsEarly C r b c y → StopsEarly B r a c x
 breaks_then {B = B} {C = C} {r = r} {a = a} {b = b} {c = c} {x = x} {y = y} same f u v = record {
   gave = u.gave ++ v.gave;
   out = since_out u.out v.out;
@@ -301,7 +301,7 @@ breaks_then {B = B} {C = C} {r = r} {a = a} {b = b} {c = c} {x = x} {y = y} same
       (later.0, sym (append_assoc (rows_of x.geometry numbers x.at.next) u.gave v.gave) ∙ ap (λ zs. zs ++ v.gave) (u.given numbers before) ∙ there);
 }
 
-pub same_then : {x y z : Shown} → SameBut x y → SameBut y z → SameBut x z
+pub same_then : {x y z : PictureState} → SameBut x y → SameBut y z → SameBut x z
 same_then a b = record {
   geometry = b.geometry ∙ a.geometry;
   row = b.row ∙ a.row;
@@ -309,24 +309,24 @@ same_then a b = record {
 }
 
 -- each row leaves fewer
-pub row_less : {a b : Outside} {x y : Shown} → HasGiven a b x y → 8 * y.at.row - y.at.next < 8 * x.at.row - x.at.next
+pub row_less : {a b : Outside} {x y : PictureState} → HasGiven a b x y → 8 * y.at.row - y.at.next < 8 * x.at.row - x.at.next
 row_less given =
     let next = given.next in
     let row = given.same.row in
     ⊎_elim (λ (l : _). omega (arith, l, next, row)) (λ (r : _). omega (arith, r.1, next, row)) given.could.made
 
-pub given_nothing : (a : Outside) (p : Shown) → IsSized p → HasGivenSome a a p p
+pub given_nothing : (a : Outside) (p : PictureState) → IsSized p → HasGivenSome a a p p
 given_nothing a p sized = record {
   sized = sized;
   same = record { geometry = refl; row = refl; column = refl };
   goes = record { gave = []; out = since_start a NoRead; follows = λ numbers stands. stands; given = λ numbers stands. append-nil (rows_of p.geometry numbers p.at.next) };
 }
 
-pub given_then : {a b c : Outside} {x y z : Shown} → HasGivenSome a b x y → HasGiven b c y z → HasGivenSome a c x z
+pub given_then : {a b c : Outside} {x y z : PictureState} → HasGivenSome a b x y → HasGiven b c y z → HasGivenSome a c x z
 given_then u v = record { sized = v.sized; same = same_then u.same v.same; goes = goes_then u.same.geometry (λ numbers before stands. stands) u.goes v.goes }
 
-pub given_all : {a b c : Outside} {x y z : Shown} → HasGivenSome a b x y → HasNone b c y z → HasNone a c x z
+pub given_all : {a b c : Outside} {x y z : PictureState} → HasGivenSome a b x y → HasNone b c y z → HasNone a c x z
 given_all u v = record { standing = v.standing; same = same_then u.same v.same; goes = goes_then u.same.geometry (λ numbers before stands. stands) u.goes v.goes }
 
-pub given_broken : {a b c : Outside} {x y : Shown} → HasGivenSome a b x y → BreaksOff (StoodFor y) y.at.row b c y → BreaksOff (StoodFor x) x.at.row a c x
-given_broken {a = a} {c = c} {x = x} u v = subst (λ r. BreaksOff (StoodFor x) r a c x) u.same.row (breaks_then u.same.geometry (λ numbers before stands. stands) u.goes v)
+pub given_broken : {a b c : Outside} {x y : PictureState} → HasGivenSome a b x y → StopsEarly (Represented y) y.at.row b c y → StopsEarly (Represented x) x.at.row a c x
+given_broken {a = a} {c = c} {x = x} u v = subst (λ r. StopsEarly (Represented x) r a c x) u.same.row (breaks_then u.same.geometry (λ numbers before stands. stands) u.goes v)

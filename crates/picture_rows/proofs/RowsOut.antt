@@ -11,7 +11,7 @@ use Rattle.stream_defs.specs.Picture.{whole_with}
 use Rattle.stream_defs.specs.Settled.{rows_through, block_rows_before}
 use Rattle.stream_defs.proofs.SettledLaws.{rows_rise}
 use Rattle.picture_rows.specs.Fronts.{rows_of}
-use Rattle.picture_rows.specs.Pictures.{Shown, IsStanding, passed_in}
+use Rattle.picture_rows.specs.Pictures.{PictureState, IsCurrent, passed_in}
 use Rattle.picture_rows.proofs.RowGives.{front-begins}
 
 -- rows that pad the picture give nothing
@@ -60,12 +60,12 @@ pub rows_through-rises : (g : Geometry) (m n : ℕ) → 0 < block_count g.width 
 rows_through-rises g m n wide less le = through-rises g.rows (block_rows_before g m) (block_rows_before g n) (rows_rise m n (block_count g.width) wide less) (rows_before-most g n wide le)
 
 -- a picture that has passed some blocks has passed their whole block rows
-row_is : (p : Shown) (n : ℕ) → IsStanding p → passed_in p ≡ n → block_rows_before p.geometry n ≡ p.at.row
+row_is : (p : PictureState) (n : ℕ) → IsCurrent p → passed_in p ≡ n → block_rows_before p.geometry n ≡ p.at.row
 row_is p n standing passed =
     sym (ap (λ m. m / block_count p.geometry.width) passed) ∙ div-mul-add p.at.row (block_count p.geometry.width) p.at.column standing.sized.column
 
 -- and given exactly the rows that these determine
-next_rows : (p : Shown) (numbers : ℕ → ℕ → ℤ) → IsStanding p → rows_of p.geometry numbers p.at.next ≡ rows_of p.geometry numbers (rows_through p.geometry p.at.row)
+next_rows : (p : PictureState) (numbers : ℕ → ℕ → ℤ) → IsCurrent p → rows_of p.geometry numbers p.at.next ≡ rows_of p.geometry numbers (rows_through p.geometry p.at.row)
 next_rows p numbers standing = by (p.at.row == block_count p.geometry.rows) refl
   where
     by : (b : Bool) → (p.at.row == block_count p.geometry.rows) ≡ b → rows_of p.geometry numbers p.at.next ≡ rows_of p.geometry numbers (if b then p.geometry.rows else 8 * p.at.row - 21)
@@ -79,7 +79,7 @@ next_rows p numbers standing = by (p.at.row == block_count p.geometry.rows) refl
         ap (rows_of p.geometry numbers) (standing.next_settled (omega (arith, other, standing.sized.rows)))
 
 -- what is given past n blocks
-pub rows_out : (p : Shown) (g : Geometry) (n : ℕ) (numbers : ℕ → ℕ → ℤ) (gave : List ℕ) → IsStanding p → p.geometry ≡ g → passed_in p ≡ n → gave ≡ rows_of g numbers p.at.next →
+pub rows_out : (p : PictureState) (g : Geometry) (n : ℕ) (numbers : ℕ → ℕ → ℤ) (gave : List ℕ) → IsCurrent p → p.geometry ≡ g → passed_in p ≡ n → gave ≡ rows_of g numbers p.at.next →
     gave ≡ rows_of g numbers (rows_through g (block_rows_before g n))
 rows_out p g n numbers gave standing same passed is =
     is ∙ subst (λ (g : Geometry). rows_of g numbers p.at.next ≡ rows_of g numbers (rows_through g (block_rows_before g n))) same

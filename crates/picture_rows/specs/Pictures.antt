@@ -14,32 +14,32 @@ use Rattle.picture_rows.specs.declared.picture.PictureAt.{PictureAt}
 use Rattle.picture_rows.specs.Fronts.{bands_of}
 
 -- its parts
-pub record Shown : Type 0 where
+pub record PictureState : Type 0 where
   pub geometry : Geometry
   pub at : PictureAt
   pub strip : StripInverse
 
-abbrev pub shown : Picture → Shown
-shown p = record { geometry = p.geometry; at = p.at; strip = p.strip }
+abbrev pub picture_state : Picture → PictureState
+picture_state p = record { geometry = p.geometry; at = p.at; strip = p.strip }
 
 -- the samples of all its lists
-abbrev pub samples_of : Shown → ℕ
+abbrev pub samples_of : PictureState → ℕ
 samples_of p = strip_samples p.strip
 
 -- the blocks of its geometry, and those before the next one
-abbrev pub total_in : Shown → ℕ
+abbrev pub total_in : PictureState → ℕ
 total_in p = total_blocks p.geometry.width p.geometry.rows
 
-abbrev pub passed_in : Shown → ℕ
+abbrev pub passed_in : PictureState → ℕ
 passed_in p = p.at.row * block_count p.geometry.width + p.at.column
 
 -- a block is still to come
-abbrev pub HasRoom : Shown → Type 0
+abbrev pub HasRoom : PictureState → Type 0
 HasRoom p = passed_in p < total_in p
 
 -- Its parts are those of its geometry, and are at the place that it has reached. Until all block rows were taken, at most the rows
 -- were made that the block rows so far determine.
-pub record IsSized (p : Shown) : Type 0 where
+pub record IsSized (p : PictureState) : Type 0 where
   pub range : IsGeometryInRange p.geometry
   pub columns : columns_of p.strip ≡ block_count p.geometry.width
   pub height : height_of p.strip ≡ block_count p.geometry.rows
@@ -51,7 +51,7 @@ pub record IsSized (p : Shown) : Type 0 where
   pub next_most : p.at.row < block_count p.geometry.rows → p.at.next ≤ 8 * p.at.row - 21
 
 -- Exactly the rows were made that the r block rows so far determine: the first 8 * r - 21, or all if these are all block rows.
-pub record IsStanding (p : Shown) : Type 0 where
+pub record IsCurrent (p : PictureState) : Type 0 where
   pub sized : IsSized p
   pub next_settled : p.at.row < block_count p.geometry.rows → p.at.next ≡ 8 * p.at.row - 21
   pub all_made : p.at.row ≡ block_count p.geometry.rows → p.at.next ≡ 8 * p.at.row
@@ -61,7 +61,7 @@ pub record IsStanding (p : Shown) : Type 0 where
 -- Blocks with these numbers, counted in raster order, whatever the later ones are: the strip took the whole block rows of them,
 -- of an image of any height that it may still have, and the next block row has the numbers of the blocks in its first columns,
 -- and else zeros.
-pub record StandsTo (columns : ℕ) (numbers : ℕ → ℕ → ℤ) (p : Shown) : Type 0 where
+pub record RepresentsTo (columns : ℕ) (numbers : ℕ → ℕ → ℤ) (p : PictureState) : Type 0 where
   pub strip : (r : ℕ) → IsCompletion (taken_of p.strip) (height_of p.strip) r → FollowStrip (bands_of p.geometry numbers) r p.strip
   pub set : (column i : ℕ) → column < columns → i < 64 →
       numbers_of p.strip (place_in column i) ≡ coefficient (bands_of p.geometry numbers) p.at.row column i
@@ -69,14 +69,14 @@ pub record StandsTo (columns : ℕ) (numbers : ℕ → ℕ → ℤ) (p : Shown) 
       numbers_of p.strip (place_in column i) ≡ pos 0
 
 -- those are the blocks before the next one
-abbrev pub StandsFor : (ℕ → ℕ → ℤ) → Shown → Type 0
-StandsFor numbers p = StandsTo p.at.column numbers p
+abbrev pub Represents : (ℕ → ℕ → ℤ) → PictureState → Type 0
+Represents numbers p = RepresentsTo p.at.column numbers p
 
 -- nothing was taken yet of a picture of this geometry
-pub record IsFresh (g : Geometry) (p : Shown) : Type 0 where
+pub record IsFresh (g : Geometry) (p : PictureState) : Type 0 where
   pub geometry : p.geometry ≡ g
-  pub standing : IsStanding p
+  pub standing : IsCurrent p
   pub row : p.at.row ≡ 0
   pub column : p.at.column ≡ 0
   pub next : p.at.next ≡ 0
-  pub stands : (numbers : ℕ → ℕ → ℤ) → StandsFor numbers p
+  pub stands : (numbers : ℕ → ℕ → ℤ) → Represents numbers p

@@ -1,95 +1,95 @@
 -- What the steps of a picture leave. This project's own.
 use Rattle.std.specs.Prelude.{◌≡◌, ◌<◌, ◌+◌, ℕ, ℤ, pos, List, ◌++◌, [], Bool, true, false, Result, Ok, Err, MatchResult, slice_index_or, take}
-use Rattle.port_122.specs.Outside.{Outside, Since, NoRead, Rose}
+use Rattle.port_122.specs.Outside.{Outside, Exchange, NoRead, Rose}
 use Rattle.base_122.specs.Sizes.{block_count}
 use Rattle.stream_defs.specs.Settled.{rows_through, block_rows_before}
 use Rattle.inverse_strip.specs.Kept.{HasNext}
 use Rattle.picture_rows.specs.Fronts.{rows_of}
-use Rattle.picture_rows.specs.Pictures.{Shown, IsSized, IsStanding, StandsTo, StandsFor, passed_in}
+use Rattle.picture_rows.specs.Pictures.{PictureState, IsSized, IsCurrent, RepresentsTo, Represents, passed_in}
 
 -- ---- rows
 
 -- Some rows were given: for all blocks such that this was so before, the picture stands for them, and what was given goes on from
 -- the first rows of their picture to more of them.
-pub record GoesOn (Before : (ℕ → ℕ → ℤ) → Type 0) (p q : Outside) (old new : Shown) : Type 0 where
+pub record Continues (Before : (ℕ → ℕ → ℤ) → Type 0) (p q : Outside) (old new : PictureState) : Type 0 where
   pub gave : List ℕ
-  pub out : Since p q [] gave [] NoRead
-  pub follows : (numbers : ℕ → ℕ → ℤ) → Before numbers → StandsFor numbers new
+  pub out : Exchange p q [] gave [] NoRead
+  pub follows : (numbers : ℕ → ℕ → ℤ) → Before numbers → Represents numbers new
   pub given : (numbers : ℕ → ℕ → ℤ) → Before numbers → rows_of old.geometry numbers old.at.next ++ gave ≡ rows_of old.geometry numbers new.at.next
 
 -- a write failed meanwhile, and a prefix is given of the rows of the picture that r whole block rows determine
-pub record BreaksOff (Before : (ℕ → ℕ → ℤ) → Type 0) (r : ℕ) (p q : Outside) (old : Shown) : Type 0 where
+pub record StopsEarly (Before : (ℕ → ℕ → ℤ) → Type 0) (r : ℕ) (p q : Outside) (old : PictureState) : Type 0 where
   pub gave : List ℕ
-  pub out : Since p q [] gave [] NoRead
+  pub out : Exchange p q [] gave [] NoRead
   pub rose : Rose p.write_faults q.write_faults
   pub given : (numbers : ℕ → ℕ → ℤ) → Before numbers →
       (some : ℕ) × (rows_of old.geometry numbers old.at.next ++ gave ≡ take some (rows_of old.geometry numbers (rows_through old.geometry r)))
 
-abbrev pub StoodFor : Shown → (ℕ → ℕ → ℤ) → Type 0
-StoodFor p numbers = StandsFor numbers p
+abbrev pub Represented : PictureState → (ℕ → ℕ → ℤ) → Type 0
+Represented p numbers = Represents numbers p
 
 -- all but the strip and the next row is as before
-pub record SameBut (old new : Shown) : Type 0 where
+pub record SameBut (old new : PictureState) : Type 0 where
   pub geometry : new.geometry ≡ old.geometry
   pub row : new.at.row ≡ old.at.row
   pub column : new.at.column ≡ old.at.column
 
 -- the next row was made
-pub record HasGiven (p q : Outside) (old new : Shown) : Type 0 where
+pub record HasGiven (p q : Outside) (old new : PictureState) : Type 0 where
   pub sized : IsSized new
   pub same : SameBut old new
   pub could : HasNext old.at.row old.at.next (block_count old.geometry.rows)
   pub next : new.at.next ≡ old.at.next + 1
-  pub goes : GoesOn (StoodFor old) p q old new
+  pub goes : Continues (Represented old) p q old new
 
 -- none can be made before the next block row
-pub record HasNone (p q : Outside) (old new : Shown) : Type 0 where
-  pub standing : IsStanding new
+pub record HasNone (p q : Outside) (old new : PictureState) : Type 0 where
+  pub standing : IsCurrent new
   pub same : SameBut old new
-  pub goes : GoesOn (StoodFor old) p q old new
+  pub goes : Continues (Represented old) p q old new
 
-abbrev pub GivesRow : {E : Type 0} → Result Bool E → (p q : Outside) (old new : Shown) → Type 0
+abbrev pub GivesRow : {E : Type 0} → Result Bool E → (p q : Outside) (old new : PictureState) → Type 0
 GivesRow (Ok true) p q old new = HasGiven p q old new
 GivesRow (Ok false) p q old new = HasNone p q old new
-GivesRow (Err e) p q old new = BreaksOff (StoodFor old) old.at.row p q old
+GivesRow (Err e) p q old new = StopsEarly (Represented old) old.at.row p q old
 
 -- some were made
-pub record HasGivenSome (p q : Outside) (old new : Shown) : Type 0 where
+pub record HasGivenSome (p q : Outside) (old new : PictureState) : Type 0 where
   pub sized : IsSized new
   pub same : SameBut old new
-  pub goes : GoesOn (StoodFor old) p q old new
+  pub goes : Continues (Represented old) p q old new
 
-abbrev pub GivesRows : {T E : Type 0} → Result T E → (p q : Outside) (old new : Shown) → Type 0
-GivesRows result p q old new = MatchResult result (λ _. HasNone p q old new) (λ _. BreaksOff (StoodFor old) old.at.row p q old)
+abbrev pub GivesRows : {T E : Type 0} → Result T E → (p q : Outside) (old new : PictureState) → Type 0
+GivesRows result p q old new = MatchResult result (λ _. HasNone p q old new) (λ _. StopsEarly (Represented old) old.at.row p q old)
 
 -- ---- blocks
 
 -- the next block of the block row that is set next is set
-abbrev pub HasNextSet : Shown → (ℕ → ℕ → ℤ) → Type 0
-HasNextSet p numbers = StandsTo (p.at.column + 1) numbers p
+abbrev pub HasNextSet : PictureState → (ℕ → ℕ → ℤ) → Type 0
+HasNextSet p numbers = RepresentsTo (p.at.column + 1) numbers p
 
 -- the next block has these numbers, and zeros past them
-pub record HasNextNumbers (xs : List ℤ) (p : Shown) (numbers : ℕ → ℕ → ℤ) : Type 0 where
-  pub stands : StandsFor numbers p
+pub record HasNextNumbers (xs : List ℤ) (p : PictureState) (numbers : ℕ → ℕ → ℤ) : Type 0 where
+  pub stands : Represents numbers p
   pub next : (i : ℕ) → i < 64 → numbers (passed_in p) i ≡ slice_index_or xs i (pos 0)
 
 -- the next block was passed, and the rows that come with it given
-pub record HasPassed (Before : (ℕ → ℕ → ℤ) → Type 0) (p q : Outside) (old new : Shown) : Type 0 where
-  pub standing : IsStanding new
+pub record HasPassed (Before : (ℕ → ℕ → ℤ) → Type 0) (p q : Outside) (old new : PictureState) : Type 0 where
+  pub standing : IsCurrent new
   pub geometry : new.geometry ≡ old.geometry
   pub count : passed_in new ≡ passed_in old + 1
-  pub goes : GoesOn Before p q old new
+  pub goes : Continues Before p q old new
 
-abbrev pub PassesBlock : {T E : Type 0} → Result T E → ((ℕ → ℕ → ℤ) → Type 0) → (p q : Outside) (old new : Shown) → Type 0
-PassesBlock result Before p q old new = MatchResult result (λ _. HasPassed Before p q old new) (λ _. BreaksOff Before (block_rows_before old.geometry (passed_in old + 1)) p q old)
+abbrev pub PassesBlock : {T E : Type 0} → Result T E → ((ℕ → ℕ → ℤ) → Type 0) → (p q : Outside) (old new : PictureState) → Type 0
+PassesBlock result Before p q old new = MatchResult result (λ _. HasPassed Before p q old new) (λ _. StopsEarly Before (block_rows_before old.geometry (passed_in old + 1)) p q old)
 
 -- ---- the height
 
 -- The image has this number of rows now, and all else is as before: the rows that were given are the first ones of the image of
 -- either height.
-pub record HasEnded (rows : ℕ) (old new : Shown) : Type 0 where
-  pub standing : IsStanding new
+pub record HasEnded (rows : ℕ) (old new : PictureState) : Type 0 where
+  pub standing : IsCurrent new
   pub geometry : new.geometry ≡ record old.geometry { rows = rows }
   pub at : new.at ≡ old.at
-  pub follows : (numbers : ℕ → ℕ → ℤ) → StandsFor numbers old → StandsFor numbers new
+  pub follows : (numbers : ℕ → ℕ → ℤ) → Represents numbers old → Represents numbers new
   pub given : (numbers : ℕ → ℕ → ℤ) → rows_of new.geometry numbers new.at.next ≡ rows_of old.geometry numbers old.at.next

@@ -1,7 +1,7 @@
 // The blocks of a picture, one after another in raster order, and the rows that come with each whole block row.
 ghost use Rattle.std.specs.Prelude.{◌≡◌, [], length};
 ghost use Rattle.block_families.specs.Places.{AreWeighted};
-ghost use Rattle.picture_rows.specs.Pictures.{shown, IsStanding, HasRoom};
+ghost use Rattle.picture_rows.specs.Pictures.{picture_state, IsCurrent, HasRoom};
 ghost use Rattle.picture_rows.specs.Steps.{PassesBlock, HasNextSet, HasNextNumbers};
 
 use crate::picture::Picture;
@@ -13,9 +13,9 @@ use port_122::{Failed, Port};
 
 // Goes on past the next block, whose numbers are set, and gives the rows that come where its block row is whole.
 fn pass_block<X: Port>(port: &mut X, picture: &mut Picture) -> Result<(), Failed>
-    requires standing { IsStanding (shown picture.old) }
-    requires room { HasRoom (shown picture.old) }
-    ensures { PassesBlock result (HasNextSet (shown picture.old)) (X.outside port.old) (X.outside port.new) (shown picture.old) (shown picture.new) }
+    requires standing { IsCurrent (picture_state picture.old) }
+    requires room { HasRoom (picture_state picture.old) }
+    ensures { PassesBlock result (HasNextSet (picture_state picture.old)) (X.outside port.old) (X.outside port.new) (picture_state picture.old) (picture_state picture.new) }
 {
     picture.at.column += 1;
     if picture.at.column < picture.geometry.padded_width() / 8 {
@@ -28,10 +28,10 @@ fn pass_block<X: Port>(port: &mut X, picture: &mut Picture) -> Result<(), Failed
 }
 
 /// The next block is lost: its numbers are 0.
-pub fn lose_block<X: Port>(port: &mut X, picture: &mut Picture) -> Result<(), Failed>
-    requires standing { IsStanding (shown picture.old) }
-    requires room { HasRoom (shown picture.old) }
-    ensures { PassesBlock result (HasNextNumbers [] (shown picture.old)) (X.outside port.old) (X.outside port.new) (shown picture.old) (shown picture.new) }
+pub fn put_missing<X: Port>(port: &mut X, picture: &mut Picture) -> Result<(), Failed>
+    requires standing { IsCurrent (picture_state picture.old) }
+    requires room { HasRoom (picture_state picture.old) }
+    ensures { PassesBlock result (HasNextNumbers [] (picture_state picture.old)) (X.outside port.old) (X.outside port.new) (picture_state picture.old) (picture_state picture.new) }
 {
     pass_block(port, picture)
 }
@@ -42,11 +42,11 @@ pub fn put_block<X: Port>(
     picture: &mut Picture,
     numbers: &[i32],
 ) -> Result<(), Failed>
-    requires standing { IsStanding (shown picture.old) }
-    requires room { HasRoom (shown picture.old) }
+    requires standing { IsCurrent (picture_state picture.old) }
+    requires room { HasRoom (picture_state picture.old) }
     requires whole { length numbers.now ≡ 64 }
     requires parts { AreWeighted numbers.now picture.old.geometry.weights.shifts }
-    ensures { PassesBlock result (HasNextNumbers numbers.now (shown picture.old)) (X.outside port.old) (X.outside port.new) (shown picture.old) (shown picture.new) }
+    ensures { PassesBlock result (HasNextNumbers numbers.now (picture_state picture.old)) (X.outside port.old) (X.outside port.new) (picture_state picture.old) (picture_state picture.new) }
 {
     scatter(
         &mut picture.strip,

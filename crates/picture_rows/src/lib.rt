@@ -8,5 +8,5 @@ mod rows;
 #[cfg(test)]
 mod tests;
 
-pub use blocks::{lose_block, put_block};
+pub use blocks::{put_missing, put_block};
 pub use picture::{Picture, PictureAt};

@@ -1,5 +1,5 @@
 // The rows of a picture that can be made.
-ghost use Rattle.picture_rows.specs.Pictures.{shown, IsSized};
+ghost use Rattle.picture_rows.specs.Pictures.{picture_state, IsSized};
 ghost use Rattle.picture_rows.specs.Steps.{GivesRow, GivesRows};
 
 use crate::picture::Picture;
@@ -9,8 +9,8 @@ use raster_rows::write_row;
 // Makes the next row and gives it, where it isn't one that pads the picture; answers false where none can be made before the next
 // block row.
 fn give_row<X: Port>(port: &mut X, picture: &mut Picture) -> Result<bool, Failed>
-    requires sized { IsSized (shown picture.old) }
-    ensures { GivesRow result (X.outside port.old) (X.outside port.new) (shown picture.old) (shown picture.new) }
+    requires sized { IsSized (picture_state picture.old) }
+    ensures { GivesRow result (X.outside port.old) (X.outside port.new) (picture_state picture.old) (picture_state picture.new) }
 {
     if !picture.strip.make_row() {
         return Ok(false);
@@ -32,8 +32,8 @@ fn give_row<X: Port>(port: &mut X, picture: &mut Picture) -> Result<bool, Failed
 
 /// Gives all rows that can be made before the next block row.
 pub fn give_rows<X: Port>(port: &mut X, picture: &mut Picture) -> Result<(), Failed>
-    requires sized { IsSized (shown picture.old) }
-    ensures { GivesRows result (X.outside port.old) (X.outside port.new) (shown picture.old) (shown picture.new) }
+    requires sized { IsSized (picture_state picture.old) }
+    ensures { GivesRows result (X.outside port.old) (X.outside port.new) (picture_state picture.old) (picture_state picture.new) }
 {
     while give_row(port, picture)? {}
     Ok(())

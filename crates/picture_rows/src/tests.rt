@@ -2,9 +2,9 @@
 ghost use Rattle.std.specs.Prelude.{◌≡◌, ◌≤◌, ◌+◌, IfOk};
 ghost use Rattle.base_122.specs.Ranges.{IsWithin, rows_range};
 ghost use Rattle.base_122.specs.Setting.{image_geometry, usual_setting};
-ghost use Rattle.picture_rows.specs.Pictures.{shown, passed_in, total_in, IsFresh, IsStanding};
+ghost use Rattle.picture_rows.specs.Pictures.{picture_state, passed_in, total_in, IsFresh, IsCurrent};
 
-use crate::{Picture, lose_block};
+use crate::{Picture, put_missing};
 use base_122::Setting;
 use port_122::SteadyPort;
 use std::alloc::{AllocError, Global};
@@ -14,22 +14,22 @@ use std::test::Fail;
 // A picture of 17 columns, and so of three blocks in a block row. Its pixels are unsigned and have 8 bits.
 fn begun(alloc: Global, rows: u32) -> Result<Picture, AllocError>
     requires { IsWithin rows_range rows }
-    ensures { IfOk result (λ p. IsFresh (image_geometry (usual_setting 17 0) rows) (shown p)) }
+    ensures { IfOk result (λ p. IsFresh (image_geometry (usual_setting 17 0) rows) (picture_state p)) }
 {
     Picture::new(alloc, &Setting::usual(17, 0).geometry_for(rows))
 }
 
 // Loses three blocks.
 fn lose_row(rt: &impl Abort, port: &mut SteadyPort, picture: &mut Picture)
-    requires standing { IsStanding (shown picture.old) }
-    requires room { passed_in (shown picture.old) + 3 ≤ total_in (shown picture.old) }
-    ensures standing { IsStanding (shown picture.new) }
+    requires standing { IsCurrent (picture_state picture.old) }
+    requires room { passed_in (picture_state picture.old) + 3 ≤ total_in (picture_state picture.old) }
+    ensures standing { IsCurrent (picture_state picture.new) }
     ensures geometry { picture.new.geometry ≡ picture.old.geometry }
-    ensures passed { passed_in (shown picture.new) ≡ passed_in (shown picture.old) + 3 }
+    ensures passed { passed_in (picture_state picture.new) ≡ passed_in (picture_state picture.old) + 3 }
 {
-    lose_block(port, picture).expect(rt, "the port never fails");
-    lose_block(port, picture).expect(rt, "the port never fails");
-    lose_block(port, picture).expect(rt, "the port never fails");
+    put_missing(port, picture).expect(rt, "the port never fails");
+    put_missing(port, picture).expect(rt, "the port never fails");
+    put_missing(port, picture).expect(rt, "the port never fails");
 }
 
 #[test]

@@ -15,10 +15,10 @@ use Rattle.plane_defs.proofs.SpanLists.{list_any-span-suc, list_any-span-none}
 use Rattle.block_masks.specs.Masks.{Shows}
 use Rattle.block_masks.specs.Picks.{packed}
 use Rattle.plane_coder.specs.declared.fours.TheConstants.{WORDS, SIGNS, FILLED, SOME}
-use Rattle.plane_coder.specs.declared.seen.Typed.{Typed}
+use Rattle.plane_coder.specs.declared.plane_masks.Typed.{Typed}
 use Rattle.plane_coder.specs.Picked.{entries_of, IsPacked, ArePacked}
 use Rattle.plane_coder.specs.Fours.{ArePicked}
-use Rattle.plane_coder.proofs.Saying.{typed_is, is_packed}
+use Rattle.plane_coder.proofs.GroupsPushed.{typed_is, is_packed}
 
 -- ---- the tables
 

@@ -1,8 +1,8 @@
 mod FourTypes
 mod Pushing
-mod Saying
+mod GroupsPushed
 mod Keeping
-mod Speaking
+mod Appending
 mod BlockSets
 mod CodeRows
 mod Spelling

@@ -14,7 +14,7 @@ use Rattle.plane_defs.proofs.Tables.{list_all-span-zero}
 use Rattle.plane_coder.specs.declared.tally.Tally.{Tally}
 use Rattle.plane_coder.specs.declared.tally.TheConstants.{PLACES}
 use Rattle.item_defs.specs.Bits.{bits_of}
-use Rattle.plane_coder.specs.declared.seen.Typed.{Typed}
+use Rattle.plane_coder.specs.declared.plane_masks.Typed.{Typed}
 use Rattle.plane_coder.specs.Picked.{word_of, IsPacked}
 use Rattle.plane_coder.specs.Tallies.{Counts, AreAtMost, count_at}
 use Rattle.plane_coder.proofs.FourTypes.{IsTyped}

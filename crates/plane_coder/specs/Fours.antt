@@ -4,7 +4,7 @@ use Rattle.plane_defs.specs.Spans.{span}
 use Rattle.block_masks.specs.Masks.{Shows}
 use Rattle.block_masks.specs.Picks.{packed}
 use Rattle.plane_coder.specs.declared.fours.Fours.{Fours}
-use Rattle.plane_coder.specs.declared.seen.Typed.{Typed}
+use Rattle.plane_coder.specs.declared.plane_masks.Typed.{Typed}
 
 -- the masks of positions: `due` has the types that are due, `one` those that are 1, and `minus` the negative numbers
 pub record AreFours (due one minus : ℕ → Bool) (start count : ℕ) (m : Fours) : Type 0 where

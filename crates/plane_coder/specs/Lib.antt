@@ -7,6 +7,6 @@ pub mod Viewed
 pub mod Picked
 pub mod Refining
 pub mod Coding
-pub mod Speaks
+pub mod Appends
 pub mod Fours
 pub mod Coders

@@ -3,7 +3,7 @@ use Rattle.std.specs.Prelude.{◌≤◌, ◌<◌, ℕ, ◌/◌, ◌%◌, ◌^◌
 use Rattle.item_defs.specs.Bits.{bits_of}
 use Rattle.plane_defs.specs.declared.entries.Entry.{Entry}
 use Rattle.plane_defs.specs.declared.entries.Entry.TheVariants.{Bit, Word}
-use Rattle.plane_coder.specs.declared.seen.Typed.{Typed}
+use Rattle.plane_coder.specs.declared.plane_masks.Typed.{Typed}
 
 -- the word that a number packs
 abbrev pub word_of : ℕ → Entry

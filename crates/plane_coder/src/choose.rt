@@ -26,7 +26,7 @@ fn tally_block(tally: &mut Tally, view: &View, marks: &[i32], r: usize)
     if depth_of(marks[r]) <= view.plan.plane {
         return;
     }
-    tally.add_block(&view.seen(r));
+    tally.add_block(&view.plane_masks(r));
 }
 
 fn tally_gaggle(view: &View, marks: &[i32], g: usize) -> Tally

@@ -7,7 +7,7 @@ ghost use Rattle.block_masks.specs.Masks.{Shows};
 ghost use Rattle.plane_coder.specs.Picked.{ArePacked};
 ghost use Rattle.plane_coder.specs.Fours.{AreFours, ArePicked};
 
-use crate::seen::Typed;
+use crate::plane_masks::Typed;
 use block_masks::{joined, part};
 
 // For four positions of both masks of `Fours`, the word of the types that are due, as it is picked.

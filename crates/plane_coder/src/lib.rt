@@ -4,7 +4,7 @@
 //! word and signs it sends, by masks and look-ups. `fours` looks up the types of four positions with their signs, without a
 //! test whether their set is significant. `view` keeps the masks of the first blocks for all stages: `choose` has
 //! `tally` count the words of a gaggle and takes its options, then `stages` has `put` go through the blocks, where `say`
-//! gathers the bits in a `speech`. The marks keep the options meanwhile.
+//! gathers the bits in a `pending`. The marks keep the options meanwhile.
 //!
 //! What the reader of planes needs too stands in `block_masks`: plans, masks, sets of positions and what marks keep.
 #![tactic(auto)]
@@ -15,10 +15,10 @@ mod fours;
 mod masks;
 mod plane;
 mod put;
-mod say;
-mod seen;
-mod speech;
-mod spoken;
+mod pushes;
+mod plane_masks;
+mod pending;
+mod option_codes;
 mod stages;
 mod tables;
 mod tally;

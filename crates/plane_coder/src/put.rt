@@ -12,10 +12,10 @@ ghost use Rattle.plane_coder.specs.Spells.{Spells};
 ghost use Rattle.base_122.specs.declared.book.Book.{Book as BookValue};
 ghost use Rattle.block_masks.specs.declared.gaggle.Gaggle.{Gaggle as GaggleValue};
 
-use crate::say::{say_children, say_parents, say_quads, say_refinement};
-use crate::seen::Seen;
-use crate::speech::Speech;
-use crate::spoken::Spoken;
+use crate::pushes::{push_children, push_parents, push_quads, push_refinement};
+use crate::plane_masks::PlaneMasks;
+use crate::pending::PendingBits;
+use crate::option_codes::OptionCodes;
 use crate::view::View;
 use bit_pipe::{BitOut, OctetOut, PutFault};
 use block_masks::{CodedPlane, Sets, has, is_any_of};
@@ -60,129 +60,129 @@ fn put_dc_bit<O: OctetOut>(
 
 fn put_parents<O: OctetOut>(
     out: &mut BitOut<O>,
-    speech: &mut Speech,
-    spoken: &Spoken,
-    seen: &Seen,
+    pending: &mut PendingBits,
+    option_codes: &OptionCodes,
+    plane_masks: &PlaneMasks,
 ) -> Result<(), PutFault>
     requires open { IsReady O.sink out.old }
-    requires same { spoken.now.options ≡ speech.old.gaggle.options }
-    requires silent { speech.old.count ≡ 0 }
-    ensures spells { Spells O.sink spoken.now.tables.now.book speech.old.gaggle speech.new.gaggle result (stand O.sink out.old) (stand O.sink out.new) (parents seen.now.block.now seen.now.plan.now.weights.shifts seen.now.plan.now.plane) }
-    ensures silent { speech.new.count ≡ 0 }
+    requires same { option_codes.now.options ≡ pending.old.gaggle.options }
+    requires silent { pending.old.count ≡ 0 }
+    ensures spells { Spells O.sink option_codes.now.tables.now.book pending.old.gaggle pending.new.gaggle result (stand O.sink out.old) (stand O.sink out.new) (parents plane_masks.now.block.now plane_masks.now.plan.now.weights.shifts plane_masks.now.plan.now.plane) }
+    ensures silent { pending.new.count ≡ 0 }
 {
-    say_parents(speech, spoken, seen);
-    speech.put(out)
+    push_parents(pending, option_codes, plane_masks);
+    pending.put(out)
 }
 
 fn put_children<O: OctetOut>(
     out: &mut BitOut<O>,
-    speech: &mut Speech,
-    spoken: &Spoken,
-    seen: &Seen,
+    pending: &mut PendingBits,
+    option_codes: &OptionCodes,
+    plane_masks: &PlaneMasks,
 ) -> Result<(), PutFault>
     requires open { IsReady O.sink out.old }
-    requires same { spoken.now.options ≡ speech.old.gaggle.options }
-    requires silent { speech.old.count ≡ 0 }
-    ensures spells { Spells O.sink spoken.now.tables.now.book speech.old.gaggle speech.new.gaggle result (stand O.sink out.old) (stand O.sink out.new) (children seen.now.block.now seen.now.plan.now.weights.shifts seen.now.plan.now.plane) }
-    ensures silent { speech.new.count ≡ 0 }
+    requires same { option_codes.now.options ≡ pending.old.gaggle.options }
+    requires silent { pending.old.count ≡ 0 }
+    ensures spells { Spells O.sink option_codes.now.tables.now.book pending.old.gaggle pending.new.gaggle result (stand O.sink out.old) (stand O.sink out.new) (children plane_masks.now.block.now plane_masks.now.plan.now.weights.shifts plane_masks.now.plan.now.plane) }
+    ensures silent { pending.new.count ≡ 0 }
 {
-    say_children(speech, spoken, seen);
-    speech.put(out)
+    push_children(pending, option_codes, plane_masks);
+    pending.put(out)
 }
 
 // The sets of four grandchildren in family i, where its grandchildren are significant.
 #[inline(always)]
 fn put_quads<O: OctetOut>(
     out: &mut BitOut<O>,
-    speech: &mut Speech,
-    spoken: &Spoken,
-    seen: &Seen,
+    pending: &mut PendingBits,
+    option_codes: &OptionCodes,
+    plane_masks: &PlaneMasks,
     is_said: bool,
     i: u8,
 ) -> Result<(), PutFault>
     requires open { IsReady O.sink out.old }
     requires family { i < 3 }
-    requires enclosing { is_said ≡ set_significant seen.now.block.now seen.now.plan.now.plane (Grandchildren i) }
-    requires same { spoken.now.options ≡ speech.old.gaggle.options }
-    requires silent { speech.old.count ≡ 0 }
-    ensures spells { Spells O.sink spoken.now.tables.now.book speech.old.gaggle speech.new.gaggle result (stand O.sink out.old) (stand O.sink out.new)
-        (cond is_said (quads seen.now.block.now seen.now.plan.now.weights.shifts seen.now.plan.now.plane i) []) }
-    ensures silent { speech.new.count ≡ 0 }
+    requires enclosing { is_said ≡ set_significant plane_masks.now.block.now plane_masks.now.plan.now.plane (Grandchildren i) }
+    requires same { option_codes.now.options ≡ pending.old.gaggle.options }
+    requires silent { pending.old.count ≡ 0 }
+    ensures spells { Spells O.sink option_codes.now.tables.now.book pending.old.gaggle pending.new.gaggle result (stand O.sink out.old) (stand O.sink out.new)
+        (cond is_said (quads plane_masks.now.block.now plane_masks.now.plan.now.weights.shifts plane_masks.now.plan.now.plane i) []) }
+    ensures silent { pending.new.count ≡ 0 }
 {
     if !is_said {
         return Ok(());
     }
-    say_quads(speech, spoken, seen, i);
-    speech.put(out)
+    push_quads(pending, option_codes, plane_masks, i);
+    pending.put(out)
 }
 
 #[inline(always)]
 fn put_all_quads<O: OctetOut>(
     out: &mut BitOut<O>,
-    speech: &mut Speech,
-    spoken: &Spoken,
-    seen: &Seen,
+    pending: &mut PendingBits,
+    option_codes: &OptionCodes,
+    plane_masks: &PlaneMasks,
     sets: Sets,
 ) -> Result<(), PutFault>
     requires open { IsReady O.sink out.old }
-    requires sets { AreSets (significant seen.now.block.now seen.now.plan.now.plane) sets }
-    requires same { spoken.now.options ≡ speech.old.gaggle.options }
-    requires silent { speech.old.count ≡ 0 }
-    ensures spells { Spells O.sink spoken.now.tables.now.book speech.old.gaggle speech.new.gaggle result (stand O.sink out.old) (stand O.sink out.new) (all_quads seen.now.block.now seen.now.plan.now.weights.shifts seen.now.plan.now.plane) }
-    ensures silent { speech.new.count ≡ 0 }
+    requires sets { AreSets (significant plane_masks.now.block.now plane_masks.now.plan.now.plane) sets }
+    requires same { option_codes.now.options ≡ pending.old.gaggle.options }
+    requires silent { pending.old.count ≡ 0 }
+    ensures spells { Spells O.sink option_codes.now.tables.now.book pending.old.gaggle pending.new.gaggle result (stand O.sink out.old) (stand O.sink out.new) (all_quads plane_masks.now.block.now plane_masks.now.plan.now.weights.shifts plane_masks.now.plan.now.plane) }
+    ensures silent { pending.new.count ≡ 0 }
 {
     let families = sets.grandchildren;
-    put_quads(out, speech, spoken, seen, has(families, 0), 0)?;
-    put_quads(out, speech, spoken, seen, has(families, 1), 1)?;
-    put_quads(out, speech, spoken, seen, has(families, 2), 2)
+    put_quads(out, pending, option_codes, plane_masks, has(families, 0), 0)?;
+    put_quads(out, pending, option_codes, plane_masks, has(families, 1), 1)?;
+    put_quads(out, pending, option_codes, plane_masks, has(families, 2), 2)
 }
 
 fn put_grandchildren<O: OctetOut>(
     out: &mut BitOut<O>,
-    speech: &mut Speech,
-    spoken: &Spoken,
-    seen: &Seen,
+    pending: &mut PendingBits,
+    option_codes: &OptionCodes,
+    plane_masks: &PlaneMasks,
 ) -> Result<(), PutFault>
     requires open { IsReady O.sink out.old }
-    requires same { spoken.now.options ≡ speech.old.gaggle.options }
-    requires silent { speech.old.count ≡ 0 }
-    ensures spells { Spells O.sink spoken.now.tables.now.book speech.old.gaggle speech.new.gaggle result (stand O.sink out.old) (stand O.sink out.new) (grandchildren seen.now.block.now seen.now.plan.now.weights.shifts seen.now.plan.now.plane) }
-    ensures silent { speech.new.count ≡ 0 }
+    requires same { option_codes.now.options ≡ pending.old.gaggle.options }
+    requires silent { pending.old.count ≡ 0 }
+    ensures spells { Spells O.sink option_codes.now.tables.now.book pending.old.gaggle pending.new.gaggle result (stand O.sink out.old) (stand O.sink out.new) (grandchildren plane_masks.now.block.now plane_masks.now.plan.now.weights.shifts plane_masks.now.plan.now.plane) }
+    ensures silent { pending.new.count ≡ 0 }
 {
-    speech.word(spoken, seen.flags_of_grandchildren());
-    speech.put(out)?;
-    put_all_quads(out, speech, spoken, seen, seen.sets())
+    pending.word(option_codes, plane_masks.flags_of_grandchildren());
+    pending.put(out)?;
+    put_all_quads(out, pending, option_codes, plane_masks, plane_masks.sets())
 }
 
 fn put_refinement<O: OctetOut>(
     out: &mut BitOut<O>,
-    speech: &mut Speech,
-    seen: &Seen,
+    pending: &mut PendingBits,
+    plane_masks: &PlaneMasks,
 ) -> Result<(), PutFault>
     requires open { IsReady O.sink out.old }
-    requires silent { speech.old.count ≡ 0 }
-    ensures spells { (book : BookValue) → Spells O.sink book speech.old.gaggle speech.new.gaggle result (stand O.sink out.old) (stand O.sink out.new) (refinement seen.now.block.now seen.now.plan.now.weights.shifts seen.now.plan.now.plane) }
-    ensures silent { speech.new.count ≡ 0 }
+    requires silent { pending.old.count ≡ 0 }
+    ensures spells { (book : BookValue) → Spells O.sink book pending.old.gaggle pending.new.gaggle result (stand O.sink out.old) (stand O.sink out.new) (refinement plane_masks.now.block.now plane_masks.now.plan.now.weights.shifts plane_masks.now.plan.now.plane) }
+    ensures silent { pending.new.count ≡ 0 }
 {
-    let refined = seen.refined();
+    let refined = plane_masks.refined();
     if !is_any_of(refined, 1, 63) {
         return Ok(());
     }
-    speech.raws(seen.refinement(refined, 1, 3));
-    say_refinement(speech, seen, refined, 1, 4);
-    say_refinement(speech, seen, refined, 4, 8);
-    speech.put(out)?;
-    say_refinement(speech, seen, refined, 8, 12);
-    say_refinement(speech, seen, refined, 12, 16);
-    speech.put(out)
+    pending.raws(plane_masks.refinement(refined, 1, 3));
+    push_refinement(pending, plane_masks, refined, 1, 4);
+    push_refinement(pending, plane_masks, refined, 4, 8);
+    pending.put(out)?;
+    push_refinement(pending, plane_masks, refined, 8, 12);
+    push_refinement(pending, plane_masks, refined, 12, 16);
+    pending.put(out)
 }
 
 // Puts one stage of block r, which has this depth.
 #[inline]
-pub(crate) fn put_block<O: OctetOut>(
+pub(crate) fn put_block_stage<O: OctetOut>(
     out: &mut BitOut<O>,
-    speech: &mut Speech,
-    spoken: &Spoken,
+    pending: &mut PendingBits,
+    option_codes: &OptionCodes,
     stage: Stage,
     view: &View,
     depth: u8,
@@ -190,19 +190,19 @@ pub(crate) fn put_block<O: OctetOut>(
 ) -> Result<(), PutFault>
     requires open { IsReady O.sink out.old }
     requires within { 64 * r + 64 ≤ length view.now.blocks.now }
-    requires same { spoken.now.options ≡ speech.old.gaggle.options }
-    requires silent { speech.old.count ≡ 0 }
-    ensures spells { Spells O.sink spoken.now.tables.now.book speech.old.gaggle speech.new.gaggle result (stand O.sink out.old) (stand O.sink out.new)
+    requires same { option_codes.now.options ≡ pending.old.gaggle.options }
+    requires silent { pending.old.count ≡ 0 }
+    ensures spells { Spells O.sink option_codes.now.tables.now.book pending.old.gaggle pending.new.gaggle result (stand O.sink out.old) (stand O.sink out.new)
         (block_entries stage (slice_range view.now.blocks.now (64 * r) (64 * r + 64)) depth view.now.plan.now.weights.shifts view.now.plan.now.plane view.now.plan.now.q) }
-    ensures silent { speech.new.count ≡ 0 }
+    ensures silent { pending.new.count ≡ 0 }
 {
     let is_deep = view.plan.plane < depth;
     match stage {
         Stage::DcBits => put_dc_bit(out, &view.blocks[64 * r..64 * r + 64], view.plan),
-        Stage::Parents if is_deep => put_parents(out, speech, spoken, &view.seen(r)),
-        Stage::Children if is_deep => put_children(out, speech, spoken, &view.seen(r)),
-        Stage::Grandchildren if is_deep => put_grandchildren(out, speech, spoken, &view.seen(r)),
-        Stage::Refinement if is_deep => put_refinement(out, speech, &view.seen(r)),
+        Stage::Parents if is_deep => put_parents(out, pending, option_codes, &view.plane_masks(r)),
+        Stage::Children if is_deep => put_children(out, pending, option_codes, &view.plane_masks(r)),
+        Stage::Grandchildren if is_deep => put_grandchildren(out, pending, option_codes, &view.plane_masks(r)),
+        Stage::Refinement if is_deep => put_refinement(out, pending, &view.plane_masks(r)),
         _ => Ok(()),
     }
 }

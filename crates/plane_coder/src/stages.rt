@@ -9,9 +9,9 @@ ghost use Rattle.block_masks.specs.Gaggles.{AllAgree, AreOptions, AreKnown, Same
 ghost use Rattle.plane_coder.specs.Spells.{Spells};
 ghost use Rattle.plane_coder.specs.Views.{plane_in};
 
-use crate::put::{is_quiet, put_block};
-use crate::speech::Speech;
-use crate::spoken::Spoken;
+use crate::put::{is_quiet, put_block_stage};
+use crate::pending::PendingBits;
+use crate::option_codes::OptionCodes;
 use crate::view::View;
 use bit_pipe::{BitOut, OctetOut, PutFault};
 use block_masks::{depth_of, load, stage_at, store};
@@ -21,47 +21,47 @@ use plane_defs::Stage;
 #[inline(always)]
 fn put_block_at<O: OctetOut>(
     out: &mut BitOut<O>,
-    speech: &mut Speech,
-    spoken: &Spoken,
+    pending: &mut PendingBits,
+    option_codes: &OptionCodes,
     stage: Stage,
     view: &View,
     marks: &[i32],
     r: usize,
 ) -> Result<(), PutFault>
     requires open { IsReady O.sink out.old }
-    requires same { spoken.now.options ≡ speech.old.gaggle.options }
-    requires silent { speech.old.count ≡ 0 }
-    requires tables { spoken.now.tables.now ≡ view.now.tables.now }
+    requires same { option_codes.now.options ≡ pending.old.gaggle.options }
+    requires silent { pending.old.count ≡ 0 }
+    requires tables { option_codes.now.tables.now ≡ view.now.tables.now }
     requires whole { length view.now.blocks.now ≡ 64 * length marks.now }
     requires within { r < length marks.now }
-    ensures spells { Spells O.sink view.now.tables.now.book speech.old.gaggle speech.new.gaggle result (stand O.sink out.old) (stand O.sink out.new) (of_block (plane_in view.now (depths_of marks.now)) stage r) }
-    ensures silent { speech.new.count ≡ 0 }
+    ensures spells { Spells O.sink view.now.tables.now.book pending.old.gaggle pending.new.gaggle result (stand O.sink out.old) (stand O.sink out.new) (of_block (plane_in view.now (depths_of marks.now)) stage r) }
+    ensures silent { pending.new.count ≡ 0 }
 {
-    put_block(out, speech, spoken, stage, view, depth_of(marks[r]), r)
+    put_block_stage(out, pending, option_codes, stage, view, depth_of(marks[r]), r)
 }
 
 // Puts a stage of gaggle g.
 fn put_gaggle<O: OctetOut>(
     out: &mut BitOut<O>,
-    speech: &mut Speech,
-    spoken: &Spoken,
+    pending: &mut PendingBits,
+    option_codes: &OptionCodes,
     stage: Stage,
     view: &View,
     marks: &[i32],
     g: usize,
 ) -> Result<(), PutFault>
     requires open { IsReady O.sink out.old }
-    requires same { spoken.now.options ≡ speech.old.gaggle.options }
-    requires silent { speech.old.count ≡ 0 }
-    requires tables { spoken.now.tables.now ≡ view.now.tables.now }
+    requires same { option_codes.now.options ≡ pending.old.gaggle.options }
+    requires silent { pending.old.count ≡ 0 }
+    requires tables { option_codes.now.tables.now ≡ view.now.tables.now }
     requires whole { length view.now.blocks.now ≡ 64 * length marks.now }
     requires within { 16 * g < length marks.now }
-    ensures spells { Spells O.sink view.now.tables.now.book speech.old.gaggle speech.new.gaggle result (stand O.sink out.old) (stand O.sink out.new) (of_gaggle (plane_in view.now (depths_of marks.now)) stage g) }
-    ensures silent { speech.new.count ≡ 0 }
+    ensures spells { Spells O.sink view.now.tables.now.book pending.old.gaggle pending.new.gaggle result (stand O.sink out.old) (stand O.sink out.new) (of_gaggle (plane_in view.now (depths_of marks.now)) stage g) }
+    ensures silent { pending.new.count ≡ 0 }
 {
     let first = 16 * g;
     for place in 0..(marks.len() - first).min(16) {
-        put_block_at(out, speech, spoken, stage, view, marks, first + place)?;
+        put_block_at(out, pending, option_codes, stage, view, marks, first + place)?;
     }
     Ok(())
 }
@@ -87,10 +87,10 @@ pub(crate) fn put_stage<O: OctetOut>(
         return Ok(());
     }
     for g in 0..marks.len().div_ceil(16) {
-        let mut speech = Speech::new(load(marks, g));
-        let spoken = Spoken::new(view.tables, speech.gaggle.options);
-        put_gaggle(out, &mut speech, &spoken, stage_at(number), view, marks, g)?;
-        store(marks, g, speech.gaggle);
+        let mut pending = PendingBits::new(load(marks, g));
+        let option_codes = OptionCodes::new(view.tables, pending.gaggle.options);
+        put_gaggle(out, &mut pending, &option_codes, stage_at(number), view, marks, g)?;
+        store(marks, g, pending.gaggle);
     }
     Ok(())
 }

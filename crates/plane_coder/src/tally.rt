@@ -6,7 +6,7 @@ ghost use Rattle.plane_defs.specs.declared.sets.Set.TheVariants.{Grandchildren};
 ghost use Rattle.plane_defs.specs.Sets.{significant, set_significant};
 ghost use Rattle.plane_defs.specs.Entries.{typed, parents, children, children_types, quads, quads_types, all_quads, grandchildren};
 
-use crate::seen::Seen;
+use crate::plane_masks::PlaneMasks;
 use block_masks::{Sets, has};
 
 // Where each word is counted, as it is picked: sixteen times its length, and its symbol. Words of a bit or none have
@@ -47,94 +47,94 @@ impl Tally {
     }
 
     #[inline(always)]
-    fn add_parents(&mut self, seen: &Seen)
+    fn add_parents(&mut self, plane_masks: &PlaneMasks)
         requires { AreAtMost self.old (2 ^ 20) }
-        ensures { Counts self.old self.new (parents seen.now.block.now seen.now.plan.now.weights.shifts seen.now.plan.now.plane) 1 }
+        ensures { Counts self.old self.new (parents plane_masks.now.block.now plane_masks.now.plan.now.weights.shifts plane_masks.now.plan.now.plane) 1 }
     {
-        self.add(seen.types(1, 3).word);
+        self.add(plane_masks.types(1, 3).word);
     }
 
     #[inline(always)]
-    fn add_children_types(&mut self, seen: &Seen, sets: Sets)
-        requires sets { AreSets (significant seen.now.block.now seen.now.plan.now.plane) sets }
+    fn add_children_types(&mut self, plane_masks: &PlaneMasks, sets: Sets)
+        requires sets { AreSets (significant plane_masks.now.block.now plane_masks.now.plan.now.plane) sets }
         requires small { AreAtMost self.old (2 ^ 19) }
-        ensures { Counts self.old self.new (children_types seen.now.block.now seen.now.plan.now.weights.shifts seen.now.plan.now.plane) 3 }
+        ensures { Counts self.old self.new (children_types plane_masks.now.block.now plane_masks.now.plan.now.weights.shifts plane_masks.now.plan.now.plane) 3 }
     {
-        let types = seen.types_of_children(sets);
+        let types = plane_masks.types_of_children(sets);
         for i in 0..3u8 {
             self.add(types.four(4 * i).word);
         }
     }
 
     #[inline(always)]
-    fn add_children(&mut self, seen: &Seen, sets: Sets)
-        requires sets { AreSets (significant seen.now.block.now seen.now.plan.now.plane) sets }
+    fn add_children(&mut self, plane_masks: &PlaneMasks, sets: Sets)
+        requires sets { AreSets (significant plane_masks.now.block.now plane_masks.now.plan.now.plane) sets }
         requires small { AreAtMost self.old (2 ^ 18) }
-        ensures { Counts self.old self.new (children seen.now.block.now seen.now.plan.now.weights.shifts seen.now.plan.now.plane) 4 }
+        ensures { Counts self.old self.new (children plane_masks.now.block.now plane_masks.now.plan.now.weights.shifts plane_masks.now.plan.now.plane) 4 }
     {
-        self.add(seen.flags_of_families());
-        self.add_children_types(seen, sets);
+        self.add(plane_masks.flags_of_families());
+        self.add_children_types(plane_masks, sets);
     }
 
     #[inline(always)]
-    fn add_quads_types(&mut self, seen: &Seen, i: u8)
+    fn add_quads_types(&mut self, plane_masks: &PlaneMasks, i: u8)
         requires family { i < 3 }
         requires small { AreAtMost self.old (2 ^ 19) }
-        ensures { Counts self.old self.new (quads_types seen.now.block.now seen.now.plan.now.weights.shifts seen.now.plan.now.plane i) 4 }
+        ensures { Counts self.old self.new (quads_types plane_masks.now.block.now plane_masks.now.plan.now.weights.shifts plane_masks.now.plan.now.plane i) 4 }
     {
-        let types = seen.types_of_quads(i);
+        let types = plane_masks.types_of_quads(i);
         for j in 0..4u8 {
             self.add(types.four(4 * j).word);
         }
     }
 
     #[inline(always)]
-    fn add_quads(&mut self, seen: &Seen, is_said: bool, i: u8)
+    fn add_quads(&mut self, plane_masks: &PlaneMasks, is_said: bool, i: u8)
         requires family { i < 3 }
-        requires enclosing { is_said ≡ set_significant seen.now.block.now seen.now.plan.now.plane (Grandchildren i) }
+        requires enclosing { is_said ≡ set_significant plane_masks.now.block.now plane_masks.now.plan.now.plane (Grandchildren i) }
         requires small { AreAtMost self.old (2 ^ 18) }
-        ensures { Counts self.old self.new (cond is_said (quads seen.now.block.now seen.now.plan.now.weights.shifts seen.now.plan.now.plane i) []) 5 }
+        ensures { Counts self.old self.new (cond is_said (quads plane_masks.now.block.now plane_masks.now.plan.now.weights.shifts plane_masks.now.plan.now.plane i) []) 5 }
     {
         if !is_said {
             return;
         }
-        self.add(seen.flags_of_quads(i));
-        self.add_quads_types(seen, i);
+        self.add(plane_masks.flags_of_quads(i));
+        self.add_quads_types(plane_masks, i);
     }
 
     #[inline(always)]
-    fn add_all_quads(&mut self, seen: &Seen, sets: Sets)
-        requires sets { AreSets (significant seen.now.block.now seen.now.plan.now.plane) sets }
+    fn add_all_quads(&mut self, plane_masks: &PlaneMasks, sets: Sets)
+        requires sets { AreSets (significant plane_masks.now.block.now plane_masks.now.plan.now.plane) sets }
         requires small { AreAtMost self.old (2 ^ 17) }
-        ensures { Counts self.old self.new (all_quads seen.now.block.now seen.now.plan.now.weights.shifts seen.now.plan.now.plane) 15 }
+        ensures { Counts self.old self.new (all_quads plane_masks.now.block.now plane_masks.now.plan.now.weights.shifts plane_masks.now.plan.now.plane) 15 }
     {
         for i in 0..3u8 {
-            self.add_quads(seen, has(sets.grandchildren, i), i);
+            self.add_quads(plane_masks, has(sets.grandchildren, i), i);
         }
     }
 
     #[inline(always)]
-    fn add_grandchildren(&mut self, seen: &Seen, sets: Sets)
-        requires sets { AreSets (significant seen.now.block.now seen.now.plan.now.plane) sets }
+    fn add_grandchildren(&mut self, plane_masks: &PlaneMasks, sets: Sets)
+        requires sets { AreSets (significant plane_masks.now.block.now plane_masks.now.plan.now.plane) sets }
         requires small { AreAtMost self.old (2 ^ 16) }
-        ensures { Counts self.old self.new (grandchildren seen.now.block.now seen.now.plan.now.weights.shifts seen.now.plan.now.plane) 16 }
+        ensures { Counts self.old self.new (grandchildren plane_masks.now.block.now plane_masks.now.plan.now.weights.shifts plane_masks.now.plan.now.plane) 16 }
     {
-        self.add(seen.flags_of_grandchildren());
-        self.add_all_quads(seen, sets);
+        self.add(plane_masks.flags_of_grandchildren());
+        self.add_all_quads(plane_masks, sets);
     }
 
     // Counts the words of stages 1 to 3 of a block.
-    pub fn add_block(&mut self, seen: &Seen)
+    pub fn add_block(&mut self, plane_masks: &PlaneMasks)
         requires { AreAtMost self.old (2 ^ 15) }
         ensures { Counts self.old self.new
-            (parents seen.now.block.now seen.now.plan.now.weights.shifts seen.now.plan.now.plane ++
-            (children seen.now.block.now seen.now.plan.now.weights.shifts seen.now.plan.now.plane ++
-            grandchildren seen.now.block.now seen.now.plan.now.weights.shifts seen.now.plan.now.plane)) 21 }
+            (parents plane_masks.now.block.now plane_masks.now.plan.now.weights.shifts plane_masks.now.plan.now.plane ++
+            (children plane_masks.now.block.now plane_masks.now.plan.now.weights.shifts plane_masks.now.plan.now.plane ++
+            grandchildren plane_masks.now.block.now plane_masks.now.plan.now.weights.shifts plane_masks.now.plan.now.plane)) 21 }
     {
-        let sets = seen.sets();
-        self.add_parents(seen);
-        self.add_children(seen, sets);
-        self.add_grandchildren(seen, sets);
+        let sets = plane_masks.sets();
+        self.add_parents(plane_masks);
+        self.add_children(plane_masks, sets);
+        self.add_grandchildren(plane_masks, sets);
     }
 
     // How many words of this length have each symbol.

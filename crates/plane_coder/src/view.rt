@@ -4,7 +4,7 @@ ghost use Rattle.std.specs.Prelude.{◌≡◌, ◌+◌, ◌*◌, ◌<◌, ◌≤
 ghost use Rattle.plane_coder.specs.Viewed.{IsView, AreKept};
 
 use crate::masks::Masks;
-use crate::seen::Seen;
+use crate::plane_masks::PlaneMasks;
 use crate::tables::CodeTables;
 use block_masks::CodedPlane;
 
@@ -35,11 +35,11 @@ impl<'a> View<'a> {
 
     // Block r as the plane sees it.
     #[inline(always)]
-    pub fn seen(&self, r: usize) -> Seen<'a>
+    pub fn plane_masks(&self, r: usize) -> PlaneMasks<'a>
         requires { 64 * r + 64 ≤ length self.now.blocks.now }
         ensures block { result.block.now ≡ slice_range self.now.blocks.now (64 * r) (64 * r + 64) }
         ensures plan { result.plan.now ≡ self.now.plan.now }
     {
-        Seen::new(&self.blocks[64 * r..64 * r + 64], self.plan, self.masks(r))
+        PlaneMasks::new(&self.blocks[64 * r..64 * r + 64], self.plan, self.masks(r))
     }
 }

@@ -12,7 +12,7 @@ use Rattle.plane_defs.specs.declared.entries.Entry.TheVariants.{Bit}
 use Rattle.plane_defs.specs.Spans.{span}
 use Rattle.plane_defs.specs.Sets.{magnitude, significant, coded, set_significant, live, enclosing_significant, type_due, flag_due, newly_significant, refined, IsKnown, children_of, grandchildren_of, quad_of}
 use Rattle.plane_defs.specs.Entries.{word, types, flags, negative, twos_bit, significant_families}
-use Rattle.plane_defs.specs.Steps.{Check, free, ones_at, some_one_where, Told, flags_alone, types_at, sign_at, bit_at, Step, step, is_new, is_last_hope, typed_steps, flags_step, dc_steps, parents_steps, descendants_check, children_check, children_types_steps, children_steps, three_grandchildren, grandchildren_check, quads_types_steps, quads_steps, all_quads_steps, grandchildren_steps, refinement_steps}
+use Rattle.plane_defs.specs.Steps.{Check, free, ones_at, some_one_where, Told, flags_alone, types_at, sign_at, bit_at, Step, step, is_new, is_forced, typed_steps, flags_step, dc_steps, parents_steps, descendants_check, children_check, children_types_steps, children_steps, three_grandchildren, grandchildren_check, quads_types_steps, quads_steps, all_quads_steps, grandchildren_steps, refinement_steps}
 use Rattle.plane_defs.specs.Laws.{SameSets, three_families}
 use Rattle.plane_defs.specs.StepLaws.{entry_of, entries_of, SameSteps, IsAc, SameAc, AcsAlike, value_of_entry}
 use Rattle.plane_defs.proofs.Settled.{head_same, tail_same}
@@ -276,13 +276,13 @@ module _ (u v : List ℤ) (weights : List ℕ) (plane : ℕ) (alike : AcsAlike u
         (child_settles 0 (omega arith) f.0 c.0, (child_settles 1 (omega arith) f.1.0 c.1.0, (child_settles 2 (omega arith) f.1.1.0 c.1.1.0, tt)))
 
     hope_same : (i : ℕ) → i < 3 → set_significant u plane (Family i) ≡ set_significant v plane (Family i) → Same u v plane (span (children_of i) 4) →
-        is_last_hope u plane (Grandchildren i) ≡ is_last_hope v plane (Grandchildren i)
-    unfolding is_last_hope
+        is_forced u plane (Grandchildren i) ≡ is_forced v plane (Grandchildren i)
+    unfolding is_forced
     hope_same i known family same =
         ap (λ b. b && not (list_any (significant u plane) (span (children_of i) 4))) (new_same (Family i) known family) ∙
         ap (λ b. is_new v plane (Family i) && not b) (any_equal (significant u plane) (significant v plane) (span (children_of i) 4) same)
 
-    hopes_same : AllByRecursion (λ s. is_last_hope u plane s ≡ is_last_hope v plane s) three_grandchildren
+    hopes_same : AllByRecursion (λ s. is_forced u plane s ≡ is_forced v plane s) three_grandchildren
     unfolding span
     hopes_same =
         let f = families_same in
@@ -303,9 +303,9 @@ module _ (u v : List ℤ) (weights : List ℕ) (plane : ℕ) (alike : AcsAlike u
     grandchildren_check_same =
         let due : filter (flag_due u weights plane) three_grandchildren ≡ filter (flag_due v weights plane) three_grandchildren =
         due_filter u v weights plane alike three_grandchildren known_grandchildren enclosed_grandchildren in
-        ap ones_at (map_equal (is_last_hope u plane) (is_last_hope v plane) (filter (flag_due u weights plane) three_grandchildren)
-        (all_filter (λ s. is_last_hope u plane s ≡ is_last_hope v plane s) (flag_due u weights plane) three_grandchildren hopes_same)
-        ∙ ap (map (is_last_hope v plane)) due)
+        ap ones_at (map_equal (is_forced u plane) (is_forced v plane) (filter (flag_due u weights plane) three_grandchildren)
+        (all_filter (λ s. is_forced u plane s ≡ is_forced v plane s) (flag_due u weights plane) three_grandchildren hopes_same)
+        ∙ ap (map (is_forced v plane)) due)
 
     abbrev quads_in : ℕ → List Set
     quads_in i = Quad i 0 ∷ Quad i 1 ∷ Quad i 2 ∷ Quad i 3 ∷ []

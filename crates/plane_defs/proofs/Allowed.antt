@@ -16,7 +16,7 @@ use Rattle.plane_defs.specs.declared.entries.Entry.TheVariants.{Bit}
 use Rattle.plane_defs.specs.Spans.{span}
 use Rattle.plane_defs.specs.Sets.{significant, coded, set_significant, live, enclosing_significant, type_due, flag_due, newly_significant, refined, IsKnown, children_of, grandchildren_of, quad_of}
 use Rattle.plane_defs.specs.Entries.{types, flags, significant_families}
-use Rattle.plane_defs.specs.Steps.{Check, free, refuses, lacks_one, some_one_where, flags_alone, Step, step, is_new, is_last_hope, typed_steps, dc_steps, parents_steps, children_check, children_steps, three_grandchildren, grandchildren_check, quads_steps, grandchildren_steps, refinement_steps, block_steps}
+use Rattle.plane_defs.specs.Steps.{Check, free, refuses, lacks_one, some_one_where, flags_alone, Step, step, is_new, is_forced, typed_steps, dc_steps, parents_steps, children_check, children_steps, three_grandchildren, grandchildren_check, quads_steps, grandchildren_steps, refinement_steps, block_steps}
 use Rattle.plane_defs.specs.Laws.{IsMultiple, three_families}
 use Rattle.plane_defs.specs.StepLaws.{IsAllowed}
 use Rattle.plane_defs.proofs.Determined.{undue, enclosed}
@@ -179,8 +179,8 @@ module _ (block : List ℤ) (weights : List ℕ) (plane : ℕ) (whole : IsMultip
       let grandchildren = undue block weights plane (Grandchildren i) known whole (dead_undue (Grandchildren i) dead) ∙ no_grandchild_above i known above in
       true_false (sym (here_of_new (Family i) new) ∙ family_of i children grandchildren))
 
-  hope_met : (i : ℕ) → is_last_hope block plane (Grandchildren i) ≡ true → set_significant block plane (Grandchildren i) ≡ true
-  unfolding is_last_hope
+  hope_met : (i : ℕ) → is_forced block plane (Grandchildren i) ≡ true → set_significant block plane (Grandchildren i) ≡ true
+  unfolding is_forced
   hope_met i h =
       let new : is_new block plane (Family i) ≡ true = (and_parts _ _ h).0 in
       let children : list_any (significant block plane) (span (children_of i) 4) ≡ false = not_false _ (and_parts (is_new block plane (Family i)) _ h).1 in
@@ -194,12 +194,12 @@ module _ (block : List ℤ) (weights : List ℕ) (plane : ℕ) (whole : IsMultip
   grandchildren_allowed : refuses (grandchildren_check block weights plane three_grandchildren) (value_of (flags block weights plane three_grandchildren)) ≡ false
   grandchildren_allowed =
       let due = filter (flag_due block weights plane) three_grandchildren in
-      let wants = map (is_last_hope block plane) due in
+      let wants = map (is_forced block plane) due in
       let bits = flags block weights plane three_grandchildren in
-      let long : length wants ≡ length bits = length-map due (is_last_hope block plane) ∙ sym (length-map due (set_significant block plane)) in
+      let long : length wants ≡ length bits = length-map due (is_forced block plane) ∙ sym (length-map due (set_significant block plane)) in
       ap (λ n. lacks_one wants (bits_of n (value_of bits))) long ∙ ap (lacks_one wants) (bits_of-value_of bits)
-      ∙ lacks_none (is_last_hope block plane) (set_significant block plane) due
-      (all_filter (λ s. is_last_hope block plane s ≡ true → set_significant block plane s ≡ true) (flag_due block weights plane) three_grandchildren (hope_met 0, (hope_met 1, (hope_met 2, tt))))
+      ∙ lacks_none (is_forced block plane) (set_significant block plane) due
+      (all_filter (λ s. is_forced block plane s ≡ true → set_significant block plane s ≡ true) (flag_due block weights plane) three_grandchildren (hope_met 0, (hope_met 1, (hope_met 2, tt))))
 
   -- ---- 4 and 5: a new set of grandchildren has one
 

@@ -96,16 +96,16 @@ children_steps block weights plane =
 -- ---- stage 3: a new family without a child has a grandchild; so has a new set of grandchildren
 
 -- the grandchildren of a new family of which no child is significant
-unfoldable pub is_last_hope : List ℤ → ℕ → Set → Bool
-is_last_hope block plane Descendants = false
-is_last_hope block plane (Family i) = false
-is_last_hope block plane (Grandchildren i) =
+unfoldable pub is_forced : List ℤ → ℕ → Set → Bool
+is_forced block plane Descendants = false
+is_forced block plane (Family i) = false
+is_forced block plane (Grandchildren i) =
     is_new block plane (Family i) && not (list_any (significant block plane) (span (children_of i) 4))
-is_last_hope block plane (Quad i j) = false
+is_forced block plane (Quad i j) = false
 
 abbrev pub grandchildren_check : List ℤ → List ℕ → ℕ → List Set → Check
 grandchildren_check block weights plane sets =
-    ones_at (map (is_last_hope block plane) (filter (flag_due block weights plane) sets))
+    ones_at (map (is_forced block plane) (filter (flag_due block weights plane) sets))
 
 abbrev pub quads_types_steps : List ℤ → List ℕ → ℕ → ℕ → List Step
 quads_types_steps block weights plane i =

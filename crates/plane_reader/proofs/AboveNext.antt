@@ -11,7 +11,7 @@ use Rattle.block_masks.proofs.Marking.{length-depths_of}
 use Rattle.plane_reader.specs.declared.found.Found.{Found}
 use Rattle.plane_reader.specs.Taken.{IsCleared, AwaitPlane}
 use Rattle.plane_reader.specs.Above.{AreSignificant}
-use Rattle.plane_reader.specs.Shown.{nothing, shown, KeepsAcs}
+use Rattle.plane_reader.specs.BlocksShown.{nothing, shown, KeepsAcs}
 use Rattle.plane_reader.proofs.ToldNumbers.{reach_here, reach_still}
 use Rattle.plane_reader.proofs.ShownNumbers.{block_reaches}
 use Rattle.plane_reader.proofs.ShownBlocks.{shown_long, block_shown}

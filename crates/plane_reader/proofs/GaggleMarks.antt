@@ -11,7 +11,7 @@ use Rattle.plane_texts.proofs.SmallFacts.{itself, not_equal}
 use Rattle.block_masks.specs.declared.gaggle.Gaggle.{Gaggle}
 use Rattle.block_masks.specs.Gaggles.{AreOptions, options_in, sent_in}
 use Rattle.block_masks.proofs.Marking.{same_or_other}
-use Rattle.plane_reader.specs.Shown.{SameAcs, KeepsAcs}
+use Rattle.plane_reader.specs.BlocksShown.{SameAcs, KeepsAcs}
 use Rattle.plane_reader.specs.Progress.{kept, with_one, KeepsGaggles, IsClear, Clears}
 
 -- ---- gaggles

@@ -23,16 +23,16 @@ use Rattle.plane_reader.specs.Stages.{StandsBefore, StageTaken}
 use Rattle.plane_reader.specs.Terms.{IsFrame}
 use Rattle.plane_reader.specs.Above.{KeepsAbove}
 use Rattle.plane_reader.specs.declared.found.Found.{Found}
-use Rattle.plane_reader.specs.Shown.{nothing, shown_block, shown}
-use Rattle.plane_reader.specs.Progress.{Start, IsStart, frame_of, Held, held, kept, with_one, Progress, GoesOn, Stops, Leaves, Reaches, Advances, KeepsGaggles}
+use Rattle.plane_reader.specs.BlocksShown.{nothing, shown_block, shown}
+use Rattle.plane_reader.specs.Progress.{Start, IsStart, frame_of, Held, held, kept, with_one, Progress, Continues, Stops, Leaves, Reaches, Advances, KeepsGaggles}
 use Rattle.plane_reader.proofs.PlaneSteps.{ReadsBlock, block_further, gaggle_further}
 use Rattle.plane_reader.proofs.PlaneStop.{plane_cut}
 use Rattle.plane_reader.proofs.ShownBlocks.{shown_long, block_shown, shown_alike}
 use Rattle.plane_reader.proofs.GaggleMarks.{one_there, one_other, kept_same, block_put, blocks_stay, put_long}
 
 -- what was read up to some place goes on from there
-pub goes_to : {I : Type 0} {source : SourceOf I} {book : Book} {plan : CodedPlane} {above : List ℕ} {k g c stage gaggle block : ℕ} {old new : Held I} → GoesOn source book plan above k g c old →
-    Reaches source book plan above k g c stage gaggle block old new → GoesOn source book plan above stage gaggle block new
+pub goes_to : {I : Type 0} {source : SourceOf I} {book : Book} {plan : CodedPlane} {above : List ℕ} {k g c stage gaggle block : ℕ} {old new : Held I} → Continues source book plan above k g c old →
+    Reaches source book plan above k g c stage gaggle block old new → Continues source book plan above stage gaggle block new
 goes_to goes reaches = record { start = goes.start; from = goes.from; is_start = goes.is_start; so_far = reaches.so_far goes.start goes.from goes.is_start goes.so_far }
 
 pub reaches_none : {I : Type 0} {source : SourceOf I} {book : Book} {plan : CodedPlane} {above : List ℕ} {k g c : ℕ} (now : Held I) → Reaches source book plan above k g c k g c now now
@@ -40,11 +40,11 @@ reaches_none now = record { so_far = λ s from start p. p }
 
 -- ---- what a call for a block may use
 
-pub goes_in : {I : Type 0} {source : SourceOf I} {book : Book} {plan : CodedPlane} {above : List ℕ} {k g c : ℕ} {now : Held I} → GoesOn source book plan above k g c now → IsIn now.input
+pub goes_in : {I : Type 0} {source : SourceOf I} {book : Book} {plan : CodedPlane} {above : List ℕ} {k g c : ℕ} {now : Held I} → Continues source book plan above k g c now → IsIn now.input
 goes_in goes = goes.so_far.is_in
 
 pub goes_known : {I : Type 0} {source : SourceOf I} {book : Book} {plan : CodedPlane} {above : List ℕ} {k g c : ℕ} (h : ℕ) (marks blocks : List ℤ) (x : Gaggle) (input : Coming I) →
-    GoesOn source book plan above k g c (held (with_one (kept marks) h x) marks blocks input) → AreOptions x.options
+    Continues source book plan above k g c (held (with_one (kept marks) h x) marks blocks input) → AreOptions x.options
 goes_known h marks blocks x input goes = subst (λ y. AreOptions y.options) (one_there (kept marks) h x) (goes.so_far.known h)
 
 -- a call changed block r in the slices, and what waits for it

@@ -9,7 +9,7 @@ use Rattle.plane_defs.specs.declared.sets.Set.TheVariants.{Family, Grandchildren
 use Rattle.plane_defs.specs.Spans.{span}
 use Rattle.plane_defs.specs.Sets.{significant, coded, set_significant, live, enclosing_significant, flag_due, children_of}
 use Rattle.plane_defs.specs.Entries.{word, flags}
-use Rattle.plane_defs.specs.Steps.{ones_at, flags_alone, is_last_hope, Step, step, three_grandchildren, grandchildren_check, all_quads_steps, grandchildren_steps}
+use Rattle.plane_defs.specs.Steps.{ones_at, flags_alone, is_forced, Step, step, three_grandchildren, grandchildren_check, all_quads_steps, grandchildren_steps}
 use Rattle.plane_defs.proofs.Above.{all_span, any_alike}
 use Rattle.block_masks.specs.declared.plan.CodedPlane.{CodedPlane}
 use Rattle.block_masks.specs.declared.sets.Sets.{Sets}
@@ -66,8 +66,8 @@ module _ {f : Frame} {stage : ℕ} {earlier : ℕ → List Step} {done : List St
     unfolding enclosing_significant
     due_is i lt = flag_is f v s.candidate (Grandchildren i) lt ∙ ap (λ t. (not (sixteen_above i) && live f.weights f.plane (Grandchildren i)) && t) (sym (at_zero (next.families_are v s) i lt))
 
-    hope_is : (i : ℕ) → i < 3 → is_last_hope v f.plane (Grandchildren i) ≡ last_hope i
-    unfolding is_last_hope
+    hope_is : (i : ℕ) → i < 3 → is_forced v f.plane (Grandchildren i) ≡ last_hope i
+    unfolding is_forced
     hope_is i lt =
         ap (λ t. t && not (list_any (significant v f.plane) (span (children_of i) 4))) (new_is f v s.candidate (Family i) lt)
         ∙ by_family (set_significant v f.plane (Family i)) refl
@@ -98,9 +98,9 @@ module _ {f : Frame} {stage : ℕ} {earlier : ℕ → List Step} {done : List St
 
     check_is : grandchildren_check v f.weights f.plane three_grandchildren ≡ wanted_ones sixteen_due last_hope 0 3
     check_is =
-        ap (λ l. ones_at (map (is_last_hope v f.plane) (filter (flag_due v f.weights f.plane) l))) three_grandchildren_are
-        ∙ ap ones_at (chosen_same Grandchildren (is_last_hope v f.plane) (flag_due v f.weights f.plane) last_hope sixteen_due (span 0 3)
-        (all_span (λ i. (flag_due v f.weights f.plane (Grandchildren i) ≡ sixteen_due i) × (is_last_hope v f.plane (Grandchildren i) ≡ last_hope i)) 0 3 (λ i low high. let lt : i < 3 = omega arith in (due_is i lt, hope_is i lt))))
+        ap (λ l. ones_at (map (is_forced v f.plane) (filter (flag_due v f.weights f.plane) l))) three_grandchildren_are
+        ∙ ap ones_at (chosen_same Grandchildren (is_forced v f.plane) (flag_due v f.weights f.plane) last_hope sixteen_due (span 0 3)
+        (all_span (λ i. (flag_due v f.weights f.plane (Grandchildren i) ≡ sixteen_due i) × (is_forced v f.plane (Grandchildren i) ≡ last_hope i)) 0 3 (λ i low high. let lt : i < 3 = omega arith in (due_is i lt, hope_is i lt))))
 
     parts : grandchildren_steps v f.weights f.plane ≡ word_of v ++ types_of v
     parts =

@@ -9,7 +9,7 @@ use Rattle.bit_pipe.specs.declared.fault.Part.TheVariants.{Whole}
 use Rattle.bit_pipe.specs.Sources.{SourceOf}
 use Rattle.bit_pipe.specs.Coming.{Coming, IsIn}
 use Rattle.plane_reader.specs.declared.found.Found.{Found}
-use Rattle.plane_reader.specs.Shown.{nothing, shown}
+use Rattle.plane_reader.specs.BlocksShown.{nothing, shown}
 use Rattle.plane_reader.specs.Above.{AreSignificant}
 use Rattle.plane_reader.specs.Taken.{AwaitPlane, TakesPlane}
 use Rattle.plane_reader.specs.Progress.{Start, start_of, IsStart, Held, held, kept, Progress, Clears}

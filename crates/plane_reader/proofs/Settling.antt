@@ -9,7 +9,7 @@ use Rattle.plane_defs.specs.Sets.{magnitude}
 use Rattle.plane_defs.specs.StepLaws.{IsAc}
 use Rattle.plane_reader.specs.declared.found.Found.{Found}
 use Rattle.plane_reader.specs.Applied.{Applies}
-use Rattle.plane_reader.specs.Shown.{nothing, shown_block, shown}
+use Rattle.plane_reader.specs.BlocksShown.{nothing, shown_block, shown}
 use Rattle.plane_reader.proofs.GaggleMarks.{block_put, blocks_stay, put_long}
 use Rattle.plane_reader.proofs.ShownNumbers.{number_told, number_stays, block_long, block_number, block_dc, block_shows_own}
 use Rattle.plane_reader.proofs.ShownBlocks.{long_block, number_there, shown_long, block_shown}

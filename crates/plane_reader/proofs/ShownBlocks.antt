@@ -9,7 +9,7 @@ use Rattle.plane_reader.specs.declared.found.Found.{Found}
 use Rattle.plane_defs.specs.Steps.{Step}
 use Rattle.plane_reader.specs.Frames.{Frame}
 use Rattle.plane_reader.specs.Stages.{StandsBefore}
-use Rattle.plane_reader.specs.Shown.{nothing, shown_number, shown_block, shown}
+use Rattle.plane_reader.specs.BlocksShown.{nothing, shown_number, shown_block, shown}
 use Rattle.plane_reader.proofs.ShownNumbers.{number_stays, none_waits, block_long, block_number, block_shows_own}
 
 pub long_block : (blocks : List ℤ) (r : ℕ) → 64 * r + 64 ≤ length blocks → length (block_at blocks r) ≡ 64

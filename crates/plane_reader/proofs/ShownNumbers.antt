@@ -16,7 +16,7 @@ use Rattle.block_masks.proofs.Viewing.{reached_is}
 use Rattle.plane_reader.specs.declared.found.Found.{Found}
 use Rattle.plane_reader.specs.Taken.{IsCleared}
 use Rattle.plane_reader.specs.Applied.{Applies, AddsDc}
-use Rattle.plane_reader.specs.Shown.{nothing, shown_number, shown_block, Joins}
+use Rattle.plane_reader.specs.BlocksShown.{nothing, shown_number, shown_block, Joins}
 use Rattle.plane_reader.proofs.BitsTwice.{has_bit, bit_twice}
 
 -- what a mask shows stands at its own positions

@@ -25,9 +25,9 @@ use Rattle.bit_pipe.specs.Windows.{first_of}
 use Rattle.bit_pipe.proofs.OneItem.{one_whole}
 use Rattle.bit_pipe.proofs.Taking.{in_later, takes_start}
 use Rattle.plane_reader.specs.declared.found.Found.{Found}
-use Rattle.plane_reader.specs.declared.hand.Types.{Types}
+use Rattle.plane_reader.specs.declared.window.Types.{Types}
 use Rattle.plane_reader.specs.Frames.{Frame, TypesNext}
-use Rattle.plane_reader.specs.Hand.{IsWordIn, AreTypesIn}
+use Rattle.plane_reader.specs.Window.{IsWordIn, AreTypesIn}
 use Rattle.plane_reader.specs.Pieces.{FoundPiece, Anything, TakesWord}
 use Rattle.block_masks.specs.Places.{inside}
 use Rattle.plane_reader.specs.Shadows.{told, shadow}

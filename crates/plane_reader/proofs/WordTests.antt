@@ -150,24 +150,24 @@ beside_as true false true = refl
 beside_as true false false = refl
 beside_as false h w = refl
 
-module _ {I : Type 0} {k : SourceOf I} {book : Book} {mask : ℕ} {g h : Gaggle} {a b : Coming I} {f : Frame} {stage : ℕ} {earlier : ℕ → List Step} {done : List Step} {tells : Told} {start count : ℕ} {due : ℕ → Bool} {so : List ℤ → ℕ → Bool} {after : List ℤ → List Step} (hope : ℕ → Bool)
-    (next : WordNext f stage earlier done (wanted_ones due hope start count) tells start count mask due so after) (places : ℕ) (d : TakesDue k book mask (Ok (Some places)) g h a b) where
+module _ {I : Type 0} {k : SourceOf I} {book : Book} {mask : ℕ} {g h : Gaggle} {a b : Coming I} {f : Frame} {stage : ℕ} {earlier : ℕ → List Step} {done : List Step} {tells : Told} {start count : ℕ} {due : ℕ → Bool} {so : List ℤ → ℕ → Bool} {after : List ℤ → List Step} (forced : ℕ → Bool)
+    (next : WordNext f stage earlier done (wanted_ones due forced start count) tells start count mask due so after) (places : ℕ) (d : TakesDue k book mask (Ok (Some places)) g h a b) where
   abbrev here : ℕ → Bool
   here p = bit d.places (p - start)
 
-  word_bits : bits_of (length (map hope (filter due (span start count)))) d.word.value ≡ map here (filter due (span start count))
+  word_bits : bits_of (length (map forced (filter due (span start count)))) d.word.value ≡ map here (filter due (span start count))
   word_bits =
-      ap (λ n. bits_of n d.word.value) (sym (ones_of mask start count hope due next.few next.shown) ∙ ones_of mask start count here due next.few next.shown)
+      ap (λ n. bits_of n d.word.value) (sym (ones_of mask start count forced due next.few next.shown) ∙ ones_of mask start count here due next.few next.shown)
       ∙ ap (bits_of (length (map here (filter due (span start count))))) (sym (d.back due start count next.few next.shown))
       ∙ bits_of-value_of (map here (filter due (span start count)))
 
   abbrev pub beside_places : ℕ → Bool
-  beside_places p = not (due p && here p) && (due p && hope p)
+  beside_places p = not (due p && here p) && (due p && forced p)
 
-  pub wanted_test : refuses (wanted_ones due hope start count) d.word.value ≡ list_any beside_places (span start count)
+  pub wanted_test : refuses (wanted_ones due forced start count) d.word.value ≡ list_any beside_places (span start count)
   wanted_test =
-      ap (lacks_one (map hope (filter due (span start count)))) word_bits ∙ lacks_any hope here (filter due (span start count)) ∙ any_filter (λ p. hope p && not (here p)) due (span start count)
-      ∙ any_same (λ p. due p && (hope p && not (here p))) beside_places (λ p. beside_as (due p) (here p) (hope p)) (span start count)
+      ap (lacks_one (map forced (filter due (span start count)))) word_bits ∙ lacks_any forced here (filter due (span start count)) ∙ any_filter (λ p. forced p && not (here p)) due (span start count)
+      ∙ any_same (λ p. due p && (forced p && not (here p))) beside_places (λ p. beside_as (due p) (here p) (forced p)) (span start count)
 
   pub shown_here : Shows places (λ p. due p && here p) start count
   shown_here = subst (λ m. Shows m (λ p. due p && here p) start count) (sym (one_given d.places places d.word.ending d.answer).1) (d.shown here due start count next.few next.shown (d.back due start count next.few next.shown))

@@ -9,9 +9,9 @@ pub mod Progress
 pub mod Children
 pub mod Refining
 pub mod Applied
-pub mod Shown
+pub mod BlocksShown
 pub mod Grandchildren
 pub mod Blocks
-pub mod Hand
+pub mod Window
 pub mod Groups
 pub mod Shadows

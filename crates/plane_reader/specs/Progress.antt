@@ -101,7 +101,7 @@ pub record Progress {I : Type 0} (source : SourceOf I) (book : Book) (s : Start)
   pub is_in : IsIn now.input
 
 -- some plane was read up to there
-pub record GoesOn {I : Type 0} (source : SourceOf I) (book : Book) (plan : CodedPlane) (above : List ℕ) (k g c : ℕ) (now : Held I) : Type 0 where
+pub record Continues {I : Type 0} (source : SourceOf I) (book : Book) (plan : CodedPlane) (above : List ℕ) (k g c : ℕ) (now : Held I) : Type 0 where
   pub start : Start
   pub from : Coming I
   pub is_start : IsStart start plan above

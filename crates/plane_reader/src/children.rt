@@ -14,10 +14,10 @@ ghost use Rattle.plane_reader.specs.Children.{descendants_steps, DescendantsNext
 use crate::found::Found;
 use crate::groups::{Groups, take_groups};
 use crate::stages::Terms;
-use crate::types::take_some;
+use crate::types::take_some_types;
 use crate::word::take_flag;
 use bit_pipe::{BitIn, OctetIn, TextFault};
-use block_masks::{Gaggle, Sets, beside, either, masked};
+use block_masks::{Gaggle, Sets, except, either, masked};
 
 // Whether all descendants are significant: their flag, where it is due.
 fn take_descendants<I: OctetIn>(
@@ -67,9 +67,9 @@ pub(crate) fn take_children<I: OctetIn>(
     let Some(all) = take_descendants(input, plan.live.descendants, before.descendants)? else {
         return Ok(None);
     };
-    let due = masked(beside(before.families, plan.live.families), all);
+    let due = masked(except(before.families, plan.live.families), all);
     let is_wanted = is_new(all, before.descendants);
-    let Some(new) = take_some(input, terms.tables, gaggle, due, is_wanted)? else {
+    let Some(new) = take_some_types(input, terms.tables, gaggle, due, is_wanted)? else {
         return Ok(None);
     };
     let families = either(before.families, new);
@@ -77,9 +77,9 @@ pub(crate) fn take_children<I: OctetIn>(
         first: 4,
         count: 3,
         now: families,
-        wanted: beside(plan.live.grandchildren, new),
+        wanted: except(plan.live.grandchildren, new),
     };
-    let types = beside(above, plan.coded);
+    let types = except(above, plan.coded);
     let Some(()) = take_groups(input, terms.tables, gaggle, found, types, groups)? else {
         return Ok(None);
     };

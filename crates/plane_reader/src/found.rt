@@ -4,7 +4,7 @@ ghost use Rattle.std.specs.Prelude.{◌≡◌, ◌+◌, ◌-◌, ◌≤◌, ◌<
 ghost use Rattle.item_defs.specs.Bits.{bit as bit_in};
 ghost use Rattle.block_masks.specs.Masks.{Shows};
 ghost use Rattle.block_masks.specs.Places.{inside};
-ghost use Rattle.plane_reader.specs.Shown.{Joins};
+ghost use Rattle.plane_reader.specs.BlocksShown.{Joins};
 
 use block_masks::{both, either, joined};
 

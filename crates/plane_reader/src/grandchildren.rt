@@ -13,9 +13,9 @@ ghost use Rattle.plane_reader.specs.Grandchildren.{QuadsNext, AllQuadsNext, Gran
 use crate::found::Found;
 use crate::groups::{Groups, take_groups};
 use crate::stages::Terms;
-use crate::types::{take_some, take_wanted};
+use crate::types::{take_some_types, take_wanted};
 use bit_pipe::{BitIn, OctetIn, TextFault};
-use block_masks::{Gaggle, Sets, beside, both, either, has, is_any_of, quads_of, three};
+use block_masks::{Gaggle, Sets, except, both, either, has, is_any_of, quads_of, three};
 
 // Takes what the significant set of sixteen grandchildren in a family sends; it is new or was significant above.
 fn take_quads<I: OctetIn>(
@@ -38,8 +38,8 @@ fn take_quads<I: OctetIn>(
     ensures is_in { OnSome result (IsIn (coming input.new)) }
 {
     let before = quads_of(above, family);
-    let due = beside(before, terms.plan.live_quads[family as usize]);
-    let Some(new) = take_some(input, terms.tables, gaggle, due, is_new)? else {
+    let due = except(before, terms.plan.live_quads[family as usize]);
+    let Some(new) = take_some_types(input, terms.tables, gaggle, due, is_new)? else {
         return Ok(None);
     };
     let groups = Groups {
@@ -48,7 +48,7 @@ fn take_quads<I: OctetIn>(
         now: either(before, new),
         wanted: new,
     };
-    let types = beside(above, terms.plan.coded);
+    let types = except(above, terms.plan.coded);
     take_groups(input, terms.tables, gaggle, found, types, groups)
 }
 
@@ -115,11 +115,11 @@ pub(crate) fn take_grandchildren<I: OctetIn>(
 {
     let before = Sets::of(above);
     let due = both(
-        beside(before.grandchildren, terms.plan.live.grandchildren),
+        except(before.grandchildren, terms.plan.live.grandchildren),
         families,
     );
-    let hope = both(beside(before.families, families), without_child(now));
-    let Some(new) = take_wanted(input, terms.tables, gaggle, due, both(due, hope))? else {
+    let forced = both(except(before.families, families), without_child(now));
+    let Some(new) = take_wanted(input, terms.tables, gaggle, due, both(due, forced))? else {
         return Ok(None);
     };
     let sixteens = either(before.grandchildren, new);

@@ -14,10 +14,10 @@ ghost use Rattle.plane_reader.specs.declared.found.Found.{Found as FoundValue};
 ghost use Rattle.block_masks.specs.declared.gaggle.Gaggle.{Gaggle as GaggleValue};
 
 use crate::found::Found;
-use crate::hand::types_in;
+use crate::window::types_in;
 use crate::types::{Group, take_types};
 use bit_pipe::{BitIn, OctetIn, TextFault};
-use block_masks::{Gaggle, first_in, has, part, part_first, without};
+use block_masks::{Gaggle, first_in, has, part, split_lowest, without};
 use word_codes::WordTables;
 
 // Groups of four positions from `first` on: those whose types are sent, and those of which one type at least must be 1.
@@ -76,7 +76,7 @@ fn groups_in(
         };
         read.found.add_bits(types.new, start);
         read.found.add_minus(types.minus, start);
-        read.left = part_first(read.left).others;
+        read.left = split_lowest(read.left).others;
         read.len += types.len;
         rest <<= types.len;
     }
@@ -85,7 +85,7 @@ fn groups_in(
 
 // Takes what stands at hand of the groups of which these are left, and answers those that are left then.
 #[inline(always)]
-fn take_at_hand<I: OctetIn>(
+fn take_from_window<I: OctetIn>(
     input: &mut BitIn<I>,
     tables: &WordTables,
     gaggle: &Gaggle,
@@ -135,7 +135,7 @@ pub(crate) fn take_groups<I: OctetIn>(
     ensures options { AreOptions gaggle.new.options }
     ensures is_in { OnSome result (IsIn (coming input.new)) }
 {
-    let mut left = take_at_hand(input, tables, gaggle, found, due, groups, groups.now);
+    let mut left = take_from_window(input, tables, gaggle, found, due, groups, groups.now);
     while left != 0 {
         let j = first_in(left);
         let group = Group {
@@ -146,7 +146,7 @@ pub(crate) fn take_groups<I: OctetIn>(
         let Some(()) = take_types(input, tables, gaggle, found, due, group)? else {
             return Ok(None);
         };
-        left = take_at_hand(input, tables, gaggle, found, due, groups, without(left, j));
+        left = take_from_window(input, tables, gaggle, found, due, groups, without(left, j));
     }
     Ok(Some(()))
 }

@@ -14,7 +14,7 @@ mod children;
 mod found;
 mod grandchildren;
 mod groups;
-mod hand;
+mod window;
 mod plane;
 mod refine;
 mod stages;

@@ -4,10 +4,10 @@ ghost use Rattle.std.specs.Prelude.{◌≡◌, ◌+◌, ◌*◌, ◌≤◌, ◌<
 ghost use Rattle.bit_pipe.specs.Coming.{coming, IsIn};
 ghost use Rattle.plane_defs.specs.Codes.{is_book_sound};
 ghost use Rattle.plane_defs.specs.Marks.{depths_of};
-ghost use Rattle.plane_reader.specs.Progress.{held, kept, with_one, GoesOn, Advances, KeepsGaggles, Clears};
+ghost use Rattle.plane_reader.specs.Progress.{held, kept, with_one, Continues, Advances, KeepsGaggles, Clears};
 ghost use lib.ListN.{get_or};
 ghost use Rattle.plane_reader.specs.Above.{AreSignificant};
-ghost use Rattle.plane_reader.specs.Shown.{nothing, shown, KeepsAcs};
+ghost use Rattle.plane_reader.specs.BlocksShown.{nothing, shown, KeepsAcs};
 ghost use Rattle.plane_reader.specs.Taken.{AwaitPlane, TakesPlane};
 
 use crate::above::all_significant;
@@ -36,7 +36,7 @@ fn clear(marks: &mut [i32])
 }
 
 // Takes a stage of gaggle g.
-fn take_gaggle<I: OctetIn>(
+fn take_gaggle_stage<I: OctetIn>(
     input: &mut BitIn<I>,
     terms: &Terms,
     gaggle: &mut Gaggle,
@@ -46,7 +46,7 @@ fn take_gaggle<I: OctetIn>(
     waiting: &mut [Found; KEPT],
     g: usize,
 ) -> Result<Part, TextFault>
-    requires goes { GoesOn I.source terms.now.tables.now.book terms.now.plan.now terms.now.above.now number g 0 (held (with_one (kept marks.old) g gaggle.old) marks.old (shown terms.now.plan.now.plane waiting.old blocks.old) (coming input.old)) }
+    requires goes { Continues I.source terms.now.tables.now.book terms.now.plan.now terms.now.above.now number g 0 (held (with_one (kept marks.old) g gaggle.old) marks.old (shown terms.now.plan.now.plane waiting.old blocks.old) (coming input.old)) }
     requires number { number < 5 }
     requires whole { length blocks.old ≡ 64 * length marks.old }
     requires within { 16 * g < length marks.old }
@@ -76,7 +76,7 @@ fn take_stage<I: OctetIn>(
     marks: &mut [i32],
     waiting: &mut [Found; KEPT],
 ) -> Result<Part, TextFault>
-    requires goes { GoesOn I.source terms.now.tables.now.book terms.now.plan.now terms.now.above.now number 0 0 (held (kept marks.old) marks.old (shown terms.now.plan.now.plane waiting.old blocks.old) (coming input.old)) }
+    requires goes { Continues I.source terms.now.tables.now.book terms.now.plan.now terms.now.above.now number 0 0 (held (kept marks.old) marks.old (shown terms.now.plan.now.plane waiting.old blocks.old) (coming input.old)) }
     requires number { number < 5 }
     requires whole { length blocks.old ≡ 64 * length marks.old }
     ensures advances { Advances I.source terms.now.tables.now.book terms.now.plan.now terms.now.above.now number 0 (number + 1) 0 result
@@ -87,7 +87,7 @@ fn take_stage<I: OctetIn>(
 {
     for g in 0..marks.len().div_ceil(GAGGLE) {
         let mut gaggle = load(marks, g);
-        let Part::Whole = take_gaggle(input, terms, &mut gaggle, number, blocks, marks, waiting, g)?
+        let Part::Whole = take_gaggle_stage(input, terms, &mut gaggle, number, blocks, marks, waiting, g)?
         else {
             return Ok(Part::Ended);
         };
@@ -97,7 +97,7 @@ fn take_stage<I: OctetIn>(
 }
 
 // Takes the stages of a plane up to the last one that is sent.
-fn take_stages<I: OctetIn>(
+fn take_plane_stages<I: OctetIn>(
     input: &mut BitIn<I>,
     terms: &Terms,
     last: u8,
@@ -169,7 +169,7 @@ pub fn take_plane_with<I: OctetIn>(
         tables,
         above,
     };
-    let read = take_stages(input, &terms, plan.last, blocks, marks, &mut waiting);
+    let read = take_plane_stages(input, &terms, plan.last, blocks, marks, &mut waiting);
     settle(&waiting, plan.plane, blocks, above);
     read
 }

@@ -14,7 +14,7 @@ ghost use Rattle.plane_reader.specs.Refining.{IsFront, Deals, RefinementNext, Dc
 use crate::found::Found;
 use crate::word::take_flag;
 use bit_pipe::{BitIn, OctetIn, TextFault};
-use block_masks::{CodedPlane, beside, either, first_in, has, masked, one, part_first, without};
+use block_masks::{CodedPlane, except, either, first_in, has, masked, one, split_lowest, without};
 
 // Those of a mask's positions that a window serves for sure: all, or where these are more than 56, those among the first 56.
 #[inline(always)]
@@ -50,14 +50,14 @@ fn deal(mask: u64, window: u64) -> Dealt
     let mut left = here;
     let mut rest = window;
     while left != 0 {
-        let parts = part_first(left);
+        let parts = split_lowest(left);
         bits = either(bits, masked(parts.first, has(rest, 63)));
         left = parts.others;
         rest <<= 1;
     }
     Dealt {
         bits,
-        left: beside(here, mask),
+        left: except(here, mask),
         count: here.count_ones() as u8,
     }
 }

@@ -17,7 +17,7 @@ ghost use Rattle.plane_reader.specs.Stages.{StandsBefore, StageTaken};
 ghost use Rattle.plane_reader.specs.Terms.{IsFrame};
 ghost use lib.ListN.{get_or};
 ghost use Rattle.plane_reader.specs.Above.{IsAbove, KeepsAbove};
-ghost use Rattle.plane_reader.specs.Shown.{nothing, shown_block, SameAcs};
+ghost use Rattle.plane_reader.specs.BlocksShown.{nothing, shown_block, SameAcs};
 
 use crate::above::mask_above;
 use crate::apply::add_dc;
@@ -26,9 +26,9 @@ use crate::found::Found;
 use crate::grandchildren::take_grandchildren;
 use crate::refine::{take_dc_bit, take_refinement};
 use crate::types::{Group, take_types};
-use crate::waiting::{KEPT, first_reaching, put_by, waits_for};
+use crate::waiting::{KEPT, first_reaching, defer, deferred_for};
 use bit_pipe::{BitIn, OctetIn, Part, TextFault};
-use block_masks::{CodedPlane, Gaggle, beside, both, depth_of, families_of, with_families};
+use block_masks::{CodedPlane, Gaggle, except, both, depth_of, families_of, with_families};
 use word_codes::WordTables;
 
 // A plane, the codes of its words, and for the first blocks which of their numbers are significant above it.
@@ -67,7 +67,7 @@ fn take_parents<I: OctetIn>(
         count: 3,
         is_wanted: false,
     };
-    let due = beside(above, terms.plan.coded);
+    let due = except(above, terms.plan.coded);
     take_types(input, terms.tables, gaggle, found, due, group)
 }
 
@@ -195,10 +195,10 @@ fn take_deep<I: OctetIn>(
     let mut found = Found::NOTHING;
     let seen = Seen {
         above: mask_above(terms, r, block),
-        waits: waits_for(waiting, r),
+        waits: deferred_for(waiting, r),
     };
     let read = take_words(input, terms, gaggle, &mut found, number, mark, seen, block);
-    put_by(waiting, r, found, terms.plan.plane, block);
+    defer(waiting, r, found, terms.plan.plane, block);
     Ok(part_of(read?))
 }
 

@@ -13,15 +13,15 @@ ghost use Rattle.plane_reader.specs.Frames.{Frame, wanted_ones, sign_steps, Word
 ghost use Rattle.plane_reader.specs.Pieces.{TakesPlaces, FoundPiece, Anything, ArePlaces, OnSome};
 
 use crate::found::Found;
-use crate::hand::types_in;
+use crate::window::types_in;
 use crate::word::{count_of, take_due, take_flag};
 use bit_pipe::{BitIn, OctetIn, TextFault};
-use block_masks::{Gaggle, beside, first_in, is_any, one, part, spread, without};
+use block_masks::{Gaggle, except, first_in, is_any, one, part, spread, without};
 use word_codes::WordTables;
 
 // Takes the word of some due places, of which one at least must be 1 where that is wanted.
 #[inline(always)]
-pub(crate) fn take_some<I: OctetIn>(
+pub(crate) fn take_some_types<I: OctetIn>(
     input: &mut BitIn<I>,
     tables: &WordTables,
     gaggle: &mut Gaggle,
@@ -58,9 +58,9 @@ pub(crate) fn take_wanted<I: OctetIn>(
     requires open { IsIn (coming input.old) }
     requires due { due < 16 }
     requires known { AreOptions gaggle.old.options }
-    ensures places { (f : Frame) (stage : ℕ) (earlier : ℕ → List Step) (done : List Step) (tells : Told) (start count : ℕ) (g hope : ℕ → Bool) (so : List ℤ → ℕ → Bool) (after : List ℤ → List Step) →
-        Shows wanted (λ p. g p && hope p) start count → WordNext f stage earlier done (wanted_ones g hope start count) tells start count due g so after →
-        TakesPlaces I.source tables.now.book f stage earlier done (wanted_ones g hope start count) tells start count g so result gaggle.old gaggle.new (coming input.old) (coming input.new) }
+    ensures places { (f : Frame) (stage : ℕ) (earlier : ℕ → List Step) (done : List Step) (tells : Told) (start count : ℕ) (g forced : ℕ → Bool) (so : List ℤ → ℕ → Bool) (after : List ℤ → List Step) →
+        Shows wanted (λ p. g p && forced p) start count → WordNext f stage earlier done (wanted_ones g forced start count) tells start count due g so after →
+        TakesPlaces I.source tables.now.book f stage earlier done (wanted_ones g forced start count) tells start count g so result gaggle.old gaggle.new (coming input.old) (coming input.new) }
     ensures small { (count : ℕ) → count ≤ 4 → due < 2 ^ count → ArePlaces count result }
     ensures options { AreOptions gaggle.new.options }
     ensures is_in { OnSome result (IsIn (coming input.new)) }
@@ -68,7 +68,7 @@ pub(crate) fn take_wanted<I: OctetIn>(
     let Some(places) = take_due(input, tables, gaggle, due)? else {
         return Ok(None);
     };
-    if is_any(beside(places, wanted)) {
+    if is_any(except(places, wanted)) {
         return Err(TextFault::FalseFlag);
     }
     Ok(Some(places))
@@ -166,7 +166,7 @@ fn take_types_in_turn<I: OctetIn>(
     ensures options { AreOptions gaggle.new.options }
     ensures is_in { OnSome result (IsIn (coming input.new)) }
 {
-    let Some(new) = take_some(input, tables, gaggle, due, group.is_wanted)? else {
+    let Some(new) = take_some_types(input, tables, gaggle, due, group.is_wanted)? else {
         return Ok(None);
     };
     found.add_bits(new, group.start);

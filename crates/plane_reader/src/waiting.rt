@@ -8,7 +8,7 @@ ghost use Rattle.wave_defs.specs.Held.{block_at};
 ghost use Rattle.plane_defs.specs.Sets.{magnitude, significant};
 ghost use Rattle.plane_defs.specs.StepLaws.{IsAc};
 ghost use Rattle.plane_reader.specs.Applied.{Applies};
-ghost use Rattle.plane_reader.specs.Shown.{nothing, shown_block, shown, SameAcs};
+ghost use Rattle.plane_reader.specs.BlocksShown.{nothing, shown_block, shown, SameAcs};
 
 use crate::apply::apply;
 use crate::found::Found;
@@ -22,7 +22,7 @@ pub(crate) const BLOCK: usize = 64;
 
 // What waits for block r.
 #[inline(always)]
-pub(crate) fn waits_for(waiting: &[Found; KEPT], r: usize) -> Found
+pub(crate) fn deferred_for(waiting: &[Found; KEPT], r: usize) -> Found
     ensures { result ≡ get_or waiting.now r nothing }
 {
     if r < KEPT { waiting[r] } else { Found::NOTHING }
@@ -30,7 +30,7 @@ pub(crate) fn waits_for(waiting: &[Found; KEPT], r: usize) -> Found
 
 // What was found of block r in a stage waits with what was found before, or goes into the block where it isn't among the first.
 #[inline(always)]
-pub(crate) fn put_by(
+pub(crate) fn defer(
     waiting: &mut [Found; KEPT],
     r: usize,
     found: Found,

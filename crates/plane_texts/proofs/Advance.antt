@@ -13,11 +13,11 @@ use Rattle.plane_texts.proofs.BlockChoice.{acs_above}
 use Rattle.plane_texts.proofs.BlocksChoose.{may_choose}
 
 -- the first steps, one with this entry in its place, and some that follow
-pub record GoesOn (done : List Step) (s : Step) (e : Entry) (ts : List Step) : Type 0 where
+pub record Continues (done : List Step) (s : Step) (e : Entry) (ts : List Step) : Type 0 where
   pub more : List Step
   pub whole : ts ≡ done ++ step s.check s.tells e ∷ more
 
-goes_on : (done : List Step) (s : Step) (more ts : List Step) (e : Entry) → SameSteps (done ++ s ∷ more) ts → EntriesChoose (length done) e (entries_of (done ++ s ∷ more)) (entries_of ts) → GoesOn done s e ts
+goes_on : (done : List Step) (s : Step) (more ts : List Step) (e : Entry) → SameSteps (done ++ s ∷ more) ts → EntriesChoose (length done) e (entries_of (done ++ s ∷ more)) (entries_of ts) → Continues done s e ts
 goes_on [] s more [] e same c = absurd same
 goes_on [] s more (t ∷ ts) e same c = record {
   more = ts;

@@ -14,7 +14,7 @@ use Rattle.plane_defs.specs.declared.stages.Stage.TheVariants as stages
 use Rattle.plane_defs.specs.Spans.{span}
 use Rattle.plane_defs.specs.Sets.{significant, set_significant, enclosing_significant, flag_due, children_of, grandchildren_of, quad_of}
 use Rattle.plane_defs.specs.Entries.{word, flags, typed, children, quads, quads_types, all_quads, grandchildren, stage_number, block_entries, significant_families}
-use Rattle.plane_defs.specs.Steps.{refuses, Step, some_one_where, is_new, is_last_hope, three_grandchildren, typed_steps, grandchildren_check, quads_types_steps, quads_steps, all_quads_steps, grandchildren_steps, block_steps}
+use Rattle.plane_defs.specs.Steps.{refuses, Step, some_one_where, is_new, is_forced, three_grandchildren, typed_steps, grandchildren_check, quads_types_steps, quads_steps, all_quads_steps, grandchildren_steps, block_steps}
 use Rattle.plane_defs.specs.StepLaws.{entry_of, entries_of, IsAc}
 use Rattle.plane_defs.specs.Completed.{completed, MayComplete}
 use Rattle.plane_defs.specs.Choosing.{sixteen_of}
@@ -163,15 +163,15 @@ module _ (w : List ℤ) (weights : List ℕ) (b d q : ℕ) (chosen minus : ℕ �
           (λ p h. two.here_is w weights b chosen minus may p h.0 ∙ ap (λ t. significant w (b + 1) p || t) (low_same p h.1).0 ∙ sym (two.here_is w weights b r.new minus r.may_new p h.0))
 
       -- a family whose set of sixteen is due
-      hope : (h : ℕ) → h < 3 → flag_due old weights b (Grandchildren h) ≡ true → is_last_hope old b (Grandchildren h) ≡ true → set_significant set b (Grandchildren h) ≡ true
+      hope : (h : ℕ) → h < 3 → flag_due old weights b (Grandchildren h) ≡ true → is_forced old b (Grandchildren h) ≡ true → set_significant set b (Grandchildren h) ≡ true
       hope h lt is_due wants =
-          flagged.hope_has w weights b chosen minus may Grandchildren sixteen_of 3 words_chosen.sixteens x n r (is_last_hope old b)
-          (length-map (filter (flag_due old weights b) (map Grandchildren (span 0 3))) (is_last_hope old b)
+          flagged.hope_has w weights b chosen minus may Grandchildren sixteen_of 3 words_chosen.sixteens x n r (is_forced old b)
+          (length-map (filter (flag_due old weights b) (map Grandchildren (span 0 3))) (is_forced old b)
           ∙ sym (length-map (filter (flag_due old weights b) (map Grandchildren (span 0 3))) (set_significant old b)) ∙ listed_long)
           (ap (λ l. refuses (grandchildren_check old weights b l) x) (sym sixteens_listed) ∙ passes) h lt is_due wants
 
       by_child : (h : ℕ) → h < 3 → flag_due old weights b (Grandchildren h) ≡ true → is_new old b (Family h) ≡ true → (t : Bool) → list_any (significant old b) (span (children_of h) 4) ≡ t → set_significant set b (Family h) ≡ true
-      unfolding is_last_hope enclosing_significant
+      unfolding is_forced enclosing_significant
       by_child h lt is_due new true e =
           two.any_here w weights b r.new minus r.may_new (Family h) (children_of h) 4
           (λ f any. list_any-append f (span (children_of h) 4) (span (grandchildren_of h) 16) ∙ or_left (list_any f (span (children_of h) 4)) _ any) (sym (children_alike h lt) ∙ e)

@@ -5,7 +5,7 @@ use Rattle.std.specs.List.{AllByRecursion}
 use Rattle.std.proofs.lemmas.List.{append-nil, take_rest}
 use Rattle.std.proofs.lemmas.Bool.{false≢true}
 use Rattle.std.proofs.Math.Seq.{take-add}
-use Rattle.port_122.specs.Outside.{Outside, IsUsedUp, AtEnd, Grows, Loses, AsksOnly, CountedFrom, Since, NoRead, Written, WriteFailed, Noted, NoteFailed, WritesAll, NotesAll, Rose}
+use Rattle.port_122.specs.Outside.{Outside, IsUsedUp, AtEnd, Grows, Loses, AsksOnly, CountedFrom, Exchange, NoRead, Written, WriteFailed, Noted, NoteFailed, WritesAll, NotesAll, Rose}
 
 -- what is told grows by nothing
 pub grows_start : {A : Type 0} (o : Option (List A)) → Grows o o []
@@ -96,7 +96,7 @@ asks_nothing None t g Q = tt
 asks_nothing (Some xs) t g Q = ([], sym (append-nil xs), tt)
 
 -- nothing has been done since a moment at that moment
-pub since_start : (p : Outside) (Q : ℕ → ℕ → Type 0) → Since p p [] [] [] Q
+pub since_start : (p : Outside) (Q : ℕ → ℕ → Type 0) → Exchange p p [] [] [] Q
 since_start p Q = record {
   rest = loses_start p.rest;
   taken = grows_start p.taken;
@@ -108,8 +108,8 @@ since_start p Q = record {
 
 -- two stretches, one after the other
 pub since_then : {a b c : Outside} {t g w t' g' w' : List ℕ} {Q R : ℕ → ℕ → Type 0} →
-    Since a b t g w Q → Since b c t' g' w' R → ((i j : ℕ) → i ≤ length t' → R i j → Q (length t + i) (length g + j)) →
-    Since a c (t ++ t') (g ++ g') (w ++ w') Q
+    Exchange a b t g w Q → Exchange b c t' g' w' R → ((i j : ℕ) → i ≤ length t' → R i j → Q (length t + i) (length g + j)) →
+    Exchange a c (t ++ t') (g ++ g') (w ++ w') Q
 since_then {a = a} {b = b} {c = c} {t = t} {g = g} {w = w} {t' = t'} {g' = g'} {w' = w'} {Q = Q} {R = R} p q f =
     let S : ℕ → ℕ → Type 0 = λ i j. (i ≤ length (t ++ t')) × (j ≤ length (g ++ g')) × Q i j in
     let first : AsksOnly a.asked b.asked a.taken a.given S =
@@ -130,49 +130,49 @@ since_then {a = a} {b = b} {c = c} {t = t} {g = g} {w = w} {t' = t'} {g' = g'} {
 
 -- the same, where the second has no read call
 pub since_out : {a b c : Outside} {t g w g' w' : List ℕ} {Q : ℕ → ℕ → Type 0} →
-    Since a b t g w Q → Since b c [] g' w' NoRead → Since a c t (g ++ g') (w ++ w') Q
+    Exchange a b t g w Q → Exchange b c [] g' w' NoRead → Exchange a c t (g ++ g') (w ++ w') Q
 since_out {a = a} {b = b} {c = c} {t = t} {g = g} {w = w} {g' = g'} {w' = w'} {Q = Q} p q =
-    let both : Since a c (t ++ []) (g ++ g') (w ++ w') Q = since_then p q (λ i j _ no. absurd no) in
-    subst (λ t. Since a c t (g ++ g') (w ++ w') Q) (append-nil t) both
+    let both : Exchange a c (t ++ []) (g ++ g') (w ++ w') Q = since_then p q (λ i j _ no. absurd no) in
+    subst (λ t. Exchange a c t (g ++ g') (w ++ w') Q) (append-nil t) both
 
 -- a part of the octets is out, and then a write of the rest
 pub since_written : {a b c : Outside} (octets : List ℕ) (done count : ℕ) →
-    Since a b [] (take done octets) [] NoRead → Written b c (take (length octets - done) (drop done octets)) count →
-    Since a c [] (take (done + count) octets) [] NoRead
+    Exchange a b [] (take done octets) [] NoRead → Written b c (take (length octets - done) (drop done octets)) count →
+    Exchange a c [] (take (done + count) octets) [] NoRead
 since_written {b = b} {c = c} octets done count p q =
     let next : Written b c (drop done octets) count = subst (λ piece. Written b c piece count) (take_rest octets done) q in
     rw (take-add done count octets) (since_out p next.since)
 
 -- a part of the octets, and then a note of the rest
 pub since_noted : {a b c : Outside} (octets : List ℕ) (done count : ℕ) →
-    Since a b [] [] (take done octets) NoRead → Noted b c (take (length octets - done) (drop done octets)) count →
-    Since a c [] [] (take (done + count) octets) NoRead
+    Exchange a b [] [] (take done octets) NoRead → Noted b c (take (length octets - done) (drop done octets)) count →
+    Exchange a c [] [] (take (done + count) octets) NoRead
 since_noted {b = b} {c = c} octets done count p q =
     let next : Noted b c (drop done octets) count = subst (λ piece. Noted b c piece count) (take_rest octets done) q in
     rw (take-add done count octets) (since_out p next.since)
 
 -- nothing more
 pub since_same : {a b c : Outside} {t g w : List ℕ} {Q : ℕ → ℕ → Type 0} →
-    Since a b t g w Q → Since b c [] [] [] NoRead → Since a c t g w Q
+    Exchange a b t g w Q → Exchange b c [] [] [] NoRead → Exchange a c t g w Q
 since_same {a = a} {c = c} {t = t} {g = g} {w = w} {Q = Q} p q =
-    let both : Since a c t (g ++ []) (w ++ []) Q = since_out p q in
-    subst (λ g. Since a c t g w Q) (append-nil g) (subst (λ w. Since a c t (g ++ []) w Q) (append-nil w) both)
+    let both : Exchange a c t (g ++ []) (w ++ []) Q = since_out p q in
+    subst (λ g. Exchange a c t g w Q) (append-nil g) (subst (λ w. Exchange a c t (g ++ []) w Q) (append-nil w) both)
 
 -- where a part is out and the next write fails
 pub failed_write : {T E : Type 0} {a b c : Outside} (octets : List ℕ) (done : ℕ) (r : Result T E) →
-    done ≤ length octets → Since a b [] (take done octets) [] NoRead → WriteFailed b c → IsErr r → WritesAll r a c octets
+    done ≤ length octets → Exchange a b [] (take done octets) [] NoRead → WriteFailed b c → IsErr r → WritesAll r a c octets
 failed_write octets done (Ok x) le p q is = absurd (false≢true is)
 failed_write octets done (Err e) le p q is = (omega (arith, p.faults.writes, q.rose), (done, le, since_same p q.since))
 
 -- where a part is noted and the next note fails
 pub failed_note : {T E : Type 0} {a b c : Outside} (octets : List ℕ) (done : ℕ) (r : Result T E) →
-    done ≤ length octets → Since a b [] [] (take done octets) NoRead → NoteFailed b c → IsErr r → NotesAll r a c octets
+    done ≤ length octets → Exchange a b [] [] (take done octets) NoRead → NoteFailed b c → IsErr r → NotesAll r a c octets
 failed_note octets done (Ok x) le p q is = absurd (false≢true is)
 failed_note octets done (Err e) le p q is = (omega (arith, p.faults.notes, q.rose), (done, le, since_same p q.since))
 
 -- what holds at each read call may be said more weakly
 pub since_weaker : {a b : Outside} {t g w : List ℕ} {Q R : ℕ → ℕ → Type 0} →
-    Since a b t g w R → ((i j : ℕ) → i ≤ length t → R i j → Q i j) → Since a b t g w Q
+    Exchange a b t g w R → ((i j : ℕ) → i ≤ length t → R i j → Q i j) → Exchange a b t g w Q
 since_weaker {a = a} {b = b} p f = record {
   rest = p.rest;
   taken = p.taken;
@@ -187,11 +187,11 @@ pub rose_since : {a b c : ℕ} → a ≤ b → Rose b c → Rose a c
 rose_since p q = omega (arith, p, q)
 
 -- the end is still there
-pub at_end_later : {b c : Outside} {g w : List ℕ} {Q : ℕ → ℕ → Type 0} → Since b c [] g w Q → AtEnd b → AtEnd c
+pub at_end_later : {b c : Outside} {g w : List ℕ} {Q : ℕ → ℕ → Type 0} → Exchange b c [] g w Q → AtEnd b → AtEnd c
 at_end_later {b = b} {c = c} p e = used_up_later b.rest c.rest p.rest e
 
 -- a stretch with no notes, and then notes
 pub since_note : {a b c : Outside} {t g w : List ℕ} {Q : ℕ → ℕ → Type 0} →
-    Since a b t g [] Q → Since b c [] [] w NoRead → Since a c t g w Q
+    Exchange a b t g [] Q → Exchange b c [] [] w NoRead → Exchange a c t g w Q
 since_note {a = a} {c = c} {t = t} {g = g} {w = w} {Q = Q} p q =
-    subst (λ gave. Since a c t gave w Q) (append-nil g) (since_out p q)
+    subst (λ gave. Exchange a c t gave w Q) (append-nil g) (since_out p q)

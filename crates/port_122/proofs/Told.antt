@@ -2,7 +2,7 @@
 use Rattle.std.proofs.Common.{◌≡◌, ℕ, List, ◌++◌, sym, ◌∙◌, ap}
 use Rattle.std.specs.Prelude.{Option, Some, None}
 use Rattle.std.proofs.lemmas.List.{append-nil}
-use Rattle.port_122.specs.Outside.{Outside, Since, Grows, Loses, IsUsedUp, AtEnd}
+use Rattle.port_122.specs.Outside.{Outside, Exchange, Grows, Loses, IsUsedUp, AtEnd}
 
 grown : (a b : Option (List ℕ)) (xs ys more : List ℕ) → a ≡ Some xs → b ≡ Some ys → Grows a b more → ys ≡ xs ++ more
 grown a b xs ys more p q r =
@@ -16,10 +16,10 @@ all_lost a (Some ys) xs less p r e =
 
 -- the octets given were told so
 pub given_told : {a b : Outside} {t g w : List ℕ} {Q : ℕ → ℕ → Type 0} (xs ys : List ℕ) →
-    Since a b t g w Q → a.given ≡ Some xs → b.given ≡ Some ys → ys ≡ xs ++ g
+    Exchange a b t g w Q → a.given ≡ Some xs → b.given ≡ Some ys → ys ≡ xs ++ g
 given_told {a = a} {b = b} {g = g} xs ys p before after = grown a.given b.given xs ys g before after p.given
 
 -- where the end was seen, the octets taken are the whole input
 pub end_told : {a b : Outside} {t g w : List ℕ} {Q : ℕ → ℕ → Type 0} (xs : List ℕ) →
-    Since a b t g w Q → a.rest ≡ Some xs → AtEnd b → t ≡ xs
+    Exchange a b t g w Q → a.rest ≡ Some xs → AtEnd b → t ≡ xs
 end_told {a = a} {b = b} {t = t} xs p before e = all_lost a.rest b.rest xs t before p.rest e

@@ -65,7 +65,7 @@ pub record NoFewerFaults (old new : Outside) : Type 0 where
 
 -- From old to new exactly these octets were taken, given and noted, and at each read call, which had taken and
 -- given some of them, Q held of their numbers.
-pub record Since (old new : Outside) (took gave wrote : List ℕ) (Q : ℕ → ℕ → Type 0) : Type 0 where
+pub record Exchange (old new : Outside) (took gave wrote : List ℕ) (Q : ℕ → ℕ → Type 0) : Type 0 where
   pub rest : Loses old.rest new.rest took
   pub taken : Grows old.taken new.taken took
   pub given : Grows old.given new.given gave
@@ -88,44 +88,44 @@ AtStart i j = (i ≡ 0) × (j ≡ 0)
 -- a read of n octets into a piece that then has these octets
 pub record Read (old new : Outside) (piece : List ℕ) (n : ℕ) : Type 0 where
   pub within : n ≤ length piece
-  pub since : Since old new (take n piece) [] [] AtStart
+  pub since : Exchange old new (take n piece) [] [] AtStart
   pub entered : Enters old.asked new.asked old.taken old.given
   pub at_end : n ≡ 0 → 0 < length piece → AtEnd new
 
 -- a read that failed
 pub record ReadFailed (old new : Outside) : Type 0 where
-  pub since : Since old new [] [] [] AtStart
+  pub since : Exchange old new [] [] [] AtStart
   pub rose : Rose old.read_faults new.read_faults
 
 -- a write of the first n of these octets
 pub record Written (old new : Outside) (octets : List ℕ) (n : ℕ) : Type 0 where
   pub within : n ≤ length octets
   pub some : 0 < length octets → 0 < n
-  pub since : Since old new [] (take n octets) [] NoRead
+  pub since : Exchange old new [] (take n octets) [] NoRead
 
 -- a write that failed
 pub record WriteFailed (old new : Outside) : Type 0 where
-  pub since : Since old new [] [] [] NoRead
+  pub since : Exchange old new [] [] [] NoRead
   pub rose : Rose old.write_faults new.write_faults
 
 -- a note of the first n of these octets
 pub record Noted (old new : Outside) (octets : List ℕ) (n : ℕ) : Type 0 where
   pub within : n ≤ length octets
   pub some : 0 < length octets → 0 < n
-  pub since : Since old new [] [] (take n octets) NoRead
+  pub since : Exchange old new [] [] (take n octets) NoRead
 
 -- a note that failed
 pub record NoteFailed (old new : Outside) : Type 0 where
-  pub since : Since old new [] [] [] NoRead
+  pub since : Exchange old new [] [] [] NoRead
   pub rose : Rose old.note_faults new.note_faults
 
 -- what a call that writes all of these octets leaves: a prefix of them is written if it failed
 abbrev pub WritesAll : {T E : Type 0} → Result T E → Outside → Outside → List ℕ → Type 0
 WritesAll result old new octets = MatchResult result
-    (λ _. Since old new [] octets [] NoRead)
-    (λ _. Rose old.write_faults new.write_faults × ((n : ℕ) × (n ≤ length octets) × Since old new [] (take n octets) [] NoRead))
+    (λ _. Exchange old new [] octets [] NoRead)
+    (λ _. Rose old.write_faults new.write_faults × ((n : ℕ) × (n ≤ length octets) × Exchange old new [] (take n octets) [] NoRead))
 
 abbrev pub NotesAll : {T E : Type 0} → Result T E → Outside → Outside → List ℕ → Type 0
 NotesAll result old new octets = MatchResult result
-    (λ _. Since old new [] [] octets NoRead)
-    (λ _. Rose old.note_faults new.note_faults × ((n : ℕ) × (n ≤ length octets) × Since old new [] [] (take n octets) NoRead))
+    (λ _. Exchange old new [] [] octets NoRead)
+    (λ _. Rose old.note_faults new.note_faults × ((n : ℕ) × (n ≤ length octets) × Exchange old new [] [] (take n octets) NoRead))

@@ -4,7 +4,7 @@ use Rattle.std.specs.Prelude.{Err}
 use Rattle.std.proofs.lemmas.Bool.{cases_lt}
 use Rattle.std.proofs.lemmas.List.{append-nil, length-take-le, take-append-le}
 use Rattle.std.proofs.Math.Seq.{take-length}
-use Rattle.port_122.specs.Outside.{Outside, Since, Read, ReadFailed}
+use Rattle.port_122.specs.Outside.{Outside, Exchange, Read, ReadFailed}
 use Rattle.port_122.proofs.Stretches.{since_start, since_weaker}
 use Rattle.port_122.proofs.ReadCalls.{since_unread, since_end, unread_rose}
 use Rattle.raster_rows.specs.Pixels.{IsPixel, pixel_size, pixel_at, whole_pixels}
@@ -20,7 +20,7 @@ pub record RowSoFar (depth : ℕ) (signed : Bool) (width : ℕ) (old now : Outsi
   pub few : held < pixel_size depth
   pub room : held ≤ length buffer
   pub inside : column * pixel_size depth + held ≤ width * pixel_size depth
-  pub since : Since old now (front ++ take held buffer) [] [] (InRow depth signed width (front ++ take held buffer))
+  pub since : Exchange old now (front ++ take held buffer) [] [] (InRow depth signed width (front ++ take held buffer))
   pub in_range : FirstInRange depth signed front column
   pub begins : BeginsWith depth signed front column before after
 
@@ -114,7 +114,7 @@ asks_here {depth = depth} {held = held} {signed = signed} {buffer = buffer} more
 -- the read calls so far, where more is taken
 pub asked_so_far : {depth width column held : ℕ} {signed : Bool} {old now : Outside} {before after : List ℤ} {buffer : List ℕ} (more : List ℕ) →
     (p : RowSoFar depth signed width old now before after buffer column held) →
-    Since old now (p.front ++ take held buffer) [] [] (InRow depth signed width ((p.front ++ take held buffer) ++ more))
+    Exchange old now (p.front ++ take held buffer) [] [] (InRow depth signed width ((p.front ++ take held buffer) ++ more))
 asked_so_far {depth = depth} {held = held} {signed = signed} {buffer = buffer} more p =
     let took : List ℕ = p.front ++ take held buffer in
     since_weaker p.since
@@ -140,7 +140,7 @@ row_unread {depth = depth} {width = width} {held = held} {signed = signed} {old 
     let took : List ℕ = p.front ++ take held buffer in
     record {
       took = took;
-      since = subst (λ zs. Since old new took [] [] (InRow depth signed width zs)) (append-nil took) (since_unread (asked_so_far [] p) q (asks_here [] p lt));
+      since = subst (λ zs. Exchange old new took [] [] (InRow depth signed width zs)) (append-nil took) (since_unread (asked_so_far [] p) q (asks_here [] p lt));
       answer = (unread_rose p.since q, unfinished p lt);
     }
 
@@ -153,6 +153,6 @@ row_short {depth = depth} {width = width} {held = held} {signed = signed} {old =
     let ended = since_end (asked_so_far [] p) q some (asks_here [] p lt) in
     record {
       took = took;
-      since = subst (λ zs. Since old new took [] [] (InRow depth signed width zs)) (append-nil took) ended.0;
+      since = subst (λ zs. Exchange old new took [] [] (InRow depth signed width zs)) (append-nil took) ended.0;
       answer = (is ∙ sym (so_far_size p), ended.1, unfinished p lt);
     }

@@ -6,7 +6,7 @@ use Rattle.std.proofs.lemmas.Nat.{div-add-mod', mod_below}
 use Rattle.std.proofs.Math.Seq.{take-append-add}
 use Rattle.std.proofs.Math.Nat.{div-mul-le_self, le_of_mul-le-mul_right}
 use borrow.Rule.Slice.PartMut.{put_mid, post_of}
-use Rattle.port_122.specs.Outside.{Outside, Since, Read}
+use Rattle.port_122.specs.Outside.{Outside, Exchange, Read}
 use Rattle.port_122.proofs.ReadCalls.{since_read}
 use Rattle.raster_rows.specs.Pixels.{IsPixel, pixel_size}
 use Rattle.raster_rows.specs.Pieces.{PixelsPut, FirstOut}
@@ -36,12 +36,12 @@ pub record PieceRead (depth : ℕ) (signed : Bool) (width : ℕ) (old now new : 
 
 piece_since : {depth width column held count : ℕ} {signed : Bool} {old now new : Outside} {before mid : List ℤ} {buffer piece filled : List ℕ} →
     (p : PieceRead depth signed width old now new before mid buffer piece filled column held count) →
-    Since old new (p.so_far.front ++ take (held + count) filled) [] [] (InRow depth signed width (p.so_far.front ++ take (held + count) filled))
+    Exchange old new (p.so_far.front ++ take (held + count) filled) [] [] (InRow depth signed width (p.so_far.front ++ take (held + count) filled))
 piece_since {depth = depth} {width = width} {held = held} {count = count} {signed = signed} {old = old} {new = new} {buffer = buffer} {piece = piece} {filled = filled} p =
     let front : List ℕ = p.so_far.front in
     let octets : (front ++ take held buffer) ++ take count piece ≡ front ++ take (held + count) filled =
     append_assoc front (take held buffer) (take count piece) ∙ ap (λ zs. front ++ zs) (sym p.filled_is) in
-    subst (λ zs. Since old new zs [] [] (InRow depth signed width zs)) octets
+    subst (λ zs. Exchange old new zs [] [] (InRow depth signed width zs)) octets
     (since_read count (asked_so_far (take count piece) p.so_far) p.read (asks_here (take count piece) p.so_far p.inside))
 
 pub row_bad : {T : Type 0} {depth width column held count whole place : ℕ} {signed : Bool} {old now new : Outside} {before mid after : List ℤ} {buffer piece filled : List ℕ} {value : ℤ} (row : ℕ) (shown : ℤ) →
@@ -96,7 +96,7 @@ row_next {depth = depth} {width = width} {column = column} {held = held} {count 
       few = omega (arith, rest_is, parts, below);
       room = omega (arith, rest_is, same, p.room);
       inside = omega (arith, rest_is, fits, p.left, p.read.within);
-      since = subst (λ t. Since old new t [] [] (InRow depth signed width t)) octets (piece_since p);
+      since = subst (λ t. Exchange old new t [] [] (InRow depth signed width t)) octets (piece_since p);
       in_range = more_in_range depth signed front filled column whole used mid after p.so_far.size (omega arith) within p.so_far.in_range q;
       begins = more_begins depth signed front filled column whole used before mid after p.so_far.size (omega arith) within p.so_far.begins q;
     }

@@ -1,8 +1,8 @@
 -- Whether the input has ended. This project's own.
 use Rattle.std.specs.Prelude.{ℕ, [], ◌∷◌, Bool, true, false}
-use Rattle.port_122.specs.Outside.{Outside, Since, AtStart, AtEnd}
+use Rattle.port_122.specs.Outside.{Outside, Exchange, AtStart, AtEnd}
 
 -- the end was there, else one octet was taken
 abbrev pub SawEnd : Outside → Outside → Bool → Type 0
-SawEnd old new true = Since old new [] [] [] AtStart × AtEnd new
-SawEnd old new false = (octet : ℕ) × Since old new (octet ∷ []) [] [] AtStart
+SawEnd old new true = Exchange old new [] [] [] AtStart × AtEnd new
+SawEnd old new false = (octet : ℕ) × Exchange old new (octet ∷ []) [] [] AtStart

@@ -1,6 +1,6 @@
 -- A row of a raster that is read. This project's own.
 use Rattle.std.specs.Prelude.{◌≡◌, ◌<◌, ◌≤◌, ◌*◌, ℕ, ℤ, pos, Bool, List, [], length, take, slice_index_or, Result, Ok, Err}
-use Rattle.port_122.specs.Outside.{Outside, Since, AtEnd, Rose}
+use Rattle.port_122.specs.Outside.{Outside, Exchange, AtEnd, Rose}
 use Rattle.raster_rows.specs.declared.reading.RowFault.{RowFault}
 use Rattle.raster_rows.specs.declared.reading.RowFault.TheVariants.{ReadFault, Short, BadPixel}
 use Rattle.raster_rows.specs.Pixels.{IsPixel, pixel_size, pixel_at, whole_pixels}
@@ -47,5 +47,5 @@ RowAnswers depth signed width row old new took before after (Err (BadPixel at co
 -- One row: the octets that were taken, what held at each read call, and why it was answered so.
 pub record RowRead {T : Type 0} (depth : ℕ) (signed : Bool) (width row : ℕ) (old new : Outside) (before after : List ℤ) (result : Result T RowFault) : Type 0 where
   pub took : List ℕ
-  pub since : Since old new took [] [] (InRow depth signed width took)
+  pub since : Exchange old new took [] [] (InRow depth signed width took)
   pub answer : RowAnswers depth signed width row old new took before after result

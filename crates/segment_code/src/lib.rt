@@ -8,7 +8,7 @@ mod encode;
 mod end_in;
 mod planes;
 mod planes_in;
-mod tells;
+mod head_plans;
 mod text_in;
 
 ghost use Rattle.segment_code.specs.Laws.{CodedHolds, CodedHoldsExactly, TextsAreShort, ItemsEndThere};

@@ -11,7 +11,7 @@ ghost use Rattle.segment_defs.specs.Head.{IsHead};
 ghost use Rattle.segment_defs.specs.SegmentItems.{stages_sent, q_of};
 ghost use Rattle.segment_code.specs.Parts.{coded_plane, coded_planes};
 
-use crate::tells::plan_of;
+use crate::head_plans::plan_of;
 use base_122::Book;
 use bit_pipe::{BitOut, OctetOut, PutFault};
 use plane_coder::{CodeTables, PlaneCoder, PlanePlan};

@@ -19,7 +19,7 @@ use word_codes::WordTables;
 const LAST: u8 = 4;
 
 // Takes a plane up to its last stage.
-fn take_stages<I: OctetIn>(
+fn take_stages_sent<I: OctetIn>(
     input: &mut BitIn<I>,
     head: &SegmentHead,
     blocks: &mut [i32],
@@ -66,7 +66,7 @@ fn take_whole_planes<I: OctetIn>(
 {
     for n in 0..head.depth_ac - 1 - head.stop.plane {
         let plane = head.depth_ac - 1 - n;
-        let Part::Whole = take_stages(input, head, blocks, marks, tables, plane, LAST, above)?
+        let Part::Whole = take_stages_sent(input, head, blocks, marks, tables, plane, LAST, above)?
         else {
             return Ok(Part::Ended);
         };
@@ -97,7 +97,7 @@ pub(crate) fn take_planes<I: OctetIn>(
     let Part::Whole = take_whole_planes(input, head, blocks, marks, tables, &mut above)? else {
         return Ok(Part::Ended);
     };
-    take_stages(
+    take_stages_sent(
         input,
         head,
         blocks,

@@ -10,7 +10,7 @@ use Rattle.std.specs.Vec.{with_items}
 use borrow.Rule.Slice.PartMut.{put_mid, post_of}
 use Rattle.bit_pipe.specs.declared.fault.InFault.TheVariants.{LongInput, ReadFault, Broken}
 use Rattle.bit_pipe.specs.declared.fault.InFault.{InFault}
-use Rattle.port_122.specs.Outside.{Outside, Since, ReadFailed}
+use Rattle.port_122.specs.Outside.{Outside, Exchange, ReadFailed}
 use Rattle.port_122.proofs.Stretches.{since_start, since_weaker}
 use Rattle.port_122.proofs.ReadCalls.{since_read, since_unread, unread_rose}
 use Rattle.packet_defs.specs.Tests.{when, first_of}
@@ -195,7 +195,7 @@ taken_nothing p v w capped e = record {
 }
 
 -- the read calls so far, where more is taken
-asked_more : {p now : Outside} {v w : Intake} (more : List ℕ) → (s : TakenSoFar p now v w) → Since p now s.took [] [] (AsksUndecided v (s.took ++ more))
+asked_more : {p now : Outside} {v w : Intake} (more : List ℕ) → (s : TakenSoFar p now v w) → Exchange p now s.took [] [] (AsksUndecided v (s.took ++ more))
 asked_more {v = v} more s = since_weaker s.since
     (λ i j le r. (subst (λ zs. is_decided (fed v zs false) ≡ false) (sym (take-append-le i s.took more le)) r.0, r.1))
 
@@ -242,7 +242,7 @@ read_failed {p = p} {new = new} {v = v} {w = w} {u = u} apid s undecided going f
     record {
       took = s.took;
       saw_end = false;
-      since = subst (λ zs. Since p new s.took [] [] (AsksUndecided v zs)) (append-nil s.took) (since_unread (asked_more [] s) f (asks_now [] s unseen undecided));
+      since = subst (λ zs. Exchange p new s.took [] [] (AsksUndecided v zs)) (append-nil s.took) (since_unread (asked_more [] s) f (asks_now [] s unseen undecided));
       end_seen = λ no. absurd (false≢true no);
       within = s.within;
       at_once = s.at_once;

@@ -3,14 +3,14 @@ use Rattle.std.proofs.Common.{◌≡◌, ◌≤◌, ◌+◌, ◌*◌, ℕ, List,
 use Rattle.std.specs.Prelude.{false}
 use Rattle.std.proofs.Math.Nat.{zero-mul, one-mul}
 use Rattle.std.proofs.lemmas.List.{append-nil, drop_at, take_at}
-use Rattle.port_122.specs.Outside.{Outside, Since, NoRead}
+use Rattle.port_122.specs.Outside.{Outside, Exchange, NoRead}
 use Rattle.port_122.proofs.Stretches.{since_start}
 use Rattle.packet_defs.specs.Packets.{part_of, part_size}
 use Rattle.space_packets.specs.declared.stage.Stage.TheVariants.{Begun, Broken}
 use Rattle.space_packets.specs.declared.stage.Text.{Text}
 use Rattle.space_packets.specs.Parts.{text_at, packet_of}
 use Rattle.space_packets.specs.Progress.{Progress, IsOpen, full_count, full_packet, first_packets, first_octets, written, after, broken}
-use Rattle.space_packets.specs.Writes.{GoesOn, BreaksOff, PacketOut, PacketFailed}
+use Rattle.space_packets.specs.Writes.{Continues, StopsEarly, PacketOut, PacketFailed}
 use Rattle.space_packets.specs.FullParts.{full_parts_is, full_parts_none}
 use Rattle.space_packets.specs.Going.{same_progress, text_here}
 
@@ -21,14 +21,14 @@ none_full {v = v} going octets room =
     full_parts_none (part_size v.packet) (length (v.pending ++ octets)) (omega (arith, length-append v.pending octets, room)) (omega (arith, going.packet))
 
 pub goes_on_in : {t : Text} {p : Outside} {v w : Progress} → IsOpen t v → (octets : List ℕ) → length v.pending + length octets ≤ part_size v.packet →
-    w ≡ record v { pending = v.pending ++ octets } → GoesOn t p p v w octets
+    w ≡ record v { pending = v.pending ++ octets } → Continues t p p v w octets
 unfolding first_packets
 goes_on_in {t = t} {p = p} {v = v} {w = w} going octets room e =
     let none : full_count v octets ≡ 0 = none_full going octets room in
     let nothing : written t v octets ≡ [] = ap (first_octets t v octets) none in
     let all = v.pending ++ octets in
     record {
-      out = subst (λ gave. Since p p [] gave [] NoRead) (sym nothing) (since_start p NoRead);
+      out = subst (λ gave. Exchange p p [] gave [] NoRead) (sym nothing) (since_start p NoRead);
       stands = e ∙ sym (same_progress {v = after t v octets} {w = record v { pending = all }} refl
           (ap (λ n. Begun (text_at t n)) none ∙ ap Begun (text_here t) ∙ sym going.stage) refl
           (ap (λ n. v.packets + n) none ∙ add-zero v.packets)
@@ -54,7 +54,7 @@ first_is t v octet full =
 
 pub goes_on_past : {t : Text} {p q : Outside} {v u w : Progress} → IsOpen t v → (octet : ℕ) → length v.pending ≡ part_size v.packet →
     PacketOut p q v u (Begun (text_at t 1)) (packet_of t v.packets false v.pending) → w ≡ record u { pending = u.pending ++ octet ∷ [] } →
-    GoesOn t p q v w (octet ∷ [])
+    Continues t p q v w (octet ∷ [])
 unfolding first_packets
 goes_on_past {t = t} {p = p} {q = q} {v = v} {u = u} {w = w} going octet full sent e =
     let one : full_count v (octet ∷ []) ≡ 1 = one_full going octet full in
@@ -63,7 +63,7 @@ goes_on_past {t = t} {p = p} {q = q} {v = v} {u = u} {w = w} going octet full se
     let alone : written t v (octet ∷ []) ≡ packet =
     ap (first_octets t v (octet ∷ [])) one ∙ append-nil (full_packet t v (octet ∷ []) 0) ∙ first_is t v octet full in
     record {
-      out = subst (λ gave. Since p q [] gave [] NoRead) (sym alone) sent.out;
+      out = subst (λ gave. Exchange p q [] gave [] NoRead) (sym alone) sent.out;
       stands = e ∙ ap {A = Progress} {B = Progress} (λ (u : Progress). record u { pending = u.pending ++ octet ∷ [] }) sent.stands ∙ sym (same_progress {v = after t v (octet ∷ [])} {w = record v { stage = Begun (text_at t 1); packets = v.packets + 1; octets = v.octets + length packet; pending = octet ∷ [] }} refl
           (ap (λ n. Begun (text_at t n)) one) refl
           (ap (λ n. v.packets + n) one)
@@ -72,7 +72,7 @@ goes_on_past {t = t} {p = p} {q = q} {v = v} {u = u} {w = w} going octet full se
     }
 
 pub breaks_off_at : {t : Text} {p q : Outside} {v w : Progress} → IsOpen t v → (octet : ℕ) → length v.pending ≡ part_size v.packet →
-    PacketFailed p q v w (packet_of t v.packets false v.pending) → BreaksOff t p q v w (octet ∷ [])
+    PacketFailed p q v w (packet_of t v.packets false v.pending) → StopsEarly t p q v w (octet ∷ [])
 unfolding first_packets
 breaks_off_at {t = t} {p = p} {q = q} {v = v} {w = w} going octet full failed =
     let packet = packet_of t v.packets false v.pending in
@@ -80,7 +80,7 @@ breaks_off_at {t = t} {p = p} {q = q} {v = v} {w = w} going octet full failed =
       count = 0;
       few = omega (arith, one_full going octet full);
       some = failed.some;
-      out = subst (λ packet. Since p q [] (take failed.some packet) [] NoRead) (sym (first_is t v octet full)) failed.out;
+      out = subst (λ packet. Exchange p q [] (take failed.some packet) [] NoRead) (sym (first_is t v octet full)) failed.out;
       rose = failed.rose;
       stands = failed.stands ∙ sym (same_progress {v = broken t v (octet ∷ []) 0} {w = record v { stage = Broken; pending = [] }} refl refl refl (add-zero v.packets) (add-zero v.octets) refl);
     }

@@ -4,26 +4,26 @@ use Rattle.port_122.specs.Outside.{Outside}
 use Rattle.space_packets.specs.declared.sink.PacketSink.{PacketSink}
 use Rattle.space_packets.specs.declared.stage.Text.{Text}
 use Rattle.space_packets.specs.Progress.{Progress, IsOpen, begun}
-use Rattle.space_packets.specs.Writes.{GoesOn, BreaksOff}
+use Rattle.space_packets.specs.Writes.{Continues, StopsEarly}
 use Rattle.space_packets.specs.Sink.{Gave, Broke}
 use Rattle.space_packets.proofs.WholeCalls.{begun_open}
 
 -- they went out
 pub sink_goes_on : {X : Type 0} (outside : X → Outside) (s u : PacketSink X) (v : Progress) (t : Text) (port : X) (octets : List ℕ) →
     s.packets.now ≡ begun v t → s.port.now ≡ port → 64 ≤ v.packet → Gave outside s u octets →
-    GoesOn t (outside port) (outside u.port.now) (begun v t) u.packets.now octets
+    Continues t (outside port) (outside u.port.now) (begun v t) u.packets.now octets
 sink_goes_on outside s u v t port octets begins same least gave =
-    let sent : GoesOn t (outside s.port.now) (outside u.port.now) s.packets.now u.packets.now octets =
+    let sent : Continues t (outside s.port.now) (outside u.port.now) s.packets.now u.packets.now octets =
     gave.text t (subst (λ w. IsOpen t w) (sym begins) (begun_open v t least)) in
-    subst (λ w. GoesOn t (outside port) (outside u.port.now) w u.packets.now octets) begins
-    (subst (λ x. GoesOn t (outside x) (outside u.port.now) s.packets.now u.packets.now octets) same sent)
+    subst (λ w. Continues t (outside port) (outside u.port.now) w u.packets.now octets) begins
+    (subst (λ x. Continues t (outside x) (outside u.port.now) s.packets.now u.packets.now octets) same sent)
 
 -- a write failed among them
 pub sink_breaks_off : {X : Type 0} (outside : X → Outside) (s u : PacketSink X) (v : Progress) (t : Text) (port : X) (octets : List ℕ) →
     s.packets.now ≡ begun v t → s.port.now ≡ port → 64 ≤ v.packet → Broke outside s u octets →
-    BreaksOff t (outside port) (outside u.port.now) (begun v t) u.packets.now octets
+    StopsEarly t (outside port) (outside u.port.now) (begun v t) u.packets.now octets
 sink_breaks_off outside s u v t port octets begins same least broke =
-    let cut : BreaksOff t (outside s.port.now) (outside u.port.now) s.packets.now u.packets.now octets =
+    let cut : StopsEarly t (outside s.port.now) (outside u.port.now) s.packets.now u.packets.now octets =
     broke.text t (subst (λ w. IsOpen t w) (sym begins) (begun_open v t least)) in
-    subst (λ w. BreaksOff t (outside port) (outside u.port.now) w u.packets.now octets) begins
-    (subst (λ x. BreaksOff t (outside x) (outside u.port.now) s.packets.now u.packets.now octets) same cut)
+    subst (λ w. StopsEarly t (outside port) (outside u.port.now) w u.packets.now octets) begins
+    (subst (λ x. StopsEarly t (outside x) (outside u.port.now) s.packets.now u.packets.now octets) same cut)

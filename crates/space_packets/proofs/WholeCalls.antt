@@ -4,7 +4,7 @@ use Rattle.std.specs.Prelude.{Result, Ok, Err, MatchResult}
 use Rattle.std.specs.List.{range_with_len}
 use Rattle.std.proofs.Math.Seq.{take-append_seam}
 use Rattle.std.proofs.lemmas.List.{take-append-drop}
-use Rattle.port_122.specs.Outside.{Outside, Since, NoRead, Rose}
+use Rattle.port_122.specs.Outside.{Outside, Exchange, NoRead, Rose}
 use Rattle.port_122.proofs.Stretches.{since_out, rose_since}
 use Rattle.packet_defs.specs.Packets.{part_size, part_count, text_packets}
 use Rattle.packet_defs.specs.Packets.{joined}
@@ -13,7 +13,7 @@ use Rattle.space_packets.specs.declared.stage.Stage.TheVariants.{Idle, Begun}
 use Rattle.space_packets.specs.declared.stage.Text.{Text}
 use Rattle.space_packets.specs.Parts.{full_parts, text_at}
 use Rattle.space_packets.specs.Progress.{Progress, IsOpen, begun, full_count, full_packet, first_packets, first_octets, written, after, last_packet, past_packet, broken, stopped, ended}
-use Rattle.space_packets.specs.Writes.{GoesOn, BreaksOff, PacketOut, PacketFailed, WritesPacket, TextOut, TextCut}
+use Rattle.space_packets.specs.Writes.{Continues, StopsEarly, PacketOut, PacketFailed, WritesPacket, TextOut, TextCut}
 use Rattle.space_packets.specs.PartLists.{map_split}
 use Rattle.space_packets.specs.FullParts.{full_parts_below}
 use Rattle.space_packets.specs.Going.{same_progress, octets_both, written_both}
@@ -24,7 +24,7 @@ pub begun_open : (v : Progress) (t : Text) → 64 ≤ v.packet → IsOpen t (beg
 begun_open v t least = record { stage = refl; packet = least; pending = omega arith }
 
 -- octets wait where a text isn't empty
-pub some_wait : {t : Text} {p q : Outside} (v : Progress) {w : Progress} (text : List ℕ) → 0 < length text → GoesOn t p q (begun v t) w text → 0 < length w.pending
+pub some_wait : {t : Text} {p q : Outside} (v : Progress) {w : Progress} (text : List ℕ) → 0 < length text → Continues t p q (begun v t) w text → 0 < length w.pending
 some_wait {t = t} v {w = w} text some first =
     let size = part_size v.packet in
     let n = full_parts size (length text) in
@@ -45,14 +45,14 @@ ended_is v t text least first some =
 
 -- begin, a text that isn't empty, close: its packets are out
 pub text_out : {t : Text} {p q r : Outside} (v : Progress) {w u : Progress} (text : List ℕ) → 64 ≤ v.packet → t.ancillary.part ≡ 0 → 0 < length text →
-    GoesOn t p q (begun v t) w text → PacketOut q r w u Idle (last_packet (text_at t (full_count (begun v t) text)) w) → TextOut t p r v u text
+    Continues t p q (begun v t) w text → PacketOut q r w u Idle (last_packet (text_at t (full_count (begun v t) text)) w) → TextOut t p r v u text
 text_out {t = t} {p = p} {q = q} {r = r} v {w = w} {u = u} text least first some sent closing =
     let b = begun v t in
     let end = text_at t (full_count b text) in
     let last : PacketOut q r (after t b text) u Idle (last_packet end (after t b text)) =
     subst (λ w. PacketOut q r w u Idle (last_packet end w)) sent.stands closing in
     record {
-      out = subst (λ gave. Since p r [] gave [] NoRead) (sym (whole_text v t text least first some)) (since_out sent.out last.out);
+      out = subst (λ gave. Exchange p r [] gave [] NoRead) (sym (whole_text v t text least first some)) (since_out sent.out last.out);
       stands = last.stands ∙ ended_is v t text least first some;
     }
 
@@ -67,14 +67,14 @@ front_is front rest whole e = ap (take (length front)) e ∙ take-append_seam fr
 
 -- what fails with a front out
 cut_at : {t : Text} {p q : Outside} {v w : Progress} (text front rest : List ℕ) →
-    joined (text_packets t.apid t.ancillary v.packet v.packets text) ≡ front ++ rest → Since p q [] front [] NoRead → Rose p.write_faults q.write_faults →
+    joined (text_packets t.apid t.ancillary v.packet v.packets text) ≡ front ++ rest → Exchange p q [] front [] NoRead → Rose p.write_faults q.write_faults →
     (u : Progress) → w ≡ stopped u → u.packet ≡ v.packet → TextCut t p q v w text
 cut_at {t = t} {p = p} {q = q} {v = v} {w = w} text front rest e out rose u stands same =
     let whole = joined (text_packets t.apid t.ancillary v.packet v.packets text) in
     record {
       some = length front;
       within = front_length front rest whole e;
-      out = subst (λ gave. Since p q [] gave [] NoRead) (sym (front_is front rest whole e)) out;
+      out = subst (λ gave. Exchange p q [] gave [] NoRead) (sym (front_is front rest whole e)) out;
       rose = rose;
       broken = ap (λ (w : Progress). w.stage) stands;
       packet = ap (λ (w : Progress). w.packet) stands ∙ same;
@@ -82,7 +82,7 @@ cut_at {t = t} {p = p} {q = q} {v = v} {w = w} text front rest e out rose u stan
 
 -- at its close
 pub text_cut_at_close : {t : Text} {p q r : Outside} (v : Progress) {w u : Progress} (text : List ℕ) → 64 ≤ v.packet → t.ancillary.part ≡ 0 → 0 < length text →
-    GoesOn t p q (begun v t) w text → PacketFailed q r w u (last_packet (text_at t (full_count (begun v t) text)) w) → TextCut t p r v u text
+    Continues t p q (begun v t) w text → PacketFailed q r w u (last_packet (text_at t (full_count (begun v t) text)) w) → TextCut t p r v u text
 text_cut_at_close {t = t} {p = p} {q = q} {r = r} v {w = w} {u = u} text least first some sent failed =
     let b = begun v t in
     let end = text_at t (full_count b text) in
@@ -116,7 +116,7 @@ regrouped a t d r w l = simp append_assoc
 
 -- among its octets
 pub text_cut : {t : Text} {p q : Outside} (v : Progress) {w : Progress} (octets more : List ℕ) → 64 ≤ v.packet → t.ancillary.part ≡ 0 → 0 < length (octets ++ more) →
-    BreaksOff t p q (begun v t) w octets → TextCut t p q v w (octets ++ more)
+    StopsEarly t p q (begun v t) w octets → TextCut t p q v w (octets ++ more)
 text_cut {t = t} {p = p} {q = q} v {w = w} octets more least first some broke =
     let b = begun v t in
     let k = broke.count in
@@ -137,7 +137,7 @@ text_cut {t = t} {p = p} {q = q} v {w = w} octets more least first some broke =
 
 -- close, with either answer
 pub text_closed : {T E : Type 0} (r : Result T E) (v w u : Progress) (t : Text) (text : List ℕ) (p q s : Outside) →
-    64 ≤ v.packet → t.ancillary.part ≡ 0 → 0 < length text → GoesOn t p q (begun v t) w text →
+    64 ≤ v.packet → t.ancillary.part ≡ 0 → 0 < length text → Continues t p q (begun v t) w text →
     ((x : Text) → w.stage ≡ Begun x → WritesPacket r q s w u Idle (last_packet x w)) →
     MatchResult r (λ _. TextOut t p s v u text) (λ _. TextCut t p s v u text)
 text_closed (Ok done) v w u t text p q s least first some sent closing =

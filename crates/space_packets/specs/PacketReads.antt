@@ -2,7 +2,7 @@
 use Rattle.std.specs.Prelude.{◌≡◌, ◌≤◌, ◌<◌, ◌+◌, ℕ, Bool, true, false, List, [], length, take, ◌==◌, Some, Result, Ok, Err, MatchResult}
 use Rattle.bit_pipe.specs.declared.fault.InFault.{InFault}
 use Rattle.bit_pipe.specs.declared.fault.InFault.TheVariants.{ReadFault}
-use Rattle.port_122.specs.Outside.{Outside, Since, AtEnd, Rose, Read, ReadFailed}
+use Rattle.port_122.specs.Outside.{Outside, Exchange, AtEnd, Rose, Read, ReadFailed}
 use Rattle.packet_defs.specs.declared.packet.PacketRead.{PacketRead}
 use Rattle.space_packets.specs.Intake.{Intake, is_decided, verdict, answered, fed}
 
@@ -21,7 +21,7 @@ EndsPacket apid old new u w (Err fault) = (verdict apid u ≡ Some (Err fault)) 
 pub record ReadsPacket (apid : ℕ) (old new : Outside) (v w : Intake) (result : Result PacketRead InFault) : Type 0 where
   pub took : List ℕ
   pub saw_end : Bool
-  pub since : Since old new took [] [] (AsksUndecided v took)
+  pub since : Exchange old new took [] [] (AsksUndecided v took)
   pub end_seen : saw_end ≡ true → AtEnd new
   pub within : v.taken + length took ≤ v.cap
   pub at_once : is_decided (fed v [] false) ≡ true → took ≡ []
@@ -33,7 +33,7 @@ pub record ReadsPacket (apid : ℕ) (old new : Outside) (v w : Intake) (result :
 pub record TakenSoFar (p now : Outside) (v w : Intake) : Type 0 where
   pub took : List ℕ
   pub saw_end : Bool
-  pub since : Since p now took [] [] (AsksUndecided v took)
+  pub since : Exchange p now took [] [] (AsksUndecided v took)
   pub end_seen : saw_end ≡ true → AtEnd now
   pub within : v.taken + length took ≤ v.cap
   pub at_once : is_decided (fed v [] false) ≡ true → took ≡ []

@@ -3,7 +3,7 @@ use Rattle.std.specs.Prelude.{ℕ, ◌≡◌, List}
 use Rattle.port_122.specs.Outside.{Outside}
 use Rattle.space_packets.specs.declared.stage.Text.{Text}
 use Rattle.space_packets.specs.Progress.{Progress, fresh}
-use Rattle.space_packets.specs.Writes.{GoesOn, BreaksOff, PacketFailed, TextOut, TextCut}
+use Rattle.space_packets.specs.Writes.{Continues, StopsEarly, PacketFailed, TextOut, TextCut}
 
 -- the most octets of a packet's data field stay, so a reset leaves what it would have left before
 pub record ServesAs (v w : Progress) : Type 0 where
@@ -14,6 +14,6 @@ pub record ServesAs (v w : Progress) : Type 0 where
 pub record ServesAgain : Type 0 where
   pub out : (t : Text) (p q : Outside) (v w : Progress) (text : List ℕ) → TextOut t p q v w text → ServesAs v w
   pub cut : (t : Text) (p q : Outside) (v w : Progress) (text : List ℕ) → TextCut t p q v w text → ServesAs v w
-  pub goes_on : (t : Text) (p q : Outside) (v w : Progress) (octets : List ℕ) → GoesOn t p q v w octets → ServesAs v w
-  pub breaks_off : (t : Text) (p q : Outside) (v w : Progress) (octets : List ℕ) → BreaksOff t p q v w octets → ServesAs v w
+  pub goes_on : (t : Text) (p q : Outside) (v w : Progress) (octets : List ℕ) → Continues t p q v w octets → ServesAs v w
+  pub breaks_off : (t : Text) (p q : Outside) (v w : Progress) (octets : List ℕ) → StopsEarly t p q v w octets → ServesAs v w
   pub failed : (p q : Outside) (v w : Progress) (packet : List ℕ) → PacketFailed p q v w packet → ServesAs v w

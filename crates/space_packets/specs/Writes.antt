@@ -1,6 +1,6 @@
 -- What the calls of a packetiser leave. This project's own.
 use Rattle.std.specs.Prelude.{ℕ, ◌≡◌, ◌≤◌, ◌<◌, List, [], ◌∷◌, ◌++◌, length, take, Result, MatchResult}
-use Rattle.port_122.specs.Outside.{Outside, Since, NoRead, Rose}
+use Rattle.port_122.specs.Outside.{Outside, Exchange, NoRead, Rose}
 use Rattle.packet_defs.specs.Packets.{text_packets}
 use Rattle.packet_defs.specs.Packets.{joined}
 use Rattle.space_packets.specs.declared.stage.Stage.{Stage}
@@ -9,16 +9,16 @@ use Rattle.space_packets.specs.declared.stage.Text.{Text}
 use Rattle.space_packets.specs.Progress.{Progress, IsOpen, full_count, full_packet, first_octets, written, after, broken, past_packet, stopped, ended}
 
 -- a text went on by these octets, and its full packets are out
-pub record GoesOn (t : Text) (p q : Outside) (v w : Progress) (octets : List ℕ) : Type 0 where
-  pub out : Since p q [] (written t v octets) [] NoRead
+pub record Continues (t : Text) (p q : Outside) (v w : Progress) (octets : List ℕ) : Type 0 where
+  pub out : Exchange p q [] (written t v octets) [] NoRead
   pub stands : w ≡ after t v octets
 
 -- A write failed while a text was continued by these octets: some of its full packets are written, and a prefix of the next.
-pub record BreaksOff (t : Text) (p q : Outside) (v w : Progress) (octets : List ℕ) : Type 0 where
+pub record StopsEarly (t : Text) (p q : Outside) (v w : Progress) (octets : List ℕ) : Type 0 where
   pub count : ℕ
   pub few : count < full_count v octets
   pub some : ℕ
-  pub out : Since p q [] (first_octets t v octets count ++ take some (full_packet t v octets count)) [] NoRead
+  pub out : Exchange p q [] (first_octets t v octets count ++ take some (full_packet t v octets count)) [] NoRead
   pub rose : Rose p.write_faults q.write_faults
   pub stands : w ≡ broken t v octets count
 
@@ -26,18 +26,18 @@ pub record BreaksOff (t : Text) (p q : Outside) (v w : Progress) (octets : List 
 pub record PutsOctet {T E : Type 0} (result : Result T E) (p q : Outside) (v w : Progress) (octet : ℕ) : Type 0 where
   pub text : Text
   pub was_open : IsOpen text v
-  pub ends : MatchResult result (λ _. GoesOn text p q v w (octet ∷ [])) (λ _. BreaksOff text p q v w (octet ∷ []))
+  pub ends : MatchResult result (λ _. Continues text p q v w (octet ∷ [])) (λ _. StopsEarly text p q v w (octet ∷ []))
 
 -- one packet is out
 pub record PacketOut (p q : Outside) (v w : Progress) (next : Stage) (packet : List ℕ) : Type 0 where
-  pub out : Since p q [] packet [] NoRead
+  pub out : Exchange p q [] packet [] NoRead
   pub stands : w ≡ past_packet v next packet
 
 -- a write of one packet failed, and a prefix of its octets is written
 pub record PacketFailed (p q : Outside) (v w : Progress) (packet : List ℕ) : Type 0 where
   pub some : ℕ
   pub within : some ≤ length packet
-  pub out : Since p q [] (take some packet) [] NoRead
+  pub out : Exchange p q [] (take some packet) [] NoRead
   pub rose : Rose p.write_faults q.write_faults
   pub stands : w ≡ stopped v
 
@@ -49,14 +49,14 @@ WritesPacket result p q v w next packet = MatchResult result
 
 -- a whole text, from its begin to its end, went out as its packets
 pub record TextOut (t : Text) (p q : Outside) (v w : Progress) (text : List ℕ) : Type 0 where
-  pub out : Since p q [] (joined (text_packets t.apid t.ancillary v.packet v.packets text)) [] NoRead
+  pub out : Exchange p q [] (joined (text_packets t.apid t.ancillary v.packet v.packets text)) [] NoRead
   pub stands : w ≡ ended v t text
 
 -- a write failed while a text was written, and a prefix of its packets' octets is written
 pub record TextCut (t : Text) (p q : Outside) (v w : Progress) (text : List ℕ) : Type 0 where
   pub some : ℕ
   pub within : some ≤ length (joined (text_packets t.apid t.ancillary v.packet v.packets text))
-  pub out : Since p q [] (take some (joined (text_packets t.apid t.ancillary v.packet v.packets text))) [] NoRead
+  pub out : Exchange p q [] (take some (joined (text_packets t.apid t.ancillary v.packet v.packets text))) [] NoRead
   pub rose : Rose p.write_faults q.write_faults
   pub broken : w.stage ≡ Broken
   pub packet : w.packet ≡ v.packet

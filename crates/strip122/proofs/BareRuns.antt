@@ -2,7 +2,7 @@
 use Rattle.std.proofs.Common.{◌≡◌, ◌≤◌, ◌+◌, ℕ, ℤ, List, [], ◌∷◌, ◌++◌, length, refl, sym, ◌∙◌, ap, subst, arith, length-append, inl, inr}
 use Rattle.std.specs.Prelude.{Option, None, Some, Result, Ok, Err}
 use Rattle.std.proofs.lemmas.List.{append-nil}
-use Rattle.port_122.specs.Outside.{Outside, Since, NoRead, Rose, GivenBy, AtEnd, Grows}
+use Rattle.port_122.specs.Outside.{Outside, Exchange, NoRead, Rose, GivenBy, AtEnd, Grows}
 use Rattle.port_122.proofs.Stretches.{since_start, at_end_later}
 use Rattle.port_122.proofs.Told.{end_told}
 use Rattle.base_122.specs.declared.geometry.Geometry.{Geometry}
@@ -39,7 +39,7 @@ use Rattle.strip122.proofs.Encoded.{EncoderSays, IsEncoder, encoder_law}
 -- ---- `bare-encode`
 
 -- a cause is one after a note too
-bare_later : (s : Setting) (a b c : Outside) (took gave wrote : List ℕ) (r : Result EncodeDone EncodeFault) → Since b c [] [] wrote NoRead → BareAnswers s a b took gave r → BareAnswers s a c took gave r
+bare_later : (s : Setting) (a b c : Outside) (took gave wrote : List ℕ) (r : Result EncodeDone EncodeFault) → Exchange b c [] [] wrote NoRead → BareAnswers s a b took gave r → BareAnswers s a c took gave r
 bare_later s a b c took gave wrote (Ok done) n k = (k.0, at_end_later n k.1, k.2, k.3)
 bare_later s a b c took gave wrote (Err (Short octets)) n k = (k.0, k.1, at_end_later n k.2, k.3, k.4)
 bare_later s a b c took gave wrote (Err Long) n k = k
@@ -51,7 +51,7 @@ bare_engine : (s : Setting) → IsEncoder s (BareAnswers s) (texts_for s) (Encod
 bare_engine s = record {
   say = say;
   later = bare_later s;
-  done = λ old new took gave done k since. record { took = took; since = subst (λ g. Since old new took g [] (GivenBy (texts_for s) took)) k.2 since; raster = k.0; ended = k.1 };
+  done = λ old new took gave done k since. record { took = took; since = subst (λ g. Exchange old new took g [] (GivenBy (texts_for s) took)) k.2 since; raster = k.0; ended = k.1 };
   takes = λ old new input told w. (s.rows, subst (TookRaster s s.rows) (end_told input w.since told w.ended) w.raster);
 }
   where
@@ -144,7 +144,7 @@ module _ (b c : Outside) (ends : AtEnd b → AtEnd c) where
     reasons_later (Err write_failed) k = k
     reasons_later (Err Memory) k = k
 
-ends_later : (a b c : Outside) (wrote : List ℕ) → Since b c [] [] wrote NoRead → (r : Result Geometry BareFault) → EndsSo r a b → EndsSo r a c
+ends_later : (a b c : Outside) (wrote : List ℕ) → Exchange b c [] [] wrote NoRead → (r : Result Geometry BareFault) → EndsSo r a b → EndsSo r a c
 ends_later a b c wrote n (Ok g) k = at_end_later n k
 ends_later a b c wrote n (Err (Refused index cause)) k = tt
 ends_later a b c wrote n (Err (TooManyPixels pixels)) k = tt
@@ -209,7 +209,7 @@ stream_ends wish old new status (read, run) = subst (AtStatus (decodes_bare wish
       took = run.took;
       gave = run.gave;
       read = read;
-      since = subst (λ w. Since old new run.took run.gave w (AsksRead read run.gave)) (nothing_noted old new run.wrote [] refl noted) run.since;
+      since = subst (λ w. Exchange old new run.took run.gave w (AsksRead read run.gave)) (nothing_noted old new run.wrote [] refl noted) run.since;
       ended = k.cause.ends;
       picture = λ all told. gives_picture wish new run.took run.gave g read (k.cause.reason all told) k.cause.gives;
     }
@@ -222,7 +222,7 @@ stream_ends wish old new status (read, run) = subst (AtStatus (decodes_bare wish
       took = run.took;
       wrote = run.wrote;
       read = read;
-      since = subst (λ g. Since old new run.took g run.wrote (AsksRead read g)) k.cause.gives run.since;
+      since = subst (λ g. Exchange old new run.took g run.wrote (AsksRead read g)) k.cause.gives run.since;
       within = k.within;
     }
 
@@ -291,7 +291,7 @@ gave_bare trip wish old new status (read, run) zero = by run.answer (sym run.sta
   where
     by : (r : Result Geometry BareFault) → bare_status r ≡ 0 → IsNoted old new run.wrote (bare_line r) → CausedWithin wish.octets (BareCauses wish read) old new run.took run.gave r → GaveBare wish old new
     by (Ok g) none noted k =
-        let since = subst (λ w. Since old new run.took run.gave w (AsksRead read run.gave)) (nothing_noted old new run.wrote [] refl noted) run.since in
+        let since = subst (λ w. Exchange old new run.took run.gave w (AsksRead read run.gave)) (nothing_noted old new run.wrote [] refl noted) run.since in
         let over : DecodesBare wish old new (Ok g) = record { took = run.took; gave = run.gave; read = read; since = since; within = k.within; gives = k.cause.gives; ends = k.cause.ends; reason = k.cause.reason } in
         record {
           g = g;

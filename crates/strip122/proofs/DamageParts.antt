@@ -6,7 +6,7 @@ use Rattle.std.proofs.lemmas.Bool.{false≢true}
 use Rattle.std.proofs.lemmas.Grind.{flat_map-append}
 use Rattle.std.proofs.lemmas.List.{append-nil, take-append-le}
 use Rattle.std.proofs.Math.Seq.{take-append-add}
-use Rattle.port_122.specs.Outside.{Outside, Since, NoRead, Rose, NotesAll}
+use Rattle.port_122.specs.Outside.{Outside, Exchange, NoRead, Rose, NotesAll}
 use Rattle.port_122.proofs.Stretches.{since_start, since_out, rose_since}
 use Rattle.stream_defs.specs.declared.range.RowRange.{RowRange}
 use Rattle.stream_defs.specs.Marks.{Marks, next_range}
@@ -19,7 +19,7 @@ use Rattle.strip122.specs.DamageNotes.{damaged, range_text, ranges_text, rest_te
 -- the ranges before a row are noted
 pub record AreNoted (m : Marks) (old now : Outside) (from : ℕ) : Type 0 where
   pub walk : Walk m from
-  pub out : Since old now [] [] (flat_map range_text walk.before) NoRead
+  pub out : Exchange old now [] [] (flat_map range_text walk.before) NoRead
 
 pub none_noted : (m : Marks) (a : Outside) → AreNoted m a a 0
 none_noted m a = record { walk = walk_start m; out = since_start a NoRead }
@@ -28,17 +28,17 @@ texts_more : (before : List RowRange) (range : RowRange) → flat_map range_text
 texts_more before range = flat_map-append range_text before (range ∷ []) ∙ ap (λ zs. flat_map range_text before ++ zs) (append-nil (range_text range))
 
 pub noted_more : (m : Marks) (old now new : Outside) (from : ℕ) (range : RowRange) → AreNoted m old now from → Some range ≡ next_range m from →
-    Since now new [] [] (range_text range) NoRead → AreNoted m old new (range.last + 1)
+    Exchange now new [] [] (range_text range) NoRead → AreNoted m old new (range.last + 1)
 noted_more m old now new from range noted found out =
     let next = stands_next m from noted.walk range found in
     record {
       walk = walk_on m from noted.walk range next;
-      out = subst (λ zs. Since old new [] [] zs NoRead) (sym (texts_more noted.walk.before range)) (since_out noted.out out);
+      out = subst (λ zs. Exchange old new [] [] zs NoRead) (sym (texts_more noted.walk.before range)) (since_out noted.out out);
     }
 
 -- or a part of the next one
 pub noted_part : {T E : Type 0} (r : Result T E) (m : Marks) (old now new : Outside) (from : ℕ) (range : RowRange) → IsErr r → AreNoted m old now from → Some range ≡ next_range m from →
-    Rose now.note_faults new.note_faults × ((n : ℕ) × (n ≤ length (range_text range)) × Since now new [] [] (take n (range_text range)) NoRead) →
+    Rose now.note_faults new.note_faults × ((n : ℕ) × (n ≤ length (range_text range)) × Exchange now new [] [] (take n (range_text range)) NoRead) →
     NotesAll r old new (flat_map range_text (damaged m))
 noted_part (Ok x) m old now new from range is noted found failed = absurd (false≢true is)
 noted_part (Err e) m old now new from range is noted found failed =
@@ -56,15 +56,15 @@ noted_part (Err e) m old now new from range is noted found failed =
       (
         length first + n,
         omega (arith, le, ap length all, length-append first (line ++ later), length-append line later),
-        subst (λ zs. Since old new [] [] zs NoRead) (sym front) (since_out noted.out failed.1.2),
+        subst (λ zs. Exchange old new [] [] zs NoRead) (sym front) (since_out noted.out failed.1.2),
       ),
     )
 
 -- none is left
 pub noted_all : (m : Marks) (old now : Outside) (from : ℕ) → AreNoted m old now from → None ≡ next_range m from →
-    Since old now [] [] (flat_map range_text (damaged m)) NoRead
+    Exchange old now [] [] (flat_map range_text (damaged m)) NoRead
 noted_all m old now from noted found =
-    subst (λ rs. Since old now [] [] (flat_map range_text rs) NoRead)
+    subst (λ rs. Exchange old now [] [] (flat_map range_text rs) NoRead)
     (sym (noted.walk.parts ∙ ap (λ rs. noted.walk.before ++ rs) (walk_ends m from noted.walk found) ∙ append-nil noted.walk.before)) noted.out
 
 -- there is none
@@ -80,7 +80,7 @@ some_there m range found =
 
 -- what a note that failed left of these octets
 abbrev pub NotesPart : Outside → Outside → List ℕ → Type 0
-NotesPart p q octets = Rose p.note_faults q.note_faults × ((n : ℕ) × (n ≤ length octets) × Since p q [] [] (take n octets) NoRead)
+NotesPart p q octets = Rose p.note_faults q.note_faults × ((n : ℕ) × (n ≤ length octets) × Exchange p q [] [] (take n octets) NoRead)
 
 in_parts : (rs : List RowRange) (k : Bool) (f : Option Framing) → damage_line rs k f ≡ codes "strip122: damaged rows" ++ (ranges_text rs ++ (rest_text k f ++ codes "\n"))
 in_parts rs k f =
@@ -92,14 +92,14 @@ line_begun p q head rs k f is failed =
     notes_as (damage_line rs k f) (notes_failed p q head (ranges_text rs ++ (rest_text k f ++ codes "\n")) failed)
     (ap (λ zs. zs ++ (ranges_text rs ++ (rest_text k f ++ codes "\n"))) is ∙ sym (in_parts rs k f))
 
-pub line_cut : (p q r : Outside) (head : List ℕ) (rs : List RowRange) (k : Bool) (f : Option Framing) → head ≡ codes "strip122: damaged rows" → Since p q [] [] head NoRead →
+pub line_cut : (p q r : Outside) (head : List ℕ) (rs : List RowRange) (k : Bool) (f : Option Framing) → head ≡ codes "strip122: damaged rows" → Exchange p q [] [] head NoRead →
     NotesPart q r (ranges_text rs) → Notes p r (damage_line rs k f)
 line_cut p q r head rs k f is since failed =
     notes_as (damage_line rs k f) (notes_then p q r head (ranges_text rs ++ (rest_text k f ++ codes "\n")) since (notes_failed q r (ranges_text rs) (rest_text k f ++ codes "\n") failed))
     (ap (λ zs. zs ++ (ranges_text rs ++ (rest_text k f ++ codes "\n"))) is ∙ sym (in_parts rs k f))
 
-pub line_whole : (p q r s : Outside) (head : List ℕ) (rs : List RowRange) (k : Bool) (f : Option Framing) → head ≡ codes "strip122: damaged rows" → Since p q [] [] head NoRead →
-    Since q r [] [] (ranges_text rs) NoRead → Notes r s (rest_text k f ++ codes "\n") → Notes p s (damage_line rs k f)
+pub line_whole : (p q r s : Outside) (head : List ℕ) (rs : List RowRange) (k : Bool) (f : Option Framing) → head ≡ codes "strip122: damaged rows" → Exchange p q [] [] head NoRead →
+    Exchange q r [] [] (ranges_text rs) NoRead → Notes r s (rest_text k f ++ codes "\n") → Notes p s (damage_line rs k f)
 line_whole p q r s head rs k f is since ranges ending =
     notes_as (damage_line rs k f) (notes_then p q s head (ranges_text rs ++ (rest_text k f ++ codes "\n")) since (notes_then q r s (ranges_text rs) (rest_text k f ++ codes "\n") ranges ending))
     (ap (λ zs. zs ++ (ranges_text rs ++ (rest_text k f ++ codes "\n"))) is ∙ sym (in_parts rs k f))
@@ -111,7 +111,7 @@ pub none_line_begun : (p q : Outside) (head : List ℕ) (f : Option Framing) →
 none_line_begun p q head f is failed =
     notes_as (damage_line [] true f) (notes_failed p q head (rest_text true f ++ codes "\n") failed) (ap (λ zs. zs ++ (rest_text true f ++ codes "\n")) is ∙ sym (none_in_parts f))
 
-pub none_line_whole : (p q r : Outside) (head : List ℕ) (f : Option Framing) → head ≡ codes "strip122: damaged rows none" → Since p q [] [] head NoRead →
+pub none_line_whole : (p q r : Outside) (head : List ℕ) (f : Option Framing) → head ≡ codes "strip122: damaged rows none" → Exchange p q [] [] head NoRead →
     Notes q r (rest_text true f ++ codes "\n") → Notes p r (damage_line [] true f)
 none_line_whole p q r head f is since ending =
     notes_as (damage_line [] true f) (notes_then p q r head (rest_text true f ++ codes "\n") since ending) (ap (λ zs. zs ++ (rest_text true f ++ codes "\n")) is ∙ sym (none_in_parts f))

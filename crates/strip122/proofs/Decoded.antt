@@ -5,7 +5,7 @@ use Rattle.std.specs.List.{range_with_len}
 use Rattle.std.proofs.lemmas.Bool.{false≢true, eq-eqb}
 use Rattle.std.proofs.lemmas.List.Elements.{All-filter, All-get_or, All-from_get_or}
 use Rattle.std.proofs.lemmas.List.FromFn.{length-range_with_len, get_or-range_with_len}
-use Rattle.port_122.specs.Outside.{Outside, Since, NoRead, Rose, Loses}
+use Rattle.port_122.specs.Outside.{Outside, Exchange, NoRead, Rose, Loses}
 use Rattle.port_122.proofs.Stretches.{since_start, at_end_later}
 use Rattle.base_122.specs.Sizes.{block_count}
 use Rattle.base_122.specs.declared.geometry.Geometry.{Geometry}
@@ -46,11 +46,11 @@ told_before (Some before) None rest l is = absurd cc
 told_before (Some before) (Some now) rest l is = ap Some l ∙ is
 
 -- what was read to its end stays so
-pub out_later : (cap : ℕ) (b c : Outside) (took wrote : List ℕ) → Since b c [] [] wrote NoRead → IsReadOut cap b took → IsReadOut cap c took
+pub out_later : (cap : ℕ) (b c : Outside) (took wrote : List ℕ) → Exchange b c [] [] wrote NoRead → IsReadOut cap b took → IsReadOut cap c took
 out_later cap b c took wrote n (inl bad) = inl bad
 out_later cap b c took wrote n (inr ended) = inr (at_end_later n ended.0, λ rest told. ended.1 rest (told_before b.rest c.rest rest n.rest told))
 
-picture_later : (gives : Bool) (wish : DecodeWish) (a b c : Outside) (took gave wrote : List ℕ) (done : DecodeDone) → Since b c [] [] wrote NoRead →
+picture_later : (gives : Bool) (wish : DecodeWish) (a b c : Outside) (took gave wrote : List ℕ) (done : DecodeDone) → Exchange b c [] [] wrote NoRead →
     PictureBy gives wish a b took gave done → PictureBy gives wish a c took gave done
 picture_later gives wish a b c took gave wrote done n p = record {
   geometry = p.geometry;
@@ -64,7 +64,7 @@ picture_later gives wish a b c took gave wrote done n p = record {
 }
 
 -- a cause stands after a note too
-decode_later : (wish : DecodeWish) (a b c : Outside) (took gave wrote : List ℕ) (r : Result DecodeDone DecodeFault) → Since b c [] [] wrote NoRead →
+decode_later : (wish : DecodeWish) (a b c : Outside) (took gave wrote : List ℕ) (r : Result DecodeDone DecodeFault) → Exchange b c [] [] wrote NoRead →
     Answers wish a b took gave r → Answers wish a c took gave r
 decode_later wish a b c took gave wrote (Ok done) n k = picture_later true wish a b c took gave wrote done n k
 decode_later wish a b c took gave wrote (Err NoSegment) n k = (k.0, out_later wish.octets b c took wrote n k.1, k.2)
@@ -74,7 +74,7 @@ decode_later wish a b c took gave wrote (Err ReadFault) n k = (omega (arith, k.0
 decode_later wish a b c took gave wrote (Err WriteFault) n k = (omega (arith, k.0, n.faults.writes), k.1, k.2)
 decode_later wish a b c took gave wrote (Err Memory) n k = k
 
-part_later : (wish : DecodeWish) (a b c : Outside) (took gave wrote : List ℕ) → Since b c [] [] wrote NoRead → GivesSome wish a b took gave → GivesSome wish a c took gave
+part_later : (wish : DecodeWish) (a b c : Outside) (took gave wrote : List ℕ) → Exchange b c [] [] wrote NoRead → GivesSome wish a b took gave → GivesSome wish a c took gave
 part_later wish a b c took gave wrote n (inl none) = inl none
 part_later wish a b c took gave wrote n (inr part) = inr record {
   done = part.done;
@@ -83,7 +83,7 @@ part_later wish a b c took gave wrote n (inr part) = inr record {
   lines = part.lines;
 }
 
-find_later : (wish : DecodeWish) (a b c : Outside) (took gave wrote : List ℕ) (r : Result DecodeDone DecodeFault) → Since b c [] [] wrote NoRead →
+find_later : (wish : DecodeWish) (a b c : Outside) (took gave wrote : List ℕ) (r : Result DecodeDone DecodeFault) → Exchange b c [] [] wrote NoRead →
     FindAnswers wish a b took gave r → FindAnswers wish a c took gave r
 find_later wish a b c took gave wrote (Ok done) n k = record { found = picture_later false wish a b c took [] wrote done n k.found; lines = k.lines }
 find_later wish a b c took gave wrote (Err NoSegment) n k = (k.0, out_later wish.octets b c took wrote n k.1, k.2)
@@ -93,7 +93,7 @@ find_later wish a b c took gave wrote (Err ReadFault) n k = (omega (arith, k.0, 
 find_later wish a b c took gave wrote (Err WriteFault) n k = (omega (arith, k.0, n.faults.writes), k.1, part_later wish a b c took gave wrote n k.2)
 find_later wish a b c took gave wrote (Err Memory) n k = k
 
-look_later : (wish : DecodeWish) (a b c : Outside) (took gave wrote : List ℕ) (r : Result DecodeDone DecodeFault) → Since b c [] [] wrote NoRead →
+look_later : (wish : DecodeWish) (a b c : Outside) (took gave wrote : List ℕ) (r : Result DecodeDone DecodeFault) → Exchange b c [] [] wrote NoRead →
     LookAnswers wish a b took gave r → LookAnswers wish a c took gave r
 look_later wish a b c took gave wrote (Ok done) n k = record { found = picture_later false wish a b c took [] wrote done n k.found; look = k.look }
 look_later wish a b c took gave wrote (Err NoSegment) n k = (k.0, out_later wish.octets b c took wrote n k.1, k.2)
@@ -103,15 +103,15 @@ look_later wish a b c took gave wrote (Err ReadFault) n k = (omega (arith, k.0, 
 look_later wish a b c took gave wrote (Err WriteFault) n k = (omega (arith, k.0, n.faults.writes), k.1, k.2)
 look_later wish a b c took gave wrote (Err Memory) n k = k
 
-lines_later : (wish : DecodeWish) (a b c : Outside) (took lines wrote : List ℕ) (done : DecodeDone) → Since b c [] [] wrote NoRead → AreLines wish a b took lines done → AreLines wish a c took lines done
+lines_later : (wish : DecodeWish) (a b c : Outside) (took lines wrote : List ℕ) (done : DecodeDone) → Exchange b c [] [] wrote NoRead → AreLines wish a b took lines done → AreLines wish a c took lines done
 lines_later wish a b c took lines wrote done n k = record { found = picture_later false wish a b c took [] wrote done n k.found; told = k.told }
 
-prefix_later : (wish : DecodeWish) (a b c : Outside) (took gave wrote : List ℕ) → Since b c [] [] wrote NoRead → GivesSomeLines wish a b took gave → GivesSomeLines wish a c took gave
+prefix_later : (wish : DecodeWish) (a b c : Outside) (took gave wrote : List ℕ) → Exchange b c [] [] wrote NoRead → GivesSomeLines wish a b took gave → GivesSomeLines wish a c took gave
 prefix_later wish a b c took gave wrote n (inl none) = inl none
 prefix_later wish a b c took gave wrote n (inr part) =
     inr record { done = part.done; lines = part.lines; are = lines_later wish a b c took part.lines wrote part.done n part.are; some = part.some; gave_is = part.gave_is }
 
-rects_later : (wish : DecodeWish) (a b c : Outside) (took gave wrote : List ℕ) (r : Result DecodeDone DecodeFault) → Since b c [] [] wrote NoRead →
+rects_later : (wish : DecodeWish) (a b c : Outside) (took gave wrote : List ℕ) (r : Result DecodeDone DecodeFault) → Exchange b c [] [] wrote NoRead →
     RectAnswers wish a b took gave r → RectAnswers wish a c took gave r
 rects_later wish a b c took gave wrote (Ok done) n k = lines_later wish a b c took gave wrote done n k
 rects_later wish a b c took gave wrote (Err NoSegment) n k = (k.0, out_later wish.octets b c took wrote n k.1, k.2)
@@ -258,9 +258,9 @@ rects_say wish a b took gave (Err Memory) k = k
 
 -- all answers of an engine are answers after a note too
 abbrev pub AllLast : Causes → Type 0
-AllLast answers = (a b c : Outside) (took gave wrote : List ℕ) (r : Result DecodeDone DecodeFault) → Since b c [] [] wrote NoRead → answers a b took gave r → answers a c took gave r
+AllLast answers = (a b c : Outside) (took gave wrote : List ℕ) (r : Result DecodeDone DecodeFault) → Exchange b c [] [] wrote NoRead → answers a b took gave r → answers a c took gave r
 
-module _ (wish : DecodeWish) (answers : Causes) (asks : Asking) (later : AllLast answers) (a b c : Outside) {took gave : List ℕ} (run : Since a b took gave [] (asks a took gave)) (within : length took ≤ wish.octets) (status : ℕ) where
+module _ (wish : DecodeWish) (answers : Causes) (asks : Asking) (later : AllLast answers) (a b c : Outside) {took gave : List ℕ} (run : Exchange a b took gave [] (asks a took gave)) (within : length took ≤ wish.octets) (status : ℕ) where
   done_noted : (done : DecodeDone) → answers a b took gave (Ok done) → TellsDone (damaged done.damage) (is_known done.geometry) done.framing b c status →
       RunsDecoder (CausedWithin wish.octets answers) asks a c status
   done_noted done k n = ran_on a b c (Ok done) took gave n.wrote status run (record { within = within; cause = later a b c took gave n.wrote (Ok done) n.since k }) n.since n.status_is n.noted
@@ -346,7 +346,7 @@ picture_ends wish answers asks say old new status run = subst (AtStatus (reads_p
             done = done;
             took = run.took;
             gave = run.gave;
-            since = subst (λ w. Since old new run.took run.gave w (asks old run.took run.gave)) silent run.since;
+            since = subst (λ w. Exchange old new run.took run.gave w (asks old run.took run.gave)) silent run.since;
             cause = k;
             framing = fine.2;
             known = known_some done.geometry fine.1;
@@ -380,4 +380,4 @@ picture_ends wish answers asks say old new status run = subst (AtStatus (reads_p
     by (Err WriteFault) noted k = say old new run.took run.gave (Err WriteFault) k.cause
     by (Err Memory) noted k =
         let none = say old new run.took run.gave (Err Memory) k.cause in
-        record { took = run.took; wrote = run.wrote; since = subst (λ g. Since old new run.took g run.wrote (asks old run.took g)) none run.since; within = k.within }
+        record { took = run.took; wrote = run.wrote; since = subst (λ g. Exchange old new run.took g run.wrote (asks old run.took g)) none run.since; within = k.within }

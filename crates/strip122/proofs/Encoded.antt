@@ -1,7 +1,7 @@
 -- What a run of `encode` leaves after its note, and what follows for each status.
 use Rattle.std.proofs.Common.{◌≡◌, ◌+◌, ◌*◌, ℕ, List, [], ◌++◌, length, refl, sym, ◌∙◌, ap, subst, arith, length-append, inl, inr}
 use Rattle.std.specs.Prelude.{Result, Ok, Err, Some}
-use Rattle.port_122.specs.Outside.{Outside, Since, NoRead, Rose, GivenBy, AtEnd}
+use Rattle.port_122.specs.Outside.{Outside, Exchange, NoRead, Rose, GivenBy, AtEnd}
 use Rattle.port_122.proofs.Stretches.{since_start, at_end_later}
 use Rattle.port_122.proofs.Told.{end_told}
 use Rattle.base_122.specs.declared.setting.Setting.{Setting}
@@ -31,8 +31,8 @@ EncoderSays s old new took WriteFault = Rose old.write_faults new.write_faults
 -- input that is a raster.
 pub record IsEncoder (s : Setting) (answers : EncoderCauses) (given : List ℕ → List ℕ) (whole : Outside → Outside → Type 0) : Type 0 where
   pub say : (old new : Outside) (took gave : List ℕ) (fault : EncodeFault) → answers old new took gave (Err fault) → EncoderSays s old new took fault
-  pub later : (a b c : Outside) (took gave wrote : List ℕ) (r : Result EncodeDone EncodeFault) → Since b c [] [] wrote NoRead → answers a b took gave r → answers a c took gave r
-  pub done : (old new : Outside) (took gave : List ℕ) (done : EncodeDone) → answers old new took gave (Ok done) → Since old new took gave [] (GivenBy given took) → whole old new
+  pub later : (a b c : Outside) (took gave wrote : List ℕ) (r : Result EncodeDone EncodeFault) → Exchange b c [] [] wrote NoRead → answers a b took gave r → answers a c took gave r
+  pub done : (old new : Outside) (took gave : List ℕ) (done : EncodeDone) → answers old new took gave (Ok done) → Exchange old new took gave [] (GivenBy given took) → whole old new
   pub takes : (old new : Outside) (input : List ℕ) → old.rest ≡ Some input → whole old new → (rows : ℕ) × TookRaster s rows input
 
 module _ (s : Setting) (answers : EncoderCauses) (given : List ℕ → List ℕ) (whole : Outside → Outside → Type 0) (engine : IsEncoder s answers given whole) where
@@ -48,7 +48,7 @@ module _ (s : Setting) (answers : EncoderCauses) (given : List ℕ → List ℕ)
 
       by : (r : Result EncodeDone EncodeFault) → IsNoted old new run.wrote (encode_line r) → answers old new run.took run.gave r → AtStatus (encoder s answers given whole) old new (encode_status r)
       by (Ok done) noted k =
-          engine.done old new run.took run.gave done k (subst (λ w. Since old new run.took run.gave w (GivenBy given run.took)) (nothing_noted old new run.wrote [] refl noted) run.since)
+          engine.done old new run.took run.gave done k (subst (λ w. Exchange old new run.took run.gave w (GivenBy given run.took)) (nothing_noted old new run.wrote [] refl noted) run.since)
       by (Err (Short octets)) noted k = refuses (Short octets) refl noted k
       by (Err Long) noted k = refuses Long refl noted k
       by (Err (BadPixel row column value)) noted k = refuses (BadPixel row column value) refl noted k
@@ -83,7 +83,7 @@ module _ (s : Setting) (answers : EncoderCauses) (given : List ℕ → List ℕ)
 -- ---- `encode`
 
 -- a cause is one after a note too
-causes_later : (s : Setting) (a b c : Outside) (took gave wrote : List ℕ) (r : Result EncodeDone EncodeFault) → Since b c [] [] wrote NoRead → Answers s a b took gave r → Answers s a c took gave r
+causes_later : (s : Setting) (a b c : Outside) (took gave wrote : List ℕ) (r : Result EncodeDone EncodeFault) → Exchange b c [] [] wrote NoRead → Answers s a b took gave r → Answers s a c took gave r
 causes_later s a b c took gave wrote (Ok done) n k = (k.0, k.1, at_end_later n k.2, k.3, k.4)
 causes_later s a b c took gave wrote (Err (Short octets)) n k = (k.0, k.1, at_end_later n k.2, k.3, k.4)
 causes_later s a b c took gave wrote (Err Long) n k = k
@@ -105,7 +105,7 @@ encode_engine : (s : Setting) → IsEncoder s (Answers s) (given_for s) (Encoded
 encode_engine s = record {
   say = say;
   later = causes_later s;
-  done = λ old new took gave done k since. record { took = took; rows = k.0; since = subst (λ g. Since old new took g [] (GivenBy (given_for s) took)) k.3 since; raster = k.1; total = k.4.total; ended = k.2 };
+  done = λ old new took gave done k since. record { took = took; rows = k.0; since = subst (λ g. Exchange old new took g [] (GivenBy (given_for s) took)) k.3 since; raster = k.1; total = k.4.total; ended = k.2 };
   takes = λ old new input told w. (w.rows, subst (TookRaster s w.rows) (end_told input w.since told w.ended) w.raster);
 }
   where

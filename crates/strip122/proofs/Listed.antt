@@ -1,7 +1,7 @@
 -- What a run of `list`, `pick` and `info` leaves after its note, and what follows for each status.
 use Rattle.std.proofs.Common.{◌≡◌, ◌≤◌, ◌<◌, ℕ, List, [], ◌+◌, ◌++◌, length, refl, sym, ◌∙◌, subst, arith, ap, length-append, inl, inr, true, false}
 use Rattle.std.specs.Prelude.{◌⊎◌, Option, Result, Ok, Err}
-use Rattle.port_122.specs.Outside.{Outside, Since, NoRead, Rose}
+use Rattle.port_122.specs.Outside.{Outside, Exchange, NoRead, Rose}
 use Rattle.base_122.specs.declared.wish.DecodeWish.{DecodeWish}
 use Rattle.packet_defs.specs.Streams.{whole_packets, left_over, has_bad_version}
 use Rattle.packet_assembly.specs.Readings.{IsReadOut}
@@ -42,14 +42,14 @@ FaultSays cap Few old new took gave Memory = old ≡ new
 pub record IsReader {D F : Type 0} (r : Reader D F) : Type 0 where
   pub done : (old new : Outside) (took gave : List ℕ) (done : D) → r.causes old new took gave (Ok done) → IsReadOut r.cap new took × r.Few took
   pub say : (old new : Outside) (took gave : List ℕ) (fault : F) → r.causes old new took gave (Err fault) → FaultSays r.cap r.Few old new took gave (r.fault_of fault)
-  pub later : (a b c : Outside) (took gave wrote : List ℕ) (answer : Result D F) → Since b c [] [] wrote NoRead → WithMemory r a b took gave answer → WithMemory r a c took gave answer
+  pub later : (a b c : Outside) (took gave wrote : List ℕ) (answer : Result D F) → Exchange b c [] [] wrote NoRead → WithMemory r a b took gave answer → WithMemory r a c took gave answer
   pub fewer : (took more : List ℕ) → r.Few (took ++ more) → r.Few took
   pub same : (took other : List ℕ) → whole_packets took ≡ whole_packets other → r.Few took → r.Few other
 
 module _ {D F : Type 0} (r : Reader D F) (engine : IsReader r) where
   -- ---- after the note
 
-  module _ {a b c : Outside} {took gave : List ℕ} (run : Since a b took gave [] (r.asks a took gave)) (within : length took ≤ r.cap) (status : ℕ) where
+  module _ {a b c : Outside} {took gave : List ℕ} (run : Exchange a b took gave [] (r.asks a took gave)) (within : length took ≤ r.cap) (status : ℕ) where
     pub told : (done : D) → r.causes a b took gave (Ok done) → TellsDone [] true (r.framing_of done) b c status → Reads r a c status
     told done k n = inr (ran_on a b c (Ok done) took gave n.wrote status run (record { within = within; cause = engine.later a b c took gave n.wrote (Ok done) n.since k }) n.since n.status_is n.noted)
 
@@ -67,7 +67,7 @@ module _ {D F : Type 0} (r : Reader D F) (engine : IsReader r) where
             let same : b ≡ a = sym (subst (FaultSays r.cap r.Few a b took gave) e (engine.say a b took gave fault k)) in
             inl record {
               wrote = n.0;
-              since = subst (λ p. Since p c [] [] n.0 NoRead) same n.1;
+              since = subst (λ p. Exchange p c [] [] n.0 NoRead) same n.1;
               status_is = is ∙ ap list_fault_status e;
               noted = subst (λ p. IsNoted p c n.0 memory_line) same (subst (λ kind. IsNoted b c n.0 (list_fault_line kind)) e n.2);
             }
@@ -87,7 +87,7 @@ module _ {D F : Type 0} (r : Reader D F) (engine : IsReader r) where
               done = done;
               took = run.took;
               gave = run.gave;
-              since = subst (λ w. Since old new run.took run.gave w (r.asks old run.took run.gave)) silent run.since;
+              since = subst (λ w. Exchange old new run.took run.gave w (r.asks old run.took run.gave)) silent run.since;
               within = run.cause.within;
               cause = k;
               framing = good;
@@ -137,7 +137,7 @@ module _ {D F : Type 0} (r : Reader D F) (engine : IsReader r) where
   ]
 
   -- and what was read to its end isn't too long
-  not_long : (old new : Outside) {took gave wrote : List ℕ} {Q : ℕ → ℕ → Type 0} → HasTooMany r.cap old ⊎ HasMany r.cap r.Few old → Since old new took gave wrote Q → length took ≤ r.cap → (done : D) →
+  not_long : (old new : Outside) {took gave wrote : List ℕ} {Q : ℕ → ℕ → Type 0} → HasTooMany r.cap old ⊎ HasMany r.cap r.Few old → Exchange old new took gave wrote Q → length took ≤ r.cap → (done : D) →
       r.causes old new took gave (Ok done) → ⊥
   not_long old new {took = took} {gave = gave} (inl has) since within done k = not_read_out r.cap took has.input old new since has.told within has.long has.good (engine.done old new took gave done k).0
   not_long old new {took = took} {gave = gave} (inr has) since within done k =
@@ -163,7 +163,7 @@ list_reads wish = record { done = λ old new took gave done k. (k.out, tt); say 
     say old new took gave WriteFault k = k.0
     say old new took gave Memory k = k.0
 
-    later : (a b c : Outside) (took gave wrote : List ℕ) (answer : Result ListDone ListFault) → Since b c [] [] wrote NoRead → WithMemory (lister wish) a b took gave answer → WithMemory (lister wish) a c took gave answer
+    later : (a b c : Outside) (took gave wrote : List ℕ) (answer : Result ListDone ListFault) → Exchange b c [] [] wrote NoRead → WithMemory (lister wish) a b took gave answer → WithMemory (lister wish) a c took gave answer
     later a b c took gave wrote (Ok done) n k = record { lines = k.lines; packets = k.packets; framing_is = k.framing_is; out = out_later wish.octets b c took wrote n k.out }
     later a b c took gave wrote (Err LongInput) n k = k
     later a b c took gave wrote (Err ReadFault) n k = (k.0, (omega (arith, k.1.0, n.faults.reads), k.1.1))
@@ -179,7 +179,7 @@ pick_reads wish image = record { done = λ old new took gave done k. (k.out, tt)
     say old new took gave WriteFault k = k.0
     say old new took gave Memory k = k.0
 
-    later : (a b c : Outside) (took gave wrote : List ℕ) (answer : Result ListDone ListFault) → Since b c [] [] wrote NoRead → WithMemory (picker wish image) a b took gave answer →
+    later : (a b c : Outside) (took gave wrote : List ℕ) (answer : Result ListDone ListFault) → Exchange b c [] [] wrote NoRead → WithMemory (picker wish image) a b took gave answer →
         WithMemory (picker wish image) a c took gave answer
     later a b c took gave wrote (Ok done) n k = record { octets = k.octets; packets = k.packets; framing_is = k.framing_is; out = out_later wish.octets b c took wrote n k.out }
     later a b c took gave wrote (Err LongInput) n k = k
@@ -212,7 +212,7 @@ info_reads wish = record {
     say old new took gave info_write_failed k = k.0
     say old new took gave info_memory k = k.0
 
-    later : (a b c : Outside) (took gave wrote : List ℕ) (answer : Result InfoDone InfoFault) → Since b c [] [] wrote NoRead → WithMemory (informer wish) a b took gave answer → WithMemory (informer wish) a c took gave answer
+    later : (a b c : Outside) (took gave wrote : List ℕ) (answer : Result InfoDone InfoFault) → Exchange b c [] [] wrote NoRead → WithMemory (informer wish) a b took gave answer → WithMemory (informer wish) a c took gave answer
     later a b c took gave wrote (Ok done) n k = record { lines = k.lines; images_are = k.images_are; few = k.few; framing_is = k.framing_is; out = out_later wish.octets b c took wrote n k.out }
     later a b c took gave wrote (Err info_long) n k = k
     later a b c took gave wrote (Err TooManyImages) n k = k

@@ -3,7 +3,7 @@ use Rattle.std.proofs.Common.{◌≡◌, ◌<◌, ◌≤◌, ◌+◌, ◌-◌, �
 use Rattle.std.specs.Prelude.{slice_set, Result, IsErr}
 use Rattle.std.specs.List.{range_with_len}
 use Rattle.std.proofs.lemmas.List.{map-append, take_more_set}
-use Rattle.port_122.specs.Outside.{Outside, Since, NoRead, Rose, WritesAll}
+use Rattle.port_122.specs.Outside.{Outside, Exchange, NoRead, Rose, WritesAll}
 use Rattle.port_122.proofs.Stretches.{since_out}
 use Rattle.port_122.proofs.Parts.{failed_part}
 use Rattle.raster_rows.specs.declared.made.MadeImage.{MadeImage}
@@ -45,8 +45,8 @@ three_parts made row done count le =
 
 -- where a part of a row couldn't be given whole, a prefix of the row is given
 pub row_failed : {T E : Type 0} {a b c : Outside} (made : MadeImage) (row done count : ℕ) (r : Result T E) → done + count ≤ made.width →
-    Since a b [] (made_part made row 0 done) [] NoRead →
-    Rose b.write_faults c.write_faults × ((n : ℕ) × (n ≤ length (made_part made row done count)) × Since b c [] (take n (made_part made row done count)) [] NoRead) →
+    Exchange a b [] (made_part made row 0 done) [] NoRead →
+    Rose b.write_faults c.write_faults × ((n : ℕ) × (n ≤ length (made_part made row done count)) × Exchange b c [] (take n (made_part made row done count)) [] NoRead) →
     IsErr r → WritesAll r a c (made_part made row 0 made.width)
 row_failed {a = a} {c = c} made row done count r le p q is =
     subst (WritesAll r a c) (sym (three_parts made row done count le))
@@ -65,8 +65,8 @@ three_rows made row lt =
 
 -- where a row couldn't be given whole, a prefix of the raster is given
 pub raster_failed : {T E : Type 0} {a b c : Outside} (made : MadeImage) (row : ℕ) (r : Result T E) → row < made.rows →
-    Since a b [] (raster_octets made.depth row made.width (made_value made)) [] NoRead →
-    Rose b.write_faults c.write_faults × ((n : ℕ) × (n ≤ length (made_part made row 0 made.width)) × Since b c [] (take n (made_part made row 0 made.width)) [] NoRead) →
+    Exchange a b [] (raster_octets made.depth row made.width (made_value made)) [] NoRead →
+    Rose b.write_faults c.write_faults × ((n : ℕ) × (n ≤ length (made_part made row 0 made.width)) × Exchange b c [] (take n (made_part made row 0 made.width)) [] NoRead) →
     IsErr r → WritesAll r a c (made_raster made)
 raster_failed {a = a} {c = c} made row r lt p q is =
     subst (WritesAll r a c) (sym (three_rows made row lt))
@@ -75,7 +75,7 @@ raster_failed {a = a} {c = c} made row r lt p q is =
 
 -- one more row
 pub row_then : {a b c : Outside} (made : MadeImage) (row : ℕ) →
-    Since a b [] (raster_octets made.depth row made.width (made_value made)) [] NoRead → Since b c [] (made_part made row 0 made.width) [] NoRead →
-    Since a c [] (raster_octets made.depth (row + 1) made.width (made_value made)) [] NoRead
+    Exchange a b [] (raster_octets made.depth row made.width (made_value made)) [] NoRead → Exchange b c [] (made_part made row 0 made.width) [] NoRead →
+    Exchange a c [] (raster_octets made.depth (row + 1) made.width (made_value made)) [] NoRead
 row_then {a = a} {c = c} made row p q =
-    subst (λ gave. Since a c [] gave [] NoRead) (sym (raster_octets-more made.depth row made.width (made_value made))) (since_out p q)
+    subst (λ gave. Exchange a c [] gave [] NoRead) (sym (raster_octets-more made.depth row made.width (made_value made))) (since_out p q)

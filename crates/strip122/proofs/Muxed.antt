@@ -2,7 +2,7 @@
 use Rattle.std.proofs.Common.{◌≡◌, ◌<◌, ◌≤◌, ◌+◌, ◌*◌, ℕ, ℤ, zero, suc, Bool, List, [], ◌∷◌, ◌++◌, length, take, refl, sym, ◌∙◌, ap, subst, arith, append_assoc, length-append, inl, inr}
 use Rattle.std.specs.Prelude.{Result, Ok, Err, Some}
 use Rattle.std.proofs.lemmas.List.{append-nil}
-use Rattle.port_122.specs.Outside.{Outside, Since, NoRead, AtEnd}
+use Rattle.port_122.specs.Outside.{Outside, Exchange, NoRead, AtEnd}
 use Rattle.port_122.proofs.Stretches.{since_start, since_note, at_end_later}
 use Rattle.port_122.proofs.Told.{end_told}
 use Rattle.base_122.specs.declared.setting.Setting.{Setting}
@@ -28,7 +28,7 @@ use Rattle.strip122.proofs.ReadOut.{took_front}
 -- ---- after the note
 
 -- a cause is one after a note too
-causes_later : (settings : List Setting) (a b c : Outside) (records : List CameraRow) (rest gave wrote : List ℕ) (r : Result MuxDone MuxFault) → Since b c [] [] wrote NoRead →
+causes_later : (settings : List Setting) (a b c : Outside) (records : List CameraRow) (rest gave wrote : List ℕ) (r : Result MuxDone MuxFault) → Exchange b c [] [] wrote NoRead →
     Answers settings a b records rest gave r → Answers settings a c records rest gave r
 causes_later settings a b c records rest gave wrote (Ok done) n k = (k.0, k.1, at_end_later n k.2, k.3, k.4, k.5)
 causes_later settings a b c records rest gave wrote (Err ReadFault) n k = (omega (arith, k.0, n.faults.reads), k.1, k.2)
@@ -112,7 +112,7 @@ accepted_follow : (settings : List Setting) (records : List CameraRow) → AreAc
 accepted_follow settings records all = record { each = all.each }
 
 -- records that go on from others, with these octets
-record GoesOn (settings : List Setting) (before records front : List CameraRow) (octets : List ℕ) : Type 0 where
+record Continues (settings : List Setting) (before records front : List CameraRow) (octets : List ℕ) : Type 0 where
   next : List CameraRow
   records_are : records ≡ front ++ next
   octets_are : octets_of next ≡ octets
@@ -120,7 +120,7 @@ record GoesOn (settings : List Setting) (before records front : List CameraRow) 
 
 -- Of two lists of records that can follow the same ones, one begins the other if its octets do.
 goes_on : (settings : List Setting) (before front records : List CameraRow) (octets : List ℕ) → FollowOn settings before front → FollowOn settings before records →
-    octets_of records ≡ octets_of front ++ octets → GoesOn settings before records front octets
+    octets_of records ≡ octets_of front ++ octets → Continues settings before records front octets
 goes_on settings before [] records octets one other e = record {
   next = records;
   records_are = refl;
@@ -158,7 +158,7 @@ no_bad_pixel depth signed width row got ws column value is size all bad =
 
 module _ (settings : List Setting) (input : List ℕ) (all : AreRecords settings input) (records : List CameraRow) (accepted : AreAccepted settings records) (rest more : List ℕ)
     (parts : input ≡ (octets_of records ++ rest) ++ more) where
-  after : GoesOn settings [] all.records records (rest ++ more)
+  after : Continues settings [] all.records records (rest ++ more)
   after = goes_on settings [] records all.records (rest ++ more) (accepted_follow settings records accepted) (accepted_follow settings all.records all.accepted)
       (sym all.octets_are ∙ parts ∙ append_assoc (octets_of records) rest more)
 
@@ -248,15 +248,15 @@ mux_ends settings old new status (inr run) = subst (AtStatus (muxes settings) ol
     whole : (done : MuxDone) → IsNoted old new run.wrote [] → Answers settings old new run.records run.rest run.gave (Ok done) → MuxedWhole settings old new
     whole done noted k =
         let silent = nothing_noted old new run.wrote [] refl noted in
-        let quiet : Since old new (octets_of run.records ++ run.rest) run.gave [] (AsksMux settings run.records) =
-        subst (λ w. Since old new (octets_of run.records ++ run.rest) run.gave w (AsksMux settings run.records)) silent run.since in
+        let quiet : Exchange old new (octets_of run.records ++ run.rest) run.gave [] (AsksMux settings run.records) =
+        subst (λ w. Exchange old new (octets_of run.records ++ run.rest) run.gave w (AsksMux settings run.records)) silent run.since in
         let all : octets_of run.records ++ run.rest ≡ octets_of run.records = ap (λ xs. octets_of run.records ++ xs) k.1 ∙ append-nil (octets_of run.records) in
         record {
           records = run.records;
           accepted = run.accepted;
           full = k.0;
-          since = subst (λ g. Since old new (octets_of run.records) g [] (AsksMux settings run.records)) k.3
-              (subst (λ t. Since old new t run.gave [] (AsksMux settings run.records)) all quiet);
+          since = subst (λ g. Exchange old new (octets_of run.records) g [] (AsksMux settings run.records)) k.3
+              (subst (λ t. Exchange old new t run.gave [] (AsksMux settings run.records)) all quiet);
           keeps = run.keeps;
           ended = k.2;
         }

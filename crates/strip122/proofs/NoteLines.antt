@@ -4,14 +4,14 @@ use Rattle.std.specs.Prelude.{Result, Ok, Err, String, string_bytes}
 use Rattle.std.specs.declared.alloc.Global.{Global}
 use Rattle.std.proofs.lemmas.List.{take-append-le}
 use Rattle.std.proofs.Math.Seq.{take-append-add, take-nil}
-use Rattle.port_122.specs.Outside.{Outside, Since, NoRead, Rose, NotesAll}
+use Rattle.port_122.specs.Outside.{Outside, Exchange, NoRead, Rose, NotesAll}
 use Rattle.port_122.proofs.Stretches.{since_out, since_note, rose_since}
 use Rattle.command_words.specs.Words.{texts}
 use Rattle.strip122.specs.Notes.{IsNoted, Notes, word_at}
 use Rattle.strip122.specs.Ran.{Ran}
 
 -- a part, and then the rest of the line
-pub notes_then : (p q r : Outside) (part rest : List ℕ) → Since p q [] [] part NoRead → Notes q r rest → Notes p r (part ++ rest)
+pub notes_then : (p q r : Outside) (part rest : List ℕ) → Exchange p q [] [] part NoRead → Notes q r rest → Notes p r (part ++ rest)
 notes_then p q r part rest s n =
     let after : IsNoted p r (part ++ n.0) (part ++ rest) = elim n.2 [
       | inl same ↦ inl (ap (λ xs. part ++ xs) same)
@@ -28,7 +28,7 @@ notes_then p q r part rest s n =
 
 -- a part that failed, and so nothing of the rest
 pub notes_failed : (p q : Outside) (part rest : List ℕ) →
-    Rose p.note_faults q.note_faults × ((n : ℕ) × (n ≤ length part) × Since p q [] [] (take n part) NoRead) → Notes p q (part ++ rest)
+    Rose p.note_faults q.note_faults × ((n : ℕ) × (n ≤ length part) × Exchange p q [] [] (take n part) NoRead) → Notes p q (part ++ rest)
 notes_failed p q part rest f =
     (take f.1.0 part, f.1.2, inr (f.0, (f.1.0, omega (arith, f.1.1, length-append part rest), sym (take-append-le f.1.0 part rest f.1.1))))
 
@@ -59,7 +59,7 @@ word_is (w ∷ words) (suc place) word lt is = word_is words place word (omega a
 
 -- a run of an engine, and then its note
 pub ran_on : {R : Type 0} {causes : Outside → Outside → List ℕ → List ℕ → R → Type 0} {asks : Outside → List ℕ → List ℕ → ℕ → ℕ → Type 0} {status_of : R → ℕ} {line_of : R → List ℕ} →
-    (a b c : Outside) (answer : R) (took gave wrote : List ℕ) (status : ℕ) → Since a b took gave [] (asks a took gave) → causes a c took gave answer → Since b c [] [] wrote NoRead →
+    (a b c : Outside) (answer : R) (took gave wrote : List ℕ) (status : ℕ) → Exchange a b took gave [] (asks a took gave) → causes a c took gave answer → Exchange b c [] [] wrote NoRead →
     status ≡ status_of answer → IsNoted b c wrote (line_of answer) → Ran causes asks status_of line_of a c status
 ran_on a b c answer took gave wrote status run cause note is noted = record {
   answer = answer;

@@ -3,7 +3,7 @@ use Rattle.std.proofs.Common.{◌≡◌, ◌*◌, ℕ, List, [], ◌∷◌, ◌+
 use Rattle.std.specs.Prelude.{◌⊎◌, Some, None, Ok, Err}
 use Rattle.std.proofs.lemmas.Bool.{false≢true}
 use Rattle.std.proofs.Math.Nat.{mul-le-mul_left}
-use Rattle.port_122.specs.Outside.{Outside, Since, Loses}
+use Rattle.port_122.specs.Outside.{Outside, Exchange, Loses}
 use Rattle.port_122.proofs.Told.{end_told}
 use Rattle.base_122.specs.declared.geometry.Geometry.{Geometry}
 use Rattle.base_122.specs.declared.wish.DecodeWish.{DecodeWish}
@@ -50,7 +50,7 @@ not_full cap old new took loses has full good =
       | inr bad ↦ false≢true (sym good ∙ ap (λ xs. has_bad_version (left_over xs)) (sym (all_within cap has.input took front.0 front.1 full)) ∙ bad)
     ]
 
-module _ (cap : ℕ) (old new : Outside) {took gave wrote : List ℕ} {Q : ℕ → ℕ → Type 0} (since : Since old new took gave wrote Q) (packets : HasPackets cap old) where
+module _ (cap : ℕ) (old new : Outside) {took gave wrote : List ℕ} {Q : ℕ → ℕ → Type 0} (since : Exchange old new took gave wrote Q) (packets : HasPackets cap old) where
   -- what was read out has all packets of the input
   pub all_read : IsReadOut cap new took → whole_packets packets.input ≡ whole_packets took
   all_read (inl bad) =
@@ -81,7 +81,7 @@ module _ (wish : DecodeWish) (answers : Causes) (asks : Asking) (say : AllSay wi
       by Memory k three = omega (arith, three)
 
   -- and of others, or too many of them, no picture is given
-  wrong_packets : {took gave wrote : List ℕ} {Q : ℕ → ℕ → Type 0} → HasNoPicture wish old ⊎ HasTooMany wish.octets old → Since old new took gave wrote Q → (done : DecodeDone) →
+  wrong_packets : {took gave wrote : List ℕ} {Q : ℕ → ℕ → Type 0} → HasNoPicture wish old ⊎ HasTooMany wish.octets old → Exchange old new took gave wrote Q → (done : DecodeDone) →
       CausedWithin wish.octets answers old new took gave (Ok done) → ⊥
   wrong_packets {took = took} {gave = gave} (inl has) since done cause = by has.no_picture
     where

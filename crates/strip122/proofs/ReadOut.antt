@@ -4,7 +4,7 @@ use Rattle.std.specs.Prelude.{Option, None, Some}
 use Rattle.std.proofs.lemmas.Bool.{false≢true}
 use Rattle.std.proofs.lemmas.List.{append-nil}
 use Rattle.std.proofs.Math.Seq.{take-append-add}
-use Rattle.port_122.specs.Outside.{Outside, Since, Loses}
+use Rattle.port_122.specs.Outside.{Outside, Exchange, Loses}
 use Rattle.port_122.proofs.Told.{end_told}
 use Rattle.packet_defs.specs.Packets.{joined}
 use Rattle.packet_defs.specs.Streams.{Splits, begins_packet, has_bad_version, left_over, whole_packets}
@@ -68,7 +68,7 @@ bad_within cap input took rest is within bad =
     ap (λ xs. has_bad_version (left_over xs)) (within_cap cap input took rest is within) ∙ ap has_bad_version (left_stays took more bad) ∙ bad_later took more bad
 
 -- An input of as many octets as the cap lets, which can be read on, isn't read out.
-pub not_read_out : {g w : List ℕ} {Q : ℕ → ℕ → Type 0} (cap : ℕ) (took input : List ℕ) (old new : Outside) → Since old new took g w Q → old.rest ≡ Some input → length took ≤ cap →
+pub not_read_out : {g w : List ℕ} {Q : ℕ → ℕ → Type 0} (cap : ℕ) (took input : List ℕ) (old new : Outside) → Exchange old new took g w Q → old.rest ≡ Some input → length took ≤ cap →
     cap ≤ length input → has_bad_version (left_over (take cap input)) ≡ false → IsReadOut cap new took → ⊥
 not_read_out cap took input old new since told within long good (inl bad) =
     let front = took_front input took old.rest new.rest told since.rest in

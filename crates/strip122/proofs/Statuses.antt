@@ -1,7 +1,7 @@
 -- What a run of `make` and `trial` leaves after its note, or one that refuses the words, and what follows for each status.
 use Rattle.std.proofs.Common.{◌≡◌, ◌≤◌, ℕ, List, [], length, refl, sym, subst, arith, take, inl, inr}
 use Rattle.std.specs.Prelude.{Result, Ok, Err, codes}
-use Rattle.port_122.specs.Outside.{Outside, Since, NoRead, Rose, GivenBy}
+use Rattle.port_122.specs.Outside.{Outside, Exchange, NoRead, Rose, GivenBy}
 use Rattle.port_122.proofs.Stretches.{since_start, since_note, at_end_later}
 use Rattle.base_122.specs.declared.setting.Setting.{Setting}
 use Rattle.command_words.specs.declared.command.WordFault.{WordFault}
@@ -21,7 +21,7 @@ use Rattle.strip122.proofs.Behaviours.{AtStatus, Law}
 pub refuses : (words : List (List ℕ)) (fault : WordFault) (p q : Outside) → Notes p q (word_line words fault) → Refuses words fault p q 2
 refuses words fault p q n = record { wrote = n.0; since = n.1; status_is = refl; noted = n.2 }
 
-pub given_whole : (octets : List ℕ) (a b : Outside) → Since a b [] octets [] NoRead → Gives octets a b 0
+pub given_whole : (octets : List ℕ) (a b : Outside) → Exchange a b [] octets [] NoRead → Gives octets a b 0
 given_whole octets a b s = record {
   gave = octets;
   wrote = [];
@@ -30,7 +30,7 @@ given_whole octets a b s = record {
 }
 
 pub given_cut : (octets : List ℕ) (a b c : Outside) →
-    Rose a.write_faults b.write_faults × ((n : ℕ) × (n ≤ length octets) × Since a b [] (take n octets) [] NoRead) →
+    Rose a.write_faults b.write_faults × ((n : ℕ) × (n ≤ length octets) × Exchange a b [] (take n octets) [] NoRead) →
     Notes b c (codes "strip122: write fault\n") → Gives octets a c 5
 given_cut octets a b c f n = record {
   gave = take f.1.0 octets;
@@ -48,21 +48,21 @@ given_cut octets a b c f n = record {
 pub lacks_trial : (s : Setting) (seed : ℕ) (a b : Outside) → Notes a b memory_line → Tries s seed a b 6
 lacks_trial s seed a b n = inl (record { wrote = n.0; since = n.1; status_is = refl; noted = n.2 })
 
-pub tried_whole : (s : Setting) (seed : ℕ) (done : TrialDone) (a b : Outside) → IsTried s (made_value (made_with s seed)) done → Since a b [] (trial_line s done) [] NoRead → Tries s seed a b 0
+pub tried_whole : (s : Setting) (seed : ℕ) (done : TrialDone) (a b : Outside) → IsTried s (made_value (made_with s seed)) done → Exchange a b [] (trial_line s done) [] NoRead → Tries s seed a b 0
 tried_whole s seed done a b tried since = inr (record { done = done; tried = tried; gives = given_whole (trial_line s done) a b since })
 
 pub tried_cut : (s : Setting) (seed : ℕ) (done : TrialDone) (a b c : Outside) → IsTried s (made_value (made_with s seed)) done →
-    Rose a.write_faults b.write_faults × ((n : ℕ) × (n ≤ length (trial_line s done)) × Since a b [] (take n (trial_line s done)) [] NoRead) →
+    Rose a.write_faults b.write_faults × ((n : ℕ) × (n ≤ length (trial_line s done)) × Exchange a b [] (take n (trial_line s done)) [] NoRead) →
     Notes b c (codes "strip122: write fault\n") → Tries s seed a c 5
 tried_cut s seed done a b c tried f n = inr (record { done = done; tried = tried; gives = given_cut (trial_line s done) a b c f n })
 
 -- ---- each status
 
 -- what only gives octets has status 0 or 5
-gives_ends : (octets : List ℕ) (b : Behaviour) (old new : Outside) (status : ℕ) → Gives octets old new status → (Since old new [] octets [] NoRead → b.whole old new) → AtStatus b old new status
+gives_ends : (octets : List ℕ) (b : Behaviour) (old new : Outside) (status : ℕ) → Gives octets old new status → (Exchange old new [] octets [] NoRead → b.whole old new) → AtStatus b old new status
 gives_ends octets b old new status run given = elim run.ending [
   | inl whole ↦ subst (AtStatus b old new) (sym whole.status_is)
-      (given (subst (λ w. Since old new [] octets w NoRead) whole.silent (subst (λ g. Since old new [] g run.wrote NoRead) whole.whole run.since)))
+      (given (subst (λ w. Exchange old new [] octets w NoRead) whole.silent (subst (λ g. Exchange old new [] g run.wrote NoRead) whole.whole run.since)))
   | inr cut ↦ subst (AtStatus b old new) (sym cut.status_is) cut.rose
 ]
 

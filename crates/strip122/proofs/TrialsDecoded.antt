@@ -1,7 +1,7 @@
 -- What a decoder reads of all packets of an image.
 use Rattle.std.proofs.Common.{◌≡◌, ◌∙◌, inl, inr, ℕ, true, List, [], ◌++◌, length, sym, ap, arith, length-append}
 use Rattle.std.specs.Prelude.{Some}
-use Rattle.port_122.specs.Outside.{Outside, Since}
+use Rattle.port_122.specs.Outside.{Outside, Exchange}
 use Rattle.port_122.proofs.Told.{end_told}
 use Rattle.packet_defs.specs.Streams.{has_bad_version, left_over}
 use Rattle.packet_assembly.specs.Readings.{IsReadOut}
@@ -14,7 +14,7 @@ front_good : (took more : List ℕ) → left_over (took ++ more) ≡ [] → has_
 front_good took more none bad = omega (arith, ap length (sym (left_stays took more bad) ∙ none), length-append (left_over took) more, some_octets (left_over took) bad)
 
 -- and what was read out was all of it
-pub took_all : {g w : List ℕ} {Q : ℕ → ℕ → Type 0} (cap : ℕ) (took input : List ℕ) (old new : Outside) → Since old new took g w Q → old.rest ≡ Some input → left_over input ≡ [] →
+pub took_all : {g w : List ℕ} {Q : ℕ → ℕ → Type 0} (cap : ℕ) (took input : List ℕ) (old new : Outside) → Exchange old new took g w Q → old.rest ≡ Some input → left_over input ≡ [] →
     IsReadOut cap new took → took ≡ input
 took_all cap took input old new since told none (inl bad) =
     let front = took_front input took old.rest new.rest told since.rest in

@@ -1,6 +1,6 @@
 -- What a run of `bare-encode` and `bare-decode` leaves. This project's own.
 use Rattle.std.specs.Prelude.{◌≡◌, ◌≤◌, ℕ, ℤ, List, [], length, Option, Some, Result, Ok, Err}
-use Rattle.port_122.specs.Outside.{Outside, GivenBy, Since, AtEnd}
+use Rattle.port_122.specs.Outside.{Outside, GivenBy, Exchange, AtEnd}
 use Rattle.base_122.specs.declared.geometry.Geometry.{Geometry}
 use Rattle.base_122.specs.declared.setting.Setting.{Setting}
 use Rattle.base_122.specs.declared.wish.DecodeWish.{DecodeWish}
@@ -29,7 +29,7 @@ EncodesBare setting = RunsEncoder (BareAnswers setting) (texts_for setting)
 -- The whole raster was taken and the end read, and the bare stream of its image is given.
 pub record EncodedBare (setting : Setting) (old new : Outside) : Type 0 where
   pub took : List ℕ
-  pub since : Since old new took (bare setting (image_of setting took)) [] (GivenBy (texts_for setting) took)
+  pub since : Exchange old new took (bare setting (image_of setting took)) [] (GivenBy (texts_for setting) took)
   pub raster : TookRaster setting setting.rows took
   pub ended : AtEnd new
 
@@ -81,7 +81,7 @@ pub record DecodedBare (wish : DecodeWish) (old new : Outside) : Type 0 where
   pub took : List ℕ
   pub gave : List ℕ
   pub read : Option SegmentsRead
-  pub since : Since old new took gave [] (AsksRead read gave)
+  pub since : Exchange old new took gave [] (AsksRead read gave)
   pub ended : AtEnd new
   pub picture : Told old (GivesPicture wish took gave g)
 
@@ -92,7 +92,7 @@ pub record BareRefuses (wish : DecodeWish) (old new : Outside) : Type 0 where
   pub gave : List ℕ
   pub wrote : List ℕ
   pub read : Option SegmentsRead
-  pub since : Since old new took gave wrote (AsksRead read gave)
+  pub since : Exchange old new took gave wrote (AsksRead read gave)
   pub within : length took ≤ wish.octets
   pub input : bare_fault_status fault ≡ 3
   pub cause : BareCauses wish read old new took gave (Err fault)
@@ -103,7 +103,7 @@ pub record BareLacksMemory (wish : DecodeWish) (old new : Outside) : Type 0 wher
   pub took : List ℕ
   pub wrote : List ℕ
   pub read : Option SegmentsRead
-  pub since : Since old new took [] wrote (AsksRead read [])
+  pub since : Exchange old new took [] wrote (AsksRead read [])
   pub within : length took ≤ wish.octets
 
 -- ---- the behaviour
@@ -128,5 +128,5 @@ pub record GaveBare (wish : DecodeWish) (old new : Outside) : Type 0 where
   pub took : List ℕ
   pub gave : List ℕ
   pub read : Option SegmentsRead
-  pub since : Since old new took gave [] (AsksRead read gave)
+  pub since : Exchange old new took gave [] (AsksRead read gave)
   pub back : Told old ((s : Setting) (x : ℕ → ℕ → ℤ) → IsBareImage s x → took ≡ bare s x → GivesImage s x gave g)

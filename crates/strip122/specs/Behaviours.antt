@@ -1,6 +1,6 @@
 -- What a command does is one record. This project's own.
 use Rattle.std.specs.Prelude.{◌≡◌, ◌⊎◌, ℕ, List, []}
-use Rattle.port_122.specs.Outside.{Outside, Since, NoRead, Rose}
+use Rattle.port_122.specs.Outside.{Outside, Exchange, NoRead, Rose}
 
 -- All that is said of a command, of the outside before it and after it: what it leaves with a status; at status 0 its whole output is
 -- given, at 1 a part, at 3 it refuses its input, and at 6 it had no memory; and the right and the wrong input.
@@ -19,7 +19,7 @@ Never old new = ⊥
 
 -- nothing is read or given
 abbrev pub OnlyNotes : Outside → Outside → Type 0
-OnlyNotes old new = (wrote : List ℕ) × Since old new [] [] wrote NoRead
+OnlyNotes old new = (wrote : List ℕ) × Exchange old new [] [] wrote NoRead
 
 -- no read and no write has failed since
 pub record IsSteady (old new : Outside) : Type 0 where

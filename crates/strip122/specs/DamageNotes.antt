@@ -1,7 +1,7 @@
 -- The note on packets that aren't whole. This project's own.
 use Rattle.std.specs.Prelude.{◌≡◌, ℕ, ◌==◌, Bool, true, false, not, List, [], ◌∷◌, ◌++◌, decimal, codes, Option, None, Some}
 use Rattle.std.specs.List.{flat_map}
-use Rattle.port_122.specs.Outside.{Outside, Since, NoRead}
+use Rattle.port_122.specs.Outside.{Outside, Exchange, NoRead}
 use Rattle.base_122.specs.declared.geometry.Geometry.{Geometry}
 use Rattle.packet_defs.specs.declared.packet.Framing.{Framing}
 use Rattle.packet_defs.specs.declared.packet.Framing.TheVariants.{BadVersion, CutPacket}
@@ -64,6 +64,6 @@ done_line (range ∷ ranges) known framing = damage_line (range ∷ ranges) know
 -- Of packets that were read, with this status, the note is given: nothing if nothing is wrong.
 pub record TellsDone (ranges : List RowRange) (known : Bool) (framing : Option Framing) (old new : Outside) (status : ℕ) : Type 0 where
   pub wrote : List ℕ
-  pub since : Since old new [] [] wrote NoRead
+  pub since : Exchange old new [] [] wrote NoRead
   pub status_is : status ≡ done_status ranges known framing
   pub noted : IsNoted old new wrote (done_line ranges known framing)

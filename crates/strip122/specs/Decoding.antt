@@ -1,6 +1,6 @@
 -- What a run of `decode`, `damage`, `look` and `rects` leaves, and which command reads packets how. This project's own.
 use Rattle.std.specs.Prelude.{◌≡◌, ◌≢◌, ◌⊎◌, ◌<◌, ◌≤◌, ◌*◌, ℕ, List, [], length, None, Some, Result, Ok, Err}
-use Rattle.port_122.specs.Outside.{Outside, Since}
+use Rattle.port_122.specs.Outside.{Outside, Exchange}
 use Rattle.base_122.specs.declared.geometry.Geometry.{Geometry}
 use Rattle.base_122.specs.declared.wish.DecodeWish.{DecodeWish}
 use Rattle.stream_defs.specs.Begun.{HasFewPixels, end_of, rows_reached}
@@ -74,7 +74,7 @@ pub record DecodedWhole (causes : Causes) (asks : Asking) (old new : Outside) : 
   pub done : DecodeDone
   pub took : List ℕ
   pub gave : List ℕ
-  pub since : Since old new took gave [] (asks old took gave)
+  pub since : Exchange old new took gave [] (asks old took gave)
   pub cause : causes old new took gave (Ok done)
   pub framing : done.framing ≡ None
   pub known : done.geometry.rows ≢ 0
@@ -87,7 +87,7 @@ pub record DecodedPart (causes : Causes) (asks : Asking) (old new : Outside) : T
   pub took : List ℕ
   pub gave : List ℕ
   pub wrote : List ℕ
-  pub since : Since old new took gave wrote (asks old took gave)
+  pub since : Exchange old new took gave wrote (asks old took gave)
   pub cause : causes old new took gave (Ok done)
   pub lacks : damaged done.damage ≡ [] → done.geometry.rows ≢ 0 → done.framing ≡ None → ⊥
   pub noted : IsNoted old new wrote (damage_line (damaged done.damage) (is_known done.geometry) done.framing)
@@ -98,7 +98,7 @@ pub record DecoderRefuses (causes : Causes) (asks : Asking) (old new : Outside) 
   pub took : List ℕ
   pub gave : List ℕ
   pub wrote : List ℕ
-  pub since : Since old new took gave wrote (asks old took gave)
+  pub since : Exchange old new took gave wrote (asks old took gave)
   pub input : decoder_fault_status fault ≡ 3
   pub cause : causes old new took gave (Err fault)
   pub noted : IsNoted old new wrote (decoder_fault_line fault)
@@ -107,7 +107,7 @@ pub record DecoderRefuses (causes : Causes) (asks : Asking) (old new : Outside) 
 pub record DecoderLacksMemory (wish : DecodeWish) (asks : Asking) (old new : Outside) : Type 0 where
   pub took : List ℕ
   pub wrote : List ℕ
-  pub since : Since old new took [] wrote (asks old took [])
+  pub since : Exchange old new took [] wrote (asks old took [])
   pub within : length took ≤ wish.octets
 
 -- ---- the input that is left

@@ -1,6 +1,6 @@
 -- What a run of `encode` leaves. This project's own.
 use Rattle.std.specs.Prelude.{◌≡◌, ◌≢◌, ◌⊎◌, ◌≤◌, ℕ, List, [], Result, Ok, Err, Some}
-use Rattle.port_122.specs.Outside.{Outside, GivenBy, Since, AtEnd}
+use Rattle.port_122.specs.Outside.{Outside, GivenBy, Exchange, AtEnd}
 use Rattle.base_122.specs.declared.setting.Setting.{Setting}
 use Rattle.stream_defs.specs.Output.{output}
 use Rattle.strip_coder.specs.declared.encode.EncodeDone.{EncodeDone}
@@ -45,7 +45,7 @@ Encodes setting = RunsEncoder (Answers setting) (given_for setting)
 pub record EncodedWhole (setting : Setting) (old new : Outside) : Type 0 where
   pub took : List ℕ
   pub rows : ℕ
-  pub since : Since old new took (output setting rows (image_of setting took)) [] (GivenBy (given_for setting) took)
+  pub since : Exchange old new took (output setting rows (image_of setting took)) [] (GivenBy (given_for setting) took)
   pub raster : TookRaster setting rows took
   pub total : setting.total ≢ 0 → coded_octets setting rows (image_of setting took) ≤ setting.total
   pub ended : AtEnd new
@@ -56,7 +56,7 @@ pub record EncoderRefuses (answers : EncoderCauses) (given : List ℕ → List �
   pub took : List ℕ
   pub gave : List ℕ
   pub wrote : List ℕ
-  pub since : Since old new took gave wrote (GivenBy given took)
+  pub since : Exchange old new took gave wrote (GivenBy given took)
   pub input : fault_status fault ≡ 3
   pub cause : answers old new took gave (Err fault)
   pub noted : IsNoted old new wrote (fault_line fault)

@@ -1,6 +1,6 @@
 -- What a run of `list`, `pick` and `info` leaves. This project's own.
 use Rattle.std.specs.Prelude.{◌≡◌, ◌⊎◌, ◌<◌, ◌≤◌, ℕ, List, [], length, take, true, false, Option, None, Some, Result, Ok, Err}
-use Rattle.port_122.specs.Outside.{Outside, Since}
+use Rattle.port_122.specs.Outside.{Outside, Exchange}
 use Rattle.base_122.specs.declared.wish.DecodeWish.{DecodeWish}
 use Rattle.packet_defs.specs.declared.packet.Framing.{Framing}
 use Rattle.packet_defs.specs.Streams.{left_over, has_bad_version}
@@ -61,7 +61,7 @@ pub record ReadWhole {D F : Type 0} (r : Reader D F) (old new : Outside) : Type 
   pub done : D
   pub took : List ℕ
   pub gave : List ℕ
-  pub since : Since old new took gave [] (r.asks old took gave)
+  pub since : Exchange old new took gave [] (r.asks old took gave)
   pub within : length took ≤ r.cap
   pub cause : r.causes old new took gave (Ok done)
   pub framing : r.framing_of done ≡ None
@@ -72,7 +72,7 @@ pub record ReadPart {D F : Type 0} (r : Reader D F) (old new : Outside) : Type 0
   pub took : List ℕ
   pub gave : List ℕ
   pub wrote : List ℕ
-  pub since : Since old new took gave wrote (r.asks old took gave)
+  pub since : Exchange old new took gave wrote (r.asks old took gave)
   pub within : length took ≤ r.cap
   pub cause : r.causes old new took gave (Ok done)
   pub lacks : r.framing_of done ≡ None → ⊥
@@ -85,7 +85,7 @@ pub record ReadRefuses {D F : Type 0} (r : Reader D F) (old new : Outside) : Typ
   pub took : List ℕ
   pub gave : List ℕ
   pub wrote : List ℕ
-  pub since : Since old new took gave wrote (r.asks old took gave)
+  pub since : Exchange old new took gave wrote (r.asks old took gave)
   pub cause : r.causes old new took gave (Err fault)
   pub noted : IsNoted old new wrote (list_fault_line LongInput)
 

@@ -1,7 +1,7 @@
 -- What a run of `mux` leaves. This project's own.
 use Rattle.std.specs.Prelude.{◌≡◌, ◌⊎◌, ◌<◌, ◌+◌, ℕ, List, [], ◌++◌, length, map, Result, Ok, Err, Some}
 use Rattle.std.specs.List.{range_with_len}
-use Rattle.port_122.specs.Outside.{Outside, Since, AtEnd}
+use Rattle.port_122.specs.Outside.{Outside, Exchange, AtEnd}
 use Rattle.base_122.specs.declared.setting.Setting.{Setting}
 use Rattle.camera_mux.specs.declared.mux.MuxDone.{MuxDone}
 use Rattle.camera_mux.specs.declared.mux.MuxFault.{MuxFault}
@@ -38,7 +38,7 @@ pub record MuxesRecords (settings : List Setting) (old new : Outside) (status : 
   pub gave : List ℕ
   pub wrote : List ℕ
   pub accepted : AreAccepted settings records
-  pub since : Since old new (octets_of records ++ rest) gave wrote (AsksMux settings records)
+  pub since : Exchange old new (octets_of records ++ rest) gave wrote (AsksMux settings records)
   pub cause : Answers settings old new records rest gave answer
   pub keeps : (camera : ℕ) → camera < length settings → KeepsCamera settings records camera
   pub status_is : status ≡ mux_status answer
@@ -56,7 +56,7 @@ pub record MuxedWhole (settings : List Setting) (old new : Outside) : Type 0 whe
   pub records : List CameraRow
   pub accepted : AreAccepted settings records
   pub full : AreFull settings records
-  pub since : Since old new (octets_of records) (mux_out settings records) [] (AsksMux settings records)
+  pub since : Exchange old new (octets_of records) (mux_out settings records) [] (AsksMux settings records)
   pub keeps : (camera : ℕ) → camera < length settings → KeepsCamera settings records camera
   pub ended : AtEnd new
 
@@ -68,7 +68,7 @@ pub record MuxRefuses (settings : List Setting) (old new : Outside) : Type 0 whe
   pub gave : List ℕ
   pub wrote : List ℕ
   pub accepted : AreAccepted settings records
-  pub since : Since old new (octets_of records ++ rest) gave wrote (AsksMux settings records)
+  pub since : Exchange old new (octets_of records ++ rest) gave wrote (AsksMux settings records)
   pub input : mux_fault_status fault ≡ 3
   pub cause : Answers settings old new records rest gave (Err fault)
   pub noted : IsNoted old new wrote (mux_fault_line fault)

@@ -1,7 +1,7 @@
 -- The notes: one line for each status but 0. This project's own.
 use Rattle.std.specs.Prelude.{◌≡◌, ◌⊎◌, ◌≤◌, ℕ, zero, suc, List, [], ◌∷◌, ◌++◌, length, take, decimal, codes}
 use Rattle.std.specs.Fmt.{signed_decimal}
-use Rattle.port_122.specs.Outside.{Outside, Since, NoRead, Rose}
+use Rattle.port_122.specs.Outside.{Outside, Exchange, NoRead, Rose}
 use Rattle.base_122.specs.declared.field.Field.{Field}
 use Rattle.base_122.specs.declared.field.Field.TheVariants.{Width, Rows, Depth, Segment, Limit, Fill, Word, Stop, Weights, Apid, Image, Packet, Pixels, Octets, Total, Cameras}
 use Rattle.strip_coder.specs.declared.encode.EncodeFault.{EncodeFault}
@@ -23,7 +23,7 @@ IsNoted old new wrote line = (wrote ≡ line) ⊎ (Rose old.note_faults new.note
 
 -- just this line was noted, or a prefix of it where a note failed
 abbrev pub Notes : Outside → Outside → List ℕ → Type 0
-Notes old new line = (wrote : List ℕ) × Since old new [] [] wrote NoRead × IsNoted old new wrote line
+Notes old new line = (wrote : List ℕ) × Exchange old new [] [] wrote NoRead × IsNoted old new wrote line
 
 -- the word at a place
 abbrev pub word_at : List (List ℕ) → ℕ → List ℕ

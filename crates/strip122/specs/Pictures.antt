@@ -1,6 +1,6 @@
 -- What a picture that `decode` gave shows, and what a look does. This project's own.
 use Rattle.std.specs.Prelude.{◌≡◌, ℕ, ℤ, List, None, Some}
-use Rattle.port_122.specs.Outside.{Outside, Since}
+use Rattle.port_122.specs.Outside.{Outside, Exchange}
 use Rattle.base_122.specs.Sizes.{block_count}
 use Rattle.base_122.specs.declared.setting.Setting.{Setting}
 use Rattle.base_122.specs.declared.wish.DecodeWish.{DecodeWish}
@@ -38,7 +38,7 @@ pub record GavePicture (wish : DecodeWish) (old new : Outside) (status : ℕ) : 
   pub took : List ℕ
   pub gave : List ℕ
   pub wrote : List ℕ
-  pub since : Since old new took gave wrote (Asks wish old took gave)
+  pub since : Exchange old new took gave wrote (Asks wish old took gave)
   pub own : (all : List ℕ) → old.rest ≡ Some all → GivesOwn wish.apid took gave done
   pub contained : (all : List ℕ) → old.rest ≡ Some all → GivesContained wish took gave done
   pub alike : (all : List ℕ) → old.rest ≡ Some all → (s : Setting) (rows : ℕ) (x : ℕ → ℕ → ℤ) (parts : ℕ → List ℕ) → wish.apid ≡ s.apid → took ≡ some_output s rows x parts →
@@ -56,7 +56,7 @@ pub record GaveLook (wish : DecodeWish) (old new : Outside) : Type 0 where
   pub took : List ℕ
   pub gave : List ℕ
   pub wrote : List ℕ
-  pub since : Since old new took gave wrote (LookAsks wish old took gave)
+  pub since : Exchange old new took gave wrote (LookAsks wish old took gave)
   pub look : IsLook wish old new took gave done
   pub of_image : (all : List ℕ) → old.rest ≡ Some all → (s : Setting) (rows : ℕ) (x : ℕ → ℕ → ℤ) → wish.apid ≡ s.apid → took ≡ output s rows x → IsImageFor s rows x → SendsAll s →
       gave ≡ raster_octets s.depth (block_count rows) (block_count s.width) (low_image s rows x)

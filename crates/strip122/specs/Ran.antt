@@ -1,6 +1,6 @@
 -- One run of a command's engine. This project's own.
 use Rattle.std.specs.Prelude.{◌≡◌, ◌≤◌, ℕ, List, [], length}
-use Rattle.port_122.specs.Outside.{Outside, Since, NoRead}
+use Rattle.port_122.specs.Outside.{Outside, Exchange, NoRead}
 use Rattle.strip122.specs.Notes.{IsNoted, memory_line}
 
 -- what an engine does at a read call
@@ -14,7 +14,7 @@ pub record Ran {R : Type 0} (causes : Outside → Outside → List ℕ → List 
   pub took : List ℕ
   pub gave : List ℕ
   pub wrote : List ℕ
-  pub since : Since old new took gave wrote (asks old took gave)
+  pub since : Exchange old new took gave wrote (asks old took gave)
   pub cause : causes old new took gave answer
   pub status_is : status ≡ status_of answer
   pub noted : IsNoted old new wrote (line_of answer)
@@ -27,6 +27,6 @@ pub record CausedWithin {R : Type 0} (most : ℕ) (causes : Outside → Outside 
 -- There is no memory for the engine: nothing is read or given.
 pub record LacksMemory (old new : Outside) (status : ℕ) : Type 0 where
   pub wrote : List ℕ
-  pub since : Since old new [] [] wrote NoRead
+  pub since : Exchange old new [] [] wrote NoRead
   pub status_is : status ≡ 6
   pub noted : IsNoted old new wrote memory_line

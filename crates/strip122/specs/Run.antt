@@ -1,6 +1,6 @@
 -- What a run of the program leaves, for each command. This project's own.
 use Rattle.std.specs.Prelude.{◌≡◌, ◌⊎◌, ◌≤◌, ℕ, List, [], length, take, codes, Result, Ok, Err}
-use Rattle.port_122.specs.Outside.{Outside, Since, NoRead, Rose}
+use Rattle.port_122.specs.Outside.{Outside, Exchange, NoRead, Rose}
 use Rattle.base_122.specs.declared.setting.Setting.{Setting}
 use Rattle.raster_rows.specs.declared.made.MadeImage.{MadeImage}
 use Rattle.command_words.specs.declared.command.Command.{Command}
@@ -24,7 +24,7 @@ use Rattle.strip122.specs.Notes.{IsNoted, word_line}
 -- The words are refused: nothing is read or written, and the note says why.
 pub record Refuses (words : List (List ℕ)) (fault : WordFault) (old new : Outside) (status : ℕ) : Type 0 where
   pub wrote : List ℕ
-  pub since : Since old new [] [] wrote NoRead
+  pub since : Exchange old new [] [] wrote NoRead
   pub status_is : status ≡ 2
   pub noted : IsNoted old new wrote (word_line words fault)
 
@@ -45,7 +45,7 @@ pub record PartGiven (octets : List ℕ) (old new : Outside) (gave wrote : List 
 pub record Gives (octets : List ℕ) (old new : Outside) (status : ℕ) : Type 0 where
   pub gave : List ℕ
   pub wrote : List ℕ
-  pub since : Since old new [] gave wrote NoRead
+  pub since : Exchange old new [] gave wrote NoRead
   pub ending : AllGiven octets gave wrote status ⊎ PartGiven octets old new gave wrote status
 
 -- one run of `make`
@@ -68,7 +68,7 @@ Tries setting seed old new status = LacksMemory old new status ⊎ TriedImage se
 pub record TriedWhole (setting : Setting) (seed : ℕ) (old new : Outside) : Type 0 where
   pub done : TrialDone
   pub tried : IsTried setting (made_value (made_with setting seed)) done
-  pub since : Since old new [] (trial_line setting done) [] NoRead
+  pub since : Exchange old new [] (trial_line setting done) [] NoRead
 
 -- ---- the behaviour of each command
 
@@ -76,7 +76,7 @@ pub record TriedWhole (setting : Setting) (seed : ℕ) (old new : Outside) : Typ
 abbrev pub makes : MadeImage → Behaviour
 makes made = record {
   performs = Makes made;
-  whole = λ old new. Since old new [] (made_raster made) [] NoRead;
+  whole = λ old new. Exchange old new [] (made_raster made) [] NoRead;
   part = Never;
   refuses = Never;
   nothing = Never;

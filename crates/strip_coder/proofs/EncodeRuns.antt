@@ -4,7 +4,7 @@ use Rattle.std.specs.Prelude.{Ok, Err}
 use Rattle.std.proofs.lemmas.Bool.{cases_lt}
 use Rattle.std.proofs.lemmas.List.{append-nil}
 use Rattle.std.proofs.Math.Seq.{take-append_seam}
-use Rattle.port_122.specs.Outside.{Outside, Since, AtStart, GivenBy, ReadFailed}
+use Rattle.port_122.specs.Outside.{Outside, Exchange, AtStart, GivenBy, ReadFailed}
 use Rattle.port_122.proofs.Stretches.{since_out, rose_since, used_up_later}
 use Rattle.port_122.proofs.ReadCalls.{since_prompt}
 use Rattle.wave_defs.specs.Held.{SameWithin}
@@ -67,8 +67,8 @@ module _ (s : Setting) (range : IsInRange s) (p q : Outside) (w : Work) (all : H
         ∙ ap (λ n. joined (front_packets s w.at.rows x n)) (sym (index ∙ settled_alike s (tallest s) w.at.rows w.at.rows range (tall_height s range) all.height most (omega arith)))
   ]
 
-  so_far : Since p q come.took (joined (front_packets s w.at.rows (image_of s come.took) w.at.index)) [] (GivenBy (given_for s) come.took)
-  so_far = subst (λ g. Since p q come.took g [] (GivenBy (given_for s) come.took)) gave_is come.since
+  so_far : Exchange p q come.took (joined (front_packets s w.at.rows (image_of s come.took) w.at.index)) [] (GivenBy (given_for s) come.took)
+  so_far = subst (λ g. Exchange p q come.took g [] (GivenBy (given_for s) come.took)) gave_is come.since
 
   rows_taken : TookRows s come.took w.at.rows
   rows_taken = record { whole = come.whole; most = most; in_range = raster.in_range }
@@ -128,10 +128,10 @@ module _ (s : Setting) (range : IsInRange s) (p q : Outside) (w : Work) (all : H
   -- ---- the rest was given
 
   module _ (r : Outside) (new : Work) (done : EncodeDone) (ends : EndsImage s w.at.rows q r w new done) where
-    all_given : Since p r come.took (output s w.at.rows (image_of s come.took)) [] (GivenBy (given_for s) come.took)
+    all_given : Exchange p r come.took (output s w.at.rows (image_of s come.took)) [] (GivenBy (given_for s) come.took)
     all_given =
         let goes = ends.goes (image_of s come.took) (come.stands.follows (image_of s come.took) itself) (row_is (image_of s come.took) itself) in
-        subst (λ g. Since p r come.took g [] (GivenBy (given_for s) come.took)) goes.then_are (since_out so_far goes.out)
+        subst (λ g. Exchange p r come.took g [] (GivenBy (given_for s) come.took)) goes.then_are (since_out so_far goes.out)
 
     done_is : DoneFor s w.at.rows (image_of s come.took) done
     done_is = ends.done (image_of s come.took) (come.stands.follows (image_of s come.took) itself) (row_is (image_of s come.took) itself)
@@ -160,8 +160,8 @@ module _ (s : Setting) (range : IsInRange s) (p q : Outside) (w : Work) (all : H
           given_all s come.took more range known (come.whole ∙ ap (λ n. n * row_length s) (sym same)) ∙ ap (λ n. output s n (image_of s come.took)) same
 
       -- the end is asked for
-      asked_end : {d : Outside} {more : List ℕ} → Since r d more [] [] AtStart →
-          Since p d (come.took ++ more) (output s w.at.rows (image_of s come.took)) [] (GivenBy (given_for s) (come.took ++ more))
+      asked_end : {d : Outside} {more : List ℕ} → Exchange r d more [] [] AtStart →
+          Exchange p d (come.took ++ more) (output s w.at.rows (image_of s come.took)) [] (GivenBy (given_for s) (come.took ++ more))
       asked_end {more = more} read =
           since_prompt (given_for s) all_given read
           (λ i j most h.
@@ -175,7 +175,7 @@ module _ (s : Setting) (range : IsInRange s) (p q : Outside) (w : Work) (all : H
       run_done {d = d} end = record {
         took = come.took;
         gave = output s w.at.rows (image_of s come.took);
-        since = subst (λ t. Since p d t (output s w.at.rows (image_of s come.took)) [] (GivenBy (given_for s) t)) same_took (asked_end end.0);
+        since = subst (λ t. Exchange p d t (output s w.at.rows (image_of s come.took)) [] (GivenBy (given_for s) t)) same_took (asked_end end.0);
         answer = (w.at.rows, raster, end.1, refl, done_is);
       }
 
@@ -201,6 +201,6 @@ module _ (s : Setting) (range : IsInRange s) (p q : Outside) (w : Work) (all : H
           record {
             took = come.took;
             gave = output s w.at.rows (image_of s come.took);
-            since = subst (λ t. Since p d t (output s w.at.rows (image_of s come.took)) [] (GivenBy (given_for s) t)) same_took (asked_end failed.since);
+            since = subst (λ t. Exchange p d t (output s w.at.rows (image_of s come.took)) [] (GivenBy (given_for s) t)) same_took (asked_end failed.since);
             answer = (rose_since all_given.faults.reads failed.rose, (let m = longest in omega (arith, m)), raster.in_range, sym stands);
           }

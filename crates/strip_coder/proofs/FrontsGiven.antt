@@ -5,7 +5,7 @@ use Rattle.std.proofs.Math.Seq.{take-append_seam}
 use Rattle.std.proofs.Math.Nat.{div-lt_iff_lt-mul, mul-le-mul_right}
 use Rattle.std.proofs.lemmas.Bool.{cases_lt}
 use Rattle.std.proofs.lemmas.List.{append-nil, append_cancel_left, take_min, take-append-le}
-use Rattle.port_122.specs.Outside.{Outside, Since, NoRead, Grows, GivenBy, Rose}
+use Rattle.port_122.specs.Outside.{Outside, Exchange, NoRead, Grows, GivenBy, Rose}
 use Rattle.port_122.proofs.Stretches.{asks_weaker, since_out, rose_since}
 use Rattle.base_122.specs.Ranges.{IsInRange}
 use Rattle.base_122.specs.Setting.{IsHeight, sized}
@@ -26,7 +26,7 @@ use Rattle.strip_coder.specs.declared.encode.EncodeFault.TheVariants.{WriteFault
 use Rattle.std.specs.Prelude.{Err}
 use Rattle.strip_coder.specs.Rasters.{image_of, given_for}
 use Rattle.strip_coder.specs.Answers.{TookRows, EncodesImage}
-use Rattle.strip_coder.specs.Steps.{BreaksOff}
+use Rattle.strip_coder.specs.Steps.{StopsEarly}
 use Rattle.strip_coder.proofs.PlanLaws.{tall_height, tall_or_open, open_last, known_height}
 use Rattle.strip_coder.proofs.SettledCounts.{settled_so}
 use Rattle.strip_coder.proofs.SegmentRuns.{front_of}
@@ -38,7 +38,7 @@ one_gave None (Some now) octets a b e p q = absurd p
 one_gave (Some before) (Some now) octets a b e p q = append_cancel_left before a b (sym p ∙ q)
 
 -- where they aren't, none may be said to be
-untold : {p q : Outside} {gave : List ℕ} → q.given ≡ None → Since p q [] gave [] NoRead → Since p q [] [] [] NoRead
+untold : {p q : Outside} {gave : List ℕ} → q.given ≡ None → Exchange p q [] gave [] NoRead → Exchange p q [] [] [] NoRead
 untold {p = p} {q = q} {gave = gave} e since = record {
   rest = since.rest;
   taken = since.taken;
@@ -51,7 +51,7 @@ untold {p = p} {q = q} {gave = gave} e since = record {
 -- what is out behind the first segments, and with them a front of the packets of each image that begins with k rows of this one
 pub record FrontOut (s : Setting) (k : ℕ) (x : ℕ → ℕ → ℤ) (from : ℕ) (p q : Outside) : Type 0 where
   pub gave : List ℕ
-  pub out : Since p q [] gave [] NoRead
+  pub out : Exchange p q [] gave [] NoRead
   pub each : (rows : ℕ) (y : ℕ → ℕ → ℤ) → IsHeight s rows → k ≤ rows → SameWithin k s.width x y → (n : ℕ) × (joined (front_packets s rows y from) ++ gave ≡ take n (output s rows y))
 
 take_front : (some : ℕ) (xs rest : List ℕ) → (n : ℕ) × (take some xs ≡ take n (xs ++ rest))
@@ -80,7 +80,7 @@ module _ (s : Setting) (rows : ℕ) where
       append-nil done ∙ sym (ap (take (length done)) rest.1 ∙ take-append_seam done rest.0)
 
   -- and so is what broke off in one of them
-  pub broken_front : {p q : Outside} (y : ℕ → ℕ → ℤ) (from count : ℕ) (broke : BreaksOff here (image_blocks (sized s rows) y) from count p q) →
+  pub broken_front : {p q : Outside} (y : ℕ → ℕ → ℤ) (from count : ℕ) (broke : StopsEarly here (image_blocks (sized s rows) y) from count p q) →
       (n : ℕ) × (joined (front_packets s rows y from) ++ broke.gave ≡ take n (output s rows y))
   broken_front y from count broke =
       let inside = broke.inside in
@@ -155,7 +155,7 @@ module _ (s : Setting) (range : IsInRange s) (left_open : s.rows ≡ 0) (k rows 
   open_first from few = (length (joined (front_packets s rows y from)), first_segments s rows y from (open_few from few))
 
   open_front : {p q : Outside} (from : ℕ) → from ≤ settled_in s (tallest s) k →
-      (broke : BreaksOff (plan_of s (tallest s)) (image_blocks (sized s (tallest s)) y) from (block_count s.width * block_rows_in k) p q) →
+      (broke : StopsEarly (plan_of s (tallest s)) (image_blocks (sized s (tallest s)) y) from (block_count s.width * block_rows_in k) p q) →
       (n : ℕ) × (joined (front_packets s rows y from) ++ broke.gave ≡ take n (output s rows y))
   open_front from few broke =
       let past = through s range k broke.index broke.inside broke.there in
@@ -181,7 +181,7 @@ module _ (s : Setting) (range : IsInRange s) (k from : ℕ) (le : k ≤ tallest 
   ]
 
   broken_of : {p q : Outside} (rows : ℕ) (y : ℕ → ℕ → ℤ) (gave : List ℕ) → IsHeight s rows → k ≤ rows →
-      (broke : BreaksOff (plan_of s (tallest s)) (image_blocks (sized s (tallest s)) y) from (block_count s.width * block_rows_in k) p q) → gave ≡ broke.gave →
+      (broke : StopsEarly (plan_of s (tallest s)) (image_blocks (sized s (tallest s)) y) from (block_count s.width * block_rows_in k) p q) → gave ≡ broke.gave →
       (n : ℕ) × (joined (front_packets s rows y from) ++ gave ≡ take n (output s rows y))
   broken_of {p = p} {q = q} rows y gave height least broke e =
       subst (λ g. (n : ℕ) × (joined (front_packets s rows y from) ++ g ≡ take n (output s rows y))) (sym e)
@@ -191,7 +191,7 @@ module _ (s : Setting) (range : IsInRange s) (k from : ℕ) (le : k ≤ tallest 
       ])
 
   pub front_out : {p q : Outside} (x : ℕ → ℕ → ℤ) →
-      ((y : ℕ → ℕ → ℤ) → SameWithin k s.width x y → BreaksOff (plan_of s (tallest s)) (image_blocks (sized s (tallest s)) y) from (block_count s.width * block_rows_in k) p q) → FrontOut s k x from p q
+      ((y : ℕ → ℕ → ℤ) → SameWithin k s.width x y → StopsEarly (plan_of s (tallest s)) (image_blocks (sized s (tallest s)) y) from (block_count s.width * block_rows_in k) p q) → FrontOut s k x from p q
   front_out {p = p} {q = q} x breaks = by_told q.given refl where
     same : SameWithin k s.width x x
     same = record { at = λ i j hi hj. refl }
@@ -213,7 +213,7 @@ module _ (s : Setting) (range : IsInRange s) (k from : ℕ) (le : k ≤ tallest 
 -- ---- a write that failed at the end of an image whose height is known before
 
 pub known_front : {p q : Outside} (s : Setting) (x : ℕ → ℕ → ℤ) (rows from count : ℕ) → s.rows ≢ 0 → s.rows ≡ rows → from ≤ segments_of (sized s rows) →
-    ((y : ℕ → ℕ → ℤ) → SameWithin rows s.width x y → BreaksOff (plan_of s rows) (image_blocks (sized s rows) y) from count p q) → FrontOut s rows x from p q
+    ((y : ℕ → ℕ → ℤ) → SameWithin rows s.width x y → StopsEarly (plan_of s rows) (image_blocks (sized s rows) y) from count p q) → FrontOut s rows x from p q
 known_front {p = p} {q = q} s x rows from count known is le breaks = by_told q.given refl where
   same : SameWithin rows s.width x x
   same = record { at = λ i j hi hj. refl }
@@ -240,7 +240,7 @@ known_front {p = p} {q = q} s x rows from count known is le breaks = by_told q.g
   }
 
 -- a run in which a write failed
-pub broke_off : {p q r : Outside} (s : Setting) (took gave : List ℕ) (k from : ℕ) → Since p q took gave [] (GivenBy (given_for s) took) → TookRows s took k →
+pub broke_off : {p q r : Outside} (s : Setting) (took gave : List ℕ) (k from : ℕ) → Exchange p q took gave [] (GivenBy (given_for s) took) → TookRows s took k →
     Rose q.write_faults r.write_faults → FrontOut s k (image_of s took) from q r →
     ((rows : ℕ) (y : ℕ → ℕ → ℤ) → IsHeight s rows → k ≤ rows → SameWithin k s.width (image_of s took) y → gave ≡ joined (front_packets s rows y from)) → EncodesImage s p r (Err WriteFault)
 broke_off s took gave k from since rows rose front same = record {

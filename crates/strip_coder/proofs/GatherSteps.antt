@@ -19,7 +19,7 @@ use Rattle.strip_coder.specs.declared.work.Work.{Work}
 use Rattle.strip_coder.specs.declared.work.ImageAt.{ImageAt}
 use Rattle.strip_coder.specs.SegmentsOut.{progress_at}
 use Rattle.strip_coder.specs.Works.{AreSmall, IsMadeFor, KeepsShare, HasGathered, IsFull, HoldsBlocks, gathered_in}
-use Rattle.strip_coder.specs.Steps.{PutsBlock, GoesOn, BreaksOff, NextAre, HasGone, HasBroken, Gathers, PresentOut, PresentCut, WritesPresent}
+use Rattle.strip_coder.specs.Steps.{PutsBlock, Continues, StopsEarly, NextAre, HasGone, HasBroken, Gathers, PresentOut, PresentCut, WritesPresent}
 use Rattle.strip_coder.proofs.PacketStretches.{goes_then, breaks_then, breaks_more}
 use Rattle.strip_coder.proofs.SegmentSteps.{Rewritten, still_made, share_kept}
 
@@ -157,7 +157,7 @@ module _ (s : Plan) (range : IsPlan s) where
         count = omega (arith, first, filled, before, ge, none, first_block-lt (total_blocks s.setting.width s.rows) s.setting.segment old.at.index some_blocks lt);
         faults = out.faults;
         holds = λ all next holds. out.holds all next.whole (put_holds old mid numbers lt put all next holds);
-        goes = λ all next holds. subst (λ n. GoesOn s all n new.at.index p q) index (out.goes all next.whole (put_holds old mid numbers lt put all next holds));
+        goes = λ all next holds. subst (λ n. Continues s all n new.at.index p q) index (out.goes all next.whole (put_holds old mid numbers lt put all next holds));
       }
 
   put_broken : {p q : Outside} (old mid new : Work) (numbers : List ℤ) → old.at.index < segments_of (whole s) → HasPut old mid numbers →
@@ -171,7 +171,7 @@ module _ (s : Plan) (range : IsPlan s) where
         let first : first_block s.setting.segment mid.at.index ≡ first_block s.setting.segment old.at.index = ap (λ n. n * s.setting.segment) index in
         let count : gathered_in s mid.at ≤ gathered_in s old.at + 1 = omega (arith, first, filled) in
         breaks_more s all old.at.index (gathered_in s mid.at) (gathered_in s old.at + 1) count
-        (subst (λ n. BreaksOff s all n (gathered_in s mid.at) p q) index (cut.breaks all next.whole (put_holds old mid numbers lt put all next holds)));
+        (subst (λ n. StopsEarly s all n (gathered_in s mid.at) p q) index (cut.breaks all next.whole (put_holds old mid numbers lt put all next holds)));
   }
 
   pub put_written : {T E : Type 0} (p q : Outside) (r : Result T E) (old mid new : Work) (numbers : List ℤ) → HasGathered s old → old.at.index < segments_of (whole s) → HasPut old mid numbers →

@@ -20,7 +20,7 @@ use Rattle.strip_coder.specs.declared.encode.EncodeDone.{EncodeDone}
 use Rattle.strip_coder.specs.declared.work.Work.{Work}
 use Rattle.strip_coder.specs.SegmentsOut.{progress_at}
 use Rattle.strip_coder.specs.Works.{gathered_in, IsRunning, HasTaken, FollowsImage, FollowsRows}
-use Rattle.strip_coder.specs.Steps.{GoesOn, BreaksOff, IsEnding, HasFinished, HasFinishedOn, HasNoMore, HasNotFinished, AllOut, RowIs, LastRowIs, HasPushedOn, HasNotPushedOn, EndBreaks, EndsImage}
+use Rattle.strip_coder.specs.Steps.{Continues, StopsEarly, IsEnding, HasFinished, HasFinishedOn, HasNoMore, HasNotFinished, AllOut, RowIs, LastRowIs, HasPushedOn, HasNotPushedOn, EndBreaks, EndsImage}
 use Rattle.strip_coder.proofs.PlanLaws.{tall_or_open}
 use Rattle.strip_coder.proofs.OtherHeights.{open_running, open_follows}
 use Rattle.strip_coder.proofs.DoneCounts.{counted}
@@ -62,7 +62,7 @@ all_out {p = p} {q = q} s old mid new range so_far none =
       made = none.made;
       faults = (let a = so_far.faults in let e = ap (λ (o : Outside). o.write_faults) none.still in omega (arith, a, e));
       stands = λ x f. none.packets ∙ (so_far.follows x f).holds.packets ∙ ap (progress_at s (image_blocks (whole s) x)) index;
-      goes = λ x f. subst (λ (o : Outside). GoesOn s (image_blocks (whole s) x) old.at.index (segments_of (whole s)) p o) (sym none.still) (subst (λ n. GoesOn s (image_blocks (whole s) x) old.at.index n p q) index (so_far.goes x f));
+      goes = λ x f. subst (λ (o : Outside). Continues s (image_blocks (whole s) x) old.at.index (segments_of (whole s)) p o) (sym none.still) (subst (λ n. Continues s (image_blocks (whole s) x) old.at.index n p q) index (so_far.goes x f));
     }
 
 pub then_unfinished : {T E : Type 0} (p q r : Outside) (result : Result T E) (s : Plan) (old mid new : Work) → IsErr result → HasFinishedOn s p q old mid → HasNotFinished s q r mid new →
@@ -122,7 +122,7 @@ module _ (t : Setting) (rows : ℕ) (range : IsPlan (plan_of t rows)) (old mid :
     made = out.made;
     faults = (let a = pushed.faults in let b = out.faults in omega (arith, a, b));
     goes = λ x f row.
-        subst (λ i. GoesOn s (image_blocks (whole s) x) i (segments_of (whole s)) p r) same_index
+        subst (λ i. Continues s (image_blocks (whole s) x) i (segments_of (whole s)) p r) same_index
         (goes_then s (image_blocks (whole s) x) mid.at.index after.at.index (segments_of (whole s)) (pushed.goes x (follows x f) (last_is x row)) (out.goes x (pushed.follows x (follows x f) (last_is x row))));
     done = λ x f row.
         counted s range (image_blocks (whole s) x) x new.packets done refl (out.stands x (pushed.follows x (follows x f) (last_is x row))) is;
@@ -133,7 +133,7 @@ module _ (t : Setting) (rows : ℕ) (range : IsPlan (plan_of t rows)) (old mid :
     made = broken.made;
     rose = broken.rose;
     breaks = λ x f row.
-        subst (λ i. BreaksOff s (image_blocks (whole s) x) i (total_blocks t.width rows) p q) same_index (broken.breaks x (follows x f) (last_is x row));
+        subst (λ i. StopsEarly s (image_blocks (whole s) x) i (total_blocks t.width rows) p q) same_index (broken.breaks x (follows x f) (last_is x row));
   }
 
   pub finish_breaks : {p q r : Outside} (n : ℕ) (after new : Work) → HasPushedOn s n p q mid after → HasNotFinished s q r after new → EndBreaks t rows p r old new
@@ -141,6 +141,6 @@ module _ (t : Setting) (rows : ℕ) (range : IsPlan (plan_of t rows)) (old mid :
     made = broken.made;
     rose = rose_since pushed.faults broken.rose;
     breaks = λ x f row.
-        subst (λ i. BreaksOff s (image_blocks (whole s) x) i (total_blocks t.width rows) p r) same_index
+        subst (λ i. StopsEarly s (image_blocks (whole s) x) i (total_blocks t.width rows) p r) same_index
         (breaks_then s (image_blocks (whole s) x) mid.at.index after.at.index (total_blocks t.width rows) (pushed.goes x (follows x f) (last_is x row)) (broken.breaks x (pushed.follows x (follows x f) (last_is x row))));
   }

@@ -7,7 +7,7 @@ use Rattle.std.proofs.lemmas.Nat.{mod-mul-add}
 use Rattle.std.specs.Vec.{with_items}
 use Rattle.std.proofs.lemmas.List.{append-nil, nil_from_length, length-take-le, with_items_is}
 use Rattle.std.proofs.Math.Nat.{mul-le-mul_left, mul-le-mul_right, mul-div_left}
-use Rattle.port_122.specs.Outside.{Outside, Since, GivenBy}
+use Rattle.port_122.specs.Outside.{Outside, Exchange, GivenBy}
 use Rattle.port_122.proofs.Stretches.{since_start, since_out, rose_since}
 use Rattle.port_122.proofs.ReadCalls.{since_prompt}
 use Rattle.wave_defs.specs.Held.{SameWithin, signal}
@@ -29,7 +29,7 @@ use Rattle.strip_coder.specs.declared.encode.EncodeFault.TheVariants as encode_f
 use Rattle.strip_coder.specs.declared.work.Work.{Work}
 use Rattle.strip_coder.specs.Rasters.{row_length, most_length, LacksRows, image_of, AreInRange, settled_octets, given_for}
 use Rattle.strip_coder.specs.Answers.{FirstBad, EncodesImage}
-use Rattle.strip_coder.specs.Works.{HasTaken, FollowsRows, StandsForNone, gathered_in}
+use Rattle.strip_coder.specs.Works.{HasTaken, FollowsRows, RepresentsNone, gathered_in}
 use Rattle.strip_coder.specs.Steps.{IsRowInRange, RowIs, TakesRow, BreaksAt}
 use Rattle.strip_coder.specs.RowsIn.{fault_after, ends_here, ShortOf, HasCome, HasAll}
 use Rattle.strip_coder.proofs.RowTakes.{OnlyRow, row_follows_any}
@@ -52,7 +52,7 @@ none_index s w range taken =
     let least : w.at.index * 16 ≤ w.at.index * s.segment = mul-le-mul_left {m = 16} {n = s.segment} w.at.index range.segment.0 in
     omega (arith, few, none, least)
 
-pub none_come : (s : Setting) (p : Outside) (w : Work) → IsInRange s → StandsForNone s w → HasCome s 0 p p w
+pub none_come : (s : Setting) (p : Outside) (w : Work) → IsInRange s → RepresentsNone s w → HasCome s 0 p p w
 none_come s p w range start =
     let all = image_blocks (sized s (tallest s)) (image_of s []) in
     let none : joined (front_packets s (tallest s) (image_of s []) w.at.index) ≡ [] =
@@ -63,7 +63,7 @@ none_come s p w range start =
       in_range = record { each = λ k lt. absurd (omega (arith, lt)) };
       stands = record { taken = start.taken; follows = λ y same. start.follows y };
       last = λ some. absurd (omega (arith, some));
-      since = subst (λ g. Since p p [] g [] (GivenBy (given_for s) [])) (sym none) (since_start p (GivenBy (given_for s) []));
+      since = subst (λ g. Exchange p p [] g [] (GivenBy (given_for s) [])) (sym none) (since_start p (GivenBy (given_for s) []));
     }
 
 -- a row that is short has fewer octets
@@ -136,12 +136,12 @@ module _ (s : Setting) (range : IsInRange s) (k : ℕ) (p q : Outside) (old : Wo
   unfolding settled_octets
   gave_is = ap (λ n. joined (front_packets s (tallest s) (image_of s come.took) n)) index
 
-  so_far : Since p q come.took (settled_octets s come.took k) [] (GivenBy (given_for s) come.took)
-  so_far = subst (λ g. Since p q come.took g [] (GivenBy (given_for s) come.took)) gave_is come.since
+  so_far : Exchange p q come.took (settled_octets s come.took k) [] (GivenBy (given_for s) come.took)
+  so_far = subst (λ g. Exchange p q come.took g [] (GivenBy (given_for s) come.took)) gave_is come.since
 
   -- octets of the next row were taken
-  part_taken : {m : Outside} (got : List ℕ) → Since q m got [] [] (InRow s.depth s.signed s.width got) →
-      Since p m (come.took ++ got) (settled_octets s come.took k) [] (GivenBy (given_for s) (come.took ++ got))
+  part_taken : {m : Outside} (got : List ℕ) → Exchange q m got [] [] (InRow s.depth s.signed s.width got) →
+      Exchange p m (come.took ++ got) (settled_octets s come.took k) [] (GivenBy (given_for s) (come.took ++ got))
   part_taken got read = since_prompt (given_for s) so_far read
       (λ i j most r.
       let size = length-take-le i got most in
@@ -222,8 +222,8 @@ module _ (s : Setting) (range : IsInRange s) (k : ℕ) (p q : Outside) (old : Wo
       let row : (j : ℕ) → signal mid.row.items j ≡ signal old.row.items j = λ j. here j ∙ read.answer.2.begins.others j (omega (arith, pixels)) ∙ there j in
       let gave : settled_octets s come.took k ≡ joined (front_packets s (tallest s) (image_of s come.took) mid.at.index) =
       sym gave_is ∙ ap (λ n. joined (front_packets s (tallest s) (image_of s come.took) n)) (sym (ap (λ a. a.index) only.at)) in
-      let so : Since p m come.took (settled_octets s come.took k) [] (GivenBy (given_for s) come.took) =
-      subst (λ t. Since p m t (settled_octets s come.took k) [] (GivenBy (given_for s) t)) same_took (part_taken read.took read.since) in
+      let so : Exchange p m come.took (settled_octets s come.took k) [] (GivenBy (given_for s) come.took) =
+      subst (λ t. Exchange p m t (settled_octets s come.took k) [] (GivenBy (given_for s) t)) same_took (part_taken read.took read.since) in
       let now : HasCome s k p m mid = record {
         took = come.took;
         whole = come.whole;
@@ -233,7 +233,7 @@ module _ (s : Setting) (range : IsInRange s) (k : ℕ) (p q : Outside) (old : Wo
           in_range = record { each = λ column lt. subst (IsPixel s.depth s.signed) (sym (row column)) (l.in_range.each column lt) };
           same = record { at = λ j lt. row j ∙ l.same.at j lt };
         };
-        since = subst (λ g. Since p m come.took g [] (GivenBy (given_for s) come.took)) gave so;
+        since = subst (λ g. Exchange p m come.took g [] (GivenBy (given_for s) come.took)) gave so;
       } in (
         left_open,
         record {
@@ -245,7 +245,7 @@ module _ (s : Setting) (range : IsInRange s) (k : ℕ) (p q : Outside) (old : Wo
 
   -- ---- the row was read
 
-  module _ (mid : Work) (m : Outside) (got : List ℕ) (read : Since q m got [] [] (InRow s.depth s.signed s.width got)) (only : OnlyRow old mid)
+  module _ (mid : Work) (m : Outside) (got : List ℕ) (read : Exchange q m got [] [] (InRow s.depth s.signed s.width got)) (only : OnlyRow old mid)
       (whole : length got ≡ row_length s) (in_range : FirstInRange s.depth s.signed got s.width)
       (holds : HoldsRow s got mid.row.items) where
     -- it is the next row of each image that begins so
@@ -305,7 +305,7 @@ module _ (s : Setting) (range : IsInRange s) (k : ℕ) (p q : Outside) (old : Wo
             in_range = record { each = λ column lt. subst (IsPixel s.depth s.signed) (sym (takes.row.at column lt)) ((row_values s got mid.row.items in_range holds).each column lt) };
             same = record { at = λ j lt. takes.row.at j lt ∙ (row_is (image_of s (come.took ++ got)) itself).at j lt ∙ ap (λ n. image_of s (come.took ++ got) n j) (sym back) };
           };
-          since = subst (λ g. Since p r (come.took ++ got) g [] (GivenBy (given_for s) (come.took ++ got))) gave (since_out (part_taken got read) goes.out);
+          since = subst (λ g. Exchange p r (come.took ++ got) g [] (GivenBy (given_for s) (come.took ++ got))) gave (since_out (part_taken got read) goes.out);
         }
 
     pub row_breaks_off : {r : Outside} (new : Work) → BreaksAt s k m r mid new → EncodesImage s p r (Err encode_faults.WriteFault)

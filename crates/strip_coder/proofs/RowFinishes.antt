@@ -14,7 +14,7 @@ use Rattle.wave_strip.specs.Strip.{rows_of, answered_of, columns_of, is_standing
 use Rattle.stream_defs.specs.Output.{image_blocks}
 use Rattle.strip_coder.specs.declared.work.Work.{Work}
 use Rattle.strip_coder.specs.Works.{StripFollows, gathered_in}
-use Rattle.strip_coder.specs.Steps.{NextAre, HasGone, HasBroken, GoesOn, BreaksOff, IsEnding, HasFinished, Finishes}
+use Rattle.strip_coder.specs.Steps.{NextAre, HasGone, HasBroken, Continues, StopsEarly, IsEnding, HasFinished, Finishes}
 use Rattle.strip_coder.proofs.RowGathers.{next_are}
 use Rattle.strip_coder.proofs.RowPushes.{OnlyStrip, only_holds}
 use Rattle.strip_coder.proofs.PacketStretches.{breaks_whole}
@@ -104,7 +104,7 @@ module _ (s : Plan) (range : IsPlan s) (old mid : Work) (ending : IsEnding s old
               holds = gone.holds (image_blocks (whole s) x) (next_blocks x m) (only_holds s old mid only (image_blocks (whole s) x) f.holds);
             };
         goes = λ x f.
-            subst (λ n. GoesOn s (image_blocks (whole s) x) n new.at.index p q) same_index
+            subst (λ n. Continues s (image_blocks (whole s) x) n new.at.index p q) same_index
             (gone.goes (image_blocks (whole s) x) (next_blocks x (mid_follows x f.strip)) (only_holds s old mid only (image_blocks (whole s) x) f.holds));
       }
 
@@ -115,6 +115,6 @@ module _ (s : Plan) (range : IsPlan s) (old mid : Work) (ending : IsEnding s old
     rose = broken.rose;
     breaks = λ x f.
         breaks_whole s (image_blocks (whole s) x) old.at.index (gathered_in s mid.at + block_count s.setting.width) range
-        (subst (λ n. BreaksOff s (image_blocks (whole s) x) n (gathered_in s mid.at + block_count s.setting.width) p q) same_index
+        (subst (λ n. StopsEarly s (image_blocks (whole s) x) n (gathered_in s mid.at + block_count s.setting.width) p q) same_index
         (broken.breaks (image_blocks (whole s) x) (next_blocks x (mid_follows x f.strip)) (only_holds s old mid only (image_blocks (whole s) x) f.holds)));
   }

@@ -19,7 +19,7 @@ use Rattle.wave_strip.specs.Counts.{settled}
 use Rattle.stream_defs.specs.Output.{image_blocks, packets_of, tells_last}
 use Rattle.strip_coder.specs.declared.work.Work.{Work}
 use Rattle.strip_coder.specs.Works.{IsMadeFor, HasGathered, IsRunning, HoldsBlocks, StripFollows, gathered_in}
-use Rattle.strip_coder.specs.Steps.{NextAre, NextRowIs, HasGone, HasBroken, Gathers, GoesOn, BreaksOff, HasPushed, HasNotPushed, Pushes}
+use Rattle.strip_coder.specs.Steps.{NextAre, NextRowIs, HasGone, HasBroken, Gathers, Continues, StopsEarly, HasPushed, HasNotPushed, Pushes}
 use Rattle.strip_coder.proofs.RowGathers.{next_are}
 use Rattle.strip_coder.proofs.PacketStretches.{breaks_more}
 
@@ -175,7 +175,7 @@ module _ (s : Plan) (range : IsPlan s) (old mid : Work) (running : IsRunning s o
           strip = λ x rows high below follows next.
               subst (λ t. Follows (padded x rows s.setting.width) (block_count rows) t) (sym strip) (mid_strip x rows high (omega (arith, below)) follows next);
           goes = λ x follows next.
-              subst (λ n. GoesOn s (image_blocks (whole s) x) n new.at.index p q) same_index
+              subst (λ n. Continues s (image_blocks (whole s) x) n new.at.index p q) same_index
               (gone.goes (image_blocks (whole s) x) (next_blocks x (mid_follows x follows.strip next)) (mid_holds (image_blocks (whole s) x) follows.holds));
         }
 
@@ -189,7 +189,7 @@ module _ (s : Plan) (range : IsPlan s) (old mid : Work) (running : IsRunning s o
           let before : gathered_in s mid.at ≡ c * came.block_row = ap (gathered_in s) only.at ∙ running.count ∙ ap (λ n. c * n) settled_before in
           let now : c * settled (rows_of old.strip + 1) ≡ c * (came.block_row + 1) = ap (λ n. c * n) (ap settled (sym pushed.rows) ∙ settled_now) in
           breaks_more s (image_blocks (whole s) x) old.at.index (gathered_in s mid.at + c) (c * settled (rows_of old.strip + 1)) (omega (arith, before, more, now))
-          (subst (λ n. BreaksOff s (image_blocks (whole s) x) n (gathered_in s mid.at + c) p q) same_index
+          (subst (λ n. StopsEarly s (image_blocks (whole s) x) n (gathered_in s mid.at + c) p q) same_index
           (broken.breaks (image_blocks (whole s) x) (next_blocks x (mid_follows x follows.strip next)) (mid_holds (image_blocks (whole s) x) follows.holds)));
     }
 

@@ -17,7 +17,7 @@ use Rattle.stream_defs.specs.Output.{image_blocks}
 use Rattle.strip_coder.specs.declared.work.Work.{Work}
 use Rattle.wave_strip.specs.Counts.{settled}
 use Rattle.strip_coder.specs.Works.{IsRunning, HasTaken, HoldsBlocks, FollowsImage, FollowsRows}
-use Rattle.strip_coder.specs.Steps.{GoesOn, BreaksOff, HasPushed, HasNotPushed, IsRowInRange, RowIs, NextRowIs, TakesRow, BreaksAt, tall_blocks}
+use Rattle.strip_coder.specs.Steps.{Continues, StopsEarly, HasPushed, HasNotPushed, IsRowInRange, RowIs, NextRowIs, TakesRow, BreaksAt, tall_blocks}
 use Rattle.strip_coder.proofs.PlanLaws.{tall_height, tall_plan}
 use Rattle.strip_coder.proofs.SegmentSteps.{share_kept}
 use Rattle.strip_coder.proofs.SettledCounts.{index_settled}
@@ -167,7 +167,7 @@ module _ (s : Setting) (range : IsInRange s) (old mid : Work) (taken : HasTaken 
         };
         goes = λ x f is.
             rw count.index
-            (subst (λ n. GoesOn (plan_of s (tallest s)) (tall_blocks s x) n after.at.index p q) index
+            (subst (λ n. Continues (plan_of s (tallest s)) (tall_blocks s x) n after.at.index p q) index
             (pushed.goes x (row_follows (plan_of s (tallest s)) x old mid only f.tall) (next_tall x is)));
       }
 
@@ -176,7 +176,7 @@ module _ (s : Setting) (range : IsInRange s) (old mid : Work) (taken : HasTaken 
     made = broken.made;
     rose = broken.rose;
     breaks = λ x f is.
-        subst (λ n. BreaksOff (plan_of s (tallest s)) (tall_blocks s x) old.at.index (block_count s.width * settled (n + 1)) p q) before
-        (subst (λ n. BreaksOff (plan_of s (tallest s)) (tall_blocks s x) n (block_count s.width * settled (rows_of mid.strip + 1)) p q) index
+        subst (λ n. StopsEarly (plan_of s (tallest s)) (tall_blocks s x) old.at.index (block_count s.width * settled (n + 1)) p q) before
+        (subst (λ n. StopsEarly (plan_of s (tallest s)) (tall_blocks s x) n (block_count s.width * settled (rows_of mid.strip + 1)) p q) index
         (broken.breaks x (row_follows (plan_of s (tallest s)) x old mid only f.tall) (next_tall x is)));
   }

@@ -3,7 +3,7 @@ use Rattle.std.proofs.Common.{◌≡◌, ◌+◌, inr, ℕ, List, [], ◌∷◌,
 use Rattle.std.specs.Prelude.{Err}
 use Rattle.std.proofs.lemmas.List.{append-nil}
 use Rattle.std.proofs.Math.Seq.{take-append_seam}
-use Rattle.port_122.specs.Outside.{Outside, Since, AtStart, GivenBy, ReadFailed}
+use Rattle.port_122.specs.Outside.{Outside, Exchange, AtStart, GivenBy, ReadFailed}
 use Rattle.port_122.proofs.Stretches.{rose_since}
 use Rattle.port_122.proofs.ReadCalls.{since_prompt}
 use Rattle.base_122.specs.Ranges.{IsInRange}
@@ -36,12 +36,12 @@ module _ (s : Setting) (range : IsInRange s) (p q : Outside) (w : Work) (come : 
     unfolding settled_octets
     gave_is = ap (λ n. joined (front_packets s (tallest s) (image_of s come.took) n)) (come.stands.taken.index (inr left_open))
 
-    so_far : Since p q come.took (settled_octets s come.took (tallest s)) [] (GivenBy (given_for s) come.took)
-    so_far = subst (λ g. Since p q come.took g [] (GivenBy (given_for s) come.took)) gave_is come.since
+    so_far : Exchange p q come.took (settled_octets s come.took (tallest s)) [] (GivenBy (given_for s) come.took)
+    so_far = subst (λ g. Exchange p q come.took g [] (GivenBy (given_for s) come.took)) gave_is come.since
 
     -- the end is asked for
-    asked_end : {d : Outside} {more : List ℕ} → Since q d more [] [] AtStart →
-        Since p d (come.took ++ more) (settled_octets s come.took (tallest s)) [] (GivenBy (given_for s) (come.took ++ more))
+    asked_end : {d : Outside} {more : List ℕ} → Exchange q d more [] [] AtStart →
+        Exchange p d (come.took ++ more) (settled_octets s come.took (tallest s)) [] (GivenBy (given_for s) (come.took ++ more))
     asked_end {more = more} read =
         since_prompt (given_for s) so_far read
         (λ i j most h.
@@ -54,8 +54,8 @@ module _ (s : Setting) (range : IsInRange s) (p q : Outside) (w : Work) (come : 
     in_range : AllInRange s come.took
     in_range = all_whole s (tallest s) come.took come.whole come.in_range
 
-    asked_none : {d : Outside} → Since q d [] [] [] AtStart → Since p d come.took (settled_octets s come.took (tallest s)) [] (GivenBy (given_for s) come.took)
-    asked_none {d = d} read = subst (λ t. Since p d t (settled_octets s come.took (tallest s)) [] (GivenBy (given_for s) t)) same_took (asked_end read)
+    asked_none : {d : Outside} → Exchange q d [] [] [] AtStart → Exchange p d come.took (settled_octets s come.took (tallest s)) [] (GivenBy (given_for s) come.took)
+    asked_none {d = d} read = subst (λ t. Exchange p d t (settled_octets s come.took (tallest s)) [] (GivenBy (given_for s) t)) same_took (asked_end read)
 
     pub tall_ended : {d : Outside} → SawEnd q d true → HasAll s p d w
     tall_ended {d = d} end = record {
@@ -66,7 +66,7 @@ module _ (s : Setting) (range : IsInRange s) (p q : Outside) (w : Work) (come : 
         in_range = come.in_range;
         stands = come.stands;
         last = come.last;
-        since = subst (λ g. Since p d come.took g [] (GivenBy (given_for s) come.took)) (sym gave_is) (asked_none end.0);
+        since = subst (λ g. Exchange p d come.took g [] (GivenBy (given_for s) come.took)) (sym gave_is) (asked_none end.0);
       });
       ended = λ none. end.1;
     }

@@ -16,7 +16,7 @@ use Rattle.stream_defs.proofs.Outputs.{packets_of-none, packets_before-none, use
 use Rattle.strip_coder.specs.declared.work.Work.{Work}
 use Rattle.strip_coder.specs.declared.work.ImageAt.{ImageAt}
 use Rattle.strip_coder.specs.SegmentsOut.{progress_at}
-use Rattle.strip_coder.specs.Works.{IsMadeFor, KeepsShare, IsRunning, StandsForNone}
+use Rattle.strip_coder.specs.Works.{IsMadeFor, KeepsShare, IsRunning, RepresentsNone}
 use Rattle.strip_coder.proofs.PlanLaws.{tall_plan}
 use Rattle.strip_coder.proofs.SegmentRuns.{same_progress}
 use Rattle.strip_coder.proofs.SettledCounts.{index_settled}
@@ -67,7 +67,7 @@ starts_running s w range made start packets at =
     }
 
 pub starts : (s : Setting) (w : Work) → IsInRange s → IsMadeFor s w → IsAtStart w.strip → w.packets ≡ fresh s.packet →
-    w.at ≡ record { rows = 0; filled = 0; index = 0; used = 0 } → StandsForNone s w
+    w.at ≡ record { rows = 0; filled = 0; index = 0; used = 0 } → RepresentsNone s w
 starts s w range made start packets at =
     let t = plan_of s (tallest s) in
     let running = starts_running t w (tall_plan s range) made start packets at in

@@ -1,6 +1,6 @@
 -- How an encoder ends, by what it took and gave.
 use Rattle.std.specs.Prelude.{◌≡◌, ◌≢◌, ◌⊎◌, ◌<◌, ◌≤◌, ◌+◌, ◌*◌, ℕ, ℤ, List, [], length, take, Result, Ok, Err}
-use Rattle.port_122.specs.Outside.{Outside, Since, GivenBy, AtEnd, Rose}
+use Rattle.port_122.specs.Outside.{Outside, Exchange, GivenBy, AtEnd, Rose}
 use Rattle.base_122.specs.Setting.{IsHeight, sized}
 use Rattle.base_122.specs.declared.setting.Setting.{Setting}
 use Rattle.wave_defs.specs.Held.{SameWithin}
@@ -79,5 +79,5 @@ Answers s old new took gave (Err WriteFault) =
 pub record EncodesImage (s : Setting) (old new : Outside) (result : Result EncodeDone EncodeFault) : Type 0 where
   pub took : List ℕ
   pub gave : List ℕ
-  pub since : Since old new took gave [] (GivenBy (given_for s) took)
+  pub since : Exchange old new took gave [] (GivenBy (given_for s) took)
   pub answer : Answers s old new took gave result

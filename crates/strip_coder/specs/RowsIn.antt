@@ -1,6 +1,6 @@
 -- The rows of a raster that a work took.
 use Rattle.std.specs.Prelude.{◌≡◌, ◌<◌, ◌+◌, ◌-◌, ◌*◌, ◌==◌, ◌&&◌, nat_le, Bool, true, false, ℕ, ℤ, List, [], length}
-use Rattle.port_122.specs.Outside.{Outside, Since, GivenBy, AtEnd}
+use Rattle.port_122.specs.Outside.{Outside, Exchange, GivenBy, AtEnd}
 use Rattle.base_122.specs.Ranges.{rows_range}
 use Rattle.base_122.specs.Setting.{IsHeight}
 use Rattle.wave_defs.specs.Held.{Agrees, signal}
@@ -14,7 +14,7 @@ use Rattle.strip_coder.specs.declared.encode.EncodeFault.{EncodeFault}
 use Rattle.strip_coder.specs.declared.encode.EncodeFault.TheVariants.{ReadFault, Short, BadPixel}
 use Rattle.strip_coder.specs.declared.work.Work.{Work}
 use Rattle.strip_coder.specs.Rasters.{row_length, image_of, AreInRange, given_for}
-use Rattle.strip_coder.specs.Works.{StandsFor}
+use Rattle.strip_coder.specs.Works.{Represents}
 use Rattle.strip_coder.specs.Steps.{IsRowInRange}
 
 -- what a fault of a row is to a raster of which so many octets were taken before
@@ -45,9 +45,9 @@ pub record HasCome (s : Setting) (k : ℕ) (p q : Outside) (w : Work) : Type 0 w
   pub took : List ℕ
   pub whole : length took ≡ k * row_length s
   pub in_range : AreInRange s took (k * s.width)
-  pub stands : StandsFor s k (image_of s took) w
+  pub stands : Represents s k (image_of s took) w
   pub last : 0 < k → LastStands s k took w.row.items
-  pub since : Since p q took (joined (front_packets s (tallest s) (image_of s took) w.at.index)) [] (GivenBy (given_for s) took)
+  pub since : Exchange p q took (joined (front_packets s (tallest s) (image_of s took) w.at.index)) [] (GivenBy (given_for s) took)
 
 -- All rows of a raster were taken. If their number is reported last, the input has ended.
 pub record HasAll (s : Setting) (p q : Outside) (w : Work) : Type 0 where

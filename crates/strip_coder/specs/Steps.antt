@@ -1,6 +1,6 @@
 -- What the steps of the encoder leave.
 use Rattle.std.specs.Prelude.{◌≡◌, ◌<◌, ◌≤◌, ◌+◌, ◌-◌, ◌*◌, ◌^◌, ℕ, ℤ, List, [], ◌++◌, length, take, Result, Ok, Err, MatchResult, slice_index_or, Bool, true, false}
-use Rattle.port_122.specs.Outside.{Outside, Since, NoRead, Rose}
+use Rattle.port_122.specs.Outside.{Outside, Exchange, NoRead, Rose}
 use Rattle.base_122.specs.Sizes.{block_count, padded_size, total_blocks, first_block, segment_blocks}
 use Rattle.base_122.specs.Ranges.{IsWithin, rows_range}
 use Rattle.base_122.specs.Setting.{sized}
@@ -39,16 +39,16 @@ abbrev pub HasRoom : Plan → ℕ → Work → Type 0
 HasRoom s n w = gathered_in s w.at + n ≤ total_blocks s.setting.width s.rows
 
 -- The packets of these blocks went on from the first segments before this index to those before that one.
-pub record GoesOn (s : Plan) (all : List (List ℤ)) (from to : ℕ) (p q : Outside) : Type 0 where
+pub record Continues (s : Plan) (all : List (List ℤ)) (from to : ℕ) (p q : Outside) : Type 0 where
   pub gave : List ℕ
-  pub out : Since p q [] gave [] NoRead
+  pub out : Exchange p q [] gave [] NoRead
   pub then_are : joined (packets_of (tells_last s.setting) (whole s) all from) ++ gave ≡ joined (packets_of (tells_last s.setting) (whole s) all to)
 
 -- A write failed in the packets of one segment, where those of the segments before an index were out: a front of them is out. Of the blocks of
 -- the image so many were gathered, those of that segment among them.
-pub record BreaksOff (s : Plan) (all : List (List ℤ)) (from gathered : ℕ) (p q : Outside) : Type 0 where
+pub record StopsEarly (s : Plan) (all : List (List ℤ)) (from gathered : ℕ) (p q : Outside) : Type 0 where
   pub gave : List ℕ
-  pub out : Since p q [] gave [] NoRead
+  pub out : Exchange p q [] gave [] NoRead
   pub index : ℕ
   pub inside : index < segments_of (whole s)
   pub there : first_block s.setting.segment index + segment_blocks (total_blocks s.setting.width s.rows) s.setting.segment index ≤ gathered
@@ -67,13 +67,13 @@ pub record HasGone (s : Plan) (numbers : ℕ → List ℤ) (n : ℕ) (p q : Outs
   pub count : gathered_in s new.at ≡ gathered_in s old.at + n
   pub faults : p.write_faults ≤ q.write_faults
   pub holds : (all : List (List ℤ)) → NextAre s old n numbers all → HoldsBlocks s all old → HoldsBlocks s all new
-  pub goes : (all : List (List ℤ)) → NextAre s old n numbers all → HoldsBlocks s all old → GoesOn s all old.at.index new.at.index p q
+  pub goes : (all : List (List ℤ)) → NextAre s old n numbers all → HoldsBlocks s all old → Continues s all old.at.index new.at.index p q
 
 -- a write failed meanwhile
 pub record HasBroken (s : Plan) (numbers : ℕ → List ℤ) (n : ℕ) (p q : Outside) (old new : Work) : Type 0 where
   pub made : IsMadeFor s.setting new
   pub rose : Rose p.write_faults q.write_faults
-  pub breaks : (all : List (List ℤ)) → NextAre s old n numbers all → HoldsBlocks s all old → BreaksOff s all old.at.index (gathered_in s old.at + n) p q
+  pub breaks : (all : List (List ℤ)) → NextAre s old n numbers all → HoldsBlocks s all old → StopsEarly s all old.at.index (gathered_in s old.at + n) p q
 
 abbrev pub Gathers : {T E : Type 0} → Result T E → Plan → (ℕ → List ℤ) → ℕ → Outside → Outside → Work → Work → Type 0
 Gathers result s numbers n p q old new = MatchResult result
@@ -88,12 +88,12 @@ pub record PresentOut (s : Plan) (p q : Outside) (old new : Work) : Type 0 where
   pub filled : new.at.filled ≡ 0
   pub faults : p.write_faults ≤ q.write_faults
   pub holds : (all : List (List ℤ)) → length all ≡ total_blocks s.setting.width s.rows → HoldsBlocks s all old → HoldsBlocks s all new
-  pub goes : (all : List (List ℤ)) → length all ≡ total_blocks s.setting.width s.rows → HoldsBlocks s all old → GoesOn s all old.at.index new.at.index p q
+  pub goes : (all : List (List ℤ)) → length all ≡ total_blocks s.setting.width s.rows → HoldsBlocks s all old → Continues s all old.at.index new.at.index p q
 
 pub record PresentCut (s : Plan) (p q : Outside) (old new : Work) : Type 0 where
   pub made : IsMadeFor s.setting new
   pub rose : Rose p.write_faults q.write_faults
-  pub breaks : (all : List (List ℤ)) → length all ≡ total_blocks s.setting.width s.rows → HoldsBlocks s all old → BreaksOff s all old.at.index (gathered_in s old.at) p q
+  pub breaks : (all : List (List ℤ)) → length all ≡ total_blocks s.setting.width s.rows → HoldsBlocks s all old → StopsEarly s all old.at.index (gathered_in s old.at) p q
 
 abbrev pub WritesPresent : {T E : Type 0} → Result T E → Plan → Outside → Outside → Work → Work → Type 0
 WritesPresent result s p q old new = MatchResult result (λ _. PresentOut s p q old new) (λ _. PresentCut s p q old new)
@@ -118,13 +118,13 @@ pub record HasPushed (s : Plan) (p q : Outside) (old new : Work) : Type 0 where
   pub follows : (x : ℕ → ℕ → ℤ) → FollowsImage s x old → NextRowIs s x old → FollowsImage s x new
   pub strip : (x : ℕ → ℕ → ℤ) (rows : ℕ) → IsWithin rows_range rows → rows_of old.strip < rows → StripFollows (plan_of s.setting rows) x old → NextRowIs (plan_of s.setting rows) x old →
       StripFollows (plan_of s.setting rows) x new
-  pub goes : (x : ℕ → ℕ → ℤ) → FollowsImage s x old → NextRowIs s x old → GoesOn s (image_blocks (whole s) x) old.at.index new.at.index p q
+  pub goes : (x : ℕ → ℕ → ℤ) → FollowsImage s x old → NextRowIs s x old → Continues s (image_blocks (whole s) x) old.at.index new.at.index p q
 
 -- a write failed meanwhile
 pub record HasNotPushed (s : Plan) (p q : Outside) (old new : Work) : Type 0 where
   pub made : IsMadeFor s.setting new
   pub rose : Rose p.write_faults q.write_faults
-  pub breaks : (x : ℕ → ℕ → ℤ) → FollowsImage s x old → NextRowIs s x old → BreaksOff s (image_blocks (whole s) x) old.at.index (block_count s.setting.width * settled (rows_of old.strip + 1)) p q
+  pub breaks : (x : ℕ → ℕ → ℤ) → FollowsImage s x old → NextRowIs s x old → StopsEarly s (image_blocks (whole s) x) old.at.index (block_count s.setting.width * settled (rows_of old.strip + 1)) p q
 
 abbrev pub Pushes : {T E : Type 0} → Result T E → Plan → Outside → Outside → Work → Work → Type 0
 Pushes result s p q old new = MatchResult result (λ _. HasPushed s p q old new) (λ _. HasNotPushed s p q old new)
@@ -149,20 +149,20 @@ pub record TakesRow (s : Setting) (k : ℕ) (p q : Outside) (old new : Work) : T
   pub row : Agrees s.width (signal new.row.items) (signal old.row.items)
   pub faults : p.write_faults ≤ q.write_faults
   pub follows : (x : ℕ → ℕ → ℤ) → FollowsRows s x old → RowIs s x k old → FollowsRows s x new
-  pub goes : (x : ℕ → ℕ → ℤ) → FollowsRows s x old → RowIs s x k old → GoesOn (plan_of s (tallest s)) (tall_blocks s x) old.at.index new.at.index p q
+  pub goes : (x : ℕ → ℕ → ℤ) → FollowsRows s x old → RowIs s x k old → Continues (plan_of s (tallest s)) (tall_blocks s x) old.at.index new.at.index p q
 
 -- a write failed meanwhile
 pub record BreaksAt (s : Setting) (k : ℕ) (p q : Outside) (old new : Work) : Type 0 where
   pub made : IsMadeFor s new
   pub rose : Rose p.write_faults q.write_faults
-  pub breaks : (x : ℕ → ℕ → ℤ) → FollowsRows s x old → RowIs s x k old → BreaksOff (plan_of s (tallest s)) (tall_blocks s x) old.at.index (block_count s.width * settled (k + 1)) p q
+  pub breaks : (x : ℕ → ℕ → ℤ) → FollowsRows s x old → RowIs s x k old → StopsEarly (plan_of s (tallest s)) (tall_blocks s x) old.at.index (block_count s.width * settled (k + 1)) p q
 
 -- all packets of an image of so many rows are out
 pub record EndsImage (s : Setting) (rows : ℕ) (p q : Outside) (old new : Work) (result : EncodeDone) : Type 0 where
   pub made : IsMadeFor s new
   pub faults : p.write_faults ≤ q.write_faults
   pub goes : (x : ℕ → ℕ → ℤ) → FollowsRows s x old → RowIs s x (rows - 1) old →
-      GoesOn (plan_of s rows) (image_blocks (sized s rows) x) old.at.index (segments_of (sized s rows)) p q
+      Continues (plan_of s rows) (image_blocks (sized s rows) x) old.at.index (segments_of (sized s rows)) p q
   pub done : (x : ℕ → ℕ → ℤ) → FollowsRows s x old → RowIs s x (rows - 1) old → DoneFor s rows x result
 
 -- a write failed meanwhile
@@ -170,7 +170,7 @@ pub record EndBreaks (s : Setting) (rows : ℕ) (p q : Outside) (old new : Work)
   pub made : IsMadeFor s new
   pub rose : Rose p.write_faults q.write_faults
   pub breaks : (x : ℕ → ℕ → ℤ) → FollowsRows s x old → RowIs s x (rows - 1) old →
-      BreaksOff (plan_of s rows) (image_blocks (sized s rows) x) old.at.index (total_blocks s.width rows) p q
+      StopsEarly (plan_of s rows) (image_blocks (sized s rows) x) old.at.index (total_blocks s.width rows) p q
 
 -- ---- the end of an image
 
@@ -185,13 +185,13 @@ pub record HasPushedOn (s : Plan) (n : ℕ) (p q : Outside) (old new : Work) : T
   pub row : new.row ≡ old.row
   pub faults : p.write_faults ≤ q.write_faults
   pub follows : (x : ℕ → ℕ → ℤ) → FollowsImage s x old → LastRowIs s x old → FollowsImage s x new
-  pub goes : (x : ℕ → ℕ → ℤ) → FollowsImage s x old → LastRowIs s x old → GoesOn s (image_blocks (whole s) x) old.at.index new.at.index p q
+  pub goes : (x : ℕ → ℕ → ℤ) → FollowsImage s x old → LastRowIs s x old → Continues s (image_blocks (whole s) x) old.at.index new.at.index p q
 
 -- a write failed meanwhile
 pub record HasNotPushedOn (s : Plan) (p q : Outside) (old new : Work) : Type 0 where
   pub made : IsMadeFor s.setting new
   pub rose : Rose p.write_faults q.write_faults
-  pub breaks : (x : ℕ → ℕ → ℤ) → FollowsImage s x old → LastRowIs s x old → BreaksOff s (image_blocks (whole s) x) old.at.index (total_blocks s.setting.width s.rows) p q
+  pub breaks : (x : ℕ → ℕ → ℤ) → FollowsImage s x old → LastRowIs s x old → StopsEarly s (image_blocks (whole s) x) old.at.index (total_blocks s.setting.width s.rows) p q
 
 abbrev pub PushesOn : {T E : Type 0} → Result T E → Plan → ℕ → Outside → Outside → Work → Work → Type 0
 PushesOn result s n p q old new = MatchResult result (λ _. HasPushedOn s n p q old new) (λ _. HasNotPushedOn s p q old new)
@@ -209,7 +209,7 @@ pub record HasFinished (s : Plan) (p q : Outside) (old new : Work) : Type 0 wher
   pub answered : answered_of new.strip ≡ answered_of old.strip + 1
   pub faults : p.write_faults ≤ q.write_faults
   pub follows : (x : ℕ → ℕ → ℤ) → FollowsImage s x old → FollowsImage s x new
-  pub goes : (x : ℕ → ℕ → ℤ) → FollowsImage s x old → GoesOn s (image_blocks (whole s) x) old.at.index new.at.index p q
+  pub goes : (x : ℕ → ℕ → ℤ) → FollowsImage s x old → Continues s (image_blocks (whole s) x) old.at.index new.at.index p q
 
 -- there is none
 pub record HasNoMore (s : Plan) (p q : Outside) (old new : Work) : Type 0 where
@@ -223,7 +223,7 @@ pub record HasNoMore (s : Plan) (p q : Outside) (old new : Work) : Type 0 where
 pub record HasNotFinished (s : Plan) (p q : Outside) (old new : Work) : Type 0 where
   pub made : IsMadeFor s.setting new
   pub rose : Rose p.write_faults q.write_faults
-  pub breaks : (x : ℕ → ℕ → ℤ) → FollowsImage s x old → BreaksOff s (image_blocks (whole s) x) old.at.index (total_blocks s.setting.width s.rows) p q
+  pub breaks : (x : ℕ → ℕ → ℤ) → FollowsImage s x old → StopsEarly s (image_blocks (whole s) x) old.at.index (total_blocks s.setting.width s.rows) p q
 
 abbrev pub Finishes : {E : Type 0} → Result Bool E → Plan → Outside → Outside → Work → Work → Type 0
 Finishes (Ok true) s p q old new = HasFinished s p q old new
@@ -235,11 +235,11 @@ pub record HasFinishedOn (s : Plan) (p q : Outside) (old new : Work) : Type 0 wh
   pub ending : IsEnding s new
   pub faults : p.write_faults ≤ q.write_faults
   pub follows : (x : ℕ → ℕ → ℤ) → FollowsImage s x old → FollowsImage s x new
-  pub goes : (x : ℕ → ℕ → ℤ) → FollowsImage s x old → GoesOn s (image_blocks (whole s) x) old.at.index new.at.index p q
+  pub goes : (x : ℕ → ℕ → ℤ) → FollowsImage s x old → Continues s (image_blocks (whole s) x) old.at.index new.at.index p q
 
 -- all of them were, and all packets are out
 pub record AllOut (s : Plan) (p q : Outside) (old new : Work) : Type 0 where
   pub made : IsMadeFor s.setting new
   pub faults : p.write_faults ≤ q.write_faults
   pub stands : (x : ℕ → ℕ → ℤ) → FollowsImage s x old → new.packets ≡ progress_at s (image_blocks (whole s) x) (segments_of (whole s))
-  pub goes : (x : ℕ → ℕ → ℤ) → FollowsImage s x old → GoesOn s (image_blocks (whole s) x) old.at.index (segments_of (whole s)) p q
+  pub goes : (x : ℕ → ℕ → ℤ) → FollowsImage s x old → Continues s (image_blocks (whole s) x) old.at.index (segments_of (whole s)) p q

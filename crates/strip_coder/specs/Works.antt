@@ -108,11 +108,11 @@ pub record FollowsRows (s : Setting) (x : ℕ → ℕ → ℤ) (w : Work) : Type
   pub any : (rows : ℕ) → IsHeight s rows → rows_of w.strip ≤ rows → StripFollows (plan_of s rows) x w
 
 -- A work stands for the first k rows of an image: it follows each image that has these.
-pub record StandsFor (s : Setting) (k : ℕ) (x : ℕ → ℕ → ℤ) (w : Work) : Type 0 where
+pub record Represents (s : Setting) (k : ℕ) (x : ℕ → ℕ → ℤ) (w : Work) : Type 0 where
   pub taken : HasTaken (plan_of s (tallest s)) k w
   pub follows : (y : ℕ → ℕ → ℤ) → SameWithin k s.width x y → FollowsRows s y w
 
 -- for no rows, so it follows each image
-pub record StandsForNone (s : Setting) (w : Work) : Type 0 where
+pub record RepresentsNone (s : Setting) (w : Work) : Type 0 where
   pub taken : HasTaken (plan_of s (tallest s)) 0 w
   pub follows : (x : ℕ → ℕ → ℤ) → FollowsRows s x w

@@ -5,7 +5,7 @@ ghost use Rattle.base_122.specs.Setting.{IsHeight};
 ghost use Rattle.strip_coder.specs.Plans.{IsPlan, plan_of, whole, tallest};
 ghost use Rattle.base_122.specs.Sizes.{padded_size};
 ghost use Rattle.wave_strip.specs.Strip.{rows_of};
-ghost use Rattle.strip_coder.specs.Works.{IsMadeFor, IsRunning, HasTaken, StandsForNone};
+ghost use Rattle.strip_coder.specs.Works.{IsMadeFor, IsRunning, HasTaken, RepresentsNone};
 ghost use Rattle.strip_coder.specs.Steps.{IsRowSmall, IsRowInRange, Pushes, PushesOn, IsEnding, Finishes, AllOut, HasNotFinished, TakesRow, BreaksAt, EndsImage, EndBreaks};
 ghost use Rattle.stream_defs.specs.Output.{segments_of};
 
@@ -23,7 +23,7 @@ pub fn start_image(setting: &Setting, work: &mut Work)
     requires in_range { IsInRange setting.now }
     requires made { IsMadeFor setting.now work.old }
     ensures made { IsMadeFor setting.now work.new }
-    ensures start { StandsForNone setting.now work.new }
+    ensures start { RepresentsNone setting.now work.new }
 {
     work.strip.reset();
     work.packets.reset();

@@ -23,7 +23,7 @@ use space_packets::Packetiser;
 use wave_strip::StripWave;
 
 /// Puts the block of this column of the block row that is in the strip at a place of a segment's blocks (docs/formats.md, "Blocks").
-pub fn put_block(
+pub fn gather_block(
     strip: &StripWave,
     weights: &Weights,
     column: u32,
@@ -121,7 +121,7 @@ fn gather_column<X: Port>(
     ensures { Gathers result plan.now (λ _. gathered (number_in work.old.strip) plan.now.setting.weights.shifts column) 1 (X.outside port.old) (X.outside port.new) work.old work.new }
 {
     let place = work.at.filled as usize;
-    put_block(
+    gather_block(
         &work.strip,
         &plan.setting.weights,
         column,

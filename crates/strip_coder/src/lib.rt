@@ -15,7 +15,7 @@ mod work;
 
 pub use encode::{EncodeDone, EncodeFault};
 pub use engine::{image_end, row_in, start_image};
-pub use gather::put_block;
+pub use gather::gather_block;
 pub use laws::last_row_settles_all;
 pub use plan::Plan;
 pub use rows::{encode_rows, row_fault};

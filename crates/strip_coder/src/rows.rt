@@ -5,7 +5,7 @@ ghost use Rattle.base_122.specs.Ranges.{IsInRange};
 ghost use Rattle.strip_coder.specs.Rasters.{row_length};
 ghost use Rattle.strip_coder.specs.Answers.{EncodesImage};
 ghost use Rattle.strip_coder.specs.Plans.{plan_of, tallest};
-ghost use Rattle.strip_coder.specs.Works.{IsMadeFor, HasTaken, StandsForNone};
+ghost use Rattle.strip_coder.specs.Works.{IsMadeFor, HasTaken, RepresentsNone};
 ghost use Rattle.strip_coder.specs.RowsIn.{fault_after, ends_here, ShortOf, HasCome, HasAll, TookOneMore};
 
 use crate::encode::{EncodeDone, EncodeFault};
@@ -62,7 +62,7 @@ pub fn encode_rows<X: Port>(
 // Takes all rows of a raster. If their number is reported last, these are the rows before the end of the input.
 fn take_rows<X: Port>(port: &mut X, setting: &Setting, work: &mut Work) -> Result<(), EncodeFault>
     requires in_range { IsInRange setting.now }
-    requires start { StandsForNone setting.now work.old }
+    requires start { RepresentsNone setting.now work.old }
     ensures made { IsMadeFor setting.now work.new }
     ensures rows { MatchResult result
         (λ _. HasAll setting.now (X.outside port.old) (X.outside port.new) work.new)

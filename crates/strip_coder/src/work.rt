@@ -36,7 +36,7 @@ pub struct Work {
 impl Work {
     ghost use Rattle.std.specs.Prelude.{◌≡◌, ◌≤◌, ◌*◌, IfOk, vec_len};
     ghost use Rattle.base_122.specs.Ranges.{IsInRange};
-    ghost use Rattle.strip_coder.specs.Works.{IsMadeFor, most_blocks, samples_of, StandsForNone};
+    ghost use Rattle.strip_coder.specs.Works.{IsMadeFor, most_blocks, samples_of, RepresentsNone};
 
     /// Takes all memory that images of this setting need (docs/architecture.md, "The encoder"). The one error is want of
     /// memory.
@@ -45,7 +45,7 @@ impl Work {
         ensures made { IfOk result (IsMadeFor setting.now) }
         ensures blocks { IfOk result (λ made. vec_len made.blocks ≡ 64 * most_blocks setting.now) }
         ensures marks { IfOk result (λ made. vec_len made.marks ≡ most_blocks setting.now) }
-        ensures start { IfOk result (StandsForNone setting.now) }
+        ensures start { IfOk result (RepresentsNone setting.now) }
     {
         let geometry = setting.geometry_for(Plan::tallest(setting).rows);
         let width = geometry.padded_width();

@@ -6,7 +6,7 @@ use Rattle.std.proofs.lemmas.Bool.{cases_lt, false≢true}
 use Rattle.std.proofs.lemmas.List.{append-nil, take-append-le, take-append-drop}
 use Rattle.std.proofs.lemmas.Nat.{div_below}
 use Rattle.std.proofs.Math.Seq.{take-append-add}
-use Rattle.port_122.specs.Outside.{Outside, Since, NoRead}
+use Rattle.port_122.specs.Outside.{Outside, Exchange, NoRead}
 use Rattle.port_122.proofs.Stretches.{since_then, since_out, since_weaker}
 use Rattle.base_122.specs.Sizes.{first_block}
 use Rattle.base_122.specs.declared.geometry.Geometry.{Geometry}
@@ -28,7 +28,7 @@ use Rattle.packet_assembly.specs.Passing.{whole_after}
 use Rattle.packet_assembly.specs.Readings.{HasRead}
 use Rattle.packet_assembly.proofs.Images.{end_more, end_same, geometry_known, geometry_same, through_open, told_last_open}
 use Rattle.strip_decoder.specs.Sinks.{Numbers, Blocks, SinkOf, MayEnd, blocks_with}
-use Rattle.strip_decoder.specs.Steps.{Walking, IsStanding, passed_in, total_in}
+use Rattle.strip_decoder.specs.Steps.{Walking, IsCurrent, passed_in, total_in}
 use Rattle.strip_decoder.specs.Runs.{Run, holds_after, PassedBy, AsksPassed, HasFew, PartBy, Knows, AreOf, Shows, blocks_passed, settled_blocks, future}
 use Rattle.strip_decoder.proofs.Staying.{StaysIn, known_or_not, stays_on, ends_segment, ends_fewer, part_ends}
 use Rattle.strip_decoder.proofs.Receiving.{one_received}
@@ -95,7 +95,7 @@ asks_more k w took t gave g i j le asks =
     )
 
 -- by what was given
-pub wrote_on : {S : Type 0} {old new : Outside} (k : SinkOf S) (w : Run) (took gave g : List ℕ) → Since w.start old took gave [] (AsksPassed k w took gave) → Since old new [] g [] NoRead → Since w.start new took (gave ++ g) [] (AsksPassed k w took (gave ++ g))
+pub wrote_on : {S : Type 0} {old new : Outside} (k : SinkOf S) (w : Run) (took gave g : List ℕ) → Exchange w.start old took gave [] (AsksPassed k w took gave) → Exchange old new [] g [] NoRead → Exchange w.start new took (gave ++ g) [] (AsksPassed k w took (gave ++ g))
 wrote_on k w took gave g since out =
     since_out (since_weaker since (λ i j le asks. subst (λ zs. AsksPassed k w zs (gave ++ g) i j) (append-nil took) (asks_more k w took [] gave g i j le asks))) out
 
@@ -104,14 +104,14 @@ abbrev pub IsRight : {S : Type 0} → SinkOf S → Run → (taken given : List �
 IsRight k w taken given = HasFewPixels w.pixels w.apid taken × ((all : List ℕ) → w.start.rest ≡ Some all → PassedBy k w.apid taken given)
 
 -- by what was taken, where at each read call what is given is right
-pub took_on : {S : Type 0} {P : FateState → Type 0} {old new : Outside} {a b : Assembling} {went : List (List ℕ)} (k : SinkOf S) (w : Run) (took gave : List ℕ) → Since w.start old took gave [] (AsksPassed k w took gave) → (q : Passes P old new a b went) →
+pub took_on : {S : Type 0} {P : FateState → Type 0} {old new : Outside} {a b : Assembling} {went : List (List ℕ)} (k : SinkOf S) (w : Run) (took gave : List ℕ) → Exchange w.start old took gave [] (AsksPassed k w took gave) → (q : Passes P old new a b went) →
     ((octets more : List ℕ) → q.took ≡ octets ++ more → P (state_with a octets) → IsRight k w (took ++ octets) gave) →
-    Since w.start new (took ++ q.took) gave [] (AsksPassed k w (took ++ q.took) gave)
+    Exchange w.start new (took ++ q.took) gave [] (AsksPassed k w (took ++ q.took) gave)
 took_on {P = P} {new = new} {a = a} k w took gave since q right =
     let all = took ++ q.took in
-    let first : Since w.start _ took gave [] (AsksPassed k w all gave) =
+    let first : Exchange w.start _ took gave [] (AsksPassed k w all gave) =
     since_weaker since (λ i j le asks. subst (λ zs. AsksPassed k w all zs i j) (append-nil gave) (asks_more k w took q.took gave [] i j le asks)) in
-    let both : Since w.start new (took ++ q.took) (gave ++ []) [] (AsksPassed k w all gave) =
+    let both : Exchange w.start new (took ++ q.took) (gave ++ []) [] (AsksPassed k w all gave) =
     since_then first q.since (λ i j le asks.
     let here = right (take i q.took) (drop i q.took) (sym (take-append-drop i q.took)) asks.0 in
     let early = sym (take-append-add took q.took i) in
@@ -121,7 +121,7 @@ took_on {P = P} {new = new} {a = a} k w took gave since q right =
       subst (HasFewPixels w.pixels w.apid) early here.0,
       λ every told. subst (λ zs. PassedBy k w.apid zs (take (length gave + j) gave)) early (subst (PassedBy k w.apid (took ++ take i q.took)) (sym whole) (here.1 every told)),
     )) in
-    subst (λ zs. Since w.start new all zs [] (AsksPassed k w all gave)) (append-nil gave) both
+    subst (λ zs. Exchange w.start new all zs [] (AsksPassed k w all gave)) (append-nil gave) both
   where
     take_whole : (xs : List ℕ) → take (length xs) xs ≡ xs
     take_whole [] = refl
@@ -199,7 +199,7 @@ blocks_by size received block = option_map (λ numbers. slice_index_or numbers (
 -- ---- what is given is right
 
 module _ {S : Type 0} (k : SinkOf S) (w : Run) (a : Assembling) (p : Walking S) (took gave octets : List ℕ) (passed : List (List ℕ)) (bound : ℕ) (sofar : Numbers) (read : HasRead w.apid w.cap a took passed)
-    (standing : IsStanding k p) (few : passed_in p ≤ first_block p.geometry.segment bound) (begun : passed_in p ≤ end_of (kept w.apid fresh passed))
+    (standing : IsCurrent k p) (few : passed_in p ≤ first_block p.geometry.segment bound) (begun : passed_in p ≤ end_of (kept w.apid fresh passed))
     (later beyond : List (List ℕ)) (parts : later ≡ whole_packets (a.intake.pending ++ octets) ++ beyond) (knows : Knows w.apid passed later bound sofar) where
   abbrev next : List (List ℕ)
   next = whole_packets (a.intake.pending ++ octets)

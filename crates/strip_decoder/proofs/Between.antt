@@ -13,7 +13,7 @@ use Rattle.stream_defs.specs.Fates.{fresh, after, after_all}
 use Rattle.stream_defs.proofs.ChosenLaws.{after_all-append}
 use Rattle.packet_assembly.specs.declared.note.SegmentStart.{SegmentStart}
 use Rattle.packet_assembly.specs.Assembling.{Assembling, Starts, BeginsNone, last_index, unread_assembly}
-use Rattle.packet_assembly.specs.Segments.{GoesOn, FindsSegment}
+use Rattle.packet_assembly.specs.Segments.{Continues, FindsSegment}
 use Rattle.packet_assembly.proofs.Images.{begun_by, geometry_none, index_none}
 use Rattle.strip_decoder.specs.Sinks.{SinkOf, MayEnd}
 use Rattle.strip_decoder.specs.Steps.{Walking, IsFresh, passed_in, total_in}
@@ -129,7 +129,7 @@ follow_next p g index s start same le next =
 -- ---- from one segment to the next
 
 -- the segment of the walk was gone through, and one was begun after it
-pub held_next : {old new : Outside} (a b : Assembling) (g : Geometry) (index : ℕ) (next : SegmentStart) → HasImage a g → a.held ≡ None → last_index a.state.last ≡ Some index → (goes : GoesOn old new a b) → b.held ≡ Some next →
+pub held_next : {old new : Outside} (a b : Assembling) (g : Geometry) (index : ℕ) (next : SegmentStart) → HasImage a g → a.held ≡ None → last_index a.state.last ≡ Some index → (goes : Continues old new a b) → b.held ≡ Some next →
     (c : ComesNext g index b.state next) × HasImage b c.image
 held_next a b g index next has unheld last goes held =
     let began = goes.began unheld next held in
@@ -148,7 +148,7 @@ held_next a b g index next has unheld last goes held =
     (d, image_next a b goes.passed began.front began.packet next g index has goes.passes.apid goes.passes.state began.passed_are c)
 
 -- whatever was passed, the walk may follow the segment that an assembly holds
-pub may_follow : {S : Type 0} {old new : Outside} (a b : Assembling) (p : Walking S) (start : SegmentStart) → IsAt a p start → GoesOn old new a b → passed_in p ≤ first_block p.geometry.segment (start.ancillary.index + 1) → MayFollowHeld b p
+pub may_follow : {S : Type 0} {old new : Outside} (a b : Assembling) (p : Walking S) (start : SegmentStart) → IsAt a p start → Continues old new a b → passed_in p ≤ first_block p.geometry.segment (start.ancillary.index + 1) → MayFollowHeld b p
 may_follow a b p start at goes le = by b.held refl
   where
     few : passed_in p ≤ first_block at.image.segment (start.ancillary.index + 1)

@@ -13,7 +13,7 @@ use Rattle.base_122.specs.declared.geometry.Geometry.{Geometry}
 use Rattle.stream_defs.specs.Marks.{Marks, marked, and_missing, most_block_rows}
 use Rattle.damage_rows.proofs.TableLaws.{any_there, any_none, filter_same}
 use Rattle.strip_decoder.specs.Sinks.{Blocks, SinkOf, Takes, Fails}
-use Rattle.strip_decoder.specs.Steps.{Walking, IsStanding, HasRoom, Follows, AreNext, HasPassed, BreaksOff, PassesBlocks, HasAdvanced, passed_in, is_marked, is_lost, IsListed}
+use Rattle.strip_decoder.specs.Steps.{Walking, IsCurrent, HasRoom, Follows, AreNext, HasPassed, StopsEarly, PassesBlocks, HasAdvanced, passed_in, is_marked, is_lost, IsListed}
 
 -- ---- marks
 
@@ -89,7 +89,7 @@ lost_more g blocks m row =
 
 -- ---- one block
 
-module _ {S : Type 0} (k : SinkOf S) (v : Option (List ℤ)) (p z : Walking S) (t : S) (a b : Outside) (standing : IsStanding k p) (room : HasRoom 1 p) where
+module _ {S : Type 0} (k : SinkOf S) (v : Option (List ℤ)) (p z : Walking S) (t : S) (a b : Outside) (standing : IsCurrent k p) (room : HasRoom 1 p) where
   abbrev c : ℕ
   c = block_count p.geometry.width
 
@@ -132,7 +132,7 @@ module _ {S : Type 0} (k : SinkOf S) (v : Option (List ℤ)) (p z : Walking S) (
   })
 
   -- a write failed
-  pub one_failed : Fails k p.geometry (passed_in p) v a b p.sink → BreaksOff k (λ i. v) 1 a b p
+  pub one_failed : Fails k p.geometry (passed_in p) v a b p.sink → StopsEarly k (λ i. v) 1 a b p
   one_failed fails = record {
     gave = fails.gave;
     out = fails.out;
@@ -142,12 +142,12 @@ module _ {S : Type 0} (k : SinkOf S) (v : Option (List ℤ)) (p z : Walking S) (
 
 -- ---- more of them
 
-pub passes_failed : {S T E : Type 0} {a b : Outside} {p : Walking S} (k : SinkOf S) (r : Result T E) (values : ℕ → Option (List ℤ)) (n : ℕ) (z : Walking S) → IsErr r → BreaksOff k values n a b p → PassesBlocks k r values n a b p z
+pub passes_failed : {S T E : Type 0} {a b : Outside} {p : Walking S} (k : SinkOf S) (r : Result T E) (values : ℕ → Option (List ℤ)) (n : ℕ) (z : Walking S) → IsErr r → StopsEarly k values n a b p → PassesBlocks k r values n a b p z
 passes_failed k (Ok x) values n z is broken = absurd (false≢true is)
 passes_failed k (Err e) values n z is broken = broken
 
 -- none was passed
-pub none_passed : {S : Type 0} (k : SinkOf S) (values : ℕ → Option (List ℤ)) (p : Walking S) (a : Outside) → IsStanding k p → HasPassed k values 0 a a p p
+pub none_passed : {S : Type 0} (k : SinkOf S) (values : ℕ → Option (List ℤ)) (p : Walking S) (a : Outside) → IsCurrent k p → HasPassed k values 0 a a p p
 none_passed k values p a standing = record {
   standing = standing;
   geometry = refl;
@@ -178,7 +178,7 @@ module _ {S : Type 0} (k : SinkOf S) (values : ℕ → Option (List ℤ)) (i : �
   }
 
   -- a write failed at it
-  pub failed_then : {c : Outside} (n : ℕ) → i < n → BreaksOff k (λ j. values i) 1 b c x → BreaksOff k values n a c p
+  pub failed_then : {c : Outside} (n : ℕ) → i < n → StopsEarly k (λ j. values i) 1 b c x → StopsEarly k values n a c p
   failed_then n lt broken = record {
     gave = passed.gave ++ broken.gave;
     out = since_out passed.out broken.out;

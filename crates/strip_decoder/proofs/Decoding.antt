@@ -32,7 +32,7 @@ use Rattle.packet_assembly.proofs.Readings.{read_within, ended_packets, ended_ou
 use Rattle.strip_decoder.specs.declared.decode.DecodeFault.{DecodeFault}
 use Rattle.strip_decoder.specs.declared.decode.DecodeFault.TheVariants.{ReadFault, WriteFault, NoSegment, TooManyPixels, LongInput, Memory}
 use Rattle.strip_decoder.specs.Sinks.{Numbers, SinkOf, blocks_with}
-use Rattle.strip_decoder.specs.Steps.{Walking, IsStanding, Follows, passed_in, total_in}
+use Rattle.strip_decoder.specs.Steps.{Walking, IsCurrent, Follows, passed_in, total_in}
 use Rattle.strip_decoder.specs.Segments.{FitsImage, FindsNext, pixels_reached}
 use Rattle.strip_decoder.specs.Runs.{Run, BreaksRun}
 use Rattle.strip_decoder.specs.Walks.{HasPassedAll, IsDamageOf, PassesAll, Walks, run_of, walked_of}
@@ -174,7 +174,7 @@ rows_within m n c some le = elim (cases_lt n m) [
 ]
 
 -- a walk has passed no more block rows than an image has
-pub rows_few : {S : Type 0} (k : SinkOf S) (q : Walking S) → IsStanding k q → q.at.row ≤ 32768
+pub rows_few : {S : Type 0} (k : SinkOf S) (q : Walking S) → IsCurrent k q → q.at.row ≤ 32768
 rows_few k q standing =
     let few = standing.few in
     let rows = block_count-rows q.geometry.rows standing.height in

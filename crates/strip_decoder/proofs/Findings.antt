@@ -2,7 +2,7 @@
 use Rattle.std.proofs.Common.{◌≡◌, ℕ, List, [], length, take, refl, ap, subst, inl, inr, arith}
 use Rattle.std.specs.Prelude.{false, Result, Ok, Err, IsOk, IsErr}
 use Rattle.std.proofs.lemmas.Bool.{false≢true}
-use Rattle.port_122.specs.Outside.{Outside, Since, NoRead, WritesAll}
+use Rattle.port_122.specs.Outside.{Outside, Exchange, NoRead, WritesAll}
 use Rattle.port_122.proofs.Stretches.{since_out, since_weaker, rose_since}
 use Rattle.base_122.specs.declared.wish.DecodeWish.{DecodeWish}
 use Rattle.packet_assembly.proofs.Readings.{out_later}
@@ -20,10 +20,10 @@ use Rattle.strip_decoder.specs.Finding.{AsksSilent, FindAnswers, Finds}
 silent : (wish : DecodeWish) (old new : Outside) (r : Result (Walked NoPicture) DecodeFault) → (x : Walks no_picture wish old new r) → x.gave ≡ []
 silent wish old new r x = elim x.for_some [ inl none ↦ none | inr some ↦ some.part ]
 
-silent_since : (wish : DecodeWish) (old new : Outside) (r : Result (Walked NoPicture) DecodeFault) → (x : Walks no_picture wish old new r) → Since old new x.took [] [] (AsksSilent wish x.took)
+silent_since : (wish : DecodeWish) (old new : Outside) (r : Result (Walked NoPicture) DecodeFault) → (x : Walks no_picture wish old new r) → Exchange old new x.took [] [] (AsksSilent wish x.took)
 silent_since wish old new r x =
     let none = silent wish old new r x in
-    subst (λ zs. Since old new x.took zs [] (AsksSilent wish x.took)) none
+    subst (λ zs. Exchange old new x.took zs [] (AsksSilent wish x.took)) none
     (since_weaker x.since (λ i j le asks. (omega (arith, asks.0, ap length none), asks.1)))
 
 -- a fault ended it
@@ -39,7 +39,7 @@ find_fails wish old new fault x = record { took = x.took; gave = []; since = sil
     by Memory a = refl
 
 -- what was found stands after the lines
-found_later : {g : List ℕ} (wish : DecodeWish) (old mid new : Outside) (took gave : List ℕ) (walked : Walked NoPicture) → IsWalked no_picture wish old mid took gave walked → Since mid new [] g [] NoRead → PictureBy false wish old new took [] walked.done
+found_later : {g : List ℕ} (wish : DecodeWish) (old mid new : Outside) (took gave : List ℕ) (walked : Walked NoPicture) → IsWalked no_picture wish old mid took gave walked → Exchange mid new [] g [] NoRead → PictureBy false wish old new took [] walked.done
 found_later wish old mid new took gave walked found out = record {
   geometry = found.geometry;
   range = found.range;

@@ -6,7 +6,7 @@ use Rattle.std.proofs.lemmas.Bool.{false≢true}
 use Rattle.std.proofs.lemmas.Grind.{flat_map-append}
 use Rattle.std.proofs.lemmas.List.{append-nil, take-append-le}
 use Rattle.std.proofs.Math.Seq.{take-append-add}
-use Rattle.port_122.specs.Outside.{Outside, Since, NoRead, Rose, WritesAll}
+use Rattle.port_122.specs.Outside.{Outside, Exchange, NoRead, Rose, WritesAll}
 use Rattle.port_122.proofs.Stretches.{since_start, since_out, rose_since}
 use Rattle.stream_defs.specs.declared.range.RowRange.{RowRange}
 use Rattle.stream_defs.specs.Marks.{Marks, next_range}
@@ -19,7 +19,7 @@ lines_of rs = flat_map range_line rs
 -- the lines of the ranges before a row are given
 pub record AreGiven (m : Marks) (old now : Outside) (from : ℕ) : Type 0 where
   pub walk : Walk m from
-  pub out : Since old now [] (lines_of walk.before) [] NoRead
+  pub out : Exchange old now [] (lines_of walk.before) [] NoRead
 
 pub none_given : (m : Marks) (a : Outside) → AreGiven m a a 0
 none_given m a = record { walk = walk_start m; out = since_start a NoRead }
@@ -28,12 +28,12 @@ lines_more : (before : List RowRange) (range : RowRange) → lines_of (before ++
 lines_more before range = flat_map-append range_line before (range ∷ []) ∙ ap (λ zs. lines_of before ++ zs) (append-nil (range_line range))
 
 -- the line of the next one was given
-pub given_more : (m : Marks) (old now new : Outside) (from : ℕ) (range : RowRange) → AreGiven m old now from → Some range ≡ next_range m from → Since now new [] (range_line range) [] NoRead → AreGiven m old new (range.last + 1)
+pub given_more : (m : Marks) (old now new : Outside) (from : ℕ) (range : RowRange) → AreGiven m old now from → Some range ≡ next_range m from → Exchange now new [] (range_line range) [] NoRead → AreGiven m old new (range.last + 1)
 given_more m old now new from range given found out =
     let next = stands_next m from given.walk range found in
     record {
       walk = walk_on m from given.walk range next;
-      out = subst (λ zs. Since old new [] zs [] NoRead) (sym (lines_more given.walk.before range)) (since_out given.out out);
+      out = subst (λ zs. Exchange old new [] zs [] NoRead) (sym (lines_more given.walk.before range)) (since_out given.out out);
     }
 
 in_parts : (m : Marks) (from : ℕ) (w : Walk m from) (range : RowRange) → (next : StandsNext m from w.after range) → damage_lines m ≡ lines_of w.before ++ (range_line range ++ lines_of next.rest)
@@ -42,7 +42,7 @@ in_parts m from w range next = ap lines_of (w.parts ∙ ap (λ rs. w.before ++ r
 
 -- or a part of it
 pub given_part : {T E : Type 0} (r : Result T E) (m : Marks) (old now new : Outside) (from : ℕ) (range : RowRange) → IsErr r → AreGiven m old now from → Some range ≡ next_range m from →
-    Rose now.write_faults new.write_faults × ((n : ℕ) × (n ≤ length (range_line range)) × Since now new [] (take n (range_line range)) [] NoRead) → WritesAll r old new (damage_lines m)
+    Rose now.write_faults new.write_faults × ((n : ℕ) × (n ≤ length (range_line range)) × Exchange now new [] (take n (range_line range)) [] NoRead) → WritesAll r old new (damage_lines m)
 given_part (Ok x) m old now new from range is given found failed = absurd (false≢true is)
 given_part (Err e) m old now new from range is given found failed =
     let next = stands_next m from given.walk range found in
@@ -58,13 +58,13 @@ given_part (Err e) m old now new from range is given found failed =
       (
         length first + n,
         omega (arith, le, ap length all, length-append first (line ++ later), length-append line later),
-        subst (λ zs. Since old new [] zs [] NoRead) (sym front) (since_out given.out failed.1.2),
+        subst (λ zs. Exchange old new [] zs [] NoRead) (sym front) (since_out given.out failed.1.2),
       ),
     )
 
 -- none is left
-pub given_all : (m : Marks) (old now : Outside) (from : ℕ) → AreGiven m old now from → None ≡ next_range m from → Since old now [] (damage_lines m) [] NoRead
+pub given_all : (m : Marks) (old now : Outside) (from : ℕ) → AreGiven m old now from → None ≡ next_range m from → Exchange old now [] (damage_lines m) [] NoRead
 unfolding damage_lines
 given_all m old now from given found =
-    subst (λ rs. Since old now [] (lines_of rs) [] NoRead)
+    subst (λ rs. Exchange old now [] (lines_of rs) [] NoRead)
     (sym (given.walk.parts ∙ ap (λ rs. given.walk.before ++ rs) (walk_ends m from given.walk found) ∙ append-nil given.walk.before)) given.out

@@ -26,7 +26,7 @@ use Rattle.packet_assembly.proofs.Images.{end_room, image_wide}
 use Rattle.picture_rows.specs.declared.picture.Picture.{Picture}
 use Rattle.picture_rows.specs.declared.picture.PictureAt.{PictureAt}
 use Rattle.picture_rows.specs.Fronts.{rows_of}
-use Rattle.picture_rows.specs.Pictures.{shown, IsFresh}
+use Rattle.picture_rows.specs.Pictures.{picture_state, IsFresh}
 use Rattle.picture_rows.specs.Steps.{HasEnded, HasNextNumbers, PassesBlock}
 use Rattle.picture_rows.proofs.RowsOut.{front_within, no_rows, rows_through-most, rows_through-rises}
 use Rattle.strip_decoder.specs.declared.engine.Walked.{Walked}
@@ -53,14 +53,14 @@ numbers_same g received = λ j block i. by (received (block / g.segment)) block 
 -- ---- a block
 
 -- the next block has its numbers
-next_is : (p : Picture) (v : Option (List ℤ)) (g : Geometry) (n : ℕ) → StandsAt p g n → (blocks : Blocks) (before : List ℕ) → ShowsBlocks p g blocks n before → blocks n ≡ v → HasNextNumbers (unwrap_or v []) (shown p) (numbers_in blocks)
+next_is : (p : Picture) (v : Option (List ℤ)) (g : Geometry) (n : ℕ) → StandsAt p g n → (blocks : Blocks) (before : List ℕ) → ShowsBlocks p g blocks n before → blocks n ≡ v → HasNextNumbers (unwrap_or v []) (picture_state p) (numbers_in blocks)
 next_is p v g n at blocks before f is = record {
   stands = f.stands;
   next = λ i small. ap (λ m. numbers_in blocks m i) at.passed ∙ ap (λ o. get_or (unwrap_or o []) i (pos 0)) is;
 }
 
 -- it was taken
-pub picture_takes : {T E : Type 0} (r : Result T E) (p t : Picture) (v : Option (List ℤ)) (a b : Outside) → PassesBlock r (HasNextNumbers (unwrap_or v []) (shown p)) a b (shown p) (shown t) → (g : Geometry) (n : ℕ) → StandsAt p g n →
+pub picture_takes : {T E : Type 0} (r : Result T E) (p t : Picture) (v : Option (List ℤ)) (a b : Outside) → PassesBlock r (HasNextNumbers (unwrap_or v []) (picture_state p)) a b (picture_state p) (picture_state t) → (g : Geometry) (n : ℕ) → StandsAt p g n →
     MatchResult r (λ x. Takes picture_sink g n v a b p t) (λ x. Fails picture_sink g n v a b p)
 picture_takes (Ok x) p t v a b passed g n at = record {
   gave = passed.goes.gave;
@@ -89,7 +89,7 @@ picture_takes (Err e) p t v a b broken g n at = record {
 }
 
 -- a picture that begins
-pub picture_begins : {E : Type 0} (r : Result Picture E) (g : Geometry) → IfOk r (λ p. IsFresh g (shown p)) → IfOk r (Begins picture_sink g)
+pub picture_begins : {E : Type 0} (r : Result Picture E) (g : Geometry) → IfOk r (λ p. IsFresh g (picture_state p)) → IfOk r (Begins picture_sink g)
 picture_begins (Err e) g fresh = fresh
 picture_begins (Ok p) g fresh = record {
   stands = record {
@@ -101,7 +101,7 @@ picture_begins (Ok p) g fresh = record {
 }
 
 -- a picture whose height becomes known
-pub picture_ends : (p t : Picture) (h : Geometry) → HasEnded h.rows (shown p) (shown t) → EndsImage picture_sink h p t
+pub picture_ends : (p t : Picture) (h : Geometry) → HasEnded h.rows (picture_state p) (picture_state t) → EndsImage picture_sink h p t
 picture_ends p t h ended g n at ends =
     let rows : record p.geometry { rows = h.rows } ≡ h = (λ i. record (at.geometry i) { rows = h.rows }) ∙ sym ends.same in
     let geometry : t.geometry ≡ h = ended.geometry ∙ rows in

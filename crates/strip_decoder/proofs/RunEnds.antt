@@ -24,7 +24,7 @@ use Rattle.stream_defs.proofs.KeptOrder.{before_none}
 use Rattle.damage_rows.proofs.TableLaws.{any_none, any_there, filter_front, most_is}
 use Rattle.packet_assembly.specs.Assembling.{Assembling, last_index}
 use Rattle.strip_decoder.specs.Sinks.{Numbers, Blocks, SinkOf, blocks_with}
-use Rattle.strip_decoder.specs.Steps.{Walking, IsStanding, Follows, passed_in, total_in, is_marked, is_lost}
+use Rattle.strip_decoder.specs.Steps.{Walking, IsCurrent, Follows, passed_in, total_in, is_marked, is_lost}
 use Rattle.strip_decoder.specs.Runs.{Run, holds_after, HasKnown, future}
 use Rattle.strip_decoder.proofs.Receiving.{none_received}
 use Rattle.strip_decoder.proofs.RunFinds.{last_of}
@@ -148,7 +148,7 @@ missing_is g sofar row wide = any_same (range_with_len 0 (block_count g.width))
         ap (λ b. b || list_any f xs) (some_same (row * block_count g.width + x) (sofar ((row * block_count g.width + x) / g.segment))) ∙ ap (λ b. h x || b) (any_same xs)
 
 -- the marks of the block rows that were passed whole
-pub row_missing : {S : Type 0} (k : SinkOf S) (p : Walking S) (sofar : Numbers) (gave : List ℕ) (row : ℕ) → IsStanding k p → Follows k p (blocks_with p.geometry sofar) gave → row < most_block_rows → (row + 1) * block_count p.geometry.width ≤ passed_in p → is_marked p.damage.missing row ≡ is_missing p.geometry sofar row
+pub row_missing : {S : Type 0} (k : SinkOf S) (p : Walking S) (sofar : Numbers) (gave : List ℕ) (row : ℕ) → IsCurrent k p → Follows k p (blocks_with p.geometry sofar) gave → row < most_block_rows → (row + 1) * block_count p.geometry.width ≤ passed_in p → is_marked p.damage.missing row ≡ is_missing p.geometry sofar row
 row_missing k p sofar gave row standing follows few le =
     let g = p.geometry in
     let column = standing.column in
@@ -156,7 +156,7 @@ row_missing k p sofar gave row standing follows few le =
     follows.marked row few ∙ lost_missing g (blocks_with g sofar) row wide (passed_in p) le ∙ sym (missing_is g sofar row wide)
 
 -- what is marked once all blocks were passed
-pub all_missing : {S : Type 0} (k : SinkOf S) (p : Walking S) (sofar : Numbers) (gave : List ℕ) → IsStanding k p → Follows k p (blocks_with p.geometry sofar) gave → passed_in p ≡ total_in p → p.damage.missing ≡ whole_missing p.geometry sofar
+pub all_missing : {S : Type 0} (k : SinkOf S) (p : Walking S) (sofar : Numbers) (gave : List ℕ) → IsCurrent k p → Follows k p (blocks_with p.geometry sofar) gave → passed_in p ≡ total_in p → p.damage.missing ≡ whole_missing p.geometry sofar
 unfolding missing_below
 all_missing k p sofar gave standing follows all =
     let g = p.geometry in
@@ -195,7 +195,7 @@ missing_there g sofar n row lt = by (is_missing g sofar row) refl
         other i false hit set = refl
 
 -- the damage of the rows that the whole block rows determine, while the height isn't known
-pub open_damage : {S : Type 0} (k : SinkOf S) (p : Walking S) (image : Geometry) (sofar : Numbers) (gave : List ℕ) (n : ℕ) → IsStanding k p → p.geometry ≡ placed image → Follows k p (blocks_with p.geometry sofar) gave → n * block_count p.geometry.width ≤ passed_in p → n ≤ most_block_rows →
+pub open_damage : {S : Type 0} (k : SinkOf S) (p : Walking S) (image : Geometry) (sofar : Numbers) (gave : List ℕ) (n : ℕ) → IsCurrent k p → p.geometry ≡ placed image → Follows k p (blocks_with p.geometry sofar) gave → n * block_count p.geometry.width ≤ passed_in p → n ≤ most_block_rows →
     ranges (8 * n - 21) p.damage.missing ≡ ranges (8 * n - 21) (missing_below image sofar n)
 open_damage k p image sofar gave n standing goes_by follows le few =
     ranges_below (8 * n - 21) n p.damage.missing (missing_below image sofar n) (omega arith)

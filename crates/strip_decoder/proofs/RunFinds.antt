@@ -3,7 +3,7 @@ use Rattle.std.proofs.Common.{◌≡◌, ◌≤◌, ◌+◌, ◌*◌, ◌/◌, �
 use Rattle.std.specs.Prelude.{Bool, true, false, if◌then◌else◌, Option, None, Some, is_some, Ok}
 use Rattle.std.proofs.lemmas.Bool.{cases_lt}
 use Rattle.std.proofs.lemmas.Nat.{le-div}
-use Rattle.port_122.specs.Outside.{Outside, Since}
+use Rattle.port_122.specs.Outside.{Outside, Exchange}
 use Rattle.base_122.specs.Sizes.{first_block, segment_blocks}
 use Rattle.base_122.specs.declared.geometry.Geometry.{Geometry}
 use Rattle.packet_defs.specs.Streams.{whole_packets}
@@ -23,9 +23,9 @@ use Rattle.packet_assembly.specs.Segments.{WasFound, FindsSegment}
 use Rattle.packet_assembly.proofs.Images.{end_more, geometry_none, geometry_same, index_none}
 use Rattle.packet_assembly.proofs.Readings.{read_on, end_on, end_later}
 use Rattle.strip_decoder.specs.Sinks.{SinkOf}
-use Rattle.strip_decoder.specs.Steps.{Walking, IsStanding, passed_in, total_in}
+use Rattle.strip_decoder.specs.Steps.{Walking, IsCurrent, passed_in, total_in}
 use Rattle.strip_decoder.specs.Segments.{IsBetween, IsFound}
-use Rattle.strip_decoder.specs.Runs.{Run, holds_after, HasFew, Knows, HasKnown, HasComeTo, IsNextBegun, ComesAfter, ComesPast, future}
+use Rattle.strip_decoder.specs.Runs.{Run, holds_after, HasFew, Knows, HasKnown, HasWalkedTo, IsNextBegun, WalksAfter, WalksPast, future}
 use Rattle.strip_decoder.proofs.TextReads.{left_after}
 use Rattle.strip_decoder.proofs.Staying.{ends_segment}
 use Rattle.strip_decoder.proofs.Between.{comes_next, found_within}
@@ -55,7 +55,7 @@ known_on w now new a b bound took went known q = record {
 }
 
 -- and so they are after something was written
-unfoldable pub known_later : {Q : ℕ → ℕ → Type 0} {g : List ℕ} (w : Run) (now new : Outside) (a : Assembling) (bound : ℕ) (took : List ℕ) → HasKnown w now a bound took → Since now new [] g [] Q → HasKnown w new a bound took
+unfoldable pub known_later : {Q : ℕ → ℕ → Type 0} {g : List ℕ} (w : Run) (now new : Outside) (a : Assembling) (bound : ℕ) (took : List ℕ) → HasKnown w now a bound took → Exchange now new [] g [] Q → HasKnown w new a bound took
 known_later w now new a bound took known out = record {
   passed = known.passed;
   sofar = known.sofar;
@@ -65,8 +65,8 @@ known_later w now new a bound took known out = record {
   at_end = end_later a out known.at_end;
 }
 
-unfoldable pub read_come : {S : Type 0} {P : FateState → Type 0} (k : SinkOf S) (w : Run) (now new : Outside) (a b : Assembling) (p : Walking S) (bound : ℕ) (went : List (List ℕ)) → (come : HasComeTo k w now a p bound) → (q : Passes P now new a b went) →
-    ((octets more : List ℕ) → q.took ≡ octets ++ more → P (state_with a octets) → IsRight k w (come.took ++ octets) come.gave) → HasComeTo k w new b p bound
+unfoldable pub read_come : {S : Type 0} {P : FateState → Type 0} (k : SinkOf S) (w : Run) (now new : Outside) (a b : Assembling) (p : Walking S) (bound : ℕ) (went : List (List ℕ)) → (come : HasWalkedTo k w now a p bound) → (q : Passes P now new a b went) →
+    ((octets more : List ℕ) → q.took ≡ octets ++ more → P (state_with a octets) → IsRight k w (come.took ++ octets) come.gave) → HasWalkedTo k w new b p bound
 unfolding known_on
 read_come k w now new a b p bound went come q right = record {
   took = come.took ++ q.took;
@@ -79,7 +79,7 @@ read_come k w now new a b p bound went come q right = record {
 }
 
 -- At a read call the packets so far are some of those to come, and no later segment was begun; so nothing that they report is new.
-pub right_at : {S : Type 0} {P : FateState → Type 0} (k : SinkOf S) (w : Run) (now new : Outside) (a b : Assembling) (p : Walking S) (bound index : ℕ) (went : List (List ℕ)) → (come : HasComeTo k w now a p bound) → (q : Passes P now new a b went) → IsStanding k p →
+pub right_at : {S : Type 0} {P : FateState → Type 0} (k : SinkOf S) (w : Run) (now new : Outside) (a b : Assembling) (p : Walking S) (bound index : ℕ) (went : List (List ℕ)) → (come : HasWalkedTo k w now a p bound) → (q : Passes P now new a b went) → IsCurrent k p →
     (image : Geometry) → a.state.geometry ≡ Some image → p.geometry ≡ placed image → HasFew w.pixels w.apid come.known.passed → last_index a.state.last ≡ Some index →
     (octets more : List ℕ) → q.took ≡ octets ++ more → last_index (state_with a octets).last ≡ Some index → blocks_through p.geometry come.known.sofar index ≤ passed_in p →
     ((i : ℕ) (v : List (List ℤ)) → bound ≤ i → i ≤ index → IsReceived holds_after (kept w.apid fresh (come.known.passed ++ whole_packets (a.intake.pending ++ octets))) i v → ⊥) → IsRight k w (come.took ++ octets) come.gave
@@ -109,8 +109,8 @@ right_at k w now new a b p bound index went come q standing image geometry goes_
 
 -- ---- to the next segment
 
-to_segment : {S : Type 0} (k : SinkOf S) (w : Run) (now : Outside) (a : Assembling) (p : Walking S) (start : SegmentStart) (index : ℕ) → IsStanding k p → (come : HasComeTo k w now a p (index + 1)) → IsNextBegun w come.known.passed a.text start (index + 1) →
-    first_block p.geometry.segment index + segment_blocks (total_in p) p.geometry.segment index ≤ passed_in p → IsFound a p start → ComesAfter k w now a p start
+to_segment : {S : Type 0} (k : SinkOf S) (w : Run) (now : Outside) (a : Assembling) (p : Walking S) (start : SegmentStart) (index : ℕ) → IsCurrent k p → (come : HasWalkedTo k w now a p (index + 1)) → IsNextBegun w come.known.passed a.text start (index + 1) →
+    first_block p.geometry.segment index + segment_blocks (total_in p) p.geometry.segment index ≤ passed_in p → IsFound a p start → WalksAfter k w now a p start
 to_segment k w now a p start index standing come after reached found =
     let known = come.known in
     let begun = after.begun in
@@ -157,7 +157,7 @@ to_segment k w now a p start index standing come after reached found =
     }
 
 -- that was begun before
-held_come : {S : Type 0} (k : SinkOf S) (w : Run) (now : Outside) (a : Assembling) (p : Walking S) (bound : ℕ) → HasComeTo k w now a p bound → HasComeTo k w now (record a { held = None }) p bound
+held_come : {S : Type 0} (k : SinkOf S) (w : Run) (now : Outside) (a : Assembling) (p : Walking S) (bound : ℕ) → HasWalkedTo k w now a p bound → HasWalkedTo k w now (record a { held = None }) p bound
 held_come k w now a p bound come =
     let known = come.known in
     let read = known.read in
@@ -178,13 +178,13 @@ held_come k w now a p bound come =
       begun = come.begun;
     }
 
-found_held : {S : Type 0} (k : SinkOf S) (w : Run) (now : Outside) (a : Assembling) (p : Walking S) (start : SegmentStart) → IsStanding k p → (past : ComesPast k w now a p) → a.held ≡ Some start → IsFound (record a { held = None }) p start → ComesAfter k w now (record a { held = None }) p start
+found_held : {S : Type 0} (k : SinkOf S) (w : Run) (now : Outside) (a : Assembling) (p : Walking S) (start : SegmentStart) → IsCurrent k p → (past : WalksPast k w now a p) → a.held ≡ Some start → IsFound (record a { held = None }) p start → WalksAfter k w now (record a { held = None }) p start
 unfolding held_come
 found_held k w now a p start standing past held found =
     to_segment k w now (record a { held = None }) p start past.index standing (held_come k w now a p (past.index + 1) past.come) (past.begun start held) past.reached found
 
 -- packets were passed that begin no segment, or the last of them does
-unfoldable pub stays_come : {S : Type 0} (k : SinkOf S) (w : Run) (now new : Outside) (a b : Assembling) (p : Walking S) (went : List (List ℕ)) → IsStanding k p → IsBetween a p → (past : ComesPast k w now a p) → a.held ≡ None → Passes (StaysAt a) now new a b went → HasComeTo k w new b p (past.index + 1)
+unfoldable pub stays_come : {S : Type 0} (k : SinkOf S) (w : Run) (now new : Outside) (a b : Assembling) (p : Walking S) (went : List (List ℕ)) → IsCurrent k p → IsBetween a p → (past : WalksPast k w now a p) → a.held ≡ None → Passes (StaysAt a) now new a b went → HasWalkedTo k w new b p (past.index + 1)
 stays_come k w now new a b p went standing between past unheld q =
     let come = past.come in
     let last = past.last unheld in
@@ -200,7 +200,7 @@ stays_come k w now new a b p went standing between past unheld q =
     through false = omega (arith, past.reached)
 
 -- that was found
-found_new : {S : Type 0} (k : SinkOf S) (w : Run) (now new : Outside) (a b : Assembling) (p : Walking S) (start : SegmentStart) → IsStanding k p → IsBetween a p → (past : ComesPast k w now a p) → WasFound now new a b start → IsFound b p start → ComesAfter k w new b p start
+found_new : {S : Type 0} (k : SinkOf S) (w : Run) (now new : Outside) (a b : Assembling) (p : Walking S) (start : SegmentStart) → IsCurrent k p → IsBetween a p → (past : WalksPast k w now a p) → WasFound now new a b start → IsFound b p start → WalksAfter k w new b p start
 unfolding known_on read_come stays_come
 found_new k w now new a b p start standing between past found is_found =
     let known = past.come.known in
@@ -228,9 +228,9 @@ found_new k w now new a b p start standing between past found is_found =
       geometry = ap (λ (s : FateState). s.geometry) (sym there) ∙ geometry_none a.apid a.state found.front found.none_before ∙ between.has.geometry;
     } past.reached is_found
 
-pub found_run : {S : Type 0} (k : SinkOf S) (w : Run) (now new : Outside) (a b : Assembling) (p : Walking S) (start : SegmentStart) → IsStanding k p → IsBetween a p → ComesPast k w now a p → FindsSegment now new a b (Ok (Some start)) → IsFound b p start → ComesAfter k w new b p start
+pub found_run : {S : Type 0} (k : SinkOf S) (w : Run) (now new : Outside) (a b : Assembling) (p : Walking S) (start : SegmentStart) → IsCurrent k p → IsBetween a p → WalksPast k w now a p → FindsSegment now new a b (Ok (Some start)) → IsFound b p start → WalksAfter k w new b p start
 found_run k w now new a b p start standing between past finds found =
     elim finds.ends [
-      | inl held ↦ subst (λ now'. ComesAfter k w now' b p start) held.same (subst (λ b. ComesAfter k w now b p start) (sym held.stands) (found_held k w now a p start standing past held.held (subst (λ b. IsFound b p start) held.stands found)))
+      | inl held ↦ subst (λ now'. WalksAfter k w now' b p start) held.same (subst (λ b. WalksAfter k w now b p start) (sym held.stands) (found_held k w now a p start standing past held.held (subst (λ b. IsFound b p start) held.stands found)))
       | inr new_one ↦ found_new k w now new a b p start standing between past new_one found
     ]

@@ -20,9 +20,9 @@ use Rattle.packet_assembly.proofs.Images.{end_within, untold_room}
 use Rattle.strip_decoder.specs.declared.decode.DecodeFault.{DecodeFault}
 use Rattle.strip_decoder.specs.declared.decode.DecodeFault.TheVariants.{ReadFault, WriteFault, NoSegment, TooManyPixels, LongInput, Memory}
 use Rattle.strip_decoder.specs.Sinks.{Numbers, SinkOf, blocks_with}
-use Rattle.strip_decoder.specs.Steps.{Walking, IsStanding, Follows, HasPassed, BreaksOff, missing, passed_in, total_in}
+use Rattle.strip_decoder.specs.Steps.{Walking, IsCurrent, Follows, HasPassed, StopsEarly, missing, passed_in, total_in}
 use Rattle.strip_decoder.specs.Segments.{FollowsFound, FollowsHead, HasImage, IsBetween, IsFound, FindsNext}
-use Rattle.strip_decoder.specs.Runs.{Run, holds_after, HasFew, HasComeTo, ComesAfter, ComesIn, ComesPast, ComesToEnd, HasBroken, HasFailedWrite, HasLong, BreaksRun, blocks_passed}
+use Rattle.strip_decoder.specs.Runs.{Run, holds_after, HasFew, HasWalkedTo, WalksAfter, WalksIn, WalksPast, ComesToEnd, HasBroken, HasFailedWrite, HasLong, BreaksRun, blocks_passed}
 use Rattle.strip_decoder.specs.Walks.{HasPassedAll, is_height_known, left_in}
 use Rattle.strip_decoder.proofs.TextReads.{left_after}
 use Rattle.strip_decoder.proofs.Staying.{known_or_not, ends_segment, stays_here}
@@ -36,8 +36,8 @@ use Rattle.strip_decoder.proofs.RunEnds.{all_received}
 
 -- ---- no segment follows
 
-module _ {S : Type 0} (k : SinkOf S) (w : Run) (now new : Outside) (a b : Assembling) (p : Walking S) (standing : IsStanding k p) (between : IsBetween a p) (past : ComesPast k w now a p) (found : FoundNone now new a b) where
-  none_come : HasComeTo k w new b p (past.index + 1)
+module _ {S : Type 0} (k : SinkOf S) (w : Run) (now new : Outside) (a b : Assembling) (p : Walking S) (standing : IsCurrent k p) (between : IsBetween a p) (past : WalksPast k w now a p) (found : FoundNone now new a b) where
+  none_come : HasWalkedTo k w new b p (past.index + 1)
   none_come = stays_come k w now new a b p found.passed standing between past found.none_held found.passes
 
   has_then : HasImage b between.image
@@ -82,7 +82,7 @@ module _ {S : Type 0} (k : SinkOf S) (w : Run) (now new : Outside) (a b : Assemb
     small = subst (HasFew w.pixels w.apid) (sym (long_packets none_come.known.read long)) small_then;
   }
 
-pub find_breaks : {S : Type 0} (k : SinkOf S) (w : Run) (now new : Outside) (a b : Assembling) (p : Walking S) → IsStanding k p → IsBetween a p → ComesPast k w now a p → (fault : DecodeFault) → FindsNext now new a b (Err fault) → BreaksRun k w new fault
+pub find_breaks : {S : Type 0} (k : SinkOf S) (w : Run) (now new : Outside) (a b : Assembling) (p : Walking S) → IsCurrent k p → IsBetween a p → WalksPast k w now a p → (fault : DecodeFault) → FindsNext now new a b (Err fault) → BreaksRun k w new fault
 find_breaks k w now new a b p standing between past ReadFault finds = run_broken k w now new a b p standing between past finds.ends.0
 find_breaks k w now new a b p standing between past LongInput finds = run_long k w now new a b p standing between past finds.ends.0 finds.ends.1
 find_breaks k w now new a b p standing between past WriteFault finds = absurd finds
@@ -93,7 +93,7 @@ find_breaks k w now new a b p standing between past Memory finds = absurd finds
 -- ---- a segment is begun
 
 -- its head reports few pixels
-pub found_in : {S : Type 0} (k : SinkOf S) (w : Run) (now : Outside) (a : Assembling) (p q : Walking S) (start : SegmentStart) → IsFound a p start → ComesAfter k w now a p start → FollowsFound k w.pixels a start p q is_done → ComesIn k w now a q start
+pub found_in : {S : Type 0} (k : SinkOf S) (w : Run) (now : Outside) (a : Assembling) (p q : Walking S) (start : SegmentStart) → IsFound a p start → WalksAfter k w now a p start → FollowsFound k w.pixels a start p q is_done → WalksIn k w now a q start
 found_in k w now a p q start found after follows =
     let f = follows found.image found.has.geometry in
     let to = after.to in
@@ -121,7 +121,7 @@ found_in k w now a p q start found after follows =
     }
 
 -- or too many
-pub found_breaks : {S : Type 0} (k : SinkOf S) (w : Run) (now : Outside) (a : Assembling) (p q : Walking S) (start : SegmentStart) → IsStanding k p → IsFound a p start → ComesAfter k w now a p start → (fault : DecodeFault) → FollowsFound k w.pixels a start p q (failed fault) → BreaksRun k w now fault
+pub found_breaks : {S : Type 0} (k : SinkOf S) (w : Run) (now : Outside) (a : Assembling) (p q : Walking S) (start : SegmentStart) → IsCurrent k p → IsFound a p start → WalksAfter k w now a p start → (fault : DecodeFault) → FollowsFound k w.pixels a start p q (failed fault) → BreaksRun k w now fault
 found_breaks k w now a p q start standing found after fault follows = by fault (follows found.image found.has.geometry)
   where
     by : (fault : DecodeFault) → FollowsHead k w.pixels found.image start p q (failed fault) → BreaksRun k w now fault
@@ -141,7 +141,7 @@ found_breaks k w now a p q start standing found after fault follows = by fault (
 
 -- ---- the rest is lost
 
-module _ {S : Type 0} (k : SinkOf S) (w : Run) (now new : Outside) (a : Assembling) (p q : Walking S) (standing : IsStanding k p) (end : ComesToEnd k w now a p) where
+module _ {S : Type 0} (k : SinkOf S) (w : Run) (now new : Outside) (a : Assembling) (p q : Walking S) (standing : IsCurrent k p) (end : ComesToEnd k w now a p) where
   abbrev image : Geometry
   image = end.image
 
@@ -251,7 +251,7 @@ module _ {S : Type 0} (k : SinkOf S) (w : Run) (now new : Outside) (a : Assembli
         );
       }
 
-  pub rest_broken : BreaksOff k missing left now new p → HasFailedWrite k w new
+  pub rest_broken : StopsEarly k missing left now new p → HasFailedWrite k w new
   rest_broken broken = record {
     broken = record {
       took = end.come.took;
@@ -281,7 +281,7 @@ module _ {S : Type 0} (k : SinkOf S) (w : Run) (now new : Outside) (a : Assembli
   }
 
 -- so it is of the image of its state
-pub rest_passed_of : {S : Type 0} (k : SinkOf S) (w : Run) (now new : Outside) (a : Assembling) (p q : Walking S) → IsStanding k p → (end : ComesToEnd k w now a p) → HasPassed k missing (left_in (is_height_known a.state.geometry) p) now new p q →
+pub rest_passed_of : {S : Type 0} (k : SinkOf S) (w : Run) (now new : Outside) (a : Assembling) (p q : Walking S) → IsCurrent k p → (end : ComesToEnd k w now a p) → HasPassed k missing (left_in (is_height_known a.state.geometry) p) now new p q →
     (image : Geometry) → a.state.geometry ≡ Some image → HasPassedAll k w new image q a.framing
 rest_passed_of k w now new a p q standing end passed image geometry =
     let same : end.image ≡ image = (let both : Some end.image ≡ Some image = sym end.has.geometry ∙ geometry in cc) in

@@ -18,15 +18,15 @@ use Rattle.stream_defs.proofs.ChosenLaws.{after_all-append}
 use Rattle.stream_defs.proofs.PlacedLaws.{reached_known}
 use Rattle.packet_assembly.specs.declared.note.SegmentStart.{SegmentStart}
 use Rattle.packet_assembly.specs.Assembling.{Assembling, last_index}
-use Rattle.packet_assembly.specs.Segments.{GoesOn}
+use Rattle.packet_assembly.specs.Segments.{Continues}
 use Rattle.packet_assembly.proofs.Images.{end_begun, geometry_known, told_last_open}
 use Rattle.packet_assembly.proofs.Readings.{read_within}
 use Rattle.strip_decoder.specs.declared.decode.DecodeFault.{DecodeFault}
 use Rattle.strip_decoder.specs.declared.decode.DecodeFault.TheVariants.{ReadFault, WriteFault, NoSegment, TooManyPixels, LongInput, Memory}
 use Rattle.strip_decoder.specs.Sinks.{Numbers, SinkOf, blocks_with}
-use Rattle.strip_decoder.specs.Steps.{Walking, IsStanding, HasPassed, BreaksOff, PassesBlocks, missing, passed_in, total_in}
+use Rattle.strip_decoder.specs.Steps.{Walking, IsCurrent, HasPassed, StopsEarly, PassesBlocks, missing, passed_in, total_in}
 use Rattle.strip_decoder.specs.Segments.{FitsImage, FollowsFound, FollowsHead, FollowsHeld, IsAt, ReadsText, HasFailed, pixels_reached, segment_values}
-use Rattle.strip_decoder.specs.Runs.{Run, PartBy, HasFew, HasFewKnown, HasComeTo, IsBegun, ComesIn, ComesPast, HasBroken, HasFailedWrite, HasMany, BreaksRun, RunsReach, RunsSegment, future}
+use Rattle.strip_decoder.specs.Runs.{Run, PartBy, HasFew, HasFewKnown, HasWalkedTo, IsBegun, WalksIn, WalksPast, HasBroken, HasFailedWrite, HasMany, BreaksRun, RunsReach, RunsSegment, future}
 use Rattle.strip_decoder.proofs.TextReads.{left_after}
 use Rattle.strip_decoder.proofs.Showing.{block_lost, block_held, shows_passed}
 use Rattle.strip_decoder.proofs.Staying.{StaysIn, known_or_not, stays_here, stays_on}
@@ -44,7 +44,7 @@ at_hand a rest =
     let parted = front_packets a.intake.pending (if a.intake.ended then [] else take (a.intake.cap - a.intake.taken) rest) in
     (parted.0, parted.1 ∙ ap (λ zs. whole_packets zs ++ parted.0) (sym (append-nil a.intake.pending)))
 
-module _ {S : Type 0} (k : SinkOf S) (w : Run) (now : Outside) (a : Assembling) (p : Walking S) (bound : ℕ) (come : HasComeTo k w now a p bound) (standing : IsStanding k p) where
+module _ {S : Type 0} (k : SinkOf S) (w : Run) (now : Outside) (a : Assembling) (p : Walking S) (bound : ℕ) (come : HasWalkedTo k w now a p bound) (standing : IsCurrent k p) where
   unfoldable pub come_broken : StaysIn a.state p.geometry (passed_in p) → HasBroken k w now
   come_broken stays = record {
     took = come.took;
@@ -82,7 +82,7 @@ module _ {S : Type 0} (k : SinkOf S) (w : Run) (now : Outside) (a : Assembling) 
       (n : ℕ) (few : passed_in p + n ≤ first_block p.geometry.segment bound) (here : passed_in p + n ≤ first_block p.geometry.segment (index + 1)) (most : passed_in p + n ≤ total_in p) (reach : passed_in p + n ≤ end_of (kept w.apid fresh come.known.passed))
       (values : ℕ → Option (List ℤ)) (are : (i : ℕ) → i < n → blocks_with p.geometry come.known.sofar (passed_in p + i) ≡ values i) where
     -- a write failed among the next n blocks, which are known
-    pub write_broken : (new : Outside) → BreaksOff k values n now new p → HasFailedWrite k w new
+    pub write_broken : (new : Outside) → StopsEarly k values n now new p → HasFailedWrite k w new
     write_broken new broken = record {
       broken = record {
         took = come.took;
@@ -110,7 +110,7 @@ module _ {S : Type 0} (k : SinkOf S) (w : Run) (now : Outside) (a : Assembling) 
     }
 
     -- they were passed
-    pub passed_come : (new : Outside) (q : Walking S) → (passed : HasPassed k values n now new p q) → HasComeTo k w new a q bound
+    pub passed_come : (new : Outside) (q : Walking S) → (passed : HasPassed k values n now new p q) → HasWalkedTo k w new a q bound
     unfolding known_later
     passed_come new q passed = record {
       took = come.took;
@@ -146,7 +146,7 @@ told_many pixels apid before packet g image geometry few after_is many = elim (k
 ]
 
 -- a head that isn't the first one reports too many
-pub many_broken : {S : Type 0} (k : SinkOf S) (w : Run) (now : Outside) (a : Assembling) (p : Walking S) (bound : ℕ) (come : HasComeTo k w now a p bound) (start : SegmentStart) (first : ℕ) → IsStanding k p → StaysIn a.state p.geometry (passed_in p) → (b : IsBegun w.apid come.known.passed a.text start first) → HasFew w.pixels w.apid b.before →
+pub many_broken : {S : Type 0} (k : SinkOf S) (w : Run) (now : Outside) (a : Assembling) (p : Walking S) (bound : ℕ) (come : HasWalkedTo k w now a p bound) (start : SegmentStart) (first : ℕ) → IsCurrent k p → StaysIn a.state p.geometry (passed_in p) → (b : IsBegun w.apid come.known.passed a.text start first) → HasFew w.pixels w.apid b.before →
     (g : Geometry) → (after_all w.apid fresh b.before).geometry ≡ Some g → (image : Geometry) → a.state.geometry ≡ Some image → (pixels : ℕ) → pixels ≡ pixels_reached image start → w.pixels < pixels → HasMany k w now pixels
 unfolding come_broken
 many_broken k w now a p bound come start first standing stays b few g before_is image geometry pixels is lt =
@@ -175,7 +175,7 @@ stays_at_segment a p start n at le = stays_here a.state p.geometry at.image n st
 -- ---- to a segment
 
 -- the blocks before it are lost
-pub reach_runs : {S T E : Type 0} (k : SinkOf S) (w : Run) (now new : Outside) (a : Assembling) (p q : Walking S) (start : SegmentStart) (n : ℕ) (r : Result T E) → ComesIn k w now a p start → IsAt a p start → IsStanding k p → n ≡ start.ancillary.first - passed_in p →
+pub reach_runs : {S T E : Type 0} (k : SinkOf S) (w : Run) (now new : Outside) (a : Assembling) (p q : Walking S) (start : SegmentStart) (n : ℕ) (r : Result T E) → WalksIn k w now a p start → IsAt a p start → IsCurrent k p → n ≡ start.ancillary.first - passed_in p →
     PassesBlocks k r missing n now new p q → RunsReach k w new a q start r
 unfolding passed_come known_later
 reach_runs {T = T} {E = E} k w now new a p q start n r in_it at standing n_is passes = by r passes
@@ -220,7 +220,7 @@ values_are g sofar start false cells fits long is i lt =
     block_lost g sofar (start.ancillary.first + i) (ap sofar at ∙ is)
 
 -- the walk goes by the geometry that is known since
-pub come_followed : {S : Type 0} (k : SinkOf S) (w : Run) (new : Outside) (b : Assembling) (p q : Walking S) (start : SegmentStart) (pixels bound : ℕ) → HasFollowed k pixels b p q start → HasComeTo k w new b p bound → HasComeTo k w new b q bound
+pub come_followed : {S : Type 0} (k : SinkOf S) (w : Run) (new : Outside) (b : Assembling) (p q : Walking S) (start : SegmentStart) (pixels bound : ℕ) → HasFollowed k pixels b p q start → HasWalkedTo k w new b p bound → HasWalkedTo k w new b q bound
 come_followed k w new b p q start pixels bound followed come =
     let segment : q.geometry.segment ≡ p.geometry.segment = ap (λ (g : Geometry). g.segment) followed.shorter.same in
     record {
@@ -246,7 +246,7 @@ after_followed k w new b p q start index value ended followed after = record {
   begun = after.begun;
 }
 
-module _ {S : Type 0} (k : SinkOf S) (w : Run) (new last_out : Outside) (b : Assembling) (p0 p q : Walking S) (start : SegmentStart) (standing0 : IsStanding k p0) (there0 : passed_in p0 ≡ start.ancillary.first) (followed : HasFollowed k w.pixels b p0 p start)
+module _ {S : Type 0} (k : SinkOf S) (w : Run) (new last_out : Outside) (b : Assembling) (p0 p q : Walking S) (start : SegmentStart) (standing0 : IsCurrent k p0) (there0 : passed_in p0 ≡ start.ancillary.first) (followed : HasFollowed k w.pixels b p0 p start)
     (accepted : Bool) (cells : List ℤ) (long : 64 * start.head.blocks ≤ length cells) (after : AfterText k w new b p start.ancillary.index (value_of accepted start.head cells) (start.ancillary.first + start.head.blocks)) where
   abbrev index : ℕ
   index = start.ancillary.index
@@ -298,7 +298,7 @@ module _ {S : Type 0} (k : SinkOf S) (w : Run) (new last_out : Outside) (b : Ass
   reach : passed_in p + start.head.blocks ≤ end_of (kept w.apid fresh after.come.known.passed)
   reach = omega (arith, there, after.reach)
 
-  pub segment_runs : (passed : HasPassed k (segment_values accepted cells) start.head.blocks new last_out p q) → ComesPast k w last_out b q
+  pub segment_runs : (passed : HasPassed k (segment_values accepted cells) start.head.blocks new last_out p q) → WalksPast k w last_out b q
   unfolding passed_come known_later
   segment_runs passed = record {
     index = index;
@@ -309,7 +309,7 @@ module _ {S : Type 0} (k : SinkOf S) (w : Run) (new last_out : Outside) (b : Ass
     reached = subst (λ (g : Geometry). first_block g.segment index + segment_blocks (blocks_of g) g.segment index ≤ passed_in q) (sym passed.geometry) (omega (arith, passed.count, there, fits.first, fits.blocks));
   }
 
-  pub segment_breaks : BreaksOff k (segment_values accepted cells) start.head.blocks new last_out p → HasFailedWrite k w last_out
+  pub segment_breaks : StopsEarly k (segment_values accepted cells) start.head.blocks new last_out p → HasFailedWrite k w last_out
   segment_breaks broken = write_broken k w new b p (index + 1) after.come followed.standing followed.image followed.has.geometry followed.has.range followed.goes_by last_begun.last_one last_begun.last last_begun.small start.head.blocks next_few last_few room reach (segment_values accepted cells) values_there last_out broken
 
 abbrev pub failed : DecodeFault → Result (Unit {0}) DecodeFault
@@ -317,13 +317,13 @@ failed fault = Err fault
 
 -- ---- a whole segment
 
-module _ {S : Type 0} (k : SinkOf S) (w : Run) (w1 w2 : Outside) (a b : Assembling) (p : Walking S) (start : SegmentStart) (to : ComesIn k w w1 a p start) (at : IsAt a p start) (standing : IsStanding k p) (there : passed_in p ≡ start.ancillary.first) where
+module _ {S : Type 0} (k : SinkOf S) (w : Run) (w1 w2 : Outside) (a b : Assembling) (p : Walking S) (start : SegmentStart) (to : WalksIn k w w1 a p start) (at : IsAt a p start) (standing : IsCurrent k p) (there : passed_in p ≡ start.ancillary.first) where
   module _ (q : Walking S) (followed : HasFollowed k w.pixels b p q start) (accepted : Bool) (cells : List ℤ) (long : 64 * start.head.blocks ≤ length cells) (reads : ReadsText w1 w2 a b start.head cells (Ok accepted)) where
     after_q : AfterText k w w2 b q start.ancillary.index (value_of accepted start.head cells) (start.ancillary.first + start.head.blocks)
     after_q = after_followed k w w2 b p q start start.ancillary.index (value_of accepted start.head cells) (start.ancillary.first + start.head.blocks) followed (text_known k w w1 w2 a b p start to standing at there accepted cells reads)
 
     -- its blocks were passed, or a write failed among them
-    pub whole_runs : {T E : Type 0} (r : Result T E) (w3 : Outside) (z : Walking S) → IsOk r → PassesBlocks k r (segment_values accepted cells) start.head.blocks w2 w3 q z → ComesPast k w w3 b z
+    pub whole_runs : {T E : Type 0} (r : Result T E) (w3 : Outside) (z : Walking S) → IsOk r → PassesBlocks k r (segment_values accepted cells) start.head.blocks w2 w3 q z → WalksPast k w w3 b z
     whole_runs (Err e) w3 z is passed = absurd (false≢true is)
     whole_runs (Ok x) w3 z is passed = segment_runs k w w2 w3 b p q z start standing there followed accepted cells long after_q passed
 
@@ -335,7 +335,7 @@ module _ {S : Type 0} (k : SinkOf S) (w : Run) (w1 w2 : Outside) (a b : Assembli
   low : passed_in p ≤ first_block p.geometry.segment (start.ancillary.index + 1)
   low = let more : (start.ancillary.index + 1) * p.geometry.segment ≡ start.ancillary.index * p.geometry.segment + p.geometry.segment = grind arith in omega (arith, there, at.next.fits.first, more)
 
-  stays_past : GoesOn w1 w2 a b → StaysIn b.state p.geometry (passed_in p)
+  stays_past : Continues w1 w2 a b → StaysIn b.state p.geometry (passed_in p)
   stays_past goes =
       let state : after_all a.apid fresh (at.has.passed ++ goes.passed) ≡ b.state = sym (state_past a at.image goes.passed at.has) ∙ sym goes.passes.state in
       subst (λ s. StaysIn s p.geometry (passed_in p)) state (stays_on a.apid at.has.passed goes.passed p.geometry (passed_in p) (subst (λ s. StaysIn s p.geometry (passed_in p)) at.has.state (stays_at_segment a p start (passed_in p) at low)))
@@ -357,7 +357,7 @@ module _ {S : Type 0} (k : SinkOf S) (w : Run) (w1 w2 : Outside) (a b : Assembli
   pub held_breaks : (q : Walking S) (accepted : Bool) (cells : List ℤ) → (reads : ReadsText w1 w2 a b start.head cells (Ok accepted)) → (fault : DecodeFault) → FollowsHeld k w.pixels b p q (Err fault) → BreaksRun k w w2 fault
   held_breaks q accepted cells reads fault follows = by b.held refl follows
     where
-      goes : GoesOn w1 w2 a b
+      goes : Continues w1 w2 a b
       goes = text_goes w1 w2 a b start.head cells accepted reads
 
       after : AfterText k w w2 b p start.ancillary.index (value_of accepted start.head cells) (start.ancillary.first + start.head.blocks)

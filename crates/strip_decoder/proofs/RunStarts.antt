@@ -3,7 +3,7 @@ use Rattle.std.proofs.Common.{◌≡◌, ◌≤◌, ◌<◌, ℕ, zero, suc, Lis
 use Rattle.std.specs.Prelude.{true, false, filter, None, Some, Ok}
 use Rattle.std.specs.List.{range_with_len}
 use Rattle.std.proofs.lemmas.Bool.{false≢true}
-use Rattle.port_122.specs.Outside.{Outside, Since}
+use Rattle.port_122.specs.Outside.{Outside, Exchange}
 use Rattle.port_122.proofs.Stretches.{since_weaker}
 use Rattle.base_122.specs.Sizes.{block_count}
 use Rattle.base_122.specs.Ranges.{IsGeometryInRange, IsWithin, rows_range}
@@ -22,9 +22,9 @@ use Rattle.packet_assembly.specs.Readings.{HasRead, SawEnd}
 use Rattle.packet_assembly.proofs.Images.{index_none}
 use Rattle.packet_assembly.proofs.Readings.{none_read, read_on, end_on}
 use Rattle.strip_decoder.specs.Sinks.{SinkOf, blocks_with}
-use Rattle.strip_decoder.specs.Steps.{Walking, IsStanding, IsFresh, passed_in, is_marked, is_lost}
+use Rattle.strip_decoder.specs.Steps.{Walking, IsCurrent, IsFresh, passed_in, is_marked, is_lost}
 use Rattle.strip_decoder.specs.Segments.{pixels_reached}
-use Rattle.strip_decoder.specs.Runs.{Run, AsksPassed, HasFew, PartBy, Shows, IsBegun, ComesIn}
+use Rattle.strip_decoder.specs.Runs.{Run, AsksPassed, HasFew, PartBy, Shows, IsBegun, WalksIn}
 use Rattle.strip_decoder.proofs.RunPasses.{few_begun}
 use Rattle.strip_decoder.proofs.Receiving.{none_received, between_none}
 
@@ -60,7 +60,7 @@ none_few pixels apid octets none g there = absurd (let both : None ≡ Some g = 
 
 -- at each read call nothing is given, and there is no geometry
 pub first_asks : {S : Type 0} (k : SinkOf S) (w : Run) (new : Outside) (a b : Assembling) (went : List (List ℕ)) → a ≡ unread_assembly w.apid w.cap → (q : Passes (StaysAt a) w.start new a b went) →
-    Since w.start new q.took [] [] (AsksPassed k w q.took [])
+    Exchange w.start new q.took [] [] (AsksPassed k w q.took [])
 first_asks k w new a b went unread q =
     since_weaker q.since (λ i j le asks.
     let none = none_yet w a (take i q.took) unread asks.0 in (
@@ -90,7 +90,7 @@ first_end w new a b went unread q =
 pub record HasFound {S : Type 0} (k : SinkOf S) (w : Run) (new : Outside) (b : Assembling) (start : SegmentStart) : Type 0 where
   pub took : List ℕ
   pub went : List (List ℕ)
-  pub since : Since w.start new took [] [] (AsksPassed k w took [])
+  pub since : Exchange w.start new took [] [] (AsksPassed k w took [])
   pub read : HasRead w.apid w.cap b took went
   pub begun : IsBegun w.apid went b.text start 0
   pub none : (after_all w.apid fresh begun.before).geometry ≡ None
@@ -136,7 +136,7 @@ shows_nothing k g p fresh_walk blocks of =
     }
 
 -- a walk that begins is one of its image
-pub first_stands : {S : Type 0} (k : SinkOf S) (g : Geometry) (p : Walking S) → IsGeometryInRange g → IsWithin rows_range g.rows → IsFresh k g p → IsStanding k p
+pub first_stands : {S : Type 0} (k : SinkOf S) (g : Geometry) (p : Walking S) → IsGeometryInRange g → IsWithin rows_range g.rows → IsFresh k g p → IsCurrent k p
 first_stands k g p range height fresh_walk =
     let none : passed_in p ≡ 0 = rw (fresh_walk.row, fresh_walk.column) (omega arith) in
     let wide = range.width in
@@ -153,7 +153,7 @@ first_stands k g p range height fresh_walk =
 pub few_first : {S : Type 0} (k : SinkOf S) (w : Run) (new : Outside) (b : Assembling) (start : SegmentStart) → (found : HasFound k w new b start) → HasFew w.pixels w.apid found.begun.before
 few_first k w new b start found g there = absurd (let both : None ≡ Some g = sym found.none ∙ there in cc)
 
-pub first_comes : {S : Type 0} (k : SinkOf S) (w : Run) (new : Outside) (b : Assembling) (p : Walking S) (start : SegmentStart) (g image : Geometry) → HasFound k w new b start → IsFresh k g p → b.state.geometry ≡ Some image → pixels_reached image start ≤ w.pixels → ComesIn k w new b p start
+pub first_comes : {S : Type 0} (k : SinkOf S) (w : Run) (new : Outside) (b : Assembling) (p : Walking S) (start : SegmentStart) (g image : Geometry) → HasFound k w new b start → IsFresh k g p → b.state.geometry ≡ Some image → pixels_reached image start ≤ w.pixels → WalksIn k w new b p start
 first_comes k w new b p start g image found fresh_walk geometry small =
     let none : passed_in p ≡ 0 = rw (fresh_walk.row, fresh_walk.column) (omega arith) in
     record {

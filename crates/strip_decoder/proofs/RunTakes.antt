@@ -21,13 +21,13 @@ use Rattle.packet_assembly.specs.declared.note.SegmentStart.{SegmentStart}
 use Rattle.packet_assembly.specs.Assembling.{Assembling, BeginsNone, StaysOpen, Starts, last_index, is_closed, state_with}
 use Rattle.packet_assembly.specs.Passing.{before_loses}
 use Rattle.packet_assembly.proofs.Images.{end_begun, end_more, geometry_none, index_none}
-use Rattle.packet_assembly.specs.Segments.{GoesOn}
+use Rattle.packet_assembly.specs.Segments.{Continues}
 use Rattle.packet_assembly.specs.Tails.{text_tail}
 use Rattle.bit_pipe.specs.Sources.{Plainly}
 use Rattle.strip_decoder.specs.Sinks.{SinkOf}
-use Rattle.strip_decoder.specs.Steps.{Walking, IsStanding, passed_in}
+use Rattle.strip_decoder.specs.Steps.{Walking, IsCurrent, passed_in}
 use Rattle.strip_decoder.specs.Segments.{FitsImage, IsAt, ReadsText, cells_of}
-use Rattle.strip_decoder.specs.Runs.{Run, holds_after, HasFew, HasComeTo, IsBegun, IsNextBegun, ComesIn, with_segment, future}
+use Rattle.strip_decoder.specs.Runs.{Run, holds_after, HasFew, HasWalkedTo, IsBegun, IsNextBegun, WalksIn, with_segment, future}
 use Rattle.strip_decoder.proofs.Between.{comes_next}
 use Rattle.strip_decoder.proofs.Receiving.{there, there_is, is_received, not_received, open_received}
 use Rattle.strip_decoder.proofs.Showing.{shows_same}
@@ -41,15 +41,15 @@ value_of false head cells = None
 
 -- Its text was gone through, and it is known with these numbers or none.
 pub record AfterText {S : Type 0} (k : SinkOf S) (w : Run) (now : Outside) (b : Assembling) (p : Walking S) (index : ℕ) (value : Option (List (List ℤ))) (ended : ℕ) : Type 0 where
-  pub come : HasComeTo k w now b p (index + 1)
+  pub come : HasWalkedTo k w now b p (index + 1)
   pub value_is : come.known.sofar index ≡ value
   pub reach : ended ≤ end_of (kept w.apid fresh come.known.passed)
   pub last : b.held ≡ None → last_index b.state.last ≡ Some index
   pub small : b.held ≡ None → HasFew w.pixels w.apid come.known.passed
   pub begun : (next : SegmentStart) → b.held ≡ Some next → IsNextBegun w come.known.passed b.text next (index + 1)
 
-module _ {S : Type 0} (k : SinkOf S) (w : Run) (now new : Outside) (a b : Assembling) (p : Walking S) (start : SegmentStart) (to : ComesIn k w now a p start) (standing : IsStanding k p) (at : IsAt a p start) (reached : passed_in p ≡ start.ancillary.first) (goes : GoesOn now new a b) where
-  abbrev come : HasComeTo k w now a p start.ancillary.index
+module _ {S : Type 0} (k : SinkOf S) (w : Run) (now new : Outside) (a b : Assembling) (p : Walking S) (start : SegmentStart) (to : WalksIn k w now a p start) (standing : IsCurrent k p) (at : IsAt a p start) (reached : passed_in p ≡ start.ancillary.first) (goes : Continues now new a b) where
+  abbrev come : HasWalkedTo k w now a p start.ancillary.index
   come = to.to.come
 
   abbrev begun : IsBegun w.apid come.known.passed a.text start start.ancillary.index
@@ -93,7 +93,7 @@ module _ {S : Type 0} (k : SinkOf S) (w : Run) (now new : Outside) (a b : Assemb
       (ap (λ (s : FateState). last_index s.last) state ∙ stays.same ∙ last) (ap (λ (s : FateState). is_closed s.last) state ∙ stays.unclosed)
       (subst (λ i. IsReceived holds_after (kept w.apid fresh (passed ++ whole_packets (a.intake.pending ++ octets))) i v) same x))
 
-  unfoldable pub went_come : HasComeTo k w new b p index
+  unfoldable pub went_come : HasWalkedTo k w new b p index
   went_come = read_come k w now new a b p index goes.passed come goes.passes right
 
   -- how the segment stands with these numbers, or none
@@ -131,7 +131,7 @@ module _ {S : Type 0} (k : SinkOf S) (w : Run) (now new : Outside) (a b : Assemb
   segment_other value i other = let e : (i == index) ≡ false = grind (arith, nat_tests) in rw e refl
 
   -- so the next segments are known, and the blocks so far are of them
-  decided : (value : Option (List (List ℤ))) → Decides value → HasComeTo k w new b p (index + 1)
+  decided : (value : Option (List (List ℤ))) → Decides value → HasWalkedTo k w new b p (index + 1)
   unfolding known_on read_come went_come
   decided value decides = record {
     took = went_come.took;
@@ -212,12 +212,12 @@ module _ {S : Type 0} (k : SinkOf S) (w : Run) (now new : Outside) (a b : Assemb
 pub begun_end : (apid : ℕ) (passed : List (List ℕ)) (text : List ℕ) (start : SegmentStart) (bound : ℕ) → (b : IsBegun apid passed text start bound) → end_of (kept apid fresh passed) ≡ start.ancillary.first + start.head.blocks
 begun_end apid passed text start bound b = ap (λ xs. end_of (kept apid fresh xs)) b.passed_are ∙ end_begun apid b.before b.packet start b.starts
 
-reached_text : {S : Type 0} (k : SinkOf S) (w : Run) (now new : Outside) (a b : Assembling) (p : Walking S) (start : SegmentStart) → (to : ComesIn k w now a p start) → (value : Option (List (List ℤ))) →
+reached_text : {S : Type 0} (k : SinkOf S) (w : Run) (now new : Outside) (a b : Assembling) (p : Walking S) (start : SegmentStart) → (to : WalksIn k w now a p start) → (value : Option (List (List ℤ))) →
     AfterText k w new b p start.ancillary.index value (end_of (kept w.apid fresh to.to.come.known.passed)) → AfterText k w new b p start.ancillary.index value (start.ancillary.first + start.head.blocks)
 reached_text k w now new a b p start to value after = subst (AfterText k w new b p start.ancillary.index value) (begun_end w.apid to.to.come.known.passed a.text start start.ancillary.index to.to.begun) after
 
 -- its text was read
-pub text_known : {S : Type 0} (k : SinkOf S) (w : Run) (now new : Outside) (a b : Assembling) (p : Walking S) (start : SegmentStart) → ComesIn k w now a p start → IsStanding k p → IsAt a p start → passed_in p ≡ start.ancillary.first →
+pub text_known : {S : Type 0} (k : SinkOf S) (w : Run) (now new : Outside) (a b : Assembling) (p : Walking S) (start : SegmentStart) → WalksIn k w now a p start → IsCurrent k p → IsAt a p start → passed_in p ≡ start.ancillary.first →
     (accepted : Bool) (cells : List ℤ) → ReadsText now new a b start.head cells (Ok accepted) → AfterText k w new b p start.ancillary.index (value_of accepted start.head cells) (start.ancillary.first + start.head.blocks)
 text_known k w now new a b p start to standing at reached true cells reads =
     let v = blocks_in (cells_of start.head cells) in

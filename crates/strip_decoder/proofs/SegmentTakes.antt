@@ -20,13 +20,13 @@ use Rattle.text_defs.proofs.GivenParts.{IsPart, holds_parts}
 use Rattle.block_families.specs.Places.{AreWeighted}
 use Rattle.packet_assembly.specs.declared.note.SegmentStart.{SegmentStart}
 use Rattle.packet_assembly.specs.Assembling.{Assembling, last_index}
-use Rattle.packet_assembly.specs.Segments.{FindsSegment, GoesOn}
+use Rattle.packet_assembly.specs.Segments.{FindsSegment, Continues}
 use Rattle.stream_defs.specs.Begun.{placed}
 use Rattle.picture_rows.proofs.BandBlocks.{part_is}
 use Rattle.strip_decoder.specs.Sinks.{Blocks, SinkOf, MayEnd}
 use Rattle.strip_decoder.specs.declared.decode.DecodeFault.{DecodeFault}
 use Rattle.strip_decoder.specs.declared.decode.DecodeFault.TheVariants.{ReadFault, WriteFault, NoSegment, TooManyPixels, LongInput, Memory}
-use Rattle.strip_decoder.specs.Steps.{Walking, IsStanding, Follows, PassesBlocks, AreBlocks, missing, passed_in, total_in}
+use Rattle.strip_decoder.specs.Steps.{Walking, IsCurrent, Follows, PassesBlocks, AreBlocks, missing, passed_in, total_in}
 use Rattle.strip_decoder.specs.Rooms.{IsRoom}
 use Rattle.strip_decoder.specs.Segments.{FitsImage, FollowsFound, FollowsHead, FollowsHeld, TakesSegment, HasImage, IsAt, IsBetween, IsFound, IsShorter, ReadsText, HasTaken, HasReached, ReachesSegment, cells_of, pixels_reached}
 use Rattle.strip_decoder.specs.Walks.{TakesAll, TookAll}
@@ -67,7 +67,7 @@ accepted_blocks g start cells old new a b false fits long reads e = absurd cc
 -- ---- the blocks that were passed
 
 -- the text was gone through
-pub text_goes : (old new : Outside) (a b : Assembling) (head : SegmentHead) (cells : List ℤ) (accepted : Bool) → ReadsText old new a b head cells (Ok accepted) → GoesOn old new a b
+pub text_goes : (old new : Outside) (a b : Assembling) (head : SegmentHead) (cells : List ℤ) (accepted : Bool) → ReadsText old new a b head cells (Ok accepted) → Continues old new a b
 text_goes old new a b head cells true reads = reads.goes
 text_goes old new a b head cells false reads = reads.goes
 
@@ -105,7 +105,7 @@ reached_at k (Err e) w0 w1 a p q start n at n_is broken = broken.rose
 
 -- The walk goes by the geometry that is known once the text was gone through.
 pub record HasFollowed {S : Type 0} (k : SinkOf S) (pixels : ℕ) (b : Assembling) (old new : Walking S) (start : SegmentStart) : Type 0 where
-  pub standing : IsStanding k new
+  pub standing : IsCurrent k new
   pub shorter : IsShorter old.geometry new.geometry
   pub count : passed_in new ≡ passed_in old
   pub fits : FitsImage new.geometry start
@@ -125,7 +125,7 @@ shorter_by g h n ends = elim ends [
 abbrev pub is_done : Result (Unit {0}) DecodeFault
 is_done = Ok tt
 
-pub has_followed : {S : Type 0} {w1 w2 : Outside} (k : SinkOf S) (pixels : ℕ) (a b : Assembling) (p q : Walking S) (start : SegmentStart) → IsAt a p start → IsStanding k p → passed_in p ≡ start.ancillary.first → GoesOn w1 w2 a b →
+pub has_followed : {S : Type 0} {w1 w2 : Outside} (k : SinkOf S) (pixels : ℕ) (a b : Assembling) (p q : Walking S) (start : SegmentStart) → IsAt a p start → IsCurrent k p → passed_in p ≡ start.ancillary.first → Continues w1 w2 a b →
     FollowsHeld k pixels b p q is_done → HasFollowed k pixels b p q start
 has_followed k pixels a b p q start at standing there goes follows = by b.held refl follows
   where
@@ -201,7 +201,7 @@ head_only k pixels image next p q NoSegment x = absurd x
 head_only k pixels image next p q LongInput x = absurd x
 head_only k pixels image next p q Memory x = absurd x
 
-pub follow_takes : {S : Type 0} (k : SinkOf S) (pixels : ℕ) (w0 w2 w1 : Outside) (a b : Assembling) (p0 p q : Walking S) (start : SegmentStart) (fault : DecodeFault) → IsAt a p start → passed_in p ≡ start.ancillary.first → GoesOn w1 w2 a b → FollowsHeld k pixels b p q (Err fault) → TakesSegment k w0 w2 a b p0 q (Err fault)
+pub follow_takes : {S : Type 0} (k : SinkOf S) (pixels : ℕ) (w0 w2 w1 : Outside) (a b : Assembling) (p0 p q : Walking S) (start : SegmentStart) (fault : DecodeFault) → IsAt a p start → passed_in p ≡ start.ancillary.first → Continues w1 w2 a b → FollowsHeld k pixels b p q (Err fault) → TakesSegment k w0 w2 a b p0 q (Err fault)
 follow_takes k pixels w0 w2 w1 a b p0 p q start fault at there goes follows = by b.held refl follows
   where
     by : (o : Option SegmentStart) → b.held ≡ o → MatchOption o ((IsOk (is_failed fault)) × (q ≡ p)) (λ next. FollowsFound k pixels b next p q (is_failed fault)) → TakesSegment k w0 w2 a b p0 q (Err fault)
@@ -253,7 +253,7 @@ segment_taken k pixels (Ok x) w0 w1 w2 w3 a b start p0 p1 p2 p3 cells accepted v
 
 -- the walk goes by the image of a segment that was answered
 pub record HasFollowedFound {S : Type 0} (k : SinkOf S) (a : Assembling) (p q : Walking S) (start : SegmentStart) : Type 0 where
-  pub standing : IsStanding k q
+  pub standing : IsCurrent k q
   pub shorter : IsShorter p.geometry q.geometry
   pub count : passed_in q ≡ passed_in p
   pub at : IsAt a q start
@@ -293,7 +293,7 @@ found_takes k pixels w0 w2 a b p0 p q start fault found follows = by fault (foll
     by Memory x = absurd x
 
 -- all segments were taken
-pub all_takes : {S : Type 0} (k : SinkOf S) (w0 w1 w2 : Outside) (a0 a b : Assembling) (p0 p : Walking S) → IsStanding k p → IsBetween a p → FindsSegment w1 w2 a b (Ok None) → NoFewerFaults w0 w2 → TookAll k w0 w2 a0 b p0 p
+pub all_takes : {S : Type 0} (k : SinkOf S) (w0 w1 w2 : Outside) (a0 a b : Assembling) (p0 p : Walking S) → IsCurrent k p → IsBetween a p → FindsSegment w1 w2 a b (Ok None) → NoFewerFaults w0 w2 → TookAll k w0 w2 a0 b p0 p
 all_takes k w0 w1 w2 a0 a b p0 p standing between finds faults =
     let found = finds.ends.0 in
     record {

@@ -18,7 +18,7 @@ use Rattle.segment_code.specs.declared.decode.SegmentFault.{SegmentFault}
 use Rattle.segment_code.specs.declared.decode.SegmentFault.TheVariants as faults
 use Rattle.packet_assembly.specs.declared.text.SegmentText.{SegmentText}
 use Rattle.packet_assembly.specs.Assembling.{Assembling}
-use Rattle.packet_assembly.specs.Segments.{GoesOn}
+use Rattle.packet_assembly.specs.Segments.{Continues}
 use Rattle.packet_assembly.specs.Passing.{goes_both}
 use Rattle.packet_assembly.specs.Tails.{text_tail}
 use Rattle.packet_assembly.specs.TextSource.{segment_source}
@@ -65,14 +65,14 @@ module _ {X : Type 0} (outside : X → Outside) (s t : SegmentText X) where
   abbrev now : Outside
   now = outside t.port.now
 
-  come : (octets before : List ℕ) → (g : GoesOn old now s.assembly.now t.assembly.now) → Comes ((segment_source outside).tail s) ((segment_source outside).tail t) octets → old.rest ≡ Some before →
+  come : (octets before : List ℕ) → (g : Continues old now s.assembly.now t.assembly.now) → Comes ((segment_source outside).tail s) ((segment_source outside).tail t) octets → old.rest ≡ Some before →
       HasCome s.assembly.now t.assembly.now before now.rest octets
   come octets before g came told = come_by s.assembly.now t.assembly.now old.rest now.rest before g.passes.took octets g.passes.since.rest told came
 
   -- ---- a text that holds something
 
   module _ (head : SegmentHead) (part : Part) (cells more : List ℤ) (long : length cells ≡ 64 * head.blocks) (d : DecodesSegment (segment_source outside) profile head (Ok part) s t cells) (new : Outside) (b : Assembling) where
-    goes : GoesOn old now s.assembly.now t.assembly.now
+    goes : Continues old now s.assembly.now t.assembly.now
     goes = d.went.goes
 
     cells_are : cells ≡ cells_of head (cells ++ more)

@@ -1,6 +1,6 @@
 -- How a decoder ends, by what it took and gave. This project's own.
 use Rattle.std.specs.Prelude.{◌≡◌, ◌≤◌, ℕ, Bool, true, List, [], length, take, false, None, Some, Result, Ok, Err}
-use Rattle.port_122.specs.Outside.{Outside, Since, Rose}
+use Rattle.port_122.specs.Outside.{Outside, Exchange, Rose}
 use Rattle.base_122.specs.Ranges.{IsGeometryInRange}
 use Rattle.base_122.specs.declared.geometry.Geometry.{Geometry}
 use Rattle.base_122.specs.declared.wish.DecodeWish.{DecodeWish}
@@ -80,6 +80,6 @@ Asks wish start took gave i j =
 pub record Decodes (wish : DecodeWish) (old new : Outside) (result : Result DecodeDone DecodeFault) : Type 0 where
   pub took : List ℕ
   pub gave : List ℕ
-  pub since : Since old new took gave [] (Asks wish old took gave)
+  pub since : Exchange old new took gave [] (Asks wish old took gave)
   pub within : length took ≤ wish.octets
   pub answer : Answers wish old new took gave result

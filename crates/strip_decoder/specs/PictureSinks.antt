@@ -5,7 +5,7 @@ use Rattle.base_122.specs.declared.geometry.Geometry.{Geometry}
 use Rattle.stream_defs.specs.Settled.{rows_through, block_rows_before}
 use Rattle.picture_rows.specs.declared.picture.Picture.{Picture}
 use Rattle.picture_rows.specs.Fronts.{rows_of}
-use Rattle.picture_rows.specs.Pictures.{shown, StandsFor, passed_in}
+use Rattle.picture_rows.specs.Pictures.{picture_state, Represents, passed_in}
 use Rattle.picture_rows.specs.Pictures as pictures
 use Rattle.picture_rows.proofs.RowsOut.{rows_out}
 use Rattle.picture_rows.proofs.Heights.{rows_of_ended}
@@ -20,13 +20,13 @@ numbers_in blocks block i = slice_index_or (unwrap_or (blocks block) []) i (pos 
 
 -- a picture of this geometry that has passed n blocks
 pub record StandsAt (p : Picture) (g : Geometry) (n : ℕ) : Type 0 where
-  pub standing : pictures.IsStanding (shown p)
+  pub standing : pictures.IsCurrent (picture_state p)
   pub geometry : p.geometry ≡ g
-  pub passed : passed_in (shown p) ≡ n
+  pub passed : passed_in (picture_state p) ≡ n
 
 -- it is one of these blocks, and its first rows are given
 pub record ShowsBlocks (p : Picture) (g : Geometry) (blocks : Blocks) (n : ℕ) (gave : List ℕ) : Type 0 where
-  pub stands : StandsFor (numbers_in blocks) (shown p)
+  pub stands : Represents (numbers_in blocks) (picture_state p)
   pub gave_is : gave ≡ rows_of g (numbers_in blocks) p.at.next
 
 -- the first rows of the picture, exactly those that the first n blocks determine
@@ -40,7 +40,7 @@ pub record GivesFront (g : Geometry) (blocks : Blocks) (n : ℕ) (gave : List �
 
 pub rows_given : (p : Picture) (g : Geometry) (blocks : Blocks) (n : ℕ) (gave : List ℕ) → StandsAt p g n → ShowsBlocks p g blocks n gave → GivesRows g blocks n gave
 rows_given p g blocks n gave stands shows =
-    rows_out (shown p) g n (numbers_in blocks) gave stands.standing stands.geometry stands.passed shows.gave_is
+    rows_out (picture_state p) g n (numbers_in blocks) gave stands.standing stands.geometry stands.passed shows.gave_is
 
 take_whole : (xs : List ℕ) → take (length xs) xs ≡ xs
 take_whole [] = refl

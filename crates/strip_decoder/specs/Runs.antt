@@ -1,7 +1,7 @@
 -- How far a walk has come since it began: what it took, what it knows of the segments, and which blocks it has passed.
 -- This project's own.
 use Rattle.std.specs.Prelude.{◌≡◌, ◌≤◌, ◌<◌, ◌+◌, ◌*◌, ◌/◌, ◌==◌, ℕ, ℤ, Bool, if◌then◌else◌, List, [], ◌∷◌, ◌++◌, length, take, drop, Option, None, Some, Result, Ok, Err, true, false, MatchOption, MatchResult}
-use Rattle.port_122.specs.Outside.{Outside, Since}
+use Rattle.port_122.specs.Outside.{Outside, Exchange}
 use Rattle.base_122.specs.Sizes.{first_block, segment_blocks}
 use Rattle.base_122.specs.declared.geometry.Geometry.{Geometry}
 use Rattle.plane_defs.specs.Profile.{profile}
@@ -141,10 +141,10 @@ pub record HasKnown (w : Run) (now : Outside) (a : Assembling) (bound : ℕ) (to
   pub at_end : SawEnd now a
 
 -- so far the walk has come, with the segments before this bound
-pub record HasComeTo {S : Type 0} (k : SinkOf S) (w : Run) (now : Outside) (a : Assembling) (p : Walking S) (bound : ℕ) : Type 0 where
+pub record HasWalkedTo {S : Type 0} (k : SinkOf S) (w : Run) (now : Outside) (a : Assembling) (p : Walking S) (bound : ℕ) : Type 0 where
   pub took : List ℕ
   pub gave : List ℕ
-  pub since : Since w.start now took gave [] (AsksPassed k w took gave)
+  pub since : Exchange w.start now took gave [] (AsksPassed k w took gave)
   pub known : HasKnown w now a bound took
   pub shows : Shows k p known.sofar gave
   pub few : passed_in p ≤ first_block p.geometry.segment bound
@@ -168,27 +168,27 @@ pub record IsNextBegun (w : Run) (passed : List (List ℕ)) (text : List ℕ) (s
   pub geometry : (after_all w.apid fresh begun.before).geometry ≡ Some image
 
 -- it has come to a segment, all segments before it being known, and no head before reported too many pixels
-pub record ComesTo {S : Type 0} (k : SinkOf S) (w : Run) (now : Outside) (a : Assembling) (p : Walking S) (start : SegmentStart) : Type 0 where
-  pub come : HasComeTo k w now a p start.ancillary.index
+pub record WalksTo {S : Type 0} (k : SinkOf S) (w : Run) (now : Outside) (a : Assembling) (p : Walking S) (start : SegmentStart) : Type 0 where
+  pub come : HasWalkedTo k w now a p start.ancillary.index
   pub begun : IsBegun w.apid come.known.passed a.text start start.ancillary.index
   pub few : HasFew w.pixels w.apid begun.before
   pub lost : (block : ℕ) → passed_in p ≤ block → block < start.ancillary.first → come.known.sofar (block / p.geometry.segment) ≡ None
 
 -- and another segment was begun before
-pub record ComesAfter {S : Type 0} (k : SinkOf S) (w : Run) (now : Outside) (a : Assembling) (p : Walking S) (start : SegmentStart) : Type 0 where
-  pub to : ComesTo k w now a p start
+pub record WalksAfter {S : Type 0} (k : SinkOf S) (w : Run) (now : Outside) (a : Assembling) (p : Walking S) (start : SegmentStart) : Type 0 where
+  pub to : WalksTo k w now a p start
   pub image : Geometry
   pub geometry : (after_all w.apid fresh to.begun.before).geometry ≡ Some image
 
 -- nor did its own head
-pub record ComesIn {S : Type 0} (k : SinkOf S) (w : Run) (now : Outside) (a : Assembling) (p : Walking S) (start : SegmentStart) : Type 0 where
-  pub to : ComesTo k w now a p start
+pub record WalksIn {S : Type 0} (k : SinkOf S) (w : Run) (now : Outside) (a : Assembling) (p : Walking S) (start : SegmentStart) : Type 0 where
+  pub to : WalksTo k w now a p start
   pub small : HasFew w.pixels w.apid to.come.known.passed
 
 -- it has come past a segment, which is the last one unless the next was begun
-pub record ComesPast {S : Type 0} (k : SinkOf S) (w : Run) (now : Outside) (a : Assembling) (p : Walking S) : Type 0 where
+pub record WalksPast {S : Type 0} (k : SinkOf S) (w : Run) (now : Outside) (a : Assembling) (p : Walking S) : Type 0 where
   pub index : ℕ
-  pub come : HasComeTo k w now a p (index + 1)
+  pub come : HasWalkedTo k w now a p (index + 1)
   pub small : HasFew w.pixels w.apid come.known.passed
   pub last : a.held ≡ None → last_index a.state.last ≡ Some index
   pub begun : (start : SegmentStart) → a.held ≡ Some start → IsNextBegun w come.known.passed a.text start (index + 1)
@@ -198,7 +198,7 @@ pub record ComesPast {S : Type 0} (k : SinkOf S) (w : Run) (now : Outside) (a : 
 pub record HasBroken {S : Type 0} (k : SinkOf S) (w : Run) (now : Outside) : Type 0 where
   pub took : List ℕ
   pub gave : List ℕ
-  pub since : Since w.start now took gave [] (AsksPassed k w took gave)
+  pub since : Exchange w.start now took gave [] (AsksPassed k w took gave)
   pub within : length took ≤ w.cap
   pub part : (all : List ℕ) → w.start.rest ≡ Some all → PartBy k w.apid took gave
   pub for_some : IsPartOfSome k gave
@@ -229,17 +229,17 @@ BreaksRun k w now fault = HasBroken k w now
 
 -- it goes on to the first block of a segment, or a fault ends it
 abbrev pub RunsReach : {S T E : Type 0} → SinkOf S → Run → Outside → Assembling → Walking S → SegmentStart → Result T E → Type 0
-RunsReach k w now a p start result = MatchResult result (λ _. ComesIn k w now a p start) (λ _. HasFailedWrite k w now)
+RunsReach k w now a p start result = MatchResult result (λ _. WalksIn k w now a p start) (λ _. HasFailedWrite k w now)
 
 -- it goes on past a segment, or a fault ends it
 abbrev pub RunsSegment : {S : Type 0} → SinkOf S → Run → Outside → Assembling → Walking S → Result (Unit {0}) DecodeFault → Type 0
-RunsSegment k w now a p (Ok done) = ComesPast k w now a p
+RunsSegment k w now a p (Ok done) = WalksPast k w now a p
 RunsSegment k w now a p (Err fault) = BreaksRun k w now fault
 
 -- it has come to the end of the packets
 pub record ComesToEnd {S : Type 0} (k : SinkOf S) (w : Run) (now : Outside) (a : Assembling) (p : Walking S) : Type 0 where
   pub index : ℕ
-  pub come : HasComeTo k w now a p (index + 1)
+  pub come : HasWalkedTo k w now a p (index + 1)
   pub small : HasFew w.pixels w.apid come.known.passed
   pub last : last_index a.state.last ≡ Some index
   pub image : Geometry

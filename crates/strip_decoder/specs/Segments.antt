@@ -21,7 +21,7 @@ use Rattle.stream_defs.specs.Fates.{fresh, after_all}
 use Rattle.strip_decoder.specs.declared.decode.DecodeFault.{DecodeFault}
 use Rattle.strip_decoder.specs.declared.decode.DecodeFault.TheVariants.{ReadFault, WriteFault, TooManyPixels, LongInput}
 use Rattle.strip_decoder.specs.Sinks.{SinkOf, MayEnd}
-use Rattle.strip_decoder.specs.Steps.{Walking, IsStanding, HasGeometry, passed_in, missing, held}
+use Rattle.strip_decoder.specs.Steps.{Walking, IsCurrent, HasGeometry, passed_in, missing, held}
 
 -- ---- where a segment is
 
@@ -115,16 +115,16 @@ FindsNext old new a b (Err other) = ⊥
 -- A text was asked for its end, where the port tells what is left: it is over, and its closing part was passed; or it has more
 -- octets, or ends otherwise.
 pub record HasEnded (old new : Outside) (a b : Assembling) : Type 0 where
-  pub goes : assembling.GoesOn old new a b
+  pub goes : assembling.Continues old new a b
   pub unheld : b.held ≡ None
   pub closed : is_closed b.state.last ≡ true
 
 pub record HasNotEnded (old new : Outside) (a b : Assembling) : Type 0 where
-  pub goes : assembling.GoesOn old new a b
+  pub goes : assembling.Continues old new a b
   pub told : (rest : List ℕ) → old.rest ≡ Some rest → (text_tail a rest).octets ≡ [] → (text_tail a rest).ends ≡ Plainly → ⊥
 
 pub record HasFailed (old new : Outside) (a b : Assembling) : Type 0 where
-  pub goes : assembling.GoesOn old new a b
+  pub goes : assembling.Continues old new a b
   pub rose : Rose old.read_faults new.read_faults
 
 abbrev pub EndsText : (old new : Outside) (a b : Assembling) → Result Bool DecodeFault → Type 0
@@ -139,7 +139,7 @@ cells_of head cells = take (64 * head.blocks) cells
 
 -- A segment's text was read whole, and holds these blocks; its closing part was passed.
 pub record Accepts (old new : Outside) (a b : Assembling) (head : SegmentHead) (cells : List ℤ) : Type 0 where
-  pub goes : assembling.GoesOn old new a b
+  pub goes : assembling.Continues old new a b
   pub unheld : b.held ≡ None
   pub closed : is_closed b.state.last ≡ true
   pub some : List ℕ
@@ -148,7 +148,7 @@ pub record Accepts (old new : Outside) (a b : Assembling) (head : SegmentHead) (
 
 -- It breaks off, or it holds nothing.
 pub record Refuses (old new : Outside) (a b : Assembling) (head : SegmentHead) : Type 0 where
-  pub goes : assembling.GoesOn old new a b
+  pub goes : assembling.Continues old new a b
   pub told : (rest : List ℕ) → old.rest ≡ Some rest → (text_tail a rest).ends ≡ Plainly → (w : List (List ℤ)) → Holds profile head (text_tail a rest).octets w → ⊥
 
 abbrev pub ReadsText : (old new : Outside) (a b : Assembling) (head : SegmentHead) (cells : List ℤ) → Result Bool DecodeFault → Type 0
@@ -169,7 +169,7 @@ pub record IsShorter (old new : Geometry) : Type 0 where
 
 -- a segment was taken
 pub record HasTaken {S : Type 0} (k : SinkOf S) (p q : Outside) (a b : Assembling) (old new : Walking S) : Type 0 where
-  pub standing : IsStanding k new
+  pub standing : IsCurrent k new
   pub geometry : IsShorter old.geometry new.geometry
   pub between : IsBetween b new
   pub more : passed_in old < passed_in new
@@ -184,7 +184,7 @@ TakesSegment k p q a b old new (Err other) = ⊥
 
 -- the blocks before a segment were lost
 pub record HasReached {S : Type 0} (k : SinkOf S) (p q : Outside) (a : Assembling) (old new : Walking S) (start : SegmentStart) : Type 0 where
-  pub standing : IsStanding k new
+  pub standing : IsCurrent k new
   pub geometry : new.geometry ≡ old.geometry
   pub at : IsAt a new start
   pub there : passed_in new ≡ start.ancillary.first

@@ -1,7 +1,7 @@
 -- What a sink of blocks shows of those that it has taken. This project's own.
 use Rattle.std.specs.Prelude.{◌≡◌, ◌⊎◌, ◌≤◌, ◌<◌, ◌+◌, ◌/◌, ◌%◌, ℕ, ℤ, List, [], ◌++◌, length, Option, None, Some, Result, MatchResult, slice_index_or}
 use Rattle.std.specs.Option.{option_map}
-use Rattle.port_122.specs.Outside.{Outside, Since, NoRead, Rose}
+use Rattle.port_122.specs.Outside.{Outside, Exchange, NoRead, Rose}
 use Rattle.base_122.specs.Ranges.{IsGeometryInRange, IsWithin, rows_range}
 use Rattle.base_122.specs.declared.geometry.Geometry.{Geometry}
 use Rattle.block_families.specs.Places.{AreWeighted}
@@ -68,14 +68,14 @@ pub record IsNext {S : Type 0} (k : SinkOf S) (block : Option (List ℤ)) (s : S
 -- it was taken as the n-th one
 pub record Takes {S : Type 0} (k : SinkOf S) (g : Geometry) (n : ℕ) (block : Option (List ℤ)) (p q : Outside) (old new : S) : Type 0 where
   pub gave : List ℕ
-  pub out : Since p q [] gave [] NoRead
+  pub out : Exchange p q [] gave [] NoRead
   pub stands : k.Stands new g (n + 1)
   pub follows : (blocks : Blocks) (before : List ℕ) → k.Follows old g blocks n before → blocks n ≡ block → k.Follows new g blocks (n + 1) (before ++ gave)
 
 -- a write failed meanwhile
 pub record Fails {S : Type 0} (k : SinkOf S) (g : Geometry) (n : ℕ) (block : Option (List ℤ)) (p q : Outside) (old : S) : Type 0 where
   pub gave : List ℕ
-  pub out : Since p q [] gave [] NoRead
+  pub out : Exchange p q [] gave [] NoRead
   pub rose : Rose p.write_faults q.write_faults
   pub part : (blocks : Blocks) (before : List ℕ) → k.Follows old g blocks n before → blocks n ≡ block → k.Part g blocks (n + 1) (before ++ gave)
 

@@ -1,7 +1,7 @@
 -- What the steps of a walk leave. This project's own.
 use Rattle.std.specs.Prelude.{◌≡◌, ◌≤◌, ◌<◌, ◌+◌, ◌*◌, ◌/◌, ◌==◌, ◌&&◌, ℕ, ℤ, List, [], ◌++◌, Bool, not, is_some, Option, None, Some, Result, MatchResult, filter}
 use Rattle.std.specs.List.{list_any, range_with_len}
-use Rattle.port_122.specs.Outside.{Outside, Since, NoRead, Rose}
+use Rattle.port_122.specs.Outside.{Outside, Exchange, NoRead, Rose}
 use Rattle.base_122.specs.Sizes.{block_count}
 use Rattle.base_122.specs.Ranges.{IsGeometryInRange, IsWithin, rows_range}
 use Rattle.base_122.specs.declared.geometry.Geometry.{Geometry}
@@ -34,7 +34,7 @@ abbrev pub HasRoom : {S : Type 0} → ℕ → Walking S → Type 0
 HasRoom n p = passed_in p + n ≤ total_in p
 
 -- its parts are those of its geometry, and stand at the place that it has come to
-pub record IsStanding {S : Type 0} (k : SinkOf S) (p : Walking S) : Type 0 where
+pub record IsCurrent {S : Type 0} (k : SinkOf S) (p : Walking S) : Type 0 where
   pub range : IsGeometryInRange p.geometry
   pub height : IsWithin rows_range p.geometry.rows
   pub column : p.at.column < block_count p.geometry.width
@@ -86,22 +86,22 @@ held cells i = Some (block_at cells i)
 
 -- the next n blocks were passed, which are such
 pub record HasPassed {S : Type 0} (k : SinkOf S) (values : ℕ → Option (List ℤ)) (n : ℕ) (p q : Outside) (old new : Walking S) : Type 0 where
-  pub standing : IsStanding k new
+  pub standing : IsCurrent k new
   pub geometry : new.geometry ≡ old.geometry
   pub count : passed_in new ≡ passed_in old + n
   pub gave : List ℕ
-  pub out : Since p q [] gave [] NoRead
+  pub out : Exchange p q [] gave [] NoRead
   pub follows : (blocks : Blocks) (before : List ℕ) → Follows k old blocks before → AreNext values n old blocks → Follows k new blocks (before ++ gave)
 
 -- a write failed meanwhile
-pub record BreaksOff {S : Type 0} (k : SinkOf S) (values : ℕ → Option (List ℤ)) (n : ℕ) (p q : Outside) (old : Walking S) : Type 0 where
+pub record StopsEarly {S : Type 0} (k : SinkOf S) (values : ℕ → Option (List ℤ)) (n : ℕ) (p q : Outside) (old : Walking S) : Type 0 where
   pub gave : List ℕ
-  pub out : Since p q [] gave [] NoRead
+  pub out : Exchange p q [] gave [] NoRead
   pub rose : Rose p.write_faults q.write_faults
   pub part : (blocks : Blocks) (before : List ℕ) → Follows k old blocks before → AreNext values n old blocks → (m : ℕ) × (m ≤ passed_in old + n) × k.Part old.geometry blocks m (before ++ gave)
 
 abbrev pub PassesBlocks : {S T E : Type 0} → SinkOf S → Result T E → (ℕ → Option (List ℤ)) → ℕ → (p q : Outside) (old new : Walking S) → Type 0
-PassesBlocks k result values n p q old new = MatchResult result (λ _. HasPassed k values n p q old new) (λ _. BreaksOff k values n p q old)
+PassesBlocks k result values n p q old new = MatchResult result (λ _. HasPassed k values n p q old new) (λ _. StopsEarly k values n p q old)
 
 -- the first n blocks of a segment's numbers are such as its image can have
 pub record AreBlocks (n : ℕ) (g : Geometry) (cells : List ℤ) : Type 0 where
@@ -117,7 +117,7 @@ pub record HasAdvanced {S : Type 0} (old new : Walking S) : Type 0 where
 
 -- the image has this geometry from now on, and no block was passed
 pub record HasGeometry {S : Type 0} (k : SinkOf S) (g : Geometry) (old new : Walking S) : Type 0 where
-  pub standing : IsStanding k new
+  pub standing : IsCurrent k new
   pub geometry : new.geometry ≡ g
   pub count : passed_in new ≡ passed_in old
   pub follows : (blocks : Blocks) (gave : List ℕ) → Follows k old blocks gave → Follows k new blocks gave

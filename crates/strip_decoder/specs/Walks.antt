@@ -1,6 +1,6 @@
 -- How a walk over the segments of a stream ends, by what it took and gave, whatever its sink makes of the blocks. This project's own.
 use Rattle.std.specs.Prelude.{◌≡◌, ◌≢◌, ◌⊎◌, ◌≤◌, ◌-◌, ◌==◌, if◌then◌else◌, ℕ, Bool, not, List, [], length, false, Option, None, Some, Result, Ok, Err}
-use Rattle.port_122.specs.Outside.{Outside, Since, Rose, NoFewerFaults}
+use Rattle.port_122.specs.Outside.{Outside, Exchange, Rose, NoFewerFaults}
 use Rattle.base_122.specs.Ranges.{IsGeometryInRange}
 use Rattle.base_122.specs.declared.geometry.Geometry.{Geometry}
 use Rattle.base_122.specs.declared.wish.DecodeWish.{DecodeWish}
@@ -18,7 +18,7 @@ use Rattle.strip_decoder.specs.declared.engine.Walked.{Walked}
 use Rattle.strip_decoder.specs.declared.decode.DecodeFault.{DecodeFault}
 use Rattle.strip_decoder.specs.declared.decode.DecodeFault.TheVariants.{ReadFault, WriteFault, NoSegment, TooManyPixels, LongInput, Memory}
 use Rattle.strip_decoder.specs.Sinks.{SinkOf, Numbers, blocks_with}
-use Rattle.strip_decoder.specs.Steps.{Walking, IsStanding, Follows, passed_in, total_in}
+use Rattle.strip_decoder.specs.Steps.{Walking, IsCurrent, Follows, passed_in, total_in}
 use Rattle.strip_decoder.specs.Segments.{HasImage}
 use Rattle.strip_decoder.specs.Runs.{holds_after, blocks_passed, HasFewKnown, ReportsMany, tells_last, AsksPassed, PartBy, IsPartOfSome, Run, BreaksRun}
 
@@ -34,7 +34,7 @@ left_in known p = if known then total_in p - passed_in p else 0
 
 -- all segments were taken
 pub record TookAll {S : Type 0} (k : SinkOf S) (old new : Outside) (a b : Assembling) (p q : Walking S) : Type 0 where
-  pub standing : IsStanding k q
+  pub standing : IsCurrent k q
   pub image : Geometry
   pub has : HasImage b image
   pub goes_by : q.geometry ≡ placed image
@@ -66,7 +66,7 @@ pub record IsDamageOf (g : Geometry) (received : Numbers) (n : ℕ) (marks : Mar
 pub record HasPassedAll {S : Type 0} (k : SinkOf S) (w : Run) (now : Outside) (image : Geometry) (p : Walking S) (found : Option Framing) : Type 0 where
   pub took : List ℕ
   pub gave : List ℕ
-  pub since : Since w.start now took gave [] (AsksPassed k w took gave)
+  pub since : Exchange w.start now took gave [] (AsksPassed k w took gave)
   pub within : length took ≤ w.cap
   pub small : HasFewPixels w.pixels w.apid took
   pub geometry : geometry_in w.apid took ≡ Some image
@@ -74,7 +74,7 @@ pub record HasPassedAll {S : Type 0} (k : SinkOf S) (w : Run) (now : Outside) (i
   pub placed_is : p.geometry ≡ placed image
   pub framing_is : found ≡ framing took
   pub out : IsReadOut w.cap now took
-  pub standing : IsStanding k p
+  pub standing : IsCurrent k p
   pub all : passed_in p ≡ blocks_passed image (end_of (kept_in w.apid took))
   pub for_some : IsPartOfSome k gave
   pub told : (every : List ℕ) → w.start.rest ≡ Some every → (received : Numbers) × ReceivedIn holds_after w.apid took received × Follows k p (blocks_with image received) gave
@@ -137,7 +137,7 @@ run_of wish start = record { apid = wish.apid; cap = wish.octets; pixels = wish.
 pub record Walks {S : Type 0} (k : SinkOf S) (wish : DecodeWish) (old new : Outside) (result : Result (Walked S) DecodeFault) : Type 0 where
   pub took : List ℕ
   pub gave : List ℕ
-  pub since : Since old new took gave [] (AsksPassed k (run_of wish old) took gave)
+  pub since : Exchange old new took gave [] (AsksPassed k (run_of wish old) took gave)
   pub within : length took ≤ wish.octets
   pub for_some : (gave ≡ []) ⊎ IsPartOfSome k gave
   pub answer : WalkAnswers k wish old new took gave result

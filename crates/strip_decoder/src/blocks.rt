@@ -3,7 +3,7 @@ ghost use Rattle.std.specs.Prelude.{◌≡◌, ◌≤◌, ◌<◌, ◌*◌, Some
 ghost use Rattle.base_122.specs.Sizes.{block_count};
 ghost use Rattle.base_122.specs.Ranges.{IsGeometryInRange};
 ghost use Rattle.strip_decoder.specs.Sinks.{IsBlock};
-ghost use Rattle.strip_decoder.specs.Steps.{walking, IsStanding, HasRoom, PassesBlocks, HasAdvanced, AreBlocks, missing, held};
+ghost use Rattle.strip_decoder.specs.Steps.{walking, IsCurrent, HasRoom, PassesBlocks, HasAdvanced, AreBlocks, missing, held};
 
 use crate::sink::BlockSink;
 use crate::walk::Walk;
@@ -24,8 +24,8 @@ fn advance<S: BlockSink>(walk: &mut Walk<S>)
 }
 
 // The next block is missing, and so is its block row.
-fn lose_block<S: BlockSink, X: Port>(walk: &mut Walk<S>, port: &mut X) -> Result<(), Failed>
-    requires standing { IsStanding S.sink (walking walk.old) }
+fn put_missing<S: BlockSink, X: Port>(walk: &mut Walk<S>, port: &mut X) -> Result<(), Failed>
+    requires standing { IsCurrent S.sink (walking walk.old) }
     requires room { HasRoom 1 (walking walk.old) }
     ensures { PassesBlocks S.sink result missing 1 (X.outside port.old) (X.outside port.new) (walking walk.old) (walking walk.new) }
 {
@@ -36,17 +36,17 @@ fn lose_block<S: BlockSink, X: Port>(walk: &mut Walk<S>, port: &mut X) -> Result
 }
 
 /// The next blocks are missing.
-pub fn lose_blocks<S: BlockSink, X: Port>(
+pub fn put_missing_blocks<S: BlockSink, X: Port>(
     walk: &mut Walk<S>,
     port: &mut X,
     count: u64,
 ) -> Result<(), Failed>
-    requires standing { IsStanding S.sink (walking walk.old) }
+    requires standing { IsCurrent S.sink (walking walk.old) }
     requires room { HasRoom count (walking walk.old) }
     ensures { PassesBlocks S.sink result missing count (X.outside port.old) (X.outside port.new) (walking walk.old) (walking walk.new) }
 {
     for _ in 0..count {
-        lose_block(walk, port)?;
+        put_missing(walk, port)?;
     }
     Ok(())
 }
@@ -57,7 +57,7 @@ fn put_block<S: BlockSink, X: Port>(
     port: &mut X,
     numbers: &[i32],
 ) -> Result<(), Failed>
-    requires standing { IsStanding S.sink (walking walk.old) }
+    requires standing { IsCurrent S.sink (walking walk.old) }
     requires room { HasRoom 1 (walking walk.old) }
     requires fits { IsBlock walk.old.geometry (Some numbers.now) }
     ensures { PassesBlocks S.sink result (λ _. Some numbers.now) 1 (X.outside port.old) (X.outside port.new) (walking walk.old) (walking walk.new) }
@@ -74,7 +74,7 @@ pub fn put_blocks<S: BlockSink, X: Port>(
     blocks: &[i32],
     count: usize,
 ) -> Result<(), Failed>
-    requires standing { IsStanding S.sink (walking walk.old) }
+    requires standing { IsCurrent S.sink (walking walk.old) }
     requires room { HasRoom count (walking walk.old) }
     requires whole { 64 * count ≤ length blocks.now }
     requires parts { AreBlocks count walk.old.geometry blocks.now }

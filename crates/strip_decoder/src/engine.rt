@@ -2,13 +2,13 @@
 ghost use Rattle.std.specs.Prelude.{◌≡◌, ◌≤◌, true, is_some, IfOk, vec_len};
 ghost use Rattle.base_122.specs.Ranges.{IsGeometryInRange};
 ghost use Rattle.stream_defs.specs.Begun.{height};
-ghost use Rattle.strip_decoder.specs.Steps.{walking, IsStanding, PassesBlocks, missing};
+ghost use Rattle.strip_decoder.specs.Steps.{walking, IsCurrent, PassesBlocks, missing};
 ghost use Rattle.strip_decoder.specs.Rooms.{IsRoom};
 ghost use Rattle.strip_decoder.specs.Segments.{IsAt};
-ghost use Rattle.strip_decoder.specs.Runs.{Run, ComesIn, RunsAll};
+ghost use Rattle.strip_decoder.specs.Runs.{Run, WalksIn, RunsAll};
 ghost use Rattle.strip_decoder.specs.Walks.{TakesAll, PassesAll, RunsWalk, Walks, is_height_known, left_in, walked_of};
 
-use crate::blocks::lose_blocks;
+use crate::blocks::put_missing_blocks;
 use crate::decode::{DecodeDone, DecodeFault};
 use crate::segments::{find_next, follow_found, pixels_reached, take_segment};
 use crate::sink::BlockSink;
@@ -81,7 +81,7 @@ fn finish<S: BlockSink + Drop>(
     geometry: &Geometry,
     framing: Option<Framing>,
 ) -> Walked<S>
-    requires standing { IsStanding S.sink (walking walk) }
+    requires standing { IsCurrent S.sink (walking walk) }
     requires range { IsGeometryInRange geometry.now }
     ensures { result ≡ walked_of geometry.now framing (walking walk) }
 {
@@ -117,13 +117,13 @@ fn pass_all<S: BlockSink, X: Port>(
     room: &mut SegmentRoom,
     first: SegmentStart,
 ) -> Result<(), DecodeFault>
-    requires standing { IsStanding S.sink (walking walk.old) }
+    requires standing { IsCurrent S.sink (walking walk.old) }
     requires at { IsAt assembly.old (walking walk.old) first }
     requires room { IsRoom walk.old.geometry (vec_len room.old.blocks) (vec_len room.old.marks) }
     ensures passes { PassesAll (X.outside port.old) (X.outside port.new) result }
-    ensures standing { IfOk result (λ _. IsStanding S.sink (walking walk.new)) }
+    ensures standing { IfOk result (λ _. IsCurrent S.sink (walking walk.new)) }
     ensures image { IfOk result (λ _. is_some assembly.new.state.geometry ≡ true) }
-    ensures runs { (w : Run) → w.pixels ≡ room.old.pixels → ComesIn S.sink w (X.outside port.old) assembly.old (walking walk.old) first → RunsWalk S.sink w (X.outside port.new) assembly.new (walking walk.new) result }
+    ensures runs { (w : Run) → w.pixels ≡ room.old.pixels → WalksIn S.sink w (X.outside port.old) assembly.old (walking walk.old) first → RunsWalk S.sink w (X.outside port.new) assembly.new (walking walk.new) result }
 {
     match take_segments(walk, port, assembly, room, first) {
         Ok(()) => {}
@@ -153,11 +153,11 @@ fn take_segments<S: BlockSink, X: Port>(
     room: &mut SegmentRoom,
     first: SegmentStart,
 ) -> Result<(), DecodeFault>
-    requires standing { IsStanding S.sink (walking walk.old) }
+    requires standing { IsCurrent S.sink (walking walk.old) }
     requires at { IsAt assembly.old (walking walk.old) first }
     requires room { IsRoom walk.old.geometry (vec_len room.old.blocks) (vec_len room.old.marks) }
     ensures takes { TakesAll S.sink (X.outside port.old) (X.outside port.new) assembly.old assembly.new (walking walk.old) (walking walk.new) result }
-    ensures runs { (w : Run) → w.pixels ≡ room.old.pixels → ComesIn S.sink w (X.outside port.old) assembly.old (walking walk.old) first → RunsAll S.sink w (X.outside port.new) assembly.new (walking walk.new) result }
+    ensures runs { (w : Run) → w.pixels ≡ room.old.pixels → WalksIn S.sink w (X.outside port.old) assembly.old (walking walk.old) first → RunsAll S.sink w (X.outside port.new) assembly.new (walking walk.new) result }
 {
     let mut start = first;
     'segments: loop {
@@ -183,12 +183,12 @@ fn lose_rest<S: BlockSink, X: Port>(
     port: &mut X,
     known: bool,
 ) -> Result<(), Failed>
-    requires standing { IsStanding S.sink (walking walk.old) }
+    requires standing { IsCurrent S.sink (walking walk.old) }
     ensures { PassesBlocks S.sink result missing (left_in known (walking walk.old)) (X.outside port.old) (X.outside port.new) (walking walk.old) (walking walk.new) }
 {
     if !known {
         return Ok(());
     }
     let left = walk.geometry.blocks() - passed(walk);
-    lose_blocks(walk, port, left)
+    put_missing_blocks(walk, port, left)
 }

@@ -1,7 +1,7 @@
 // A picture takes the blocks.
 use crate::sink::BlockSink;
 use base_122::Geometry;
-use picture_rows::{Picture, lose_block, put_block};
+use picture_rows::{Picture, put_missing, put_block};
 use port_122::{Failed, Port};
 use std::alloc::{AllocError, Global};
 
@@ -19,7 +19,7 @@ impl BlockSink for Picture {
     }
 
     fn lose<X: Port>(&mut self, port: &mut X) -> Result<(), Failed> {
-        lose_block(port, self)
+        put_missing(port, self)
     }
 
     fn end_at(&mut self, geometry: &Geometry) {

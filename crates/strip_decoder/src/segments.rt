@@ -5,12 +5,12 @@ ghost use Rattle.plane_defs.specs.Profile.{profile};
 ghost use Rattle.segment_defs.specs.Head.{IsHead};
 ghost use Rattle.stream_defs.specs.Begun.{placed};
 ghost use Rattle.packet_assembly.specs.Assembling.{Assembling};
-ghost use Rattle.strip_decoder.specs.Steps.{walking, IsStanding, HasRoom, PassesBlocks, AreBlocks};
+ghost use Rattle.strip_decoder.specs.Steps.{walking, IsCurrent, HasRoom, PassesBlocks, AreBlocks};
 ghost use Rattle.strip_decoder.specs.Rooms.{IsRoom};
-ghost use Rattle.strip_decoder.specs.Runs.{Run, ComesIn, RunsReach, RunsSegment};
+ghost use Rattle.strip_decoder.specs.Runs.{Run, WalksIn, RunsReach, RunsSegment};
 ghost use Rattle.strip_decoder.specs.Segments.{FitsImage, FitsNext, IsAt, MayFollow, FollowsHead, MayFollowHeld, FollowsHeld, IsFound, FollowsFound, FindsNext, ReadsText, EndsText, ReachesSegment, TakesSegment, pixels_reached, segment_values};
 
-use crate::blocks::{lose_blocks, put_blocks};
+use crate::blocks::{put_missing_blocks, put_blocks};
 use crate::decode::DecodeFault;
 use crate::sink::BlockSink;
 use crate::walk::{SegmentRoom, Walk, end_image, passed, placed};
@@ -100,7 +100,7 @@ fn follow_head<S: BlockSink>(
     start: &SegmentStart,
     most: u64,
 ) -> Result<(), DecodeFault>
-    requires standing { IsStanding S.sink (walking walk.old) }
+    requires standing { IsCurrent S.sink (walking walk.old) }
     requires follows { MayFollow geometry.now (walking walk.old) start.now }
     ensures { FollowsHead S.sink most geometry.now start.now (walking walk.old) (walking walk.new) result }
 {
@@ -119,7 +119,7 @@ pub fn follow_found<S: BlockSink>(
     start: &SegmentStart,
     most: u64,
 ) -> Result<(), DecodeFault>
-    requires standing { IsStanding S.sink (walking walk.old) }
+    requires standing { IsCurrent S.sink (walking walk.old) }
     requires found { IsFound assembly.now (walking walk.old) start.now }
     ensures { FollowsFound S.sink most assembly.now start.now (walking walk.old) (walking walk.new) result }
 {
@@ -135,7 +135,7 @@ fn follow_held<S: BlockSink>(
     assembly: &Assembly,
     most: u64,
 ) -> Result<(), DecodeFault>
-    requires standing { IsStanding S.sink (walking walk.old) }
+    requires standing { IsCurrent S.sink (walking walk.old) }
     requires held { MayFollowHeld assembly.now (walking walk.old) }
     ensures { FollowsHeld S.sink most assembly.now (walking walk.old) (walking walk.new) result }
 {
@@ -156,7 +156,7 @@ fn pass_segment<S: BlockSink, X: Port>(
     count: u32,
     accepted: bool,
 ) -> Result<(), Failed>
-    requires standing { IsStanding S.sink (walking walk.old) }
+    requires standing { IsCurrent S.sink (walking walk.old) }
     requires room { HasRoom count (walking walk.old) }
     requires held { 64 * count ≤ length blocks.now }
     requires parts { accepted ≡ true → AreBlocks count walk.old.geometry blocks.now }
@@ -165,7 +165,7 @@ fn pass_segment<S: BlockSink, X: Port>(
     if accepted {
         return put_blocks(walk, port, blocks, count as usize);
     }
-    lose_blocks(walk, port, u64::from(count))
+    put_missing_blocks(walk, port, u64::from(count))
 }
 
 /// Goes on to the first block of a segment whose head was read: the blocks before it are lost.
@@ -174,13 +174,13 @@ pub fn reach_segment<S: BlockSink, X: Port>(
     port: &mut X,
     start: &SegmentStart,
 ) -> Result<(), Failed>
-    requires standing { IsStanding S.sink (walking walk.old) }
+    requires standing { IsCurrent S.sink (walking walk.old) }
     requires next { FitsNext (walking walk.old) start.now }
     ensures reaches { (a : Assembling) → IsAt a (walking walk.old) start.now → ReachesSegment S.sink (X.outside port.old) (X.outside port.new) a (walking walk.old) (walking walk.new) start.now result }
-    ensures runs { (w : Run) (a : Assembling) → IsAt a (walking walk.old) start.now → ComesIn S.sink w (X.outside port.old) a (walking walk.old) start.now → RunsReach S.sink w (X.outside port.new) a (walking walk.new) start.now result }
+    ensures runs { (w : Run) (a : Assembling) → IsAt a (walking walk.old) start.now → WalksIn S.sink w (X.outside port.old) a (walking walk.old) start.now → RunsReach S.sink w (X.outside port.new) a (walking walk.new) start.now result }
 {
     let lost = u64::from(start.ancillary.first) - passed(walk);
-    lose_blocks(walk, port, lost)
+    put_missing_blocks(walk, port, lost)
 }
 
 /// Takes the segment that the assembly answered last: the blocks before it are lost, and its own if its text isn't accepted.
@@ -191,14 +191,14 @@ pub fn take_segment<S: BlockSink, X: Port>(
     room: &mut SegmentRoom,
     start: &SegmentStart,
 ) -> Result<(), DecodeFault>
-    requires standing { IsStanding S.sink (walking walk.old) }
+    requires standing { IsCurrent S.sink (walking walk.old) }
     requires at { IsAt assembly.old (walking walk.old) start.now }
     requires room { IsRoom walk.old.geometry (vec_len room.old.blocks) (vec_len room.old.marks) }
     ensures blocks { vec_len room.new.blocks ≡ vec_len room.old.blocks }
     ensures marks { vec_len room.new.marks ≡ vec_len room.old.marks }
     ensures pixels { room.new.pixels ≡ room.old.pixels }
     ensures takes { TakesSegment S.sink (X.outside port.old) (X.outside port.new) assembly.old assembly.new (walking walk.old) (walking walk.new) result }
-    ensures runs { (w : Run) → w.pixels ≡ room.old.pixels → ComesIn S.sink w (X.outside port.old) assembly.old (walking walk.old) start.now → RunsSegment S.sink w (X.outside port.new) assembly.new (walking walk.new) result }
+    ensures runs { (w : Run) → w.pixels ≡ room.old.pixels → WalksIn S.sink w (X.outside port.old) assembly.old (walking walk.old) start.now → RunsSegment S.sink w (X.outside port.new) assembly.new (walking walk.new) result }
 {
     let Ok(()) = reach_segment(walk, port, start) else {
         return Err(DecodeFault::WriteFault);

@@ -4,7 +4,7 @@ ghost use Rattle.base_122.specs.Ranges.{IsGeometryInRange, IsWithin, rows_range}
 ghost use Rattle.plane_defs.specs.Profile.{profile};
 ghost use Rattle.stream_defs.specs.Begun.{placed};
 ghost use Rattle.strip_decoder.specs.Sinks.{MayEnd};
-ghost use Rattle.strip_decoder.specs.Steps.{walking, passed_in, IsStanding, IsFresh, HasGeometry};
+ghost use Rattle.strip_decoder.specs.Steps.{walking, passed_in, IsCurrent, IsFresh, HasGeometry};
 ghost use Rattle.strip_decoder.specs.Rooms.{IsRoom};
 
 use crate::sink::BlockSink;
@@ -58,7 +58,7 @@ pub fn begin_walk<S: BlockSink>(alloc: Global, geometry: &Geometry) -> Result<Wa
 
 /// The blocks before the next one.
 pub fn passed<S: BlockSink>(walk: &Walk<S>) -> u64
-    requires { IsStanding S.sink (walking walk.now) }
+    requires { IsCurrent S.sink (walking walk.now) }
     ensures { result ≡ passed_in (walking walk.now) }
 {
     let columns = walk.geometry.padded_width() / 8;
@@ -67,7 +67,7 @@ pub fn passed<S: BlockSink>(walk: &Walk<S>) -> u64
 
 /// The image has this geometry from now on, if its height became known.
 pub fn end_image<S: BlockSink>(walk: &mut Walk<S>, geometry: &Geometry)
-    requires standing { IsStanding S.sink (walking walk.old) }
+    requires standing { IsCurrent S.sink (walking walk.old) }
     requires ends { MayEnd walk.old.geometry geometry.now (passed_in (walking walk.old)) }
     ensures { HasGeometry S.sink geometry.now (walking walk.old) (walking walk.new) }
 {

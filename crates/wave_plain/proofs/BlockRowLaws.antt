@@ -12,7 +12,7 @@ use Rattle.wave_defs.proofs.BlockLaws.{band_of-within}
 use Rattle.block_families.specs.Places as places
 use Rattle.wave_plain.specs.declared.Bands.{Bands}
 use Rattle.wave_plain.specs.declared.Plane.{Plane}
-use Rattle.wave_plain.specs.Shown.{image_of, band_in, pyramid_in, zeros}
+use Rattle.wave_plain.specs.Images.{image_of, band_in, pyramid_in, zeros}
 use Rattle.wave_plain.specs.BlockRows.{number_in, IsBlockRow}
 
 -- a band of the pyramid that ten planes hold is that plane's

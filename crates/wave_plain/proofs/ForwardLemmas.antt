@@ -4,7 +4,7 @@ use Rattle.std.specs.Prelude.{slice_index_or}
 use Rattle.wave_plain.specs.declared.Plane.{Plane}
 use Rattle.wave_plain.specs.declared.Bands.{Bands}
 use Rattle.wave_plain.specs.declared.samples.Samples.{Samples}
-use Rattle.wave_plain.specs.declared.level.Level.{Level}
+use Rattle.wave_plain.specs.declared.level.PlainLevel.{PlainLevel}
 use Rattle.wave_defs.specs.Level.{level}
 use Rattle.wave_defs.specs.Pyramid.{Pyramid}
 use Rattle.wave_defs.specs.Blocks.{block_side}
@@ -12,14 +12,14 @@ use Rattle.wave_defs.specs.Within.{EachWithin}
 use Rattle.wave_defs.specs.Held.{SameWithin}
 use Rattle.wave_defs.proofs.LevelSame.{level-same, SameWithin-trans}
 use Rattle.wave_defs.proofs.LevelWithin.{EachWithin-more, level-within}
-use Rattle.wave_plain.specs.Shown.{HasSize, Shows, ShowsBands, image_of, zeros}
+use Rattle.wave_plain.specs.Images.{HasSize, Shows, ShowsBands, image_of, zeros}
 use Rattle.wave_plain.specs.ShownSamples.{samples_of, ShowsSamples, ShowsLevel}
 
 -- a level of samples that show an image is the level of the image
 shown_as : (n m : ℕ) (x y : ℕ → ℕ → ℤ) (p : Plane) → SameWithin n m x y → Shows n m x p → Shows n m y p
 shown_as n m x y p same shown = record { size = shown.size; cells = SameWithin-trans n m _ _ _ shown.cells same }
 
-pub shown_level : (r w n m : ℕ) (a : ℕ → ℕ → ℤ) (s : Samples) (l : Level) → r ≡ 2 * n → w ≡ 2 * m → 2 ≤ n → 2 ≤ m → ShowsSamples r w a s → ShowsLevel (s.rows / 2) (s.width / 2) (level (samples_of s) (s.rows / 2) (s.width / 2)) l → ShowsLevel n m (level a n m) l
+pub shown_level : (r w n m : ℕ) (a : ℕ → ℕ → ℤ) (s : Samples) (l : PlainLevel) → r ≡ 2 * n → w ≡ 2 * m → 2 ≤ n → 2 ≤ m → ShowsSamples r w a s → ShowsLevel (s.rows / 2) (s.width / 2) (level (samples_of s) (s.rows / 2) (s.width / 2)) l → ShowsLevel n m (level a n m) l
 shown_level r w n m a s l er ew hn hm shown made =
     let rows : s.rows / 2 ≡ n = omega (arith, shown.rows_are) in
     let columns : s.width / 2 ≡ m = omega (arith, shown.columns_are) in
@@ -98,10 +98,10 @@ bands_shown r c P b hh1 hl1 lh1 hh2 hl2 lh2 hh3 hl3 lh3 ll3 er ec e ten s0 s1 s2
     }
 
 -- one level after the other
-pub first_shown : (rows width r c : ℕ) (a : ℕ → ℕ → ℤ) (s : Samples) (l : Level) → rows ≡ 8 * r → width ≡ 8 * c → 3 ≤ r → 3 ≤ c → ShowsSamples rows width a s → ShowsLevel (s.rows / 2) (s.width / 2) (level (samples_of s) (s.rows / 2) (s.width / 2)) l → ShowsLevel (4 * r) (4 * c) (level a (4 * r) (4 * c)) l
+pub first_shown : (rows width r c : ℕ) (a : ℕ → ℕ → ℤ) (s : Samples) (l : PlainLevel) → rows ≡ 8 * r → width ≡ 8 * c → 3 ≤ r → 3 ≤ c → ShowsSamples rows width a s → ShowsLevel (s.rows / 2) (s.width / 2) (level (samples_of s) (s.rows / 2) (s.width / 2)) l → ShowsLevel (4 * r) (4 * c) (level a (4 * r) (4 * c)) l
 first_shown rows width r c a s l er ec hr hc shown made = shown_level rows width (4 * r) (4 * c) a s l (omega arith) (omega arith) (omega arith) (omega arith) shown made
 
-pub next_shown : (n m : ℕ) (a : ℕ → ℕ → ℤ) (s : Samples) (l : Level) → 3 ≤ n → 3 ≤ m → ShowsSamples (2 * n) (2 * m) a s → ShowsLevel (s.rows / 2) (s.width / 2) (level (samples_of s) (s.rows / 2) (s.width / 2)) l → ShowsLevel n m (level a n m) l
+pub next_shown : (n m : ℕ) (a : ℕ → ℕ → ℤ) (s : Samples) (l : PlainLevel) → 3 ≤ n → 3 ≤ m → ShowsSamples (2 * n) (2 * m) a s → ShowsLevel (s.rows / 2) (s.width / 2) (level (samples_of s) (s.rows / 2) (s.width / 2)) l → ShowsLevel n m (level a n m) l
 next_shown n m a s l hn hm shown made = shown_level (2 * n) (2 * m) n m a s l refl refl (omega arith) (omega arith) shown made
 
 pub as_double : (n m k l : ℕ) (a : ℕ → ℕ → ℤ) (s : Samples) → k ≡ 2 * n → l ≡ 2 * m → ShowsSamples k l a s → ShowsSamples (2 * n) (2 * m) a s

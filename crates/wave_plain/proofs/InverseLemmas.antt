@@ -10,7 +10,7 @@ use Rattle.wave_defs.specs.Within.{EachWithin, QuartersWithin}
 use Rattle.wave_defs.specs.Held.{SameWithin}
 use Rattle.wave_defs.proofs.LevelSame.{SameWithin-trans, joined-same}
 use Rattle.wave_defs.proofs.LevelWithin.{EachWithin-more, EachWithin-same}
-use Rattle.wave_plain.specs.Shown.{image_of, band_in, quarters_in, zeros, HasSize, Shows}
+use Rattle.wave_plain.specs.Images.{image_of, band_in, quarters_in, zeros, HasSize, Shows}
 
 pub image_at : (b : Bands) (k : ℕ) (p : Plane) → slice_get b.planes.items k ≡ Some p → image_of p ≡ band_in b k
 image_at b k p e =

@@ -10,7 +10,7 @@ use Rattle.wave_defs.proofs.LineLaws.{prediction-same}
 use Rattle.wave_defs.proofs.LevelSame.{SameWithin-trans, rows_merged-same}
 use Rattle.wave_defs.proofs.LevelWithin.{EachWithin-more, EachWithin-same}
 use Rattle.wave_defs.proofs.LiftLaws.{SameWithin-columns_merged}
-use Rattle.wave_plain.specs.Shown.{image_of, Shows}
+use Rattle.wave_plain.specs.Images.{image_of, Shows}
 use Rattle.wave_defs.specs.Rings.{even_rows, odd_rows}
 
 SameWithin-sym : (r w : ℕ) (x y : ℕ → ℕ → ℤ) → SameWithin r w x y → SameWithin r w y x

@@ -7,7 +7,7 @@ use Rattle.wave_defs.specs.Level.{columns_low, columns_high}
 use Rattle.wave_defs.specs.Within.{EachWithin}
 use Rattle.wave_defs.specs.Held.{SameWithin}
 use Rattle.wave_defs.proofs.LevelSame.{columns_low-same, columns_high-same, SameWithin-trans}
-use Rattle.wave_plain.specs.Shown.{Shows}
+use Rattle.wave_plain.specs.Images.{Shows}
 use Rattle.wave_plain.specs.ShownSamples.{samples_of, ShowsSamples, ShowsHalves}
 
 pub shown_within : (b c r w : ℕ) (a : ℕ → ℕ → ℤ) (s : Samples) → b ≤ c → ShowsSamples r w a s → EachWithin b r w a → EachWithin c s.rows s.width (samples_of s)

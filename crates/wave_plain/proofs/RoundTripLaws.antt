@@ -6,7 +6,7 @@ use Rattle.wave_defs.specs.Pyramid.{Pyramid, pyramid, rebuilt}
 use Rattle.wave_defs.specs.Held.{SameWithin, SamePyramid}
 use Rattle.wave_defs.proofs.LevelSame.{SameWithin-trans}
 use Rattle.wave_defs.proofs.PyramidLaws.{rebuilt-pyramid, pyramid-rebuilt, rebuilt-same, pyramid-same, SamePyramid-trans}
-use Rattle.wave_plain.specs.Shown.{image_of, pyramid_in, Shows, ShowsBands}
+use Rattle.wave_plain.specs.Images.{image_of, pyramid_in, Shows, ShowsBands}
 
 pub image_again : (r c : ℕ) (a : ℕ → ℕ → ℤ) (b : Bands) (p : Plane) → 2 ≤ r → 2 ≤ c → ShowsBands r c (pyramid a r c) b → Shows (8 * r) (8 * c) (rebuilt (pyramid_in b) r c) p → Shows (8 * r) (8 * c) a p
 image_again r c a b p hr hc bands image =

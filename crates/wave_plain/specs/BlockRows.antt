@@ -4,7 +4,7 @@ use Rattle.wave_defs.specs.Pyramid.{band_of}
 use Rattle.wave_defs.specs.Within.{PyramidWithin}
 use Rattle.wave_defs.specs.Blocks.{Place, block_side}
 use Rattle.wave_plain.specs.declared.Bands.{Bands}
-use Rattle.wave_plain.specs.Shown.{pyramid_in, IsWhole}
+use Rattle.wave_plain.specs.Images.{pyramid_in, IsWhole}
 
 -- the number at a place of a block row
 abbrev pub number_in : Bands → ℕ → Place → ℤ

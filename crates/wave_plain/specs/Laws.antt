@@ -3,7 +3,7 @@ use Rattle.std.specs.Prelude.{ℕ, ◌*◌, ◌≤◌, ℤ}
 use Rattle.wave_plain.specs.declared.Plane.{Plane}
 use Rattle.wave_plain.specs.declared.Bands.{Bands}
 use Rattle.wave_defs.specs.Pyramid.{Pyramid, pyramid, rebuilt}
-use Rattle.wave_plain.specs.Shown.{image_of, pyramid_in, Shows, ShowsBands}
+use Rattle.wave_plain.specs.Images.{image_of, pyramid_in, Shows, ShowsBands}
 
 pub record RoundTrips : Type 0 where
   -- bands of an image a, then the image of these bands

@@ -1,4 +1,4 @@
-pub mod Shown
+pub mod Images
 pub mod ShownSamples
 pub mod BlockRows
 pub mod Laws

@@ -1,10 +1,10 @@
 -- What the contracts of the passes see of arrays of samples.
 use Rattle.std.specs.Prelude.{◌≡◌, ℕ, ℤ}
 use Rattle.wave_plain.specs.declared.samples.Samples.{Samples}
-use Rattle.wave_plain.specs.declared.level.Level.{Level}
+use Rattle.wave_plain.specs.declared.level.PlainLevel.{PlainLevel}
 use Rattle.wave_defs.specs.Level.{Quarters}
 use Rattle.wave_defs.specs.Held.{grid, SameWithin}
-use Rattle.wave_plain.specs.Shown.{Shows}
+use Rattle.wave_plain.specs.Images.{Shows}
 
 abbrev pub samples_of : Samples → ℕ → ℕ → ℤ
 samples_of s = grid s.width s.cells.items
@@ -21,7 +21,7 @@ pub record ShowsHalves (rows columns : ℕ) (a b : ℕ → ℕ → ℤ) (s : Sam
   pub high : ShowsSamples rows columns b s.1
 
 -- the bands of a level, n rows of m samples in each
-pub record ShowsLevel (n m : ℕ) (q : Quarters) (l : Level) : Type 0 where
+pub record ShowsLevel (n m : ℕ) (q : Quarters) (l : PlainLevel) : Type 0 where
   pub ll : ShowsSamples n m q.ll l.ll
   pub hl : Shows n m q.hl l.hl
   pub lh : Shows n m q.lh l.lh

@@ -3,7 +3,7 @@ ghost use Rattle.std.specs.Prelude.{◌≡◌, ◌<◌, ◌+◌, ◌*◌, ◌^�
 ghost use Rattle.base_122.specs.Weights.{band_place};
 ghost use Rattle.wave_defs.specs.Blocks.{block_side};
 ghost use Rattle.wave_defs.specs.Within.{IsWithin};
-ghost use Rattle.wave_plain.specs.Shown.{image_of};
+ghost use Rattle.wave_plain.specs.Images.{image_of};
 ghost use Rattle.wave_plain.specs.BlockRows.{IsBlockRow};
 
 use crate::{Bands, Plane};

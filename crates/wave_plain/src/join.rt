@@ -3,7 +3,7 @@
 ghost use Rattle.std.specs.Prelude.{◌≡◌, ◌*◌, ◌^◌, ◌<◌, ◌≤◌, IfOk, vec_len};
 ghost use Rattle.wave_defs.specs.Level.{joined, columns_merged, rows_merged};
 ghost use Rattle.wave_defs.specs.Within.{EachWithin, QuartersWithin};
-ghost use Rattle.wave_plain.specs.Shown.{image_of, quarters_in, zeros, HasSize, Shows};
+ghost use Rattle.wave_plain.specs.Images.{image_of, quarters_in, zeros, HasSize, Shows};
 
 use crate::{Plane, columns, rows};
 use std::alloc::{AllocError, Global};

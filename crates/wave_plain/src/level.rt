@@ -10,7 +10,7 @@ use std::alloc::{AllocError, Global};
 
 /// The four bands of a level; the low one is split by the next level.
 #[derive(Drop)]
-pub struct Level {
+pub struct PlainLevel {
     pub ll: Samples,
     pub hl: Plane,
     pub lh: Plane,
@@ -68,7 +68,7 @@ impl Samples {
     }
 
     /// Returns the four bands of one level.
-    pub fn level(&self, alloc: Global) -> Result<Level, AllocError>
+    pub fn level(&self, alloc: Global) -> Result<PlainLevel, AllocError>
         requires even { self.now.width ≡ 2 * (self.now.width / 2) }
         requires long { 6 ≤ self.now.width }
         requires even_rows { self.now.rows ≡ 2 * (self.now.rows / 2) }
@@ -81,7 +81,7 @@ impl Samples {
         let (low, high) = self.halve_rows(alloc)?;
         let (ll, lh) = low.halve_columns(alloc)?;
         let (hl, hh) = high.halve_columns(alloc)?;
-        Ok(Level {
+        Ok(PlainLevel {
             ll,
             hl: hl.widened(alloc)?,
             lh: lh.widened(alloc)?,

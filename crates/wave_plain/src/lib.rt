@@ -6,7 +6,7 @@ ghost use Rattle.wave_defs.specs.Pyramid.{pyramid, rebuilt};
 ghost use Rattle.wave_defs.specs.Blocks.{block_side};
 ghost use Rattle.wave_defs.specs.Within.{EachWithin, PyramidWithin};
 ghost use Rattle.wave_plain.specs.Laws.{RoundTrips};
-ghost use Rattle.wave_plain.specs.Shown.{image_of, band_in, pyramid_in, HasSize, IsWhole, Shows, ShowsBands};
+ghost use Rattle.wave_plain.specs.Images.{image_of, band_in, pyramid_in, HasSize, IsWhole, Shows, ShowsBands};
 
 mod block_row;
 mod columns;

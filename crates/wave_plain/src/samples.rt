@@ -40,7 +40,7 @@ fn widen(from: &[i32], to: &mut [i64])
 impl Samples {
     ghost use Rattle.std.specs.Prelude.{◌≡◌, ℕ, ◌+◌, ◌*◌, ◌-◌, ◌/◌, ◌^◌, ◌<◌, ◌≤◌, length, IfOk, vec_len};
     ghost use Rattle.wave_defs.specs.Within.{EachWithin};
-    ghost use Rattle.wave_plain.specs.Shown.{image_of, zeros, Shows};
+    ghost use Rattle.wave_plain.specs.Images.{image_of, zeros, Shows};
     ghost use Rattle.wave_plain.specs.ShownSamples.{samples_of, ShowsSamples};
 
     /// Returns zeros.

@@ -2,7 +2,7 @@
 use Rattle.std.proofs.Common.{◌≡◌, ℕ, ◌/◌, ◌<◌, ◌≤◌, ◌^◌, arith}
 use Rattle.wave_defs.specs.Within.{PyramidWithin}
 use Rattle.wave_plain.specs.declared.Bands.{Bands}
-use Rattle.wave_plain.specs.Shown.{IsWhole, pyramid_in}
+use Rattle.wave_plain.specs.Images.{IsWhole, pyramid_in}
 use Rattle.wave_plain.specs.BlockRows.{IsBlockRow}
 
 pub block_row : (b : Bands) (r c row : ℕ) → r ≤ 2 ^ 15 → IsWhole r c b → PyramidWithin 409600 2560000 16000000 r c (pyramid_in b) → row < r → IsBlockRow b row

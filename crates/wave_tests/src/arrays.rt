@@ -2,7 +2,7 @@
 
 ghost use Rattle.std.specs.Prelude.{◌≡◌, ℕ, ◌^◌, ◌<◌, IfOk};
 ghost use Rattle.wave_defs.specs.Within.{IsWithin, EachWithin};
-ghost use Rattle.wave_plain.specs.Shown.{image_of, HasSize};
+ghost use Rattle.wave_plain.specs.Images.{image_of, HasSize};
 
 use std::alloc::{AllocError, Global};
 use std::test::Fail;

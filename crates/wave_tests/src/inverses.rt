@@ -4,7 +4,7 @@ ghost use Rattle.std.specs.Prelude.{◌≡◌, ◌≤◌, ◌<◌, ◌*◌, ◌^
 ghost use Rattle.std.specs.Result.{OnOk};
 ghost use Rattle.wave_defs.specs.Within.{EachWithin, IsWithin};
 ghost use Rattle.wave_plain.specs.BlockRows.{IsBlockRow};
-ghost use Rattle.wave_plain.specs.Shown.{HasSize, image_of};
+ghost use Rattle.wave_plain.specs.Images.{HasSize, image_of};
 ghost use Rattle.inverse_strip.specs.Kept.{IsIdle};
 ghost use Rattle.inverse_strip.specs.Strip.{Keeps, columns_of, height_of, next_of, taken_of};
 

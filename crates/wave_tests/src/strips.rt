@@ -4,7 +4,7 @@ ghost use Rattle.std.specs.Prelude.{◌≡◌, ◌<◌, ◌^◌, ℕ, IfOk, fals
 ghost use Rattle.wave_defs.specs.Within.{AllWithin, EachWithin, IsWithin};
 ghost use Rattle.wave_defs.specs.Held.{signal};
 ghost use Rattle.wave_plain.specs.BlockRows.{IsBlockRow};
-ghost use Rattle.wave_plain.specs.Shown.{HasSize, image_of};
+ghost use Rattle.wave_plain.specs.Images.{HasSize, image_of};
 ghost use Rattle.wave_strip.specs.Strip.{IsAtStart, columns_of, has_ended, is_standing, rows_of};
 
 use base_122::Band;

@@ -4,7 +4,7 @@ use Rattle.wave_defs.specs.Pyramid.{pyramid, pyramid_of}
 use Rattle.wave_defs.specs.Within.{EachWithin}
 use Rattle.wave_defs.proofs.LevelWithin.{EachWithin-more}
 use Rattle.wave_defs.proofs.PyramidLaws.{pyramid-within, PyramidWithin-same}
-use Rattle.wave_plain.specs.Shown.{image_of}
+use Rattle.wave_plain.specs.Images.{image_of}
 use Rattle.wave_plain.proofs.LevelLemmas.{shown_within, shown_widened}
 use Rattle.wave_plain.proofs.ForwardLemmas.{first_shown, next_shown, as_double, first_within, second_within, bands_shown}
 use Rattle.wave_plain.proofs.forward3.Goals as goal

@@ -1,7 +1,7 @@
 use Rattle.std.proofs.Common.{◌*◌, ◌/◌, ◌^◌, arith}
 use Rattle.std.proofs.lemmas.Result.{IfOk-weaker}
 use Rattle.wave_defs.proofs.PyramidLaws.{third_of-within, second_of-within, first_of-within}
-use Rattle.wave_plain.specs.Shown.{pyramid_in}
+use Rattle.wave_plain.specs.Images.{pyramid_in}
 use Rattle.wave_plain.proofs.InverseLemmas.{shown_plane, four_sized, four_within, third_shown, second_shown, first_shown, rebuilt_shown}
 use Rattle.wave_plain.proofs.inverse3.Goals as goal
 

@@ -2,14 +2,14 @@ use Rattle.std.proofs.Common.{arith, ap, subst, sym, ◌≡◌, ◌+◌, ◌-◌
 use Rattle.base_122.specs.declared.geometry.Geometry.{Geometry}
 use Rattle.base_122.specs.Sizes.{total_blocks}
 use Rattle.block_families.specs.Places.{AreWeighted}
-use Rattle.picture_rows.specs.Pictures.{shown}
+use Rattle.picture_rows.specs.Pictures.{picture_state}
 use Rattle.bare_stream.specs.Blocks.{HasPutBlocks}
 use Rattle.wave_defs.specs.Held.{block_at}
 use Rattle.bare_stream.proofs.BlocksPut.{none_put, put_then, broke_then, puts_failed}
 use Rattle.bare_stream.proofs.blocks.put_blocks.Goals as goal
 
 pub loop-place-init : goal.loop-place-init
-loop-place-init g c = none_put c.args.blocks.now (shown c.args.picture.now) (g.X.Port.outside c.args.port.now) c.requires.standing
+loop-place-init g c = none_put c.args.blocks.now (picture_state c.args.picture.now) (g.X.Port.outside c.args.port.now) c.requires.standing
 
 pub put_block-requires-clause-standing : goal.put_block-requires-clause-standing
 put_block-requires-clause-standing g c = c.loop-place.invariant.standing
@@ -27,14 +27,14 @@ pub returns-in_err-put_block : goal.returns-in_err-put_block
 returns-in_err-put_block g c =
     let block : 64 * c.loop-place.place + 64 - 64 * c.loop-place.place ≡ 64 = omega arith in
     puts_failed c.from_residual.result c.args.blocks.now c.args.count _ c.from_residual.ensures.0
-    (broke_then c.args.blocks.now c.loop-place.place (shown c.args.picture.now) (shown c.loop-place.picture) c.loop-place.invariant {c = g.X.Port.outside c.put_block.new.port} c.args.count c.loop-place-test.true c.requires.standing c.requires.room (rw block at c.in_err-put_block.ensures))
+    (broke_then c.args.blocks.now c.loop-place.place (picture_state c.args.picture.now) (picture_state c.loop-place.picture) c.loop-place.invariant {c = g.X.Port.outside c.put_block.new.port} c.args.count c.loop-place-test.true c.requires.standing c.requires.room (rw block at c.in_err-put_block.ensures))
 
 pub loop-place-preserved : goal.loop-place-preserved
 loop-place-preserved g c =
     let block : 64 * c.loop-place.place + 64 - 64 * c.loop-place.place ≡ 64 = omega arith in
-    put_then c.args.blocks.now c.loop-place.place (shown c.args.picture.now) (shown c.loop-place.picture) c.loop-place.invariant {c = g.X.Port.outside c.put_block.new.port} (shown c.put_block.new.picture) (rw block at c.in_ok-put_block.ensures)
+    put_then c.args.blocks.now c.loop-place.place (picture_state c.args.picture.now) (picture_state c.loop-place.picture) c.loop-place.invariant {c = g.X.Port.outside c.put_block.new.port} (picture_state c.put_block.new.picture) (rw block at c.in_ok-put_block.ensures)
 
 pub returns : goal.returns
 returns g c =
     let end = c.loop-place.auto.place-end in
-    subst (λ n. HasPutBlocks c.args.blocks.now n (g.X.Port.outside c.args.port.now) (g.X.Port.outside c.loop-place.port) (shown c.args.picture.now) (shown c.loop-place.picture)) (omega (arith, end, c.loop-place-test.false)) c.loop-place.invariant
+    subst (λ n. HasPutBlocks c.args.blocks.now n (g.X.Port.outside c.args.port.now) (g.X.Port.outside c.loop-place.port) (picture_state c.args.picture.now) (picture_state c.loop-place.picture)) (omega (arith, end, c.loop-place-test.false)) c.loop-place.invariant

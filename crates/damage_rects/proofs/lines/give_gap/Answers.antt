@@ -1,7 +1,7 @@
 use Rattle.std.proofs.Common.{◌≡◌, ◌-◌, ◌/◌, ◌+◌, ◌≤◌, [], ◌∷◌, List, ℕ, arith, sym, subst, take}
 use Rattle.std.specs.Prelude.{filter}
 use Rattle.std.specs.List.{flat_map}
-use Rattle.port_122.specs.Outside.{Since, NoRead, WritesAll}
+use Rattle.port_122.specs.Outside.{Exchange, NoRead, WritesAll}
 use Rattle.base_122.specs.Sizes.{block_count}
 use Rattle.rect_defs.specs.declared.gap.Gap.{Gap}
 use Rattle.rect_defs.specs.Gaps.{gap_rect, gap_rows}
@@ -48,7 +48,7 @@ loop-block_row-preserved g c =
     let high : row ≤ gap.last / block_count width = rw (sym c.columns_of-columns.ensures) (omega arith) in
     let at = row_at width gap row low high in
     let next : row - gap.first / block_count width + 1 ≡ row + 1 - gap.first / block_count width = omega (arith, low) in
-    subst (λ i. Since (g.X.Port.outside c.args.port.now) (g.X.Port.outside c.give_part.new.port) [] (flat_map (line c.args.size.now gap) (take i (gap_rows width gap))) [] NoRead) next
+    subst (λ i. Exchange (g.X.Port.outside c.args.port.now) (g.X.Port.outside c.give_part.new.port) [] (flat_map (line c.args.size.now gap) (take i (gap_rows width gap))) [] NoRead) next
     (given_more (line c.args.size.now gap) (gap_rows width gap) (g.X.Port.outside c.args.port.now) (g.X.Port.outside c.loop-block_row.port) (g.X.Port.outside c.give_part.new.port)
     (row - gap.first / block_count width) row at.0 at.1 c.loop-block_row.invariant c.in_ok-give_part.ensures)
 
@@ -58,5 +58,5 @@ returns g c =
     let gap = c.args.gap.now in
     let row = c.loop-block_row.block_row in
     let end : gap.last / block_count width + 1 ≤ row = rw (sym c.columns_of-columns.ensures) (omega arith) in
-    subst (λ octets. Since (g.X.Port.outside c.args.port.now) (g.X.Port.outside c.loop-block_row.port) [] octets [] NoRead) (lines_each (has_pixels c.args.size.now.rows width) (gap_rect c.args.size.now.rows width gap) (gap_rows width gap))
+    subst (λ octets. Exchange (g.X.Port.outside c.args.port.now) (g.X.Port.outside c.loop-block_row.port) [] octets [] NoRead) (lines_each (has_pixels c.args.size.now.rows width) (gap_rect c.args.size.now.rows width gap) (gap_rows width gap))
     (given_all (line c.args.size.now gap) (gap_rows width gap) (g.X.Port.outside c.args.port.now) (g.X.Port.outside c.loop-block_row.port) (row - gap.first / block_count width) (rows_end width gap row end) c.loop-block_row.invariant)

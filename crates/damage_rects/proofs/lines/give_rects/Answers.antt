@@ -1,7 +1,7 @@
 use Rattle.std.proofs.Common.{List, [], ℕ, get_or, arith, subst}
 use Rattle.std.proofs.lemmas.List.Elements.{All-get_or}
 use Rattle.std.proofs.lemmas.List.{get_or_default}
-use Rattle.port_122.specs.Outside.{Since, NoRead, WritesAll}
+use Rattle.port_122.specs.Outside.{Exchange, NoRead, WritesAll}
 use Rattle.rect_defs.specs.declared.gap.Gap.{Gap}
 use Rattle.rect_defs.specs.Gaps.{gap_rects}
 use Rattle.rect_defs.specs.RectLines.{rect_lines}
@@ -35,5 +35,5 @@ loop-gap-preserved g c =
 
 pub returns : goal.returns
 returns g c =
-    subst (λ octets. Since (g.X.Port.outside c.args.port.now) (g.X.Port.outside c.loop-gap.port) [] octets [] NoRead) (lines_all (gap_rects c.args.size.now.rows c.args.size.now.width) c.args.gaps.now)
+    subst (λ octets. Exchange (g.X.Port.outside c.args.port.now) (g.X.Port.outside c.loop-gap.port) [] octets [] NoRead) (lines_all (gap_rects c.args.size.now.rows c.args.size.now.width) c.args.gaps.now)
     (given_all (lines c.args.size.now) c.args.gaps.now (g.X.Port.outside c.args.port.now) (g.X.Port.outside c.loop-gap.port) c.loop-gap.gap-index (omega arith) c.loop-gap.invariant)

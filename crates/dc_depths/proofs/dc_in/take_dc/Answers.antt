@@ -20,14 +20,14 @@ returns-in_default g c =
     let t = rw c.in_default.is at c.in_ok-take_high.ensures in
     dc_cut plan.depth_dc plan.depth_ac plan.shift t (ended_cut t.ending t.answer)
 
-pub take_planes-requires-clause-open : goal.take_planes-requires-clause-open
-take_planes-requires-clause-open g c =
+pub take_dc_planes-requires-clause-open : goal.take_dc_planes-requires-clause-open
+take_dc_planes-requires-clause-open g c =
     let plan = c.args.plan.now in
     let t = rw c.in-Whole.is at c.in_ok-take_high.ensures in
     high_in plan.depth_dc plan.depth_ac plan.shift t c.requires.open (whole_ending t.ending t.answer)
 
-pub take_planes-requires-clause-room : goal.take_planes-requires-clause-room
-take_planes-requires-clause-room g c =
+pub take_dc_planes-requires-clause-room : goal.take_dc_planes-requires-clause-room
+take_dc_planes-requires-clause-room g c =
     let plan = c.args.plan.now in
     let t = rw c.in-Whole.is at c.in_ok-take_high.ensures in
     let small = q_small plan.depth_dc plan.depth_ac plan.shift c.requires.dc c.requires.shift in
@@ -39,4 +39,4 @@ pub returns : goal.returns
 returns g c =
     let plan = c.args.plan.now in
     let t = rw c.in-Whole.is at c.in_ok-take_high.ensures in
-    dc_then plan.depth_dc plan.depth_ac plan.shift t (whole_ending t.ending t.answer) c.take_planes.ensures
+    dc_then plan.depth_dc plan.depth_ac plan.shift t (whole_ending t.ending t.answer) c.take_dc_planes.ensures

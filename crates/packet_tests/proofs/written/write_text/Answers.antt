@@ -5,7 +5,7 @@ use Rattle.packet_defs.specs.Packets.{part_size}
 use Rattle.space_packets.specs.declared.stage.Text.{Text}
 use Rattle.space_packets.specs.Stages.{given_in}
 use Rattle.space_packets.specs.Progress.{Progress}
-use Rattle.space_packets.specs.Writes.{GoesOn, TextCut}
+use Rattle.space_packets.specs.Writes.{Continues, TextCut}
 use Rattle.space_packets.specs.Sink.{Gave}
 use Rattle.space_packets.specs.SinkLaws.{gave_nothing, gave_both, broke_after}
 use Rattle.space_packets.proofs.WholeCalls.{some_wait, text_cut, text_closed}
@@ -33,9 +33,9 @@ loop-octet-preserved g c =
 
 -- what is behind a loan is the last value under its name
 sent_to : {X : Type 0} (outside : X → Outside) (x y : X) (w u : Progress) {t : Text} {p : Outside} {v : Progress} {text : List ℕ} → x ≡ y → w ≡ u →
-    GoesOn t p (outside y) v u text → GoesOn t p (outside x) v w text
+    Continues t p (outside y) v u text → Continues t p (outside x) v w text
 sent_to outside x y w u {t = t} {p = p} {v = v} {text = text} e f sent =
-    subst (λ x. GoesOn t p (outside x) v w text) (sym e) (subst (λ w. GoesOn t p (outside y) v w text) (sym f) sent)
+    subst (λ x. Continues t p (outside x) v w text) (sym e) (subst (λ w. Continues t p (outside y) v w text) (sym f) sent)
 
 cut_to : {X : Type 0} (outside : X → Outside) (x y : X) (w u : Progress) {t : Text} {p : Outside} {v : Progress} {text : List ℕ} → x ≡ y → w ≡ u →
     TextCut t p (outside y) v u text → TextCut t p (outside x) v w text

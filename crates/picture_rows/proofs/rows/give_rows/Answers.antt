@@ -1,9 +1,9 @@
-use Rattle.picture_rows.specs.Pictures.{shown}
+use Rattle.picture_rows.specs.Pictures.{picture_state}
 use Rattle.picture_rows.proofs.RowGives.{given_nothing, given_then, given_all, given_broken, rows_failed, row_less}
 use Rattle.picture_rows.proofs.rows.give_rows.Goals as goal
 
 pub loop-init : goal.loop-init
-loop-init g c = given_nothing (g.X.Port.outside c.args.port.now) (shown c.args.picture.now) c.requires.sized
+loop-init g c = given_nothing (g.X.Port.outside c.args.port.now) (picture_state c.args.picture.now) c.requires.sized
 
 pub returns-in_err-give_row : goal.returns-in_err-give_row
 returns-in_err-give_row g c = rows_failed _ c.from_residual.result c.from_residual.ensures.0 (given_broken c.loop.invariant c.in_err-give_row.ensures)

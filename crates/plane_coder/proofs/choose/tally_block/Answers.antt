@@ -34,5 +34,5 @@ returns c =
     let weights = plan.weights.shifts in
     let there = words_there cells c.args.marks.now weights plan.plane plan.q r d c.requires.whole c.requires.within depth in
     let words = λ (b : List ℤ) (p : CodedPlane). parents b p.weights.shifts p.plane ++ (children b p.weights.shifts p.plane ++ grandchildren b p.weights.shifts p.plane) in
-    let same = ap (λ b. words b c.seen.result.plan.now) c.seen.ensures.block ∙ ap (words block) c.seen.ensures.plan ∙ deep_words block weights plan.plane plan.q d c.if-depth_of-view.false ∙ there in
+    let same = ap (λ b. words b c.plane_masks.result.plan.now) c.plane_masks.ensures.block ∙ ap (words block) c.plane_masks.ensures.plan ∙ deep_words block weights plan.plane plan.q d c.if-depth_of-view.false ∙ there in
     subst (λ l. Counts c.args.tally.now c.add_block.new.self l 21) same c.add_block.ensures

@@ -27,7 +27,7 @@ put_quads-requires-3-clause-enclosing g c = c.has-3.ensures _ 0 3 c.requires.set
 pub returns-in_err-put_quads : goal.returns-in_err-put_quads
 unfolding set_significant
 returns-in_err-put_quads g c =
-    let s = c.args.seen.now in
+    let s = c.args.plane_masks.now in
     let block = s.block.now in
     let weights = s.plan.now.weights.shifts in
     let plane = s.plan.now.plane in
@@ -40,7 +40,7 @@ returns-in_err-put_quads g c =
 pub returns-in_err-put_quads-2 : goal.returns-in_err-put_quads-2
 unfolding set_significant
 returns-in_err-put_quads-2 g c =
-    let s = c.args.seen.now in
+    let s = c.args.plane_masks.now in
     let block = s.block.now in
     let weights = s.plan.now.weights.shifts in
     let plane = s.plan.now.plane in
@@ -55,7 +55,7 @@ returns-in_err-put_quads-2 g c =
 pub returns : goal.returns
 unfolding set_significant
 returns g c =
-    let s = c.args.seen.now in
+    let s = c.args.plane_masks.now in
     let k = g.O.OctetOut.sink in
     let block = s.block.now in
     let weights = s.plan.now.weights.shifts in
@@ -68,7 +68,7 @@ returns g c =
     let two = more_spelled f 0 1 _ (of_family_is block weights plane c.has-2.result 1 second) one c.in_ok-put_quads-2.ensures.spells in
     let all = ap (λ l. flat_map f (span 0 2) ++ l) (of_family_is block weights plane c.has-3.result 2 third) ∙ sym (flat_map-span-suc f 0 2) ∙ families_are block weights plane in
     record {
-      spells = subst (λ l. Spells k c.args.spoken.now.tables.now.book c.args.speech.now.gaggle c.put_quads-3.new.speech.gaggle c.put_quads-3.result (stand k c.args.out.now) (stand k c.put_quads-3.new.out) l) all
+      spells = subst (λ l. Spells k c.args.option_codes.now.tables.now.book c.args.pending.now.gaggle c.put_quads-3.new.pending.gaggle c.put_quads-3.result (stand k c.args.out.now) (stand k c.put_quads-3.new.out) l) all
           (spells_both two c.put_quads-3.ensures.spells);
       silent = c.put_quads-3.ensures.silent;
     }

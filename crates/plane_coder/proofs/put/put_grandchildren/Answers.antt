@@ -1,7 +1,7 @@
 use Rattle.std.proofs.Common.{◌∙◌, sym, arith}
 use Rattle.std.proofs.lemmas.Result.{err_from_is_err_and}
 use Rattle.plane_defs.specs.Entries.{all_quads}
-use Rattle.plane_coder.proofs.Speaking.{silent_load, spells_said}
+use Rattle.plane_coder.proofs.Appending.{silent_load, spells_said}
 use Rattle.plane_coder.proofs.Spelling.{spells_both, spells_cut}
 use Rattle.plane_coder.proofs.put.put_grandchildren.Goals as goal
 
@@ -9,7 +9,7 @@ pub word-requires : goal.word-requires
 word-requires g c = record {
   packed = c.flags_of_grandchildren.ensures.packed;
   same = c.requires.same;
-  room = omega (arith, silent_load c.args.speech.now c.requires.silent);
+  room = omega (arith, silent_load c.args.pending.now c.requires.silent);
 }
 
 pub put_all_quads-requires : goal.put_all_quads-requires
@@ -24,7 +24,7 @@ put_all_quads-requires g c =
 
 pub returns-in_err-put : goal.returns-in_err-put
 returns-in_err-put g c =
-    let s = c.args.seen.now in
+    let s = c.args.plane_masks.now in
     let rest = all_quads s.block.now s.plan.now.weights.shifts s.plan.now.plane in
     let p = err_from_is_err_and c.from_residual.result c.from_residual.ensures.1 in
     let first = spells_said 8 c.requires.«open» c.requires.silent c.word.ensures c.in_err-put.ensures.puts c.in_err-put.ensures.gaggle in

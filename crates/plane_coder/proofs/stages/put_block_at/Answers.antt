@@ -16,5 +16,5 @@ returns g c =
     let plan = c.args.view.now.plan.now in
     let is = stage_there c.args.stage c.args.view.now.blocks.now c.args.marks.now plan.weights.shifts plan.plane plan.q c.args.r c.depth_of.result c.requires.whole c.requires.within depth in
     let k = g.O.OctetOut.sink in
-    let here = subst (λ (t : CodeTables). Spells k t.book c.args.speech.now.gaggle c.put_block.new.speech.gaggle c.put_block.result (stand k c.args.out.now) (stand k c.put_block.new.out) (block_entries c.args.stage (slice_range c.args.view.now.blocks.now (64 * c.args.r) (64 * c.args.r + 64)) c.depth_of.result plan.weights.shifts plan.plane plan.q)) c.requires.tables c.put_block.ensures.spells in
-    record { spells = subst (λ l. Spells k c.args.view.now.tables.now.book c.args.speech.now.gaggle c.put_block.new.speech.gaggle c.put_block.result (stand k c.args.out.now) (stand k c.put_block.new.out) l) is here; silent = c.put_block.ensures.silent }
+    let here = subst (λ (t : CodeTables). Spells k t.book c.args.pending.now.gaggle c.put_block_stage.new.pending.gaggle c.put_block_stage.result (stand k c.args.out.now) (stand k c.put_block_stage.new.out) (block_entries c.args.stage (slice_range c.args.view.now.blocks.now (64 * c.args.r) (64 * c.args.r + 64)) c.depth_of.result plan.weights.shifts plan.plane plan.q)) c.requires.tables c.put_block_stage.ensures.spells in
+    record { spells = subst (λ l. Spells k c.args.view.now.tables.now.book c.args.pending.now.gaggle c.put_block_stage.new.pending.gaggle c.put_block_stage.result (stand k c.args.out.now) (stand k c.put_block_stage.new.out) l) is here; silent = c.put_block_stage.ensures.silent }

@@ -55,7 +55,7 @@ returns g c =
     let all : c.loop-place.place ≡ gaggle_size plane c.args.g =
     omega (arith, c.min-place-end.ensures, c.loop-place-test.false, c.loop-place.auto.place-end, length-depths_of c.args.marks.now) in
     record {
-      spells = subst (λ n. Spells g.O.OctetOut.sink c.args.view.now.tables.now.book c.args.speech.now.gaggle c.loop-place.speech.gaggle (Ok tt) (stand g.O.OctetOut.sink c.args.out.now) (stand g.O.OctetOut.sink c.loop-place.out)
+      spells = subst (λ n. Spells g.O.OctetOut.sink c.args.view.now.tables.now.book c.args.pending.now.gaggle c.loop-place.pending.gaggle (Ok tt) (stand g.O.OctetOut.sink c.args.out.now) (stand g.O.OctetOut.sink c.loop-place.out)
           (flat_map (of_block plane c.args.stage) (span (16 * c.args.g) n))) all c.loop-place.invariant.so_far;
       silent = c.loop-place.invariant.silent;
     }

@@ -11,8 +11,8 @@ use Rattle.plane_coder.proofs.stages.put_gaggle.Given as goal
 
 abbrev pub invariant-loop-place : goal.invariant-loop-place
 invariant-loop-place g l = record {
-  so_far : Spells g.O.OctetOut.sink l.view.tables.now.book l.initial.speech.gaggle l.speech.gaggle (Ok tt) (stand g.O.OctetOut.sink l.initial.out) (stand g.O.OctetOut.sink l.out)
+  so_far : Spells g.O.OctetOut.sink l.view.tables.now.book l.initial.pending.gaggle l.pending.gaggle (Ok tt) (stand g.O.OctetOut.sink l.initial.out) (stand g.O.OctetOut.sink l.out)
       (flat_map (of_block (plane_in l.view (depths_of l.marks)) l.stage) (span (16 * l.g) l.place));
   is_open : IsOpen (stand g.O.OctetOut.sink l.out);
-  silent : l.speech.count ≡ 0;
+  silent : l.pending.count ≡ 0;
 }

@@ -34,8 +34,8 @@ loop-g-init g c =
       agree = none_agree p c.args.number c.args.marks.now c.requires.agree;
     }
 
-pub new-speech-requires : goal.new-speech-requires
-new-speech-requires g c =
+pub new-pending-requires : goal.new-pending-requires
+new-pending-requires g c =
     let within : 16 * c.loop-g.g < length c.args.marks.now = omega (arith, c.div_ceil-g-end.ensures, c.loop-g-test.true) in
     subst AreOptions (sym (c.load.ensures.options ∙ c.loop-g.invariant.same.options c.loop-g.g)) (c.requires.known.at c.loop-g.g within)
 
@@ -47,7 +47,7 @@ loop-g-preserved g c =
     let m1 = c.loop-g.marks in
     let p = plane_in view (depths_of m0) in
     let below : c.loop-g.g < gaggles p = omega (arith, c.div_ceil-g-end.ensures, c.loop-g-test.true, length-depths_of m0) in
-    let gaggle = c.new-speech.ensures.gaggle in
+    let gaggle = c.new-pending.ensures.gaggle in
     let options = ap (λ (h : Gaggle). h.options) gaggle ∙ c.load.ensures.options ∙ i.same.options c.loop-g.g in
     let agrees = subst (λ f. Agrees f (before_stage p c.args.number c.loop-g.g)) (sym (ap (λ (h : Gaggle). h.sent) gaggle ∙ c.load.ensures.sent)) (i.agree.todo c.loop-g.g (omega arith) below) in
     let put = gaggle_puts view (depths_of m0) (depths_of m1) (options_at m0) c.stage_at.result c.args.number c.loop-g.g i.same.depths c.stage_at.ensures options agrees c.in_ok-put_gaggle.ensures.spells in
@@ -68,7 +68,7 @@ returns-in_err-put_gaggle g c =
     let m1 = c.loop-g.marks in
     let p = plane_in view (depths_of m0) in
     let below : c.loop-g.g < gaggles p = omega (arith, c.div_ceil-g-end.ensures, c.loop-g-test.true, length-depths_of m0) in
-    let gaggle = c.new-speech.ensures.gaggle in
+    let gaggle = c.new-pending.ensures.gaggle in
     let options = ap (λ (h : Gaggle). h.options) gaggle ∙ c.load.ensures.options ∙ i.same.options c.loop-g.g in
     let agrees = subst (λ f. Agrees f (before_stage p c.args.number c.loop-g.g)) (sym (ap (λ (h : Gaggle). h.sent) gaggle ∙ c.load.ensures.sent)) (i.agree.todo c.loop-g.g (omega arith) below) in
     let put = gaggle_puts view (depths_of m0) (depths_of m1) (options_at m0) c.stage_at.result c.args.number c.loop-g.g i.same.depths c.stage_at.ensures options agrees c.in_err-put_gaggle.ensures.spells in

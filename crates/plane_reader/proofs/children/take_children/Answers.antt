@@ -26,20 +26,20 @@ returns-in_err-new-clause-children g c = λ f stage earlier done after next.
     let own = shows_own c.args.above 64 c.ranges.above.fits in
     let t = rw c.in-Some.is at c.in_ok-all.ensures in
     let w = rw c.is_new-is_wanted.ensures at c.in_err-new.ensures in
-    rw (e.1, e.2) (families_fail next c.of-before.result (c.of-before.ensures (λ p. bit c.args.above p) own) c.requires.known c.args.found.now c.in-Some.all t.flag c.masked-due.result c.beside.result
-    (λ x y a b. c.beside.ensures.told x y 0 3 a b) (λ x a. c.masked-due.ensures.told x 0 3 a) w.places)
+    rw (e.1, e.2) (families_fail next c.of-before.result (c.of-before.ensures (λ p. bit c.args.above p) own) c.requires.known c.args.found.now c.in-Some.all t.flag c.masked-due.result c.except.result
+    (λ x y a b. c.except.ensures.told x y 0 3 a b) (λ x a. c.masked-due.ensures.told x 0 3 a) w.places)
 
 pub returns-in_default-2-clause-children : goal.returns-in_default-2-clause-children
 returns-in_default-2-clause-children g c = λ f stage earlier done after next.
     let own = shows_own c.args.above 64 c.ranges.above.fits in
     let t = rw c.in-Some.is at c.in_ok-all.ensures in
     let w = rw (c.is_new-is_wanted.ensures, c.in_default-2.is) at c.in_ok-new.ensures in
-    no_families next c.of-before.result (c.of-before.ensures (λ p. bit c.args.above p) own) c.requires.known c.args.found.now c.in-Some.all t.flag c.masked-due.result c.beside.result
-    (λ x y a b. c.beside.ensures.told x y 0 3 a b) (λ x a. c.masked-due.ensures.told x 0 3 a) w.places
+    no_families next c.of-before.result (c.of-before.ensures (λ p. bit c.args.above p) own) c.requires.known c.args.found.now c.in-Some.all t.flag c.masked-due.result c.except.result
+    (λ x y a b. c.except.ensures.told x y 0 3 a b) (λ x a. c.masked-due.ensures.told x 0 3 a) w.places
 
-pub take_some-requires-clause-due : goal.take_some-requires-clause-due
-take_some-requires-clause-due g c =
-    let few = c.beside.ensures.within 3 c.args.terms.now.plan.now.live_shown.families.small in
+pub take_some_types-requires-clause-due : goal.take_some_types-requires-clause-due
+take_some_types-requires-clause-due g c =
+    let few = c.except.ensures.within 3 c.args.terms.now.plan.now.live_shown.families.small in
     let le = c.masked-due.ensures.within in
     omega (arith, few, le)
 
@@ -49,9 +49,9 @@ returns-in_err-take_groups-clause-children g c = λ f stage earlier done after n
     let own = shows_own c.args.above 64 c.ranges.above.fits in
     let t = rw c.in-Some.is at c.in_ok-all.ensures in
     let w = rw (c.is_new-is_wanted.ensures, c.in-Some-2.is) at c.in_ok-new.ensures in
-    rw (e.1, e.2) (types_fail next c.of-before.result (c.of-before.ensures (λ p. bit c.args.above p) own) c.requires.known c.args.found.now c.in-Some.all t.flag c.masked-due.result c.beside.result
-    (λ x y a b. c.beside.ensures.told x y 0 3 a b) (λ x a. c.masked-due.ensures.told x 0 3 a) c.in-Some-2.new w.places c.either-families.result c.beside-2.result c.beside-types.result
-    (λ x y a b. c.either-families.ensures x y 0 3 a b) (λ x y a b. c.beside-2.ensures.told y x 0 3 b a) (λ x y a b. c.beside-types.ensures.told x y 0 64 a b) own c.in_err-take_groups.ensures.groups)
+    rw (e.1, e.2) (types_fail next c.of-before.result (c.of-before.ensures (λ p. bit c.args.above p) own) c.requires.known c.args.found.now c.in-Some.all t.flag c.masked-due.result c.except.result
+    (λ x y a b. c.except.ensures.told x y 0 3 a b) (λ x a. c.masked-due.ensures.told x 0 3 a) c.in-Some-2.new w.places c.either-families.result c.except-2.result c.except-types.result
+    (λ x y a b. c.either-families.ensures x y 0 3 a b) (λ x y a b. c.except-2.ensures.told y x 0 3 b a) (λ x y a b. c.except-types.ensures.told x y 0 64 a b) own c.in_err-take_groups.ensures.groups)
 
 pub returns-in_default-3-clause-children : goal.returns-in_default-3-clause-children
 returns-in_default-3-clause-children g c = λ f stage earlier done after next.
@@ -59,9 +59,9 @@ returns-in_default-3-clause-children g c = λ f stage earlier done after next.
     let t = rw c.in-Some.is at c.in_ok-all.ensures in
     let w = rw (c.is_new-is_wanted.ensures, c.in-Some-2.is) at c.in_ok-new.ensures in
     let x = rw c.in_default-3.is at c.in_ok-take_groups.ensures in
-    no_types next c.of-before.result (c.of-before.ensures (λ p. bit c.args.above p) own) c.requires.known c.args.found.now c.in-Some.all t.flag c.masked-due.result c.beside.result
-    (λ x y a b. c.beside.ensures.told x y 0 3 a b) (λ x a. c.masked-due.ensures.told x 0 3 a) c.in-Some-2.new w.places c.either-families.result c.beside-2.result c.beside-types.result
-    (λ x y a b. c.either-families.ensures x y 0 3 a b) (λ x y a b. c.beside-2.ensures.told y x 0 3 b a) (λ x y a b. c.beside-types.ensures.told x y 0 64 a b) own x.groups
+    no_types next c.of-before.result (c.of-before.ensures (λ p. bit c.args.above p) own) c.requires.known c.args.found.now c.in-Some.all t.flag c.masked-due.result c.except.result
+    (λ x y a b. c.except.ensures.told x y 0 3 a b) (λ x a. c.masked-due.ensures.told x 0 3 a) c.in-Some-2.new w.places c.either-families.result c.except-2.result c.except-types.result
+    (λ x y a b. c.either-families.ensures x y 0 3 a b) (λ x y a b. c.except-2.ensures.told y x 0 3 b a) (λ x y a b. c.except-types.ensures.told x y 0 64 a b) own x.groups
 
 pub returns-clause-children : goal.returns-clause-children
 returns-clause-children g c = λ f stage earlier done after next.
@@ -69,14 +69,14 @@ returns-clause-children g c = λ f stage earlier done after next.
     let t = rw c.in-Some.is at c.in_ok-all.ensures in
     let w = rw (c.is_new-is_wanted.ensures, c.in-Some-2.is) at c.in_ok-new.ensures in
     let x = rw c.in-Some-3.is at c.in_ok-take_groups.ensures in
-    all_read next c.of-before.result (c.of-before.ensures (λ p. bit c.args.above p) own) c.requires.known c.args.found.now c.in-Some.all t.flag c.masked-due.result c.beside.result
-    (λ x y a b. c.beside.ensures.told x y 0 3 a b) (λ x a. c.masked-due.ensures.told x 0 3 a) c.in-Some-2.new w.places c.either-families.result c.beside-2.result c.beside-types.result
-    (λ x y a b. c.either-families.ensures x y 0 3 a b) (λ x y a b. c.beside-2.ensures.told y x 0 3 b a) (λ x y a b. c.beside-types.ensures.told x y 0 64 a b) own x.groups
+    all_read next c.of-before.result (c.of-before.ensures (λ p. bit c.args.above p) own) c.requires.known c.args.found.now c.in-Some.all t.flag c.masked-due.result c.except.result
+    (λ x y a b. c.except.ensures.told x y 0 3 a b) (λ x a. c.masked-due.ensures.told x 0 3 a) c.in-Some-2.new w.places c.either-families.result c.except-2.result c.except-types.result
+    (λ x y a b. c.either-families.ensures x y 0 3 a b) (λ x y a b. c.except-2.ensures.told y x 0 3 b a) (λ x y a b. c.except-types.ensures.told x y 0 64 a b) own x.groups
 
 pub returns-clause-small : goal.returns-clause-small
 returns-clause-small g c =
     let sets = c.of-before.ensures (λ p. bit c.args.above p) (shows_own c.args.above 64 c.ranges.above.fits) in
-    let few = c.beside.ensures.within 3 c.args.terms.now.plan.now.live_shown.families.small in
+    let few = c.except.ensures.within 3 c.args.terms.now.plan.now.live_shown.families.small in
     let le = c.masked-due.ensures.within in
     let new = (rw c.in-Some-2.is at c.in_ok-new.ensures).small 3 (omega arith) (omega (arith, few, le)) in
     (c.either-families.ensures (λ p. bit c.of-before.result.families p) (λ p. bit c.in-Some-2.new p) 0 3 (shows_own c.of-before.result.families 3 sets.families.small) (shows_own c.in-Some-2.new 3 new)).small
@@ -84,7 +84,7 @@ returns-clause-small g c =
 pub take_groups-requires-clause-few : goal.take_groups-requires-clause-few
 take_groups-requires-clause-few g c =
     let sets = c.of-before.ensures (λ p. bit c.args.above p) (shows_own c.args.above 64 c.ranges.above.fits) in
-    let few = c.beside.ensures.within 3 c.args.terms.now.plan.now.live_shown.families.small in
+    let few = c.except.ensures.within 3 c.args.terms.now.plan.now.live_shown.families.small in
     let le = c.masked-due.ensures.within in
     let new = (rw c.in-Some-2.is at c.in_ok-new.ensures).small 3 (omega arith) (omega (arith, few, le)) in
     (c.either-families.ensures (λ p. bit c.of-before.result.families p) (λ p. bit c.in-Some-2.new p) 0 3 (shows_own c.of-before.result.families 3 sets.families.small) (shows_own c.in-Some-2.new 3 new)).small

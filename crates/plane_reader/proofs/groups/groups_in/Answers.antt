@@ -66,7 +66,7 @@ loop-read-preserved c =
     let t = c.in-Some.ensures in
     let inside : j < c.args.groups.count = bit_inside c.loop-read.read.left c.args.groups.count j i.small here.here in
     let small : c.part-here.result < 16 = omega (arith, c.part-here.ensures.within) in
-    let parts = c.part_first.ensures in
+    let parts = c.split_lowest.ensures in
     let place : parts.place ≡ j = place_is parts j here.within here.here here.none_before in
     let short : types.len ≤ 12 = omega (arith, t.len, t.is_word.few, few_ones types.new t.new.small) in
     record {
@@ -88,5 +88,5 @@ loop-read-preserved c =
           (λ f' stage' earlier' done' after' types_next.
           let shown = from_zero (c.args.groups.first + 4 * j) (c.part-here.ensures.told _ 0 64 (shows_own c.args.due 64 (search rules)) types_next.within) in
           types_at_hand c.requires.known types_next c.part-here.result small shown c.loop-read.rest t (in_later is_in before) last c.add_bits.ensures.minus c.add_bits.ensures.bits c.add_minus.ensures.bits c.add_minus.ensures.minus)
-          refl c.part_first.result.others (subst (λ n. bit c.part_first.result.others n ≡ false) place parts.gone) (λ k lt apart. parts.same k lt (λ e. apart (e ∙ place)));
+          refl c.split_lowest.result.others (subst (λ n. bit c.split_lowest.result.others n ≡ false) place parts.gone) (λ k lt apart. parts.same k lt (λ e. apart (e ∙ place)));
     }

@@ -8,11 +8,11 @@ use Rattle.plane_reader.proofs.groups.take_groups.Goals as goal
 
 pub loop-left-init : goal.loop-left-init
 loop-left-init g c = record {
-  is_in = c.take_at_hand-left.ensures.is_in;
+  is_in = c.take_from_window-left.ensures.is_in;
   options = c.requires.known;
-  small = c.take_at_hand-left.ensures.few;
+  small = c.take_from_window-left.ensures.few;
   passed = λ f stage earlier done now wanted after next.
-      c.take_at_hand-left.ensures.passed f stage earlier done now wanted after c.args.gaggle.now c.args.found.now (coming c.args.input.now) next
+      c.take_from_window-left.ensures.passed f stage earlier done now wanted after c.args.gaggle.now c.args.found.now (coming c.args.input.now) next
       (groups_start next c.requires.known c.requires.open (takes_start g.I.OctetIn.source _ c.requires.open));
 }
 
@@ -42,8 +42,8 @@ returns-in_default-clause-groups g c = λ f stage earlier done now wanted after 
     let t = rw c.in_default.is at c.in_ok-take_types.ensures in
     groups_missing next passed j first.within first.here first.none_before c.has.result flag t.types refl
 
-pub take_at_hand-left-requires-in-loop-left-clause-few : goal.take_at_hand-left-requires-in-loop-left-clause-few
-take_at_hand-left-requires-in-loop-left-clause-few g c = omega (arith, c.loop-left.invariant.small, c.without.ensures.fewer c.first_in-j.ensures.here)
+pub take_from_window-left-requires-in-loop-left-clause-few : goal.take_from_window-left-requires-in-loop-left-clause-few
+take_from_window-left-requires-in-loop-left-clause-few g c = omega (arith, c.loop-left.invariant.small, c.without.ensures.fewer c.first_in-j.ensures.here)
 
 pub loop-left-preserved : goal.loop-left-preserved
 loop-left-preserved g c =
@@ -51,7 +51,7 @@ loop-left-preserved g c =
     let j = c.first_in-j.result in
     let first = c.first_in-j.ensures in
     let rest = c.without in
-    let hand = c.take_at_hand-left-in-loop-left.ensures in
+    let hand = c.take_from_window-left-in-loop-left.ensures in
     let inside : j < c.args.groups.count = bit_inside c.loop-left.left c.args.groups.count j c.loop-left.invariant.small first.here in
     record {
       is_in = hand.is_in;
@@ -66,7 +66,7 @@ loop-left-preserved g c =
     }
 
 pub loop-left-smaller : goal.loop-left-smaller
-loop-left-smaller g c = omega (arith, c.take_at_hand-left-in-loop-left.ensures.fewer, c.without.ensures.fewer c.first_in-j.ensures.here)
+loop-left-smaller g c = omega (arith, c.take_from_window-left-in-loop-left.ensures.fewer, c.without.ensures.fewer c.first_in-j.ensures.here)
 
 pub overflow_add-group : goal.overflow_add-group
 overflow_add-group g c =

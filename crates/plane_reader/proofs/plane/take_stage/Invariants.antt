@@ -1,7 +1,7 @@
 use Rattle.std.proofs.Common.{◌≡◌, length}
 use Rattle.plane_defs.specs.Marks.{depths_of}
 use Rattle.bit_pipe.specs.Coming.{coming}
-use Rattle.plane_reader.specs.Shown.{shown, KeepsAcs}
+use Rattle.plane_reader.specs.BlocksShown.{shown, KeepsAcs}
 use Rattle.plane_reader.specs.Progress.{held, kept, Reaches}
 use Rattle.plane_reader.proofs.plane.take_stage.Given as goal
 

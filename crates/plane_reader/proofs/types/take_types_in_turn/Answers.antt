@@ -9,8 +9,8 @@ use Rattle.plane_reader.proofs.FoundMasks.{room_four}
 use Rattle.plane_reader.proofs.TypePieces.{due_part, types_word, types_missing, types_fault, types_given}
 use Rattle.plane_reader.proofs.types.take_types_in_turn.Goals as goal
 
-pub take_some-requires-clause-due : goal.take_some-requires-clause-due
-take_some-requires-clause-due g c = nibble_small c.args.due c.args.group.count c.requires.few c.requires.due
+pub take_some_types-requires-clause-due : goal.take_some_types-requires-clause-due
+take_some_types-requires-clause-due g c = nibble_small c.args.due c.args.group.count c.requires.few c.requires.due
 
 pub returns-in_err-new-clause-types : goal.returns-in_err-new-clause-types
 returns-in_err-new-clause-types g c = λ f stage earlier done mask after next seen.

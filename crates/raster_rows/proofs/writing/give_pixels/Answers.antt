@@ -1,5 +1,5 @@
 use Rattle.std.proofs.Common.{rules, arith, ◌≡◌, ◌+◌, ◌-◌, ◌++◌, ◌∙◌, ℕ, ℤ, Bool, List, [], ap, subst, sym, map, take, drop}
-use Rattle.port_122.specs.Outside.{Since, NoRead, WritesAll}
+use Rattle.port_122.specs.Outside.{Exchange, NoRead, WritesAll}
 use Rattle.port_122.proofs.Stretches.{since_out}
 use Rattle.port_122.proofs.Parts.{failed_part}
 use Rattle.raster_rows.specs.Pixels.{pixel_octets, clamped}
@@ -44,6 +44,6 @@ loop-done-preserved g c =
     more_spelt depth signed values done n ∙ ap (λ zs. before ++ zs) (sym part) in
     record {
       within = search rules;
-      out = subst (λ gave. Since (g.X.Port.outside c.args.port.now) (g.X.Port.outside c.write_all.new.port) [] gave [] NoRead) (sym more)
+      out = subst (λ gave. Exchange (g.X.Port.outside c.args.port.now) (g.X.Port.outside c.write_all.new.port) [] gave [] NoRead) (sym more)
           (since_out c.loop-done.invariant.out c.in_ok-write_all.ensures);
     }

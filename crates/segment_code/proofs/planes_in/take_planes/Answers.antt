@@ -23,11 +23,11 @@ returns-in_err-take_whole_planes-clause-takes g c =
 pub returns-in_default-clause-takes : goal.returns-in_default-clause-takes
 returns-in_default-clause-takes g c = let t = rw c.in_default.is at c.in_ok-take_whole_planes.ensures.takes in t.ends
 
-pub take_stages-requires-clause-open : goal.take_stages-requires-clause-open
-take_stages-requires-clause-open g c = let t = rw c.in-Whole.is at c.in_ok-take_whole_planes.ensures.takes in in_above c.requires.open t.ends
+pub take_stages_sent-requires-clause-open : goal.take_stages_sent-requires-clause-open
+take_stages_sent-requires-clause-open g c = let t = rw c.in-Whole.is at c.in_ok-take_whole_planes.ensures.takes in in_above c.requires.open t.ends
 
-pub take_stages-requires-clause-awaits : goal.take_stages-requires-clause-awaits
-take_stages-requires-clause-awaits g c =
+pub take_stages_sent-requires-clause-awaits : goal.take_stages_sent-requires-clause-awaits
+take_stages_sent-requires-clause-awaits g c =
     let t = rw c.in-Whole.is at c.in_ok-take_whole_planes.ensures.takes in
     rw c.in_ok-take_whole_planes.ensures.depths t.ends.awaits
 
@@ -35,11 +35,11 @@ pub returns-clause-takes : goal.returns-clause-takes
 returns-clause-takes g c =
     let head = c.args.head.now in
     let t = rw c.in-Whole.is at c.in_ok-take_whole_planes.ensures.takes in
-    let p = rw c.in_ok-take_whole_planes.ensures.depths at c.take_stages.ensures.takes in
+    let p = rw c.in_ok-take_whole_planes.ensures.depths at c.take_stages_sent.ensures.takes in
     takes_stop head c.requires.goes_on (depths_of c.args.marks.now) head.stop.plane (head.stop.stage + 1 + 1) (omega arith) (omega arith) (at_stop head) t.ends p refl c.requires.dcs.deep
 
 pub take_whole_planes-requires-clause-above : goal.take_whole_planes-requires-clause-above
 take_whole_planes-requires-clause-above g c = none_significant c.args.head.now c.args.marks.now c.args.blocks.now c.requires.count c.requires.dcs
 
-pub take_stages-requires-clause-above : goal.take_stages-requires-clause-above
-take_stages-requires-clause-above g c = let a = rw c.in-Whole.is at c.in_ok-take_whole_planes.ensures.above in a refl
+pub take_stages_sent-requires-clause-above : goal.take_stages_sent-requires-clause-above
+take_stages_sent-requires-clause-above g c = let a = rw c.in-Whole.is at c.in_ok-take_whole_planes.ensures.above in a refl

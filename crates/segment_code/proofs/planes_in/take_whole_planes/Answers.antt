@@ -19,19 +19,19 @@ loop-n-init g c = record {
   is_in = c.requires.open;
 }
 
-pub take_stages-requires-clause-open : goal.take_stages-requires-clause-open
-take_stages-requires-clause-open g c = c.loop-n.invariant.is_in
+pub take_stages_sent-requires-clause-open : goal.take_stages_sent-requires-clause-open
+take_stages_sent-requires-clause-open g c = c.loop-n.invariant.is_in
 
-pub take_stages-requires-clause-awaits : goal.take_stages-requires-clause-awaits
-take_stages-requires-clause-awaits g c = rw c.loop-n.invariant.depths c.loop-n.invariant.above.awaits
+pub take_stages_sent-requires-clause-awaits : goal.take_stages_sent-requires-clause-awaits
+take_stages_sent-requires-clause-awaits g c = rw c.loop-n.invariant.depths c.loop-n.invariant.above.awaits
 
-pub returns-in_err-take_stages-clause-takes : goal.returns-in_err-take_stages-clause-takes
-returns-in_err-take_stages-clause-takes g c =
+pub returns-in_err-take_stages_sent-clause-takes : goal.returns-in_err-take_stages_sent-clause-takes
+returns-in_err-take_stages_sent-clause-takes g c =
     let e = err_from_is_err_and c.from_residual.result c.from_residual.ensures.1 in
     let head = c.args.head.now in
     let plane : ℕ = head.depth_ac - 1 - c.loop-n.n in
     let high : head.stop.plane < plane = omega (arith, c.loop-n-test.true) in
-    let t = rw c.loop-n.invariant.depths at c.in_err-take_stages.ensures.takes in
+    let t = rw c.loop-n.invariant.depths at c.in_err-take_stages_sent.ensures.takes in
     rw (e.1, e.2) (record {
       ends = takes_cut head c.requires.goes_on (depths_of c.args.marks.now) plane 5 (omega (arith, high)) (omega (arith, high)) (sent_all head plane high) c.loop-n.invariant.above t (err_cut t.ending _ t.answer) c.requires.dcs.deep;
     })
@@ -41,7 +41,7 @@ returns-in_default-clause-takes g c =
     let head = c.args.head.now in
     let plane : ℕ = head.depth_ac - 1 - c.loop-n.n in
     let high : head.stop.plane < plane = omega (arith, c.loop-n-test.true) in
-    let t = rw (c.loop-n.invariant.depths, c.in_default.is) at c.in_ok-take_stages.ensures.takes in
+    let t = rw (c.loop-n.invariant.depths, c.in_default.is) at c.in_ok-take_stages_sent.ensures.takes in
     record {
       ends = takes_cut head c.requires.goes_on (depths_of c.args.marks.now) plane 5 (omega (arith, high)) (omega (arith, high)) (sent_all head plane high) c.loop-n.invariant.above t (ended_cut t.ending t.answer) c.requires.dcs.deep;
     }
@@ -51,16 +51,16 @@ loop-n-preserved g c =
     let head = c.args.head.now in
     let plane : ℕ = head.depth_ac - 1 - c.loop-n.n in
     let high : head.stop.plane < plane = omega (arith, c.loop-n-test.true) in
-    let t = rw (c.loop-n.invariant.depths, c.in-Whole.is) at c.in_ok-take_stages.ensures.takes in
+    let t = rw (c.loop-n.invariant.depths, c.in-Whole.is) at c.in_ok-take_stages_sent.ensures.takes in
     let ended = whole_ending t.ending t.answer in
     let next : plane - 1 ≡ head.depth_ac - 1 - (c.loop-n.n + 1) = omega arith in
     record {
-      above = subst (λ p. PlanesAbove g.I.OctetIn.source c.args.tables.now.book head (depths_of c.args.marks.now) p (coming c.args.input.now) (coming c.take_stages.new.input) c.args.blocks.now c.take_stages.new.blocks) next
+      above = subst (λ p. PlanesAbove g.I.OctetIn.source c.args.tables.now.book head (depths_of c.args.marks.now) p (coming c.args.input.now) (coming c.take_stages_sent.new.input) c.args.blocks.now c.take_stages_sent.new.blocks) next
           (next_above head c.requires.goes_on (depths_of c.args.marks.now) plane 5 (omega (arith, high)) (omega (arith, high)) (sent_all head plane high) c.loop-n.invariant.above t refl high ended);
-      depths = c.in_ok-take_stages.ensures.depths ∙ c.loop-n.invariant.depths;
+      depths = c.in_ok-take_stages_sent.ensures.depths ∙ c.loop-n.invariant.depths;
       marked =
           let lower : plane ≡ head.depth_ac - (c.loop-n.n + 1) = omega arith in
-          subst (λ p. AreSignificant p c.take_stages.new.blocks c.take_stages.new.above) lower c.in_ok-take_stages.ensures.above;
+          subst (λ p. AreSignificant p c.take_stages_sent.new.blocks c.take_stages_sent.new.above) lower c.in_ok-take_stages_sent.ensures.above;
       is_in = in_whole c.loop-n.invariant.is_in ended t.read;
     }
 
@@ -72,8 +72,8 @@ returns-clause-takes g c =
       ends = subst (λ p. PlanesAbove g.I.OctetIn.source c.args.tables.now.book head (depths_of c.args.marks.now) p (coming c.args.input.now) (coming c.loop-n.input) c.args.blocks.now c.loop-n.blocks) last c.loop-n.invariant.above;
     }
 
-pub take_stages-requires-clause-above : goal.take_stages-requires-clause-above
-take_stages-requires-clause-above g c =
+pub take_stages_sent-requires-clause-above : goal.take_stages_sent-requires-clause-above
+take_stages_sent-requires-clause-above g c =
     let head = c.args.head.now in
     let higher : head.depth_ac - c.loop-n.n ≡ head.depth_ac - 1 - c.loop-n.n + 1 = omega (arith, c.loop-n-test.true) in
     subst (λ p. AreSignificant p c.loop-n.blocks c.loop-n.above) higher c.loop-n.invariant.marked

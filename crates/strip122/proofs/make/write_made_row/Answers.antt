@@ -1,5 +1,5 @@
 use Rattle.std.proofs.Common.{rules, sym, subst, []}
-use Rattle.port_122.specs.Outside.{Since, NoRead}
+use Rattle.port_122.specs.Outside.{Exchange, NoRead}
 use Rattle.port_122.proofs.Stretches.{since_out}
 use Rattle.strip122.proofs.MadeParts.{part_is, parts_then, row_failed}
 use Rattle.strip122.proofs.make.write_made_row.Goals as goal
@@ -18,7 +18,7 @@ loop-done-preserved g c =
     record {
       within = search rules;
       same = search rules;
-      out = subst (λ gave. Since (g.X.Port.outside c.args.port.now) (g.X.Port.outside c.write_row.new.port) [] gave [] NoRead)
+      out = subst (λ gave. Exchange (g.X.Port.outside c.args.port.now) (g.X.Port.outside c.write_row.new.port) [] gave [] NoRead)
           (sym (parts_then made c.args.row c.loop-done.done c.min-count.result))
           (since_out c.loop-done.invariant.out (rw part at c.in_ok-write_row.ensures));
     }

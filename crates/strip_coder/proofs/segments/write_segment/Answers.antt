@@ -16,7 +16,7 @@ use Rattle.space_packets.specs.declared.stage.Stage.{Stage}
 use Rattle.space_packets.specs.declared.stage.Stage.TheVariants.{Begun}
 use Rattle.space_packets.specs.Stages.{IsBegun}
 use Rattle.space_packets.specs.Progress.{Progress, begun}
-use Rattle.space_packets.specs.Writes.{GoesOn, TextCut}
+use Rattle.space_packets.specs.Writes.{Continues, TextCut}
 use Rattle.space_packets.proofs.WholeCalls.{some_wait, text_cut, text_closed}
 use Rattle.space_packets.proofs.SinkCalls.{sink_goes_on, sink_breaks_off}
 use Rattle.strip_coder.specs.SegmentsOut.{text_of, text_for}
@@ -25,9 +25,9 @@ use Rattle.strip_coder.proofs.segments.write_segment.Goals as goal
 
 -- what is behind a loan is the last value under its name
 sent_to : {X : Type 0} (outside : X → Outside) (x y : X) (w u : Progress) {t : Text} {p : Outside} {v : Progress} {text : List ℕ} → x ≡ y → w ≡ u →
-    GoesOn t p (outside y) v u text → GoesOn t p (outside x) v w text
+    Continues t p (outside y) v u text → Continues t p (outside x) v w text
 sent_to outside x y w u {t = t} {p = p} {v = v} {text = text} e f sent =
-    subst (λ x. GoesOn t p (outside x) v w text) (sym e) (subst (λ w. GoesOn t p (outside y) v w text) (sym f) sent)
+    subst (λ x. Continues t p (outside x) v w text) (sym e) (subst (λ w. Continues t p (outside y) v w text) (sym f) sent)
 
 cut_to : {X : Type 0} (outside : X → Outside) (x y : X) (w u : Progress) {t : Text} {p : Outside} {v : Progress} {text : List ℕ} → x ≡ y → w ≡ u →
     TextCut t p (outside y) v u text → TextCut t p (outside x) v w text

@@ -1,6 +1,6 @@
 use Rattle.std.proofs.Common.{ap, subst}
 use Rattle.std.specs.Prelude.{is_some}
-use Rattle.strip_decoder.specs.Steps.{walking, HasPassed, BreaksOff, missing}
+use Rattle.strip_decoder.specs.Steps.{walking, HasPassed, StopsEarly, missing}
 use Rattle.strip_decoder.specs.Walks.{left_in}
 use Rattle.strip_decoder.proofs.RunFinishes.{rest_broken, rest_passed_of}
 use Rattle.strip_decoder.proofs.engine.pass_all.Goals as goal
@@ -22,7 +22,7 @@ returns-in-Err-lose_rest-clause-runs g c w pixels to =
     let new = g.X.Port.outside c.lose_rest.new.port in
     let p = walking c.take_segments.new.walk in
     rest_broken k w now new c.take_segments.new.assembly p (walking c.lose_rest.new.walk) c.in-Ok.ensures.takes.standing (c.in-Ok.ensures.runs w pixels to)
-    (subst (λ b. BreaksOff k missing (left_in b p) now new p) c.is_height_known.ensures c.in-Err-lose_rest.ensures)
+    (subst (λ b. StopsEarly k missing (left_in b p) now new p) c.is_height_known.ensures c.in-Err-lose_rest.ensures)
 
 pub returns-in-Ok-lose_rest-clause-image : goal.returns-in-Ok-lose_rest-clause-image
 returns-in-Ok-lose_rest-clause-image g c = ap is_some c.in-Ok.ensures.takes.has.geometry

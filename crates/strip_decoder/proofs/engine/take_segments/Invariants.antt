@@ -1,19 +1,19 @@
 use Rattle.std.proofs.Common.{◌≡◌, ◌-◌, vec_len}
 use Rattle.port_122.specs.Outside.{NoFewerFaults}
-use Rattle.strip_decoder.specs.Steps.{walking, IsStanding, passed_in, total_in}
+use Rattle.strip_decoder.specs.Steps.{walking, IsCurrent, passed_in, total_in}
 use Rattle.strip_decoder.specs.Rooms.{IsRoom}
 use Rattle.strip_decoder.specs.Segments.{IsAt}
-use Rattle.strip_decoder.specs.Runs.{Run, ComesIn}
+use Rattle.strip_decoder.specs.Runs.{Run, WalksIn}
 use Rattle.strip_decoder.proofs.engine.take_segments.Given as goal
 
 abbrev pub invariant-segments : goal.invariant-segments
 invariant-segments g l = record {
-  standing : IsStanding g.S.BlockSink.sink (walking l.walk);
+  standing : IsCurrent g.S.BlockSink.sink (walking l.walk);
   at : IsAt l.assembly (walking l.walk) l.start;
   room : IsRoom l.walk.geometry (vec_len l.room.blocks) (vec_len l.room.marks);
   pixels : l.room.pixels ≡ l.initial.room.pixels;
   faults : NoFewerFaults (g.X.Port.outside l.initial.port) (g.X.Port.outside l.port);
-  run : (w : Run) → w.pixels ≡ l.initial.room.pixels → ComesIn g.S.BlockSink.sink w (g.X.Port.outside l.initial.port) l.initial.assembly (walking l.initial.walk) l.initial.start → ComesIn g.S.BlockSink.sink w (g.X.Port.outside l.port) l.assembly (walking l.walk) l.start;
+  run : (w : Run) → w.pixels ≡ l.initial.room.pixels → WalksIn g.S.BlockSink.sink w (g.X.Port.outside l.initial.port) l.initial.assembly (walking l.initial.walk) l.initial.start → WalksIn g.S.BlockSink.sink w (g.X.Port.outside l.port) l.assembly (walking l.walk) l.start;
 }
 
 abbrev pub decreases-segments : goal.decreases-segments

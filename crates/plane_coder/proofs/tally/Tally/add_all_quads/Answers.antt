@@ -10,7 +10,7 @@ use Rattle.plane_coder.proofs.tally.Tally.add_all_quads.Goals as goal
 
 pub loop-i-init : goal.loop-i-init
 loop-i-init c =
-    let s = c.args.seen.now in
+    let s = c.args.plane_masks.now in
     record { counts = counts_start c.args.self.now (of_family s.block.now s.plan.now.weights.shifts s.plan.now.plane) 0 5 }
 
 pub add_quads-requires : goal.add_quads-requires
@@ -18,15 +18,15 @@ unfolding set_significant
 add_quads-requires c = record {
   family = c.loop-i-test.true;
   enclosing =
-      let told : c.has.result ≡ set_significant c.args.seen.now.block.now c.args.seen.now.plan.now.plane (Grandchildren (0 + c.loop-i.i)) = c.has.ensures _ 0 3 c.requires.sets.grandchildren c.loop-i-test.true in
-      told ∙ ap (λ n. set_significant c.args.seen.now.block.now c.args.seen.now.plan.now.plane (Grandchildren n)) (zero-add c.loop-i.i);
+      let told : c.has.result ≡ set_significant c.args.plane_masks.now.block.now c.args.plane_masks.now.plan.now.plane (Grandchildren (0 + c.loop-i.i)) = c.has.ensures _ 0 3 c.requires.sets.grandchildren c.loop-i-test.true in
+      told ∙ ap (λ n. set_significant c.args.plane_masks.now.block.now c.args.plane_masks.now.plan.now.plane (Grandchildren n)) (zero-add c.loop-i.i);
   small = at_most_later (2 ^ 17) (5 * c.loop-i.i) (2 ^ 18) c.requires.small c.loop-i.invariant.counts (omega arith);
 }
 
 pub loop-i-preserved : goal.loop-i-preserved
 unfolding set_significant
 loop-i-preserved c =
-    let s = c.args.seen.now in
+    let s = c.args.plane_masks.now in
     let i = c.loop-i.i in
     let block = s.block.now in
     let weights = s.plan.now.weights.shifts in
@@ -39,7 +39,7 @@ loop-i-preserved c =
 
 pub returns : goal.returns
 returns c =
-    let s = c.args.seen.now in
+    let s = c.args.plane_masks.now in
     let block = s.block.now in
     let weights = s.plan.now.weights.shifts in
     let plane = s.plan.now.plane in

@@ -7,5 +7,5 @@ use Rattle.plane_coder.proofs.tally.Tally.add_all_quads.Given as goal
 
 abbrev pub invariant-loop-i : goal.invariant-loop-i
 invariant-loop-i l = record {
-  counts : Counts l.initial.self l.self (flat_map (of_family l.seen.block.now l.seen.plan.now.weights.shifts l.seen.plan.now.plane) (span 0 l.i)) (5 * l.i);
+  counts : Counts l.initial.self l.self (flat_map (of_family l.plane_masks.block.now l.plane_masks.plan.now.weights.shifts l.plane_masks.plan.now.plane) (span 0 l.i)) (5 * l.i);
 }

@@ -14,7 +14,7 @@ add_children_types-requires-clause-small c = at_most_later (2 ^ 18) 1 (2 ^ 19) c
 
 pub returns : goal.returns
 returns c =
-    let s = c.args.seen.now in
+    let s = c.args.plane_masks.now in
     let block = s.block.now in
     let weights = s.plan.now.weights.shifts in
     let plane = s.plan.now.plane in

@@ -11,7 +11,7 @@ use Rattle.plane_coder.proofs.tally.Tally.add_children_types.Goals as goal
 
 pub loop-i-init : goal.loop-i-init
 loop-i-init c =
-    let s = c.args.seen.now in
+    let s = c.args.plane_masks.now in
     record { counts = counts_start c.args.self.now (of_children s.block.now s.plan.now.weights.shifts s.plan.now.plane) 0 1 }
 
 pub add-requires : goal.add-requires
@@ -22,7 +22,7 @@ add-requires c = record {
 
 pub loop-i-preserved : goal.loop-i-preserved
 loop-i-preserved c =
-    let s = c.args.seen.now in
+    let s = c.args.plane_masks.now in
     let i = c.loop-i.i in
     let block = s.block.now in
     let weights = s.plan.now.weights.shifts in
@@ -36,7 +36,7 @@ loop-i-preserved c =
 
 pub returns : goal.returns
 returns c =
-    let s = c.args.seen.now in
+    let s = c.args.plane_masks.now in
     let block = s.block.now in
     let weights = s.plan.now.weights.shifts in
     let plane = s.plan.now.plane in

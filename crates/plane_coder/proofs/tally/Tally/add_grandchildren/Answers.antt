@@ -12,6 +12,6 @@ add_all_quads-requires-clause-small c = at_most_later (2 ^ 16) 1 (2 ^ 17) c.requ
 
 pub returns : goal.returns
 returns c =
-    let s = c.args.seen.now in
+    let s = c.args.plane_masks.now in
     let rest = all_quads s.block.now s.plan.now.weights.shifts s.plan.now.plane in
     subst (λ e. Counts c.args.self.now c.add_all_quads.new.self (e ∷ rest) 16) c.flags_of_grandchildren.ensures.flags (counts_both 1 15 c.add.ensures c.add_all_quads.ensures)

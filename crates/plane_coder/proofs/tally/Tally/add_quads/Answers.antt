@@ -17,6 +17,6 @@ add_quads_types-requires-clause-small c = at_most_later (2 ^ 18) 1 (2 ^ 19) c.re
 
 pub returns : goal.returns
 returns c =
-    let s = c.args.seen.now in
+    let s = c.args.plane_masks.now in
     let rest = quads_types s.block.now s.plan.now.weights.shifts s.plan.now.plane c.args.i in
     counts_if c.if-not-is_said.false (ap (λ e. e ∷ rest) c.flags_of_quads.ensures.flags) (counts_both 1 4 c.add.ensures c.add_quads_types.ensures)

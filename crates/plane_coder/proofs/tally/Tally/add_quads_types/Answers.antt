@@ -11,7 +11,7 @@ use Rattle.plane_coder.proofs.tally.Tally.add_quads_types.Goals as goal
 
 pub loop-j-init : goal.loop-j-init
 loop-j-init c =
-    let s = c.args.seen.now in
+    let s = c.args.plane_masks.now in
     record { counts = counts_start c.args.self.now (of_quad s.block.now s.plan.now.weights.shifts s.plan.now.plane c.args.i) 0 1 }
 
 pub add-requires : goal.add-requires
@@ -22,7 +22,7 @@ add-requires c = record {
 
 pub loop-j-preserved : goal.loop-j-preserved
 loop-j-preserved c =
-    let s = c.args.seen.now in
+    let s = c.args.plane_masks.now in
     let i = c.args.i in
     let j = c.loop-j.j in
     let block = s.block.now in
@@ -37,7 +37,7 @@ loop-j-preserved c =
 
 pub returns : goal.returns
 returns c =
-    let s = c.args.seen.now in
+    let s = c.args.plane_masks.now in
     let block = s.block.now in
     let weights = s.plan.now.weights.shifts in
     let plane = s.plan.now.plane in

@@ -7,5 +7,5 @@ use Rattle.plane_coder.proofs.tally.Tally.add_quads_types.Given as goal
 
 abbrev pub invariant-loop-j : goal.invariant-loop-j
 invariant-loop-j l = record {
-  counts : Counts l.initial.self l.self (flat_map (of_quad l.seen.block.now l.seen.plan.now.weights.shifts l.seen.plan.now.plane l.i) (span 0 l.j)) (1 * l.j);
+  counts : Counts l.initial.self l.self (flat_map (of_quad l.plane_masks.block.now l.plane_masks.plan.now.weights.shifts l.plane_masks.plan.now.plane l.i) (span 0 l.j)) (1 * l.j);
 }

@@ -4,4 +4,4 @@ use Rattle.strip_decoder.proofs.pictures.PictureBlockSink.lose.Goals as goal
 
 pub returns : goal.returns
 returns g c g' n at within =
-    picture_takes c.lose_block.result c.args.self.now c.lose_block.new.picture (None) (g.X.Port.outside c.args.port.now) (g.X.Port.outside c.lose_block.new.port) c.lose_block.ensures g' n at
+    picture_takes c.put_missing.result c.args.self.now c.put_missing.new.picture (None) (g.X.Port.outside c.args.port.now) (g.X.Port.outside c.put_missing.new.port) c.put_missing.ensures g' n at

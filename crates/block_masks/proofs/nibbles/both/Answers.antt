@@ -1,9 +1,0 @@
-use Rattle.std.proofs.lemmas.Nat.{and_le_l}
-use Rattle.block_masks.proofs.Maskings.{shows_both}
-use Rattle.block_masks.proofs.nibbles.both.Goals as goal
-
-pub returns-clause-within : goal.returns-clause-within
-returns-clause-within c = and_le_l c.args.a c.args.b
-
-pub returns-clause-told : goal.returns-clause-told
-returns-clause-told c f g start count p q = shows_both p q

@@ -1,0 +1,108 @@
+// Masks made of masks.
+
+ghost use Rattle.std.specs.Prelude.{◌≡◌, ◌<◌, ◌≤◌, ◌+◌, ◌-◌, ◌^◌, ℕ, Bool, not, ◌&&◌, ◌||◌};
+ghost use Rattle.std.specs.List.{list_any};
+ghost use Rattle.plane_defs.specs.Spans.{span};
+ghost use Rattle.block_masks.specs.Masks.{Shows};
+
+/// What both masks tell.
+#[inline(always)]
+pub fn both(a: u64, b: u64) -> u64
+    ensures within { result ≤ a }
+    ensures told { (f g : ℕ → Bool) (start count : ℕ) → Shows a f start count → Shows b g start count → Shows result (λ p. f p && g p) start count }
+{
+    a & b
+}
+
+/// What the second mask tells and the first doesn't.
+#[inline(always)]
+pub fn except(a: u64, b: u64) -> u64
+    ensures within { (count : ℕ) → b < 2 ^ count → result < 2 ^ count }
+    ensures told { (f g : ℕ → Bool) (start count : ℕ) → Shows a f start count → Shows b g start count → Shows result (λ p. not (f p) && g p) start count }
+{
+    b ^ (a & b)
+}
+
+/// What either mask tells.
+#[inline(always)]
+pub fn either(a: u64, b: u64) -> u64
+    ensures { (f g : ℕ → Bool) (start count : ℕ) → Shows a f start count → Shows b g start count → Shows result (λ p. f p || g p) start count }
+{
+    a | b
+}
+
+/// So many positions of a mask from a place on.
+#[inline(always)]
+pub fn part(mask: u64, at: u8, count: u8) -> u64
+    requires at { at < 64 }
+    requires count { count < 64 }
+    ensures told { (f : ℕ → Bool) (start whole : ℕ) → Shows mask f start whole → at + count ≤ whole → Shows result f (start + at) count }
+    ensures within { result < 2 ^ count }
+{
+    (mask >> at) & ((1 << count) - 1)
+}
+
+/// The positions of two masks, one behind the other: the first has `at` of them.
+#[inline(always)]
+pub fn joined(low: u64, high: u64, at: u8) -> u64
+    requires at { at < 64 }
+    requires low { low < 2 ^ at }
+    requires high { high < 2 ^ (64 - at) }
+    ensures within { (count : ℕ) → high < 2 ^ count → result < 2 ^ (at + count) }
+    ensures told { (f : ℕ → Bool) (start count : ℕ) → Shows low f start at → Shows high f (start + at) count → Shows result f start (at + count) }
+{
+    (high << at) | low
+}
+
+/// A mask tells of its k-th position.
+#[inline(always)]
+pub fn has(mask: u64, k: u8) -> bool
+    requires { k < 64 }
+    ensures { (f : ℕ → Bool) (start count : ℕ) → Shows mask f start count → k < count → result ≡ f (start + k) }
+{
+    (mask >> k) & 1 == 1
+}
+
+/// What a mask tells, where this holds.
+#[inline(always)]
+pub fn masked(mask: u64, holds: bool) -> u64
+    ensures within { result ≤ mask }
+    ensures told { (f : ℕ → Bool) (start count : ℕ) → Shows mask f start count → Shows result (λ p. f p && holds) start count }
+{
+    if holds { mask } else { 0 }
+}
+
+/// A mask of one position.
+#[inline(always)]
+pub fn one(holds: bool) -> u64
+    ensures within { result < 2 }
+    ensures told { (start : ℕ) → Shows result (λ p. holds) start 1 }
+{
+    u64::from(holds)
+}
+
+/// Some position of a mask is told.
+#[inline(always)]
+pub fn is_any(mask: u64) -> bool
+    ensures { (f : ℕ → Bool) (start count : ℕ) → Shows mask f start count → result ≡ list_any f (span start count) }
+{
+    mask != 0
+}
+
+/// A mask of three positions.
+#[inline(always)]
+pub fn three(a: bool, b: bool, c: bool) -> u64
+    ensures told { (f : ℕ → Bool) → f 0 ≡ a → f 1 ≡ b → f 2 ≡ c → Shows result f 0 3 }
+    ensures within { result < 8 }
+{
+    u64::from(a) + 2 * u64::from(b) + 4 * u64::from(c)
+}
+
+/// A mask of four positions.
+#[inline(always)]
+pub fn four(a: bool, b: bool, c: bool, d: bool) -> u64
+    ensures told { (f : ℕ → Bool) → f 0 ≡ a → f 1 ≡ b → f 2 ≡ c → f 3 ≡ d → Shows result f 0 4 }
+    ensures within { result < 16 }
+{
+    u64::from(a) + 2 * u64::from(b) + 4 * u64::from(c) + 8 * u64::from(d)
+}

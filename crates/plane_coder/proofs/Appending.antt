@@ -1,0 +1,268 @@
+-- Entries said one after another, and put together.
+use Rattle.std.proofs.Common.{◌≡◌, ℕ, zero, suc, ◌+◌, ◌*◌, ◌-◌, ◌/◌, ◌%◌, ◌<◌, ◌≤◌, ◌⊎◌, inl, inr, Bool, true, false, cond, ◌||◌, List, [], ◌∷◌, ◌++◌, length, map, nat_lt, get_or, set, refl, ap, sym, ◌∙◌, subst, arith, append_assoc, append-nil}
+use Rattle.std.specs.Prelude.{Result, if◌then◌else◌}
+use Rattle.std.specs.List.{list_any, flat_map}
+use Rattle.plane_defs.specs.Spans.{span}
+use Rattle.plane_defs.proofs.SpanLists.{flat_map-span-suc, flat_map-span-none}
+use Rattle.item_defs.specs.Bits.{bits_of}
+use Rattle.item_defs.specs.Items.{item_bits, text}
+use Rattle.item_defs.proofs.NumberBits.{bits_none}
+use Rattle.item_defs.proofs.Texts.{text-append}
+use Rattle.bit_pipe.specs.Sinks.{SinkOf}
+use Rattle.bit_pipe.specs.Standing.{Standing, IsOpen, Puts}
+use Rattle.bit_pipe.specs.declared.fault.PutFault.{PutFault}
+use Rattle.base_122.specs.declared.book.Book.{Book}
+use Rattle.plane_defs.specs.declared.entries.Entry.{Entry}
+use Rattle.plane_defs.specs.declared.entries.Entry.TheVariants.{Bit, Word}
+use Rattle.plane_defs.specs.declared.entries.Bits.{Bits}
+use Rattle.plane_defs.specs.Codes.{word_item, option_item, identifier_width}
+use Rattle.plane_defs.specs.Spelled.{is_word_of, option_of, entry_items, spelled_after, opening}
+use Rattle.plane_defs.proofs.SpelledLists.{spelled_after-append}
+use Rattle.block_masks.specs.declared.gaggle.Gaggle.{Gaggle}
+use Rattle.block_masks.specs.Gaggles.{Agrees}
+use Rattle.plane_coder.specs.Spells.{Spells}
+use Rattle.plane_coder.specs.declared.pending.PendingBits.{PendingBits}
+use Rattle.plane_coder.specs.declared.plane_masks.Typed.{Typed}
+use Rattle.plane_coder.specs.Picked.{word_of, raws_of, entries_of}
+use Rattle.plane_coder.specs.Coding.{word_bits, option_for, unopened}
+use Rattle.plane_coder.specs.Appends.{Appends, Opens, identified, said, load}
+use Rattle.block_masks.proofs.Agreeing.{agrees_other, agrees_again, agrees_first}
+use Rattle.plane_coder.proofs.FourTypes.{IsTyped}
+use Rattle.plane_coder.proofs.Spelling.{on_ok, puts_open, raw_text, short_text, again_text, first_text}
+
+-- entries that nothing says
+pub appends_none : (book : Book) (a : PendingBits) → Appends book a a [] 0
+appends_none book a = record {
+  bits = λ before agrees. sym (append-nil (said a));
+  agrees = λ before agrees. subst (Agrees a.gaggle.sent) (sym (append-nil before)) agrees;
+  options = refl;
+  load = omega arith;
+}
+
+pub appends_less : {book : Book} {a b : PendingBits} {xs : List Entry} (m n : ℕ) → m ≤ n → Appends book a b xs m → Appends book a b xs n
+appends_less m n le p = record { bits = p.bits; agrees = p.agrees; options = p.options; load = omega (arith, p.load) }
+
+pub appends_both : {book : Book} {a b c : PendingBits} {xs ys : List Entry} (m n : ℕ) → Appends book a b xs m → Appends book b c ys n → Appends book a c (xs ++ ys) (m + n)
+appends_both {book} {a} {b} {c} {xs} {ys} m n first second = record {
+  bits = λ before agrees.
+      let x = text (spelled_after book a.gaggle.options before xs) in
+      second.bits (before ++ xs) (first.agrees before agrees) ∙
+      ap (λ o. said b ++ text (spelled_after book o (before ++ xs) ys)) first.options ∙
+      ap (λ l. l ++ text (spelled_after book a.gaggle.options (before ++ xs) ys)) (first.bits before agrees) ∙
+      append_assoc (said a) x (text (spelled_after book a.gaggle.options (before ++ xs) ys)) ∙
+      ap (λ l. said a ++ l) (sym (text-append (spelled_after book a.gaggle.options before xs) (spelled_after book a.gaggle.options (before ++ xs) ys)) ∙
+      ap text (sym (spelled_after-append book a.gaggle.options before xs ys)));
+  agrees = λ before agrees. subst (Agrees c.gaggle.sent) (append_assoc before xs ys) (second.agrees (before ++ xs) (first.agrees before agrees));
+  options = second.options ∙ first.options;
+  load = omega (arith, first.load, second.load);
+}
+
+-- the places of a span, one more
+pub appends_more : {book : Book} {a b c : PendingBits} (f : ℕ → List Entry) (start n most : ℕ) → Appends book a b (flat_map f (span start n)) (most * n) → Appends book b c (f (start + n)) most →
+    Appends book a c (flat_map f (span start (n + 1))) (most * (n + 1))
+appends_more {book} {a} {b} {c} f start n most p q =
+    let whole : most * n + most ≡ most * (n + 1) = grind arith in
+    subst (λ m. Appends book a c (flat_map f (span start (n + 1))) m) whole (subst (λ l. Appends book a c l (most * n + most)) (sym (flat_map-span-suc f start n)) (appends_both (most * n) most p q))
+
+pub appends_start : (book : Book) (a : PendingBits) (f : ℕ → List Entry) (start most : ℕ) → Appends book a a (flat_map f (span start 0)) (most * 0)
+appends_start book a f start most =
+    let none : 0 ≡ most * 0 = omega arith in
+    subst (Appends book a a (flat_map f (span start 0))) none (subst (λ l. Appends book a a l 0) (sym (flat_map-span-none f start)) (appends_none book a))
+
+-- entries that are said where a test holds
+pub appends_if_not : {book : Book} {b : Bool} (a : PendingBits) (xs : List Entry) (most : ℕ) → b ≡ false → Appends book a a (cond b xs []) most
+appends_if_not {book} a xs most not_so = subst (λ b. Appends book a a (cond b xs []) most) (sym not_so) (appends_less 0 most (omega arith) (appends_none book a))
+
+pub appends_if : {book : Book} {a c : PendingBits} {b : Bool} {xs ys : List Entry} {most : ℕ} → b ≡ true → xs ≡ ys → Appends book a c xs most → Appends book a c (cond b ys []) most
+appends_if {book} {a} {c} {b} {xs} {ys} {most} so same p = subst (λ b. Appends book a c (cond b ys []) most) (sym so) (subst (λ l. Appends book a c l most) same p)
+
+-- where no bits wait, nothing is said
+pub silent_said : (a : PendingBits) → a.count ≡ 0 → said a ≡ []
+silent_said a silent = ap (λ n. bits_of n a.value) silent ∙ bits_none a.value
+
+one_less : (b : Bool) (n : ℕ) → (if b then 0 else n) ≤ n
+one_less true n = omega arith
+one_less false n = omega arith
+
+few_unopened : (sent : List Bool) → unopened sent ≤ 5
+few_unopened sent = omega (arith, one_less (get_or sent 0 false) 1, one_less (get_or sent 1 false) 2, one_less (get_or sent 2 false) 2)
+
+-- and only identifiers may come
+pub silent_load : (a : PendingBits) → a.count ≡ 0 → load a ≤ 5
+silent_load a silent = omega (arith, silent, few_unopened a.gaggle.sent)
+
+-- what was said from nothing on, and put
+pub spells_said : {S : Type 0} {k : SinkOf S} {book : Book} {a b : PendingBits} {g : Gaggle} {r : Result (Unit {0}) PutFault} {s t : Standing S} {xs : List Entry} (most : ℕ) →
+    IsOpen s → a.count ≡ 0 → Appends book a b xs most → Puts k r s t (said b) → g ≡ b.gaggle → Spells k book a.gaggle g r s t xs
+spells_said {S} {k} {book} {a} {b} {g} {r} {s} {t} {xs} most opened silent p put same =
+    subst (λ h. Spells k book a.gaggle h r s t xs) (sym same) record {
+      puts = λ before agrees. subst (λ l. Puts k r s t l) (p.bits before agrees ∙ ap (λ l. l ++ text (spelled_after book a.gaggle.options before xs)) (silent_said a silent)) put;
+      agrees = λ before agrees. on_ok r (p.agrees before agrees);
+      is_open = puts_open r s t (said b) opened put;
+      options = p.options;
+    }
+
+-- ---- one word
+
+less : (n : ℕ) → n < 2 → nat_lt n 2 ≡ true
+less n h = grind arith
+
+no_less : (n : ℕ) → 2 ≤ n → nat_lt n 2 ≡ false
+no_less n h = grind arith
+
+pub opens_short : (n : ℕ) (a : PendingBits) → n < 2 → Opens n a a
+opens_short n a short = record {
+  bits = λ before agrees. sym (ap (λ b. said a ++ text (if b then [] else opening a.gaggle.options before n)) (less n short) ∙ append-nil (said a));
+  agrees = λ before word is agrees. agrees_other a.gaggle.sent before (Word word) (λ m low. grind (arith, is, short, low)) agrees;
+  options = refl;
+}
+
+pub opens_again : (n : ℕ) (a : PendingBits) → 2 ≤ n → n ≤ 4 → get_or a.gaggle.sent (n - 2) false ≡ true → Opens n a a
+opens_again n a low high was = record {
+  bits = λ before agrees.
+      let there : list_any (is_word_of n) before ≡ true = sym (agrees.at n low high) ∙ was in
+      sym (ap (λ b. said a ++ text (if b then [] else opening a.gaggle.options before n)) (no_less n low) ∙
+      ap (λ b. said a ++ text (if b then [] else option_item n (option_of a.gaggle.options n) ∷ [])) there ∙ append-nil (said a));
+  agrees = λ before word is agrees.
+      agrees_again a.gaggle.sent before word (subst (λ m. 2 ≤ m) (sym is) low) (subst (λ m. m ≤ 4) (sym is) high) (ap (λ m. get_or a.gaggle.sent (m - 2) false) is ∙ was) agrees;
+  options = refl;
+}
+
+-- no identifier is due before a word of this length
+pub opens_already : (n : ℕ) (a : PendingBits) → n ≤ 4 → get_or a.opened n false ≡ true → Opens n a a
+opens_already zero a high is = opens_short zero a (omega arith)
+opens_already (suc zero) a high is = opens_short (suc zero) a (omega arith)
+opens_already (suc (suc n)) a high is =
+    let back : suc (suc n) - 2 ≡ n = omega arith in
+    opens_again (suc (suc n)) a (omega arith) high (ap (λ m. get_or a.gaggle.sent m false) back ∙ sym (ap (λ l. get_or l (suc (suc n)) false) a.opened_told) ∙ is)
+
+-- one is due
+pub is_long : (n : ℕ) (a : PendingBits) → get_or a.opened n false ≡ false → 2 ≤ n
+is_long zero a is = let no : true ≡ false = sym (ap (λ l. get_or l zero false) a.opened_told) ∙ is in cc
+is_long (suc zero) a is = let no : true ≡ false = sym (ap (λ l. get_or l (suc zero) false) a.opened_told) ∙ is in cc
+is_long (suc (suc n)) a is = omega arith
+
+pub is_due : (n : ℕ) (a : PendingBits) → get_or a.opened n false ≡ false → get_or a.gaggle.sent (n - 2) false ≡ false
+is_due zero a is = let no : true ≡ false = sym (ap (λ l. get_or l zero false) a.opened_told) ∙ is in cc
+is_due (suc zero) a is = let no : true ≡ false = sym (ap (λ l. get_or l (suc zero) false) a.opened_told) ∙ is in cc
+is_due (suc (suc n)) a is =
+    let back : suc (suc n) - 2 ≡ n = omega arith in
+    ap (λ m. get_or a.gaggle.sent m false) back ∙ sym (ap (λ l. get_or l (suc (suc n)) false) a.opened_told) ∙ is
+
+-- it was sent
+pub opened_there : (n : ℕ) (opened sent : List Bool) → 2 ≤ n → opened ≡ true ∷ true ∷ sent → set opened n true ≡ true ∷ true ∷ set sent (n - 2) true
+opened_there zero opened sent low is = absurd (omega arith)
+opened_there (suc zero) opened sent low is = absurd (omega arith)
+opened_there (suc (suc n)) opened sent low is =
+    let back : suc (suc n) - 2 ≡ n = omega arith in
+    ap (λ l. set l (suc (suc n)) true) is ∙ ap (λ m. true ∷ true ∷ set sent m true) (sym back)
+
+pub opens_first : (n : ℕ) (a b : PendingBits) → 2 ≤ n → n ≤ 4 → length a.gaggle.sent ≡ 3 → get_or a.gaggle.sent (n - 2) false ≡ false →
+    said b ≡ said a ++ item_bits (option_item n (option_of a.gaggle.options n)) → b.gaggle.sent ≡ set a.gaggle.sent (n - 2) true → b.gaggle.options ≡ a.gaggle.options → Opens n a b
+opens_first n a b low high three was put sent same = record {
+  bits = λ before agrees.
+      let none : list_any (is_word_of n) before ≡ false = sym (agrees.at n low high) ∙ was in
+      put ∙ ap (λ l. said a ++ l) (sym (append-nil (item_bits (option_item n (option_of a.gaggle.options n))))) ∙
+      sym (ap (λ b. said a ++ text (if b then [] else opening a.gaggle.options before n)) (no_less n low) ∙
+      ap (λ b. said a ++ text (if b then [] else option_item n (option_of a.gaggle.options n) ∷ [])) none);
+  agrees = λ before word is agrees.
+      let first = agrees_first a.gaggle.sent before word (subst (λ m. 2 ≤ m) (sym is) low) (subst (λ m. m ≤ 4) (sym is) high) three agrees in
+      subst (λ l. Agrees l (before ++ Word word ∷ [])) (ap (λ m. set a.gaggle.sent (m - 2) true) is ∙ sym sent) first;
+  options = same;
+}
+
+module _ (book : Book) (options : List ℕ) (before : List Entry) where
+  said_text : (w : Bits) → text (spelled_after book options before (Word w ∷ [])) ≡ text (identified options before w.count) ++ word_bits book w.count (option_for options w.count) w.value
+  said_text w =
+      ap text (append-nil (entry_items book options before (Word w))) ∙
+      elim (short_or_long w.count) [
+        | inl short ↦
+            short_text book options before w short ∙
+            sym (ap (λ b. text (if b then [] else opening options before w.count) ++ (if b then bits_of w.count w.value else item_bits (word_item book w.count (if b then 0 else option_of options w.count) w.value))) (less w.count short))
+        | inr long ↦
+            long_text long (list_any (is_word_of w.count) before) refl ∙
+            sym (ap (λ b. text (if b then [] else opening options before w.count) ++ (if b then bits_of w.count w.value else item_bits (word_item book w.count (if b then 0 else option_of options w.count) w.value))) (no_less w.count long))
+      ]
+    where
+      short_or_long : (n : ℕ) → (n < 2) ⊎ (2 ≤ n)
+      short_or_long n = grind arith
+
+      long_text : 2 ≤ w.count → (b : Bool) → list_any (is_word_of w.count) before ≡ b →
+          text (entry_items book options before (Word w)) ≡ text (opening options before w.count) ++ item_bits (word_item book w.count (option_of options w.count) w.value)
+      long_text long true is = again_text book options before w long is ∙ sym (ap (λ b. text (if b then [] else option_item w.count (option_of options w.count) ∷ []) ++ item_bits (word_item book w.count (option_of options w.count) w.value)) is)
+      long_text long false is =
+          first_text book options before w long is ∙
+          sym (ap (λ b. text (if b then [] else option_item w.count (option_of options w.count) ∷ []) ++ item_bits (word_item book w.count (option_of options w.count) w.value)) is ∙
+          ap (λ l. l ++ item_bits (word_item book w.count (option_of options w.count) w.value)) (append-nil (item_bits (option_item w.count (option_of options w.count)))))
+
+pub appends_word : (book : Book) (a b c : PendingBits) (word : ℕ) → Opens (word / 16) a b → load b ≡ load a → load c ≤ load b + 8 →
+    said c ≡ said b ++ word_bits book (word / 16) (option_for a.gaggle.options (word / 16)) (word % 16) → c.gaggle ≡ b.gaggle → Appends book a c (word_of word ∷ []) 8
+appends_word book a b c word opens same more put kept = record {
+  bits = λ before agrees.
+      let w = word_bits book (word / 16) (option_for a.gaggle.options (word / 16)) (word % 16) in
+      put ∙ ap (λ l. l ++ w) (opens.bits before agrees) ∙
+      append_assoc (said a) (text (identified a.gaggle.options before (word / 16))) w ∙
+      ap (λ l. said a ++ l) (sym (said_text book a.gaggle.options before (record { value = word % 16; count = word / 16 })));
+  agrees = λ before agrees. subst (λ g. Agrees g.sent (before ++ word_of word ∷ [])) (sym kept) (opens.agrees before (record { value = word % 16; count = word / 16 }) refl agrees);
+  options = ap (λ g. g.options) kept ∙ opens.options;
+  load = omega (arith, same, more);
+}
+
+-- ---- how many bits may come
+
+pub load_pushed : (a b : PendingBits) (n : ℕ) → b.count ≡ a.count + n → b.gaggle ≡ a.gaggle → load b ≡ load a + n
+load_pushed a b n more kept = let same = ap (λ (g : Gaggle). unopened g.sent) kept in omega (arith, same, more)
+
+pub opened_less : (sent : List Bool) (n : ℕ) → length sent ≡ 3 → 2 ≤ n → n ≤ 4 → get_or sent (n - 2) false ≡ false → unopened (set sent (n - 2) true) + identifier_width n ≡ unopened sent
+opened_less [] n three low high was = absurd (omega (arith, three))
+opened_less (a ∷ []) n three low high was = absurd (omega (arith, three))
+opened_less (a ∷ b ∷ []) n three low high was = absurd (omega (arith, three))
+opened_less (a ∷ b ∷ c ∷ d ∷ sent) n three low high was = absurd (omega (arith, three))
+opened_less (a ∷ b ∷ c ∷ []) zero three low high was = absurd (omega arith)
+opened_less (a ∷ b ∷ c ∷ []) (suc zero) three low high was = absurd (omega arith)
+opened_less (a ∷ b ∷ c ∷ []) (suc (suc zero)) three low high was = rw was (omega arith)
+opened_less (a ∷ b ∷ c ∷ []) (suc (suc (suc zero))) three low high was = rw was (omega arith)
+opened_less (a ∷ b ∷ c ∷ []) (suc (suc (suc (suc zero)))) three low high was = rw was (omega arith)
+opened_less (a ∷ b ∷ c ∷ []) (suc (suc (suc (suc (suc n))))) three low high was = absurd (omega arith)
+
+-- ---- raw bits
+
+raws_text : (book : Book) (options : List ℕ) (before : List Entry) (bits : List Bool) → text (spelled_after book options before (map Bit bits)) ≡ bits
+raws_text book options before [] = refl
+raws_text book options before (b ∷ bits) =
+    text-append (entry_items book options before (Bit b)) (spelled_after book options (before ++ Bit b ∷ []) (map Bit bits)) ∙
+    ap (λ l. l ++ text (spelled_after book options (before ++ Bit b ∷ []) (map Bit bits))) (raw_text book options before b) ∙
+    ap (λ l. b ∷ l) (raws_text book options (before ++ Bit b ∷ []) bits)
+
+raws_agree : (sent : List Bool) (before : List Entry) (bits : List Bool) → Agrees sent before → Agrees sent (before ++ map Bit bits)
+raws_agree sent before [] agrees = subst (Agrees sent) (sym (append-nil before)) agrees
+raws_agree sent before (b ∷ bits) agrees =
+    subst (Agrees sent) (append_assoc before (Bit b ∷ []) (map Bit bits)) (raws_agree sent (before ++ Bit b ∷ []) bits (agrees_other sent before (Bit b) (λ n low. refl) agrees))
+
+pub appends_raws : (book : Book) (a b : PendingBits) (bits : List Bool) (most : ℕ) → said b ≡ said a ++ bits → b.gaggle ≡ a.gaggle → load b ≤ load a + most → Appends book a b (map Bit bits) most
+appends_raws book a b bits most put kept more = record {
+  bits = λ before agrees. put ∙ ap (λ l. said a ++ l) (sym (raws_text book a.gaggle.options before bits));
+  agrees = λ before agrees. subst (λ g. Agrees g.sent (before ++ map Bit bits)) (sym kept) (raws_agree a.gaggle.sent before bits agrees);
+  options = ap (λ g. g.options) kept;
+  load = more;
+}
+
+-- a word of no bit says nothing
+pub appends_nothing : {book : Book} {a c : PendingBits} {most : ℕ} → Appends book a c (word_of 0 ∷ map Bit (bits_of 0 0)) most → Appends book a c [] most
+unfolding bits_of
+appends_nothing {book} {a} {c} p = record {
+  bits = λ before agrees. p.bits before agrees ∙ ap (λ l. said a ++ l) (said_text book a.gaggle.options before (record { value = 0; count = 0 }));
+  agrees = λ before agrees. record { at = λ n low high. (p.agrees before agrees).at n low high ∙ no_longer before n low };
+  options = p.options;
+  load = p.load;
+}
+  where
+    no_longer : (before : List Entry) (n : ℕ) → 2 ≤ n → list_any (is_word_of n) (before ++ word_of 0 ∷ []) ≡ list_any (is_word_of n) (before ++ [])
+    no_longer [] n low = let other : is_word_of n (word_of 0) ≡ false = grind arith in ap (λ b. b || false) other
+    no_longer (x ∷ before) n low = ap (λ b. is_word_of n x || b) (no_longer before n low)
+
+-- types and signs that are said where a test holds
+pub appends_typed : {book : Book} {a c : PendingBits} {b : Bool} {t : Typed} {entries : List Entry} {most : ℕ} → IsTyped b t entries → Appends book a c (entries_of t) most → Appends book a c (cond b entries []) most
+appends_typed {book} {a} {c} {b = true} {most = most} is p = subst (λ l. Appends book a c l most) (is.said refl) p
+appends_typed {book} {a} {c} {b = false} {t} {most = most} is p =
+    appends_nothing (subst (λ v. Appends book a c (word_of 0 ∷ raws_of v) most) (is.no_signs refl) (subst (λ w. Appends book a c (word_of w ∷ raws_of t.signs) most) (is.no_word refl) p))

@@ -1,0 +1,55 @@
+use Rattle.std.proofs.Common.{◌≡◌, ◌+◌, ◌*◌, ◌-◌, ◌∙◌, ap, sym, subst, arith}
+use Rattle.plane_defs.specs.Profile.{profile}
+use Rattle.plane_defs.specs.Sets.{refined}
+use Rattle.plane_coder.specs.Refining.{refining}
+use Rattle.plane_coder.specs.Appends.{Appends}
+use Rattle.plane_coder.proofs.Appending.{appends_none, appends_less, appends_both}
+use Rattle.plane_coder.proofs.BlockSets.{refining_none, refining_more, refining_nothing}
+use Rattle.plane_coder.proofs.pushes.push_refinement.Goals as goal
+
+pub returns-then-not-is_any_of : goal.returns-then-not-is_any_of
+returns-then-not-is_any_of c book =
+    let s = c.args.plane_masks.now in
+    let told = sym c.if-not-is_any_of.true ∙ c.is_any_of.ensures (refined s.block.now s.plan.now.weights.shifts s.plan.now.plane) c.requires.shown in
+    subst (λ l. Appends book c.args.pending.now c.args.pending.now l (4 * (c.args.to - c.args.from))) (refining_nothing s.block.now s.plan.now.weights.shifts s.plan.now.plane (4 * c.args.from) (4 * (c.args.to - c.args.from)) told)
+    (appends_less 0 (4 * (c.args.to - c.args.from)) (omega arith) (appends_none book c.args.pending.now))
+
+pub loop-k-init : goal.loop-k-init
+loop-k-init c = record {
+  says = λ book.
+      let s = c.args.plane_masks.now in
+      let block = s.block.now in
+      let weights = s.plan.now.weights.shifts in
+      let plane = s.plan.now.plane in
+      let zero : 0 ≡ 4 * (c.args.from - c.args.from) = omega arith in
+      let none = sym (refining_none block weights plane (4 * c.args.from)) ∙ ap (refining block weights plane (4 * c.args.from)) zero in
+      subst (Appends book c.args.pending.now c.args.pending.now (refining block weights plane (4 * c.args.from) (4 * (c.args.from - c.args.from)))) zero
+      (subst (λ l. Appends book c.args.pending.now c.args.pending.now l 0) none (appends_none book c.args.pending.now));
+}
+
+pub raws-requires : goal.raws-requires
+raws-requires c =
+    let load = (c.loop-k.invariant.says profile).load in
+    record { packed = c.refinement.ensures.packed; room = omega (arith, load, c.requires.room) }
+
+pub loop-k-preserved : goal.loop-k-preserved
+loop-k-preserved c = record {
+  says = λ book.
+      let s = c.args.plane_masks.now in
+      let block = s.block.now in
+      let weights = s.plan.now.weights.shifts in
+      let plane = s.plan.now.plane in
+      let k = c.loop-k.k in
+      let from = c.args.from in
+      let most : 4 * (k - from) + 4 ≡ 4 * ((k + 1) - from) = omega (arith, c.loop-k.auto.k) in
+      let next = subst (λ l. Appends book c.loop-k.pending c.raws.new.self l 4) c.refinement.ensures.bits (c.raws.ensures book) in
+      let both = appends_both (4 * (k - from)) 4 (c.loop-k.invariant.says book) next in
+      subst (Appends book c.args.pending.now c.raws.new.self (refining block weights plane (4 * from) (4 * ((k + 1) - from)))) most
+      (subst (λ l. Appends book c.args.pending.now c.raws.new.self l (4 * (k - from) + 4)) (refining_more block weights plane from k c.loop-k.auto.k) both);
+}
+
+pub returns : goal.returns
+returns c book =
+    let s = c.args.plane_masks.now in
+    let all : c.loop-k.k ≡ c.args.to = omega (arith, c.loop-k-test.false, c.loop-k.auto.k-end, c.requires.order) in
+    subst (λ n. Appends book c.args.pending.now c.loop-k.pending (refining s.block.now s.plan.now.weights.shifts s.plan.now.plane (4 * c.args.from) (4 * (n - c.args.from))) (4 * (n - c.args.from))) all (c.loop-k.invariant.says book)

@@ -1,5 +1,0 @@
-use Rattle.plane_defs.specs.Sets.{significant}
-use Rattle.plane_coder.proofs.seen.Seen.quads.Goals as goal
-
-pub returns : goal.returns
-returns c = let s = c.args.self.now in record { shown = c.four_sets.ensures (significant s.block.now s.plan.now.plane) s.reached_shown }

@@ -1,9 +1,0 @@
-use Rattle.std.proofs.Common.{◌/◌, ◌%◌, arith}
-use Rattle.item_defs.specs.Bits.{bits_of}
-use Rattle.plane_coder.proofs.Speaking.{speaks_raws, load_pushed}
-use Rattle.plane_coder.proofs.speech.Speech.raws.Goals as goal
-
-pub returns : goal.returns
-returns c book =
-    let more = load_pushed c.args.self.now c.push.new.self (c.args.raws / 16) c.push.ensures.count c.push.ensures.gaggle in
-    speaks_raws book c.args.self.now c.push.new.self (bits_of (c.args.raws / 16) (c.args.raws % 16)) 4 c.push.ensures.said c.push.ensures.gaggle (omega (arith, more, c.requires.packed.length))

@@ -1,0 +1,66 @@
+// The codes of a gaggle.
+
+ghost use Rattle.std.specs.Prelude.{◌≡◌, ◌<◌, ◌≤◌, ◌/◌, ◌%◌, ℕ, [], slice_index_or};
+ghost use Rattle.block_masks.specs.Gaggles.{AreOptions};
+ghost use Rattle.plane_defs.specs.Codes.{no_code};
+ghost use Rattle.plane_coder.specs.Coding.{IsCodeOf, row_of, option_for};
+ghost use Rattle.plane_coder.specs.Picked.{IsPacked};
+
+use crate::tables::{CodeTables, NOTHING};
+use base_122::Code;
+
+// Where the tables have the codes of each length of words from 0 on, each under one of its options.
+#[inline(always)]
+fn rows_of(options: [u8; 3]) -> [u8; 5]
+    requires { AreOptions options }
+    ensures rows { (n : ℕ) → n ≤ 4 → slice_index_or result n 0 ≡ row_of n (option_for options n) }
+    ensures within { (n : ℕ) → n ≤ 4 → slice_index_or result n 0 < 11 }
+{
+    [0, 1, 2 + options[0], 4 + options[1], 7 + options[2]]
+}
+
+// The code of each word as it is picked, under the option of its length.
+fn codes_of(tables: &CodeTables, options: [u8; 3]) -> [Code; 80]
+    requires { AreOptions options }
+    ensures { (word : ℕ) → IsPacked word → IsCodeOf tables.now.book (word / 16) (option_for options (word / 16)) (word % 16) (slice_index_or result word no_code) }
+{
+    let rows = rows_of(options);
+    let mut codes = [NOTHING; 80];
+    for n in 0..5usize {
+        codes[16 * n..16 * n + 16].copy_from_slice(&tables.rows[rows[n] as usize]);
+    }
+    codes
+}
+
+// The tables with the options of a gaggle, and the codes under them: each word has its place, as it is picked.
+#[derive(Drop)]
+pub(crate) struct OptionCodes<'a> {
+    pub tables: &'a CodeTables,
+    pub options: [u8; 3],
+    codes: [Code; 80],
+    ghost known: { AreOptions options },
+    ghost coded: { (word : ℕ) → IsPacked word → IsCodeOf tables.now.book (word / 16) (option_for options (word / 16)) (word % 16) (slice_index_or codes word no_code) },
+}
+
+impl<'a> OptionCodes<'a> {
+    pub fn new(tables: &'a CodeTables, options: [u8; 3]) -> OptionCodes<'a>
+        requires { AreOptions options }
+        ensures tables { result.tables.now ≡ tables.now }
+        ensures options { result.options ≡ options }
+    {
+        OptionCodes {
+            tables,
+            options,
+            codes: codes_of(tables, options),
+        }
+    }
+
+    // The code of a picked word.
+    #[inline(always)]
+    pub fn code(&self, word: u8) -> Code
+        requires { IsPacked word }
+        ensures { IsCodeOf self.now.tables.now.book (word / 16) (option_for self.now.options (word / 16)) (word % 16) result }
+    {
+        self.codes[word as usize]
+    }
+}

@@ -1,0 +1,164 @@
+// What a gaggle says, as bits on their way.
+
+ghost use Rattle.std.specs.Prelude.{◌≡◌, ◌+◌, ◌-◌, ◌/◌, ◌%◌, ◌≤◌, ◌<◌, ◌^◌, ◌++◌, [], ◌∷◌, ℕ, false, true, slice_index_or, slice_set};
+ghost use Rattle.item_defs.specs.Bits.{bits_of};
+ghost use Rattle.item_defs.specs.Items.{item_bits};
+ghost use Rattle.plane_defs.specs.Codes.{option_item, identifier_width as width_of, identifier_number as number_of};
+ghost use Rattle.base_122.specs.declared.book.Book.{Book as BookValue};
+ghost use Rattle.plane_defs.specs.Spelled.{option_of};
+ghost use Rattle.block_masks.specs.Gaggles.{AreOptions};
+ghost use Rattle.plane_coder.specs.Picked.{IsPacked, ArePacked, word_of, raws_of, entries_of};
+ghost use Rattle.plane_coder.specs.Coding.{unopened};
+ghost use Rattle.bit_pipe.specs.Standing.{Writes, IsReady};
+
+use crate::plane_masks::Typed;
+use crate::option_codes::OptionCodes;
+use bit_pipe::{BitOut, OctetOut, PutFault};
+use block_masks::Gaggle;
+
+fn identifier_width(length: u8) -> u8
+    ensures { result ≡ width_of length }
+{
+    if length < 3 { 1 } else { 2 }
+}
+
+// The number that names an option: the uncoded one is all ones.
+fn identifier_number(length: u8, option: u8) -> u8
+    requires short { 2 ≤ length }
+    requires long { length ≤ 4 }
+    requires known { option < length }
+    ensures value { result ≡ number_of length option }
+    ensures fits { result < 2 ^ width_of length }
+{
+    if length == 3 && option == 2 {
+        return 3;
+    }
+    option
+}
+
+// Up to 63 bits that are put together, and the gaggle after them.
+#[derive(Drop)]
+pub(crate) struct PendingBits {
+    value: u64,
+    count: u8,
+    pub gaggle: Gaggle,
+    // For each length of words from 0 on: no identifier is due before the next word of that length.
+    opened: [bool; 5],
+    ghost fits: { value < 2 ^ count },
+    ghost most: { count + unopened gaggle.sent ≤ 63 },
+    ghost known: { AreOptions gaggle.options },
+    ghost opened_told: { opened ≡ true ∷ true ∷ gaggle.sent },
+}
+
+impl PendingBits {
+    ghost use Rattle.plane_coder.specs.Appends.{Appends, load, said, Opens};
+
+    // Nothing so far.
+    #[inline(always)]
+    pub fn new(gaggle: Gaggle) -> PendingBits
+        requires { AreOptions gaggle.options }
+        ensures gaggle { result.gaggle ≡ gaggle }
+        ensures silent { result.count ≡ 0 }
+    {
+        PendingBits {
+            value: 0,
+            count: 0,
+            gaggle,
+            opened: [true, true, gaggle.sent[0], gaggle.sent[1], gaggle.sent[2]],
+        }
+    }
+
+    #[inline(always)]
+    fn push(&mut self, value: u8, count: u8)
+        requires few { count ≤ 8 }
+        requires room { load self.old + count ≤ 63 }
+        requires fits { value < 2 ^ count }
+        ensures said { said self.new ≡ said self.old ++ bits_of count value }
+        ensures count { self.new.count ≡ self.old.count + count }
+        ensures gaggle { self.new.gaggle ≡ self.old.gaggle }
+    {
+        self.value = (self.value << count) | u64::from(value);
+        self.count += count;
+    }
+
+    // The identifier of an option, before the first word of its length.
+    #[cold]
+    #[inline(never)]
+    fn open(&mut self, length: u8)
+        requires short { 2 ≤ length }
+        requires long { length ≤ 4 }
+        requires new { slice_index_or self.old.gaggle.sent (length - 2) false ≡ false }
+        ensures said { said self.new ≡ said self.old ++ item_bits (option_item length (option_of self.old.gaggle.options length)) }
+        ensures load { load self.new ≡ load self.old }
+        ensures sent { self.new.gaggle.sent ≡ slice_set self.old.gaggle.sent (length - 2) true }
+        ensures options { self.new.gaggle.options ≡ self.old.gaggle.options }
+    {
+        let place = length as usize - 2;
+        let option = self.gaggle.options[place];
+        self.gaggle.sent[place] = true;
+        self.opened[length as usize] = true;
+        self.push(identifier_number(length, option), identifier_width(length));
+    }
+
+    // The identifier before a word of this length, where it is the first.
+    #[inline(always)]
+    fn open_first(&mut self, length: u8)
+        requires { length ≤ 4 }
+        ensures opens { Opens length self.old self.new }
+        ensures load { load self.new ≡ load self.old }
+    {
+        if self.opened[length as usize] {
+            return;
+        }
+        self.open(length);
+    }
+
+    // A word.
+    #[inline(always)]
+    pub fn word(&mut self, option_codes: &OptionCodes, word: u8)
+        requires packed { IsPacked word }
+        requires same { option_codes.now.options ≡ self.old.gaggle.options }
+        requires room { load self.old + 8 ≤ 63 }
+        ensures { Appends option_codes.now.tables.now.book self.old self.new (word_of word ∷ []) 8 }
+    {
+        self.open_first(word / 16);
+        let code = option_codes.code(word);
+        self.push(code.bits, code.len);
+    }
+
+    // Raw bits.
+    #[inline(always)]
+    pub fn raws(&mut self, raws: u8)
+        requires packed { IsPacked raws }
+        requires room { load self.old + 4 ≤ 63 }
+        ensures { (book : BookValue) → Appends book self.old self.new (raws_of raws) 4 }
+    {
+        self.push(raws % 16, raws / 16);
+    }
+
+    // A word of types and the signs after it.
+    #[inline(always)]
+    pub fn typed(&mut self, option_codes: &OptionCodes, typed: Typed)
+        requires packed { ArePacked typed }
+        requires same { option_codes.now.options ≡ self.old.gaggle.options }
+        requires room { load self.old + 12 ≤ 63 }
+        ensures { Appends option_codes.now.tables.now.book self.old self.new (entries_of typed) 12 }
+    {
+        self.word(option_codes, typed.word);
+        self.raws(typed.signs);
+    }
+
+    // Puts the bits, so that none are left.
+    #[inline(always)]
+    pub fn put<O: OctetOut>(&mut self, out: &mut BitOut<O>) -> Result<(), PutFault>
+        requires { IsReady O.sink out.old }
+        ensures puts { Writes O.sink result out.old out.new (said self.old) }
+        ensures silent { self.new.count ≡ 0 }
+        ensures gaggle { self.new.gaggle ≡ self.old.gaggle }
+    {
+        let (value, count) = (self.value, self.count);
+        self.value = 0;
+        self.count = 0;
+        out.put_long(value, count)
+    }
+}

@@ -1,0 +1,206 @@
+// A block as a plane sees it.
+
+ghost use Rattle.std.specs.Prelude.{◌≡◌, ◌<◌, ◌≤◌, ◌+◌, ◌-◌, ◌*◌, ◌/◌, ◌&&◌, ℕ, Bool, true, pos, [], ◌∷◌, length, map, slice_index_or};
+ghost use Rattle.item_defs.specs.Bits.{bit};
+ghost use Rattle.plane_defs.specs.declared.sets.Set.TheVariants.{Descendants, Family, Grandchildren, Quad};
+ghost use Rattle.plane_defs.specs.declared.entries.Entry.TheVariants.{Bit as BitEntry};
+ghost use Rattle.plane_defs.specs.Spans.{span};
+ghost use Rattle.plane_defs.specs.Sets.{magnitude, significant, set_significant, type_due, refined as is_refined};
+ghost use Rattle.plane_defs.specs.Entries.{negative as is_negative, word, typed, flags};
+ghost use Rattle.block_masks.specs.Masks.{Shows};
+
+use crate::fours::{Fours, filled, four_sets};
+use crate::masks::Masks;
+use block_masks::{CodedPlane, Sets, except, both, either, masked, one, part, pick};
+
+// The word of the types of some positions and the signs after it, each as it is picked.
+#[derive(Clone, Copy)]
+pub(crate) struct Typed {
+    pub word: u8,
+    pub signs: u8,
+}
+
+// The numbers that are significant in the plane, those that were above it, those whose types are due, those that
+// have the plane's bit, and those that are negative.
+#[derive(Clone, Copy)]
+pub(crate) struct PlaneMasks<'a> {
+    pub block: &'a [i32],
+    pub plan: &'a CodedPlane,
+    reached: u64,
+    above: u64,
+    due: u64,
+    bits: u64,
+    negative: u64,
+    ghost whole: { length block.now ≡ 64 },
+    ghost reached_shown: { Shows reached (significant block.now plan.now.plane) 0 64 },
+    ghost above_shown: { Shows above (significant block.now (plan.now.plane + 1)) 0 64 },
+    ghost due_shown: { Shows due (type_due block.now plan.now.weights.shifts plan.now.plane) 0 64 },
+    ghost bits_shown: { Shows bits (λ p. bit (magnitude block.now p) plan.now.plane) 0 64 },
+    ghost negative_shown: { Shows negative (λ p. is_negative (slice_index_or block.now p (pos 0))) 0 64 },
+}
+
+impl<'a> PlaneMasks<'a> {
+    ghost use Rattle.block_masks.specs.SetMasks.{AreSets, AreQuads};
+    ghost use Rattle.plane_coder.specs.Fours.{AreFours};
+    ghost use Rattle.plane_coder.specs.Viewed.{IsView};
+    ghost use Rattle.plane_coder.specs.Refining.{refining};
+    ghost use Rattle.plane_coder.specs.Picked.{IsPacked, ArePacked, word_of, raws_of, entries_of};
+
+    #[inline(always)]
+    pub fn new(block: &'a [i32], plan: &'a CodedPlane, masks: Masks) -> PlaneMasks<'a>
+        requires whole { length block.now ≡ 64 }
+        requires view { IsView block.now plan.now.plane masks }
+        ensures block { result.block.now ≡ block.now }
+        ensures plan { result.plan.now ≡ plan.now }
+    {
+        PlaneMasks {
+            block,
+            plan,
+            reached: either(masks.above, masks.bits),
+            above: masks.above,
+            due: except(masks.above, plan.coded),
+            bits: masks.bits,
+            negative: masks.negative,
+        }
+    }
+
+    // The types of up to four positions, and their signs.
+    #[inline(always)]
+    pub fn types(&self, at: u8, count: u8) -> Typed
+        requires few { count ≤ 4 }
+        requires within { at + count ≤ 64 }
+        requires at { at < 64 }
+        ensures typed { entries_of result ≡ typed self.now.block.now self.now.plan.now.weights.shifts self.now.plan.now.plane (span at count) }
+        ensures packed { ArePacked result }
+    {
+        let new = both(self.due, self.reached);
+        Typed {
+            word: pick(part(self.due, at, count), part(self.reached, at, count)),
+            signs: pick(part(new, at, count), part(self.negative, at, count)),
+        }
+    }
+
+    // The types of some positions, of those that a mask has.
+    #[inline(always)]
+    fn types_in(&self, at: u8, count: u8, among: u64) -> Fours
+        requires few { count ≤ 16 }
+        requires within { at + count ≤ 64 }
+        requires at { at < 64 }
+        ensures { (g : ℕ → Bool) → Shows among g at count → AreFours (λ p. type_due self.now.block.now self.now.plan.now.weights.shifts self.now.plan.now.plane p && g p) (significant self.now.block.now self.now.plan.now.plane) (λ p. is_negative (slice_index_or self.now.block.now p (pos 0))) at count result }
+    {
+        let due = both(part(self.due, at, count), among);
+        let ones = both(due, part(self.reached, at, count));
+        let minus = both(ones, part(self.negative, at, count));
+        Fours {
+            plain: except(minus, due),
+            ones,
+        }
+    }
+
+    // The types of the children of significant families.
+    #[inline(always)]
+    pub fn types_of_children(&self, sets: Sets) -> Fours
+        requires { AreSets (significant self.now.block.now self.now.plan.now.plane) sets }
+        ensures { AreFours (λ p. type_due self.now.block.now self.now.plan.now.weights.shifts self.now.plan.now.plane p && set_significant self.now.block.now self.now.plan.now.plane (Family ((p - 4) / 4))) (significant self.now.block.now self.now.plan.now.plane) (λ p. is_negative (slice_index_or self.now.block.now p (pos 0))) 4 12 result }
+    {
+        self.types_in(4, 12, filled(sets.families))
+    }
+
+    // The types of the significant sets of four grandchildren in family i.
+    #[inline(always)]
+    pub fn types_of_quads(&self, i: u8) -> Fours
+        requires { i < 3 }
+        ensures { AreFours (λ p. type_due self.now.block.now self.now.plan.now.weights.shifts self.now.plan.now.plane p && set_significant self.now.block.now self.now.plan.now.plane (Quad i ((p - (16 + 16 * i)) / 4))) (significant self.now.block.now self.now.plan.now.plane) (λ p. is_negative (slice_index_or self.now.block.now p (pos 0))) (16 + 16 * i) 16 result }
+    {
+        self.types_in(16 + 16 * i, 16, filled(self.quads(i)))
+    }
+
+    // The sets that are significant in the plane.
+    #[inline(always)]
+    pub fn sets(&self) -> Sets
+        ensures { AreSets (significant self.now.block.now self.now.plan.now.plane) result }
+    {
+        Sets::of(self.reached)
+    }
+
+    // The flag of all descendants, where it is due.
+    #[inline(always)]
+    pub fn flag_of_all(&self) -> u8
+        ensures flag { raws_of result ≡ map BitEntry (flags self.now.block.now self.now.plan.now.weights.shifts self.now.plan.now.plane (Descendants ∷ [])) }
+        ensures packed { IsPacked result }
+    {
+        let new = except(
+            one(Sets::of(self.above).descendants),
+            one(self.plan.live.descendants),
+        );
+        pick(new, one(self.sets().descendants))
+    }
+
+    // The flags of the families.
+    #[inline(always)]
+    pub fn flags_of_families(&self) -> u8
+        ensures flags { word_of result ≡ word (flags self.now.block.now self.now.plan.now.weights.shifts self.now.plan.now.plane (Family 0 ∷ Family 1 ∷ Family 2 ∷ [])) }
+        ensures packed { IsPacked result }
+    {
+        let sets = self.sets();
+        let new = except(Sets::of(self.above).families, self.plan.live.families);
+        pick(masked(new, sets.descendants), sets.families)
+    }
+
+    // The flags of the families' grandchildren.
+    #[inline(always)]
+    pub fn flags_of_grandchildren(&self) -> u8
+        ensures flags { word_of result ≡ word (flags self.now.block.now self.now.plan.now.weights.shifts self.now.plan.now.plane (Grandchildren 0 ∷ Grandchildren 1 ∷ Grandchildren 2 ∷ [])) }
+        ensures packed { IsPacked result }
+    {
+        let sets = self.sets();
+        let new = except(
+            Sets::of(self.above).grandchildren,
+            self.plan.live.grandchildren,
+        );
+        pick(both(new, sets.families), sets.grandchildren)
+    }
+
+    // The sets of four grandchildren in family i that are significant in the plane.
+    #[inline(always)]
+    pub fn quads(&self, i: u8) -> u64
+        requires { i < 3 }
+        ensures { AreQuads (significant self.now.block.now self.now.plan.now.plane) i result }
+    {
+        four_sets(self.reached, 16 + 16 * i)
+    }
+
+    // The flags of the four sets of grandchildren in a family whose grandchildren are significant.
+    #[inline(always)]
+    pub fn flags_of_quads(&self, i: u8) -> u8
+        requires family { i < 3 }
+        requires enclosing { set_significant self.now.block.now self.now.plan.now.plane (Grandchildren i) ≡ true }
+        ensures flags { word_of result ≡ word (flags self.now.block.now self.now.plan.now.weights.shifts self.now.plan.now.plane (Quad i 0 ∷ Quad i 1 ∷ Quad i 2 ∷ Quad i 3 ∷ [])) }
+        ensures packed { IsPacked result }
+    {
+        let before = four_sets(self.above, 16 + 16 * i);
+        let new = except(before, self.plan.live_quads[i as usize]);
+        pick(new, self.quads(i))
+    }
+
+    // The positions whose bits refine a number.
+    #[inline(always)]
+    pub fn refined(&self) -> u64
+        ensures { Shows result (is_refined self.now.block.now self.now.plan.now.weights.shifts self.now.plan.now.plane) 0 64 }
+    {
+        both(self.above, self.plan.coded)
+    }
+
+    // Their bits, of which up to four are picked.
+    #[inline(always)]
+    pub fn refinement(&self, refined: u64, at: u8, count: u8) -> u8
+        requires few { count ≤ 4 }
+        requires within { at + count ≤ 64 }
+        requires at { at < 64 }
+        requires refined { Shows refined (is_refined self.now.block.now self.now.plan.now.weights.shifts self.now.plan.now.plane) 0 64 }
+        ensures bits { raws_of result ≡ refining self.now.block.now self.now.plan.now.weights.shifts self.now.plan.now.plane at count }
+        ensures packed { IsPacked result }
+    {
+        pick(part(refined, at, count), part(self.bits, at, count))
+    }
+}

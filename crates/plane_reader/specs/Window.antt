@@ -1,0 +1,30 @@
+-- What stands first in a window of bits. (This project's own.)
+use Rattle.std.specs.Prelude.{◌≡◌, ◌≤◌, ◌<◌, ℕ, ◌+◌, ◌-◌, ◌^◌, Bool, true, false, count_ones}
+use lib.ListN.{get_or, drop}
+use Rattle.item_defs.specs.Bits.{value_of}
+use Rattle.item_defs.specs.Items.{item_bits, raw}
+use Rattle.plane_defs.specs.Codes.{word_item}
+use Rattle.base_122.specs.declared.book.Book.{Book}
+use Rattle.block_masks.specs.declared.gaggle.Gaggle.{Gaggle}
+use Rattle.block_masks.specs.Picks.{AreSpread}
+use Rattle.bit_pipe.specs.declared.front.Front.{Front}
+use Rattle.bit_pipe.specs.Windows.{first_of}
+use Rattle.plane_reader.specs.declared.window.Types.{Types}
+
+-- a word of so many bits, and how many spell it: one bit is raw, and more are spelled by the option that is known of their number
+pub record IsWordIn (book : Book) (gaggle : Gaggle) (count window : ℕ) (word : Front) : Type 0 where
+  pub none : count ≡ 0 → word.len ≡ 0
+  pub fits : word.number < 2 ^ count
+  pub few : word.len ≤ 8
+  pub one : count ≡ 1 → item_bits (raw word.number) ≡ first_of word.len window
+  pub sent : 2 ≤ count → get_or gaggle.sent (count - 2) false ≡ true
+  pub coded : 2 ≤ count → item_bits (word_item book count (get_or gaggle.options (count - 2) 0) word.number) ≡ first_of word.len window
+
+-- the types of some due places, one of them 1 where that is wanted, and the signs of those that are: the bits after the word
+pub record AreTypesIn (book : Book) (gaggle : Gaggle) (due : ℕ) (is_wanted : Bool) (window : ℕ) (types : Types) : Type 0 where
+  pub word : Front
+  pub is_word : IsWordIn book gaggle (count_ones due) window word
+  pub new : AreSpread due word.number types.new
+  pub wanted : is_wanted ≡ true → types.new ≡ 0 → ⊥
+  pub len : types.len ≡ word.len + count_ones types.new
+  pub minus : AreSpread types.new (value_of (drop word.len (first_of types.len window))) types.minus

@@ -1,0 +1,68 @@
+// The types of a group and their signs, where all their bits stand at hand.
+
+ghost use Rattle.std.specs.Prelude.{◌≤◌, ◌<◌, IfSome};
+ghost use Rattle.block_masks.specs.Gaggles.{AreOptions};
+ghost use Rattle.plane_reader.specs.Window.{IsWordIn, AreTypesIn};
+
+use crate::word::count_of;
+use bit_pipe::Front;
+use block_masks::{Gaggle, spread};
+use word_codes::{WordTables, word_in};
+
+// The word of so many bits that stands first in a window, and how many bits spell it, where it needs no option or its option is
+// known.
+#[inline(always)]
+fn known_word(tables: &WordTables, gaggle: &Gaggle, count: u8, window: u64) -> Option<Front>
+    requires few { count ≤ 4 }
+    requires known { AreOptions gaggle.now.options }
+    ensures { IfSome result (IsWordIn tables.now.book gaggle.now count window) }
+{
+    if count < 2 {
+        return Some(Front {
+            number: (window >> 63) as u8 & count,
+            len: count,
+        });
+    }
+    let place = count as usize - 2;
+    if !gaggle.sent[place] {
+        return None;
+    }
+    Some(word_in(tables, gaggle.options[place], count, window))
+}
+
+// What a window tells of a group: the places whose type is 1, those of them that are negative, and how many bits say so.
+#[derive(Clone, Copy)]
+pub(crate) struct Types {
+    pub new: u64,
+    pub minus: u64,
+    pub len: u8,
+}
+
+// The types of these due places and the signs that come with them, as they stand first in a window. None come where the word's
+// option isn't known, or where one type at least must be 1 and none is.
+#[inline(always)]
+pub(crate) fn types_in(
+    tables: &WordTables,
+    gaggle: &Gaggle,
+    due: u64,
+    is_wanted: bool,
+    window: u64,
+) -> Option<Types>
+    requires due { due < 16 }
+    requires known { AreOptions gaggle.now.options }
+    ensures { IfSome result (AreTypesIn tables.now.book gaggle.now due is_wanted window) }
+{
+    let word = known_word(tables, gaggle, count_of(due), window)?;
+    let new = spread(due, word.number);
+    if is_wanted && new == 0 {
+        return None;
+    }
+    // The word has as many ones, and is known before its places are.
+    let count = count_of(u64::from(word.number));
+    let signs = ((window << word.len) >> 1 >> (63 - count)) as u8;
+    Some(Types {
+        new,
+        minus: spread(new, signs),
+        len: word.len + count,
+    })
+}
