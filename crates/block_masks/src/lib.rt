@@ -9,8 +9,8 @@
 #![tactic(auto)]
 
 mod gaggle;
-mod masks;
 mod mask_sets;
+mod masks;
 mod picks;
 mod plan;
 mod sets;
@@ -19,8 +19,8 @@ mod stages;
 mod walk;
 
 pub use gaggle::{Gaggle, depth_of, families_of, gaggle_in, load, mark_of, store, with_families};
+pub use mask_sets::{both, either, except, four, has, is_any, joined, masked, one, part, three};
 pub use masks::{all_having_bit, all_negative, all_reaching, reaching};
-pub use mask_sets::{except, both, either, four, has, is_any, joined, masked, one, part, three};
 pub use picks::{pick, spread};
 pub use plan::{CodedPlane, PlanePlan};
 pub use sets::{Sets, is_any_of, quads_of};

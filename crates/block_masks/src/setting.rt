@@ -6,8 +6,8 @@ ghost use Rattle.std.specs.Int.{w32};
 ghost use Rattle.item_defs.specs.Bits.{bit};
 ghost use Rattle.block_masks.specs.BitsSet.{with_bit, SetsBits, SetsPart};
 
-use crate::masks::read;
 use crate::mask_sets::{both, has, part};
+use crate::masks::read;
 use crate::walk::{first_in, without};
 use std::simd::prelude::*;
 

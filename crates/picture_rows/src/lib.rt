@@ -8,5 +8,5 @@ mod rows;
 #[cfg(test)]
 mod tests;
 
-pub use blocks::{put_missing, put_block};
+pub use blocks::{put_block, put_missing};
 pub use picture::{Picture, PictureAt};

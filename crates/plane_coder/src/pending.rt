@@ -11,8 +11,8 @@ ghost use Rattle.plane_coder.specs.Picked.{IsPacked, ArePacked, word_of, raws_of
 ghost use Rattle.plane_coder.specs.Coding.{unopened};
 ghost use Rattle.bit_pipe.specs.Standing.{Writes, IsReady};
 
-use crate::plane_masks::Typed;
 use crate::option_codes::OptionCodes;
+use crate::plane_masks::Typed;
 use bit_pipe::{BitOut, OctetOut, PutFault};
 use block_masks::Gaggle;
 

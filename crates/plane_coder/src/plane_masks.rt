@@ -11,7 +11,7 @@ ghost use Rattle.block_masks.specs.Masks.{Shows};
 
 use crate::fours::{Fours, filled, four_sets};
 use crate::masks::Masks;
-use block_masks::{CodedPlane, Sets, except, both, either, masked, one, part, pick};
+use block_masks::{CodedPlane, Sets, both, either, except, masked, one, part, pick};
 
 // The word of the types of some positions and the signs after it, each as it is picked.
 #[derive(Clone, Copy)]

@@ -11,13 +11,18 @@ ghost use Rattle.block_masks.specs.SetMasks.{AreSets, AreQuads};
 ghost use Rattle.plane_coder.specs.Appends.{Appends, load};
 ghost use Rattle.plane_coder.specs.Refining.{refining};
 
-use crate::plane_masks::PlaneMasks;
-use crate::pending::PendingBits;
 use crate::option_codes::OptionCodes;
+use crate::pending::PendingBits;
+use crate::plane_masks::PlaneMasks;
 use block_masks::{Sets, is_any_of};
 
 #[inline(always)]
-fn push_children_types(pending: &mut PendingBits, option_codes: &OptionCodes, plane_masks: &PlaneMasks, sets: Sets)
+fn push_children_types(
+    pending: &mut PendingBits,
+    option_codes: &OptionCodes,
+    plane_masks: &PlaneMasks,
+    sets: Sets,
+)
     requires sets { AreSets (significant plane_masks.now.block.now plane_masks.now.plan.now.plane) sets }
     requires same { option_codes.now.options ≡ pending.old.gaggle.options }
     requires room { load pending.old + 36 ≤ 63 }
@@ -31,7 +36,11 @@ fn push_children_types(pending: &mut PendingBits, option_codes: &OptionCodes, pl
 }
 
 #[inline(always)]
-pub(crate) fn push_parents(pending: &mut PendingBits, option_codes: &OptionCodes, plane_masks: &PlaneMasks)
+pub(crate) fn push_parents(
+    pending: &mut PendingBits,
+    option_codes: &OptionCodes,
+    plane_masks: &PlaneMasks,
+)
     requires same { option_codes.now.options ≡ pending.old.gaggle.options }
     requires room { load pending.old + 12 ≤ 63 }
     ensures { Appends option_codes.now.tables.now.book pending.old pending.new
@@ -41,7 +50,11 @@ pub(crate) fn push_parents(pending: &mut PendingBits, option_codes: &OptionCodes
 }
 
 #[inline(always)]
-pub(crate) fn push_children(pending: &mut PendingBits, option_codes: &OptionCodes, plane_masks: &PlaneMasks)
+pub(crate) fn push_children(
+    pending: &mut PendingBits,
+    option_codes: &OptionCodes,
+    plane_masks: &PlaneMasks,
+)
     requires same { option_codes.now.options ≡ pending.old.gaggle.options }
     requires room { load pending.old + 48 ≤ 63 }
     ensures { Appends option_codes.now.tables.now.book pending.old pending.new
@@ -53,7 +66,12 @@ pub(crate) fn push_children(pending: &mut PendingBits, option_codes: &OptionCode
 }
 
 #[inline(always)]
-fn push_quads_types(pending: &mut PendingBits, option_codes: &OptionCodes, plane_masks: &PlaneMasks, i: u8)
+fn push_quads_types(
+    pending: &mut PendingBits,
+    option_codes: &OptionCodes,
+    plane_masks: &PlaneMasks,
+    i: u8,
+)
     requires family { i < 3 }
     requires same { option_codes.now.options ≡ pending.old.gaggle.options }
     requires room { load pending.old + 48 ≤ 63 }
@@ -68,7 +86,12 @@ fn push_quads_types(pending: &mut PendingBits, option_codes: &OptionCodes, plane
 
 // The sets of four grandchildren in a family whose grandchildren are significant.
 #[inline(always)]
-pub(crate) fn push_quads(pending: &mut PendingBits, option_codes: &OptionCodes, plane_masks: &PlaneMasks, i: u8)
+pub(crate) fn push_quads(
+    pending: &mut PendingBits,
+    option_codes: &OptionCodes,
+    plane_masks: &PlaneMasks,
+    i: u8,
+)
     requires family { i < 3 }
     requires enclosing { set_significant plane_masks.now.block.now plane_masks.now.plan.now.plane (Grandchildren i) ≡ true }
     requires same { option_codes.now.options ≡ pending.old.gaggle.options }
@@ -82,7 +105,13 @@ pub(crate) fn push_quads(pending: &mut PendingBits, option_codes: &OptionCodes, 
 
 // The refinement bits of the positions from 4 times `from` to 4 times `to`.
 #[inline(always)]
-pub(crate) fn push_refinement(pending: &mut PendingBits, plane_masks: &PlaneMasks, refined: u64, from: u8, to: u8)
+pub(crate) fn push_refinement(
+    pending: &mut PendingBits,
+    plane_masks: &PlaneMasks,
+    refined: u64,
+    from: u8,
+    to: u8,
+)
     requires order { from < to }
     requires start { 0 < from }
     requires within { to ≤ 16 }

@@ -12,10 +12,10 @@ ghost use Rattle.plane_coder.specs.Spells.{Spells};
 ghost use Rattle.base_122.specs.declared.book.Book.{Book as BookValue};
 ghost use Rattle.block_masks.specs.declared.gaggle.Gaggle.{Gaggle as GaggleValue};
 
-use crate::pushes::{push_children, push_parents, push_quads, push_refinement};
-use crate::plane_masks::PlaneMasks;
-use crate::pending::PendingBits;
 use crate::option_codes::OptionCodes;
+use crate::pending::PendingBits;
+use crate::plane_masks::PlaneMasks;
+use crate::pushes::{push_children, push_parents, push_quads, push_refinement};
 use crate::view::View;
 use bit_pipe::{BitOut, OctetOut, PutFault};
 use block_masks::{CodedPlane, Sets, has, is_any_of};
@@ -200,8 +200,18 @@ pub(crate) fn put_block_stage<O: OctetOut>(
     match stage {
         Stage::DcBits => put_dc_bit(out, &view.blocks[64 * r..64 * r + 64], view.plan),
         Stage::Parents if is_deep => put_parents(out, pending, option_codes, &view.plane_masks(r)),
-        Stage::Children if is_deep => put_children(out, pending, option_codes, &view.plane_masks(r)),
-        Stage::Grandchildren if is_deep => put_grandchildren(out, pending, option_codes, &view.plane_masks(r)),
+        Stage::Children if is_deep => put_children(
+            out,
+            pending,
+            option_codes,
+            &view.plane_masks(r),
+        ),
+        Stage::Grandchildren if is_deep => put_grandchildren(
+            out,
+            pending,
+            option_codes,
+            &view.plane_masks(r),
+        ),
         Stage::Refinement if is_deep => put_refinement(out, pending, &view.plane_masks(r)),
         _ => Ok(()),
     }

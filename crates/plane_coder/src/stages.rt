@@ -9,9 +9,9 @@ ghost use Rattle.block_masks.specs.Gaggles.{AllAgree, AreOptions, AreKnown, Same
 ghost use Rattle.plane_coder.specs.Spells.{Spells};
 ghost use Rattle.plane_coder.specs.Views.{plane_in};
 
-use crate::put::{is_quiet, put_block_stage};
-use crate::pending::PendingBits;
 use crate::option_codes::OptionCodes;
+use crate::pending::PendingBits;
+use crate::put::{is_quiet, put_block_stage};
 use crate::view::View;
 use bit_pipe::{BitOut, OctetOut, PutFault};
 use block_masks::{depth_of, load, stage_at, store};
@@ -37,7 +37,15 @@ fn put_block_at<O: OctetOut>(
     ensures spells { Spells O.sink view.now.tables.now.book pending.old.gaggle pending.new.gaggle result (stand O.sink out.old) (stand O.sink out.new) (of_block (plane_in view.now (depths_of marks.now)) stage r) }
     ensures silent { pending.new.count ≡ 0 }
 {
-    put_block_stage(out, pending, option_codes, stage, view, depth_of(marks[r]), r)
+    put_block_stage(
+        out,
+        pending,
+        option_codes,
+        stage,
+        view,
+        depth_of(marks[r]),
+        r,
+    )
 }
 
 // Puts a stage of gaggle g.
@@ -61,7 +69,15 @@ fn put_gaggle<O: OctetOut>(
 {
     let first = 16 * g;
     for place in 0..(marks.len() - first).min(16) {
-        put_block_at(out, pending, option_codes, stage, view, marks, first + place)?;
+        put_block_at(
+            out,
+            pending,
+            option_codes,
+            stage,
+            view,
+            marks,
+            first + place,
+        )?;
     }
     Ok(())
 }
@@ -89,7 +105,15 @@ pub(crate) fn put_stage<O: OctetOut>(
     for g in 0..marks.len().div_ceil(16) {
         let mut pending = PendingBits::new(load(marks, g));
         let option_codes = OptionCodes::new(view.tables, pending.gaggle.options);
-        put_gaggle(out, &mut pending, &option_codes, stage_at(number), view, marks, g)?;
+        put_gaggle(
+            out,
+            &mut pending,
+            &option_codes,
+            stage_at(number),
+            view,
+            marks,
+            g,
+        )?;
         store(marks, g, pending.gaggle);
     }
     Ok(())

@@ -17,7 +17,7 @@ use crate::stages::Terms;
 use crate::types::take_some_types;
 use crate::word::take_flag;
 use bit_pipe::{BitIn, OctetIn, TextFault};
-use block_masks::{Gaggle, Sets, except, either, masked};
+use block_masks::{Gaggle, Sets, either, except, masked};
 
 // Whether all descendants are significant: their flag, where it is due.
 fn take_descendants<I: OctetIn>(

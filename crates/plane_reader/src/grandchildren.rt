@@ -15,7 +15,7 @@ use crate::groups::{Groups, take_groups};
 use crate::stages::Terms;
 use crate::types::{take_some_types, take_wanted};
 use bit_pipe::{BitIn, OctetIn, TextFault};
-use block_masks::{Gaggle, Sets, except, both, either, has, is_any_of, quads_of, three};
+use block_masks::{Gaggle, Sets, both, either, except, has, is_any_of, quads_of, three};
 
 // Takes what the significant set of sixteen grandchildren in a family sends; it is new or was significant above.
 fn take_quads<I: OctetIn>(

@@ -14,8 +14,8 @@ ghost use Rattle.plane_reader.specs.declared.found.Found.{Found as FoundValue};
 ghost use Rattle.block_masks.specs.declared.gaggle.Gaggle.{Gaggle as GaggleValue};
 
 use crate::found::Found;
-use crate::window::types_in;
 use crate::types::{Group, take_types};
+use crate::window::types_in;
 use bit_pipe::{BitIn, OctetIn, TextFault};
 use block_masks::{Gaggle, first_in, has, part, split_lowest, without};
 use word_codes::WordTables;

@@ -14,12 +14,12 @@ mod children;
 mod found;
 mod grandchildren;
 mod groups;
-mod window;
 mod plane;
 mod refine;
 mod stages;
 mod types;
 mod waiting;
+mod window;
 mod word;
 
 pub use above::all_significant;

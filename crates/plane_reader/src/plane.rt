@@ -87,7 +87,16 @@ fn take_stage<I: OctetIn>(
 {
     for g in 0..marks.len().div_ceil(GAGGLE) {
         let mut gaggle = load(marks, g);
-        let Part::Whole = take_gaggle_stage(input, terms, &mut gaggle, number, blocks, marks, waiting, g)?
+        let Part::Whole = take_gaggle_stage(
+            input,
+            terms,
+            &mut gaggle,
+            number,
+            blocks,
+            marks,
+            waiting,
+            g,
+        )?
         else {
             return Ok(Part::Ended);
         };

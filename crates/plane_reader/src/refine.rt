@@ -14,7 +14,7 @@ ghost use Rattle.plane_reader.specs.Refining.{IsFront, Deals, RefinementNext, Dc
 use crate::found::Found;
 use crate::word::take_flag;
 use bit_pipe::{BitIn, OctetIn, TextFault};
-use block_masks::{CodedPlane, except, either, first_in, has, masked, one, split_lowest, without};
+use block_masks::{CodedPlane, either, except, first_in, has, masked, one, split_lowest, without};
 
 // Those of a mask's positions that a window serves for sure: all, or where these are more than 56, those among the first 56.
 #[inline(always)]

@@ -26,9 +26,9 @@ use crate::found::Found;
 use crate::grandchildren::take_grandchildren;
 use crate::refine::{take_dc_bit, take_refinement};
 use crate::types::{Group, take_types};
-use crate::waiting::{KEPT, first_reaching, defer, deferred_for};
+use crate::waiting::{KEPT, defer, deferred_for, first_reaching};
 use bit_pipe::{BitIn, OctetIn, Part, TextFault};
-use block_masks::{CodedPlane, Gaggle, except, both, depth_of, families_of, with_families};
+use block_masks::{CodedPlane, Gaggle, both, depth_of, except, families_of, with_families};
 use word_codes::WordTables;
 
 // A plane, the codes of its words, and for the first blocks which of their numbers are significant above it.

@@ -12,8 +12,8 @@ ghost use Rattle.segment_defs.specs.SegmentItems.{dc_shift};
 ghost use Rattle.segment_code.specs.Parts.{coded_rest};
 ghost use Rattle.segment_code.specs.Text.{GivesText, BreaksWithin, EncodesItems};
 
-use crate::planes::put_planes;
 use crate::head_plans::{plan_of, select_of};
+use crate::planes::put_planes;
 use base_122::Book;
 use bit_pipe::{BitOut, Failed, OctetOut, PutFault};
 use dc_depths::{DcPlan, put_dc, put_depths};

@@ -6,9 +6,9 @@ mod decode;
 mod depths;
 mod encode;
 mod end_in;
+mod head_plans;
 mod planes;
 mod planes_in;
-mod head_plans;
 mod text_in;
 
 ghost use Rattle.segment_code.specs.Laws.{CodedHolds, CodedHoldsExactly, TextsAreShort, ItemsEndThere};

@@ -4,8 +4,8 @@ ghost use Rattle.bit_pipe.specs.Coming.{coming, IsIn};
 ghost use Rattle.segment_defs.specs.Head.{IsHead};
 ghost use Rattle.segment_code.specs.TakenText.{AreClear, TakesText};
 
-use crate::planes_in::take_planes;
 use crate::head_plans::plan_of;
+use crate::planes_in::take_planes;
 use bit_pipe::{BitIn, OctetIn, Part, TextFault};
 use dc_depths::{take_dc, take_depths};
 use segment_head::SegmentHead;

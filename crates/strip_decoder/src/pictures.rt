@@ -1,7 +1,7 @@
 // A picture takes the blocks.
 use crate::sink::BlockSink;
 use base_122::Geometry;
-use picture_rows::{Picture, put_missing, put_block};
+use picture_rows::{Picture, put_block, put_missing};
 use port_122::{Failed, Port};
 use std::alloc::{AllocError, Global};
 

@@ -10,7 +10,7 @@ ghost use Rattle.strip_decoder.specs.Rooms.{IsRoom};
 ghost use Rattle.strip_decoder.specs.Runs.{Run, WalksIn, RunsReach, RunsSegment};
 ghost use Rattle.strip_decoder.specs.Segments.{FitsImage, FitsNext, IsAt, MayFollow, FollowsHead, MayFollowHeld, FollowsHeld, IsFound, FollowsFound, FindsNext, ReadsText, EndsText, ReachesSegment, TakesSegment, pixels_reached, segment_values};
 
-use crate::blocks::{put_missing_blocks, put_blocks};
+use crate::blocks::{put_blocks, put_missing_blocks};
 use crate::decode::DecodeFault;
 use crate::sink::BlockSink;
 use crate::walk::{SegmentRoom, Walk, end_image, passed, placed};
