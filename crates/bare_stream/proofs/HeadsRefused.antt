@@ -60,7 +60,7 @@ ends_plain (Some rest) waits all left told over =
     let below : length rest < left = grind (arith, nat_tests) in
     record { none = no_front waits (take left rest) over.0; end = none_taken left rest below (no_rest waits (take left rest) over.0); some = omega (arith, below) }
 
--- past the cap
+-- the input is longer than the cap
 pub ends_long : (o : Option (List ℕ)) (waits all : List ℕ) (left : ℕ) → o ≡ Some all → IsOver (tail_with o waits left) TooLong → (waits ≡ []) × (left ≡ 0)
 ends_long None waits all left told over = absurd cc
 ends_long (Some rest) waits all left told over =

@@ -26,7 +26,7 @@ use Rattle.bare_stream.specs.Steps.{SegmentOut, TextCut, PresentOut, PresentCut,
 use Rattle.bare_stream.proofs.Counts.{is_plan, some_blocks, first_below}
 use Rattle.bare_stream.proofs.Puts.{same_rows}
 
--- the limit of a setting in range can be said
+-- a head can have the limit of a setting in range
 pub limit_said : (s : Setting) → IsBare s → CanBeSaid s s.limit
 limit_said s bare = record {
   limit = elim bare.in_range.limit [ inl unset ↦ inl unset | inr given ↦ inr (given.0.0, omega (arith, given.0), given.1) ];

@@ -70,7 +70,7 @@ module _ (s : Setting) (bare : IsBare s) (old new : Work) (only : OnlyStrip old 
           gathered_in (plan s) new.at + block_count s.width ≡ block_count s.width * answered_of new.strip + next
       same_gathered' e = ap (λ n. n + block_count s.width) same_gathered ∙ e
 
-  -- the blocks of a block row that came
+  -- the blocks of a block row that was completed
   row_shows : (x : ℕ → ℕ → ℤ) (row : ℕ) → columns_of new.strip ≡ block_count s.width → answered_of new.strip ≡ row + 1 → row < block_count s.rows →
       gathered_in (plan s) old.at ≡ block_count s.width * row → ShowsBlockRow (padded x s.rows s.width) (block_count s.rows) new.strip → ShowsBlocks s x 0 new
   row_shows x row columns answered lt count shows =
@@ -173,7 +173,7 @@ module _ (s : Setting) (bare : IsBare s) (old new : Work) (only : OnlyStrip old 
 
 -- ---- a block row that came at the end
 
--- since one is missing, it came
+-- since one is missing, it was completed
 pub it_finished : (o : Option ℕ) (old new : StripWave) → answered_of old < rows_of old / 8 → columns_of new ≡ columns_of old → rows_of new ≡ rows_of old →
     MatchOption o (rows_of old / 8 ≤ answered_of old) (λ r. (r ≡ answered_of old) × (r < rows_of old / 8)) →
     MatchOption o ((is_standing new ≡ false) × (answered_of new ≡ answered_of old)) (λ r. (is_standing new ≡ true) × (answered_of new ≡ r + 1)) →

@@ -75,7 +75,7 @@ module _ {X : Type 0} (outside : X → Outside) (cap : ℕ) (start : Outside) (r
   unfolding read_on
   read_on-gave = refl
 
-  -- what was given is what came, if the port reports what is left
+  -- what was given is what was read, if the port reports what is left
   pub gave_told : (octets : List ℕ) → Comes (tail_of outside s) (tail_of outside t) octets → Told start (octets ≡ went.gave)
   gave_told octets comes all told =
       let here = still_told start.rest (outside s.port.now).rest read.took all read.since.rest told in

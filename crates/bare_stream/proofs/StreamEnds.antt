@@ -1,4 +1,4 @@
--- Octets begin with one text at most, and so are one bare stream at most.
+-- Octets begin with at most one text, and so are at most one bare stream.
 use Rattle.std.proofs.Common.{◌≡◌, ℕ, ◌+◌, ℤ, List, [], ◌∷◌, ◌++◌, length, Bool, true, false, inl, inr, ◌⊎◌, refl, sym, ap, ◌∙◌, subst, append_assoc}
 use Rattle.std.specs.Prelude.{Result, Ok}
 use Rattle.std.proofs.lemmas.List.{append-nil, append_cancel_left}
@@ -28,7 +28,7 @@ two_fronts (p ∷ a) (q ∷ b) x y e =
       | inr shorter ↦ inr (shorter.0, ap (λ z. z ∷ a) head ∙ ap (λ l. q ∷ l) shorter.1)
     ]
 
--- one answer has one head
+-- one result has one head
 abbrev reads : SegmentHead → Result SegmentHead HeadFault
 reads head = Ok head
 

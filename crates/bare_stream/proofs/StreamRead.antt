@@ -57,7 +57,7 @@ module _ {X : Type 0} (outside : X → Outside) (wish : DecodeWish) (start : Out
   total : length took + t.left ≡ wish.octets
   total = (let size = length-append ended.took went.took in let a = ended.left in let b = went.left in omega (arith, size, a, b))
 
-  -- it ends so, where nothing more is given
+  -- it ends so, if no more is given
   ended_so : (result : Result Geometry BareFault) → GivesRead result ended.gave (Some r) → EndsSo result start now → Told start (BareReasons wish now took (Some r) result) → DecodesBare wish start now result
   ended_so result gives ends reason = record {
     took = took;

@@ -1,4 +1,4 @@
--- What the steps of a decoder leave that read a head or a text. (This project's own.)
+-- The effect of the steps of a decoder that read a head or a text. (This project's own.)
 use Rattle.std.specs.Prelude.{◌≡◌, ◌⊎◌, ◌≤◌, ◌<◌, ◌*◌, ℕ, None, Some, Result, Ok, Err}
 use Rattle.bit_pipe.specs.declared.fault.InFault.TheVariants as in_faults
 use Rattle.bit_pipe.specs.Sources.{SourceOf, GivesOctet}
@@ -26,7 +26,7 @@ TakesHead k before index (Err LongInput) old new after =
     ReadsHead k before (Err (head_faults.Input in_faults.LongInput)) old new after ⊎ ReadsHead k before (Err (head_faults.Input in_faults.Broken)) old new after
 TakesHead k before index (Err other) old new after = ⊥
 
--- a head agrees with the first one, and reports no more pixels than are wished
+-- a head agrees with the first one, and reports at most the pixels of the wish
 abbrev pub ChecksHead : (pixels : ℕ) → (first : SegmentHead) → (index : ℕ) → SegmentHead → Result (Unit {0}) BareFault → Type 0
 ChecksHead pixels first index head (Ok done) = AgreesWith first index head × (pixels_at first index head ≤ pixels)
 ChecksHead pixels first index head (Err (Refused at (causes.Head fault))) = (at ≡ index) × (first_refusal (agreement_tests first index head) ≡ Some fault)

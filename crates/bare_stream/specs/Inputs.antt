@@ -1,4 +1,4 @@
--- A port as a place where octets come from. (This project's own.)
+-- A port as a source of octets. (This project's own.)
 use Rattle.bit_pipe.specs.Sources.{SourceOf}
 use Rattle.port_122.specs.Outside.{Outside}
 use Rattle.bare_stream.specs.declared.input.PortIn.{PortIn}

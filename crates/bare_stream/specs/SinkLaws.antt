@@ -1,4 +1,4 @@
--- Octets that go to a port in pieces go on. These laws are here since the meaning of a sink holds them.
+-- Octets that are written to a port in pieces can be continued. These laws are here since the meaning of a sink needs them.
 use Rattle.std.proofs.Common.{ℕ, ◌≡◌, List, [], ◌++◌, refl, sym, ap, ◌∙◌, arith, append_assoc, length-append}
 use Rattle.std.proofs.lemmas.List.{append-nil}
 use Rattle.port_122.specs.Outside.{Outside, NoRead}
@@ -9,7 +9,7 @@ use Rattle.bare_stream.specs.Sink.{Gave, Broke, waiting}
 pub gave_none : {X : Type 0} (outside : X → Outside) (s : TextSink X) → Gave outside s s []
 gave_none outside s = record { port = refl; wrote = []; out = since_start (outside s.port.now) NoRead; waits = append-nil (waiting s); few = λ h. h; given = omega arith }
 
--- what waited goes out first
+-- what waited is written first
 joined : (a xs ys p b q c : List ℕ) → a ++ xs ≡ p ++ b → b ++ ys ≡ q ++ c → a ++ (xs ++ ys) ≡ (p ++ q) ++ c
 joined a xs ys p b q c e f =
     sym (append_assoc a xs ys) ∙ ap (λ l. l ++ ys) e ∙ append_assoc p b ys ∙ ap (λ l. p ++ l) f ∙ sym (append_assoc p q c)

@@ -1,4 +1,4 @@
--- A port as a place where the octets of a text go. (This project's own.)
+-- A port as a sink of the octets of a text. (This project's own.)
 use Rattle.bit_pipe.specs.Sinks.{SinkOf}
 use Rattle.port_122.specs.Outside.{Outside}
 use Rattle.bare_stream.specs.declared.sink.TextSink.{TextSink}

@@ -1,4 +1,4 @@
--- How far the blocks of an image have come, and what a work holds of them. (This project's own.)
+-- The progress of the blocks of an image, and what a work holds of them. (This project's own.)
 use Rattle.std.specs.Prelude.{◌≡◌, ◌<◌, ◌≤◌, ◌+◌, ◌-◌, ◌*◌, ◌^◌, ℕ, ℤ, [], true, false, slice_index_or}
 use Rattle.base_122.specs.Sizes.{block_count, padded_size, total_blocks, first_block, segment_blocks}
 use Rattle.base_122.specs.declared.setting.Setting.{Setting}
@@ -21,7 +21,7 @@ plan s = plan_of s s.rows
 abbrev pub present_size : Setting → Work → ℕ
 present_size s w = segment_blocks (total_blocks s.width s.rows) s.segment w.at.index
 
--- the counts of a strip: before its end the block rows that its rows settle came, and the end is after all rows
+-- the counts of a strip: before its end the block rows that its rows settle were completed, and the end is after all rows
 pub record AreRows (s : Setting) (w : Work) : Type 0 where
   pub taken : w.at.rows ≡ rows_of w.strip
   pub most : rows_of w.strip ≤ padded_size s.rows
@@ -29,8 +29,8 @@ pub record AreRows (s : Setting) (w : Work) : Type 0 where
   pub ended : has_ended w.strip ≡ true → rows_of w.strip ≡ padded_size s.rows
   pub few : answered_of w.strip ≤ block_count s.rows
 
--- Of the block rows that came all blocks were gathered, except those from this column on of the last one, which is in the strip. Once all
--- rows of the raster were taken, the row is one that the strip can take.
+-- All blocks of the block rows that were completed were gathered, except those from this column on of the last one, which is in the strip.
+-- Once all rows of the raster were taken, the row is one that the strip can take.
 pub record IsAt (s : Setting) (column : ℕ) (w : Work) : Type 0 where
   pub made : IsMadeFor s w
   pub rows : AreRows s w

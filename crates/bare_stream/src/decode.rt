@@ -1,4 +1,4 @@
-// A bare stream in, a picture out.
+// Decodes a bare stream to a picture.
 ghost use Rattle.std.specs.Prelude.{◌≡◌, []};
 ghost use Rattle.bare_stream.specs.Decoded.{DecodesBare};
 ghost use Rattle.bare_stream.specs.Input.{waiting};

@@ -7,7 +7,7 @@ use segment_head::{HeadFault, HeadField};
 use std::process::Abort;
 use std::test::Fail;
 
-// Expects this answer for these octets, and as many black pixels of an octet.
+// Expects this result for these octets, and the given number of black pixels of an octet.
 fn expect_answer(
     rt: &(impl Abort + AllocGlobal),
     octets: &[u8],
@@ -24,7 +24,7 @@ fn expect_answer(
     Ok(())
 }
 
-// The segment of this index is refused, with this cause.
+// Returns that the segment of this index is refused, with this cause.
 fn refused(index: u32, cause: BareCause) -> Result<Geometry, BareFault> {
     Err(BareFault::Refused { index, cause })
 }

@@ -15,10 +15,10 @@ use raster_rows::at_end;
 use segment_head::SegmentHead;
 use strip_coder::{EncodeDone, EncodeFault, ImageAt, Work};
 
-/// Takes an image's raster and writes its bare stream, each text as soon as the rows so far settle its segment (docs/formats.md,
-/// "Raster and made image" and "Bare texts"). It reads a row only after all texts that the whole rows before settle are written, and
-/// asks for the end of the input after all texts are written. It takes no memory; the work was made for an equal setting, and serves
-/// again after any return. Of the answer `packets` is 0.
+/// Takes an image's raster and writes its bare stream, each text as soon as the rows so far settle its segment (docs/formats.md, "Raster
+/// and made image" and "Bare texts"). It reads a row only after all texts that the whole rows before settle are written, and reads the end
+/// of the input after all texts are written. It takes no memory; the work was made for an equal setting, and serves again after any return.
+/// In the result `packets` is 0.
 ///
 /// # Errors
 ///

@@ -1,8 +1,8 @@
-// Why a bare stream isn't read.
+// The reasons why a bare stream isn't read.
 use segment_head::HeadFault;
 use thiserror::Error;
 
-/// Why octets are no bare stream (docs/formats.md, "Bare texts").
+/// The reason why octets are no bare stream (docs/formats.md, "Bare texts").
 #[derive(Clone, Copy, Debug, PartialEq, Eq)]
 pub enum BareCause {
     /// The head is refused by itself, or doesn't agree with the first head.
@@ -21,7 +21,7 @@ pub enum BareCause {
     Trailing,
 }
 
-/// Why no picture was given, or not as a whole.
+/// The reason why no picture was given, or only a part of it.
 #[derive(Clone, Copy, Debug, PartialEq, Eq, Error)]
 pub enum BareFault {
     /// A read failed.

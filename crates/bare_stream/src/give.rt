@@ -1,4 +1,4 @@
-// The blocks of a segment that was read, to the picture of a walk.
+// Gives the blocks of a segment that was read to the picture of a walk.
 ghost use Rattle.std.specs.Prelude.{◌≡◌, ◌<◌, ◌+◌, [], List, ℕ, Err, true, false, MatchResult, IfOk};
 ghost use Rattle.port_122.specs.Outside.{Outside};
 ghost use Rattle.base_122.specs.declared.wish.DecodeWish.{DecodeWish};
@@ -41,7 +41,7 @@ pub fn give_next<X: Port>(
     Ok(())
 }
 
-/// Gives the blocks of the last segment, whose text was read, and so all rows that weren't given yet.
+/// Gives the blocks of the last segment, whose text was read, and with them all rows that weren't given yet.
 pub fn give_last<X: Port>(
     walk: &mut Walk,
     input: &mut PortIn<X>,

@@ -1,4 +1,4 @@
-// The head of a segment of a bare stream: read, and tested against the first one.
+// Reads the head of a segment of a bare stream, and tests it against the first one.
 ghost use Rattle.std.specs.Prelude.{◌≡◌, ◌≤◌, true, IfOk};
 ghost use Rattle.segment_defs.specs.Head.{IsHead};
 ghost use Rattle.bare_text.specs.Agreement.{height_at};
@@ -49,7 +49,7 @@ pub fn height_with(head: &SegmentHead, index: u32, first: &SegmentHead) -> u32
     (rows - u64::from(head.pad_rows)) as u32
 }
 
-// The pixels of an image with this head, or at least of one that has its blocks while the height isn't known.
+// Returns the pixels of an image with this head, or the least number of pixels of one that has its blocks while the height isn't known.
 fn pixels_with(head: &SegmentHead, index: u32, first: &SegmentHead) -> u64
     requires fits { IsHead head.now }
     requires first { IsHead first.now }
@@ -65,7 +65,7 @@ fn pixels_with(head: &SegmentHead, index: u32, first: &SegmentHead) -> u64
     width * FieldRange::ROWS.least.max(8 * block_rows - 7)
 }
 
-/// Tests whether a head agrees with the first one, and reports no more pixels than are wished.
+/// Tests whether a head agrees with the first one, and reports at most the pixels of the wish.
 pub fn check_head(
     head: &SegmentHead,
     index: u32,

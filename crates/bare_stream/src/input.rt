@@ -1,4 +1,4 @@
-// The octets of a port, as many as a cap admits.
+// The octets of a port, at most a given number of them.
 ghost use Rattle.std.specs.Prelude.{◌≡◌, ◌≤◌, ◌<◌, length, MatchResult};
 ghost use Rattle.port_122.specs.Outside.{ReadFailed};
 ghost use Rattle.bare_stream.specs.Pieces.{ReadsPiece};
@@ -6,15 +6,15 @@ ghost use Rattle.bare_stream.specs.Pieces.{ReadsPiece};
 use bit_pipe::{InFault, OctetIn};
 use port_122::{Failed, Port};
 
-// Octets that are read together.
+// The number of octets that are read together.
 const PIECE: usize = 1024;
 
-/// A port as the place where the octets of a bare stream come from. It takes at most the number of octets that it was made with, in
-/// pieces, and reads on only if each octet that it has taken was given.
+/// A port as the source of the octets of a bare stream. It takes at most the number of octets that it was made with, in pieces, and reads
+/// on only if each octet that it has taken was given.
 #[derive(Drop)]
 pub struct PortIn<'a, X> {
     pub(crate) port: &'a mut X,
-    // Octets that the port may still give.
+    // the number of octets that the port may still give
     pub(crate) left: u64,
     piece: [u8; PIECE],
     next: usize,
@@ -24,7 +24,7 @@ pub struct PortIn<'a, X> {
     ghost size: { length piece ≡ 1024 },
 }
 
-// Reads octets into the first places of a piece, at most so many; their number is 0 only at the end.
+// Reads octets into the first places of a piece, at most `most`; their number is 0 only at the end.
 fn read_piece<X: Port>(port: &mut X, piece: &mut [u8], most: usize) -> Result<usize, Failed>
     requires some { 0 < most }
     requires room { most ≤ length piece.old }
@@ -54,7 +54,7 @@ impl<'a, X: Port> PortIn<'a, X> {
         }
     }
 
-    // Reads the next piece, of which all octets were given; answers false at the end.
+    // Reads the next piece, of which all octets were given. Returns false at the end.
     fn fill(&mut self) -> Result<bool, InFault>
         requires none { self.old.next ≡ self.old.end }
         ensures fills { FillsPiece X.outside result self.old self.new }
@@ -73,7 +73,7 @@ impl<'a, X: Port> PortIn<'a, X> {
         Ok(0 < count)
     }
 
-    // Reads the next piece if no octet waits; answers whether one waits then.
+    // Reads the next piece if no octet waits. Returns whether one waits then.
     fn make_ready(&mut self) -> Result<bool, InFault>
         ensures ready { IsReady X.outside result self.old self.new }
     {

@@ -13,7 +13,7 @@ use bit_pipe::Part;
 use port_122::Port;
 use std::alloc::{AllocError, Global};
 
-/// What the texts of segments are read with: the blocks of one segment, and a state for each.
+/// The room in which the texts of segments are read: the blocks of one segment, and a state for each.
 #[derive(Drop)]
 pub struct Room {
     pub reader: BareReader,
@@ -25,7 +25,7 @@ impl Room {
     ghost use Rattle.std.specs.Prelude.{IfOk, vec_len};
     ghost use Rattle.bare_stream.specs.Heads.{IsRoom};
 
-    /// Takes the memory for segments of at most this number of blocks. The one error is want of memory.
+    /// Takes the memory for segments of at most this number of blocks. It fails only if there is too little memory.
     pub fn new(alloc: Global, count: u32) -> Result<Room, AllocError>
         requires { count ≤ 1048575 }
         ensures { IfOk result (λ room. IsRoom count (vec_len room.blocks) (vec_len room.marks)) }
@@ -41,7 +41,7 @@ impl Room {
     }
 }
 
-/// Why the items of the segment of this index aren't read.
+/// Returns the fault if the items of the segment of this index aren't read.
 pub fn items_fault(fault: SegmentFault, index: u32) -> BareFault
     ensures { FaultOf index fault result }
 {

@@ -1,4 +1,4 @@
-// One segment of an image, as a text.
+// Writes one segment of an image as a text.
 ghost use Rattle.std.specs.Prelude.{◌≡◌, ◌≤◌, ◌<◌, ◌*◌, length, take, IfSome};
 ghost use Rattle.wave_defs.specs.Held.{blocks_in};
 ghost use Rattle.segment_defs.specs.Head.{IsHead};
@@ -85,7 +85,7 @@ fn write_front<X: Port>(
     )
 }
 
-/// Writes the text of the present segment, which is full, and goes on to the next. `before` is the head before its own, and its own is
+/// Writes the text of the present segment, which is full, and advances to the next. `before` is the head before its own, and its own is
 /// returned.
 pub fn write_present<X: Port>(
     port: &mut X,

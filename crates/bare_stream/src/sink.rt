@@ -1,4 +1,4 @@
-// The octets of a text on their way to a port.
+// Writes the octets of a text to a port.
 ghost use Rattle.std.specs.Prelude.{◌≡◌, []};
 ghost use Rattle.bare_stream.specs.Sink.{waiting, Flushes};
 
@@ -6,10 +6,10 @@ use arrayvec::ArrayVec;
 use bit_pipe::OctetOut;
 use port_122::{Failed, Port, write_all};
 
-// Octets of a piece, which are written together.
+// The number of octets of a piece, which are written together.
 const PIECE: usize = 1024;
 
-/// A port as the place where the octets of a text go. They are written in pieces, and `flush` writes the last of them.
+/// A port as the sink of the octets of a text. They are written in pieces, and `flush` writes the last of them.
 #[derive(Drop)]
 pub struct TextSink<'a, X> {
     pub(crate) port: &'a mut X,

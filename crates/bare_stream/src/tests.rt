@@ -1,4 +1,4 @@
-// Black images as bare streams, worked out by hand.
+// Black images as bare streams, calculated by hand.
 ghost use Rattle.std.specs.Prelude.{◌≡◌, ◌≢◌};
 ghost use Rattle.base_122.specs.Ranges.{IsInRange};
 
@@ -11,7 +11,7 @@ use std::process::Abort;
 use std::test::Fail;
 use strip_coder::{EncodeDone, EncodeFault, Work};
 
-// Encodes the raster of a port, and returns the answer.
+// Encodes the raster of a port, and returns the result.
 fn encode_port(
     alloc: Global,
     setting: &Setting,
@@ -28,7 +28,7 @@ fn encode_port(
     Ok(answer)
 }
 
-// Expects this answer for a raster of this number of black pixels of an octet, and returns the port.
+// Expects this result for a raster of this number of black pixels of an octet, and returns the port.
 fn black_port(
     rt: &(impl Abort + AllocGlobal),
     setting: &Setting,
@@ -125,7 +125,7 @@ fn rasters_that_are_short_or_long(rt: HostRuntime) -> Result<(), Fail> {
     Ok(())
 }
 
-// 37 reads, the write of the first text, and so on.
+// The calls are 37 reads, the write of the first text, and so on.
 #[test]
 fn calls_that_fail(rt: HostRuntime) -> Result<(), Fail> {
     let unread = Err(EncodeFault::ReadFault);

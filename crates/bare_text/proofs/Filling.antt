@@ -12,7 +12,7 @@ use Rattle.bit_pipe.proofs.Taking.{comes_same, comes_then}
 use Rattle.bare_text.specs.Filled.{EndsFill, Fills}
 use Rattle.std.proofs.Math.ListN.{set}
 
--- the places from one on and before another have the octets that came
+-- the places from one on and before another have the octets that were taken
 pub record Filled {I : Type 0} (k : SourceOf I) (from place : ℕ) (old new : I) (before after : List ℕ) : Type 0 where
   pub octets : List ℕ
   pub long : place ≡ from + length octets

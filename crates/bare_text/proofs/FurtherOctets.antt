@@ -136,7 +136,7 @@ one_head before a b x y g h first second whole whole' e =
     let long : length a ≡ length b = whole ∙ same ∙ sym whole' in
     sym (take_at a x (length b) long) ∙ ap (take (length b)) e ∙ take_at b y (length b) refl
 
--- what is read can be said
+-- a head that is read is one that can be written
 pub bare_fits : (before : PartsInForce) (octets : List ℕ) (head : SegmentHead) → bare_head_read before octets ≡ Ok head → IsHead head
 bare_fits before octets head read = by_carry (first_refusal (carry_tests before octets)) refl where
   three : 3 ≤ length octets

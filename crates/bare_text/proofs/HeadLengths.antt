@@ -1,4 +1,4 @@
--- How many bits the parts of a head have.
+-- The numbers of bits of the parts of a head.
 use Rattle.std.proofs.Common.{◌≡◌, ◌+◌, ◌*◌, ◌≤◌, List, [], ◌∷◌, ◌++◌, length, Bool, true, false, if◌then◌else◌, refl, sym, ap, ◌∙◌, subst, arith}
 use Rattle.std.specs.List.{flat_map}
 use Rattle.segment_defs.specs.declared.head.SegmentHead.{SegmentHead}

@@ -22,7 +22,7 @@ use Rattle.segment_code.proofs.Encoding.{IsBounded}
 use Rattle.bare_text.specs.Writing.{carried_after, fields_where, bare_head_bits, bare_bits, bare_text}
 use Rattle.bare_text.proofs.HeadLengths.{leave_room}
 
--- a head with absent parts has no more bits than one with all
+-- a head with absent parts has at most the bits of one with all
 pub bare_head_short : (carried : Carried) (h : SegmentHead) → length h.image.weights.shifts ≡ 10 → length (bare_head_bits carried h) ≤ 8 * head_length h
 bare_head_short carried h ten =
     let one = flat_map field_bits (part_1 carried h) in
@@ -55,7 +55,7 @@ bare_bounded before h cells fits ten count dc ac =
     fewer h.image.word h.limit h.fill (length (bare_bits before h blocks)) (length (coded_bits profile h blocks))
     (omega (arith, short, length-append (bare_head_bits (carried_after before h) h) items, length-append (head_bits h) items, length-head_bits h ten)) (is_bounded profile profile_sound h cells fits ten count dc ac)
 
--- the sink is so at the return too
+-- the sink has the same value at the return
 pub told : {S E : Type 0} (k : SinkOf S) (out : S) (r : Result ℕ E) (before : Option SegmentHead) (h : SegmentHead) (blocks : List (List ℤ)) (u v : S) → u ≡ v →
     MatchResult r (λ octets. GivesText k out u (text_octets h.image.word h.limit h.fill (bare_bits before h blocks)) octets) (λ _. BreaksWithin k out u (text_octets h.image.word h.limit h.fill (bare_bits before h blocks))) →
     MatchResult r (λ octets. GivesText k out v (bare_text before h blocks) octets) (λ _. BreaksWithin k out v (bare_text before h blocks))

@@ -22,7 +22,7 @@ set_flag a b v la lb lv place below e le one =
     sym read ∙ ap (λ n. n / 2 ^ below % 2 ^ 1) same ∙ one
 
 module _ (parts : List ℕ) (sixteen : length parts ≡ 16) where
-  -- where the octets begin with these three
+  -- if the octets begin with these three
   module _ (a b v : ℕ) (rest : List ℕ) (small : AreOctets (a ∷ b ∷ v ∷ rest)) where
     abbrev octets : List ℕ
     octets = a ∷ b ∷ v ∷ rest

@@ -1,10 +1,10 @@
--- What a call leaves that takes octets into places of an array. (This project's own.)
+-- The effect of a call that takes octets into places of an array. (This project's own.)
 use Rattle.std.specs.Prelude.{◌≡◌, ◌<◌, ◌≤◌, ℕ, ◌+◌, List, ◌++◌, length, take, Result, Ok, Err}
 use Rattle.item_defs.specs.Bits.{AreOctets}
 use Rattle.bit_pipe.specs.Sources.{SourceOf, Comes, IsOver, Plainly, Fails}
 use Rattle.bit_pipe.specs.declared.fault.InFault.{InFault}
 
--- the place after the last octet that came; below the end of the places the input is over
+-- the place after the last octet that was taken; if it is below the end of the places, the input is over
 abbrev pub EndsFill : {I : Type 0} → SourceOf I → (from to : ℕ) → Result ℕ InFault → List ℕ → I → I → Type 0
 EndsFill k from to (Ok place) octets old new = (place ≡ from + length octets) × (place ≤ to) × (place < to → IsOver (k.tail new) Plainly)
 EndsFill k from to (Err fault) octets old new = Fails k fault old new

@@ -1,4 +1,4 @@
--- The laws that heads with absent parts keep.
+-- The laws of heads with absent parts.
 use Rattle.std.specs.Prelude.{◌≡◌, ◌<◌, ◌≤◌, ℕ, ℤ, List, ◌++◌, length, Option, None, Some, Ok}
 use Rattle.item_defs.specs.Bits.{octets_of}
 use Rattle.plane_defs.specs.Profile.{profile}
@@ -15,7 +15,7 @@ use Rattle.bare_text.specs.InForce.{none_in_force, bare_length, parts_after}
 use Rattle.bare_text.specs.Reading.{bare_head_read}
 use Rattle.bare_text.specs.Writing.{part_octets, carried_after, bare_head_bits, bare_text}
 
--- the parts in force after a head that was written: none before the first, and else its own
+-- the parts in force after a head that was written: none before the first, and otherwise its own
 abbrev pub in_force : Option SegmentHead → PartsInForce
 in_force None = none_in_force
 in_force (Some h) = record { carried = all_carried; octets = part_octets (part_2 h) ++ (part_octets (part_3 h) ++ part_octets (part_4 h.image)) }
@@ -30,7 +30,8 @@ pub record BareHeadsUndo : Type 0 where
   pub whole : (before : Option SegmentHead) (h : SegmentHead) → IsHead h → h.count < 256 → length h.image.weights.shifts ≡ 10 → bare_length (bare_head before h) ≡ length (bare_head before h)
   pub force : (before : Option SegmentHead) (h : SegmentHead) → IsHead h → h.count < 256 → length h.image.weights.shifts ≡ 10 → parts_after (in_force before) (bare_head before h) ≡ in_force (Some h)
 
--- Octets that follow a whole head change nothing in it, so octets begin with one head at most. A head that is read is one that can be written.
+-- Octets that follow a whole head change nothing in it, so octets begin with at most one head. A head that is read is one that can be
+-- written.
 pub record BareHeadsEndThere : Type 0 where
   pub read : (before : PartsInForce) (octets more : List ℕ) → 3 ≤ length octets → bare_length octets ≤ length octets → bare_head_read before (octets ++ more) ≡ bare_head_read before octets
   pub size : (octets more : List ℕ) → 3 ≤ length octets → bare_length (octets ++ more) ≡ bare_length octets

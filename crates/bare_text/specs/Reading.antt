@@ -1,4 +1,5 @@
--- What octets say as a head with absent parts, or the first test that refuses them. (The tests and their order are this project's own.)
+-- The head with absent parts that octets represent, or the first test that refuses them. (The tests and their order are this project's
+-- own.)
 use Rattle.std.specs.Prelude.{ℕ, ◌||◌, not, nat_lt, List, [], ◌∷◌, length, Option, None, Some, Result, Err}
 use Rattle.segment_defs.specs.declared.head.SegmentHead.{SegmentHead}
 use Rattle.segment_defs.specs.declared.fault.HeadFault.{HeadFault}
@@ -23,7 +24,7 @@ carry_tests before octets =
 abbrev pub whole_tests : List ℕ → List (Option HeadFault)
 whole_tests octets = refused_where (nat_lt (length octets) (bare_length octets)) (HeadShort (length octets)) ∷ []
 
--- these tests, and then what is answered where none refuses
+-- these tests, and then this result if none refuses
 abbrev pub then_read : Option HeadFault → Result SegmentHead HeadFault → Result SegmentHead HeadFault
 then_read None later = later
 then_read (Some fault) later = Err fault

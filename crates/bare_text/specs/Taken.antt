@@ -1,4 +1,4 @@
--- What a call leaves that reads a head with absent parts from an input. (This project's own.)
+-- The effect of a call that reads a head with absent parts from an input. (This project's own.)
 use Rattle.std.specs.Prelude.{◌≡◌, ◌≤◌, ℕ, List, length, Result, Ok, Err}
 use Rattle.item_defs.specs.Bits.{AreOctets}
 use Rattle.bit_pipe.specs.Sources.{SourceOf, Comes, IsOver, Plainly, Fails}

@@ -1,4 +1,4 @@
-// In which points a head agrees with the first head of its stream.
+// Tests whether a head agrees with the first head of its stream.
 ghost use Rattle.std.specs.Prelude.{◌≡◌};
 ghost use Rattle.segment_defs.specs.Head.{IsHead};
 ghost use Rattle.segment_defs.specs.Reading.{answer, first_refusal};
@@ -37,7 +37,7 @@ pub fn check_agreement(head: &SegmentHead, index: u32, first: &SegmentHead) -> R
     Ok(())
 }
 
-// The number of blocks is one that this segment may have.
+// Returns whether the number of blocks is one that this segment may have.
 fn blocks_agree(head: &SegmentHead, first: &SegmentHead) -> bool
     ensures { result ≡ blocks_agree first.now head.now }
 {
@@ -48,7 +48,7 @@ fn blocks_agree(head: &SegmentHead, first: &SegmentHead) -> bool
     (head.blocks == first.blocks) & enough
 }
 
-// Blocks in a row of blocks.
+// Returns the number of blocks in a row of blocks.
 fn columns(first: &SegmentHead) -> u64
     requires { IsHead first.now }
     ensures { result ≡ columns first.now }
@@ -56,7 +56,7 @@ fn columns(first: &SegmentHead) -> u64
     (u64::from(first.image.width) + 7) / 8
 }
 
-// The last flag is one that this segment may have.
+// Returns whether the last flag is one that this segment may have.
 fn last_agrees(head: &SegmentHead, index: u32, first: &SegmentHead) -> bool
     requires fits { IsHead head.now }
     requires first { IsHead first.now }
@@ -72,7 +72,7 @@ fn last_agrees(head: &SegmentHead, index: u32, first: &SegmentHead) -> bool
     (blocks % columns(first) == 0) & ((17 <= height) & (height <= 262_144))
 }
 
-// The image parts are the same.
+// Returns whether the image parts are the same.
 fn image_agrees(one: &ImagePart, other: &ImagePart) -> bool
     ensures { result ≡ image_agrees one.now other.now }
 {

@@ -1,4 +1,4 @@
-// The text of a segment, whose head carries only the parts that changed.
+// Writes the text of a segment, whose head carries only the parts that changed.
 ghost use Rattle.std.specs.Prelude.{◌≡◌, ◌≤◌, ◌*◌, length, map, take, pos, MatchResult, IfSome};
 ghost use Rattle.bit_pipe.specs.Standing.{stand, Adds, Breaks, IsReady, Writes};
 ghost use Rattle.wave_defs.specs.Held.{blocks_in};
@@ -15,8 +15,8 @@ use segment_head::SegmentHead;
 use word_codes::profile_book;
 
 /// Writes the text of a segment as it is in a bare stream, and returns its length in octets (docs/formats.md, "Bare texts"). Its head
-/// carries the parts that differ from those in force, which are those of the head `before`; the first head carries all. The limit
-/// counts this head. Sink, blocks and marks are as for `encode_segment`.
+/// carries the parts that differ from those in force, which are those of the head `before`; the first head carries all. The limit counts
+/// this head. Sink, blocks and `marks` are as for `encode_segment`.
 ///
 /// # Errors
 ///
@@ -45,7 +45,7 @@ pub fn encode_bare_text<O: OctetOut>(
     bits.end(head.image.word, head.fill)
 }
 
-// The limit of a text in octets, or 0.
+// Returns the limit of a text in octets, or 0.
 fn limit_of(head: SegmentHead) -> u64
     ensures limit { result ≡ head.limit }
     ensures ten { length head.image.weights.shifts ≡ 10 }
@@ -53,7 +53,7 @@ fn limit_of(head: SegmentHead) -> u64
     u64::from(head.limit)
 }
 
-// Puts as much of the text as fits below the bound: a text that is stopped is cut there.
+// Puts the part of the text that fits below the bound: a text that is stopped is cut there.
 fn put_fitting<O: OctetOut>(
     out: &mut BitOut<O>,
     before: Option<SegmentHead>,

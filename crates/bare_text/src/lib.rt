@@ -26,7 +26,7 @@ pub const fn bare_heads_undo()
     ensures { BareHeadsUndo }
 {}
 
-/// A head is read alike whatever octets follow it, and octets begin with one head at most.
+/// A head is read in the same way whatever octets follow it, and octets begin with at most one head.
 pub const fn bare_heads_end_there()
     ensures { BareHeadsEndThere }
 {}

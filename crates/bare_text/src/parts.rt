@@ -9,7 +9,7 @@ use segment_head::{Carried, HeadFault, SegmentHead, carried_in, part_1_length, r
 /// The Parts 2, 3 and 4 in force: each is that of the last head that carried it (docs/formats.md, "Bare texts").
 #[derive(Clone, Copy, Debug, PartialEq, Eq)]
 pub struct PartsInForce {
-    // Which of them a head has carried.
+    // The flags of those of them that a head has carried.
     pub(crate) carried: Carried,
     // Their octets, one part after another; zeros for a part that no head has carried.
     pub(crate) octets: [u8; 16],
@@ -19,7 +19,7 @@ impl PartsInForce {
     ghost use Rattle.std.specs.Prelude.{false};
     ghost use Rattle.bare_text.specs.InForce.{none_in_force};
 
-    /// No part: those before the first head.
+    /// Returns the parts in force before the first head: none.
     pub fn none() -> PartsInForce
         ensures { result ≡ none_in_force }
     {
@@ -33,7 +33,7 @@ impl PartsInForce {
         }
     }
 
-    // The parts in force after a head with these octets.
+    // Returns the parts in force after a head with these octets.
     pub(crate) fn after(&self, octets: &[u8]) -> PartsInForce
         requires start { 3 ≤ length octets.now }
         requires whole { bare_length octets.now ≤ length octets.now }
@@ -56,7 +56,7 @@ impl PartsInForce {
     }
 }
 
-// The octets from a place on.
+// Returns the octets from a place on.
 fn rest_from(octets: &[u8], place: usize) -> &[u8]
     requires { place ≤ length octets.now }
     ensures { result.now ≡ drop place octets.now }
@@ -64,7 +64,7 @@ fn rest_from(octets: &[u8], place: usize) -> &[u8]
     &octets[place..]
 }
 
-// A part, which is in the first octets of the rest if it is carried and else is that in force; and the octets after it.
+// Returns a part, which is in the first octets of the rest if it is carried and otherwise is that in force; and the octets after it.
 fn split_part<'a>(
     is_carried: bool,
     width: usize,
@@ -83,7 +83,7 @@ fn split_part<'a>(
     rest.split_at(width)
 }
 
-// The octets of three parts.
+// Returns the octets of three parts.
 fn joined(second: &[u8], third: &[u8], fourth: &[u8]) -> [u8; 16]
     requires second { length second.now ≡ 5 }
     requires third { length third.now ≡ 3 }
@@ -105,7 +105,7 @@ fn put_at(octets: &mut [u8; 16], place: usize, part: &[u8])
     octets[place..place + part.len()].copy_from_slice(part);
 }
 
-// The octets of the head that begins with these, of which some parts may be absent.
+// Returns the number of octets of the head that begins with these, of which some parts may be absent.
 pub(crate) fn bare_length(octets: &[u8]) -> usize
     requires { 3 ≤ length octets.now }
     ensures { result ≡ bare_length octets.now }

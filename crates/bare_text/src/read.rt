@@ -1,4 +1,4 @@
-// A head with absent parts, read.
+// Reads a head with absent parts.
 ghost use Rattle.std.specs.Prelude.{◌≡◌, ◌≤◌, length, IfOk};
 ghost use Rattle.plane_defs.specs.Profile.{profile};
 ghost use Rattle.segment_defs.specs.Head.{IsHead};
@@ -31,7 +31,7 @@ impl BareReader {
     }
 }
 
-/// A head that was read, and how many octets it has where it is: it counts against the limit of its text.
+/// A head that was read, and the number of its octets as it is in the stream: it counts against the limit of its text.
 #[derive(Clone, Copy, Debug, PartialEq, Eq)]
 pub struct BareHead {
     pub head: SegmentHead,
@@ -42,12 +42,12 @@ impl BareHead {
     ghost use Rattle.std.specs.Prelude.{◌*◌};
     ghost use Rattle.segment_code.specs.DecodedItems.{DecodesItems};
 
-    /// Reads the items of the text after this head, with their padding and fill, and no octet more (docs/formats.md, "Bare
-    /// texts"). Blocks, marks and the answer are those of `SegmentReader::decode_items`.
+    /// Reads the items of the text after this head, with their padding and fill, and no octet more (docs/formats.md, "Bare texts"). Blocks,
+    /// `marks` and the result are those of `SegmentReader::decode_items`.
     ///
     /// # Errors
     ///
-    /// As there.
+    /// Those of `SegmentReader::decode_items`.
     pub fn decode_items<I: OctetIn>(
         &self,
         reader: &BareReader,
@@ -68,10 +68,10 @@ impl BareHead {
     }
 }
 
-/// Why a head of a bare text isn't read (docs/formats.md, "Bare texts").
+/// The reason why a head of a bare text isn't read (docs/formats.md, "Bare texts").
 #[derive(Clone, Copy, Debug, PartialEq, Eq)]
 pub enum BareHeadFault {
-    /// The first test that refuses.
+    /// The first test that refuses the head.
     Refused(HeadFault),
     /// The input failed, or is longer than its cap.
     Input(InFault),
@@ -95,7 +95,7 @@ impl From<HeadFault> for BareHeadFault {
     }
 }
 
-// Takes octets into the places from one on and before another, as far as there are octets; and the place after the last.
+// Takes octets into the places from one on and before another, as far as there are octets, and returns the place after the last.
 fn fill<I: OctetIn>(
     input: &mut I,
     into: &mut [u8; 20],
@@ -115,7 +115,7 @@ fn fill<I: OctetIn>(
     Ok(to)
 }
 
-// Each of the Parts 2, 3 and 4 is carried, or is in force.
+// Tests whether each of the Parts 2, 3 and 4 is carried, or is in force.
 fn check_carried(octets: &[u8], before: &PartsInForce) -> Result<(), HeadFault>
     requires { 3 ≤ length octets.now }
     ensures { result ≡ answer (first_refusal (carry_tests before.now octets.now)) tt }
@@ -133,7 +133,7 @@ fn check_carried(octets: &[u8], before: &PartsInForce) -> Result<(), HeadFault>
     Ok(())
 }
 
-// The head is cut after this number of octets.
+// Returns the fault of a head that is cut after this number of octets.
 fn short(count: usize) -> BareHeadFault
     requires { count ≤ 20 }
     ensures { result ≡ Refused (HeadShort count) }

@@ -1,4 +1,4 @@
-// Texts that were worked out by hand: 64 by 128 pixels of 0 in eight segments of 16 blocks.
+// Texts that were calculated by hand: 64 by 128 pixels of 0 in eight segments of 16 blocks.
 ghost use Rattle.std.specs.Prelude.{◌≡◌, ◌≤◌, ◌*◌, length, IfOk, IfSome};
 ghost use Rattle.segment_defs.specs.Head.{IsHead};
 
@@ -20,7 +20,7 @@ const SECOND: [u8; 5] = [0x00, 0x42, 0x00, 0x00, 0x00];
 
 const LAST: [u8; 6] = [0x41, 0xc2, 0x00, 0x00, 0x00, 0x00];
 
-// After the first head: Part 2 with a limit of 64 octets, no Part 3, and Part 4 as it is.
+// The head after the first: Part 2 with a limit of 64 octets, no Part 3, and Part 4 unchanged.
 const WITHOUT_PART_3: [u8; 16] = [
     0x00, 0x42, 0x05, 0x00, 0x00, 0x08, 0x00, 0x60, 0x88, 0x00, 0x04, 0x00, 0x00, 0x00, 0x00, 0x00,
 ];
@@ -84,7 +84,7 @@ fn heads_cut_at_each_octet(rt: HostRuntime) {
     }
 }
 
-// Writes the text of these blocks, and answers its length.
+// Writes the text of these blocks, and returns its length.
 fn encode(
     rt: &impl Abort,
     before: Option<SegmentHead>,
@@ -111,7 +111,7 @@ fn encode(
     encode_bare_text(&mut SliceOut::new(into), before, head, blocks, marks).expect(rt, "room")
 }
 
-// The text is read, and is written again after the head before; its head is returned.
+// Expects that the text is read, and is written again after the head before. Returns its head.
 fn expect_text(
     rt: &impl Abort,
     reader: &BareReader,
@@ -167,7 +167,7 @@ fn a_text_cut_in_its_items(rt: HostRuntime) {
     assert_eq!(rt; answer, Err(SegmentFault::ShortSegment));
 }
 
-// The head agrees with the first one at this index, or fails at this point.
+// Expects that the head agrees with the first one at this index, or fails at this point.
 fn expect_point(
     rt: &impl Abort,
     head: &SegmentHead,

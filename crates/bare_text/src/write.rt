@@ -1,4 +1,4 @@
-// A head that carries only the parts that changed.
+// Writes a head that carries only the parts that changed.
 ghost use Rattle.std.specs.Prelude.{◌≡◌, ◌≤◌, ◌*◌, length, IfSome};
 ghost use Rattle.std.specs.List.{flat_map};
 ghost use Rattle.std.specs.Str.{bytes_eq};
@@ -12,7 +12,7 @@ use segment_head::{
     Carried, ImagePart, SegmentHead, put_part_1, put_part_2, put_part_3, put_part_4,
 };
 
-// The parts that a head carries: those that differ from the parts in force, which are those of the head before.
+// Returns the parts that a head carries: those that differ from the parts in force, which are those of the head before.
 fn carried_after(before: Option<SegmentHead>, head: &SegmentHead) -> Carried
     requires before { IfSome before (λ h. IsHead h) }
     requires fits { IsHead head.now }
@@ -28,7 +28,7 @@ fn carried_after(before: Option<SegmentHead>, head: &SegmentHead) -> Carried
     }
 }
 
-// Two heads have the same Part 2.
+// Returns whether two heads have the same Part 2.
 fn same_part_2(one: &SegmentHead, other: &SegmentHead) -> bool
     requires one { IsHead one.now }
     requires other { IsHead other.now }
@@ -37,7 +37,7 @@ fn same_part_2(one: &SegmentHead, other: &SegmentHead) -> bool
     (one.limit == other.limit) & (one.stop == other.stop) & (one.fill == other.fill)
 }
 
-// Two heads have the same Part 3.
+// Returns whether two heads have the same Part 3.
 fn same_part_3(one: &SegmentHead, other: &SegmentHead) -> bool
     requires one { IsHead one.now }
     requires other { IsHead other.now }
@@ -46,7 +46,7 @@ fn same_part_3(one: &SegmentHead, other: &SegmentHead) -> bool
     (one.blocks == other.blocks) & (one.best_dc == other.best_dc) & (one.best_ac == other.best_ac)
 }
 
-// Two heads have the same Part 4.
+// Returns whether two heads have the same Part 4.
 fn same_part_4(one: &ImagePart, other: &ImagePart) -> bool
     requires one { IsImagePart one.now }
     requires other { IsImagePart other.now }
@@ -90,7 +90,7 @@ pub fn put_bare_head<O: OctetOut>(
     put_fourth(out, &head.image, carried.part_4)
 }
 
-// Part 2, if it is carried.
+// Puts Part 2, if it is carried.
 fn put_second<O: OctetOut>(
     out: &mut BitOut<O>,
     head: &SegmentHead,
@@ -105,7 +105,7 @@ fn put_second<O: OctetOut>(
     put_part_2(out, head)
 }
 
-// Part 3, if it is carried.
+// Puts Part 3, if it is carried.
 fn put_third<O: OctetOut>(
     out: &mut BitOut<O>,
     head: &SegmentHead,
@@ -120,7 +120,7 @@ fn put_third<O: OctetOut>(
     put_part_3(out, head)
 }
 
-// Part 4, if it is carried.
+// Puts Part 4, if it is carried.
 fn put_fourth<O: OctetOut>(
     out: &mut BitOut<O>,
     image: &ImagePart,

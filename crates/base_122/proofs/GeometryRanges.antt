@@ -15,7 +15,7 @@ in_range-image_geometry s rows in_range tall = record {
   weights = in_range.weights;
 }
 
--- rows that aren't left open are in their range
+-- rows that are not left open are in their range
 pub rows_told : (s : Setting) → IsInRange s → (s.rows ≡ 0 → ⊥) → IsWithin rows_range s.rows
 rows_told s in_range some = elim in_range.rows [ inl none ↦ absurd (some none) | inr told ↦ told ]
 

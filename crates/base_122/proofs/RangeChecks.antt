@@ -1,4 +1,4 @@
--- A check finds no field out of range exactly where the setting is in range.
+-- A check finds no field out of range exactly if the setting is in range.
 use Rattle.std.proofs.Common.{◌≡◌, ◌≢◌, ◌≤◌, ◌%◌, ℕ, List, refl, sym, ◌∙◌, inl, inr, true, false, arith}
 use Rattle.std.specs.Prelude.{◌⊎◌, All, Bool, not, cond, ◌&&◌, ◌||◌, ◌==◌, nat_le, Option, Some, None}
 use Rattle.std.specs.Bool.{Decides}
@@ -40,7 +40,7 @@ limit_from limit word (inr some) =
     or_right (limit == 0) _ (and_from (is_within limit_range limit) _ ((within limit_range limit).1 some.0)
     (or_right (not (is_within word_range word)) (limit % word == 0) (eq-eqb (limit % word) 0 some.1)))
 
--- it passes its test where it isn't 0
+-- a field passes its test if it is not 0
 some_passes : (n : ℕ) → not (n == 0) ≡ true → n ≢ 0
 some_passes n passes none = false≢true (sym (not-true (n == 0) passes) ∙ eq-eqb n 0 none)
 

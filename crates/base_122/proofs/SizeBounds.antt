@@ -5,7 +5,7 @@ use Rattle.std.proofs.lemmas.Grind.{div_ceil_times}
 use Rattle.base_122.specs.Ranges.{IsWithin, width_range, rows_range}
 use Rattle.base_122.specs.Sizes.{block_count, padded_size, total_blocks, segment_count, first_block, segment_blocks}
 
--- the padded size is the least multiple of 8 that isn't less
+-- the padded size is the least multiple of 8 that is at least n
 pub le-padded_size : (n : ℕ) → n ≤ padded_size n
 le-padded_size n = omega arith
 
@@ -42,7 +42,7 @@ one-le-segment_blocks total S index some below = let before = first_block-lt tot
 pub segment_blocks-most : (total S index : ℕ) → segment_blocks total S index ≤ S
 segment_blocks-most total S index = omega arith
 
--- a segment that isn't the last is whole
+-- a segment that is not the last is whole
 pub segment_blocks-whole : (total S index : ℕ) → 0 < S → index + 1 < segment_count total S → segment_blocks total S index ≡ S
 segment_blocks-whole total S index some below = let next = first_block-lt total S (index + 1) some below in omega (arith, next)
 

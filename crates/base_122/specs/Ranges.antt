@@ -1,5 +1,5 @@
--- The range of each field. The limits come from the fields' widths in CCSDS 122.0-B-2 and CCSDS 133.0-B-2 and from
--- this project's own profile.
+-- The range of each field. The limits are determined by the fields' widths in CCSDS 122.0-B-2 and CCSDS 133.0-B-2
+-- and by this project's own profile.
 use Rattle.std.specs.Prelude.{◌≡◌, ◌≢◌, ◌≤◌, ◌⊎◌, ◌*◌, ◌%◌, ◌^◌, ℕ, List, [], ◌∷◌, All, Bool, true, not, nat_le, ◌==◌, ◌&&◌, ◌||◌, Option, Some, None, Result, Ok, Err, find}
 use Rattle.std.specs.List.{list_all}
 use Rattle.base_122.specs.Sizes.{total_blocks, segment_count}
@@ -20,27 +20,27 @@ IsWithin range n = (range.least ≤ n) × (n ≤ range.most)
 abbrev pub is_within : FieldRange → ℕ → Bool
 is_within range n = nat_le range.least n && nat_le n range.most
 
--- pixels of a row
+-- the number of pixels of a row
 abbrev pub width_range : FieldRange
 width_range = record { least = 17; most = 1048575 }
 
--- rows of an image
+-- the number of rows of an image
 abbrev pub rows_range : FieldRange
 rows_range = record { least = 17; most = 262144 }
 
--- bits of a pixel
+-- the number of bits of a pixel
 abbrev pub depth_range : FieldRange
 depth_range = record { least = 1; most = 16 }
 
--- blocks of a segment
+-- the number of blocks of a segment
 abbrev pub segment_range : FieldRange
 segment_range = record { least = 16; most = 1048575 }
 
--- octets of a segment's text, where there is a limit: 27 bits, and a multiple of each word
+-- the number of octets of a segment's text, if there is a limit: 27 bits, and a multiple of each code word length
 abbrev pub limit_range : FieldRange
 limit_range = record { least = 32; most = 134217724 }
 
--- octets of a code word
+-- the number of octets of a code word
 abbrev pub word_range : FieldRange
 word_range = record { least = 1; most = 4 }
 
@@ -48,27 +48,27 @@ word_range = record { least = 1; most = 4 }
 abbrev pub plane_range : FieldRange
 plane_range = record { least = 0; most = 27 }
 
--- the last stage that is sent, less one
+-- the last stage that is sent, minus 1
 abbrev pub stage_range : FieldRange
 stage_range = record { least = 0; most = 3 }
 
--- application process identifier: 11 bits, without that of idle packets
+-- the APID: 11 bits, without that of idle packets
 abbrev pub apid_range : FieldRange
 apid_range = record { least = 0; most = 2046 }
 
--- an image's number
+-- the number of an image
 abbrev pub image_range : FieldRange
 image_range = record { least = 0; most = 65535 }
 
--- octets of a packet data field at most
+-- the greatest number of octets of a packet data field
 abbrev pub packet_range : FieldRange
 packet_range = record { least = 64; most = 65536 }
 
--- octets of all texts of so many segments, where there is a bound: 36 for each at least
+-- the number of octets of all texts of this number of segments, if there is a bound: at least 36 for each
 abbrev pub total_range : (segments : ℕ) → FieldRange
 total_range segments = record { least = 36 * segments; most = 2 ^ 40 }
 
--- the most pixels of a picture that is decoded
+-- the greatest number of pixels of a picture that is decoded
 abbrev pub pixels_range : FieldRange
 pixels_range = record { least = 0; most = 2 ^ 40 }
 
@@ -76,11 +76,11 @@ pixels_range = record { least = 0; most = 2 ^ 40 }
 abbrev pub octets_range : FieldRange
 octets_range = record { least = 1; most = 2 ^ 40 }
 
--- segments of an image of the setting's height
+-- the number of segments of an image of the setting's height
 abbrev pub segments_in : Setting → ℕ
 segments_in s = segment_count (total_blocks s.width s.rows) s.segment
 
--- A bound on all texts together is in its range. It stands in the place of a limit, and needs the number of segments.
+-- A bound on all texts together is in its range. It replaces a limit, and needs the number of segments.
 pub record HasTotal (s : Setting) : Type 0 where
   pub rows : s.rows ≢ 0
   pub limit : s.limit ≡ 0
@@ -103,7 +103,7 @@ pub record IsInRange (s : Setting) : Type 0 where
   pub packet : IsWithin packet_range s.packet
   pub total : (s.total ≡ 0) ⊎ HasTotal s
 
--- Each field of a geometry is in its range. Its rows are 0 while the height isn't told.
+-- Each field of a geometry is in its range. Its rows are 0 while the height is not known.
 pub record IsGeometryInRange (g : Geometry) : Type 0 where
   pub width : IsWithin width_range g.width
   pub rows : (g.rows ≡ 0) ⊎ IsWithin rows_range g.rows
@@ -119,13 +119,13 @@ pub record IsWishInRange (wish : DecodeWish) : Type 0 where
   pub pixels : IsWithin pixels_range wish.pixels
   pub octets : IsWithin octets_range wish.octets
 
--- A limit is 0, or in its range and a multiple of the word. Of a word out of range it needn't be a multiple, so that
--- the word itself is named.
+-- A limit is 0, or in its range and a multiple of the code word length. If the code word length is out of range, the
+-- limit needn't be a multiple of it, so that the code word length itself is refused.
 abbrev pub limit_test : (limit word : ℕ) → Bool
 limit_test limit word = (limit == 0) || (is_within limit_range limit && (not (is_within word_range word) || (limit % word == 0)))
 
--- A bound on all texts together is 0, or in its range where it may stand. Without blocks of a segment it needn't be in its
--- range, so that these are named.
+-- A bound on all texts together is 0, or in its range if it may be set. If a segment has no blocks, the bound
+-- needn't be in its range, so that the blocks are refused.
 abbrev pub total_test : Setting → Bool
 total_test s =
     (s.total == 0) || (not (s.rows == 0) && ((s.limit == 0) && ((s.segment == 0) || is_within (total_range (segments_in s)) s.total)))
@@ -153,7 +153,7 @@ field_test s Cameras = true
 abbrev pub fields : List Field
 fields = Width ∷ Rows ∷ Depth ∷ Segment ∷ Limit ∷ Fill ∷ Word ∷ Stop ∷ Weights ∷ Apid ∷ Image ∷ Packet ∷ Total ∷ []
 
--- the first field out of range, where there is one
+-- the first field out of range, if there is one
 abbrev pub first_out_of_range : Setting → Option Field
 first_out_of_range s = find (λ field. not (field_test s field)) fields
 
@@ -161,6 +161,6 @@ abbrev pub refusal : Option Field → Result (Unit {0}) OutOfRange
 refusal None = Ok tt
 refusal (Some field) = Err (record { field = field })
 
--- what a check answers
+-- the result of a check
 abbrev pub range_check : Setting → Result (Unit {0}) OutOfRange
 range_check s = refusal (first_out_of_range s)

@@ -7,7 +7,7 @@ use Rattle.base_122.specs.declared.wish.DecodeWish.{DecodeWish}
 use Rattle.base_122.specs.Weights.{usual_shifts}
 use Rattle.base_122.specs.Ranges.{IsWithin, rows_range}
 
--- an image of a setting has this height: the setting's own, or any in range where the setting leaves it open
+-- an image of a setting has this height: the setting's own, or any in range if the setting leaves it open
 abbrev pub IsHeight : Setting → ℕ → Type 0
 IsHeight s rows = IsWithin rows_range rows × ((s.rows ≡ 0) ⊎ (s.rows ≡ rows))
 
@@ -15,7 +15,7 @@ IsHeight s rows = IsWithin rows_range rows × ((s.rows ≡ 0) ⊎ (s.rows ≡ ro
 abbrev pub sized : Setting → (rows : ℕ) → Setting
 sized s rows = record s { rows = rows }
 
--- the fields that a reader has to know, of an image of so many rows
+-- the fields that a reader has to know, for an image of this number of rows
 abbrev pub image_geometry : Setting → (rows : ℕ) → Geometry
 image_geometry s rows = record {
   width = s.width;
@@ -28,7 +28,7 @@ image_geometry s rows = record {
   weights = s.weights;
 }
 
--- of an image of the setting's own height
+-- the geometry of an image of the setting's own height
 abbrev pub geometry_of : Setting → Geometry
 geometry_of s = image_geometry s s.rows
 

@@ -19,7 +19,7 @@ pub enum Field {
     Cameras,
 }
 
-/// The first field that is out of its range (docs/formats.md, "Bounds").
+/// The fault of a field that is the first out of its range (docs/formats.md, "Bounds").
 #[derive(Clone, Copy, Debug, PartialEq, Eq)]
 pub struct OutOfRange {
     pub field: Field,

@@ -3,11 +3,11 @@ ghost use Rattle.base_122.specs.Sizes.{padded_size, total_blocks, segment_count,
 
 use crate::weights::Weights;
 
-/// What a reader has to know of an image.
+/// The fields that a reader has to know of an image.
 #[derive(Clone, Copy, Debug, PartialEq, Eq)]
 pub struct Geometry {
     pub width: u32,
-    /// Rows of the image; 0 while its height isn't told.
+    /// The number of rows of the image; 0 while its height is not known.
     pub rows: u32,
     pub depth: u8,
     pub signed: bool,
@@ -20,7 +20,7 @@ pub struct Geometry {
 impl Geometry {
     ghost use Rattle.base_122.specs.Ranges.{IsGeometryInRange};
 
-    /// The columns of the padded image (docs/formats.md, "Levels and padding").
+    /// Returns the number of columns of the padded image (docs/formats.md, "Levels and padding").
     pub fn padded_width(&self) -> u32
         requires { IsGeometryInRange self.now }
         ensures { result ≡ padded_size self.now.width }
@@ -28,7 +28,7 @@ impl Geometry {
         self.width.div_ceil(8) * 8
     }
 
-    /// The rows of the padded image (docs/formats.md, "Levels and padding").
+    /// Returns the number of rows of the padded image (docs/formats.md, "Levels and padding").
     pub fn padded_rows(&self) -> u32
         requires { IsGeometryInRange self.now }
         ensures { result ≡ padded_size self.now.rows }
@@ -36,7 +36,7 @@ impl Geometry {
         self.rows.div_ceil(8) * 8
     }
 
-    /// The blocks of the image (docs/formats.md, "Blocks").
+    /// Returns the number of blocks of the image (docs/formats.md, "Blocks").
     pub fn blocks(&self) -> u64
         requires { IsGeometryInRange self.now }
         ensures { result ≡ total_blocks self.now.width self.now.rows }
@@ -44,7 +44,7 @@ impl Geometry {
         u64::from(self.width.div_ceil(8)) * u64::from(self.rows.div_ceil(8))
     }
 
-    /// The segments of the image (docs/formats.md, "Segments and depths").
+    /// Returns the number of segments of the image (docs/formats.md, "Segments and depths").
     pub fn segments(&self) -> u32
         requires { IsGeometryInRange self.now }
         ensures { result ≡ segment_count (total_blocks self.now.width self.now.rows) self.now.segment }
@@ -52,7 +52,7 @@ impl Geometry {
         self.blocks().div_ceil(u64::from(self.segment)) as u32
     }
 
-    /// The blocks of the segment of this index (docs/formats.md, "Segments and depths"): the last one may have fewer.
+    /// Returns the number of blocks of the segment of this index (docs/formats.md, "Segments and depths"): the last one may have fewer.
     pub fn blocks_of(&self, index: u32) -> u32
         requires range { IsGeometryInRange self.now }
         requires index { index < segment_count (total_blocks self.now.width self.now.rows) self.now.segment }

@@ -1,4 +1,4 @@
-//! Settings of the coder, the wishes of a decoder, code books, the geometry of an image and the weights of its subbands.
+//! This crate has the settings of the coder, the wishes of a decoder, code books, the geometry of an image and the weights of its subbands.
 #![tactic(auto)]
 
 ghost use Rattle.std.specs.Prelude.{◌≡◌};

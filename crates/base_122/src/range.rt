@@ -9,50 +9,50 @@ impl FieldRange {
     ghost use Rattle.std.specs.Prelude.{◌≡◌};
     ghost use Rattle.base_122.specs.Ranges.{is_within};
 
-    /// Pixels of a row.
+    /// The number of pixels of a row.
     pub const WIDTH: FieldRange = FieldRange {
         least: 17,
         most: 1_048_575,
     };
-    /// Rows of an image.
+    /// The number of rows of an image.
     pub const ROWS: FieldRange = FieldRange {
         least: 17,
         most: 262_144,
     };
-    /// Bits of a pixel.
+    /// The number of bits of a pixel.
     pub const DEPTH: FieldRange = FieldRange { least: 1, most: 16 };
-    /// Blocks of a segment.
+    /// The number of blocks of a segment.
     pub const SEGMENT: FieldRange = FieldRange {
         least: 16,
         most: 1_048_575,
     };
-    /// Octets of a segment's text, where there is a limit.
+    /// The number of octets of a coded segment, if there is a limit.
     pub const LIMIT: FieldRange = FieldRange {
         least: 32,
         most: 134_217_724,
     };
-    /// Octets of a code word.
+    /// The number of octets of a code word.
     pub const WORD: FieldRange = FieldRange { least: 1, most: 4 };
     /// The last bit plane that is sent.
     pub const PLANE: FieldRange = FieldRange { least: 0, most: 27 };
-    /// The last stage that is sent, less one.
+    /// The last stage that is sent, minus 1.
     pub const STAGE: FieldRange = FieldRange { least: 0, most: 3 };
-    /// Application process identifiers, without that of idle packets.
+    /// The APID, without that of idle packets.
     pub const APID: FieldRange = FieldRange {
         least: 0,
         most: 2_046,
     };
-    /// Numbers of images.
+    /// The number of an image.
     pub const IMAGE: FieldRange = FieldRange {
         least: 0,
         most: 65_535,
     };
-    /// Octets of a packet data field at most.
+    /// The greatest number of octets of a packet data field.
     pub const PACKET: FieldRange = FieldRange {
         least: 64,
         most: 65_536,
     };
-    /// The most pixels of a picture that is decoded.
+    /// The greatest number of pixels of a picture that is decoded.
     pub const PIXELS: FieldRange = FieldRange {
         least: 0,
         most: 1 << 40,
@@ -63,7 +63,7 @@ impl FieldRange {
         most: 1 << 40,
     };
 
-    /// Whether the number is one of these.
+    /// Returns whether the number is in this range.
     pub fn contains(self, number: u64) -> bool
         ensures { result ≡ is_within self number }
     {

@@ -7,45 +7,45 @@ use crate::geometry::Geometry;
 use crate::range::FieldRange;
 use crate::weights::Weights;
 
-/// Everything that a writer is told: the image, its segments, where they stop and how the packets are made.
+/// The setting of a writer: the image, its segments, where they stop and how the packets are made.
 #[derive(Clone, Copy, Debug, PartialEq, Eq)]
 pub struct Setting {
-    /// Pixels of a row.
+    /// The number of pixels of a row.
     pub width: u32,
-    /// Rows of the image; 0 leaves them open until the input ends, and they are told last.
+    /// The number of rows of the image; if it is 0, the height is open until the input ends, and it is reported last.
     pub rows: u32,
-    /// Bits of a pixel.
+    /// The number of bits of a pixel.
     pub depth: u8,
     pub signed: bool,
-    /// Blocks of a segment.
+    /// The number of blocks of a segment.
     pub segment: u32,
-    /// Octets of a segment's text, with its head; 0 is no limit.
+    /// The greatest number of octets of a coded segment, with its header; 0 is no limit.
     pub limit: u32,
-    /// Each text is filled up to its limit.
+    /// Whether each coded segment is filled up to its limit.
     pub fill: bool,
-    /// Octets of a code word: a text's length is a multiple of it.
+    /// The number of octets of a code word: the length of a coded segment is a multiple of it.
     pub word: u8,
     pub stop: Stop,
     pub weights: Weights,
     pub select: Select,
-    /// Application process identifier of the packets.
+    /// The APID of the packets.
     pub apid: u16,
-    /// Number of the image.
+    /// The number of the image.
     pub image: u16,
-    /// Greatest length of a packet data field, in octets.
+    /// The greatest length of a packet data field, in octets.
     pub packet: u32,
-    /// Octets of all texts together, with their heads; 0 is no bound.
+    /// The greatest number of octets of all coded segments together, with their headers; 0 is no bound.
     pub total: u64,
 }
 
 /// Where the coding of a segment stops (docs/formats.md, "Stops, cut and fill").
 #[derive(Clone, Copy, Debug, PartialEq, Eq)]
 pub struct Stop {
-    /// Only the DC numbers are sent.
+    /// Whether only the DC coefficients are sent.
     pub dc: bool,
     /// The last bit plane that is sent.
     pub plane: u8,
-    /// Its last stage, less one.
+    /// Its last stage, minus 1.
     pub stage: u8,
 }
 
@@ -77,8 +77,8 @@ impl Setting {
     ghost use Rattle.base_122.specs.Ranges.{IsWithin, rows_range, field_test, first_out_of_range, range_check, total_test};
     ghost use Rattle.base_122.specs.Setting.{geometry_of, image_geometry, usual_setting};
 
-    /// The usual setting for an image of this size: unsigned pixels of 8 bits, segments of 64 blocks without a limit or a stop,
-    /// code words of one octet, the usual weights, APID 100, image 0, and packet data fields of at most 1,024 octets.
+    /// Returns the usual setting for an image of this size: unsigned pixels of 8 bits, segments of 64 blocks without a limit or
+    /// a stop, code words of one octet, the usual weights, APID 100, image 0, and packet data fields of at most 1,024 octets.
     pub fn usual(width: u32, rows: u32) -> Setting
         ensures { result ≡ usual_setting width rows }
     {
@@ -105,11 +105,11 @@ impl Setting {
         }
     }
 
-    /// Answers `Ok` exactly where each field is in its range (docs/formats.md, "Bounds"), and else the first that
-    /// isn't, in the order of `Field`.
+    /// Returns `Ok` exactly if each field is in its range (docs/formats.md, "Bounds"), otherwise the first that
+    /// is not, in the order of `Field`.
     ///
-    /// Whether the limit is a multiple of the word is tested only where the word is 1 to 4. `Fill` is refused
-    /// exactly where `fill` is set and there is neither a limit nor a total. `Total` is refused exactly where there is a total,
+    /// Whether the limit is a multiple of the code word length is tested only if `word` is 1 to 4. `Fill` is refused
+    /// exactly if `fill` is set and there is neither a limit nor a total. `Total` is refused exactly if there is a total,
     /// and the rows are left open, or there is a limit too, or it is below 36 octets for each segment or above 2^40.
     pub fn check(&self) -> Result<(), OutOfRange>
         ensures range { (result ≡ Ok tt) ↔ IsInRange self.now }
@@ -150,13 +150,13 @@ impl Setting {
             Field::Image => FieldRange::IMAGE.contains(u64::from(self.image)),
             Field::Packet => FieldRange::PACKET.contains(u64::from(self.packet)),
             Field::Total => self.keeps_total_range(),
-            // A setting has no caps, and no number of cameras.
+            // A setting has no such bounds, and no number of cameras.
             Field::Pixels | Field::Octets | Field::Cameras => true,
         }
     }
 
-    // Whether there is no bound on all texts together, or it is in its range and can be kept. Without blocks of a segment it
-    // needn't be in its range, so that these are refused.
+    // Returns whether there is no bound on all texts together, or the bound is in its range and can be kept. If a segment
+    // has no blocks, the bound needn't be in its range, so that the blocks are refused.
     fn keeps_total_range(&self) -> bool
         ensures { result ≡ total_test self.now }
     {
@@ -171,7 +171,7 @@ impl Setting {
         segment == 0 || is_total_in_range(self.total, blocks.div_ceil(segment))
     }
 
-    /// The geometry of the image, with the setting's own fields.
+    /// Returns the geometry of the image, with the setting's own fields.
     pub fn geometry(&self) -> Geometry
         requires { self.now.rows ≢ 0 }
         ensures { result ≡ geometry_of self.now }
@@ -179,8 +179,8 @@ impl Setting {
         self.with_rows(self.rows)
     }
 
-    /// The geometry of an image of so many rows, with the setting's other fields: that of a setting that leaves the rows open,
-    /// once they are known.
+    /// Returns the geometry of an image of this number of rows, with the setting's other fields. A setting that leaves the rows open
+    /// has this geometry after the rows are known.
     pub fn geometry_for(&self, rows: u32) -> Geometry
         requires { IsWithin rows_range rows }
         ensures { result ≡ image_geometry self.now rows }
@@ -204,8 +204,8 @@ impl Setting {
     }
 }
 
-/// Whether a limit is 0, or in its range and a multiple of the word. Of a word out of range it needn't be a multiple, so that
-/// the word itself is refused.
+/// Returns whether a limit is 0, or in its range and a multiple of the code word length. If the code word length is out of
+/// range, the limit needn't be a multiple of it, so that the code word length itself is refused.
 pub fn is_limit_in_range(limit: u64, word: u64) -> bool
     ensures { result ≡ limit_test limit word }
 {
@@ -218,15 +218,15 @@ pub fn is_limit_in_range(limit: u64, word: u64) -> bool
     !FieldRange::WORD.contains(word) || limit % word == 0
 }
 
-/// Whether a bound on all texts together is in its range for an image of so many segments.
+/// Returns whether a bound on all texts together is in its range for an image of this number of segments.
 pub fn is_total_in_range(total: u64, segments: u64) -> bool
     ensures { result ≡ is_within (total_range segments) total }
 {
     36 * u128::from(segments) <= u128::from(total) && total <= 1 << 40
 }
 
-/// The greatest number of samples that the encoder holds (docs/formats.md, "Bounds"): 64 for each padded column
-/// and 65 for each block of a segment.
+/// Returns the greatest number of samples that the encoder holds (docs/formats.md, "Bounds"): 64 for each
+/// padded column and 65 for each block of a segment.
 pub fn need(setting: &Setting) -> u64
     requires { IsInRange setting.now }
     ensures { result ≡ sample_need setting.now.width setting.now.segment }

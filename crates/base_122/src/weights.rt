@@ -26,7 +26,7 @@ impl Weights {
     ghost use Rattle.std.specs.List.{list_all};
     ghost use Rattle.base_122.specs.Weights.{usual_shifts, shift_of, is_shift};
 
-    /// The usual weights.
+    /// Returns the usual weights.
     pub fn usual() -> Weights
         ensures { result.shifts ≡ usual_shifts }
     {
@@ -35,14 +35,14 @@ impl Weights {
         }
     }
 
-    /// The exponent of a band.
+    /// Returns the exponent of a band.
     pub fn shift(&self, band: Band) -> u8
         ensures { result ≡ shift_of self.now.shifts band }
     {
         self.shifts[band as usize]
     }
 
-    /// Whether each shift is one of the weights' two bits, 0 to 3.
+    /// Returns whether each exponent fits two bits: 0 to 3.
     pub fn are_in_range(&self) -> bool
         ensures { result ≡ list_all is_shift self.now.shifts }
     {

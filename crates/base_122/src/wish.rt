@@ -1,11 +1,11 @@
 ghost use Rattle.std.specs.Prelude.{◌≡◌};
 
-/// What is asked of a decoder.
+/// The parameters of a decoder.
 #[derive(Clone, Copy, Debug, PartialEq, Eq)]
 pub struct DecodeWish {
-    /// Application process identifier of the packets that are read.
+    /// The APID of the packets that are read.
     pub apid: u16,
-    /// The most pixels of a picture.
+    /// The greatest number of pixels of a picture.
     pub pixels: u64,
     /// The number of octets at which reading ends.
     pub octets: u64,
@@ -14,7 +14,7 @@ pub struct DecodeWish {
 impl DecodeWish {
     ghost use Rattle.base_122.specs.Setting.{usual_wish};
 
-    /// The usual wish: APID 100, pictures of at most 2^32 pixels, and at most 2^40 octets.
+    /// Returns the usual parameters: APID 100, pictures of at most 2^32 pixels, and at most 2^40 octets.
     pub fn usual() -> DecodeWish
         ensures { result ≡ usual_wish }
     {

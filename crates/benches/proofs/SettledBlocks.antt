@@ -1,4 +1,4 @@
--- Blocks that have nothing of a plane or below it await that plane.
+-- Blocks that have no bit of a plane or below it await that plane.
 use Rattle.std.proofs.Common.{◌≡◌, ◌∙◌, ℕ, zero, suc, inl, inr, ◌+◌, ◌-◌, ◌*◌, ◌/◌, ◌%◌, ◌^◌, ◌<◌, ◌≤◌, ℤ, pos, List, length, refl, sym, ap, subst, arith, get_or}
 use Rattle.std.specs.Prelude.{replicate, unsigned_abs, take, drop}
 use Rattle.std.proofs.lemmas.Bool.{cases_lt}

@@ -1,4 +1,4 @@
-// Bits put into a slice and taken out of it.
+// Bits that are put into a slice and taken out of it.
 ghost use Rattle.std.specs.Prelude.{◌≤◌, ◌<◌, ◌^◌, length};
 
 use crate::packets::time_packets;
@@ -6,14 +6,14 @@ use crate::watch::Watch;
 use bit_pipe::{BitIn, BitOut, InFault, PutFault, SliceIn, SliceOut};
 use std::io;
 
-// The width of a number by its place: 1 to 16 bits.
+// Returns the width of a number by its place: 1 to 16 bits.
 fn width_at(place: u64) -> u8
     ensures { result ≤ 16 }
 {
     (place % 16) as u8 + 1
 }
 
-// What so many numbers come to, bit by bit.
+// Returns the exclusive or of this number of numbers.
 fn sum_of(numbers: u64) -> u32 {
     let mut sum = 0;
     for place in 0..numbers {
@@ -22,7 +22,7 @@ fn sum_of(numbers: u64) -> u32 {
     sum
 }
 
-// Puts so many numbers, each with as many of its bits as its place's width.
+// Puts this number of numbers, each with the number of bits of its place's width.
 #[tactic(auto, using(bit_pipe::proofs::Putting::open_after))]
 fn put_numbers(into: &mut [u8], numbers: u64) -> Result<u64, PutFault> {
     let mut out = SliceOut::new(into);
@@ -33,7 +33,7 @@ fn put_numbers(into: &mut [u8], numbers: u64) -> Result<u64, PutFault> {
     Ok(bits.end(1, false)?)
 }
 
-// Puts so many single bits, of which one in three is set.
+// Puts this number of single bits, of which one in three is set.
 #[tactic(auto, using(bit_pipe::proofs::Putting::open_after))]
 fn put_single_bits(into: &mut [u8], count: u64) -> Result<u64, PutFault> {
     let mut out = SliceOut::new(into);
@@ -44,7 +44,7 @@ fn put_single_bits(into: &mut [u8], count: u64) -> Result<u64, PutFault> {
     Ok(bits.end(1, false)?)
 }
 
-// Takes so many numbers, and answers what they come to, bit by bit.
+// Takes this number of numbers, and returns their exclusive or.
 #[tactic(auto, using(bit_pipe::proofs::Taking::in_after_bit, bit_pipe::proofs::Taking::in_after_item))]
 fn take_numbers(octets: &[u8], numbers: u64) -> Result<u32, InFault> {
     let mut input = SliceIn::new(octets);
@@ -59,7 +59,7 @@ fn take_numbers(octets: &[u8], numbers: u64) -> Result<u32, InFault> {
     Ok(sum)
 }
 
-// Takes so many single bits, and answers whether an odd number of them is set.
+// Takes this number of single bits, and returns whether an odd number of them is set.
 #[tactic(auto, using(bit_pipe::proofs::Taking::in_after_bit, bit_pipe::proofs::Taking::in_after_item))]
 fn take_single_bits(octets: &[u8], count: u64) -> Result<bool, InFault> {
     let mut input = SliceIn::new(octets);
@@ -74,7 +74,7 @@ fn take_single_bits(octets: &[u8], count: u64) -> Result<bool, InFault> {
     Ok(odd)
 }
 
-// Times numbers of 1 to 16 bits, 136 bits in each sixteen, as many as fit.
+// Times numbers of 1 to 16 bits, 136 bits in each sixteen. The slice is filled with them.
 fn time_numbers(rt: &HostRuntime, octets: &mut [u8]) -> io::Result<bool>
     requires { length octets.old < 2 ^ 40 }
 {
@@ -92,7 +92,7 @@ fn time_numbers(rt: &HostRuntime, octets: &mut [u8]) -> io::Result<bool>
     Ok(put.is_ok() && matches!(sum, Ok(sum) if sum == sum_of(numbers)))
 }
 
-// Times bits one by one, as many as fit.
+// Times bits one by one. The slice is filled with them.
 fn time_single_bits(rt: &HostRuntime, octets: &mut [u8]) -> io::Result<bool>
     requires { length octets.old < 2 ^ 40 }
 {
@@ -110,7 +110,7 @@ fn time_single_bits(rt: &HostRuntime, octets: &mut [u8]) -> io::Result<bool>
     Ok(put.is_ok() && matches!(odd, Ok(odd) if odd == is_odd))
 }
 
-// Times bits in so many MiB, or in an eighth of one, and packets of as many octets.
+// Times bits in this number of MiB, or in an eighth of one, and packets with the same number of octets.
 pub(crate) fn measure(rt: &HostRuntime, mib: Option<u16>) -> io::Result<bool> {
     let size = match mib {
         Some(mib) => usize::from(mib) << 20,

@@ -1,6 +1,6 @@
-//! Measures parts of the coder, and tries changed texts. The first word says which, and a number how much of it; without
-//! one there is little. The times go to standard error. What is read is compared with what was written: standard output
-//! says `done` where it is the same, and else `failed`.
+//! This program measures parts of the coder, and tries changed texts. The first argument is the subject, and a number is
+//! its amount; without a number the amount is small. The times are written to standard error. What is read is compared
+//! with what was written: standard output has `done` if it is the same, otherwise `failed`.
 #![tactic(auto)]
 
 mod bits;
@@ -19,10 +19,10 @@ use std::process::ExitCode;
 use std::{env, io};
 use words::{LITTLE, Subject, Wish, read_words};
 
-// The status where what is read isn't what was written.
+// The status if what is read is not what was written.
 const FAILED: u8 = 1;
 
-// The status for words that say nothing.
+// The status for arguments that are not known.
 const REFUSED: u8 = 2;
 
 const USAGE: &str = "\
@@ -34,7 +34,7 @@ usage: benches bits [MIB]                    bits put and taken, and packets rea
        benches all                           a little of each
 ";
 
-// Measures a subject, and answers whether what was read is what was written.
+// Measures a subject, and returns whether what was read is what was written.
 fn measure(rt: &HostRuntime, subject: Subject) -> io::Result<bool> {
     match subject {
         Subject::Bits(mib) => bits::measure(rt, mib),

@@ -1,4 +1,4 @@
-// Packets read one after another.
+// Packets that are read one after another.
 ghost use Rattle.std.specs.Prelude.{◌≡◌, ◌≤◌, ◌+◌, ◌^◌, length, IfOk};
 
 use crate::watch::Watch;
@@ -8,7 +8,7 @@ use space_packets::PacketReader;
 use std::alloc::{AllocError, Global};
 use std::io;
 
-// A packet of APID 100 with a text of zeros.
+// Returns a packet of APID 100 with a text of zeros.
 fn made_packet(alloc: Global, size: usize) -> Result<Vec<u8>, AllocError>
     requires long { 30 ≤ size }
     requires short { size ≤ 2 ^ 16 + 6 }
@@ -29,7 +29,7 @@ fn made_packet(alloc: Global, size: usize) -> Result<Vec<u8>, AllocError>
     Ok(packet)
 }
 
-// The same packet so many times.
+// Returns this number of copies of the packet.
 fn made_stream(alloc: Global, size: usize, count: usize) -> Result<Vec<u8>, AllocError>
     requires long { 30 ≤ size }
     requires short { size ≤ 2 ^ 16 + 6 }
@@ -42,7 +42,7 @@ fn made_stream(alloc: Global, size: usize, count: usize) -> Result<Vec<u8>, Allo
     Ok(stream)
 }
 
-// Reads so many packets, and answers how many of them are of APID 100.
+// Reads this number of packets, and returns how many of them are of APID 100.
 fn read_packets(reader: &mut PacketReader, port: &mut SteadyPort, count: usize) -> usize
     ensures { result ≤ count }
 {
@@ -55,7 +55,7 @@ fn read_packets(reader: &mut PacketReader, port: &mut SteadyPort, count: usize) 
     mine
 }
 
-// Times packets of a size, as many as so many octets have, and answers whether all were read.
+// Times packets of a size, with this number of octets together, and returns whether all were read.
 pub(crate) fn time_packets(
     rt: &HostRuntime,
     what: &str,

@@ -11,7 +11,7 @@ use crate::pictures::SEGMENT;
 use crate::words::blocks_of;
 use std::io;
 
-// Times so many thousand blocks, or 64 blocks.
+// Times this number of thousand blocks, or 64 blocks.
 pub(crate) fn measure(rt: &HostRuntime, thousands: Option<u16>) -> io::Result<bool> {
     let count = blocks_of(thousands);
     let dcs = dc_parts::measure(rt, count)?;

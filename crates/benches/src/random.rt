@@ -1,12 +1,12 @@
-// Numbers that look random, and are the same in each run.
+// Numbers that are like random ones, and are the same in each run.
 ghost use Rattle.std.specs.Prelude.{◌<◌};
 
-// The number of a place.
+// Returns the number of a place.
 pub(crate) fn mixed(place: u64) -> u64 {
     place.wrapping_mul(0x9e37_79b9_7f4a_7c15) / 65536
 }
 
-// Numbers one after another, the same for the same seed: Marsaglia's xorshift of 64 bits, whose state is never 0.
+// Numbers one after another, the same for the same seed: a xorshift generator of 64 bits, whose state is never 0.
 #[derive(Drop)]
 pub(crate) struct Random {
     state: u64,
@@ -26,7 +26,7 @@ impl Random {
         self.state
     }
 
-    // A number below another.
+    // Returns a number below another.
     pub fn below(&mut self, most: u32) -> u32
         requires { 0 < most }
         ensures { result < most }
@@ -34,7 +34,7 @@ impl Random {
         ((self.next() >> 32) % u64::from(most)) as u32
     }
 
-    // True once in so many times.
+    // Returns true once in `most` calls on average.
     pub fn once_in(&mut self, most: u32) -> bool
         requires { 0 < most }
     {

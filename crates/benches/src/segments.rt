@@ -7,7 +7,7 @@ use crate::watch::Watch;
 use crate::words::blocks_of;
 use std::io;
 
-// Puts the texts of all segments, and how many octets each has. Answers how many all have.
+// Puts the texts of all segments, and the number of octets of each. Returns the number of all octets.
 fn put_texts(into: &mut [u8], lengths: &mut [u64], blocks: &[i32], marks: &mut [i32]) -> u64
     requires count { length blocks.now ≡ 64 * length marks.old }
     requires segments { 64 * length lengths.old ≤ length marks.old }
@@ -26,7 +26,7 @@ fn put_texts(into: &mut [u8], lengths: &mut [u64], blocks: &[i32], marks: &mut [
     all
 }
 
-// Takes the texts of all segments, and answers whether all of each was read.
+// Reads the texts of all segments, and returns whether all of each was read.
 fn take_texts(octets: &[u8], lengths: &[u64], blocks: &mut [i32], marks: &mut [i32]) -> bool
     requires count { length blocks.old ≡ 64 * length marks.old }
     requires segments { 64 * length lengths.now ≤ length marks.old }
@@ -45,7 +45,7 @@ fn take_texts(octets: &[u8], lengths: &[u64], blocks: &mut [i32], marks: &mut [i
     all
 }
 
-// Times segments of so many thousand blocks, or one of 64 blocks.
+// Times segments of this number of thousand blocks, or one of 64 blocks.
 pub(crate) fn measure(rt: &HostRuntime, thousands: Option<u16>) -> io::Result<bool> {
     let segments = blocks_of(thousands) / SEGMENT;
     let count = SEGMENT * segments;

@@ -6,8 +6,8 @@ use segment_code::{SegmentFault, decode_segment, encode_segment, segment_depths}
 use segment_head::read_head;
 use word_codes::profile_book;
 
-// What a head says beside the depths and the number of blocks: the weights, two bits each, the octets of a code word, the
-// limit and whether it is filled, the stop, and how the options of DCs and depths are chosen.
+// The fields of a head besides the depths and the number of blocks: the weights, two bits each, the octets of a code
+// word, the limit and whether it is filled, the stop, and how the options of DCs and depths are chosen.
 #[derive(Clone, Copy)]
 pub(crate) struct HeadFields {
     pub weights: u32,
@@ -21,7 +21,7 @@ pub(crate) struct HeadFields {
 }
 
 impl HeadFields {
-    // All planes with weights of 1, and the best options.
+    // All planes with weights of 1, and the optimal options.
     pub const PLAIN: HeadFields = HeadFields {
         weights: 0,
         word: 1,
@@ -34,7 +34,7 @@ impl HeadFields {
     };
 }
 
-// The octets of a head.
+// Returns the octets of a head.
 fn head_octets(fields: &HeadFields, depths: (u8, u8), blocks: u32) -> [u8; 19] {
     let first = 1 << 23 | u32::from(depths.0) << 9 | u32::from(depths.1) << 4 | 7;
     let flags = u64::from(fields.stops_at_dc) << 12 | u64::from(fields.fill) << 4;
@@ -58,7 +58,7 @@ fn head_octets(fields: &HeadFields, depths: (u8, u8), blocks: u32) -> [u8; 19] {
     octets
 }
 
-// Puts the text of a segment, and answers how many octets it has, or 0 where it has none.
+// Puts the text of a segment, and returns how many octets it has, or 0 if it has none.
 pub(crate) fn put_text(
     into: &mut [u8],
     fields: &HeadFields,
@@ -93,7 +93,7 @@ pub(crate) fn put_text(
     .unwrap_or(0)
 }
 
-// What a text is answered. `ManyBlocks` says that there are more than there is room for, `Other` what can't come.
+// The answers to a text. `ManyBlocks` is for more blocks than there is room for, `Other` for an answer that is not possible.
 #[derive(Clone, Copy, PartialEq)]
 pub(crate) enum Answer {
     Whole,
@@ -123,7 +123,7 @@ fn answer_of(given: Result<Part, SegmentFault>) -> Answer {
     }
 }
 
-// Reads a text from its head on, and answers how many of the numbers its blocks have.
+// Reads a text from its head on, and returns how many numbers its blocks have.
 pub(crate) fn take_text(text: &[u8], blocks: &mut [i32], marks: &mut [i32]) -> (Answer, usize)
     requires count { length blocks.old ≡ 64 * length marks.old }
     ensures within { result.1 ≤ length blocks.new }

@@ -1,4 +1,4 @@
-// The rolling transform both ways at three widths, and the lifting of rows that it is made of.
+// The rolling transform and its inverse at three widths, and the lifting of rows that they are made of.
 
 mod backward;
 mod forward;
@@ -6,12 +6,12 @@ mod rows;
 
 use std::io;
 
-// How many pixels so many rows have.
+// Returns how many pixels this number of rows has.
 fn pixels(rows: u32, width: u32) -> usize {
     (rows as usize).saturating_mul(width as usize)
 }
 
-// Times so many rows, or 24.
+// Times this number of rows, or 24.
 pub(crate) fn measure(rt: &HostRuntime, rows: Option<u16>) -> io::Result<bool> {
     let rows = match rows {
         Some(rows) => u32::from(rows),

@@ -1,4 +1,4 @@
-// Changed texts of small segments, read, and how many were answered by each name.
+// Changed texts of small segments, read, and the number of texts with each answer.
 
 mod changes;
 mod made;
@@ -10,7 +10,7 @@ use changes::change;
 use made::make_text;
 use std::io;
 
-// More octets than a text of four blocks has.
+// A number of octets that is greater than that of a text of four blocks.
 const ROOM: usize = 2048;
 
 // The answers' names, in their order.
@@ -28,7 +28,7 @@ const ANSWERS: [&str; 11] = [
     "Other",
 ];
 
-// Tells a text, its answer and the numbers that it gives.
+// Prints a text, its answer and the numbers that it gives.
 fn tell(rt: &HostRuntime, text: &[u8], answer: Answer, numbers: &[i32]) -> io::Result<()> {
     for octet in text {
         print!(rt; "{octet:02x}")?;
@@ -43,7 +43,7 @@ fn tell(rt: &HostRuntime, text: &[u8], answer: Answer, numbers: &[i32]) -> io::R
     println!(rt; "")
 }
 
-// Reads changed texts, and answers how many were answered by each name.
+// Reads changed texts, and returns the number of texts with each answer.
 fn try_texts(rt: &HostRuntime, wish: Trials) -> io::Result<[u64; 11]> {
     let mut random = Random::new(u64::from(wish.seed));
     let mut octets = [0; ROOM];
@@ -63,7 +63,7 @@ fn try_texts(rt: &HostRuntime, wish: Trials) -> io::Result<[u64; 11]> {
     Ok(tally)
 }
 
-// Tries texts, and prints how many were answered by each name. Answers whether none was answered by another.
+// Tries texts, and prints the number of texts with each answer. Returns whether none had the answer `Other`.
 pub(crate) fn measure(rt: &HostRuntime, wish: Trials) -> io::Result<bool> {
     let tally = try_texts(rt, wish)?;
     for place in 0..ANSWERS.len() {

@@ -1,4 +1,4 @@
-// The clock, and the lines that tell a figure.
+// The clock, and the lines that print a figure.
 
 use std::io;
 use std::time::{Duration, Instant};
@@ -16,18 +16,18 @@ impl Watch {
         })
     }
 
-    // How long it has gone.
+    // Returns the time since it was started.
     pub fn time(&self, rt: &HostRuntime) -> io::Result<Duration> {
         self.start.elapsed(rt)
     }
 
-    // Tells what took so long, and for how many of a unit.
+    // Prints what took this time, and for which number of a unit.
     pub fn tell(&self, rt: &HostRuntime, what: &str, count: usize, unit: &str) -> io::Result<()> {
         tell(rt, what, self.time(rt)?, count, unit)
     }
 }
 
-// A time in hundredths of a nanosecond, for one of so many.
+// Returns a time in hundredths of a nanosecond, for one of this number.
 fn hundredths_each(time: Duration, count: usize) -> u64 {
     let nanos = time
         .as_secs()
@@ -36,7 +36,7 @@ fn hundredths_each(time: Duration, count: usize) -> u64 {
     nanos.saturating_mul(100) / (count as u64).max(1)
 }
 
-// Tells what took this time, and for how many of a unit.
+// Prints what took this time, and for which number of a unit.
 pub(crate) fn tell(
     rt: &HostRuntime,
     what: &str,

@@ -1,7 +1,7 @@
-// The words: what is measured, and how much of it.
+// The arguments: what is measured, and how much of it.
 ghost use Rattle.std.specs.Prelude.{◌<◌, ◌^◌};
 
-// Changed texts that are tried: how many, the seed of their numbers, and whether each is told with its answer.
+// Changed texts that are tried: how many, the seed of their numbers, and whether each is printed with its answer.
 #[derive(Clone, Copy)]
 pub(crate) struct Trials {
     pub texts: u32,
@@ -9,7 +9,7 @@ pub(crate) struct Trials {
     pub is_told: bool,
 }
 
-// What is measured: so many MiB, rows or thousands of blocks, or little of it.
+// The subject that is measured: a number of MiB, rows or thousands of blocks, or a small amount.
 #[derive(Clone, Copy)]
 pub(crate) enum Subject {
     Bits(Option<u16>),
@@ -25,7 +25,7 @@ pub(crate) enum Wish {
     LittleOfEach,
 }
 
-// The words say none of this.
+// The fault of arguments that are not known.
 #[derive(Clone, Copy, Debug)]
 pub(crate) struct BadWords;
 
@@ -35,7 +35,7 @@ const FEW_TRIALS: Trials = Trials {
     is_told: false,
 };
 
-// A little of each subject.
+// A small amount of each subject.
 pub(crate) const LITTLE: [Subject; 5] = [
     Subject::Bits(None),
     Subject::Transform(None),
@@ -44,7 +44,7 @@ pub(crate) const LITTLE: [Subject; 5] = [
     Subject::Trials(FEW_TRIALS),
 ];
 
-// The number in a word, or another where there is no word.
+// Returns the number in an argument, or another if there is no argument.
 fn number(word: Option<&String>, otherwise: u32) -> Result<u32, BadWords> {
     match word {
         None => Ok(otherwise),
@@ -52,7 +52,7 @@ fn number(word: Option<&String>, otherwise: u32) -> Result<u32, BadWords> {
     }
 }
 
-// The only number among the words, if there is one.
+// Returns the only number among the arguments, if there is one.
 fn amount(words: &[String]) -> Result<Option<u16>, BadWords> {
     match words {
         [] => Ok(None),
@@ -77,7 +77,7 @@ fn read_trials(words: &[String]) -> Result<Trials, BadWords> {
     })
 }
 
-// Reads the words after the program's name.
+// Reads the arguments after the program's name.
 pub(crate) fn read_words(words: &[String]) -> Result<Wish, BadWords> {
     let Some((subject, more)) = words.split_first() else {
         return Err(BadWords);
@@ -93,7 +93,7 @@ pub(crate) fn read_words(words: &[String]) -> Result<Wish, BadWords> {
     })
 }
 
-// So many thousand blocks, fewer than 2^20, or 64 blocks.
+// Returns this number of thousand blocks, fewer than 2^20, or 64 blocks.
 pub(crate) fn blocks_of(thousands: Option<u16>) -> usize
     ensures { result < 2 ^ 20 }
 {

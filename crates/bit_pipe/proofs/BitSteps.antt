@@ -1,4 +1,4 @@
--- Bits put behind those that wait.
+-- Bits that are put after those that wait.
 use Rattle.std.proofs.Common.{◌≡◌, ℕ, ◌+◌, ◌-◌, ◌*◌, ◌/◌, ◌%◌, ◌^◌, ◌<◌, ◌≤◌, [], ◌∷◌, ◌++◌, Bool, refl, sym, ap, subst, ◌∙◌, append_assoc, arith, mul_comm}
 use Rattle.std.proofs.lemmas.Nat.{mod_below, pow_pos, shl_whole, shr_below, one_shl, and_mask, or_shifted, pow-add, mul-add-lt}
 use Rattle.std.specs.Prelude.{bit_and, bit_or}
@@ -35,7 +35,7 @@ bound_small limit le = grind (arith, nat_tests)
 pub bounded : (bound limit : ℕ) → bound ≡ bound_of limit → limit ≤ 2 ^ 32 → bound ≤ 2 ^ 32
 bounded bound limit e le = rw e (bound_small limit le)
 
--- the code's bit
+-- the bit that the code puts
 pub bit_put : (b : Bool) → bits_of 1 (bool_byte b) ≡ b ∷ []
 bit_put b =
     let n : 2 * 0 + digit b ≡ bool_byte b = omega (arith, digit_code b) in
@@ -56,7 +56,7 @@ code_join a m n b fits le lt =
     let whole : (a * 2 ^ n) % 2 ^ 64 ≡ a * 2 ^ n = shl_whole a m n 64 fits le in
     ap (λ x. bit_or x b) whole ∙ or_shifted a n b lt
 
--- what the code makes of the bits that wait and the number's
+-- what the code computes from the bits that wait and the number's
 pub code_wait : (filled pending count value : ℕ) → pending < 2 ^ filled → filled + count < 64 →
     bit_or ((pending * 2 ^ count) % 2 ^ 64) (bit_and value ((1 * 2 ^ count) % 2 ^ 64 - 1)) ≡ pending * 2 ^ count + bit_and value ((1 * 2 ^ count) % 2 ^ 64 - 1)
 code_wait filled pending count value fits lt = code_join pending filled count _ fits (omega arith) (code_low_fits value count (omega arith))
@@ -71,7 +71,7 @@ code_word filled pending count value fits lt le full =
     let small = shr_below (bit_and value ((1 * 2 ^ count) % 2 ^ 64 - 1)) (count - rest) rest (rw parts (code_low_fits value count le)) in
     code_join pending filled (count - rest) _ fits (omega arith) small
 
--- the bits that wait, where no word is full: low is the number's lowest bits
+-- the bits that wait, if no word is full: low is the number's lowest bits
 pub fits_waiting : (filled pending count low : ℕ) → pending < 2 ^ filled → low < 2 ^ count → pending * 2 ^ count + low < 2 ^ (filled + count)
 fits_waiting filled pending count low p q =
     let turned : 2 ^ count * 2 ^ filled ≡ 2 ^ (filled + count) = mul_comm (2 ^ count) (2 ^ filled) ∙ sym (pow-add 2 filled count) in

@@ -10,7 +10,7 @@ use Rattle.bit_pipe.proofs.Giving.{gives_then, broke_then}
 pub gave_octets : {S : Type 0} {k : SinkOf S} {a b : S} {bits : List Bool} → GaveBits k a b bits → k.Gave a b (octets_of bits)
 gave_octets {S} {k} {a} {b} {bits} p = subst (k.Gave a b) (sym (octets_are bits p.octets p.small p.spell)) p.gave
 
--- the bits that stood, and those that the end adds
+-- the bits that were there, and those that the end adds
 whole : (before bits given pending zeros : List Bool) → before ≡ [] → before ++ bits ≡ given ++ pending → given ++ (pending ++ zeros) ≡ bits ++ zeros
 whole before bits given pending zeros none e =
     sym (append_assoc given pending zeros) ∙ ap (λ r. r ++ zeros) (sym e ∙ ap (λ r. r ++ bits) none)

@@ -38,7 +38,7 @@ ended_differs h = absurd cc
 pub err_differs : (fault : TextFault) → Ok Whole ≡ of_fault fault → ⊥
 err_differs fault h = absurd cc
 
--- a reading that is cut read fewer items
+-- a reading that is cut has read fewer items
 pub cut_within : {I : Type 0} {k : SourceOf I} (items : List Item) (n : ℕ) (e : Ending) {a b : Coming I} → IsCut e → Reads k items e a b → items_read n e < length items
 cut_within items n (stopped whole) cut r = absurd cut
 cut_within items n (stopped (ended m)) cut r = r.ends.0.within

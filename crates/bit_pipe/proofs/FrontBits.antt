@@ -6,7 +6,7 @@ use Rattle.item_defs.specs.Bits.{bits_of}
 use Rattle.item_defs.proofs.NumberBits.{length-bits_of, bits_of-mod, bits_of-split, bits_between, take-bits_of}
 use Rattle.bit_pipe.specs.Fronts.{first_bits, hand_of}
 
--- the first bits of an octet begin the first more bits of it
+-- the first bits of an octet are a prefix of more of its first bits
 pub first_then : (few more octet : ℕ) → few ≤ more → more ≤ 8 → first_bits more octet ≡ first_bits few octet ++ bits_of (more - few) (octet / 2 ^ (8 - more))
 first_then few more octet le top =
     let a : 8 - (8 - few) ≡ few = omega arith in
@@ -15,7 +15,7 @@ first_then few more octet le top =
     let whole = bits_between 8 (8 - few) (8 - more) octet (omega arith) (omega arith) in
     sym (rw (a, b, c) at whole)
 
--- they are first in its eight
+-- they are a prefix of its eight bits
 first_of_eight : (count octet : ℕ) → count ≤ 8 → take count (bits_of 8 octet) ≡ first_bits count octet
 first_of_eight count octet le =
     let e : count + (8 - count) ≡ 8 = omega arith in
@@ -28,13 +28,13 @@ first_low count n le = sym (first_of_eight count (n % 256) le) ∙ ap (take coun
 pub hand_small : (left octet : ℕ) → hand_of left octet < 256
 hand_small left octet = omega arith
 
--- the bits at hand
+-- the bits available
 pub hand_bits : (left octet : ℕ) → left ≤ 8 → first_bits left (hand_of left octet) ≡ bits_of left octet
 hand_bits left octet le =
     let none : octet * 2 ^ (8 - left) ≡ octet * 2 ^ (8 - left) + 0 = omega arith in
     first_low left (octet * 2 ^ (8 - left)) le ∙ ap (λ n. bits_of left (n / 2 ^ (8 - left))) none ∙ ap (bits_of left) (shr_high octet (8 - left) 0 (pow_pos (8 - left)))
 
--- the first of those that are left
+-- the first of the bits that are left
 pub first_left : (count left octet : ℕ) → count ≤ left → left ≤ 8 → bits_of left octet ≡ first_bits count (hand_of left octet) ++ bits_of (left - count) octet
 first_left count left octet le top =
     let whole : count + (left - count) ≡ left = omega arith in
@@ -44,7 +44,7 @@ first_left count left octet le top =
     sym (take_at (first_bits count (hand_of left octet)) _ count (length-bits_of count _)) ∙ ap (take count) (sym begun ∙ split) ∙ take_at (bits_of count (octet / 2 ^ (left - count))) _ count (length-bits_of count _) in
     split ∙ ap (λ r. r ++ bits_of (left - count) octet) (sym same)
 
--- ---- bits at hand, and the next octet: the octet that begins there
+-- ---- bits available, and the next octet: the octet that begins there
 
 abbrev pub across : (left held octet : ℕ) → ℕ
 across left held octet = (256 * held + octet) / 2 ^ left % 256
@@ -56,7 +56,7 @@ pub across_code : (left held octet a b : ℕ) → a ≡ held → b ≡ octet →
 across_code left held octet a b e f = rw (e, f) refl
 
 module _ (left held octet : ℕ) (small : octet < 256) where
-  -- the first bits of it, where more are wanted than are at hand
+  -- the first bits of both, if more are wanted than are available
   pub across_bits : (count : ℕ) → left ≤ count → count ≤ 8 → first_bits count (across left held octet) ≡ bits_of left held ++ first_bits (count - left) octet
   across_bits count le top =
       let more = count - left in

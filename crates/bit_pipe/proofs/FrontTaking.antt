@@ -21,11 +21,11 @@ use Rattle.bit_pipe.proofs.OneItem.{one_whole, one_ended, one_failed}
 use Rattle.bit_pipe.proofs.Taking.{at, takes_then, takes_pending, takes_octet, within_at_end, within_at_fault}
 
 module _ {most : ℕ} {item : ℕ → Item} {fronts : List Front} (t : Tells most item fronts) (octet left : ℕ) (lt : left < 8) (more : left < (front_at fronts (hand_of left octet)).len) where
-  -- the bits at hand are no item's
+  -- the bits available are no item's
   lacks_hand : Lacks t.shape (bits_of left octet)
   lacks_hand = subst (Lacks t.shape) (hand_bits left octet (omega arith)) (t.lacks (hand_of left octet) left (hand_small left octet) more)
 
-  -- the item that stands across has more bits than are at hand
+  -- the item that is across has more bits than are available
   pub across_more : (next : ℕ) → next < 256 → left < (front_at fronts (across left octet next)).len
   across_more next small =
       let v = across left octet next in
@@ -53,7 +53,7 @@ module _ {I : Type 0} {k : SourceOf I} {most : ℕ} {item : ℕ → Item} {front
     answer = refl;
   }
 
-  -- they stand first in a window
+  -- they are first in a window
   pub told_first : {a b : Coming I} (window : ℕ) → window < 2 ^ 64 → Takes k a b (first_of (front_at fronts (window / 2 ^ 56)).len window) → TakesOne k (IsBelow most) item (Ok (Some (front_at fronts (window / 2 ^ 56)).number)) a b
   told_first {a} {b} window fits p =
       let v = window / 2 ^ 56 in
@@ -61,7 +61,7 @@ module _ {I : Type 0} {k : SourceOf I} {most : ℕ} {item : ℕ → Item} {front
       told_whole v small (subst (Takes k a b) (first_octet (front_at fronts v).len window (t.few v small)) p)
 
   module _ {a b c : Coming I} {bits : List Bool} (lacks : Lacks t.shape bits) (p : Takes k a b bits) where
-    -- too few bits come
+    -- there are too few bits
     told_ended : EndsBit k (Ok None) b c → TakesOne k (IsBelow most) item (Ok None) a c
     told_ended q = record {
       value = (front_at fronts 0).number;
@@ -81,7 +81,7 @@ module _ {I : Type 0} {k : SourceOf I} {most : ℕ} {item : ℕ → Item} {front
     }
 
   module _ (s : I) (octet left used room name : ℕ) (lt : left < 8) (fits : left ≤ room) where
-    -- all its bits are at hand
+    -- all its bits are available
     pub told_at_hand : (v len a b : ℕ) → v ≡ hand_of left octet → a ≡ len → b ≡ len → len ≡ (front_at fronts v).len → len ≤ left →
         TakesOne k (IsBelow most) item (Ok (Some (front_at fronts v).number)) (at s octet left used room name) (at s octet (left - len) (used + b) (room - a) name)
     told_at_hand v len a b is ea eb h le =
@@ -92,7 +92,7 @@ module _ {I : Type 0} {k : SourceOf I} {most : ℕ} {item : ℕ → Item} {front
         rw (ea, eb, is) (told_whole (hand_of left octet) (hand_small left octet) (takes_pending k s octet left used room name len first split long lt (omega arith)))
 
     module _ (more : left < (front_at fronts (hand_of left octet)).len) where
-      -- the bits at hand are taken
+      -- the bits available are taken
       pub hand_taken : (a b : ℕ) → a ≡ left → b ≡ left → Takes k (at s octet left used room name) (at s octet 0 (used + b) (room - a) name) (bits_of left octet)
       hand_taken a b ea eb =
           let none : left - left ≡ 0 = omega arith in
@@ -105,7 +105,7 @@ module _ {I : Type 0} {k : SourceOf I} {most : ℕ} {item : ℕ → Item} {front
       pub hand_failed : (a b : ℕ) → a ≡ left → b ≡ left → {c : Coming I} (e : InFault) → EndsBit k (Err e) (at s octet 0 (used + b) (room - a) name) c → TakesOne k (IsBelow most) item (Err (of_input e)) (at s octet left used room name) c
       hand_failed a b ea eb e q = told_failed (lacks_hand t octet left lt more) (hand_taken a b ea eb) e q
 
-      -- its last bits are the next octet's first
+      -- its last bits are first in the next octet
       module _ (u : I) (next : ℕ) (h : GivesOctet k (Ok (Some next)) s u) where
         crossed : (8 ≤ room - left) → TakesOne k (IsBelow most) item (Ok (Some (front_at fronts (across left octet next)).number)) (at s octet left used room name)
             (at u next (8 - ((front_at fronts (across left octet next)).len - left)) ((used + left) + ((front_at fronts (across left octet next)).len - left)) ((room - left) - ((front_at fronts (across left octet next)).len - left)) name)

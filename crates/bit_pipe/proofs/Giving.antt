@@ -54,7 +54,7 @@ module _ {S : Type 0} (k : SinkOf S) where
     rose = rose_since (k.counts a).faults (k.counts b).faults (k.counts c).faults p.faults q.rose;
   }
 
-  -- bits that would have come after them
+  -- a call that failed while bits were given failed as well while these bits and more were given
   pub broke_more : {a b : S} {xs : List Bool} (ys : List Bool) → BrokeBits k a b xs → BrokeBits k a b (xs ++ ys)
   broke_more {a} {b} {xs} ys p = record {
     octets = p.octets;
@@ -65,7 +65,7 @@ module _ {S : Type 0} (k : SinkOf S) where
     rose = p.rose;
   }
 
--- the call for an octet failed, and so does the one that made it
+-- the call for an octet failed, and so did the call that made it
 pub puts_broke : {S T E : Type 0} {k : SinkOf S} {a b : S} {xs : List Bool} (r : Result T E) → IsErr r → BrokeBits k a b xs → PutsOctets k r a b xs
 puts_broke (Ok x) e p = absurd cc
 puts_broke (Err x) e p = p

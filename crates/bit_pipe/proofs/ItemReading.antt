@@ -36,7 +36,7 @@ ends_then k is js (stopped (ended m)) a b c p q = (breaks_then is js m p q.0, q.
 ends_then k is js (stopped (refused m n name)) a b c p q = refuses_then is js m n name p q
 ends_then k is js (failed m e) a b c p q = (breaks_then is js m p q.0, fails_so_later p q.1)
 
--- items read whole, and then those after them
+-- items that were read whole, and then those after them
 pub reads_then : {I : Type 0} {k : SourceOf I} (is : List Item) {js : List Item} {ending : Ending} {a b c : Coming I} → Takes k a b (text is) → Reads k js ending b c → Reads k (is ++ js) (later_by (length is) ending) a c
 reads_then {I} {k} is {js} {ending} {a} {b} {c} p q = record { ends = ends_then k is js ending a b c p q.ends }
 

@@ -64,7 +64,7 @@ ends_then k (Err WriteFault) a b c xs ys p q =
 pub puts_then : {S T : Type 0} {k : SinkOf S} {r : Result T PutFault} {a b c : Standing S} {xs ys : List Bool} → Adds k a b xs → Puts k r b c ys → Puts k r a c (xs ++ ys)
 puts_then {S} {T} {k} {r} {a} {b} {c} {xs} {ys} p q = record { ends = ends_then k r a b c xs ys p q.ends }
 
--- the first bits of two lists
+-- the prefix of two lists, one after the other
 take_on : (n : ℕ) (xs ys : List Bool) → take n (xs ++ ys) ≡ take n xs ++ take (n - length xs) ys
 take_on n xs ys = elim (cases_lt n (length xs)) [
   | inl lt ↦
@@ -81,11 +81,11 @@ ends_cut T U k Stopped a b xs ys p =
     (omega (arith, length-append xs ys, p.0), rw e p.1)
 ends_cut T U k WriteFault a b xs ys p = rw (take_on a.room xs ys) (breaks_more (take (a.room - length xs) ys) p)
 
--- bits that would have come after the end
+-- further bits after a call that failed
 pub puts_cut : {S T U : Type 0} {k : SinkOf S} {e : PutFault} {a b : Standing S} {xs : List Bool} (ys : List Bool) → Puts {T = T} k (Err e) a b xs → Puts {T = U} k (Err e) a b (xs ++ ys)
 puts_cut {S} {T} {U} {k} {e} {a} {b} {xs} ys p = record { ends = ends_cut T U k e a b xs ys p.ends }
 
--- a call inside a longer text failed: what was put before, what it put, and what would have come
+-- a call inside a longer text failed: what was put before, what it put, and what would have followed
 pub puts_ended : {S T U : Type 0} {k : SinkOf S} {e : PutFault} {a b c : Standing S} {xs ys whole : List Bool} (zs : List Bool) →
     Adds k a b xs → Puts {T = T} k (Err e) b c ys → xs ++ (ys ++ zs) ≡ whole → Puts {T = U} k (Err e) a c whole
 puts_ended {k = k} {xs = xs} {ys = ys} zs p q e = rw (← e) (puts_then p (puts_cut zs q))
@@ -94,7 +94,7 @@ puts_ended {k = k} {xs = xs} {ys = ys} zs p q e = rw (← e) (puts_then p (puts_
 pub puts_whole : {S T : Type 0} {k : SinkOf S} {x : T} {a b : Standing S} {xs : List Bool} → Adds k a b xs → Puts k (Ok x) a b xs
 puts_whole p = record { ends = p }
 
--- the same failure, of a call that would have answered something else
+-- the same failure, of a call that would have returned another value
 pub puts_again : {S T U : Type 0} {k : SinkOf S} {e : PutFault} {a b : Standing S} {xs : List Bool} → Puts {T = T} k (Err e) a b xs → Puts {T = U} k (Err e) a b xs
 puts_again {xs = xs} p = rw (sym (append-nil xs)) (puts_cut [] p)
 
@@ -119,7 +119,7 @@ ends_name k (Ok x) a b xs p = p.name
 ends_name k (Err Stopped) a b xs p = p.1.name
 ends_name k (Err WriteFault) a b xs p = p.name
 
--- the bits go to the sink that they went to before
+-- the bits are given to the same sink as before
 pub puts_name : {S T : Type 0} {k : SinkOf S} {r : Result T PutFault} {a b : Standing S} {xs : List Bool} → Puts k r a b xs → b.name ≡ a.name
 puts_name {S} {T} {k} {r} {a} {b} {xs} p = ends_name k r a b xs p.ends
 

@@ -14,7 +14,7 @@ module _ {X : Type 0} (f : X → Item) (xs : List X) where
       Adds k a b (text (map f (take i xs))) → Adds k b c (item_bits (f (get_or xs i d))) → Adds k a c (text (map f (take (i + 1) xs)))
   each_put_more i d lt p q = rw (← text_more f xs i d lt) (adds_then p q)
 
-  -- it was not put whole
+  -- the item was not put whole
   pub each_put_ended : {S T U : Type 0} {k : SinkOf S} {e : PutFault} {a b c : Standing S} (i : ℕ) (d : X) → i < length xs →
       Adds k a b (text (map f (take i xs))) → Puts {T = T} k (Err e) b c (item_bits (f (get_or xs i d))) → Puts {T = U} k (Err e) a c (text (map f xs))
   each_put_ended i d lt p q = puts_ended (text (map f (drop (i + 1) xs))) p q (text_goes_on f xs i d lt)

@@ -1,4 +1,4 @@
--- A call that read items read them as far as the bits of the text go, where the input tells them.
+-- A call that reads items reads them up to where the bits of the text end, if the input gives what is left.
 use Rattle.std.proofs.Common.{◌≡◌, ℕ, ◌+◌, List, [], ◌++◌, length, take, Bool, inl, inr, sym, ap, subst, ◌∙◌, append_assoc, arith}
 use Rattle.std.specs.Prelude.{Option, None, Some, ◌⊎◌}
 use Rattle.std.proofs.lemmas.List.{append-nil, take_all}
@@ -12,12 +12,12 @@ use Rattle.bit_pipe.specs.Sources.{Tail, SourceOf, Comes, IsOver, Plainly}
 use Rattle.bit_pipe.specs.Coming.{Coming, Takes, IsEnd, bits_to_come}
 use Rattle.bit_pipe.specs.Reading.{stopped, EndsReading, Reads}
 
--- the octets that came, and those that are left
+-- the octets that were read, and those that are left
 came : (old : Tail) (new : Option Tail) (octets : List ℕ) → Comes (Some old) new octets → (left : List ℕ) × (old.octets ≡ octets ++ left) × (IsOver new Plainly → left ≡ [])
 came old None octets h = absurd h
 came old (Some new) octets h = (new.octets, h.0, λ over. over.0)
 
--- the bits that were taken stand first among those that were to come
+-- the bits that were taken are a prefix of those that were left
 front : (room after : ℕ) (pending octets left bits next : List Bool) → room ≡ after + length bits → pending ++ octets ≡ bits ++ next → take room (pending ++ (octets ++ left)) ≡ bits ++ take after (next ++ left)
 front room after pending octets left bits next e f =
     let turned : room ≡ length bits + after = omega arith in
@@ -25,7 +25,7 @@ front room after pending octets left bits next e f =
     ap (take room) whole ∙ ap (λ n. take n (bits ++ (next ++ left))) turned ∙ take_past bits (next ++ left) after
 
 module _ {I : Type 0} (k : SourceOf I) (a b : Coming I) (tail : Tail) (told : k.tail a.source ≡ Some tail) where
-  -- what was taken, and what comes after it up to the bound, which is nothing at an end
+  -- what was taken, and what follows it up to the bound, which is nothing at an end
   pub taken_first : (bits : List Bool) → Takes k a b bits → (more : List Bool) × (bits_to_come a tail ≡ bits ++ more) × (IsEnd k b → more ≡ [])
   taken_first bits p =
       let c = came tail (k.tail b.source) p.octets (subst (λ t. Comes t (k.tail b.source) p.octets) told p.came) in

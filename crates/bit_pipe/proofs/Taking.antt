@@ -39,7 +39,7 @@ takes_start k s h = record {
   name = refl;
 }
 
--- bits that come in two parts
+-- bits that arrive in two parts
 regroup : (p o q xs n ys r : List Bool) → p ++ o ≡ xs ++ n → n ++ q ≡ ys ++ r → p ++ (o ++ q) ≡ (xs ++ ys) ++ r
 regroup p o q xs n ys r e f =
     sym (append_assoc p o q) ∙ ap (λ k. k ++ q) e ∙ append_assoc xs n q ∙ ap (λ k. xs ++ k) f ∙ sym (append_assoc xs ys r)
@@ -137,13 +137,13 @@ module _ {I : Type 0} (k : SourceOf I) where
   octet_fault e s t octet left used room name none some h =
       (takes_nothing s t octet left used room name (omega arith) h.ends.0 h.faults h.went, record { room = some; pending = no_pending octet left none; cause = h.ends.1 })
 
-  -- the bound stands here
+  -- the bound is reached
   pub at_bound : (s : Coming I) → IsIn s → s.room ≡ 0 → EndsBit k (Ok None) s s
   at_bound s h e = (takes_start k s h, record { bits = inl e })
 
 -- ---- items
 
--- some bits of a shape were taken, and then nothing more came
+-- some bits of a shape were taken, and then nothing more followed
 pub within_at_end : {I : Type 0} {k : SourceOf I} (s : Shape) {a b c : Coming I} {xs : List Bool} → Lacks s xs → Takes k a b xs → EndsBit k (Ok None) b c → EndsItem k s (Ok None) a c
 within_at_end s {xs = xs} lacks p q = (record { some = xs; taken = rw (← append-nil xs) (takes_then p q.0); lacks = lacks }, q.1)
 

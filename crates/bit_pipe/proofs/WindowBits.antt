@@ -1,4 +1,4 @@
--- Bits that stand at hand, as one number.
+-- Bits that are available, as one number.
 use Rattle.std.proofs.Common.{◌≡◌, ℕ, ◌+◌, ◌-◌, ◌*◌, ◌/◌, ◌%◌, ◌^◌, ◌<◌, ◌≤◌, List, ◌++◌, length, take, drop, refl, sym, ap, subst, ◌∙◌, arith}
 use Rattle.std.specs.Prelude.{bit_and, bit_or}
 use Rattle.std.specs.Int.{w64, to_be_bytes}
@@ -29,7 +29,7 @@ first_of_all count n le =
 first_low : (count n : ℕ) → count ≤ 64 → first_of count (n % 2 ^ 64) ≡ first_of count n
 first_low count n le = sym (first_of_all count (n % 2 ^ 64) le) ∙ ap (take count) (bits_of-mod 64 n) ∙ first_of_all count n le
 
--- the first of them stand in its highest octet
+-- the first of them are in its highest octet
 pub first_octet : (count n : ℕ) → count ≤ 8 → first_of count n ≡ first_bits count (n / 2 ^ 56)
 first_octet count n le =
     let up : 56 + (8 - count) ≡ 64 - count = omega arith in
@@ -85,7 +85,7 @@ moved left whole lt =
     ∙ ap (λ n. bits_of (left + 56) (n / 2 ^ (8 - left))) none
     ∙ ap (bits_of (left + 56)) (shr_high whole (8 - left) 0 (pow_pos (8 - left)))
 
--- how many octets are passed where so many bits are left of the last and so many are taken, and how many are left then
+-- how many octets are passed if `left` bits are left of the last octet and `count` bits are taken, and how many are left then
 abbrev pub passed : (left count : ℕ) → ℕ
 passed left count = (7 - left + count) / 8
 
@@ -96,7 +96,7 @@ module _ {I : Type 0} (k : SourceOf I) (s : I) (octet left used room name : ℕ)
   long : length (bits_of left octet) ≡ left
   long = length-bits_of left octet
 
-  -- a word of the last octet and seven that come next, moved up
+  -- a word of the last octet and seven that follow, moved up
   pub window_made : (word : ℕ) (eight : List ℕ) → 56 ≤ room → IsFirstChunk (k.buffer s) eight 8 → AreOctets eight → bits_of (left + 56) word ≡ bits_of left octet ++ bits_of_octets (take 7 eight) →
       IsWindow k (at s octet left used room name) ((word * 2 ^ (8 - left)) % 2 ^ 64)
   window_made word eight enough first are spelled =
@@ -112,7 +112,7 @@ module _ {I : Type 0} (k : SourceOf I) (s : I) (octet left used room name : ℕ)
     bits_in : left + 8 * (passed left count) ≡ count + (rest left count)
     bits_in = omega arith
 
-    -- the bits at hand of the octets that are passed
+    -- the bits available of the octets that are passed
     front : bits_of left octet ++ bits_of_octets (take (passed left count) (k.buffer s)) ≡ bits_of (count + (rest left count)) (window / 2 ^ (64 - (count + (rest left count))))
     front =
         let whole : (left + 8 * (passed left count)) + (56 - 8 * (passed left count)) ≡ left + 56 = omega arith in
@@ -147,7 +147,7 @@ module _ {I : Type 0} (k : SourceOf I) (s : I) (octet left used room name : ℕ)
         ∙ ap (λ n. bits_of count n ++ bits_of (rest left count) y) (shr-shr window (64 - (count + (rest left count))) (rest left count) ∙ ap (λ n. window / 2 ^ n) up)
         ∙ ap (λ r. first_of count window ++ r) (sym (kept next e))
 
-    -- what is left after the first of the bits at hand
+    -- what is left after the first of the bits available
     pub window_taken : (t : I) (n next a b : ℕ) → n ≡ (passed left count) → next ≡ bit_and (window / 2 / 2 ^ (63 - count - (rest left count))) 255 → a ≡ count → b ≡ count → Consumes k n s t →
         Takes k (at s octet left used room name) (at t next (rest left count) (used + b) (room - a) name) (first_of count window)
     window_taken t n next a b en e ea eb h = record {
@@ -163,6 +163,6 @@ module _ {I : Type 0} (k : SourceOf I) (s : I) (octet left used room name : ℕ)
       name = refl;
     }
 
-  -- what fits stands at hand
+  -- what fits is available
   pub window_needs : (window count n : ℕ) → IsWindow k (at s octet left used room name) window → count ≤ 56 → n ≡ (7 - left + count) / 8 → n ≤ length (k.buffer s)
   window_needs window count n w few e = omega (arith, e, w.many)

@@ -41,7 +41,7 @@ pub length-octets : (k n : ℕ) → length (bytes_high_first k n) ≡ k
 length-octets zero n = refl
 length-octets (suc k) n = ap suc (length-octets k n)
 
--- a word fills a slice by eight octets
+-- a word adds eight octets to a slice
 pub fills_word : (name name' len faults k word : ℕ) (slice octets : List ℕ) → name' ≡ name → octets ≡ to_be_bytes w64 word → k ≡ 8 → len + 8 ≤ length slice →
     Fills (record { name = name; slice = slice; len = len; faults = faults }) (record { name = name'; slice = put_mid len k slice octets; len = len + 8; faults = faults }) (to_be_bytes w64 word)
 fills_word name name' len faults k word slice octets e f g le =

@@ -1,4 +1,4 @@
--- What calls answer that read items. (This project's own.)
+-- The results of calls that read items. (This project's own.)
 use Rattle.std.specs.Prelude.{◌≡◌, ◌<◌, ℕ, [], ◌∷◌, Option, None, Some, Result, Ok, Err}
 use Rattle.item_defs.specs.Items.{Item}
 use Rattle.item_defs.specs.Readings.{whole, ended, refused}
@@ -17,7 +17,7 @@ part_answer (stopped (ended m)) = Ok Ended
 part_answer (stopped (refused m spelt name)) = Err (of_refusal name)
 part_answer (failed m e) = Err (of_input e)
 
--- the value that one item says, and none where the item isn't given
+-- the value of one item, and none if the item is missing
 abbrev pub item_answer : {A : Type 0} → A → Ending → Result (Option A) TextFault
 item_answer value (stopped whole) = Ok (Some value)
 item_answer value (stopped (ended m)) = Ok None
@@ -27,7 +27,7 @@ item_answer value (failed m e) = Err (of_input e)
 abbrev pub IsBelow : ℕ → ℕ → Type 0
 IsBelow most n = n < most
 
--- what a call for one item leaves that says a value that is so
+-- the result of a call for one item, whose value has a property
 pub record TakesOne {I : Type 0} (k : SourceOf I) (Is : ℕ → Type 0) (item : ℕ → Item) (result : Result (Option ℕ) TextFault) (old new : Coming I) : Type 0 where
   pub value : ℕ
   pub known : Is value
@@ -35,7 +35,7 @@ pub record TakesOne {I : Type 0} (k : SourceOf I) (Is : ℕ → Type 0) (item : 
   pub read : Reads k (item value ∷ []) ending old new
   pub answer : result ≡ item_answer value ending
 
--- how many of so many items were read whole
+-- how many of this number of items were read whole
 abbrev pub items_read : ℕ → Ending → ℕ
 items_read count (stopped whole) = count
 items_read count (stopped (ended m)) = m

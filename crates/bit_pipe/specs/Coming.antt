@@ -1,4 +1,4 @@
--- Bits that come from octets.
+-- Bits that are read from octets.
 use Rattle.std.specs.Prelude.{◌≡◌, ◌≤◌, ◌<◌, ◌⊎◌, ℕ, ◌+◌, ◌*◌, ◌^◌, List, [], ◌∷◌, ◌++◌, length, take, Bool, Option, None, Some, Result, Ok, Err}
 use Rattle.item_defs.specs.Bits.{bits_of, bits_of_octets, AreOctets}
 use Rattle.item_defs.specs.Items.{Shape, IsSaid, spelling}
@@ -7,8 +7,8 @@ use Rattle.bit_pipe.specs.Sources.{Tail, SourceOf, Comes, IsOver, Plainly, Fails
 use Rattle.bit_pipe.specs.declared.fault.InFault.{InFault}
 use Rattle.bit_pipe.specs.declared.bit_in.BitIn.{BitIn}
 
--- the source's state; the bits of its last octet that are still to come; how many bits were taken, those before
--- included; how many the bound lets come; and the name of the reference to the source
+-- the source's state; the bits of its last octet that are left; how many bits were taken, with those before;
+-- how many more the bound allows; and the name of the reference to the source
 pub record Coming (I : Type 0) : Type 0 where
   pub source : I
   pub pending : List Bool
@@ -25,7 +25,7 @@ coming b = record {
   name = b.input.ghost_name;
 }
 
--- the bits to come up to the bound, where the source tells what is left
+-- the bits that are left up to the bound, if the source gives what is left
 abbrev pub bits_to_come : {I : Type 0} → Coming I → Tail → List Bool
 bits_to_come s tail = take s.room (s.pending ++ bits_of_octets tail.octets)
 
@@ -41,7 +41,7 @@ pub record BeginsIn {I : Type 0} (input : I) (bound before : ℕ) (s : Coming I)
   pub used : s.used ≡ 8 * before
   pub room : s.used + s.room ≡ 8 * bound
 
--- just these bits were taken, and no octet more than they need
+-- exactly these bits were taken, and no octet more than they need
 pub record Takes {I : Type 0} (k : SourceOf I) (old new : Coming I) (bits : List Bool) : Type 0 where
   pub octets : List ℕ
   pub small : AreOctets octets
@@ -54,11 +54,11 @@ pub record Takes {I : Type 0} (k : SourceOf I) (old new : Coming I) (bits : List
   pub went : k.Went old.source new.source
   pub name : new.name ≡ old.name
 
--- the bound stands here, or the octets end here
+-- the bound is reached, or the octets end here
 pub record IsEnd {I : Type 0} (k : SourceOf I) (s : Coming I) : Type 0 where
   pub bits : (s.room ≡ 0) ⊎ ((s.pending ≡ []) × IsOver (k.tail s.source) Plainly)
 
--- below the bound, the source failed since before
+-- below the bound, the source failed since the state before
 pub record FailsSo {I : Type 0} (k : SourceOf I) (fault : InFault) (old new : Coming I) : Type 0 where
   pub room : 0 < new.room
   pub pending : new.pending ≡ []
@@ -69,11 +69,11 @@ EndsBit k (Ok (Some b)) old new = Takes k old new (b ∷ [])
 EndsBit k (Ok None) old new = Takes k old new [] × IsEnd k new
 EndsBit k (Err e) old new = Takes k old new [] × FailsSo k e old new
 
--- what a call for one bit leaves
+-- the result of a call for one bit
 pub record GivesBit {I : Type 0} (k : SourceOf I) (result : Result (Option Bool) InFault) (old new : Coming I) : Type 0 where
   pub ends : EndsBit k result old new
 
--- some bits were taken, and no spelling of this shape stands first in them
+-- some bits were taken, and no code of this shape is a prefix of them
 pub record EndsWithin {I : Type 0} (k : SourceOf I) (s : Shape) (old new : Coming I) : Type 0 where
   pub some : List Bool
   pub taken : Takes k old new some
@@ -84,6 +84,6 @@ EndsItem k s (Ok (Some n)) old new = IsSaid s n × Takes k old new (spelling s n
 EndsItem k s (Ok None) old new = EndsWithin k s old new × IsEnd k new
 EndsItem k s (Err e) old new = EndsWithin k s old new × FailsSo k e old new
 
--- what a call for one item leaves
+-- the result of a call for one item
 pub record GivesItem {I : Type 0} (k : SourceOf I) (s : Shape) (result : Result (Option ℕ) InFault) (old new : Coming I) : Type 0 where
   pub ends : EndsItem k s result old new

@@ -1,4 +1,4 @@
--- Stretches of calls that fill a slice come to one stretch.
+-- Stretches of calls that fill a slice are together one stretch.
 use Rattle.std.specs.Prelude.{◌≡◌, ℕ, ◌+◌, ◌-◌, ◌^◌, min, List, [], ◌++◌, length, take, drop, refl}
 use Rattle.std.proofs.Common.{sym, ap, ◌∙◌, append_assoc, add-zero, add_assoc, length-append}
 use Rattle.std.proofs.lemmas.List.{append-nil, drop-drop}

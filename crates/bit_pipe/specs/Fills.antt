@@ -1,15 +1,15 @@
--- A slice that octets fill from its front.
+-- A slice that octets fill from its beginning.
 use Rattle.std.specs.Prelude.{◌≡◌, ◌<◌, ℕ, ◌+◌, ◌-◌, ◌^◌, min, List, ◌++◌, length, take, drop}
 
--- which reference the slice stands behind, what it holds, how many octets of it were given, and how often a call
--- has failed
+-- the reference that has the slice, what the slice holds, how many octets of it were given, and how often a
+-- call has failed
 pub record Filling : Type 0 where
   pub name : ℕ
   pub slice : List ℕ
   pub len : ℕ
   pub faults : ℕ
 
--- these octets stand behind those before, and the rest is as it was
+-- these octets follow those before, and the rest is as it was
 pub record Fills (old new : Filling) (octets : List ℕ) : Type 0 where
   pub name : new.name ≡ old.name
   pub len : new.len ≡ old.len + length octets
@@ -18,8 +18,8 @@ pub record Fills (old new : Filling) (octets : List ℕ) : Type 0 where
   pub size : length new.slice ≡ length old.slice
   pub faults : new.faults ≡ old.faults
 
--- a front of these octets stands behind those before, which fills the slice, and there are more; the call of each of
--- those failed, and the count of faults ends at 2 ^ 64 - 1
+-- a prefix of these octets follows those before and fills the slice, and there are more; the call of each of the
+-- others failed, and the count of faults ends at 2 ^ 64 - 1
 pub record Overfills (old new : Filling) (octets : List ℕ) : Type 0 where
   pub name : new.name ≡ old.name
   pub fitting : List ℕ

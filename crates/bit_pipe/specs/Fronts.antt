@@ -1,4 +1,4 @@
--- Tables of what stands first in eight bits. (This project's own.)
+-- Tables of the item that eight bits begin with. (This project's own.)
 use Rattle.std.specs.Prelude.{◌≡◌, ◌≤◌, ◌<◌, ℕ, ◌-◌, ◌*◌, ◌/◌, ◌%◌, ◌^◌, List, Bool}
 use lib.ListN.{get_or}
 use Rattle.item_defs.specs.Bits.{bits_of}
@@ -16,8 +16,8 @@ front_at fronts octet = get_or fronts octet no_front
 abbrev pub first_bits : (count octet : ℕ) → List Bool
 first_bits count octet = bits_of count (octet / 2 ^ (8 - count))
 
--- The table tells, for each octet, the item of one shape whose bits stand first in it. The bits before that item's last are no
--- item's.
+-- The table has, for each octet, the item of one shape whose bits the octet begins with. The bits before that item's last
+-- are no item's.
 pub record Tells (most : ℕ) (item : ℕ → Item) (fronts : List Front) : Type 0 where
   pub shape : Shape
   pub same : (n : ℕ) → (item n).form.shape ≡ shape
@@ -27,12 +27,12 @@ pub record Tells (most : ℕ) (item : ℕ → Item) (fronts : List Front) : Type
   pub first : (octet : ℕ) → octet < 256 → item_bits (item (front_at fronts octet).number) ≡ first_bits (front_at fronts octet).len octet
   pub lacks : (octet count : ℕ) → octet < 256 → count < (front_at fronts octet).len → Lacks shape (first_bits count octet)
 
--- it tells the items of some numbers
+-- it has the items of some numbers
 pub record IsTable (fronts : List Front) : Type 0 where
   pub most : ℕ
   pub item : ℕ → Item
   pub tells : Tells most item fronts
 
--- so many bits of an octet that are left, and zeros behind them
+-- this number of bits that are left of an octet, and zeros after them
 abbrev pub hand_of : (left octet : ℕ) → ℕ
 hand_of left octet = octet * 2 ^ (8 - left) % 256

@@ -6,7 +6,7 @@ use Rattle.bit_pipe.specs.Coming.{Coming, Takes, IsEnd, FailsSo}
 use Rattle.bit_pipe.specs.declared.fault.InFault.{InFault}
 use Rattle.bit_pipe.specs.declared.piece.Piece.{Piece}
 
--- these bits were taken, at least one and at most so many
+-- these bits were taken, at least one and at most `most`
 pub record TakesPiece {I : Type 0} (k : SourceOf I) (most : ℕ) (piece : Piece) (old new : Coming I) : Type 0 where
   pub some : 0 < piece.count
   pub within : piece.count ≤ most
@@ -18,6 +18,6 @@ EndsPiece k most (Ok (Some piece)) old new = TakesPiece k most piece old new
 EndsPiece k most (Ok None) old new = Takes k old new [] × IsEnd k new
 EndsPiece k most (Err e) old new = Takes k old new [] × FailsSo k e old new
 
--- what a call for some bits leaves
+-- the result of a call for some bits
 pub record GivesPiece {I : Type 0} (k : SourceOf I) (most : ℕ) (result : Result (Option Piece) InFault) (old new : Coming I) : Type 0 where
   pub ends : EndsPiece k most result old new

@@ -1,4 +1,4 @@
--- Items read one after another, as far as a text goes.
+-- Items read one after another, up to where a text ends.
 use Rattle.std.specs.Prelude.{◌≡◌, ◌<◌, ℕ, ◌+◌, List, ◌++◌, length, take, Bool, Some}
 use Rattle.item_defs.specs.Items.{Item, Refusal, text, spelling, IsSaid}
 use Rattle.item_defs.specs.Readings.{Lacks, item_at, Stop, whole, ended, refused, later}
@@ -6,7 +6,7 @@ use Rattle.bit_pipe.specs.Sources.{SourceOf}
 use Rattle.bit_pipe.specs.Coming.{Coming, Takes, IsEnd, FailsSo}
 use Rattle.bit_pipe.specs.declared.fault.InFault.{InFault}
 
--- how a reading ends: as the text stops it, or by a fault of the input after so many items
+-- how a reading ends: as the text stops it, or by a fault of the input after this number of items
 pub data Ending : Type 0 where
   stopped : Stop → Ending
   failed : ℕ → InFault → Ending
@@ -18,7 +18,7 @@ pub record BreaksAt {I : Type 0} (k : SourceOf I) (items : List Item) (m : ℕ) 
   pub taken : Takes k old new (text (take m items) ++ some)
   pub lacks : Lacks (item_at items m).form.shape some
 
--- the first m items were read, and then a spelling that the next one's form refuses by this name
+-- the first m items were read, and then a code that the next item's form refuses by this name
 pub record RefusesAt {I : Type 0} (k : SourceOf I) (items : List Item) (m spelt : ℕ) (name : Refusal) (old new : Coming I) : Type 0 where
   pub within : m < length items
   pub says : IsSaid (item_at items m).form.shape spelt
@@ -35,7 +35,7 @@ EndsReading k items (failed m e) old new = BreaksAt k items m old new × FailsSo
 pub record Reads {I : Type 0} (k : SourceOf I) (items : List Item) (ending : Ending) (old new : Coming I) : Type 0 where
   pub ends : EndsReading k items ending old new
 
--- the same end, counted from so many items before
+-- the same end, counted from this number of items before
 abbrev pub later_by : ℕ → Ending → Ending
 later_by n (stopped stop) = stopped (later n stop)
 later_by n (failed m e) = failed (n + m) e

@@ -1,4 +1,4 @@
--- What is known of the slices that octets go to.
+-- What is known of the slices that octets are written to.
 use Rattle.bit_pipe.specs.Sinks.{SinkOf}
 use Rattle.bit_pipe.specs.Fills.{Filling, Fills, Overfills}
 use Rattle.bit_pipe.specs.declared.slice_out.SliceOut.{SliceOut}
@@ -7,7 +7,7 @@ use Rattle.bit_pipe.specs.FillLaws.{fills_none, fills_both, overfills_after}
 abbrev pub filling : SliceOut → Filling
 filling s = record { name = s.into.ghost_name; slice = s.into.now; len = s.len; faults = s.faults }
 
--- it tells all its octets, and a call fails exactly where it is full
+-- it has all its octets, and a call fails exactly if it is full
 abbrev pub slice_sink : SinkOf SliceOut
 slice_sink = record {
   counts = λ s. record { given = s.len; faults = s.faults };

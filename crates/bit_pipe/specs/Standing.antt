@@ -1,4 +1,4 @@
--- How far a text of bits has come.
+-- How far a text of bits was written.
 use Rattle.std.specs.Prelude.{◌≡◌, ◌≤◌, ◌<◌, ℕ, ◌+◌, ◌*◌, ◌^◌, List, [], ◌++◌, length, take, Bool, false, Result, Ok, Err, MatchResult}
 use Rattle.item_defs.specs.Bits.{bits_of, copies}
 use Rattle.item_defs.specs.Padding.{padding}
@@ -7,8 +7,8 @@ use Rattle.bit_pipe.specs.declared.bit_out.BitOut.{BitOut}
 use Rattle.bit_pipe.specs.declared.fault.PutFault.{PutFault}
 use Rattle.bit_pipe.specs.declared.fault.PutFault.TheVariants.{Stopped, WriteFault}
 
--- the sink's state; the bits that wait, fewer than a word of them; how many bits stand, those before included; how many more
--- may come; the bound in octets; and the name of the reference to the sink
+-- the sink's state; the bits that wait, fewer than a word of them; how many bits there are, with those before; how many
+-- more may follow; the bound in octets; and the name of the reference to the sink
 pub record Standing (S : Type 0) : Type 0 where
   pub sink : S
   pub pending : List Bool
@@ -33,14 +33,14 @@ pub record IsOpen {S : Type 0} (s : Standing S) : Type 0 where
   pub bound : s.bound ≤ 2 ^ 32
   pub pending : length s.pending < 64
 
--- no bit was put yet, and the bound is so many octets
+-- no bit was put yet, and the bound is this number of octets
 pub record Begins {S : Type 0} (k : SinkOf S) (out : S) (octets : ℕ) (s : Standing S) : Type 0 where
   pub sink : s.sink ≡ out
   pub pending : s.pending ≡ []
   pub used : s.used ≡ 8 * (k.counts out).given
   pub bound : s.bound ≡ octets
 
--- just these bits were put: the bits of whole octets were given, and those after them wait
+-- exactly these bits were put: the bits of whole octets were given, and those after them wait
 pub record Adds {S : Type 0} (k : SinkOf S) (old new : Standing S) (put : List Bool) : Type 0 where
   pub out : List Bool
   pub gave : GaveBits k old.sink new.sink out
@@ -56,23 +56,23 @@ pub record Breaks {S : Type 0} (k : SinkOf S) (old new : Standing S) (put : List
   pub broke : BrokeBits k old.sink new.sink (old.pending ++ put)
   pub name : new.name ≡ old.name
 
--- it stops exactly where the bits don't all fit, and those that fit were put
+-- it stops exactly if the bits do not all fit, and those that fit were put
 abbrev pub EndsPut : {S T : Type 0} → SinkOf S → Result T PutFault → Standing S → Standing S → List Bool → Type 0
 EndsPut k (Ok _) old new put = Adds k old new put
 EndsPut k (Err Stopped) old new put = (old.room < length put) × Adds k old new (take old.room put)
 EndsPut k (Err WriteFault) old new put = Breaks k old new (take old.room put)
 
--- what a call that puts these bits leaves
+-- the result of a call that puts these bits
 pub record Puts {S T : Type 0} (k : SinkOf S) (result : Result T PutFault) (old new : Standing S) (put : List Bool) : Type 0 where
   pub ends : EndsPut k result old new put
 
--- the pending bits and these zeros were given, after which so many octets stand
+-- the pending bits and these zeros were given, after which there is this number of octets
 pub record Finishes {S : Type 0} (k : SinkOf S) (old : Standing S) (new : S) (zeros answer : ℕ) : Type 0 where
   pub gave : GaveBits k old.sink new (old.pending ++ copies zeros false)
   pub octets : answer ≡ (k.counts new).given
   pub bits : 8 * answer ≡ old.used + zeros
 
--- what `end` leaves: the text is padded to words, and filled up to the bound where that is asked for
+-- the result of `end`: the text is padded to words, and filled up to the bound if that is asked for
 pub record Closes {S E : Type 0} (k : SinkOf S) (result : Result ℕ E) (word : ℕ) (fill : Bool) (old : Standing S) (new : S) : Type 0 where
   pub ends : MatchResult result
       (λ answer. Finishes k old new (padding word old.bound fill old.used) answer)
@@ -84,6 +84,6 @@ pub record Closes {S E : Type 0} (k : SinkOf S) (result : Result ℕ E) (word : 
 abbrev pub IsReady : {O : Type 0} → SinkOf O → BitOut O → Type 0
 IsReady k out = IsOpen (stand k out)
 
--- what a call that writes these bits leaves
+-- the result of a call that writes these bits
 abbrev pub Writes : {O T : Type 0} → SinkOf O → Result T PutFault → BitOut O → BitOut O → List Bool → Type 0
 Writes k result old new bits = Puts k result (stand k old) (stand k new) bits

@@ -1,4 +1,4 @@
--- What is known of the slices that octets come from.
+-- What is known of the slices that octets are read from.
 use Rattle.std.specs.Prelude.{ℕ, List, drop, Some}
 use Rattle.bit_pipe.specs.Sources.{Plainly, SourceOf}
 use Rattle.bit_pipe.specs.declared.slice_in.SliceIn.{SliceIn}
@@ -7,7 +7,7 @@ use Rattle.bit_pipe.specs.declared.slice_in.SliceIn.{SliceIn}
 abbrev pub octets_left : SliceIn → List ℕ
 octets_left s = drop s.next s.octets.now
 
--- it tells its octets, and no call fails
+-- it has its octets, and no call fails
 abbrev pub slice_source : SourceOf SliceIn
 slice_source = record {
   tail = λ s. Some (record { octets = octets_left s; ends = Plainly });

@@ -1,4 +1,4 @@
-// Bits that come from octets.
+// Bits that are read from octets.
 ghost use Rattle.std.specs.Prelude.{◌≡◌, ◌<◌, ◌≤◌, ◌+◌, ◌*◌, ◌/◌, ◌%◌, ◌^◌, ℕ, IfSome};
 
 use crate::bound::octets_within;
@@ -8,8 +8,8 @@ use crate::piece::{Piece, width_of};
 use crate::source::OctetIn;
 use crate::word::word_of;
 
-/// Bits on their way from a source, up to a bound (docs/formats.md, "Reading a segment"). An octet is taken from
-/// the source with its first bit, and none is taken ahead.
+/// A reader of the bits of a source, up to a bound (docs/formats.md, "Reading a segment"). It takes an octet
+/// from the source with the octet's first bit, and takes none ahead.
 #[derive(Drop)]
 pub struct BitIn<'a, I> {
     input: &'a mut I,
@@ -30,8 +30,8 @@ impl<'a, I: OctetIn> BitIn<'a, I> {
     ghost use Rattle.bit_pipe.specs.Pieces.{GivesPiece};
     ghost use Rattle.bit_pipe.specs.Windows.{IsWindow, first_of};
 
-    /// Bits from here on. The bound is `limit` octets, or 2^32 octets where that is 0. `before` octets of it were
-    /// taken already.
+    /// Returns a reader of the bits from here on. The bound is `limit` octets, or 2^32 octets if `limit` is 0.
+    /// `before` octets of it were taken already.
     pub fn new(input: &'a mut I, limit: u64, before: u64) -> BitIn<'a, I>
         requires limit { limit ≤ 2 ^ 32 }
         requires bound { before ≤ bound_of limit }
@@ -49,14 +49,14 @@ impl<'a, I: OctetIn> BitIn<'a, I> {
         }
     }
 
-    /// How many bits were taken, those before included.
+    /// Returns how many bits were taken, with those before.
     pub fn used(&self) -> u64
         ensures { result ≡ (coming self.now).used }
     {
         self.used
     }
 
-    /// Takes the next bit. None comes at the input's end and at the bound.
+    /// Takes the next bit. Returns none at the input's end and at the bound.
     pub fn take(&mut self) -> Result<Option<bool>, InFault>
         requires { IsIn (coming self.old) }
         ensures { GivesBit I.source result (coming self.old) (coming self.new) }
@@ -80,7 +80,7 @@ impl<'a, I: OctetIn> BitIn<'a, I> {
         Ok(Some((octet >> 7) & 1 == 1))
     }
 
-    /// The next bits, the first highest, where 56 of them at least stand at hand.
+    /// Returns the next bits, the first highest, if at least 56 of them are available.
     #[inline(always)]
     pub fn window(&self) -> Option<u64>
         requires { IsIn (coming self.now) }
@@ -93,7 +93,7 @@ impl<'a, I: OctetIn> BitIn<'a, I> {
         Some(word_of(self.octet, next) << (8 - self.left))
     }
 
-    /// Takes the first of the bits that stand at hand.
+    /// Takes the first of the bits that are available.
     #[inline(always)]
     pub fn take_window(&mut self, window: u64, count: u8)
         requires window { IsWindow I.source (coming self.old) window }
@@ -110,7 +110,7 @@ impl<'a, I: OctetIn> BitIn<'a, I> {
         self.used += u64::from(count);
     }
 
-    // Takes some bits, at least one and at most so many, that stand in one octet.
+    // Takes some bits, at least one and at most `most`, that are in one octet.
     fn take_piece(&mut self, most: u8) -> Result<Option<Piece>, InFault>
         requires some { 0 < most }
         requires bound { IsIn (coming self.old) }
@@ -138,7 +138,7 @@ impl<'a, I: OctetIn> BitIn<'a, I> {
         Ok(Some(Piece::first(octet, 8, count)))
     }
 
-    /// Takes a number of so many bits, highest first.
+    /// Takes a number of `count` bits, highest first.
     #[inline]
     pub fn take_bits(&mut self, count: u8) -> Result<Option<u32>, InFault>
         requires count { count ≤ 32 }
@@ -152,7 +152,7 @@ impl<'a, I: OctetIn> BitIn<'a, I> {
         Ok(Some((window >> 1 >> (63 - count)) as u32))
     }
 
-    // The same, octet by octet.
+    // Takes a number octet by octet.
     #[cold]
     fn take_pieces(&mut self, count: u8) -> Result<Option<u32>, InFault>
         requires count { count ≤ 32 }
@@ -171,7 +171,7 @@ impl<'a, I: OctetIn> BitIn<'a, I> {
         Ok(Some(value as u32))
     }
 
-    /// Takes a unary part: the number of its zeros, of which `limit` are not followed by a one.
+    /// Takes a unary part and returns the number of its zeros; `limit` zeros are not followed by a one.
     pub fn take_zeros(&mut self, limit: u16) -> Result<Option<u16>, InFault>
         requires { IsIn (coming self.old) }
         ensures { GivesItem I.source (zeros_to limit) result (coming self.old) (coming self.new) }
@@ -187,7 +187,7 @@ impl<'a, I: OctetIn> BitIn<'a, I> {
         Ok(Some(limit))
     }
 
-    // The bits that are left of the octet, and zeros behind them.
+    // Returns the bits that are left of the octet, and zeros after them.
     #[inline(always)]
     fn hand(&self) -> u8
         ensures { result ≡ hand_of self.now.left self.now.octet }
@@ -195,8 +195,8 @@ impl<'a, I: OctetIn> BitIn<'a, I> {
         ((u16::from(self.octet) << (8 - self.left)) & 0xff) as u8
     }
 
-    /// Takes an item by a table, which tells for each octet the item that stands first in it: the item's number. None comes
-    /// where the input or the bound ends before the item is whole.
+    /// Takes an item with a table that has, for each octet, the item that the octet begins with, and returns the item's
+    /// number. Returns none if the input or the bound ends before the item is whole.
     ///
     /// # Errors
     ///
@@ -216,7 +216,7 @@ impl<'a, I: OctetIn> BitIn<'a, I> {
         Ok(Some(front.number))
     }
 
-    // The same, octet by octet.
+    // Takes an item octet by octet.
     #[cold]
     fn take_front_octetwise(&mut self, fronts: &[Front; 256]) -> Result<Option<u8>, TextFault>
         requires bound { IsIn (coming self.old) }
@@ -234,8 +234,8 @@ impl<'a, I: OctetIn> BitIn<'a, I> {
         Ok(Some(front.number))
     }
 
-    // The same, where an item's last bits are still to come. Without them the bits that are left are no item's, so the next
-    // octet is needed.
+    // Takes an item whose last bits are in the next octet. Without them the bits that are left are no item's,
+    // so the next octet is needed.
     #[inline]
     fn take_across(&mut self, fronts: &[Front; 256]) -> Result<Option<u8>, TextFault>
         requires bound { IsIn (coming self.old) }

@@ -1,4 +1,4 @@
-// Bits that go into octets.
+// Bits that are written into octets.
 ghost use Rattle.std.specs.Prelude.{◌≡◌, ◌<◌, ◌≤◌, ◌+◌, ◌-◌, ◌*◌, ◌/◌, ◌%◌, ◌^◌, [], ◌∷◌, ◌++◌, false};
 
 use crate::bound::{octets_within, padded_octets};
@@ -6,10 +6,11 @@ use crate::fault::{Failed, PutFault};
 use crate::octets::{put_pending, put_zero_octets};
 use crate::sink::OctetOut;
 
-/// Bits on their way into a sink, up to a bound (docs/formats.md, "Stops, cut and fill").
+/// A writer of bits into a sink, up to a bound (docs/formats.md, "Stops, cut and fill").
 ///
-/// A call that puts bits answers `WriteFault` only where the sink failed, and else `Stopped` exactly where they don't
-/// all fit below the bound; those that fit were put then. The same holds of all calls that write by it.
+/// A call that puts bits returns `WriteFault` only if the sink failed, and otherwise `Stopped` exactly if the
+/// bits do not all fit below the bound; those that fit were put then. The same holds of all calls that write
+/// with it.
 #[derive(Drop)]
 pub struct BitOut<'a, O> {
     out: &'a mut O,
@@ -27,8 +28,8 @@ impl<'a, O: OctetOut> BitOut<'a, O> {
     ghost use Rattle.bit_pipe.specs.Standing.{stand, IsOpen, Puts, Begins, Closes};
     ghost use Rattle.bit_pipe.specs.Bounds.{bound_of};
 
-    /// Bits from here on. The bound is `limit` octets, or 2^32 octets where that is 0. `before` octets of it were
-    /// given already.
+    /// Returns a writer of the bits from here on. The bound is `limit` octets, or 2^32 octets if `limit` is 0.
+    /// `before` octets of it were given already.
     pub fn new(out: &'a mut O, limit: u64, before: u64) -> BitOut<'a, O>
         requires limit { limit ≤ 2 ^ 32 }
         requires before { before ≡ (O.sink.counts out.old).given }
@@ -133,8 +134,8 @@ impl<'a, O: OctetOut> BitOut<'a, O> {
         self.put_bits(0, left as u8)
     }
 
-    /// Pads the text with zeros to a multiple of `word` octets, then fills it to the limit where `fill` is set.
-    /// Answers its length in octets (docs/formats.md, "Stops, cut and fill").
+    /// Pads the text with zeros to a multiple of `word` octets, then fills it to the limit if `fill` is set.
+    /// Returns its length in octets (docs/formats.md, "Stops, cut and fill").
     pub fn end(self, word: u8, fill: bool) -> Result<u64, Failed>
         requires word { 0 < word }
         requires four { word ≤ 4 }

@@ -1,15 +1,15 @@
-// Why a call on bits gave up.
+// Why a call on bits failed.
 ghost use Rattle.std.specs.Prelude.{◌≡◌};
 ghost use Rattle.bit_pipe.specs.declared.fault.PutFault.TheVariants.{WriteFault};
 
-/// A sink took no octet.
+/// The fault of a sink that did not take an octet.
 #[derive(Clone, Copy, Debug, PartialEq, Eq)]
 pub struct Failed;
 
-/// Why bits were not put.
+/// The reason why bits were not put.
 #[derive(Clone, Copy, Debug, PartialEq, Eq)]
 pub enum PutFault {
-    /// The bits don't all fit below the bound. Those that fit were put.
+    /// The bits do not all fit below the bound. Those that fit were put.
     Stopped,
     /// The sink failed.
     WriteFault,
@@ -23,18 +23,18 @@ impl From<Failed> for PutFault {
     }
 }
 
-/// Why no octet came.
+/// The reason why no octet was read.
 #[derive(Clone, Copy, Debug, PartialEq, Eq)]
 pub enum InFault {
     /// The input failed.
     ReadFault,
-    /// The input is longer than a reader takes.
+    /// The input is longer than a reader accepts.
     LongInput,
-    /// The input breaks off within a text.
+    /// The input ends within a text.
     Broken,
 }
 
-/// Why a text was not read (docs/formats.md, "Reading a segment").
+/// The reason why a text was not read (docs/formats.md, "Reading a segment").
 #[derive(Clone, Copy, Debug, PartialEq, Eq)]
 pub enum TextFault {
     BadOption,
@@ -60,7 +60,7 @@ impl From<InFault> for TextFault {
     }
 }
 
-/// How far the items of a text were read: all of them, or up to where the text was cut.
+/// How far the items of a text were read: all of them, or up to the place where the text was cut.
 #[derive(Clone, Copy, Debug, PartialEq, Eq)]
 pub enum Part {
     Whole,

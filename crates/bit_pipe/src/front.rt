@@ -1,6 +1,6 @@
-// What an octet begins with.
+// The item that an octet begins with.
 
-/// The number of an item whose bits stand first in an octet, and how many bits it has there.
+/// The number of an item that an octet begins with, and how many bits it has there.
 #[derive(Clone, Copy, Debug, PartialEq, Eq)]
 pub struct Front {
     pub number: u8,

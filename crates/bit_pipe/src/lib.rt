@@ -1,4 +1,4 @@
-//! Bits over octets: writers and readers of texts, up to a bound (docs/formats.md, "Stops, cut and fill").
+//! This crate writes and reads bits over octets, for texts up to a bound (docs/formats.md, "Stops, cut and fill").
 #![tactic(auto)]
 
 mod bit_in;

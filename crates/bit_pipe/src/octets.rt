@@ -6,7 +6,7 @@ ghost use Rattle.bit_pipe.specs.Sinks.{PutsOctets};
 use crate::fault::Failed;
 use crate::sink::OctetOut;
 
-// Gives the octets that the highest of so many bits fill.
+// Gives the octets that the highest of this number of bits fill.
 fn put_octets<O: OctetOut>(out: &mut O, bits: u64, count: u8) -> Result<(), Failed>
     requires count { count ≤ 64 }
     requires room { 8 * (O.sink.counts out.old).given + count ≤ 2 ^ 35 }

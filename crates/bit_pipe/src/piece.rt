@@ -2,7 +2,7 @@
 ghost use Rattle.std.specs.Prelude.{◌≡◌, ◌<◌, ◌≤◌, ◌-◌, ◌^◌, ◌++◌, min};
 ghost use Rattle.item_defs.specs.Bits.{bits_of};
 
-// So many bits, and their number.
+// This number of bits, and the number that they make.
 #[derive(Clone, Copy)]
 pub struct Piece {
     pub value: u8,
@@ -10,7 +10,7 @@ pub struct Piece {
 }
 
 impl Piece {
-    // The first bits of the lowest `left` bits of an octet.
+    // Returns the first bits of the lowest `left` bits of an octet.
     pub fn first(octet: u8, left: u8, count: u8) -> Piece
         requires left { left ≤ 8 }
         requires count { count ≤ left }
@@ -24,7 +24,7 @@ impl Piece {
     }
 }
 
-// How many bits are taken at once: as many as are asked for, are left and have room.
+// Returns how many bits are taken at once: at most those that are asked for, that are left and that have room.
 pub fn width_of(most: u8, left: u8, room: u64) -> u8
     ensures { result ≡ min (min most left) room }
 {

@@ -1,11 +1,11 @@
-// Where octets go.
+// Where octets are written.
 ghost use Rattle.std.specs.Prelude.{◌<◌, ◌≤◌, ◌+◌, ◌^◌, MatchResult};
 ghost use Rattle.item_defs.specs.Bits.{bits_of};
 ghost use Rattle.bit_pipe.specs.Sinks.{SinkOf, GaveOctet, BrokeOctet, PutsOctets};
 
 use crate::fault::Failed;
 
-/// A place where octets go, one by one.
+/// A place where octets are written, one by one.
 pub trait OctetOut {
     /// What is known of the octets so far.
     ghost sink: { SinkOf Self };

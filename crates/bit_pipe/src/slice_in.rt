@@ -1,10 +1,10 @@
-// A slice that octets come from.
+// A slice that octets are read from.
 ghost use Rattle.std.specs.Prelude.{◌≡◌, ◌≤◌, length};
 
 use crate::fault::InFault;
 use crate::source::OctetIn;
 
-/// A slice as a place that octets come from. No call fails.
+/// A source of the octets of a slice. No call fails.
 #[derive(Drop)]
 pub struct SliceIn<'a> {
     octets: &'a [u8],
@@ -15,7 +15,7 @@ pub struct SliceIn<'a> {
 impl<'a> SliceIn<'a> {
     ghost use Rattle.bit_pipe.specs.Streams.{octets_left};
 
-    /// All octets of the slice, in order.
+    /// Returns a source of all octets of the slice, in order.
     pub fn new(octets: &'a [u8]) -> SliceIn<'a>
         ensures { octets_left result ≡ octets.now }
     {

@@ -4,7 +4,7 @@ ghost use Rattle.std.specs.Prelude.{◌≡◌, ◌≤◌, ◌<◌, ◌+◌, ◌^
 use crate::fault::Failed;
 use crate::sink::OctetOut;
 
-/// A slice as a place where octets go. A call fails exactly where the slice is full.
+/// A sink into a slice. A call fails exactly if the slice is full.
 #[derive(Drop)]
 pub struct SliceOut<'a> {
     into: &'a mut [u8],
@@ -18,7 +18,7 @@ impl<'a> SliceOut<'a> {
     ghost use Rattle.bit_pipe.specs.Sinks.{GaveOctet, BrokeOctet, PutsOctets};
     ghost use Rattle.bit_pipe.specs.Slices.{filling, slice_sink};
 
-    /// The slice, of which no octet was given yet.
+    /// Returns a sink into the slice, to which no octet was given yet.
     pub fn new(into: &'a mut [u8]) -> SliceOut<'a>
         ensures same { result.into.ghost_name ≡ into.entry.ghost_name }
         ensures empty { filling result ≡ record { name = into.entry.ghost_name; slice = into.old; len = 0; faults = 0 } }
@@ -30,7 +30,7 @@ impl<'a> SliceOut<'a> {
         }
     }
 
-    // Takes the next octet where there is room.
+    // Takes the next octet if there is room.
     fn take(&mut self, octet: u8) -> Result<(), Failed>
         ensures { MatchResult result
             (λ _. GaveOctet slice_sink self.old self.new octet)
@@ -57,7 +57,7 @@ impl<'a> SliceOut<'a> {
         Ok(())
     }
 
-    /// How many octets it holds.
+    /// Returns how many octets it holds.
     pub fn len(&self) -> usize
         ensures { result ≡ (filling self.now).len }
     {

@@ -2,7 +2,7 @@
 ghost use Rattle.std.specs.Prelude.{◌≡◌, ◌≤◌, ◌+◌, ◌++◌, ℕ, take};
 ghost use Rattle.item_defs.specs.Bits.{bits_of, bits_of_octets, AreOctets};
 
-// The word of an octet and seven of the eight that come next, the first highest.
+// Returns the word of an octet and the first seven of the eight that follow, the first highest.
 #[inline(always)]
 pub fn word_of(octet: u8, next: &[u8; 8]) -> u64
     ensures octets { AreOctets next.now }

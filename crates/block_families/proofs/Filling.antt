@@ -8,7 +8,7 @@ use Rattle.std.proofs.lemmas.List.FromFn.{length-map-range_with_len, get_or-map-
 use Rattle.std.proofs.lemmas.Grind.{get_or-set_at}
 use Rattle.block_families.specs.Gathering.{Fills}
 
--- the same values, told in another way
+-- the same values in another form
 pub fills_as : (value other : ℕ → ℤ) (from count : ℕ) (old new : List ℤ) → Fills other from count old new →
     ((i : ℕ) → from ≤ i → i < from + count → other i ≡ value i) → Fills value from count old new
 fills_as value other from count old new f same =

@@ -21,7 +21,7 @@ passed p n i all h =
 pub same_from_test : (a b : ℕ) → (a == b) ≡ true → a ≡ b
 same_from_test a b h = grind arith
 
--- each shift is small, and where there is none it counts as 0
+-- each shift is small, and a missing shift counts as 0
 pub shift_small : (shifts : List ℕ) (k : ℕ) → All IsShift shifts → get_or shifts k 0 ≤ 3
 shift_small shifts k each =
     elim (cases_lt k (length shifts)) [

@@ -1,4 +1,4 @@
--- The places of a block lie in its block row, and are apart.
+-- The places of a block are in its block row, and are different.
 use Rattle.std.proofs.Common.{◌≡◌, ℕ, ◌+◌, ◌*◌, ◌/◌, ◌%◌, ◌<◌, ◌≤◌, true, refl, sym, ap, ◌∙◌, arith}
 use Rattle.std.specs.Prelude.{◌==◌, if◌then◌else◌, nat_lt}
 use Rattle.std.specs.List.{list_all, range_with_len}
@@ -37,7 +37,7 @@ back i below =
 same_rest : (side s a b : ℕ) → side * s + a ≡ side * s + b → a ≡ b
 same_rest side s a b h = omega arith
 
--- two positions with one place are one
+-- two positions with the same place are the same
 pub one_place : (column i j : ℕ) → i < 64 → j < 64 → place_in column i ≡ place_in column j → i ≡ j
 one_place column i j hi hj same =
     let p = place_of i in

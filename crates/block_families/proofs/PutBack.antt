@@ -21,7 +21,7 @@ part_of numbers weights i s z p below shifts es e =
 pub part_small : (numbers : List ℤ) (weights : List ℕ) (i : ℕ) (z : ℤ) (p : AreWeighted numbers weights) → i < 64 → z ≡ p.part i → unsigned_abs z ≤ 2 ^ 27
 part_small numbers weights i z p below e = rw e (p.small i below)
 
--- with its weight it is that of the block again
+-- with its weight it is the number of the block again
 pub part_whole : (numbers : List ℤ) (weights : List ℕ) (i : ℕ) (z : ℤ) (p : AreWeighted numbers weights) → i < 64 → z ≡ p.part i → z *ℤ weight_at weights i ≡ get_or numbers i (pos 0)
 part_whole numbers weights i z p below e = ap (λ n. n *ℤ weight_at weights i) e ∙ sym (p.whole i below)
 
@@ -34,7 +34,7 @@ four_parts a b c d numbers at s ea eb ec ed (suc (suc zero)) h = ec
 four_parts a b c d numbers at s ea eb ec ed (suc (suc (suc zero))) h = ed
 four_parts a b c d numbers at s ea eb ec ed (suc (suc (suc (suc k)))) h = absurd (omega arith)
 
--- a square whose last place lies in the block row
+-- a square whose last place is in the block row
 pub square_rows : (columns column at : ℕ) (p : Place) → column < columns → at + 3 < 64 → in_square p 3 ≡ place_in column (at + 3) → p.row + 2 ≤ block_side p.band
 square_rows columns column at p inside below e =
     let within = subst (λ (q : Place). IsWithin columns q) (sym e) (place_within columns column (at + 3) inside below) in

@@ -13,7 +13,7 @@ same_place b b' r r' c c' eb er ec =
     let place : ℕ → ℕ → ℕ → Place = λ x y z. record { band = x; row = y; column = z } in
     ap (λ q. place q r c) eb ∙ ap (λ q. place b' q c) er ∙ ap (place b' r') ec
 
--- ---- where the numbers stand
+-- ---- where the numbers are
 
 pub top_place : (i : ℕ) → i < 4 → place_of i ≡ record { band = (place_of i).band; row = 0; column = 0 }
 unfolding place_of

@@ -8,14 +8,14 @@ use Rattle.block_families.specs.Places.{place_in}
 abbrev pub weighted_at : (Place → ℤ) → List ℕ → ℕ → ℕ → ℤ
 weighted_at number weights column i = number (place_in column i) *ℤ weight_at weights i
 
--- the block in this column can be gathered from block rows of so many blocks
+-- the block in this column can be gathered from block rows of this number of blocks
 pub record CanGather (number : Place → ℤ) (weights : List ℕ) (columns column : ℕ) : Type 0 where
   pub inside : column < columns
   pub wide : column < 2 ^ 17
   pub shifts : All IsShift weights
   pub fits : (i : ℕ) → i < 64 → unsigned_abs (weighted_at number weights column i) < 2 ^ 31
 
--- so many places of a list from one on have these values, and no other place changed
+-- this number of places of a list from one on have these values, and no other place changed
 pub record Fills (value : ℕ → ℤ) (from count : ℕ) (old new : List ℤ) : Type 0 where
   pub whole : length new ≡ length old
   pub there : (i : ℕ) → from ≤ i → i < from + count → slice_index_or new i (pos 0) ≡ value i

@@ -9,12 +9,12 @@ use Rattle.block_families.specs.declared.place.Place as code
 abbrev pub named : code.Place → Place
 named p = record { band = band_place p.band; row = p.row; column = p.column }
 
--- where the number at a position of the block in this column stands in its block row
+-- the place of the number at a position of the block in this column, in its block row
 abbrev pub place_in : ℕ → ℕ → Place
 place_in column i =
     let p = place_of i in record { band = p.band; row = p.row; column = block_side p.band * column + p.column }
 
--- a place of a block row of so many blocks
+-- a place of a block row of this number of blocks
 pub record IsWithin (columns : ℕ) (p : Place) : Type 0 where
   pub band : p.band < 10
   pub row : p.row < block_side p.band

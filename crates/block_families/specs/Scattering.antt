@@ -13,7 +13,7 @@ pub record SetsSquare (old new : Place → ℤ) (p : Place) (values : List ℤ) 
   pub there : (k : ℕ) → k < 4 → new (in_square p k) ≡ slice_index_or values k (pos 0)
   pub others : (q : Place) → ((k : ℕ) → k < 4 → q ≡ in_square p k → ⊥) → new q ≡ old q
 
--- the block in this column of block rows of so many blocks can have these numbers
+-- the block in this column of block rows of this number of blocks can have these numbers
 pub record CanScatter (weights : List ℕ) (numbers : List ℤ) (columns column : ℕ) : Type 0 where
   pub inside : column < columns
   pub wide : column < 2 ^ 17
@@ -21,7 +21,7 @@ pub record CanScatter (weights : List ℕ) (numbers : List ℤ) (columns column 
   pub whole : length numbers ≡ 64
   pub parts : AreWeighted numbers weights
 
--- so many numbers of the block from a position on stand in their places without their weights, and no other place changed
+-- `count` numbers of the block from a position on are in their places without their weights, and no other place changed
 pub record PutsBack (weights : List ℕ) (column : ℕ) (numbers : List ℤ) (from count : ℕ) (old new : Place → ℤ) : Type 0 where
   pub block : (i : ℕ) → from ≤ i → i < from + count → new (place_in column i) *ℤ weight_at weights i ≡ slice_index_or numbers i (pos 0)
   pub others : (p : Place) → ((i : ℕ) → from ≤ i → i < from + count → p ≡ place_in column i → ⊥) → new p ≡ old p

@@ -1,4 +1,4 @@
-// Where the bands of a transform are read and written.
+// The interfaces through which the bands of a transform are read and written.
 
 ghost use Rattle.std.specs.Prelude.{◌≡◌, ◌<◌, ◌≤◌, ◌^◌, ◌+◌, ◌*◌, ℕ, ℤ, pos, Bool, IsTrue, length, slice_index_or, unsigned_abs};
 ghost use Rattle.base_122.specs.Weights.{band_place};
@@ -11,16 +11,16 @@ use base_122::Band;
 
 /// The bands of one block row, to read.
 pub trait BandSource {
-    /// How many blocks a block row has.
+    /// The number of blocks of a block row.
     ghost columns: { Self → ℕ };
 
-    /// Whether a block row stands.
+    /// Whether a block row is available.
     ghost stands: { Self → Bool };
 
     /// The number at each place of that block row.
     ghost number: { Self → NumberedPlace → ℤ };
 
-    /// The number at a place. A block row stands, and the place is in it.
+    /// Returns the number at a place. A block row is available, and the place is in it.
     fn value(&self, place: Place) -> i32
         requires stands { IsTrue (stands self.now) }
         requires within { IsWithin (columns self.now) (named place) }
@@ -29,7 +29,7 @@ pub trait BandSource {
 
 /// The bands of one block row, whose rows can be lent.
 pub trait BandRows: BandSource {
-    /// A row of a band, over the whole width of the band. A block row stands, and the row is in it.
+    /// Returns a row of a band, over the whole width of the band. A block row is available, and the row is in it.
     fn row(&self, band: Band, row: u32) -> &[i32]
         requires stands { IsTrue (Self.stands self.now) }
         requires within { row < block_side (band_place band) }
@@ -40,20 +40,20 @@ pub trait BandRows: BandSource {
 
 /// The bands of one block row, to write.
 pub trait BandSink {
-    /// How many blocks a block row has.
+    /// The number of blocks of a block row.
     ghost columns: { Self → ℕ };
 
-    /// Whether a block row stands.
+    /// Whether a block row is available.
     ghost stands: { Self → Bool };
 
     /// The number at each place of that block row.
     ghost number: { Self → NumberedPlace → ℤ };
 
-    /// All that stays where numbers are set.
+    /// All that stays if numbers are set.
     ghost keeps: { Self → Self → Type 0 };
 
-    /// Makes a value the number at a place, and changes nothing else. A block row stands, the place is in
-    /// it, and the value is at most 2^27 in magnitude.
+    /// Makes a value the number at a place, and changes nothing else. A block row is available, the place is
+    /// in it, and the value is at most 2^27 in magnitude.
     fn set(&mut self, place: Place, value: i64)
         requires stands { IsTrue (stands self.old) }
         requires within { IsWithin (columns self.old) (named place) }
@@ -65,8 +65,8 @@ pub trait BandSink {
         ensures keeps { keeps self.old self.new };
 
     /// Makes four values the numbers of a square of two rows and two columns from this place on, the upper two
-    /// first, and changes nothing else. A block row stands, the square is in it, and the values are at most
-    /// 2^27 in magnitude.
+    /// first, and changes nothing else. A block row is available, the square is in it, and the values are at
+    /// most 2^27 in magnitude.
     fn set_square(&mut self, place: Place, values: [i64; 4])
         requires stands { IsTrue (stands self.old) }
         requires rows { place.row + 2 ≤ block_side (band_place place.band) }

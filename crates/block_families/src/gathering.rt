@@ -1,4 +1,4 @@
-// A block's numbers out of the bands.
+// Reads a block's numbers from the bands.
 
 ghost use Rattle.std.specs.Prelude.{◌≡◌, ◌<◌, ◌≤◌, ◌*◌, ◌+◌, ◌-◌, ◌/◌, ◌%◌, ◌^◌, ℕ, pos, ◌*ℤ◌, IsTrue, All, length, unsigned_abs};
 ghost use Rattle.base_122.specs.Weights.{IsShift};
@@ -10,7 +10,7 @@ use crate::bands::BandRows;
 use crate::place::{band_of, top_band};
 use base_122::Weights;
 
-// A number times the weight of its band.
+// Returns a number times the weight of its band.
 fn times(number: i32, shift: u8) -> i32
     requires shift { shift ≤ 3 }
     requires fits { unsigned_abs (number *ℤ pos (2 ^ shift)) < 2 ^ 31 }
@@ -19,7 +19,7 @@ fn times(number: i32, shift: u8) -> i32
     number * (1 << shift)
 }
 
-// The four numbers of a square of two rows and two columns, each times its weight.
+// Puts the four numbers of a square of two rows and two columns, each times its weight.
 fn put_square(upper: &[i32], lower: &[i32], start: usize, shift: u8, at: usize, into: &mut [i32])
     requires upper { start + 2 ≤ length upper.now }
     requires lower { start + 2 ≤ length lower.now }
@@ -34,7 +34,7 @@ fn put_square(upper: &[i32], lower: &[i32], start: usize, shift: u8, at: usize, 
     into[at + 3] = times(lower[start + 1], shift);
 }
 
-// The DC number and the three parents.
+// Reads the DC number and the three parents.
 fn gather_tops<B: BandRows>(bands: &B, column: u32, weights: &Weights, into: &mut [i32])
     requires stands { IsTrue (B.stands bands.now) }
     requires ready { CanGather (B.number bands.now) weights.now.shifts (B.columns bands.now) column }
@@ -48,7 +48,7 @@ fn gather_tops<B: BandRows>(bands: &B, column: u32, weights: &Weights, into: &mu
     }
 }
 
-// The four children of a family.
+// Puts the four children of a family.
 fn put_children<B: BandRows>(
     bands: &B,
     column: u32,
@@ -84,7 +84,7 @@ fn gather_children<B: BandRows>(bands: &B, column: u32, weights: &Weights, into:
     }
 }
 
-// The eight grandchildren of a family that stand in the upper or in the lower two rows.
+// Puts the eight grandchildren of a family that are in the upper or in the lower two rows.
 fn put_grandchildren<B: BandRows>(
     bands: &B,
     column: u32,
@@ -122,8 +122,8 @@ fn gather_grandchildren<B: BandRows>(bands: &B, column: u32, weights: &Weights, 
 /// Fills `into` with the 64 numbers of the block in this column, each multiplied by 2^shift of its band
 /// (docs/formats.md, "Blocks" and "Weights").
 ///
-/// A block row stands, the column is in it and below 2^17, `into` has 64 numbers, each shift is at most 3,
-/// and the products are below 2^31 in magnitude.
+/// A block row is available, the column is in it and below 2^17, `into` has 64 numbers, each shift is at most
+/// 3, and the products are below 2^31 in magnitude.
 pub fn gather<B: BandRows>(bands: &B, column: u32, weights: &Weights, into: &mut [i32])
     requires stands { IsTrue (B.stands bands.now) }
     requires column { column < B.columns bands.now }
@@ -133,7 +133,7 @@ pub fn gather<B: BandRows>(bands: &B, column: u32, weights: &Weights, into: &mut
     requires fits { (i : ℕ) → i < 64 → unsigned_abs (B.number bands.now (place_in column i) *ℤ weight_at weights.now.shifts i) < 2 ^ 31 }
     ensures { into.new ≡ gathered (B.number bands.now) weights.now.shifts column }
 {
-    // A block of its own can't overlap what the bands hold, so that they look each row up once.
+    // A local block cannot overlap what the bands hold, so each row is looked up once.
     let mut block = [0; 64];
     gather_tops(bands, column, weights, &mut block);
     gather_children(bands, column, weights, &mut block);

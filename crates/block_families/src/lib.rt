@@ -1,4 +1,4 @@
-//! The 64 numbers of a block, gathered from the bands of a transform and put back into them.
+//! This crate gathers the 64 numbers of a block from the bands of a transform and puts them back into the bands.
 #![tactic(auto)]
 
 mod bands;

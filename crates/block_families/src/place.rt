@@ -1,4 +1,4 @@
-// Where the numbers of a block stand.
+// The places of the numbers of a block.
 
 ghost use Rattle.std.specs.Prelude.{◌≡◌, ◌<◌, ◌≤◌, ◌^◌, ℕ, ◌+◌, ◌*◌, ◌/◌, ◌%◌};
 ghost use Rattle.base_122.specs.Weights.{band_place};
@@ -17,7 +17,7 @@ pub struct Place {
     pub column: u32,
 }
 
-// The band of family 0, 1 or 2, which are HL, LH and HH, at a level.
+// Returns the band of family 0, 1 or 2, which are HL, LH and HH, at a level.
 pub fn band_of(level: u8, family: u8) -> Band
     requires first { 1 ≤ level }
     requires last { level ≤ 3 }
@@ -68,7 +68,7 @@ fn grandchild_of(family: u8, child: u8, grandchild: u8, column: u32) -> Place
     }
 }
 
-// The band of the number at position 0, 1, 2 or 3.
+// Returns the band of the number at position 0, 1, 2 or 3.
 pub fn top_band(position: u8) -> Band
     requires { position < 4 }
     ensures { band_place result ≡ (numbered_place position).band }
@@ -79,8 +79,8 @@ pub fn top_band(position: u8) -> Band
     band_of(3, position - 1)
 }
 
-// The first place of the square whose four numbers stand from position 4 * square + 4 on: the children of
-// each family, and then the grandchildren below each child.
+// Returns the first place of the square whose four numbers are from position 4 * square + 4 on: the children
+// of each family, and then the grandchildren below each child.
 pub fn square_of(square: u8, column: u32) -> Place
     requires square { square < 15 }
     requires column { column < 2 ^ 17 }
@@ -101,7 +101,7 @@ pub fn square_of(square: u8, column: u32) -> Place
     }
 }
 
-/// The place of the number at a position of the block in this column (docs/formats.md, "Blocks").
+/// Returns the place of the number at a position of the block in this column (docs/formats.md, "Blocks").
 ///
 /// `position` is below 64, `column` below 2^17.
 #[tactic(auto, unfolding(wave_defs::specs::Blocks::place_of))]

@@ -1,4 +1,4 @@
-// A block's numbers back into the bands.
+// Puts a block's numbers back into the bands.
 
 ghost use Rattle.std.specs.Prelude.{◌≡◌, ◌<◌, ◌≤◌, ◌+◌, ◌*◌, ◌^◌, ℕ, pos, IsTrue, All, length, slice_index_or};
 ghost use Rattle.base_122.specs.Weights.{IsShift};
@@ -10,7 +10,7 @@ use crate::bands::BandSink;
 use crate::place::{Place, square_of, top_band};
 use base_122::Weights;
 
-// A weighted number without its weight.
+// Returns a weighted number without its weight.
 fn unweighted(number: i32, shift: u8) -> i64
     requires { shift ≤ 3 }
     ensures { result ≡ floor_div number (2 ^ shift) }
@@ -18,7 +18,7 @@ fn unweighted(number: i32, shift: u8) -> i64
     i64::from(number >> shift)
 }
 
-// Four weighted numbers without their weight.
+// Returns four weighted numbers without their weight.
 fn unweighted_square(from: &[i32], at: usize, shift: u8) -> [i64; 4]
     requires shift { shift ≤ 3 }
     requires room { at + 4 ≤ length from.now }
@@ -32,7 +32,7 @@ fn unweighted_square(from: &[i32], at: usize, shift: u8) -> [i64; 4]
     ]
 }
 
-// The DC number and the three parents.
+// Puts back the DC number and the three parents.
 fn scatter_tops<B: BandSink>(bands: &mut B, column: u32, weights: &Weights, from: &[i32])
     requires stands { IsTrue (B.stands bands.old) }
     requires ready { CanScatter weights.now.shifts from.now (B.columns bands.old) column }
@@ -53,7 +53,7 @@ fn scatter_tops<B: BandSink>(bands: &mut B, column: u32, weights: &Weights, from
     }
 }
 
-// The four numbers of a square. With its place known all tests of the band fall away.
+// Puts back the four numbers of a square. All tests of the band are resolved at compile time, as its place is constant.
 #[inline(always)]
 fn put_square<B: BandSink>(bands: &mut B, column: u32, weights: &Weights, from: &[i32], square: u8)
     requires stands { IsTrue (B.stands bands.old) }
@@ -70,7 +70,7 @@ fn put_square<B: BandSink>(bands: &mut B, column: u32, weights: &Weights, from: 
     bands.set_square(place, numbers);
 }
 
-// The children.
+// Puts back the children.
 fn scatter_children<B: BandSink>(bands: &mut B, column: u32, weights: &Weights, from: &[i32])
     requires stands { IsTrue (B.stands bands.old) }
     requires ready { CanScatter weights.now.shifts from.now (B.columns bands.old) column }
@@ -84,7 +84,7 @@ fn scatter_children<B: BandSink>(bands: &mut B, column: u32, weights: &Weights, 
     }
 }
 
-// The grandchildren of a family. Its squares stand one by one, so that each is a constant one from the first.
+// Puts back the grandchildren of a family. Its squares are written out one by one, so that each is constant if the first is.
 #[inline(always)]
 fn put_family<B: BandSink>(bands: &mut B, column: u32, weights: &Weights, from: &[i32], family: u8)
     requires stands { IsTrue (B.stands bands.old) }
@@ -102,7 +102,7 @@ fn put_family<B: BandSink>(bands: &mut B, column: u32, weights: &Weights, from: 
     put_square(bands, column, weights, from, first + 3);
 }
 
-// The grandchildren.
+// Puts back the grandchildren.
 fn scatter_grandchildren<B: BandSink>(bands: &mut B, column: u32, weights: &Weights, from: &[i32])
     requires stands { IsTrue (B.stands bands.old) }
     requires ready { CanScatter weights.now.shifts from.now (B.columns bands.old) column }
@@ -119,8 +119,8 @@ fn scatter_grandchildren<B: BandSink>(bands: &mut B, column: u32, weights: &Weig
 /// Makes the 64 numbers of `from`, each divided by 2^shift of its band, those of the block in this column,
 /// and changes no other place (docs/formats.md, "Blocks" and "Weights").
 ///
-/// A block row stands, the column is in it and below 2^17, `from` has 64 numbers, each shift is at most 3,
-/// the divisions leave no rest, and their quotients are at most 2^27 in magnitude.
+/// A block row is available, the column is in it and below 2^17, `from` has 64 numbers, each shift is at most
+/// 3, the divisions leave no remainder, and their quotients are at most 2^27 in magnitude.
 pub fn scatter<B: BandSink>(bands: &mut B, column: u32, weights: &Weights, from: &[i32])
     requires stands { IsTrue (B.stands bands.old) }
     requires column { column < B.columns bands.old }

@@ -1,4 +1,4 @@
-// Places by hand, and a block gathered from bands whose numbers tell their places.
+// Places by hand, and a block gathered from bands whose numbers encode their places.
 
 ghost use Rattle.std.specs.Prelude.{◌≡◌, ◌≤◌, ◌+◌, ◌*◌, ℕ, pos, true, slice_index_or, unsigned_abs};
 ghost use Rattle.base_122.specs.Weights.{band_place};
@@ -44,7 +44,7 @@ impl BandRows for Named {
     }
 }
 
-// Each cell tells its place.
+// Returns bands in which each cell encodes its place.
 fn each_named() -> Named
     ensures { (i : ℕ) → unsigned_abs (slice_index_or result.cells i (pos 0)) ≤ 400 }
 {

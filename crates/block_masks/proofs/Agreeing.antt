@@ -1,4 +1,4 @@
--- The options of a gaggle, and the flags that tell which words it sent.
+-- The options of a gaggle, and the flags that say which words it sent.
 use Rattle.std.proofs.Common.{◌≡◌, ◌≢◌, ℕ, zero, suc, ◌+◌, ◌-◌, ◌<◌, ◌≤◌, ℤ, inl, inr, Bool, true, false, List, [], ◌∷◌, ◌++◌, length, refl, ap, sym, ◌∙◌, subst, arith, get_or, set, get_or-set_same, get_or-set_other}
 use Rattle.std.specs.Prelude.{◌==◌, ◌||◌}
 use Rattle.std.specs.List.{list_any}
@@ -48,7 +48,7 @@ same_length : (there : Bool) (m n : ℕ) → (m ≡ n → there ≡ true) → th
 same_length true m n h = refl
 same_length false m n h = grind arith
 
--- nor does a word whose length was sent before
+-- neither does a word whose length was sent before
 pub agrees_again : (sent : List Bool) (before : List Entry) (bits : Bits) → 2 ≤ bits.count → bits.count ≤ 4 → get_or sent (bits.count - 2) false ≡ true →
     Agrees sent before → Agrees sent (before ++ Word bits ∷ [])
 agrees_again sent before bits low high was agrees = record {
@@ -85,7 +85,7 @@ agrees_first sent before bits low high three agrees = record {
 
 -- ---- those of all gaggles, in a stage
 
--- the flags of the gaggles put so far, and of those to come
+-- the flags of the gaggles that were put so far, and of those that follow
 pub record SomeAgree (p : Plane) (j : ℕ) (marks : List ℤ) (g : ℕ) : Type 0 where
   pub done : (h : ℕ) → h < g → Agrees (sent_at marks h) (before_stage p (j + 1) h)
   pub todo : (h : ℕ) → g ≤ h → h < gaggles p → Agrees (sent_at marks h) (before_stage p j h)

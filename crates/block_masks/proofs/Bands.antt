@@ -10,7 +10,7 @@ use Rattle.plane_defs.specs.Sets.{coded}
 use Rattle.block_masks.specs.Masks.{Shows}
 use Rattle.block_masks.specs.Places.{IsOneBand}
 
--- as many positions as the mask has
+-- the same number of positions as the mask has
 pub all_shown : (start count : ℕ) → count < 64 → Shows ((1 * 2 ^ count) % 2 ^ 64 - 1) (λ p. true) start count
 all_shown start count few =
     let whole : (1 * 2 ^ count) % 2 ^ 64 ≡ 2 ^ count = one_shl count 64 few in
@@ -18,7 +18,7 @@ all_shown start count few =
     subst (λ m. Shows (m - 1) (λ p. true) start count) (sym whole)
     (record { at = λ k below. ap (λ n. n == 1) (bit_at_ones count k below); small = omega arith })
 
--- what a mask tells of the first position holds of all, since a band has one shift
+-- what a mask says of the first position holds of all, since a band has one shift
 pub band_shown : {mask : ℕ} {holds : Bool} (weights : List ℕ) (plane start count : ℕ) → IsOneBand start count → holds ≡ coded weights plane start →
     Shows mask (λ p. true && holds) start count → Shows mask (coded weights plane) start count
 unfolding coded

@@ -105,7 +105,7 @@ outside_lane (pos n) z low few fits =
     (top_of (lt_z (negsuc 2147483647 +ℤ pos (2 * n)) (to_z w32 ((of_z w32 z + (2147483648 + n)) % 4294967296))) ∙ past n z small fits)
 outside_lane (negsuc n) z low few fits = absurd (omega (arith, low))
 
--- ---- a mask told in other words
+-- ---- a mask in another form
 
 pub shows_same : {mask start count : ℕ} {f g : ℕ → Bool} → ((p : ℕ) → f p ≡ g p) → Shows mask f start count → Shows mask g start count
 shows_same {start = start} same shows = record { at = λ k below. shows.at k below ∙ same (start + k); small = shows.small }

@@ -1,4 +1,4 @@
--- The parts of a mark.
+-- The parts of a block's state.
 use Rattle.std.proofs.Common.{◌≡◌, ℕ, ◌+◌, ◌*◌, ◌/◌, ◌%◌, ◌<◌, ℤ, pos, negsuc, Bool, true, false, List, [], ◌∷◌, length, refl, arith, get_or, ◌^◌, to_z, w32}
 use Rattle.std.proofs.lemmas.Int.{to_z_pos}
 use Rattle.std.specs.Prelude.{◌==◌}
@@ -42,7 +42,7 @@ packed n d a b c s t u hd ha hb hc hs ht hu e = record {
   sent_four = omega arith;
 }
 
--- what a mark tells
+-- what a state says
 pub record Parts (mark : ℤ) (d : ℕ) (chosen : List ℕ) (flags : List Bool) (f : ℕ) : Type 0 where
   pub depth : depth_of mark ≡ d
   pub options : options_in mark ≡ chosen

@@ -1,4 +1,4 @@
--- What the marks keep, and what keeping something else of a gaggle leaves.
+-- What the states of blocks keep, and the result of a store of something else of a gaggle.
 use Rattle.std.proofs.Common.{◌≡◌, ◌≢◌, ◌⊎◌, inl, inr, ℕ, ◌*◌, ◌<◌, ℤ, pos, List, length, refl, ap, sym, ◌∙◌, subst, arith, get_or, set, get_or-set_same, get_or-set_other}
 use Rattle.std.proofs.Math.ListN.{length-set, get_or-map}
 use Rattle.std.proofs.Math.Seq.{map-set_same}
@@ -19,7 +19,7 @@ length-depths_of marks = simp length-map
 pub same_or_other : (h g : ℕ) → (h ≡ g) ⊎ (h ≢ g)
 same_or_other h g = grind arith
 
--- what a mark tells stays at each place where the mark that is set tells it too
+-- a part of a state stays at each place if the state that is stored there has the same part
 kept_set : {A : Type 0} (f : ℤ → A) (marks : List ℤ) (r : ℕ) (mark : ℤ) → r < length marks → f mark ≡ f (get_or marks r (pos 0)) →
     (h : ℕ) → f (get_or (set marks r mark) h (pos 0)) ≡ f (get_or marks h (pos 0))
 kept_set f marks r mark within kept h =

@@ -76,7 +76,7 @@ module _ (n k : ℕ) (here : bit_at n k ≡ 1) (none : (i : ℕ) → i < k → b
   others_less : bit_and n (n - 1) < n
   others_less = let le : bit_and n (n - 1) ≤ n - 1 = and_le_r n (n - 1) in omega (arith, le, split, pow_pos k)
 
-  -- the others are what stands above the first
+  -- the others are what is above the first
   others_are : bit_and n (n - 1) ≡ high * 2 ^ (k + 1) + 0
   others_are = same_from_bits (bit_and n (n - 1)) (high * 2 ^ (k + 1) + 0) (λ i. one_less i ∙ elim (cases_lt i (k + 1)) [
     | inl low ↦ elim (cases_eq i k) [

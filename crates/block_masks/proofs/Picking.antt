@@ -106,9 +106,9 @@ picked due bits start f g p q =
     eqb-true _ _ (one_agrees (g (start + 0)) (g (start + 1)) (g (start + 2)) (g (start + 3)) (f (start + 0)) (f (start + 1)) (f (start + 2)) (f (start + 3))) ∙
     sym (ap packed (chosen_is f g start))
 
--- ---- fewer positions: the others tell nothing
+-- ---- fewer positions: the others add nothing
 
--- what a mask tells of its own positions, and nothing past them
+-- what a mask says of its own positions, and nothing past them
 abbrev within : (start count : ℕ) → (ℕ → Bool) → ℕ → Bool
 within start count f p = nat_lt p (start + count) && f p
 
@@ -300,7 +300,7 @@ or_from : (a b : Bool) → (not a || b) ≡ true → a ≡ true → b ≡ true
 or_from true b e h = e
 or_from false b e h = absurd (false≢true h)
 
--- the bits that stand at the due places
+-- the bits that are at the due places
 abbrev pub placed : ℕ → ℕ → ℕ → Bool
 placed mask start p = bit mask (p - start)
 
@@ -336,7 +336,7 @@ pub back_of : (due word start count : ℕ) (g : ℕ → Bool) → count ≤ 4 �
 back_of due word start count g few p small fits =
     sym (ap value_of (wider_choice (placed (spread_entry due word) start) g start count few)) ∙ back_of_four due word start (within start count g) (wider due start count g few p) small fits
 
--- as many positions are told as the word has ones
+-- the number of positions is the number of ones of the word
 abbrev ones_kept : ℕ → ℕ → Bool
 ones_kept due word = not (nat_lt word (2 ^ count_ones due)) || (count_ones (spread_entry due word) == count_ones word)
 

@@ -1,4 +1,4 @@
--- Sixteen numbers that get a bit and a sign.
+-- Sixteen numbers that are given a bit and a sign.
 use Rattle.std.proofs.Common.{◌≡◌, inl, inr, ℕ, zero, suc, ◌+◌, ◌-◌, ◌*◌, ◌/◌, ◌%◌, ◌<◌, ◌≤◌, ◌^◌, ℤ, pos, negsuc, neg_ℤ, Bool, true, false, not, cond, List, [], ◌∷◌, length, map, get_or, replicate, unsigned_abs, bit_and, bit_or, FitsSigned, refl, ap, sym, ◌∙◌, subst, arith, w32, nat_eq}
 use Rattle.std.specs.Prelude.{◌==◌, ◌||◌, ◌&&◌, if◌then◌else◌}
 use Rattle.std.specs.List.{range_with_len}
@@ -60,7 +60,7 @@ was x = cond (top 31 (less x 0)) ones 0
 abbrev pub signs : List ℕ → List ℕ
 signs xs = sel_l (map (top 31) (zip2 less xs (replicate 16 0))) (replicate 16 ones) (replicate 16 0)
 
--- a lane, of a number and of what the masks tell of it
+-- a lane, of a number and of what the masks say of it
 abbrev pub lane : (weight : ℕ) → (number more told : ℤ) → ℤ
 lane weight number more told =
     let sign = bit_or (of_z w32 told) (was (of_z w32 number)) in
@@ -96,7 +96,7 @@ lanes_by_place weight numbers more told f g long mores tolds =
 
 -- ---- one lane
 
--- the sign is applied to a size
+-- the sign is applied to a magnitude
 turned : (n : ℕ) → n < 2147483649 → to_z w32 (minus (bit_xor n ones) ones) ≡ neg_ℤ (pos n)
 turned n small =
     let rest : bit_xor n ones ≡ ones - n = omega (arith, xor_add_and n ones, and_mask n 32) in
@@ -118,7 +118,7 @@ either_sign false false = refl
 sign_is : (z : ℤ) (m : Bool) → FitsSigned w32 z → bit_or (of_z w32 (all_or_none m)) (was (of_z w32 z)) ≡ cond (negative z || m) ones 0
 sign_is z m fits = ap (λ t. bit_or (of_z w32 (all_or_none m)) (cond t ones 0)) (negative_lane z fits) ∙ either_sign m (negative z)
 
--- a lane that no mask tells
+-- a lane that no mask has
 pub other_lane : (weight : ℕ) (z : ℤ) → FitsSigned w32 z → lane weight z (all_or_none false) (all_or_none false) ≡ z
 other_lane weight z fits =
     (λ i. to_z w32 (minus (bit_xor (bit_or (size_is z fits i) 0) (sign_is z false fits i)) (sign_is z false fits i))) ∙
@@ -128,7 +128,7 @@ other_lane weight z fits =
     by_sign (pos n) fits = kept n fits.sfits
     by_sign (negsuc n) fits = turned (suc n) (omega (arith, fits.sfits))
 
--- the weight of a bit that isn't there
+-- the weight of a bit that is missing
 pub missing : (n plane : ℕ) → bit_at n plane * 2 ^ plane + (if not (bit n plane) then 2 ^ plane else 0) ≡ 2 ^ plane
 missing n plane = by_bit (bit_at n plane) (omega arith)
   where
@@ -140,7 +140,7 @@ missing n plane = by_bit (bit_at n plane) (omega arith)
 pub size_set : (n plane : ℕ) → bit_or n (2 ^ plane) ≡ n + (if not (bit n plane) then 2 ^ plane else 0)
 size_set n plane = omega (arith, or_add_and n (2 ^ plane), and_pow n plane, missing n plane)
 
--- a lane that gets the bit
+-- a lane that is given the bit
 pub named_lane : (plane : ℕ) (z : ℤ) (m : Bool) → plane < 27 → FitsSigned w32 z → unsigned_abs z < 2 ^ 30 → lane (1 * 2 ^ plane % 4294967296) z (all_or_none true) (all_or_none m) ≡ with_bit plane z m
 named_lane plane z m low fits small =
     let le : plane ≤ 26 = omega arith in
@@ -157,7 +157,7 @@ named_lane plane z m low fits small =
 
 -- ---- sixteen of them
 
--- a mask tells its own bits
+-- a mask shows its own bits
 pub shows_own : (mask count : ℕ) → mask < 2 ^ count → Shows mask (bit mask) 0 count
 shows_own mask count small = record { at = λ k below. let e : k ≡ 0 + k = omega arith in ap (bit mask) e; small = small }
 

@@ -1,4 +1,4 @@
--- A block whose numbers get a bit, sixteen positions after sixteen.
+-- A block whose numbers are given a bit, sixteen positions after sixteen.
 use Rattle.std.proofs.Common.{◌≡◌, inl, inr, ℕ, ◌+◌, ◌-◌, ◌<◌, ◌≤◌, ◌^◌, ℤ, pos, true, false, List, length, map, get_or, FitsSigned, refl, ap, sym, ◌∙◌, subst, arith, w32}
 use Rattle.std.specs.Prelude.{◌==◌, ◌&&◌, unsigned_abs}
 use Rattle.std.specs.Simd.Lanes.{chunk, put_chunk}
@@ -38,7 +38,7 @@ module _ (cells : List ℤ) (start : ℕ) (within : start + 16 ≤ length cells)
   pub loaded_fits : (k : ℕ) → k < 16 → FitsSigned w32 (get_or (passed (chunk start 16 cells)) k (pos 0))
   loaded_fits k below = subst (FitsSigned w32) (sym (loaded_at k below)) (fits k below)
 
-  -- the lanes got the bits that stand in the masks from the start on, and are stored
+  -- the lanes are given the bits that are in the masks from the start on, and are stored
   pub part_set : (plane bits minus here told : ℕ) (lanes : List ℤ) → Shows here (bit bits) start 16 → Shows told (bit minus) start 16 →
       ((k : ℕ) → k < 16 → FitsSigned w32 (get_or lanes k (pos 0))) →
       SetsBits plane here told (passed (chunk start 16 cells)) lanes → SetsPart plane bits minus start cells (put_chunk start cells (passed lanes))
@@ -119,7 +119,7 @@ all_set whole first = record {
   ];
 }
 
--- where no number gets a sign, none is given
+-- if no number is given a sign, none is set
 pub without_signs : {plane bits minus shared : ℕ} {before now : List ℤ} → shared ≡ 0 → ((p : ℕ) → p < 64 → bit shared p ≡ (bit bits p && bit minus p)) → length before ≡ 64 →
     SetsBits plane bits 0 before now → SetsBits plane bits minus before now
 without_signs {plane} {bits} {minus} {shared} {before} {now} none is whole sets = record {

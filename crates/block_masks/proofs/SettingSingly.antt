@@ -1,4 +1,4 @@
--- Numbers of a block that get a bit, one after the other.
+-- Numbers of a block that are given a bit, one after the other.
 use Rattle.std.proofs.Common.{◌≡◌, ◌≢◌, inl, inr, ℕ, ◌+◌, ◌*◌, ◌%◌, ◌<◌, ◌≤◌, ◌^◌, Bool, true, false, not, List, length, set, get_or, bit_and, bit_or, refl, ap, sym, ◌∙◌, subst, arith, ℤ, pos, neg_ℤ, ◌-ℤ◌, to_z, of_z, w32}
 use Rattle.std.specs.Prelude.{◌||◌, unsigned_abs, if◌then◌else◌}
 use Rattle.std.proofs.Math.Pow.{pow_mono}
@@ -55,7 +55,7 @@ module _ (z : ℤ) (plane : ℕ) (minus : Bool) (small : unsigned_abs z < 2 ^ 30
 
 -- ---- the loop
 
--- the numbers at the positions of `left` are as they were, and the others that are named got theirs
+-- the numbers at the positions of `left` are as they were, and the others in the mask are given their bits
 pub record Setting (plane bits minus left : ℕ) (before now : List ℤ) : Type 0 where
   pub whole : length now ≡ 64
   pub was_whole : length before ≡ 64
@@ -74,7 +74,7 @@ single_start plane bits minus before whole = record {
   same = λ p none. refl;
 }
 
--- the first of what is left got its bit, and is gone
+-- the first of what is left is given its bit, and is removed
 pub single_step : {plane bits minus left fewer at : ℕ} {before now : List ℤ} → Setting plane bits minus left before now →
     at < 64 → bit left at ≡ true → bit fewer at ≡ false → ((p : ℕ) → p < 64 → p ≢ at → bit fewer p ≡ bit left p) →
     (number : ℤ) → (magnitude now at < 2 ^ 30 → number ≡ with_bit plane (get_or now at (pos 0)) (bit minus at)) → Setting plane bits minus fewer before (set now at number)

@@ -1,4 +1,4 @@
--- What the masks of a block tell of its positions and sets.
+-- What the masks of a block say of its positions and sets.
 use Rattle.std.proofs.Common.{◌≡◌, ℕ, ◌+◌, ◌*◌, ◌/◌, ◌%◌, ◌^◌, ◌<◌, ◌≤◌, ℤ, Bool, true, false, ◌||◌, List, ◌++◌, nat_le, ap, sym, ◌∙◌, subst, arith, zero-add, zero, suc, add-one}
 use Rattle.std.specs.Prelude.{◌==◌}
 use Rattle.std.specs.List.{list_any}

@@ -1,5 +1,5 @@
--- What a mark keeps above the block's depth: that of a gaggle's first block the option of each length, and whether a word of that
--- length was sent, and that of each block which of its families are significant. (This project's own.)
+-- What the state of a block has above the block's depth: in a gaggle's first block the option of each length and whether a word
+-- of that length was sent, and in each block which of its families are significant. (This project's own.)
 use Rattle.std.specs.Prelude.{◌≡◌, ◌≤◌, ◌<◌, ℕ, ◌-◌, ◌*◌, ◌/◌, ◌%◌, ℤ, pos, Bool, false, ◌==◌, List, [], ◌∷◌, length}
 use Rattle.std.specs.Int.RustNames.{unsigned_abs}
 use Rattle.std.specs.Int.{int_rem_euclid}
@@ -19,11 +19,11 @@ options_in mark = low_bits mark / 32 % 2 ∷ low_bits mark / 64 % 4 ∷ low_bits
 unfoldable pub sent_in : ℤ → List Bool
 sent_in mark = (low_bits mark / 1024 % 2 == 1) ∷ (low_bits mark / 2048 % 2 == 1) ∷ (low_bits mark / 4096 % 2 == 1) ∷ []
 
--- bit i tells of family i
+-- bit i is for family i
 unfoldable pub families_in : ℤ → ℕ
 families_in mark = unsigned_abs (int_rem_euclid mark (pos 65536)) / 8192
 
--- the mark of a gaggle's first block
+-- the state of a gaggle's first block
 abbrev pub first_mark : List ℤ → ℕ → ℤ
 first_mark marks g = get_or marks (16 * g) (pos 0)
 
@@ -33,21 +33,21 @@ options_at marks g = options_in (first_mark marks g)
 abbrev pub sent_at : List ℤ → ℕ → List Bool
 sent_at marks g = sent_in (first_mark marks g)
 
--- the options are some of their lengths
+-- each option is an option of its length
 pub record AreOptions (options : List ℕ) : Type 0 where
   pub two : get_or options 0 0 < 2
   pub three : get_or options 1 0 < 3
   pub four : get_or options 2 0 < 4
 
--- a flag of each length tells whether a word of that length was sent
+-- the flag of each length says whether a word of that length was sent
 pub record Agrees (sent : List Bool) (before : List Entry) : Type 0 where
   pub at : (n : ℕ) → 2 ≤ n → n ≤ 4 → get_or sent (n - 2) false ≡ list_any (is_word_of n) before
 
--- the flags of the gaggles tell the words of the stages before stage k
+-- the flags of the gaggles say which words the stages before stage k sent
 pub record AllAgree (p : Plane) (k : ℕ) (marks : List ℤ) : Type 0 where
   pub at : (g : ℕ) → g < gaggles p → Agrees (sent_at marks g) (before_stage p k g)
 
--- the marks keep the depths of the blocks and the options of the gaggles
+-- the states keep the depths of the blocks and the options of the gaggles
 pub record SameMarks (old new : List ℤ) : Type 0 where
   pub depths : depths_of new ≡ depths_of old
   pub whole : length new ≡ length old

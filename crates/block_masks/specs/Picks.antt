@@ -4,11 +4,11 @@ use Rattle.item_defs.specs.Bits.{bit, value_of}
 use Rattle.plane_defs.specs.Spans.{span}
 use Rattle.block_masks.specs.Masks.{Shows}
 
--- up to four bits: sixteen times their number, and the number that they make
+-- up to four bits: sixteen times how many they are, plus the number that they make
 unfoldable pub packed : List Bool → ℕ
 packed bits = 16 * length bits + value_of bits
 
--- the places of some due ones that a word tells
+-- the places among the due ones whose bit in the word is 1
 pub record AreSpread (due word places : ℕ) : Type 0 where
   pub small : places < 16
   pub told : (f g : ℕ → Bool) (start count : ℕ) → count ≤ 4 → Shows due g start count → value_of (map f (filter g (span start count))) ≡ word → Shows places (λ p. g p && f p) start count

@@ -12,6 +12,6 @@ pub record AreSets (f : ℕ → Bool) (s : Sets) : Type 0 where
   pub families : Shows s.families (λ i. list_any f (members (Family i))) 0 3
   pub grandchildren : Shows s.grandchildren (λ i. list_any f (members (Grandchildren i))) 0 3
 
--- the same of the sets of four grandchildren in family i
+-- the same for the sets of four grandchildren in family i
 pub record AreQuads (f : ℕ → Bool) (i quads : ℕ) : Type 0 where
   pub shown : Shows quads (λ j. list_any f (members (Quad i j))) 0 4

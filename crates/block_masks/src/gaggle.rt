@@ -1,4 +1,4 @@
-// What a call keeps in the marks: of a gaggle in the mark of its first block, of a block in its own.
+// What a call keeps in the states of blocks: for a gaggle in the state of its first block, for a block in its own state.
 
 ghost use Rattle.std.specs.Prelude.{◌≡◌, ◌+◌, ◌*◌, ◌<◌, [], ◌∷◌, length};
 ghost use Rattle.item_defs.specs.Bits.{digit};
@@ -6,7 +6,7 @@ ghost use Rattle.plane_defs.specs.Marks.{depth_of as depth_in};
 ghost use Rattle.block_masks.specs.Gaggles.{low_bits, options_in, sent_in, families_in, options_at, sent_at, AreOptions};
 ghost use Rattle.block_masks.specs.Stored.{Stores};
 
-/// What lasts of a gaggle from one stage to the next (docs/formats.md, "Words and codes").
+/// The state of a gaggle that lasts from one stage to the next (docs/formats.md, "Words and codes").
 #[derive(Clone, Copy)]
 pub struct Gaggle {
     /// The option of each length of words, 2 to 4.
@@ -15,7 +15,7 @@ pub struct Gaggle {
     pub sent: [bool; 3],
 }
 
-/// The depth that a block's mark tells, in its last five bits.
+/// Returns the depth of a block, the last five bits of its state.
 #[inline]
 pub fn depth_of(mark: i32) -> u8
     ensures value { result ≡ depth_in mark }
@@ -24,7 +24,7 @@ pub fn depth_of(mark: i32) -> u8
     mark.rem_euclid(32) as u8
 }
 
-// The last 13 bits of a mark.
+// Returns the last 13 bits of a state.
 #[inline]
 fn low_bits_of(mark: i32) -> u32
     ensures value { result ≡ low_bits mark }
@@ -33,7 +33,7 @@ fn low_bits_of(mark: i32) -> u32
     mark.rem_euclid(8192) as u32
 }
 
-/// Which of a block's families are significant in the plane, as its mark tells: bit i tells of family i.
+/// Returns which of a block's families are significant in the plane, from its state: bit i is for family i.
 #[inline]
 #[tactic(auto, unfolding(crate::specs::Gaggles::families_in))]
 pub fn families_of(mark: i32) -> u64
@@ -43,7 +43,7 @@ pub fn families_of(mark: i32) -> u64
     mark.rem_euclid(65536) as u64 / 8192
 }
 
-/// What the mark of a gaggle's first block keeps of the gaggle, in the eight bits above the depth.
+/// Returns what the state of a gaggle's first block has of the gaggle, in the eight bits above the depth.
 #[tactic(auto, unfolding(crate::specs::Gaggles::options_in, crate::specs::Gaggles::sent_in))]
 pub fn gaggle_in(mark: i32) -> Gaggle
     ensures options { result.options ≡ options_in mark }
@@ -70,7 +70,7 @@ fn digit_of(bit: bool) -> u32
     if bit { 1 } else { 0 }
 }
 
-// A mark with this depth, these options and these flags.
+// Returns a state with this depth, these options and these flags.
 fn packed_mark(depth: u8, options: (u8, u8, u8), sent: (bool, bool, bool)) -> i32
     requires below { depth < 32 }
     requires two { options.0 < 2 }
@@ -87,8 +87,8 @@ fn packed_mark(depth: u8, options: (u8, u8, u8), sent: (bool, bool, bool)) -> i3
     low as i32
 }
 
-/// A mark that keeps this depth and this of a gaggle, and no family. The depth is below 32, and the options for words of two,
-/// three and four bits are below 2, 3 and 4.
+/// Returns a state with this depth and this state of a gaggle, and no family. The depth is below 32, and the options for
+/// words of two, three and four bits are below 2, 3 and 4.
 #[tactic(auto, using(crate::proofs::MarkParts::three_of))]
 pub fn mark_of(depth: u8, gaggle: Gaggle) -> i32
     requires below { depth < 32 }
@@ -103,7 +103,7 @@ pub fn mark_of(depth: u8, gaggle: Gaggle) -> i32
     packed_mark(depth, options, sent)
 }
 
-/// The mark with these families, of which bit i tells family i; what else it keeps stays.
+/// Returns the state with these families, of which bit i is for family i; the other bits stay.
 #[inline]
 pub fn with_families(mark: i32, families: u64) -> i32
     requires { families < 8 }
@@ -116,7 +116,7 @@ pub fn with_families(mark: i32, families: u64) -> i32
     whole as i32
 }
 
-/// What the marks keep of gaggle g.
+/// Returns what the states keep of gaggle g.
 pub fn load(marks: &[i32], g: usize) -> Gaggle
     requires { 16 * g < length marks.now }
     ensures options { result.options ≡ options_at marks.now g }
@@ -125,8 +125,8 @@ pub fn load(marks: &[i32], g: usize) -> Gaggle
     gaggle_in(marks[16 * g])
 }
 
-/// Keeps this of gaggle g in the marks, whose depths and families stay. There is a mark for the first block of the gaggle, and
-/// the options for words of two, three and four bits are below 2, 3 and 4.
+/// Stores the state of gaggle g in `marks`; their depths and families stay. There is a state for the first block of the
+/// gaggle, and the options for words of two, three and four bits are below 2, 3 and 4.
 pub fn store(marks: &mut [i32], g: usize, gaggle: Gaggle)
     requires within { 16 * g < length marks.old }
     requires known { AreOptions gaggle.options }

@@ -1,11 +1,11 @@
-//! What the numbers of a block are in a bit plane, as masks of 64 bits, and what the writer and the reader of a plane share
-//! (docs/formats.md, "Bit planes").
+//! This crate has the numbers of a block in a bit plane as masks of 64 bits, and what the writer and the reader of a plane
+//! share (docs/formats.md, "Bit planes").
 //!
-//! Bit k of a mask tells of the k-th position. `plan` makes a `CodedPlane` of a `PlanePlan`, once for all blocks. `masks`
-//! reads a block, `nibbles` makes masks of masks, `sets` tells which sets of positions have a member of a mask, and `picks`
-//! gathers the bits of up to four positions. `walk` goes over the positions of a mask, and `setting` gives the numbers at
-//! them a bit. `stages` has the stages by their numbers; from one stage to the next `gaggle` keeps in the marks which options
-//! and words the gaggles have, and which families of a block are significant.
+//! Bit k of a mask is for the k-th position. `plan` makes a `CodedPlane` of a `PlanePlan`, once for all blocks. `masks` reads
+//! a block, `nibbles` makes masks of masks, `sets` finds the sets of positions that have a member of a mask, and `picks`
+//! collects the bits of up to four positions. `walk` goes over the positions of a mask, and `setting` gives the numbers at
+//! them a bit. `stages` has the stages by their numbers. From one stage to the next `gaggle` keeps in the states of blocks
+//! which options and words the gaggles have, and which families of a block are significant.
 #![tactic(auto)]
 
 mod gaggle;

@@ -5,7 +5,7 @@ ghost use Rattle.std.specs.List.{list_any};
 ghost use Rattle.plane_defs.specs.Spans.{span};
 ghost use Rattle.block_masks.specs.Masks.{Shows};
 
-/// What both masks tell.
+/// Returns the positions that are in both masks.
 #[inline(always)]
 pub fn both(a: u64, b: u64) -> u64
     ensures within { result ≤ a }
@@ -14,7 +14,7 @@ pub fn both(a: u64, b: u64) -> u64
     a & b
 }
 
-/// What the second mask tells and the first doesn't.
+/// Returns the positions that are in the second mask and not in the first.
 #[inline(always)]
 pub fn except(a: u64, b: u64) -> u64
     ensures within { (count : ℕ) → b < 2 ^ count → result < 2 ^ count }
@@ -23,7 +23,7 @@ pub fn except(a: u64, b: u64) -> u64
     b ^ (a & b)
 }
 
-/// What either mask tells.
+/// Returns the positions that are in either mask.
 #[inline(always)]
 pub fn either(a: u64, b: u64) -> u64
     ensures { (f g : ℕ → Bool) (start count : ℕ) → Shows a f start count → Shows b g start count → Shows result (λ p. f p || g p) start count }
@@ -31,7 +31,7 @@ pub fn either(a: u64, b: u64) -> u64
     a | b
 }
 
-/// So many positions of a mask from a place on.
+/// Returns `count` positions of a mask, from a place on.
 #[inline(always)]
 pub fn part(mask: u64, at: u8, count: u8) -> u64
     requires at { at < 64 }
@@ -42,7 +42,7 @@ pub fn part(mask: u64, at: u8, count: u8) -> u64
     (mask >> at) & ((1 << count) - 1)
 }
 
-/// The positions of two masks, one behind the other: the first has `at` of them.
+/// Returns the positions of two masks, one after the other: the first has `at` of them.
 #[inline(always)]
 pub fn joined(low: u64, high: u64, at: u8) -> u64
     requires at { at < 64 }
@@ -54,7 +54,7 @@ pub fn joined(low: u64, high: u64, at: u8) -> u64
     (high << at) | low
 }
 
-/// A mask tells of its k-th position.
+/// Returns whether the k-th position is in a mask.
 #[inline(always)]
 pub fn has(mask: u64, k: u8) -> bool
     requires { k < 64 }
@@ -63,7 +63,7 @@ pub fn has(mask: u64, k: u8) -> bool
     (mask >> k) & 1 == 1
 }
 
-/// What a mask tells, where this holds.
+/// Returns the mask if this holds, and otherwise an empty one.
 #[inline(always)]
 pub fn masked(mask: u64, holds: bool) -> u64
     ensures within { result ≤ mask }
@@ -72,7 +72,7 @@ pub fn masked(mask: u64, holds: bool) -> u64
     if holds { mask } else { 0 }
 }
 
-/// A mask of one position.
+/// Returns a mask of one position.
 #[inline(always)]
 pub fn one(holds: bool) -> u64
     ensures within { result < 2 }
@@ -81,7 +81,7 @@ pub fn one(holds: bool) -> u64
     u64::from(holds)
 }
 
-/// Some position of a mask is told.
+/// Returns whether some position is in a mask.
 #[inline(always)]
 pub fn is_any(mask: u64) -> bool
     ensures { (f : ℕ → Bool) (start count : ℕ) → Shows mask f start count → result ≡ list_any f (span start count) }
@@ -89,7 +89,7 @@ pub fn is_any(mask: u64) -> bool
     mask != 0
 }
 
-/// A mask of three positions.
+/// Returns a mask of three positions.
 #[inline(always)]
 pub fn three(a: bool, b: bool, c: bool) -> u64
     ensures told { (f : ℕ → Bool) → f 0 ≡ a → f 1 ≡ b → f 2 ≡ c → Shows result f 0 3 }
@@ -98,7 +98,7 @@ pub fn three(a: bool, b: bool, c: bool) -> u64
     u64::from(a) + 2 * u64::from(b) + 4 * u64::from(c)
 }
 
-/// A mask of four positions.
+/// Returns a mask of four positions.
 #[inline(always)]
 pub fn four(a: bool, b: bool, c: bool, d: bool) -> u64
     ensures told { (f : ℕ → Bool) → f 0 ≡ a → f 1 ≡ b → f 2 ≡ c → f 3 ≡ d → Shows result f 0 4 }

@@ -10,7 +10,7 @@ ghost use Rattle.block_masks.specs.Masks.{Shows};
 use crate::mask_sets::joined;
 use std::simd::prelude::*;
 
-// Reads sixteen numbers for the proof, which then knows that each fits its type. No code is left of it.
+// Reads sixteen numbers for the proof, which then knows that each fits its type. It compiles to no code.
 #[inline(always)]
 pub(crate) fn read(block: &[i32], start: usize)
     requires { start + 16 ≤ length block.now }
@@ -21,7 +21,7 @@ pub(crate) fn read(block: &[i32], start: usize)
     }
 }
 
-// Which of sixteen numbers are above this in magnitude.
+// Returns which of sixteen numbers are above `most` in magnitude.
 #[inline(always)]
 fn outside(block: &[i32], start: usize, most: i32) -> u64
     requires within { start + 16 ≤ length block.now }
@@ -38,7 +38,7 @@ fn outside(block: &[i32], start: usize, most: i32) -> u64
         .to_bitmask()
 }
 
-/// Which of the sixteen numbers from `start` on are significant in a plane: at least 2^plane in magnitude.
+/// Returns which of the sixteen numbers from `start` on are significant in a plane: at least 2^plane in magnitude.
 #[inline(always)]
 pub fn reaching(block: &[i32], start: usize, plane: u8) -> u64
     requires within { start + 16 ≤ length block.now }
@@ -49,7 +49,7 @@ pub fn reaching(block: &[i32], start: usize, plane: u8) -> u64
     outside(block, start, most as i32)
 }
 
-// Which of the sixteen numbers from `start` on are below 0.
+// Returns which of the sixteen numbers from `start` on are below 0.
 #[inline(always)]
 fn negative(block: &[i32], start: usize) -> u64
     requires { start + 16 ≤ length block.now }
@@ -60,7 +60,7 @@ fn negative(block: &[i32], start: usize) -> u64
     numbers.simd_lt(i32x16::splat(0)).to_bitmask()
 }
 
-// Which of the sixteen numbers from `start` on have the bit of weight 2^plane in their magnitude.
+// Returns which of the sixteen numbers from `start` on have the bit of weight 2^plane in their magnitude.
 #[inline(always)]
 fn having_bit(block: &[i32], start: usize, plane: u8) -> u64
     requires within { start + 16 ≤ length block.now }
@@ -73,7 +73,7 @@ fn having_bit(block: &[i32], start: usize, plane: u8) -> u64
     bits.simd_ne(i32x16::splat(0)).to_bitmask()
 }
 
-// Four masks of sixteen positions, one behind the other.
+// Returns four masks of sixteen positions, one after the other, as one.
 #[inline(always)]
 fn whole(first: u64, second: u64, third: u64, fourth: u64) -> u64
     requires first { first < 2 ^ 16 }
@@ -87,7 +87,7 @@ fn whole(first: u64, second: u64, third: u64, fourth: u64) -> u64
     joined(low, high, 32)
 }
 
-/// Which numbers of a block are significant in a plane: at least 2^plane in magnitude.
+/// Returns which numbers of a block are significant in a plane: at least 2^plane in magnitude.
 #[inline(always)]
 pub fn all_reaching(block: &[i32], plane: u8) -> u64
     requires whole { length block.now ≡ 64 }
@@ -102,7 +102,7 @@ pub fn all_reaching(block: &[i32], plane: u8) -> u64
     )
 }
 
-/// Which numbers of a block have the bit of weight 2^plane in their magnitude.
+/// Returns which numbers of a block have the bit of weight 2^plane in their magnitude.
 #[inline(always)]
 pub fn all_having_bit(block: &[i32], plane: u8) -> u64
     requires whole { length block.now ≡ 64 }
@@ -117,7 +117,7 @@ pub fn all_having_bit(block: &[i32], plane: u8) -> u64
     )
 }
 
-/// Which numbers of a block are below 0.
+/// Returns which numbers of a block are below 0.
 #[inline(always)]
 pub fn all_negative(block: &[i32]) -> u64
     requires { length block.now ≡ 64 }

@@ -5,8 +5,8 @@ ghost use Rattle.plane_defs.specs.Spans.{span};
 ghost use Rattle.block_masks.specs.Masks.{Shows};
 ghost use Rattle.block_masks.specs.Picks.{packed, AreSpread};
 
-// For each mask of what is due, and each mask of bits: sixteen times the number of bits that are due, and the
-// number that they make, the first position highest.
+// The entry for each mask of what is due, and each mask of bits: sixteen times the number of bits that are
+// due, plus the number that they make, the first position highest.
 const PICKS: [[u8; 16]; 16] = [
     [0, 0, 0, 0, 0, 0, 0, 0, 0, 0, 0, 0, 0, 0, 0, 0],
     [
@@ -56,8 +56,8 @@ const PICKS: [[u8; 16]; 16] = [
     ],
 ];
 
-/// The bits at the due ones of up to four positions, in order: sixteen times their number, and the number that they
-/// make with the first of them highest.
+/// Returns the bits at the due ones of up to four positions, in order: sixteen times their number, plus the
+/// number that they make with the first of them highest.
 #[inline(always)]
 pub fn pick(due: u64, bits: u64) -> u8
     requires due { due < 16 }
@@ -69,8 +69,8 @@ pub fn pick(due: u64, bits: u64) -> u8
     PICKS[due as usize][bits as usize]
 }
 
-// For each mask of what is due, and each number that the bits of the due positions make, the first highest: the positions
-// whose bit is 1. Numbers of more bits stand for none.
+// The entry for each mask of what is due, and each number that the bits of the due positions make, the first highest: the
+// positions whose bit is 1. The entry of a number of more bits is 0.
 const SPREADS: [[u8; 16]; 16] = [
     [0, 0, 0, 0, 0, 0, 0, 0, 0, 0, 0, 0, 0, 0, 0, 0],
     [0, 1, 0, 0, 0, 0, 0, 0, 0, 0, 0, 0, 0, 0, 0, 0],
@@ -90,8 +90,8 @@ const SPREADS: [[u8; 16]; 16] = [
     [0, 8, 4, 12, 2, 10, 6, 14, 1, 9, 5, 13, 3, 11, 7, 15],
 ];
 
-/// The positions of a word: those among up to four due ones whose bit is 1, where the first of them has the word's highest
-/// bit.
+/// Returns the positions of a word: those among up to four due ones whose bit is 1, if the word's highest bit is for
+/// the first of them.
 #[inline(always)]
 pub fn spread(due: u64, word: u8) -> u64
     requires due { due < 16 }

@@ -1,4 +1,4 @@
-// What a call is told of a plane, and what the weights settle for all of its blocks.
+// The parameters of a plane, and what the weights determine for all of its blocks.
 
 ghost use Rattle.std.specs.Prelude.{◌≡◌, ◌<◌, ◌≤◌, ◌+◌, ◌*◌, ℕ, slice_index};
 ghost use Rattle.plane_defs.specs.Sets.{coded as is_coded_at};
@@ -16,20 +16,20 @@ use block_families::place_of;
 pub struct PlanePlan {
     /// The plane's number, at most 26: bits of weight 2^plane.
     pub plane: u8,
-    /// How many low bits of the DC numbers the DC part left out.
+    /// The number of low bits of the DC numbers that the DC part left out.
     pub q: u8,
     pub weights: Weights,
     /// The last stage that is sent, 0 to 4.
     pub last: u8,
 }
 
-/// A plane as all of its blocks have it: at which positions a number can have a bit of it, and which sets are live in it
-/// (docs/formats.md, "Bit planes").
+/// A plane as it is for all of its blocks: at which positions a number can have a bit of it, and which sets are live in
+/// it (docs/formats.md, "Bit planes").
 #[derive(Drop)]
 pub struct CodedPlane {
     /// The plane's number.
     pub plane: u8,
-    /// How many low bits of the DC numbers the DC part left out.
+    /// The number of low bits of the DC numbers that the DC part left out.
     pub q: u8,
     pub weights: Weights,
     /// The positions that are coded in the plane.
@@ -44,7 +44,7 @@ pub struct CodedPlane {
     ghost quads_shown: { (i : ℕ) → i < 3 → AreQuads (is_coded_at weights.shifts plane) i (slice_index live_quads i) },
 }
 
-// A bit of the plane can be other than 0 at the position.
+// Returns whether a bit of the plane can be other than 0 at the position.
 #[tactic(auto, unfolding(plane_defs::specs::Sets::coded))]
 fn can_have_bit(plan: &PlanePlan, position: u8) -> bool
     requires { position < 64 }
@@ -53,8 +53,8 @@ fn can_have_bit(plan: &PlanePlan, position: u8) -> bool
     plan.weights.shift(place_of(position, 0).band) <= plan.plane
 }
 
-// The `count` positions of one band from `start` on, where they can have a bit of the plane. A band has one shift, so the
-// first of them tells.
+// Returns the `count` positions of one band from `start` on, if they can have a bit of the plane. A band has one
+// shift, so the first of them decides.
 fn coded_in_band(plan: &PlanePlan, start: u8, count: u8) -> u64
     requires start { start < 64 }
     requires count { count < 64 }
@@ -64,7 +64,7 @@ fn coded_in_band(plan: &PlanePlan, start: u8, count: u8) -> u64
     masked((1 << count) - 1, can_have_bit(plan, start))
 }
 
-// The same for the three families of a level, each with `count` positions of a band of its own (docs/formats.md, "Blocks").
+// Returns those of the three families of a level, each with `count` positions of a band of its own (docs/formats.md, "Blocks").
 fn coded_in_level(plan: &PlanePlan, start: u8, count: u8) -> u64
     requires within { start + 3 * count ≤ 64 }
     requires some { 0 < count }
@@ -77,7 +77,7 @@ fn coded_in_level(plan: &PlanePlan, start: u8, count: u8) -> u64
     joined(joined(first, second, count), third, 2 * count)
 }
 
-// The positions at which a number can have a bit of the plane.
+// Returns the positions at which a number can have a bit of the plane.
 fn coded_positions(plan: &PlanePlan) -> u64
     ensures { Shows result (is_coded_at plan.now.weights.shifts plan.now.plane) 0 64 }
 {
@@ -93,7 +93,7 @@ fn coded_positions(plan: &PlanePlan) -> u64
 }
 
 impl CodedPlane {
-    /// The plane of a plan.
+    /// Returns the plane of a plan.
     pub fn new(plan: &PlanePlan) -> CodedPlane
         requires { plan.now.plane < 27 }
         ensures plane { result.plane ≡ plan.now.plane }

@@ -8,7 +8,7 @@ ghost use Rattle.block_masks.specs.SetMasks.{AreSets, AreQuads};
 
 use crate::mask_sets::{four, is_any, part, three};
 
-/// Some position of a part of a mask is told.
+/// Returns whether some position of a part of a mask is set.
 #[inline(always)]
 pub fn is_any_of(mask: u64, at: u8, count: u8) -> bool
     requires within { at + count ≤ 64 }
@@ -26,19 +26,19 @@ fn or(a: bool, b: bool) -> bool
     a || b
 }
 
-/// Which sets of a block have a member of some kind (docs/formats.md, "Bit planes").
+/// The sets of a block that have a member of some kind (docs/formats.md, "Bit planes").
 #[derive(Clone, Copy)]
 pub struct Sets {
     /// The set of all descendants.
     pub descendants: bool,
-    /// The families: bit i tells of family i.
+    /// The families: bit i is for family i.
     pub families: u64,
-    /// The sets of grandchildren: bit i tells of those of family i.
+    /// The sets of grandchildren: bit i is for those of family i.
     pub grandchildren: u64,
 }
 
 impl Sets {
-    /// The sets that have a member in a mask of all positions.
+    /// Returns the sets that have a member in a mask of all positions.
     #[inline(always)]
     pub fn of(mask: u64) -> Sets
         ensures { (f : ℕ → Bool) → Shows mask f 0 64 → AreSets f result }
@@ -58,8 +58,8 @@ impl Sets {
     }
 }
 
-/// The sets of four grandchildren in family i that have a member in a mask of all positions: bit j tells of those below
-/// child j.
+/// Returns the sets of four grandchildren in family i that have a member in a mask of all positions: bit j is for those
+/// below child j.
 #[inline(always)]
 pub fn quads_of(mask: u64, i: u8) -> u64
     requires { i < 3 }

@@ -1,4 +1,4 @@
-// Numbers of a block that get a bit: sixteen at a time by lanes, or one by one.
+// Numbers of a block that are given a bit: sixteen at a time by lanes, or one by one.
 
 ghost use Rattle.std.specs.Prelude.{◌≡◌, ◌+◌, ◌≤◌, ◌<◌, ◌^◌, ℕ, length, pos, negsuc, map, slice_index_or, FitsSigned, unsigned_abs, if◌then◌else◌};
 ghost use Rattle.std.specs.List.{range_with_len};
@@ -14,10 +14,10 @@ use std::simd::prelude::*;
 // The bits of a magnitude.
 const MAGNITUDE: u32 = (1 << 31) - 1;
 
-// Below so many numbers it is faster to set them one by one, unless all are among the first sixteen.
+// Below this number of numbers it is faster to set them one by one, unless all are among the first sixteen.
 const FEW: u32 = 8;
 
-// The lanes of sixteen positions: all bits of a lane are set where the mask tells the position, and else none.
+// Returns the lanes of sixteen positions: all bits of a lane are set if the mask has the position, and otherwise none.
 #[inline(always)]
 fn lanes_of(mask: u64) -> i32x16
     requires { mask < 2 ^ 16 }
@@ -30,7 +30,7 @@ fn lanes_of(mask: u64) -> i32x16
     tested.simd_eq(weights).to_simd()
 }
 
-// Sixteen numbers, where those that a mask tells get the bit, and the sign that another has for them.
+// Returns sixteen numbers after those of a mask are given the bit, and the sign that another mask has for them.
 #[inline(always)]
 fn with_bits(numbers: i32x16, plane: u8, bits: u64, minus: u64) -> i32x16
     requires long { length numbers ≡ 16 }
@@ -48,7 +48,7 @@ fn with_bits(numbers: i32x16, plane: u8, bits: u64, minus: u64) -> i32x16
     (sizes ^ sign) - sign
 }
 
-// Gives the numbers at sixteen positions the bit where a mask tells them.
+// Gives the numbers of a mask at sixteen positions the bit.
 #[inline(always)]
 fn set_part(block: &mut [i32], start: u8, plane: u8, bits: u64, minus: u64)
     requires whole { length block.old ≡ 64 }
@@ -66,7 +66,7 @@ fn set_part(block: &mut [i32], start: u8, plane: u8, bits: u64, minus: u64)
     }
 }
 
-// Gives the numbers that a mask tells the bit, sixteen after sixteen.
+// Gives the numbers of a mask the bit, sixteen after sixteen.
 #[inline(always)]
 fn set_parts(block: &mut [i32], plane: u8, bits: u64, minus: u64)
     requires whole { length block.old ≡ 64 }
@@ -79,7 +79,7 @@ fn set_parts(block: &mut [i32], plane: u8, bits: u64, minus: u64)
     set_part(block, 48, plane, bits, minus);
 }
 
-// The same where many numbers get it. A stage that refines tells no signs, and has less to do without them.
+// Gives many numbers the bit, by lanes. A stage that refines gives no signs, and has less to do without them.
 fn set_by_lanes(block: &mut [i32], plane: u8, bits: u64, minus: u64)
     requires whole { length block.old ≡ 64 }
     requires low { plane < 27 }
@@ -92,7 +92,7 @@ fn set_by_lanes(block: &mut [i32], plane: u8, bits: u64, minus: u64)
     }
 }
 
-// The number with the bit of weight 2^plane in its magnitude: negative if it was, or if this says so.
+// Returns the number with the bit of weight 2^plane in its magnitude: negative if it was, or if `is_negative`.
 #[inline(always)]
 fn set_bit(number: i32, plane: u8, is_negative: bool) -> i32
     requires { plane < 27 }
@@ -100,7 +100,7 @@ fn set_bit(number: i32, plane: u8, is_negative: bool) -> i32
 {
     let size = (number.unsigned_abs() | (1 << plane)) & MAGNITUDE;
     let number_size = size as i32;
-    // `|` and two plain values leave no branch: signs come at random, and half the guesses would be wrong.
+    // `|` and two plain values leave no branch: signs are random, and half the predictions would be wrong.
     if (number < 0) | is_negative {
         -number_size
     } else {
@@ -108,7 +108,7 @@ fn set_bit(number: i32, plane: u8, is_negative: bool) -> i32
     }
 }
 
-// The same where few numbers get it: one after the other.
+// Gives few numbers the bit, one after the other.
 #[inline]
 fn set_singly(block: &mut [i32], plane: u8, bits: u64, minus: u64)
     requires whole { length block.old ≡ 64 }
@@ -125,8 +125,8 @@ fn set_singly(block: &mut [i32], plane: u8, bits: u64, minus: u64)
 }
 
 /// Gives the numbers of a block at the positions of a mask the bit of weight 2^plane in their magnitude. They are negative
-/// where they were, or where `minus` has their bit. Other bits of `minus` are passed over. A number whose magnitude is 2^30
-/// or more is left open if it is at a position of the mask; the numbers of a segment are below 2^28.
+/// if they were, or if `minus` has their bit. Other bits of `minus` are ignored. The result for a number whose magnitude is
+/// 2^30 or more is not specified if it is at a position of the mask; the numbers of a segment are below 2^28.
 #[inline]
 pub fn set_bits(block: &mut [i32], plane: u8, bits: u64, minus: u64)
     requires whole { length block.old ≡ 64 }

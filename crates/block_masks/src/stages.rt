@@ -5,7 +5,7 @@ ghost use Rattle.plane_defs.specs.Entries.{stage_number};
 
 use plane_defs::Stage;
 
-/// A stage by its number, 0 to 4 (docs/formats.md, "Bit planes").
+/// Returns a stage by its number, 0 to 4 (docs/formats.md, "Bit planes").
 pub fn stage_at(number: u8) -> Stage
     requires { number < 5 }
     ensures { result ≡ stage_number number }

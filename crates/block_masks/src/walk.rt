@@ -4,7 +4,7 @@ ghost use Rattle.std.specs.Prelude.{◌≡◌, ◌<◌, ℕ, true, false};
 ghost use Rattle.item_defs.specs.Bits.{bit as bit_in};
 ghost use Rattle.block_masks.specs.Walk.{IsParted};
 
-/// The first position of a mask that has some.
+/// Returns the first position of a mask that is not empty.
 #[inline(always)]
 pub fn first_in(mask: u64) -> u8
     requires some { 0 < mask }
@@ -15,7 +15,7 @@ pub fn first_in(mask: u64) -> u8
     mask.trailing_zeros() as u8
 }
 
-/// The positions of a mask but this.
+/// Returns the positions of a mask except this one.
 #[inline(always)]
 pub fn without(mask: u64, position: u8) -> u64
     requires position { position < 64 }
@@ -26,7 +26,7 @@ pub fn without(mask: u64, position: u8) -> u64
     mask & !(1 << position)
 }
 
-/// A mask of some positions in two.
+/// A mask of some positions, split in two.
 #[derive(Clone, Copy)]
 pub struct Parted {
     /// Its first position.
@@ -35,13 +35,13 @@ pub struct Parted {
     pub others: u64,
 }
 
-/// The first position of a mask that has some, and the others.
+/// Returns the first position of a mask that is not empty, and the others.
 #[inline(always)]
 pub fn split_lowest(mask: u64) -> Parted
     requires some { 0 < mask }
     ensures { IsParted mask result.first result.others }
 {
-    // To take 1 from a mask clears its first position and sets those below.
+    // Subtracting 1 from a mask clears its first position and sets those below.
     let others = mask & (mask - 1);
     Parted {
         first: mask ^ others,

@@ -1,4 +1,4 @@
--- A reader for an APID reads what is picked by it as it reads the whole stream.
+-- A reader for an APID reads the packets that are picked by it as it reads the whole stream.
 use Rattle.std.proofs.Common.{◌≡◌, inl, inr, ℕ, List, [], ◌∷◌, refl, sym, ap, ◌∙◌}
 use Rattle.std.specs.Prelude.{Bool, true, false, cond, None}
 use Rattle.std.proofs.lemmas.Bool.{false≢true}
@@ -20,7 +20,7 @@ module _ (apid : ℕ) where
       by_test false e = refl
       by_test true e = absurd (false≢true (sym other ∙ mine_own apid packet (kept_tests apid s packet (is_kept_so (fate apid s packet) e)).mine))
 
-  -- so it leaves all as it was
+  -- so it changes nothing
   other_leaves : (s : FateState) (packet : List ℕ) → is_picked apid None packet ≡ false → after apid s packet ≡ s
   other_leaves s packet other = after_as_other apid s packet (other_lost s packet other)
 
@@ -34,7 +34,7 @@ module _ (apid : ℕ) where
       by_test rest true e = rest (after apid s packet)
       by_test rest false e = rest s ∙ ap (λ s. after_all apid s packets) (sym (other_leaves s packet e))
 
-  -- the same packets are kept of two lists if it is so of what follows a first packet
+  -- the same packets are kept of two lists if this holds for what follows a first packet
   kept_same : (s : FateState) (packet : List ℕ) (xs ys : List (List ℕ)) → kept apid (after apid s packet) xs ≡ kept apid (after apid s packet) ys → kept apid s (packet ∷ xs) ≡ kept apid s (packet ∷ ys)
   kept_same s packet xs ys same = elim (does apid s packet) [
     | inl lost ↦ lost.kept_are xs ∙ same ∙ sym (lost.kept_are ys)

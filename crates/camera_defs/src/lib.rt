@@ -1,4 +1,4 @@
-//! Definitions of packets that are picked from a stream by their APID and image.
+//! The definitions of packets that are picked from a stream by their APID and image.
 #![tactic(auto)]
 
 ghost use Rattle.camera_defs.specs.PickLaws.{PickingKeeps};

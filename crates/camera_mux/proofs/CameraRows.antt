@@ -35,7 +35,7 @@ row_holds s got v before after long begins = record { at = λ column lt. ap (λ 
 pub row_values : (s : Setting) (got : List ℕ) (row : List ℤ) → FirstInRange s.depth s.signed got s.width → HoldsRow s got row → IsRowInRange s row
 row_values s got row in_range holds = record { each = λ column lt. subst (IsPixel s.depth s.signed) (sym (holds.at column lt)) (in_range.each column lt) }
 
--- nothing but the row's numbers was changed
+-- only the row's numbers were changed
 pub record OnlyRow (old mid : Work) : Type 0 where
   pub strip : mid.strip ≡ old.strip
   pub blocks : mid.blocks ≡ old.blocks

@@ -26,7 +26,7 @@ use Rattle.camera_mux.specs.declared.mux.MuxFault.{MuxFault}
 use Rattle.camera_mux.specs.declared.mux.MuxFault.TheVariants.{ReadFault, WriteFault, Short, Long, BadCamera, BadPixel}
 use Rattle.camera_mux.specs.RowSteps.{HasRow, TakesCameraRow, CutsCameraRow, FailsInRow, GivesRow, CutsRow, FailsAtRow}
 
--- the rows of a setting, where it has them, are the height of its images
+-- the rows of a setting, if they are known, are the height of its images
 pub height_last : (s : Setting) (n : ℕ) → IsInRange s → s.rows ≢ 0 → n ≡ s.rows → IsHeight s n
 height_last s n range known e = subst (IsHeight s) (known_tallest s known ∙ sym e) (tall_height s range)
 

@@ -11,7 +11,7 @@ use Rattle.stream_defs.specs.Output.{image_blocks, packets_of, segment_packets, 
 use Rattle.stream_defs.specs.SettledImages.{front_packets}
 use Rattle.stream_defs.proofs.Outputs.{packets_of-more}
 
--- the packets of so many segments from one on
+-- the packets of `more` segments from one on
 abbrev pub packets_from : (told_last : Bool) → Setting → List (List ℤ) → (from more : ℕ) → List (List ℕ)
 packets_from told_last s all from more = flat_map (segment_packets told_last s all) (range_with_len from more)
 

@@ -50,7 +50,7 @@ asks_in settings records r i le lt =
       given = ap (λ xs. length (mux_out settings xs)) (sym here);
     }
 
--- earlier ones, where a record more follows
+-- a read call among earlier records, if one more follows
 asks_more : (settings : List Setting) (records : List CameraRow) (r : CameraRow) (i j : ℕ) → i ≤ length (octets_of records) → AsksMux settings records i j → AsksMux settings (records ++ r ∷ []) i j
 asks_more settings records r i j le x =
     let same : take x.n (records ++ r ∷ []) ≡ take x.n records = take_before records r x.n x.most in
@@ -75,7 +75,7 @@ module _ {settings : List Setting} {works : List Work} {start now : Outside} {v 
   here : AsksMux settings come.records (length (octets_of come.records)) (length (mux_out settings come.records))
   here = asks_at settings come.records (length (octets_of come.records)) (omega arith)
 
-  -- a camera has a row to come
+  -- a row of a camera is left
   pub is_missing : (EachIndex v.left (λ k. slice_index v.left k ≡ 0) → ⊥) → AreFull settings come.records → ⊥
   is_missing some full = some (λ k lt. elim (cases_lt k (length settings)) [
     | inl known ↦ let left = come.left k known in let all = full.each k known in omega (arith, left, all)
@@ -108,7 +108,7 @@ module _ {settings : List Setting} {works : List Work} {start now : Outside} {v 
   not_awaited camera (inl far) a = let known = a.known in omega (arith, far, known)
   not_awaited camera (inr none) a = let left = come.left camera a.known in let misses = a.misses in omega (arith, none, left, misses)
 
-  -- it is no camera that has a row to come
+  -- it is no camera that has rows left
   pub camera_refused : {new : Outside} (camera : ℕ) → (AreFull settings come.records → ⊥) → (length settings ≤ camera) ⊎ (slice_index v.left camera ≡ 0) → SawOctet now new (Some camera) →
       Muxes settings start new (Err (BadCamera v.records camera))
   camera_refused camera missing none x = record {

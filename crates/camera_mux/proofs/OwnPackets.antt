@@ -35,7 +35,7 @@ none_fits = record { image = omega arith; rows = omega arith; segment = omega ar
 abbrev header : (apid flags number n : ℕ) → List ℕ
 header apid flags number n = big_bytes 2 (identification apid) ++ big_bytes 2 (sequence_control flags number) ++ big_bytes 2 (n - 1)
 
--- whether it is a packet depends on its header and on how long it is
+-- whether it is a packet depends on its header and on its length
 same_length : (apid flags number : ℕ) (a b : List ℕ) → length a ≡ length b → IsPacket (packet_with apid flags number a) → IsPacket (packet_with apid flags number b)
 same_length apid flags number a b e p =
     let h = header apid flags number (length b) in

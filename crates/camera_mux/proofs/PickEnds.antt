@@ -43,7 +43,7 @@ long_so apid u fault e = e ∙ ap (λ (f : InFault). Some (Err f)) (long_read ap
 
 -- ---- the answers
 
--- whatever the answer at the end will be
+-- whatever the result at the end will be
 with_answer : (apid cap : ℕ) (v : Intake) (took : List ℕ) (passed : List (List ℕ)) (found : Option Framing) → HasRead apid cap (reading apid v passed None) took passed →
     HasRead apid cap (reading apid v passed found) took passed
 with_answer apid cap v took passed found read = record {

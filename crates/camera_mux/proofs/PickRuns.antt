@@ -53,7 +53,7 @@ picked_same apid image xs packet isnt =
 
 -- ---- read calls
 
--- at a read call of earlier octets nothing has changed, whatever is taken afterwards
+-- a read call at earlier octets is unchanged, whatever is taken afterwards
 asks_took : (apid : ℕ) (image : Option ℕ) (took t gave : List ℕ) (i j : ℕ) → i ≤ length took → AsksPicked apid image took gave i j → AsksPicked apid image (took ++ t) gave i j
 asks_took apid image took t gave i j le asks = (asks.0, asks.1 ∙ ap (λ zs. picked zs apid image) (sym (take-append-le i took t le)))
 
@@ -100,7 +100,7 @@ module _ {wish : DecodeWish} {image : Option ℕ} {start now new : Outside} {v u
       let given = joined (picked_of wish.apid image come.passed) in
       since_in (since_weaker come.since (λ i j le r. asks_took wish.apid image come.took x.took given i j le r)) x.since (λ i j le r. asks_now i j r)
 
-  -- where the end was seen, nothing is left
+  -- if the end was reached, nothing is left
   end_filled : SawEnd new (reading wish.apid (fed v x.took x.saw_end) come.passed None)
   end_filled rest told ended = by v.ended refl ended
     where
@@ -133,7 +133,7 @@ module _ {wish : DecodeWish} {image : Option ℕ} {start now new : Outside} {v u
 
 -- ---- the next packet
 
--- the reader is past the packet with which the octets that wait begin
+-- the reader is after the packet with which the octets that wait begin
 pub past_one : (apid cap : ℕ) (u : Intake) (took : List ℕ) (passed : List (List ℕ)) → HasRead apid cap (reading apid u passed None) took passed → begins_packet u.pending ≡ true →
     HasRead apid cap (reading apid (answered apid u) (passed ++ first_packet u.pending ∷ []) None) took (passed ++ first_packet u.pending ∷ [])
 past_one apid cap u took passed read whole =
@@ -205,7 +205,7 @@ none_picked wish image start v is = subst (λ v. HasPicked wish image start star
 
 -- ---- what is left
 
--- octets that may be passed still
+-- octets that can still be passed
 abbrev pub measure : Intake → ℕ
 measure v = (v.cap - v.taken) + length v.pending
 
@@ -242,7 +242,7 @@ few_filtered p (x ∷ packets) = by (few_filtered p packets) (p x)
     by rest true = omega (arith, rest)
     by rest false = omega (arith, rest)
 
--- no more than octets
+-- the picked packets are at most the octets of the wish in number
 pub few_picked : {wish : DecodeWish} {image : Option ℕ} {start now : Outside} {v : Intake} {packets : ℕ} → HasPicked wish image start now v packets → packets ≤ wish.octets
 few_picked {wish = wish} {image = image} {v = v} come =
     let some = few_filtered (is_picked wish.apid image) come.passed in

@@ -56,7 +56,7 @@ module _ (records : List CameraRow) (r : CameraRow) where
   pub octets_more : octets_of (records ++ r ∷ []) ≡ octets_of records ++ r.camera ∷ r.row
   octets_more = flat_map-append (λ (r : CameraRow). r.camera ∷ r.row) records (r ∷ []) ∙ ap (λ zs. octets_of records ++ zs) (append-nil (r.camera ∷ r.row))
 
-  -- its camera has a row more
+  -- its camera has one row more
   own : (camera : ℕ) → r.camera ≡ camera → records_of camera (records ++ r ∷ []) ≡ records_of camera records ++ r ∷ []
   own camera e =
       filter-append (λ (r : CameraRow). r.camera == camera) records (r ∷ [])
@@ -70,7 +70,7 @@ module _ (records : List CameraRow) (r : CameraRow) where
       ap (flat_map (λ (r : CameraRow). r.row)) (own camera e) ∙ flat_map-append (λ (r : CameraRow). r.row) (records_of camera records) (r ∷ [])
       ∙ ap (λ zs. raster_of camera records ++ zs) (append-nil r.row)
 
-  -- others have as many as before
+  -- the other cameras have the same records as before
   pub records_other : (camera : ℕ) → (r.camera ≡ camera → ⊥) → records_of camera (records ++ r ∷ []) ≡ records_of camera records
   records_other camera ne =
       filter-append (λ (r : CameraRow). r.camera == camera) records (r ∷ [])

@@ -12,7 +12,7 @@ use Rattle.camera_mux.specs.Records.{CameraRow, setting_at, octets_of, count_of,
 use Rattle.camera_mux.specs.MuxOut.{mux_out, sum_of, packets_in, octets_in}
 use Rattle.camera_mux.specs.MuxProgress.{AsksMux}
 
--- a camera that has a row to come
+-- a camera has rows left
 pub record IsAwaited (settings : List Setting) (records : List CameraRow) (camera : ℕ) : Type 0 where
   pub known : camera < length settings
   pub misses : count_of camera records < (setting_at settings camera).rows
@@ -43,7 +43,7 @@ pub record IsCutAt (settings : List Setting) (records : List CameraRow) (gave : 
   pub some : ℕ
   pub front : gave ≡ take some (mux_out settings records)
 
--- Why it was answered so, where these records were accepted and these octets were taken after them.
+-- Why the call ended so, if these records were accepted and these octets were taken after them.
 abbrev pub Answers : List Setting → (old new : Outside) → List CameraRow → (rest gave : List ℕ) → Result MuxDone MuxFault → Type 0
 Answers settings old new records rest gave (Ok done) =
     AreFull settings records × (rest ≡ []) × AtEnd new × (gave ≡ mux_out settings records)

@@ -66,12 +66,12 @@ pub record IsUnbegun (settings : List Setting) (v : Progress) : Type 0 where
   pub packets_done : v.done.packets ≡ 0
   pub octets_done : v.done.octets ≡ 0
 
--- an octet was read, or the end was there
+-- an octet was read, or the end was reached
 abbrev pub SawOctet : (old new : Outside) → Option ℕ → Type 0
 SawOctet old new None = Exchange old new [] [] [] AtStart × AtEnd new
 SawOctet old new (Some octet) = Exchange old new (octet ∷ []) [] [] AtStart
 
--- one record more of a camera, whose row has so many octets
+-- one record more of a camera, whose row has this number of octets
 abbrev pub with_record : Progress → (camera octets : ℕ) → MuxDone → Progress
 with_record v camera octets done = record {
   left = slice_set v.left camera (slice_index v.left camera - 1);

@@ -10,11 +10,11 @@ use Rattle.packet_assembly.specs.Assembling.{Assembling}
 use Rattle.packet_assembly.specs.Readings.{HasRead, SawEnd}
 use Rattle.camera_defs.specs.Picked.{picked_of, picked}
 
--- a read call with i octets taken and j given: what is given are the picked packets of those that are whole by then
+-- a read call with i octets taken and j given: what is given is the picked packets of those that are whole by then
 abbrev pub AsksPicked : (apid : ℕ) (image : Option ℕ) → (took gave : List ℕ) → ℕ → ℕ → Type 0
 AsksPicked apid image took gave i j = (j ≤ length gave) × (take j gave ≡ picked (take i took) apid image)
 
--- what an assembly for this APID would be after these packets, with a reader in this state and this answer at its end
+-- what an assembly for this APID would be after these packets, with a reader in this state and this result at its end
 abbrev pub reading : (apid : ℕ) → Intake → List (List ℕ) → Option Framing → Assembling
 reading apid v passed found = record {
   apid = apid;

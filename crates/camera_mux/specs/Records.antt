@@ -10,7 +10,7 @@ pub record CameraRow : Type 0 where
   pub camera : ℕ
   pub row : List ℕ
 
--- a setting of which nothing is asked
+-- a placeholder for a setting, on which there is no condition
 abbrev pub no_setting : Setting
 no_setting = record {
   width = 0;

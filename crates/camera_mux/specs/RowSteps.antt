@@ -1,4 +1,4 @@
--- What a step leaves that takes one row of a camera. This project's own.
+-- The effect of a step that takes one row of a camera. This project's own.
 use Rattle.std.specs.Prelude.{◌≡◌, ◌≢◌, ◌<◌, ◌≤◌, ◌+◌, ◌^◌, ℕ, ℤ, List, [], ◌++◌, length, take}
 use Rattle.port_122.specs.Outside.{Outside, Exchange, AtEnd, NoRead, Rose}
 use Rattle.base_122.specs.declared.setting.Setting.{Setting}
@@ -19,7 +19,7 @@ use Rattle.camera_mux.specs.declared.mux.MuxFault.{MuxFault}
 use Rattle.camera_mux.specs.declared.mux.MuxFault.TheVariants.{ReadFault, WriteFault, Short, Long, BadCamera, BadPixel}
 use Rattle.camera_mux.specs.declared.camera_rows.Place.{Place}
 
--- what a fault of a row is to the records
+-- the fault of a mux if a row has this fault
 abbrev pub fault_of : Place → RowFault → MuxFault
 fault_of place row_faults.ReadFault = ReadFault
 fault_of place (row_faults.Short octets) = Short (place.octets + octets)
@@ -48,7 +48,7 @@ pub record LacksOctets (s : Setting) (p q : Outside) (got : List ℕ) : Type 0 w
 
 -- ---- by reach
 
--- A row more was taken, and the packets of the segments were given that it settles by its reach.
+-- One more row was taken, and the packets of the segments were given that it settles by its reach.
 pub record TakesCameraRow (s : Setting) (k : ℕ) (p q : Outside) (old new : Work) : Type 0 where
   pub between : Outside
   pub got : List ℕ
@@ -60,7 +60,7 @@ pub record TakesCameraRow (s : Setting) (k : ℕ) (p q : Outside) (old new : Wor
   pub follows : (x : ℕ → ℕ → ℤ) → FollowsRows s x old → HasRow s x k got → FollowsRows s x new
   pub goes : (x : ℕ → ℕ → ℤ) → FollowsRows s x old → HasRow s x k got → Continues (plan_of s (tallest s)) (tall_blocks s x) old.at.index new.at.index between q
 
--- A write failed: a prefix of all these octets is out, of which some were out before.
+-- A write failed: a prefix of all these octets is written, of which some were written before.
 pub record IsCut (before all : List ℕ) (p q : Outside) : Type 0 where
   pub gave : List ℕ
   pub out : Exchange p q [] gave [] NoRead
@@ -91,7 +91,7 @@ pub record DoneAt (s : Setting) (x : ℕ → ℕ → ℤ) (rows : ℕ) (done : M
   pub last : rows ≡ s.rows → (done.packets ≡ length (image_packets (tells_last s) s x)) × (done.octets ≡ length (output s s.rows x))
   pub before : rows ≢ s.rows → (done.packets ≡ 0) × (done.octets ≡ 0)
 
--- A row more was taken after those of a raster, and the packets of the segments were given that it settles.
+-- One more row was taken after those of a raster, and the packets of the segments were given that it settles.
 pub record GivesRow (s : Setting) (k : ℕ) (raster : List ℕ) (p q : Outside) (new : Work) (done : MuxDone) : Type 0 where
   pub between : Outside
   pub got : List ℕ

@@ -1,4 +1,4 @@
-// One row of a camera.
+// Takes one row of a camera.
 ghost use Rattle.std.specs.Prelude.{◌≡◌, ◌≢◌, ◌<◌, ◌*◌, ◌^◌, List, ℕ, length, MatchResult};
 ghost use Rattle.base_122.specs.Ranges.{IsInRange};
 ghost use Rattle.strip_coder.specs.Plans.{plan_of, tallest};
@@ -19,8 +19,8 @@ pub(crate) struct Place {
     pub(crate) octets: u64,
 }
 
-// Takes a camera's next row, and writes the packets of the segments that it settles; after the last row these are all that are
-// left. It returns what was done for the image if it is complete, and else nothing.
+// Takes a camera's next row, and writes the packets of the segments that it settles; after the last row these are all that are left. It
+// returns what was done for the image if it is complete, and otherwise nothing.
 pub(crate) fn take_camera_row<X: Port>(
     port: &mut X,
     setting: &Setting,
@@ -81,7 +81,7 @@ fn take_row<X: Port>(
     Ok(())
 }
 
-// What a fault of a row is to the records.
+// Returns the fault of the mux if a row has this fault.
 fn fault_of(place: Place, fault: RowFault) -> MuxFault
     requires octets { place.octets < 2 ^ 63 }
     requires short { ShortOf fault }

@@ -1,4 +1,4 @@
-// Laws of what is given for several cameras.
+// The laws of what is given for several cameras.
 ghost use Rattle.camera_mux.specs.MuxLaws.{CamerasAreKept};
 
 /// Of all that is given for the records of several cameras, the packets of a camera's APID are exactly those that its rows settle, in

@@ -1,4 +1,5 @@
-//! The rows of several cameras onto one link, and one camera's packets, or those of one of its images, out of the packets of a stream.
+//! Puts the rows of several cameras onto one link, and picks one camera's packets, or those of one of its images, from the packets of a
+//! stream.
 #![tactic(auto)]
 
 mod camera_rows;

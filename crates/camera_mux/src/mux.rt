@@ -1,4 +1,4 @@
-// How a mux ends.
+// The results of a mux.
 use thiserror::Error;
 
 /// What was written for all cameras, at most 2^64 - 1 of each.
@@ -8,7 +8,7 @@ pub struct MuxDone {
     pub octets: u64,
 }
 
-/// Why the images of the cameras were not written, or not as a whole.
+/// The reason why the images of the cameras were not written, or only a part of them.
 #[derive(Clone, Copy, Debug, PartialEq, Eq, Error)]
 pub enum MuxFault {
     /// A read failed.
@@ -25,7 +25,7 @@ pub enum MuxFault {
     /// The input has more than the records.
     #[error("input long")]
     Long,
-    /// The record of this number, from 0, has a camera that there isn't, or that has all its rows.
+    /// The record of this number, from 0, has a camera that doesn't exist, or that has all its rows.
     #[error("bad camera {camera} at record {place}")]
     BadCamera {
         place: u64,

@@ -1,4 +1,4 @@
-// The rows of several cameras in, and all their packets out.
+// Takes the rows of several cameras, and writes all their packets.
 ghost use Rattle.std.specs.Prelude.{Err, ◌≡◌, ◌≢◌, ◌≤◌, ◌<◌, ◌+◌, ◌-◌, ◌*◌, ◌^◌, ◌↔◌, ℕ, List, length, min, sum, slice_index, slice_index_or, EachIndex, IsTrue, MatchResult};
 ghost use Rattle.port_122.specs.Outside.{Outside, ReadFailed};
 ghost use Rattle.base_122.specs.Ranges.{IsInRange};
@@ -21,7 +21,7 @@ use strip_coder::{Work, start_image};
 // The most cameras on a link.
 const CAMERAS: usize = 16;
 
-// How far a mux is: the rows that are left of each camera, the records and the octets that were taken, and what was done.
+// The progress of a mux: the rows that are left of each camera, the records and the octets that were taken, and what was done.
 #[derive(Clone, Copy)]
 struct Progress {
     left: [u32; CAMERAS],
@@ -39,7 +39,7 @@ struct Progress {
 /// # Errors
 ///
 /// - `Short`: the input ended before each camera had all its rows, and no camera and no whole pixel before is refused.
-/// - `BadCamera`: the first record with a camera that there isn't, or that has all its rows while another hasn't.
+/// - `BadCamera`: the first record with a camera that doesn't exist, or that has all its rows while another hasn't.
 /// - `BadPixel`: the first pixel out of range, before any such record; its row is the number of the camera's rows before it.
 /// - `Long`: an octet follows the records.
 /// - `ReadFault`, `WriteFault`: the port's count rose.
@@ -170,7 +170,7 @@ fn next_octet<X: Port>(port: &mut X) -> Result<Option<u8>, Failed>
     Ok(Some(octet[0]))
 }
 
-// The progress before the first record.
+// Returns the progress before the first record.
 fn begin(settings: &[Setting]) -> Progress
     requires { AreSettings settings.now }
     ensures { IsUnbegun settings.now result }

@@ -1,4 +1,4 @@
-// The packets of one APID, or of one image of it, picked from a stream.
+// Picks the packets of one APID, or of one image of it, from a stream.
 ghost use Rattle.std.specs.Prelude.{◌≡◌};
 ghost use Rattle.packet_defs.specs.Streams.{IsPacket};
 ghost use Rattle.camera_defs.specs.Picked.{is_picked};
@@ -13,12 +13,11 @@ use port_122::{Port, write_all};
 use space_packets::{PacketReader, skip_of};
 use std::alloc::Global;
 
-/// Reads the packets of a stream and writes those with the wish's APID, octet for octet, each before the next read call
-/// (docs/formats.md, "Packets"). If the number of an image is given, it writes only packets of an image with this APID whose ancillary
-/// data, of either mark, have that number. It reads to the end, or to what can't be read on, and at most the octets of the wish. After
-/// `Memory` nothing was read or written, after `WriteFault` a prefix of the picked packets is written, and else all picked packets of
-/// the octets that were taken. `ReadFault` and `WriteFault` are returned only if the port's count rose. The most pixels of the wish
-/// don't matter.
+/// Reads the packets of a stream and writes those with the wish's APID, octet for octet, each before the next read call (docs/formats.md,
+/// "Packets"). If the number of an image is given, it writes only packets of an image with this APID whose ancillary data, of either mark,
+/// have that number. It reads to the end, or to what can't be read on, and at most the octets of the wish. After `Memory` nothing was read
+/// or written, after `WriteFault` a prefix of the picked packets is written, and otherwise all picked packets of the octets that were
+/// taken. `ReadFault` and `WriteFault` are returned only if the port's count rose. The most pixels of the wish don't matter.
 pub fn pick_packets<X: Port>(
     alloc: Global,
     port: &mut X,
@@ -41,7 +40,7 @@ pub fn pick_packets<X: Port>(
     }
 }
 
-// What became of the next packet: it was written, or another one was passed, or there is none, and maybe the stream can't be read on.
+// The result for the next packet: it was written, or another one was passed, or there is none, and maybe the stream can't be read on.
 #[derive(Clone, Copy)]
 enum Step {
     Given,

@@ -1,4 +1,4 @@
--- Nothing is wrong with a table, or a book, exactly where it is sound.
+-- Nothing is wrong with a table, or a book, exactly if it is sound.
 use Rattle.std.proofs.Common.{◌≡◌, inl, inr, ◌≤◌, ◌<◌, ◌+◌, ◌-◌, ◌^◌, ℕ, zero, suc, List, [], ◌∷◌, refl, sym, ap, ◌∙◌, arith}
 use Rattle.std.specs.Prelude.{Bool, true, false, not, ◌==◌, if◌then◌else◌, is_some, slice_index_or, Option, Some, None}
 use Rattle.std.proofs.lemmas.Bool.{cases_lt, false≢true}
@@ -61,7 +61,7 @@ has_length_so c is = let some = is.some in let few = is.few in grind (arith, nat
 fits_so : (c : Code) → IsCode c → fits c ≡ true
 fits_so c is = let fit = is.fits in grind (arith, nat_tests)
 
--- what the tests say where none fails
+-- what the tests say if none fails
 pub record Passes (table : List Code) (count : ℕ) : Type 0 where
   pub codes_are : AreCodes table count
   pub apart : AreApart table count

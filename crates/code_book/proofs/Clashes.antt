@@ -1,4 +1,4 @@
--- Two codes of which one begins the other, found one after another.
+-- Two codes of which one is a prefix of the other, found one after another.
 use Rattle.std.proofs.Common.{◌≡◌, ◌≤◌, ◌<◌, ◌+◌, ◌-◌, ◌/◌, ◌^◌, ℕ, suc, Bool, true, false, List, [], ◌∷◌, length, refl, sym, ap, subst, ◌∙◌, arith}
 use Rattle.std.specs.Prelude.{◌==◌, ◌||◌, not, if◌then◌else◌, Option, Some, None}
 use Rattle.std.specs.List.{list_all}
@@ -31,7 +31,7 @@ module _ (t : ℕ) (codes : List Code) (count : ℕ) where
   pub clash_nowhere : (whole : Option BookFault) (i bound : ℕ) → whole ≡ clash_from t codes count i (bound - i) → bound ≤ i → whole ≡ None
   clash_nowhere whole i bound so_far le = let e : bound - i ≡ 0 = omega (arith, le) in so_far ∙ ap (clash_from t codes count i) e
 
--- ---- a code begins another one where its bits are the other's first ones: tested for all codes
+-- ---- a code is a prefix of another one if its bits are the other's first ones: tested for all codes
 
 abbrev same : Bool → Bool → Bool
 same b c = if b then c else not c
@@ -62,7 +62,7 @@ begins_so a b is_a is_b le =
     let row = list_all-span-zero (λ x. list_all (λ y. same (is_prefix (bits_of a.len x) (bits_of b.len y)) (y / 2 ^ (b.len - a.len) == x)) (span 0 (2 ^ b.len))) (2 ^ a.len) a.bits here is_a.fits in
     same_so _ _ (list_all-span-zero (λ y. same (is_prefix (bits_of a.len a.bits) (bits_of b.len y)) (y / 2 ^ (b.len - a.len) == a.bits)) (2 ^ b.len) b.bits row is_b.fits)
 
--- what begins another string is no longer
+-- a prefix of a string is not longer than the string
 no_longer : (xs ys : List Bool) → is_prefix xs ys ≡ true → length xs ≤ length ys
 no_longer [] ys e = omega arith
 no_longer (x ∷ xs) [] e = absurd (false≢true e)

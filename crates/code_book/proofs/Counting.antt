@@ -1,4 +1,4 @@
--- Codes free of prefixes are complete exactly where they leave no room: each string of 8 bits that begins with a code is counted once.
+-- Codes free of prefixes are complete exactly if they leave no room: each string of 8 bits that begins with a code is counted once.
 use Rattle.std.proofs.Common.{◌≡◌, inl, inr, ◌≤◌, ◌<◌, ◌+◌, ◌-◌, ◌^◌, ℕ, zero, suc, List, [], ◌∷◌, refl, sym, ap, ◌∙◌, arith, zero-add, add-one}
 use Rattle.std.specs.Prelude.{Bool, true, false, ◌==◌, ◌||◌, cond, count_by}
 use Rattle.std.specs.List.{list_all, sum_by}
@@ -38,7 +38,7 @@ sum_zero : (n : ℕ) → sum_by (λ k. 0) (span 0 n) ≡ 0
 sum_zero zero = sum_none (λ k. 0)
 sum_zero (suc n) = omega (arith, sum_suc (λ k. 0) n, sum_zero n)
 
--- where no more than one is counted in each of n places, as many as there are places only where one is counted in each
+-- if at most one is counted in each of n places, n are counted in all only if one is counted in each
 sum_most : (f : ℕ → ℕ) (n : ℕ) → ((k : ℕ) → k < n → f k ≤ 1) → sum_by f (span 0 n) ≤ n
 sum_most f zero few = omega (arith, sum_none f)
 sum_most f (suc n) few = let here = few n (omega arith) in omega (arith, sum_suc f n, sum_most f n (λ k lt. few k (omega (arith, lt))), here)
@@ -109,7 +109,7 @@ count_some p (suc n) k lt e = elim (cases_lt k n) [
 
 -- ---- strings that begin with a code
 
--- two strings that begin the same one: one begins the other
+-- of two prefixes of the same string one is a prefix of the other
 pub nested : (xs ys zs : List Bool) → is_prefix xs zs ≡ true → is_prefix ys zs ≡ true → (is_prefix xs ys || is_prefix ys xs) ≡ true
 nested [] ys zs f g = refl
 nested (x ∷ xs) [] zs f g = or_true (is_prefix (x ∷ xs) [])

@@ -1,4 +1,4 @@
--- A table whose codes are free of prefixes is sound exactly where they leave no room.
+-- A table whose codes are free of prefixes is sound exactly if they leave no room.
 use Rattle.std.proofs.Common.{◌≡◌, inl, inr, ◌≤◌, ◌<◌, ◌+◌, ◌-◌, ◌^◌, ℕ, zero, suc, List, [], ◌∷◌, refl, sym, ap, subst, ◌∙◌, arith}
 use Rattle.std.specs.Prelude.{Bool, true, false, ◌==◌, ◌&&◌, ◌||◌, cond, count_by, nat_le}
 use Rattle.std.specs.List.{list_all, sum_by}
@@ -23,7 +23,7 @@ equal m n e = grind (arith, nat_tests)
 least : (m n : ℕ) → m ≤ n → nat_le m n ≡ true
 least m n le = grind (arith, nat_tests)
 
--- what holds at each place holds of all
+-- a property of each place is one of all
 pub all_span : (p : ℕ → Bool) (n : ℕ) → ((k : ℕ) → k < n → p k ≡ true) → list_all p (span 0 n) ≡ true
 unfolding span
 all_span p zero each = refl
@@ -44,7 +44,7 @@ code_room c is =
     let here : leaves_room c.len ≡ true = subst (λ n. leaves_room n ≡ true) place at in
     equal_so _ (2 ^ (8 - c.len)) (list_all-span-zero (λ bits. count_by (λ v. is_prefix (bits_of c.len bits) (bits_of 8 v)) (span 0 256) == 2 ^ (8 - c.len)) (2 ^ c.len) c.bits here is.fits)
 
--- what is counted is somewhere
+-- if some are counted, there is one
 somewhere : (p : ℕ → Bool) (n : ℕ) → 1 ≤ count_by p (span 0 n) → (k : ℕ) × (k < n) × (p k ≡ true)
 unfolding span
 somewhere p zero some = absurd (omega (arith, some))
@@ -121,7 +121,7 @@ module _ (codes : List Code) (count : ℕ) where
       both : (a b : Bool) → a ≡ true → b ≡ true → (a && b) ≡ true
       both a b x y = rw (x, y) refl
 
-  -- and the other way
+  -- the same in the other direction
   apart_so : IsTableSound codes count → AreApart
   apart_so sound s r less lt = none _ _ (first (is_prefix (code_bits (entry codes s)) (code_bits (entry codes r))) refl) (second (is_prefix (code_bits (entry codes r)) (code_bits (entry codes s))) refl)
     where

@@ -1,4 +1,4 @@
--- Which books are sound. (Complete codes free of prefixes; their use after CCSDS 122.0-B-2, section 4.5.3.3. That a book may be handed in is
+-- Which books are sound. (Complete codes free of prefixes; their use after CCSDS 122.0-B-2, section 4.5.3.3. That a user may give a book is
 -- this project's own.)
 use Rattle.std.specs.Prelude.{◌≡◌, ◌<◌, ◌≤◌, ◌^◌, ◌==◌, ℕ, true, nat_lt, if◌then◌else◌, List}
 use Rattle.item_defs.specs.Bits.{bits_of}
@@ -7,7 +7,7 @@ use Rattle.base_122.specs.declared.book.Book.{Book}
 use Rattle.plane_defs.specs.Codes.{code_bits, entry, is_prefix}
 use Rattle.plane_defs.specs.Codes.{table as table_in}
 
--- symbols of each of the six tables
+-- the number of symbols of each of the six tables
 abbrev pub symbols_of : (i : ℕ) → ℕ
 symbols_of i = if i == 0 then 4 else if nat_lt i 3 then 8 else 16
 
@@ -17,11 +17,11 @@ pub record IsCode (c : Code) : Type 0 where
   pub few : c.len ≤ 8
   pub fits : c.bits < 2 ^ c.len
 
--- so is each of the first `count` ones
+-- each of the first `count` elements is a code
 pub record AreCodes (codes : List Code) (count : ℕ) : Type 0 where
   pub each : (s : ℕ) → s < count → IsCode (entry codes s)
 
--- None of the first `count` codes begins another, and each string of 8 bits begins with one of them.
+-- None of the first `count` codes is a prefix of another, and each string of 8 bits begins with one of them.
 pub record IsTableSound (table : List Code) (count : ℕ) : Type 0 where
   pub codes : AreCodes table count
   pub apart : (s r : ℕ) → s < count → r < count → is_prefix (code_bits (entry table s)) (code_bits (entry table r)) ≡ true → s ≡ r

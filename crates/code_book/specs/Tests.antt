@@ -17,11 +17,11 @@ has_length c = nat_le 1 c.len && nat_le c.len 8
 abbrev pub fits : Code → Bool
 fits c = nat_lt c.bits (2 ^ c.len)
 
--- one of two codes begins the other
+-- one of two codes is a prefix of the other
 abbrev pub clashes : Code → Code → Bool
 clashes a b = is_prefix (code_bits a) (code_bits b) || is_prefix (code_bits b) (code_bits a)
 
--- strings of 8 bits that begin with a code
+-- the number of strings of 8 bits that begin with a code
 abbrev pub room : Code → ℕ
 room c = 2 ^ (8 - c.len)
 
@@ -79,7 +79,7 @@ IsOfCodes (Short octets) = ⊥
 IsOfCodes BadMark = ⊥
 IsOfCodes fault = Unit {0}
 
--- the first table that isn't sound, of n from a start on
+-- the fault of the first table that is not sound, of n from a start on
 unfoldable pub fault_from : Book → (start n : ℕ) → Option BookFault
 fault_from book start zero = None
 fault_from book start (suc n) = or_else (table_fault start (table book start) (symbols_of start)) (fault_from book (start + 1) n)
@@ -88,6 +88,6 @@ abbrev pub refusal : Option BookFault → Result (Unit {0}) BookFault
 refusal None = Ok tt
 refusal (Some fault) = Err fault
 
--- what a check answers
+-- the result of a check
 abbrev pub book_check : Book → Result (Unit {0}) BookFault
 book_check book = refusal (fault_from book 0 6)

@@ -1,4 +1,4 @@
-// Whether a book is sound.
+// The check whether a book is sound.
 ghost use Rattle.std.specs.Prelude.{◌≡◌, ℕ, ◌<◌, ◌≤◌, ◌+◌, ◌*◌, ◌↔◌, Ok, IsTrue, IfErr, length};
 ghost use Rattle.plane_defs.specs.Codes.{entry, is_book_sound};
 ghost use Rattle.code_book.specs.Sound.{IsCode, AreCodes, IsSound, symbols_of};
@@ -7,12 +7,12 @@ ghost use Rattle.code_book.specs.Tests.{has_length, fits, clashes, bad_length, b
 use crate::fault::BookFault;
 use base_122::{Book, Code};
 
-// Symbols of each table.
+// The number of symbols of each table.
 const SYMBOLS: [u8; 6] = [4, 8, 8, 16, 16, 16];
 
 /// Returns `Ok` exactly if the book is sound, otherwise the first thing that is wrong with it: table by table a length outside 1 to 8,
-/// bits that don't fit their length, the least pair of codes of which one is a prefix of the other, or strings of 8 bits without a
-/// code as a prefix. It looks at no entry after a table's symbols.
+/// bits that do not fit their length, the least pair of codes of which one is a prefix of the other, or strings of 8 bits without a
+/// code as a prefix. Entries after a table's symbols are not tested.
 pub fn check_book(book: &Book) -> Result<(), BookFault>
     ensures first { result ≡ book_check book.now }
     ensures sound { (result ≡ Ok tt) ↔ IsSound book.now }
@@ -25,7 +25,7 @@ pub fn check_book(book: &Book) -> Result<(), BookFault>
     }
 }
 
-// The fault of the first table that has one.
+// Returns the fault of the first table that has one.
 fn first_fault(book: &Book) -> Option<BookFault>
     ensures { result ≡ fault_from book.now 0 6 }
 {
@@ -38,7 +38,7 @@ fn first_fault(book: &Book) -> Option<BookFault>
     None
 }
 
-// The first thing that is wrong with a table.
+// Returns the first thing that is wrong with a table.
 fn table_fault(table: u8, codes: &[Code], count: u8) -> Option<BookFault>
     requires some { 1 ≤ count }
     requires few { count ≤ 16 }
@@ -60,7 +60,7 @@ fn table_fault(table: u8, codes: &[Code], count: u8) -> Option<BookFault>
     None
 }
 
-// The first symbol whose code has no bits, or more than 8.
+// Returns the first symbol whose code has no bits, or more than 8.
 fn bad_length(codes: &[Code], count: u8) -> Option<u8>
     requires { count ≤ length codes.now }
     ensures { result ≡ bad_length codes.now count }
@@ -73,7 +73,7 @@ fn bad_length(codes: &[Code], count: u8) -> Option<u8>
     None
 }
 
-// The first symbol whose bits don't fit their length.
+// Returns the first symbol whose bits do not fit their length.
 fn bad_bits(codes: &[Code], count: u8) -> Option<u8>
     requires count { count ≤ length codes.now }
     requires lengths { (s : ℕ) → s < count → (entry codes.now s).len ≤ 8 }
@@ -87,14 +87,14 @@ fn bad_bits(codes: &[Code], count: u8) -> Option<u8>
     None
 }
 
-// The code has 1 to 8 bits.
+// Returns whether the code has 1 to 8 bits.
 fn has_length(code: Code) -> bool
     ensures { result ≡ has_length code }
 {
     1 <= code.len && code.len <= 8
 }
 
-// The bits fit their length.
+// Returns whether the bits fit their length.
 fn fits(code: Code) -> bool
     requires { code.len ≤ 8 }
     ensures { result ≡ fits code }
@@ -102,7 +102,7 @@ fn fits(code: Code) -> bool
     u16::from(code.bits) < 1 << code.len
 }
 
-// One of two codes begins the other. Their bits fit.
+// Returns whether one of two codes is a prefix of the other. Their bits fit.
 fn clashes(a: Code, b: Code) -> bool
     requires a { IsCode a }
     requires b { IsCode b }
@@ -114,7 +114,7 @@ fn clashes(a: Code, b: Code) -> bool
     a.bits >> (a.len - b.len) == b.bits
 }
 
-// The first later code that clashes with this one.
+// Returns the first later code that clashes with this one.
 fn clash_of(codes: &[Code], count: u8, first: u8) -> Option<u8>
     requires codes { AreCodes codes.now count }
     requires count { count ≤ length codes.now }
@@ -129,7 +129,7 @@ fn clash_of(codes: &[Code], count: u8, first: u8) -> Option<u8>
     None
 }
 
-// The least pair of codes of which one begins the other.
+// Returns the least pair of codes of which one is a prefix of the other.
 fn first_clash(table: u8, codes: &[Code], count: u8) -> Option<BookFault>
     requires codes { AreCodes codes.now count }
     requires count { count ≤ length codes.now }
@@ -147,7 +147,7 @@ fn first_clash(table: u8, codes: &[Code], count: u8) -> Option<BookFault>
     None
 }
 
-// Strings of 8 bits that begin with one of the codes, where none begins another.
+// Returns the number of strings of 8 bits that begin with one of the codes; no code is a prefix of another.
 fn room_of(codes: &[Code], count: u8) -> u32
     requires codes { AreCodes codes.now count }
     requires count { count ≤ length codes.now }

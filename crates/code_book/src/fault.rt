@@ -12,7 +12,7 @@ pub enum BookFault {
     BadMark,
     /// A code has no bits, or more than 8.
     BadLength { table: u8, symbol: u8 },
-    /// A code's bits don't fit its length.
+    /// A code's bits do not fit its length.
     BadBits { table: u8, symbol: u8 },
     /// One of two codes is a prefix of the other.
     Clash { table: u8, first: u8, second: u8 },

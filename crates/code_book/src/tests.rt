@@ -5,7 +5,7 @@ use crate::{Book, BookFault, Code, check_book};
 use std::test::Fail;
 use word_codes::profile_book;
 
-// The profile's book with another code in one place.
+// Returns the profile's book with another code in one place.
 fn with_code(table: usize, symbol: usize, code: Code) -> Book
     requires table { table < 6 }
     requires symbol { symbol < 16 }
@@ -87,7 +87,7 @@ fn a_length_is_named_before_a_clash(rt: HostRuntime) -> Result<(), Fail> {
             symbol: 3
         })
     );
-    // A fault of an earlier table is named before one of a later table.
+    // A fault of an earlier table is reported before one of a later table.
     book.codes[0][3] = Code { bits: 0, len: 3 };
     book.codes[1][0] = Code { bits: 0, len: 0 };
     let clash = BookFault::Clash {

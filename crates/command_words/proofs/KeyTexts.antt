@@ -1,4 +1,4 @@
--- A word has one key at most, and one text after it.
+-- A word has at most one key, and one text after it.
 use Rattle.std.proofs.Common.{◌≡◌, ◌≢◌, ◌<◌, ℕ, zero, suc, List, [], ◌∷◌, ◌++◌, length, get_or, refl, sym, ◌∙◌, ap, append_assoc, arith, true, false, lit<}
 use Rattle.std.specs.Prelude.{codes, Bool, not, cond, find, Option, Some, None, is_some, ◌==◌, MatchOption}
 use Rattle.std.specs.Borrow.{Bor}
@@ -46,7 +46,7 @@ found_passes p (other ∷ keys) key e = passes_here p key other (find p keys) (p
 pub text_of_named : (text : List ℕ) (key : Key) → key_named text ≡ Some key → key_text key ≡ text
 text_of_named text key e = (bytes_eq-Decides (key_text key) text).0 (found_passes (λ own. bytes_eq (key_text own) text) ALL key e)
 
--- what stands before and after the first equals sign of a word with a key
+-- the parts before and after the first equals sign of a word with a key
 pub keyed_parts : (word text : List ℕ) (key : Key) (r : Option (Bor (List ℕ) × Bor (List ℕ))) → IsSplitOnceResult 61 word r → IsKeyed word key text →
     MatchOption r ⊥ (λ x. (x.0.now ≡ key_text key) × (x.1.now ≡ text))
 keyed_parts word text key r split keyed =

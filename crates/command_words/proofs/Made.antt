@@ -1,4 +1,4 @@
--- What the values make is in range.
+-- The command that is made of the values is in range.
 use Rattle.std.proofs.Common.{◌≡◌, ◌≤◌, ◌+◌, ◌*◌, ℕ, List, [], ◌∷◌, refl, arith, ap, subst, true, false}
 use Rattle.std.specs.Prelude.{Option, Some, None, Result, Ok, IfOk, IfSome, Bool, not, unwrap_or, cond, find, nat_le, ◌==◌, ◌||◌}
 use Rattle.std.specs.Option.{option_map}
@@ -27,7 +27,7 @@ passed : (b : Bool) (key : Key) (field : Field) (rest : Option Key) → (row_of 
 passed true key field rest has e = (refl, e)
 passed false key field rest has e = absurd (cc)
 
--- fields that all pass have no first that doesn't
+-- if all fields pass, there is no first that doesn't
 AllPass : (Field → Bool) → List Field → Type 0
 AllPass p [] = Unit {0}
 AllPass p (field ∷ fields) = (p field ≡ true) × AllPass p fields
@@ -41,7 +41,7 @@ unfolding AllPass
 none_fails p [] all = refl
 none_fails p (field ∷ fields) all = skipped (p field) field (find (λ field. not (p field)) fields) all.0 (none_fails p fields all.1)
 
--- All that is made of values in range. The rows are those of an image, if the command doesn't leave them open.
+-- Everything that is made of values in range is in range. The rows are those of an image, if the command doesn't leave them open.
 record AllInRange (task : Task) (finds : Finds) : Type 0 where
   setting : IsSettingInRange (setting_of finds)
   rows : leaves_rows_open task finds ≡ false → IsWithin rows_range (setting_of finds).rows

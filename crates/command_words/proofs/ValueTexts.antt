@@ -31,7 +31,7 @@ digit n small = decimal_by_steps IsDigits one_digit more_digits n (omega arith)
 pub no_dot : (n : ℕ) → n < 2 ^ 32 → (i : ℕ) → i < length (decimal n) → get_or (decimal n) i 0 ≢ 46
 no_dot n small i below e = let both = digit n small i below in omega (arith, both.0)
 
--- what isn't `dc` nor two numbers with a dot between is no stop
+-- a text that is neither `dc` nor two numbers with a dot between is no stop
 pub not_stop : (text : List ℕ) → text ≢ codes "dc" → ((p s : ℕ) → p < 2 ^ 32 → s < 2 ^ 32 → text ≢ decimal p ++ (46 ∷ decimal s)) →
     (value : Value) → IsValueText Stop text value → ⊥
 not_stop text dc dot StopDc is = dc is.1

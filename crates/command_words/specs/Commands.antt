@@ -1,4 +1,4 @@
--- What the values make: a command, or the first thing that is wrong with them. This project's own.
+-- The command that is made of the values, or the first thing that is wrong with them. This project's own.
 use Rattle.std.specs.Prelude.{◌≡◌, ◌≤◌, ◌+◌, ◌*◌, ℕ, IfSome, ◌&&◌, ◌||◌, ◌==◌, nat_le, Bool, true, false, not, List, find, is_some, option_and_then, Option, Some, None, Result, Ok, Err}
 use Rattle.std.specs.List.{list_all}
 use Rattle.base_122.specs.Weights.{is_shift}
@@ -30,7 +30,7 @@ abbrev pub leaves_rows_open : Task → Finds → Bool
 leaves_rows_open to_encode finds = number_at finds Rows == 0
 leaves_rows_open task finds = false
 
--- there are 1 to 16 cameras, and their APIDs follow one another from the first one's
+-- there are 1 to 16 cameras, and their APIDs are consecutive from the first one's
 abbrev pub cameras_test : (apid cameras : ℕ) → Bool
 cameras_test apid cameras = (nat_le 1 cameras && nat_le cameras 16) && nat_le (apid + cameras) (apid_range.most + 1)
 
@@ -53,7 +53,7 @@ passes task finds key = range_test (row_of key).range task finds key
 abbrev pub is_missing : Finds → Key → Bool
 is_missing finds key = (row_of key).required && not (is_some (finds key))
 
--- the first of the command's keys that is required and isn't there
+-- the first of the command's keys that is required and missing
 abbrev pub first_missing : List Key → Finds → Option Key
 first_missing keys finds = find (is_missing finds) keys
 

@@ -26,7 +26,7 @@ pub record IsEntry (keys : List Key) (finds : Finds) (word : List ℕ) (entry : 
   pub fresh : finds entry.key ≡ None
   pub form : HasForm (form_of (row_of entry.key).default) entry.value
 
--- what the word at a place says after those before it: an entry, or none
+-- the meaning of the word at a place after those before it: an entry, or none
 abbrev pub WordSays : List Key → Finds → ℕ → List ℕ → Result Entry WordFault → Type 0
 WordSays keys finds place word (Ok entry) = IsEntry keys finds word entry
 WordSays keys finds place word (Err (BadWord faulty)) = (faulty ≡ place) × ((entry : Entry) → IsEntry keys finds word entry → ⊥)
@@ -34,7 +34,7 @@ WordSays keys finds place word (Err MissingCommand) = ⊥
 WordSays keys finds place word (Err (MissingKey field)) = ⊥
 WordSays keys finds place word (Err (OutOfRange field)) = ⊥
 
--- what the words from a place on say: the fault of the first that has one, or what was found at all keys
+-- the meaning of the words from a place on: the fault of the first that has one, or what was found at all keys
 abbrev pub EntriesSay : List Key → Finds → ℕ → List (List ℕ) → Result Finds WordFault → Type 0
 EntriesSay keys finds place [] said = said ≡ Ok finds
 EntriesSay keys finds place (word ∷ words) said =

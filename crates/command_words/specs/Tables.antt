@@ -98,7 +98,7 @@ setting_of finds = record {
   total = cap_of (value_at finds Total);
 }
 
--- what is asked of a decoder
+-- the wish for a decoder
 abbrev pub wish_of : Finds → DecodeWish
 wish_of finds = record { apid = number_at finds Apid; pixels = cap_of (value_at finds Pixels); octets = cap_of (value_at finds Octets) }
 

@@ -5,23 +5,25 @@ use raster_rows::MadeImage;
 /// What the words ask for.
 #[derive(Clone, Copy, Debug, PartialEq, Eq)]
 pub enum Command {
-    /// A raster in, its packets out.
+    /// `encode`: it takes a raster and gives its packets.
     Encode(Setting),
-    /// The rows of several cameras in, the packets of all out: the setting of the first camera, and the number of cameras. The APID
-    /// of a camera is that of the one before it, plus 1.
+    /// `mux`: it takes the rows of several cameras and gives the packets of all. It has the setting of the first camera, and the number
+    /// of cameras. The APID of a camera is that of the one before it, plus 1.
     Mux(Setting, u8),
-    /// Packets in, and what is made of them out.
+    /// A command that takes packets and gives what is made of them.
     Read(Reading, DecodeWish),
-    /// Packets in, a line for each image out: the APID of the images, or `None` for those of all, and the most octets that are read.
+    /// `info`: it takes packets and gives a line for each image. It has the APID of the images, or `None` for those of all APIDs, and the
+    /// most octets that are read.
     Info(Option<u16>, u64),
-    /// Packets in, those of one APID out; if there is the number of an image, those of that image alone. The wish has no cap on pixels.
+    /// `pick`: it takes packets and gives those of one APID; if there is the number of an image, those of that image alone. The wish has no
+    /// cap on pixels.
     Pick(DecodeWish, Option<u16>),
     /// A raster in, its bare stream out. The height is known before, and there is no total.
     BareEncode(Setting),
     /// A bare stream in, its picture out. The wish has no APID of its own.
     BareDecode(DecodeWish),
     Make(MadeImage),
-    /// A setting, and the seed of the made image.
+    /// `trial`: it has a setting, and the seed of the made image.
     Trial(Setting, u32),
 }
 

@@ -10,7 +10,7 @@ use raster_rows::MadeImage;
 // The most pixels of a trial.
 const TRIAL: u64 = 1 << 24;
 
-// The cameras on a link.
+// The number of cameras on a link.
 const CAMERAS: FieldRange = FieldRange { least: 1, most: 16 };
 
 /// The value that was found at each key.
@@ -28,7 +28,7 @@ impl Given {
     ghost use Rattle.command_words.specs.Commands.{passes, range_test, is_missing, is_small, leaves_rows_open, cameras_test, IsMadeInRange};
     ghost use Rattle.command_words.specs.Given.{finds_of};
 
-    /// No key yet.
+    /// Returns the table without any key.
     pub fn new() -> Given
         ensures { finds_of result ≡ nothing }
     {
@@ -37,14 +37,14 @@ impl Given {
         }
     }
 
-    /// Whether the key was found.
+    /// Returns whether the key was found.
     pub fn has(&self, key: Key) -> bool
         ensures { result ≡ is_some (finds_of self.now key) }
     {
         self.found[key.place()].is_some()
     }
 
-    /// Whether the key is required and wasn't found.
+    /// Returns whether the key is required and wasn't found.
     pub fn lacks(&self, key: Key) -> bool
         ensures { result ≡ is_missing (finds_of self.now) key }
     {
@@ -58,14 +58,14 @@ impl Given {
         self.found[entry.key.place()] = Some(entry.value);
     }
 
-    // The key's value, or its default.
+    // Returns the key's value, or its default.
     fn value(&self, key: Key) -> Value
         ensures { result ≡ value_at (finds_of self.now) key }
     {
         self.found[key.place()].unwrap_or(key.row().default)
     }
 
-    /// The number at a key.
+    /// Returns the number at a key.
     pub fn number(&self, key: Key) -> u32
         ensures { result ≡ number_at (finds_of self.now) key }
     {
@@ -75,7 +75,7 @@ impl Given {
         }
     }
 
-    /// The number at a key, if the words have it.
+    /// Returns the number at a key, if the words have it.
     pub fn given_number(&self, key: Key) -> Option<u32>
         ensures { result ≡ given_number (finds_of self.now) key }
     {
@@ -85,7 +85,7 @@ impl Given {
         }
     }
 
-    /// The cap at a key.
+    /// Returns the cap at a key.
     pub fn cap(&self, key: Key) -> u64
         ensures { result ≡ cap_of (value_at (finds_of self.now) key) }
     {
@@ -113,7 +113,7 @@ impl Given {
         }
     }
 
-    // The stop's plane and stage.
+    // Returns the stop's plane and stage.
     fn stop_place(&self, key: Key) -> (u32, u32)
         ensures plane { result.0 ≡ (stop_of (value_at (finds_of self.now) key)).plane }
         ensures stage { result.1 ≡ (stop_of (value_at (finds_of self.now) key)).stage }
@@ -149,7 +149,7 @@ impl Given {
         }
     }
 
-    // Whether an image is small enough for what is done with it: a trial has no more than 2^24 pixels.
+    // Returns whether an image is small enough for what is done with it: a trial has at most 2^24 pixels.
     fn is_small(&self, task: Task) -> bool
         ensures { result ≡ is_small task (finds_of self.now) }
     {
@@ -161,7 +161,7 @@ impl Given {
         }
     }
 
-    // Whether the rows are 0, and the command has an image whose height is reported last.
+    // Returns whether the rows are 0, and the command has an image whose height is reported last.
     fn leaves_rows_open(&self, task: Task) -> bool
         ensures { result ≡ leaves_rows_open task (finds_of self.now) }
     {
@@ -171,8 +171,8 @@ impl Given {
         }
     }
 
-    // Whether there is no bound on all texts together, or it is in its range for the number of segments, and there is no limit.
-    // If a segment has no blocks, the bound needn't be in its range, so that `segment` is named.
+    // Returns whether there is no bound on all texts together, or it is in its range for the number of segments, and there is no limit. If
+    // a segment has no blocks, the bound needn't be in its range, so that `segment` is named.
     fn keeps_total_range(&self) -> bool
         ensures { result ≡ total_test (setting_of (finds_of self.now)) }
     {
@@ -189,7 +189,7 @@ impl Given {
         segment == 0 || is_total_in_range(total, blocks.div_ceil(segment))
     }
 
-    // Whether there are 1 to 16 cameras, and the APID of the last one is in its range.
+    // Returns whether there are 1 to 16 cameras, and the APID of the last one is in its range.
     fn are_cameras_in_range(&self, key: Key) -> bool
         ensures { result ≡ cameras_test (number_at (finds_of self.now) Key.Apid) (number_at (finds_of self.now) key) }
     {
@@ -198,7 +198,7 @@ impl Given {
         CAMERAS.contains(cameras) && after <= FieldRange::APID.most + 1
     }
 
-    /// Whether the key's value, or its default, is in its range.
+    /// Returns whether the key's value, or its default, is in its range.
     pub fn is_in_range(&self, task: Task, key: Key) -> bool
         ensures { result ≡ passes task (finds_of self.now) key }
     {
@@ -224,7 +224,7 @@ impl Given {
         }
     }
 
-    /// The setting, whose numbers are all in range.
+    /// Returns the setting, whose numbers are all in range.
     pub fn setting(&self) -> Setting
         requires { IsInRange (setting_of (finds_of self.now)) }
         ensures { result ≡ setting_of (finds_of self.now) }
@@ -253,7 +253,7 @@ impl Given {
         }
     }
 
-    /// The wish, whose numbers are all in range.
+    /// Returns the wish, whose numbers are all in range.
     pub fn wish(&self) -> DecodeWish
         requires { IsWishInRange (wish_of (finds_of self.now)) }
         ensures { result ≡ wish_of (finds_of self.now) }
@@ -265,7 +265,7 @@ impl Given {
         }
     }
 
-    /// The made image, whose numbers are all in range.
+    /// Returns the made image, whose numbers are all in range.
     pub fn made_image(&self) -> MadeImage
         requires { IsMadeInRange (made_image_of (finds_of self.now)) }
         ensures { result ≡ made_image_of (finds_of self.now) }

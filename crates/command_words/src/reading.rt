@@ -1,4 +1,4 @@
-// The words as a whole.
+// Reads the words as a whole.
 ghost use Rattle.std.specs.Prelude.{◌≡◌, ◌<◌, ◌^◌, Result, IfOk, IfErr, IfSome, length};
 ghost use Rattle.command_words.specs.declared.command.Command.{Command};
 ghost use Rattle.command_words.specs.declared.command.WordFault.{WordFault};
@@ -13,14 +13,14 @@ use crate::given::Given;
 use crate::tables::{ALL, Key, Task, command_named};
 use base_122::Field;
 
-// The first of the command's keys that is required and isn't there.
+// Returns the first of the command's keys that is required and missing.
 fn first_missing(keys: &[Key], given: &Given) -> Option<Key>
     ensures { result ≡ first_missing keys.now (finds_of given.now) }
 {
     keys.iter().copied().find(|key| given.lacks(*key))
 }
 
-// The first key out of range.
+// Returns the first key out of range.
 fn first_refused(task: Task, given: &Given) -> Option<Key>
     ensures { result ≡ first_refused task (finds_of given.now) }
 {
@@ -29,14 +29,14 @@ fn first_refused(task: Task, given: &Given) -> Option<Key>
         .find(|key| !given.is_in_range(task, *key))
 }
 
-// The field that is named for a key.
+// Returns the field that is named for a key.
 fn field_of(key: Option<Key>) -> Option<Field>
     ensures { result ≡ field_of key }
 {
     key?.row().field
 }
 
-// The number at a key, if the words have it.
+// Returns the number at a key, if the words have it.
 fn given_number(given: &Given, key: Key) -> Option<u16>
     requires { IfSome (given_number (finds_of given.now) key) (λ number. number < 2 ^ 16) }
     ensures { result ≡ given_number (finds_of given.now) key }
@@ -47,7 +47,7 @@ fn given_number(given: &Given, key: Key) -> Option<u16>
     }
 }
 
-// The command of these values, which are all in range.
+// Returns the command of these values, which are all in range.
 fn command_of(task: Task, given: &Given) -> Command
     requires { IsInRange (command_of task (finds_of given.now)) }
     ensures { result ≡ command_of task (finds_of given.now) }
@@ -65,7 +65,7 @@ fn command_of(task: Task, given: &Given) -> Command
     }
 }
 
-// The command of these values, where they make one.
+// Returns the command of these values, or the first thing that is wrong with them.
 fn make_command(task: Task, keys: &[Key], given: &Given) -> Result<Command, WordFault>
     requires { LacksTotal task (finds_of given.now) }
     ensures { result ≡ made task keys.now (finds_of given.now) }
@@ -81,11 +81,11 @@ fn make_command(task: Task, keys: &[Key], given: &Given) -> Result<Command, Word
 
 /// Reads the words of the command line, without the program's own name (docs/DECISIONS.md, "Words").
 ///
-/// The first word is the command, and each further one `key=value`. A key that isn't there has its default. Where
-/// the words make no command the answer is the first thing that is wrong with them: the words are tested from left
-/// to right, then for a required key that is missing, then for the command's first field out of range in the order of
-/// `Field`. A command that is answered has its fields in range. The rows of `encode` are 0, for an image whose height is
-/// reported last, or 17 to 262,144 (docs/formats.md, "Bounds"); `rows=0` is out of range for all other commands.
+/// The first word is the command, and each further one `key=value`. A key that is missing has its default. If the words make no command,
+/// the result is the first thing that is wrong with them: the words are tested from left to right, then for a required key that is missing,
+/// then for the command's first field out of range in the order of `Field`. A command that is returned has its fields in range. The rows of
+/// `encode` are 0, for an image whose height is reported last, or 17 to 262,144 (docs/formats.md, "Bounds"); `rows=0` is out of range for
+/// all other commands.
 pub fn read_words(words: &[String]) -> Result<Command, WordFault>
     ensures says { Says (texts words.now) result }
     ensures only { (said : Result Command WordFault) → Says (texts words.now) said → said ≡ result }

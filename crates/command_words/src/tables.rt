@@ -5,7 +5,7 @@ ghost use Rattle.command_words.specs.Tables.{command_in, command_named};
 use crate::values::Value;
 use base_122::{Field, FieldRange, Select, Weights};
 
-/// What a command does.
+/// The task of a command.
 #[derive(Clone, Copy)]
 pub enum Task {
     Encode,
@@ -19,7 +19,7 @@ pub enum Task {
     Trial,
 }
 
-/// What is done with packets that are read.
+/// The use of packets that are read.
 #[derive(Clone, Copy, Debug, PartialEq, Eq)]
 pub enum Reading {
     /// The picture is given.
@@ -58,7 +58,7 @@ pub enum Key {
     Seed,
 }
 
-/// How the value of a key is written.
+/// The form in which the value of a key is written.
 #[derive(Clone, Copy)]
 pub enum Form {
     Number,
@@ -69,10 +69,10 @@ pub enum Form {
     Select,
 }
 
-/// Which values of a key are in range.
+/// The range of the values of a key.
 #[derive(Clone, Copy)]
 pub enum Range {
-    /// All that its form has.
+    /// All values of its form are in range.
     All,
     Number(FieldRange),
     Cap(FieldRange),
@@ -82,7 +82,7 @@ pub enum Range {
     Limit,
     /// A bound on all texts together: 0, or at least 36 octets for each segment, without a limit.
     Total,
-    /// Whether texts are filled up to their limits, so there must be a limit or a total.
+    /// Whether texts are filled up to their limits; if they are, there must be a limit or a total.
     Fill,
     Stop,
     Weights,
@@ -93,16 +93,16 @@ pub enum Range {
 /// A row of the table of keys.
 #[derive(Clone, Copy)]
 pub struct KeyRow {
-    /// The value where the words have none, which also says how a value of the key is written.
+    /// The value if the words have none, which also determines how a value of the key is written.
     pub default: Value,
-    /// A command that has the key can't do without it, so the default is only that of the other commands.
+    /// Whether a command that has the key needs it; the default is then only that of the other commands.
     pub required: bool,
-    /// The field that is named where the key is missing or out of range.
+    /// The field that is named if the key is missing or out of range.
     pub field: Option<Field>,
     pub range: Range,
 }
 
-/// How many keys there are.
+/// The number of keys.
 pub const COUNT: usize = 19;
 
 /// All keys in the order in which their ranges are tested, which is that of `Field`.
@@ -143,7 +143,7 @@ macro_rules! key_row {
     };
 }
 
-// The table of keys: of each its name and its row, in the order of `Key`.
+// The table of keys: for each its name and its row, in the order of `Key`.
 const KEYS: [(&str, KeyRow); COUNT] = [
     key_row! { "width": required Value::Number(17), Some(Field::Width), Range::Number(FieldRange::WIDTH) },
     key_row! { "rows": required Value::Number(17), Some(Field::Rows), Range::Rows(FieldRange::ROWS) },
@@ -171,7 +171,7 @@ macro_rules! key_group {
     ($title:literal: $($key:ident)+) => { ($title, &[$(Key::$key),+]) };
 }
 
-/// The groups of keys in the usage text, in the order in which they are listed there: of each its title and its keys.
+/// The groups of keys in the usage text, in the order in which they are listed there: for each its title and its keys.
 pub const GROUPS: [(&str, &[Key]); 4] = [
     key_group! { "what\n": Width Rows Depth Signed Seed },
     key_group! { "how much to keep\n": Limit Total Fill Stop Weights Select },
@@ -179,7 +179,7 @@ pub const GROUPS: [(&str, &[Key]); 4] = [
     key_group! { "reading\n": Pixels Octets },
 ];
 
-/// A command's name, what it does, its keys, and what a user is told of it.
+/// A command's name, what it does, its keys, and its line in the usage text.
 pub type CommandRow = (&'static str, Task, &'static [Key], &'static str);
 
 macro_rules! command_row {
@@ -216,7 +216,7 @@ pub const COMMANDS: [CommandRow; 13] = [
         Width Rows Depth Signed Segment Limit Fill Word Stop Weights Select Apid Image Packet Total Seed },
 ];
 
-/// What the command with this name does, and its keys.
+/// Returns what the command with this name does, and its keys.
 pub fn command_named(text: &str) -> Option<(Task, &'static [Key])>
     ensures { MatchOption result (command_named text.now ≡ None) (λ found. command_named text.now ≡ Some (found.0, found.1.now)) }
 {
@@ -239,35 +239,35 @@ fn command_in(mut table: &[CommandRow], text: &str) -> Option<(Task, &'static [K
 impl Key {
     ghost use Rattle.command_words.specs.Tables.{key_text, key_named, key_place, row_of, contains_key};
 
-    /// The name of the key.
+    /// Returns the name of the key.
     pub fn text(self) -> &'static str
         ensures { result.now ≡ key_text self }
     {
         KEYS[self.place()].0
     }
 
-    /// Its row in the table.
+    /// Returns its row in the table.
     pub fn row(self) -> KeyRow
         ensures { result ≡ row_of self }
     {
         KEYS[self.place()].1
     }
 
-    /// The key with this name.
+    /// Returns the key with this name.
     pub fn named(text: &str) -> Option<Key>
         ensures { result ≡ key_named text.now }
     {
         ALL.iter().copied().find(|key| key.text() == text)
     }
 
-    /// The place of the key in the table.
+    /// Returns the place of the key in the table.
     pub fn place(self) -> usize
         ensures { result ≡ key_place self }
     {
         self as usize
     }
 
-    /// Whether the key is among these.
+    /// Returns whether the key is among these.
     pub fn is_among(self, keys: &[Key]) -> bool
         ensures { result ≡ contains_key keys.now self }
     {

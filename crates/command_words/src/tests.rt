@@ -1,11 +1,11 @@
-// What words say, and which fault of theirs comes first.
+// Tests of the meaning of words, and of which fault of theirs is the first.
 use crate::tables::{ALL, GROUPS};
 use crate::{Command, Reading, WordFault, read_words};
 use base_122::{DecodeWish, Field, Select, Setting, Stop, Weights};
 use raster_rows::MadeImage;
 use std::test::Fail;
 
-// What the words of a text say, with a space between each two.
+// Returns the meaning of the words of a text, with a space between each two.
 fn said(rt: &HostRuntime, text: &str) -> Result<Result<Command, WordFault>, Fail> {
     let mut words = Vec::new(rt.alloc());
     for word in text.split(' ') {

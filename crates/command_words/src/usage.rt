@@ -1,4 +1,4 @@
-// The usage text's parts on commands and keys.
+// The parts of the usage text on commands and keys.
 use crate::tables::{COMMANDS, Form, GROUPS, Key, KeyRow, Range};
 use crate::values::Value;
 use base_122::{FieldRange, Select};
@@ -10,10 +10,10 @@ const COMMANDS_AT: usize = 45;
 
 const LINE_END: usize = 80;
 
-// The column at which it is told what a command does.
+// The column at which the text on a command begins.
 const ABOUT_AT: usize = 13;
 
-/// What a user is told of all commands: a line for each.
+/// Returns the usage text of all commands: a line for each.
 pub fn commands_usage(alloc: Global) -> Result<String, AllocError> {
     let mut text = String::new(alloc);
     for (name, _, _, about) in COMMANDS {
@@ -26,7 +26,7 @@ pub fn commands_usage(alloc: Global) -> Result<String, AllocError> {
     Ok(text)
 }
 
-/// What a user is told of all keys, by groups: of each key its range, its default and the commands that have it.
+/// Returns the usage text of all keys, by groups: for each key its range, its default and the commands that have it.
 pub fn keys_usage(alloc: Global) -> Result<String, AllocError> {
     let mut text = String::new(alloc);
     for (title, keys) in GROUPS {
@@ -51,7 +51,7 @@ fn push_key(text: &mut String, key: Key) -> Result<(), AllocError> {
     text.push_str("\n")
 }
 
-// The commands that have a key, in a column of their own. The key's line begins at `start`.
+// Appends the commands that have a key, in a column of their own. The key's line begins at `start`.
 fn push_commands(text: &mut String, key: Key, start: usize) -> Result<(), AllocError> {
     let mut start = start;
     push_spaces(text, start, COMMANDS_AT)?;
@@ -103,7 +103,7 @@ fn push_range(text: &mut String, row: KeyRow) -> Result<(), AllocError> {
     }
 }
 
-// All that a form has.
+// Appends all values that a form has.
 fn push_form(text: &mut String, form: Form) -> Result<(), AllocError> {
     match form {
         Form::Number => text.push_str("0..4294967295"),

@@ -22,7 +22,7 @@ pub enum Value {
 impl Value {
     ghost use Rattle.command_words.specs.Values.{form_of};
 
-    /// How it is written.
+    /// Returns the form in which it is written.
     pub fn form(self) -> Form
         ensures { result ≡ form_of self }
     {
@@ -40,14 +40,14 @@ impl Value {
 // The greatest cap.
 const MOST: u64 = 1 << 40;
 
-// Whether the text is that of the number.
+// Returns whether the text is that of the number.
 fn is_written_so(number: u64, text: &str) -> bool
     ensures { IsTrue result ↔ (text.now ≡ decimal number) }
 {
     Buffer::new().format(number) == text
 }
 
-// A number is 0 or digits without a leading zero.
+// Reads a number, which is 0 or digits without a leading zero.
 fn read_number(text: &str) -> Option<u32>
     ensures { MatchOption result ((n : ℕ) → n < 2 ^ 32 → text.now ≢ decimal n) (λ n. text.now ≡ decimal n) }
 {
@@ -61,7 +61,7 @@ fn read_number(text: &str) -> Option<u32>
     }
 }
 
-// A cap is written as a number, and is at most 2^40.
+// Reads a cap, which is written as a number, and is at most 2^40.
 fn read_cap(text: &str) -> Option<u64>
     ensures { MatchOption result ((n : ℕ) → n ≤ 2 ^ 40 → text.now ≢ decimal n) (λ n. (n ≤ 2 ^ 40) × (text.now ≡ decimal n)) }
 {
@@ -136,7 +136,7 @@ fn read_select(text: &str) -> Option<Value>
     }
 }
 
-/// The value that is written so, where there is one.
+/// Returns the value that is written as this text, if there is one.
 pub fn read_value(form: Form, text: &str) -> Option<Value>
     ensures { MatchOption result ((value : Value) → IsValueText form text.now value → ⊥) (IsValueText form text.now) }
 {

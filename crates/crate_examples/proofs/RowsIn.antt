@@ -1,4 +1,4 @@
--- Rows that go in, and packets that go out.
+-- Rows that are taken, and packets that are given.
 use Rattle.std.proofs.Common.{◌≡◌, ◌≢◌, ◌<◌, ◌≤◌, ◌+◌, ◌-◌, ◌*◌, min, ℕ, zero, suc, ℤ, pos, Bool, false, List, [], ◌++◌, length, take, drop, refl, sym, ap, subst, ◌∙◌, arith, inl, inr, append_assoc}
 use Rattle.std.specs.Prelude.{Result, Ok, Err, MatchResult, OnOk, Vec}
 use Rattle.std.specs.Vec.{with_items}
@@ -39,7 +39,7 @@ module _ {A : Type 0} (s : Setting) (eight : HasOctets s) (octets : List ℕ) (w
     each = λ k lt. rw (eight.0, eight.1) (subst (IsPixel 8 false) (sym (row_shows.at k lt)) (in_range.each k (omega (arith, lt, wide))));
   }
 
--- a row lies in its frame, and shows a row of the image
+-- a row is in its frame, and is a row of the image
 pub row_within : (row rows width : ℕ) (frame : List ℕ) → row < rows → length frame ≡ rows * width → row * width + width ≤ length frame
 row_within row rows width frame less long =
     let next : (row + 1) * width ≤ rows * width = mul-le-mul_right width (omega (arith, less)) in
@@ -63,7 +63,7 @@ some_rows rows row less none = omega (arith, less, none)
 
 -- ---- octets that go out
 
--- the packets of the first segments are a front of those of more
+-- the packets of the first segments are a prefix of those of more
 front_of : (last : Bool) (s : Setting) (all : List (List ℤ)) (n more : ℕ) → (rest : List ℕ) × (joined (packets_of last s all (n + more)) ≡ joined (packets_of last s all n) ++ rest)
 front_of last s all n zero =
     let e : n + 0 ≡ n = omega arith in
@@ -84,7 +84,7 @@ take_front some xs rest =
     (n, sym (take_min some xs) ∙ sym (take-append-le n xs rest (omega arith)))
 
 module _ (s : Setting) (rows : ℕ) (image : ℕ → ℕ → ℤ) where
-  -- a front of the packets of some segments is one of all packets
+  -- a prefix of the packets of some segments is one of all packets
   segments_front : (index some : ℕ) → index < segments_of (sized s rows) → (n : ℕ) × (take some (joined (front_packets s rows image (index + 1))) ≡ take n (output s rows image))
   segments_front index some inside =
       let all = image_blocks (sized s rows) image in
@@ -111,7 +111,7 @@ module _ (s : Setting) (rows : ℕ) (image : ℕ → ℕ → ℤ) where
 
 -- ---- no row yet
 
--- no segment is out
+-- no segment is written
 none_out : (s : Setting) (rows : ℕ) (w : Work) → IsInRange s → 17 ≤ rows → HasTaken (plan_of s rows) 0 w → w.at.index ≡ 0
 none_out s rows w range least_rows taken =
     let none = rw taken.strip_rows at taken.running.count in

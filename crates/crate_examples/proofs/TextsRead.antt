@@ -18,7 +18,7 @@ use Rattle.crate_examples.specs.Texts.{RefusedFor}
 pub rest_is : (text octets : List ℕ) (from place : ℕ) → octets ≡ take (length text - from) (drop from text) → from ≡ place → octets ≡ drop place text
 rest_is text octets from place is at = is ∙ take_rest text from ∙ ap (λ n. drop n text) at
 
--- at the end of a slice all its octets came
+-- at the end of a slice all its octets were read
 all_came : {octets left rest : List ℕ} → rest ≡ octets ++ left → left ≡ [] → octets ≡ rest
 all_came {octets = octets} came none = sym (append-nil octets) ∙ ap (λ l. octets ++ l) (sym none) ∙ sym came
 

@@ -13,7 +13,7 @@ use Rattle.crate_examples.specs.declared.texts.SegmentBlocks.{SegmentBlocks}
 use Rattle.crate_examples.specs.declared.texts.NotRead.{NotRead}
 use Rattle.crate_examples.specs.declared.texts.NotRead.TheVariants.{BadHead, BadText, NoMemory}
 
--- octets after a head are refused by this name; no other comes where they stand in memory
+-- octets after a head are refused by this name; there is no other name if they are in memory
 abbrev pub RefusedFor : SegmentHead → List ℕ → SegmentFault → Type 0
 RefusedFor head rest BadOption = Refused profile head rest (at_item bad_option)
 RefusedFor head rest BadDelta = Refused profile head rest (at_item bad_delta)

@@ -1,5 +1,5 @@
-//! An example for each of three ways to call the crates: rows in, a segment's text read, packets listed (docs/crates.md). No part
-//! of the program.
+//! An example for each of three ways to call the crates: rows are encoded, a segment's text is read, packets are listed (docs/crates.md).
+//! It is not part of the program.
 #![tactic(auto)]
 
 mod lists;

@@ -1,4 +1,4 @@
-// The packets of some octets, listed.
+// Lists the packets of some octets.
 ghost use Rattle.std.specs.Prelude.{◌≡◌, ◌≢◌, MatchResult};
 ghost use Rattle.packet_list.specs.Lines.{listing};
 ghost use Rattle.packet_list.specs.declared.list.ListFault.TheVariants.{LongInput};
@@ -8,8 +8,8 @@ use packet_list::{ListFault, list_packets};
 use port_122::MemoryPort;
 use std::alloc::Global;
 
-/// The lines of all packets that stand in these octets, up to what can't be read on. Each error is want of memory, of the list's
-/// or the port's own.
+/// Returns the lines of all packets in these octets, up to what can't be read on. Each error is that there is too little memory, for the
+/// list or for the port.
 pub fn list_octets(alloc: Global, octets: Vec<u8>, apid: u16) -> Result<Vec<u8>, ListFault>
     ensures { MatchResult result
         (λ lines. lines.items ≡ listing apid octets.items)

@@ -1,4 +1,4 @@
-// Rows that stand in memory, as packets.
+// Encodes rows that are in memory as packets.
 ghost use Rattle.std.specs.Prelude.{◌≡◌, ◌≢◌, ◌<◌, ◌≤◌, ◌+◌, ◌*◌, ℕ, ℤ, false, length, MatchResult, OnOk};
 ghost use Rattle.port_122.specs.Outside.{Outside};
 ghost use Rattle.base_122.specs.Ranges.{IsInRange};
@@ -13,7 +13,7 @@ use base_122::Setting;
 use port_122::{Failed, Port};
 use strip_coder::{EncodeDone, Work, image_end, row_in, start_image};
 
-// The octets become the first numbers of a row.
+// Puts the octets into the first numbers of a row.
 fn put_row(octets: &[u8], row: &mut [i32])
     requires fits { length octets.now ≤ length row.old }
     ensures row { Agrees (length octets.now) (signal row.new) (pixel_at 8 false octets.now) }
@@ -24,8 +24,8 @@ fn put_row(octets: &[u8], row: &mut [i32])
     }
 }
 
-/// Hands in the next row of an image, an octet a pixel, and gives the packets of the segments that it settles. Fewer rows were
-/// taken than the image has, whose height is known. After `Failed` a front of all packets is given, and only `start_image` may follow.
+/// Takes the next row of an image, one octet for each pixel, and gives the packets of the segments that it settles. Fewer rows were taken
+/// than the image has, whose height is known. After `Failed` a prefix of all packets is given, and only `start_image` may follow.
 pub fn hand_in<X: Port>(
     port: &mut X,
     setting: &Setting,
@@ -48,8 +48,8 @@ pub fn hand_in<X: Port>(
     row_in(port, setting, work)
 }
 
-/// Encodes an image that stands in memory, an octet a pixel and row after row. All of its packets are given, after `Failed` a
-/// front of them. The work was made for an equal setting, whose rows are known, and serves again after either answer.
+/// Encodes an image that is in memory, one octet for each pixel and row after row. All of its packets are given, and after `Failed` a
+/// prefix of them. The work was made for an equal setting, whose rows are known, and serves again after either result.
 pub fn encode_frame<X: Port>(
     port: &mut X,
     setting: &Setting,

@@ -1,4 +1,4 @@
-// The three examples on one picture, worked by hand from the rules.
+// The three examples on one picture, calculated by hand from the rules.
 ghost use Rattle.std.specs.Prelude.{◌≡◌, ◌≢◌, ◌*◌, length};
 ghost use Rattle.base_122.specs.Ranges.{IsInRange};
 ghost use Rattle.crate_examples.specs.Frames.{HasOctets};
@@ -22,7 +22,7 @@ pub(crate) const PACKET: [u8; 53] = [
     0, 0, 0, 0x06, 0x47, 0xf8,
 ];
 
-// How a camera of 8 bits has its pictures coded.
+// Returns the setting of a camera of 8 bits.
 fn camera(width: u32, rows: u32) -> Setting
     ensures octets { HasOctets result }
     ensures width { result.width ≡ width }
@@ -31,7 +31,7 @@ fn camera(width: u32, rows: u32) -> Setting
     Setting::usual(width, rows)
 }
 
-// Encodes a frame, and answers what was done.
+// Encodes a frame, and returns what was done.
 fn encode_to(
     alloc: Global,
     port: &mut MemoryPort,
@@ -49,7 +49,7 @@ fn encode_to(
     encode_frame(port, setting, &mut work, frame).ok()
 }
 
-// The packet of a frame that has one.
+// Returns the packet of a frame that has one.
 fn packet_of(
     rt: &(impl Abort + AllocGlobal),
     setting: &Setting,

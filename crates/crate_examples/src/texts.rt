@@ -1,4 +1,4 @@
-// A segment's text, read from octets.
+// Reads a segment's text from octets.
 ghost use Rattle.crate_examples.specs.Texts.{IsReadAs};
 
 use bit_pipe::{Part, SliceIn};
@@ -7,7 +7,7 @@ use segment_head::{HeadFault, SegmentHead, read_head};
 use std::alloc::Global;
 use word_codes::profile_book;
 
-/// What a segment's text holds: 64 numbers for each block, and whether all items stood in the text or the limit cut them.
+/// What a segment's text holds: 64 numbers for each block, and whether the text has all items or the limit cut them.
 #[derive(Drop)]
 pub struct SegmentBlocks {
     pub head: SegmentHead,
@@ -15,19 +15,19 @@ pub struct SegmentBlocks {
     pub numbers: Vec<i32>,
 }
 
-/// Why a text gives no blocks.
+/// The reason why a text gives no blocks.
 #[derive(Clone, Copy, Debug, PartialEq, Eq)]
 pub enum NotRead {
     /// The head is refused.
     BadHead(HeadFault),
     /// What follows it is refused.
     BadText(SegmentFault),
-    /// There is no memory for as many blocks as the head tells.
+    /// There is no memory for the number of blocks in the head.
     NoMemory,
 }
 
-/// Reads a segment's text, head and all. It takes 65 numbers of four octets for each block that the head tells. These may be
-/// 1,048,575 blocks, so who doesn't trust the octets looks at the head first.
+/// Reads a segment's text with its head. It takes 65 numbers of four octets for each block of the head. The head can have 1,048,575 blocks,
+/// so a caller that doesn't trust the octets reads the head first.
 pub fn read_text(alloc: Global, text: &[u8]) -> Result<SegmentBlocks, NotRead>
     ensures { IsReadAs text.now result }
 {

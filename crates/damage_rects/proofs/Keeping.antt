@@ -71,12 +71,12 @@ kept_same s p q n same kept refused = of_same p q s.ended.items s.open_from n sa
 
 -- ---- a block with numbers
 
--- no gap goes on to it
+-- no gap is open before it
 pub ends_none : (lost : ℕ → Bool) (ended : List Gap) (o : Option ℕ) (n : ℕ) → o ≡ None → lost n ≡ false → AreGapsOf lost ended o n → AreGaps lost 0 ended (n + 1)
 ends_none lost ended None n e here are = gaps_more lost 0 ended n here are
 ends_none lost ended (Some first) n e here are = absurd (let no : Some first ≡ None = e in cc)
 
--- one does
+-- a gap is open before it
 pub ends_one : (lost : ℕ → Bool) (ended : List Gap) (o : Option ℕ) (n first : ℕ) (gap : Gap) → o ≡ Some first → gap.first ≡ first → gap.last + 1 ≡ n → lost n ≡ false → AreGapsOf lost ended o n → AreGaps lost 0 (ended ++ gap ∷ []) (n + 1)
 ends_one lost ended None n first gap e low high here are = absurd (let no : None ≡ Some first = e in cc)
 ends_one lost ended (Some from) n first gap e low high here are =
@@ -109,7 +109,7 @@ lost_more lost ended (Some first) n here are = let below = are.1 in (
 
 -- ---- the sink
 
--- the same but for one block
+-- the same except for one block
 abbrev with_block : (ℕ → Bool) → (n : ℕ) → Bool → ℕ → Bool
 with_block lost n v block = if block == n then v else lost block
 

@@ -96,7 +96,7 @@ module _ (wish : DecodeWish) (old mid : Outside) (took gave : List ℕ) (walked 
         omega (arith, turned, passed_known known, ap (λ m. m * c) (rows_known known))
   ]
 
-  -- those after them reach no row that is given
+  -- those after them don't reach a row that is given
   unseen : (block : ℕ) → block_rows g n * c ≤ block → block < passed → height g n ≤ 8 * (block / c) - 21
   unseen block low high = elim x.range.rows [
     | inl none ↦
@@ -198,7 +198,7 @@ AllGaps walked gaps = (lost : ℕ → Bool) → HasKept walked.sink lost walked.
 abbrev pub lines_of : Walked Gaps → List Gap → List ℕ
 lines_of walked gaps = rect_lines (flat_map (gap_rects walked.done.written walked.done.geometry.width) gaps)
 
--- what was found is so after the lines
+-- what was found remains true after the lines
 found_later : {g : List ℕ} (wish : DecodeWish) (old mid new : Outside) (took gave : List ℕ) (walked : Walked Gaps) (gaps : List Gap) → IsWalked gap_sink wish old mid took gave walked → AllGaps walked gaps → Exchange mid new [] g [] NoRead → AreLines wish old new took (lines_of walked gaps) walked.done
 found_later wish old mid new took gave walked gaps found are out = record {
   found = record {
@@ -225,7 +225,7 @@ list_done wish old mid new walked gaps (Ok y) is x are out = record {
   answer = found_later wish old mid new x.took x.gave walked gaps x.answer are out;
 }
 
--- or some
+-- or some of them
 pub list_cut : {T E : Type 0} (wish : DecodeWish) (old mid new : Outside) (walked : Walked Gaps) (gaps : List Gap) (r : Result T E) → IsErr r → Walks gap_sink wish old mid (Ok walked) → AllGaps walked gaps → WritesAll r mid new (lines_of walked gaps) → ListsRects wish old new (Err WriteFault)
 list_cut wish old mid new walked gaps (Ok y) is x are out = absurd (false≢true is)
 list_cut wish old mid new walked gaps (Err e) is x are out =

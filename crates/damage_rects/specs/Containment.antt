@@ -1,4 +1,4 @@
--- Losses stay in rectangles: no pixel outside them depends on missing blocks. This project's own.
+-- Losses are contained in rectangles: no pixel outside them depends on missing blocks. This project's own.
 use Rattle.std.specs.Prelude.{◌≡◌, ◌≤◌, ℕ, ℤ, List, Some}
 use Rattle.port_122.specs.Outside.{Outside}
 use Rattle.base_122.specs.Ranges.{IsGeometryInRange}
@@ -37,8 +37,8 @@ pub record GivesAlikeInRects (s : Setting) (rows : ℕ) (x : ℕ → ℕ → ℤ
       (whole_picture (image_geometry s rows) whole)
 
 -- Whatever numbers the missing blocks have, no pixel outside the rectangles changes. So if some packets of an image are read, each pixel
--- outside them is that of the picture for all of them. So it is of a picture that a decoder gave whole; and if it took some packets of
--- an image, of which one begins a segment.
+-- outside them is that of the picture for all of them. The same holds for a picture that a decoder gave whole, and if it took some packets
+-- of an image, of which one begins a segment.
 pub record LossesStay : Type 0 where
   pub whatever : (g : Geometry) (received : Numbers) (numbers : ℕ → ℕ → ℤ) (n : ℕ) → IsGeometryInRange g → AreWith g received numbers n →
       SameOutsideRects (height g n) g.width (rects g received n) (picture_with g numbers n) (picture g received n)

@@ -1,4 +1,4 @@
--- What the gaps show of the blocks that were passed. This project's own.
+-- The meaning of the gaps, by the blocks that were passed. This project's own.
 use Rattle.std.specs.Prelude.{◌≡◌, ◌≤◌, ◌<◌, ℕ, Bool, not, true, false, List, [], Option, None, Some, is_some, refl}
 use Rattle.base_122.specs.Ranges.{IsGeometryInRange, IsWithin, rows_range}
 use Rattle.base_122.specs.declared.geometry.Geometry.{Geometry}

@@ -17,7 +17,7 @@ use Rattle.strip_decoder.specs.Finding.{AsksSilent}
 use Rattle.strip_decoder.specs.Runs.{Numbers, HasFewKnown, holds_after}
 use Rattle.strip_decoder.specs.Walks.{HasTooMany}
 
--- Of the octets that were taken all is as a decoder answers it, and these are the lines of the rectangles that the missing blocks reach.
+-- For the octets that were taken the answer is a decoder's, and these are the lines of the rectangles that the missing blocks reach.
 pub record AreLines (wish : DecodeWish) (start new : Outside) (took lines : List ℕ) (done : DecodeDone) : Type 0 where
   pub found : PictureBy false wish start new took [] done
   pub told : (all : List ℕ) → start.rest ≡ Some all → (received : Numbers) × ReceivedIn holds_after wish.apid took received
@@ -35,8 +35,8 @@ pub record IsPrefix (wish : DecodeWish) (start new : Outside) (took gave : List 
 abbrev pub GivesSome : DecodeWish → (start new : Outside) (took gave : List ℕ) → Type 0
 GivesSome wish start new took gave = (gave ≡ []) ⊎ IsPrefix wish start new took gave
 
--- Why it was answered so. The answers exclude each other by what was taken, the end and the counts, except for faults of the port and
--- want of memory.
+-- Why the call ended so. The answers exclude each other by what was taken, the end and the counts, except for faults of the port and too
+-- little memory.
 abbrev pub RectAnswers : DecodeWish → (old new : Outside) (took gave : List ℕ) → Result DecodeDone DecodeFault → Type 0
 RectAnswers wish old new took gave (Ok done) = AreLines wish old new took gave done
 RectAnswers wish old new took gave (Err NoSegment) = (geometry_in wish.apid took ≡ None) × IsReadOut wish.octets new took × (gave ≡ [])
@@ -46,8 +46,8 @@ RectAnswers wish old new took gave (Err ReadFault) = Rose old.read_faults new.re
 RectAnswers wish old new took gave (Err WriteFault) = Rose old.write_faults new.write_faults × HasFewKnown wish.pixels wish.apid took × GivesSome wish old new took gave
 RectAnswers wish old new took gave (Err Memory) = gave ≡ []
 
--- One run over a port: what it took and gave, when, and why it ended so. However it ends, it takes at most as many octets as are
--- wished. At each read call nothing is given.
+-- One run over a port: what it took and gave, when, and why it ended so. However it ends, it takes at most the number of octets in the
+-- wish. At each read call nothing is given.
 pub record ListsRects (wish : DecodeWish) (old new : Outside) (result : Result DecodeDone DecodeFault) : Type 0 where
   pub took : List ℕ
   pub gave : List ℕ

@@ -5,7 +5,7 @@ use Rattle.base_122.specs.Sizes.{block_count}
 use Rattle.rect_defs.specs.declared.gap.Gap.{Gap}
 use Rattle.damage_rects.specs.declared.lines.PictureSize.{PictureSize}
 
--- no more rows than the tallest image has, and a width in range
+-- at most the rows of the tallest image, and a width in range
 pub record IsSize (size : PictureSize) : Type 0 where
   pub rows : size.rows ≤ rows_range.most
   pub width : IsWithin width_range size.width

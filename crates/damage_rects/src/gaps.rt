@@ -19,9 +19,9 @@ pub struct Gaps {
     pub ended: Vec<Gap>,
     /// The first block of the gap that the last block is in.
     pub open_from: Option<u64>,
-    /// The blocks that were passed.
+    /// The number of blocks that were passed.
     pub passed: u64,
-    /// Memory was refused.
+    /// Whether memory was refused.
     pub refused: bool,
 }
 
@@ -77,7 +77,7 @@ fn end_gap(gaps: &mut Gaps)
     }
 }
 
-/// Returns the gaps of all blocks that were passed; none if memory was refused.
+/// Returns the gaps of all blocks that were passed, or none if memory was refused.
 pub fn into_gaps(mut sink: Gaps) -> Option<Vec<Gap>>
     requires { HasOpen sink }
     ensures { MatchOption result (Unit {0}) (λ gaps. (lost : ℕ → Bool) → HasKept sink lost sink.passed → AreGaps (lost_below sink.passed lost) 0 gaps.items (sink.passed + 1)) }

@@ -13,14 +13,14 @@ use itoa::Buffer;
 use port_122::{Failed, Port, write_all};
 use rect_defs::{Gap, Rect};
 
-/// The rows and columns of a picture.
+/// The numbers of rows and columns of a picture.
 #[derive(Clone, Copy, Debug, PartialEq, Eq)]
 pub struct PictureSize {
     pub rows: u32,
     pub width: u32,
 }
 
-// The blocks of a block row.
+// Returns the number of blocks of a block row.
 fn columns_of(size: &PictureSize) -> u64
     requires { IsSize size.now }
     ensures { result ≡ block_count size.now.width }
@@ -72,7 +72,7 @@ fn give_part<X: Port>(
     }
 }
 
-// That rectangle.
+// Returns that rectangle.
 fn rect_of(size: &PictureSize, gap: &Gap, block_row: u64) -> Option<Rect>
     requires size { IsSize size.now }
     requires within { IsWithinImage size.now.width gap.now }
@@ -103,7 +103,7 @@ fn give_line<X: Port>(port: &mut X, rect: Rect) -> Result<(), Failed>
     write_all(port, line_of(rect).as_bytes())
 }
 
-// Four numbers, what is between them, and the end of the line.
+// The characters of four numbers, of what is between them, and of the end of the line.
 type Line = ArrayString<48>;
 
 fn line_of(rect: Rect) -> Line

@@ -1,4 +1,4 @@
-// Packets in, the rectangles that losses damage out.
+// Lists the rectangles that losses damage, from packets.
 ghost use Rattle.damage_rects.specs.Listing.{ListsRects};
 
 use crate::gaps::{Gaps, into_gaps};
@@ -8,14 +8,14 @@ use port_122::Port;
 use std::alloc::Global;
 use strip_decoder::{DecodeDone, DecodeFault, walk_segments};
 
-/// Takes the packets of an APID as `decode_packets` does, and answers as it does, but gives no row: after all is read it gives a line
+/// Takes the packets of an APID as `decode_packets` does and returns what it returns, but gives no row: after all is read it gives a line
 /// `27-77 0-63` for each rectangle that missing blocks reach, rows first, then columns (docs/formats.md, "Picture and damage").
 ///
 /// # Errors
 ///
-/// After `WriteFault` a prefix of the lines is given, and nothing after the other faults. Memory for the gaps is asked for while packets
-/// are read; if it is refused `Memory` is returned, unless another fault ends the reading. `ReadFault` and `WriteFault` occur only if
-/// the port's count rose.
+/// After `WriteFault` a prefix of the lines is given, and nothing after the other faults. Memory for the gaps is taken while packets are
+/// read; if it is refused `Memory` is returned, unless another fault ends the reading. `ReadFault` and `WriteFault` occur only if the
+/// port's count rose.
 pub fn list_rects<X: Port>(
     alloc: Global,
     port: &mut X,

@@ -28,7 +28,7 @@ damaged_by rows missing row r within listed low high =
     let reached : reaches r row ≡ true = grind (arith, nat_tests) in
     rw t (any_listed (λ k. reaches k row) missing r listed reached)
 
--- and nothing else is, where no block row that is missing is past the table's
+-- and nothing else is, if all missing block rows are in the table
 pub undamaged_by : (rows : ℕ) (missing : List ℕ) (row : ℕ) → ((r : ℕ) → is_missing missing r ≡ true → r < 32768) →
     ((r : ℕ) → r < 32768 → 8 * r ≤ row + 21 → row ≤ 8 * r + 29 → is_missing missing r ≡ false) → is_damaged rows missing row ≡ false
 undamaged_by rows missing row low none = both (nat_lt row rows) _ (none_listed (λ r. reaches r row) missing (λ r listed. at r listed (reaches r row) refl))

@@ -59,7 +59,7 @@ covered_there [] rest r le = let e : (nat_le r.first r.last && nat_le r.last r.l
     both a b le = grind (arith, nat_tests)
 covered_there (x ∷ before) rest r le = or_right (nat_le x.first r.last && nat_le r.last x.last) (is_covered (before ++ r ∷ rest) r.last) (covered_there before rest r le)
 
--- a range stands next, and others after it
+-- a range is the next one, and others follow it
 pub record StandsNext (m : Marks) (from : ℕ) (after : List RowRange) (range : RowRange) : Type 0 where
   pub rest : List RowRange
   pub after_is : after ≡ range ∷ rest
@@ -91,7 +91,7 @@ stands_next m from w range found = by w.after w.parts w.apart (found ∙ next_is
           apart = apart.2;
         }
 
--- past the next range
+-- after the next range
 abbrev pub walk_on : (m : Marks) (from : ℕ) (w : Walk m from) (range : RowRange) → StandsNext m from w.after range → Walk m (range.last + 1)
 walk_on m from w range next = record {
   before = w.before ++ range ∷ [];

@@ -106,7 +106,7 @@ pub most_is : most_block_rows ≡ 32768
 unfolding most_block_rows
 most_is = refl
 
--- a block row is listed where its bit is set
+-- a block row is listed if its bit is set
 listed_by : (words : List ℕ) (r : ℕ) → r < 32768 → (b : Bool) → is_set words r ≡ b → is_missing (set_rows words) r ≡ b
 unfolding set_rows
 listed_by words r low true e =

@@ -20,6 +20,6 @@ set_rows words = filter (is_set words) (range_with_len 0 most_block_rows)
 abbrev pub marks_of : Inside → Marks
 marks_of d = record { rows = d.rows; missing = set_rows d.words }
 
--- no image is higher
+-- the image has at most the rows of the highest image
 pub record IsTable (d : Inside) : Type 0 where
   pub rows : d.rows ≤ 262144

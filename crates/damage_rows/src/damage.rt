@@ -5,10 +5,10 @@ ghost use Rattle.base_122.specs.Sizes.{block_count};
 use std::marker::Model;
 use stream_defs::RowRange;
 
-// Words of the table, which has a bit for each block row of the highest image.
+// The number of words of the table, which has a bit for each block row of the highest image.
 const WORDS: usize = 512;
 
-// Block rows of the highest image.
+// The number of block rows of the highest image.
 const BLOCK_ROWS: u32 = 32_768;
 
 /// The missing block rows of an image, and the ranges of rows that they damage (docs/formats.md, "Picture and damage").
@@ -57,8 +57,8 @@ impl Damage {
         self.words[(block_row / 64) as usize] |= 1 << (block_row % 64);
     }
 
-    /// Sets the number of rows of the image, at most 262,144: from now on each range ends at its last row at the latest, and an
-    /// image of no rows has no range. The missing block rows stay.
+    /// Sets the number of rows of the image, at most 262,144: from now on each range ends at its last row at the latest, and an image of no
+    /// rows has no range. The missing block rows are unchanged.
     pub fn end_at(&mut self, rows: u32)
         requires { rows ≤ 262144 }
         ensures { self.new ≡ ended_at self.old rows }
@@ -82,14 +82,14 @@ impl Damage {
         None
     }
 
-    // The row is damaged, and the row before it isn't.
+    // Returns whether the row is damaged, and the row before it isn't.
     fn begins_range(&self, row: u32) -> bool
         ensures { result ≡ begins_range self.now.rows self.now.missing row }
     {
         self.is_damaged(row) && (row == 0 || !self.is_damaged(row - 1))
     }
 
-    // The last of the damaged rows that follow one another from this one on.
+    // Returns the last of the consecutive damaged rows from this one on.
     fn last_of_range(&self, first: u32) -> u32
         requires { is_damaged self.now.rows self.now.missing first ≡ true }
         ensures { result ≡ first + run_length self.now.rows self.now.missing first - 1 }
@@ -102,7 +102,7 @@ impl Damage {
         self.rows - 1
     }
 
-    // A missing block row reaches the row.
+    // Returns whether a missing block row reaches the row.
     fn is_damaged(&self, row: u32) -> bool
         ensures { result ≡ is_damaged self.now.rows self.now.missing row }
     {
@@ -119,7 +119,7 @@ impl Damage {
         false
     }
 
-    // The block row is missing.
+    // Returns whether the block row is missing.
     fn is_missing(&self, block_row: u32) -> bool
         requires { block_row < 32768 }
         ensures { result ≡ is_missing self.now.missing block_row }

@@ -1,4 +1,4 @@
-// Ranges worked out by hand.
+// Ranges calculated by hand.
 use crate::{Damage, RowRange};
 use std::test::Fail;
 

@@ -20,7 +20,7 @@ below_zero m h low lt =
 from_zero : (m h low : ℕ) → (pos h *ℤ pos m) +ℤ pos low ≡ pos (h * m + low)
 from_zero m h low = ap (λ x. x +ℤ pos low) (pos-*ℤ-pos h m) ∙ refl
 
--- the number is what stands above the low bits
+-- the number is what is above the low bits
 pub number_stays : (q : ℕ) (z : ℤ) (low : ℕ) → low < 2 ^ q → int_shr (dc_with q z low) q ≡ z
 number_stays q (pos h) low lt = ap (λ x. int_shr x q) (from_zero (2 ^ q) h low) ∙ ap pos (div-mul-add h (2 ^ q) low lt)
 number_stays q (negsuc h) low lt = ap (λ x. int_shr x q) (below_zero (2 ^ q) h low lt) ∙ ap negsuc (div-mul-add h (2 ^ q) (2 ^ q - 1 - low) (omega (arith, lt)))
@@ -76,7 +76,7 @@ low_bit q b z low lt small = by_sign z
 
 -- ---- a bit more
 
--- where no bit stands from `plane` on, bits above it stay
+-- bits above `plane` stay if the number has no bit from `plane` on
 pub bit_added : (low plane bit b : ℕ) → bit < 2 → low % 2 ^ (plane + 1) ≡ 0 → b ≡ plane → (low + bit * 2 ^ plane) / 2 ^ b % 2 ≡ bit
 bit_added low plane bit b small none e =
     let p = 2 ^ plane in

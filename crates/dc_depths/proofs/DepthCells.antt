@@ -8,7 +8,7 @@ use Rattle.number_defs.specs.Ranges.{shifted_height}
 use Rattle.number_defs.specs.Cells.{cell_at, strided, AreInRange}
 use Rattle.dc_depths.specs.Marks.{depths_of, AreDepths}
 
--- a list is what its places say
+-- a list is determined by its values at its places
 by_places : (f : ℕ → ℤ) (a : ℕ) (xs : List ℤ) → ((k : ℕ) → k < length xs → get_or xs k (pos 0) ≡ f (a + k)) → map f (range_with_len a (length xs)) ≡ xs
 by_places f a [] h = refl
 by_places f a (x ∷ xs) h =
@@ -35,7 +35,7 @@ same_heights : (N : ℕ) (xs : List ℤ) → map (shifted_height false N 0) xs �
 same_heights N [] = refl
 same_heights N (x ∷ xs) = ap (λ h. h ∷ map (shifted_height false N 0) xs) (same_height N x) ∙ ap (λ hs. nat_abs x ∷ hs) (same_heights N xs)
 
--- what a writer of numbers takes from marks
+-- the heights that a writer of numbers reads from the states of blocks
 pub heights_are : (N : ℕ) (marks : List ℤ) → map (shifted_height false N 0) (strided 1 marks) ≡ depths_of marks
 heights_are N marks = ap (map (shifted_height false N 0)) (every_cell marks) ∙ same_heights N marks
 

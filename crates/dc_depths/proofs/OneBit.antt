@@ -43,7 +43,7 @@ depth_bit (pos a) low high =
     ap (λ k. eqb k 1 ∷ []) (sym same) ∙ sym (one_bit a)
 depth_bit (negsuc a) low high = absurd (omega (arith, ints, low))
 
--- the same, of one of the DCs in blocks
+-- the same for one of the DCs in blocks
 pub block_bit : (blocks : List ℤ) (block plane : ℕ) → block < div_ceil (length blocks) 64 → SFits w32 (cell_at 64 blocks block) →
     eqb (bit_and (of_z w32 (int_shr (to_z w32 (of_z w32 (cell_at 64 blocks block))) plane)) 1) 1 ∷ [] ≡ bits_of 1 (complement 1 (int_shr (get_or (strided 64 blocks) block (pos 0)) plane))
 block_bit blocks block plane lt fits =

@@ -63,7 +63,7 @@ later_items n d c (stopped (ended m)) h = refl
 later_items n d c (stopped (refused m s name)) h = refl
 later_items n d c (failed m e) h = refl
 
--- a bit that isn't given lies below the last plane, or after what was read
+-- a bit that is not given is below the last plane, or after what was read
 not_given : (n planes high rest m count r : ℕ) → (nat_lt n planes && nat_le (high + n * count + r + 1) m) ≡ false → m ≡ high + rest → (planes ≤ n) ⊎ (rest ≤ n * count + r)
 not_given n planes high rest m count r h e = elim (cases_lt n planes) [
   | inl lt ↦

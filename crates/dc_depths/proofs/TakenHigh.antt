@@ -142,7 +142,7 @@ coded_high {I} {k} {r} {a} {b} {before} {now} N q answer two like t = record {
           rw (u, v) refl)
     ]
 
--- ---- how large they are
+-- ---- their bounds
 
 number_abs : (N : ℕ) (z : ℤ) → IsInRange true N z → unsigned_abs z ≤ 2 ^ N
 number_abs N z h = let n = negatives_fit true N in let low = h.low in let high = h.high in omega (arith, ints, n, low, high)

@@ -30,7 +30,7 @@ use Rattle.dc_depths.proofs.DcNumbers.{bit_added, bits_above, added_multiple, ad
 use Rattle.dc_depths.proofs.Planes.{one_more}
 use Rattle.dc_depths.proofs.TakenBits.{abs_sum}
 
--- lists that are made alike
+-- lists with equal images
 pub same_maps : {X Y Z : Type 0} (f : X → Z) (g : Y → Z) (xs : List X) (ys : List Y) (d : X) (e : Y) → length xs ≡ length ys → ((i : ℕ) → i < length xs → f (get_or xs i d) ≡ g (get_or ys i e)) → map f xs ≡ map g ys
 same_maps f g [] [] d e long same = refl
 same_maps f g [] (y ∷ ys) d e long same = absurd (omega (arith, long))
@@ -62,7 +62,7 @@ planes_split q dcs (suc m) n plane lt e = elim (cases_lt n m) [
       ([], ap (λ j. planes_before q dcs j ++ map (dc_bit (q - suc m)) dcs) same ∙ ap (λ b. planes_before q dcs n ++ map (dc_bit b) dcs) here ∙ ap (λ items. planes_before q dcs n ++ items) (sym (append-nil (map (dc_bit plane) dcs))))
 ]
 
--- ---- a plane more
+-- ---- one more plane
 
 -- the planes from q - 1 down to this one were read
 pub record PlanesSoFar {I : Type 0} (k : SourceOf I) (q plane : ℕ) (old new : Coming I) (before now : List ℤ) : Type 0 where

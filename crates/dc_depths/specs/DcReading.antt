@@ -1,4 +1,4 @@
--- What calls leave that read parts of the DC part. (This project's own.)
+-- The results of calls that read parts of the DC part. (This project's own.)
 use Rattle.std.specs.Prelude.{◌≡◌, ◌<◌, ◌≤◌, ◌⊎◌, ℕ, ◌+◌, ◌-◌, ◌*◌, ◌/◌, ◌%◌, ◌^◌, ℤ, pos, ◌+ℤ◌, ◌*ℤ◌, unsigned_abs, List, length, map, slice_index, slice_index_or, if◌then◌else◌, nat_lt, true, Result}
 use Rattle.std.specs.Int.{int_shr, div_ceil}
 use Rattle.item_defs.specs.Items.{raw}
@@ -28,11 +28,11 @@ pub record HasRoom (weight : ℤ) (blocks : List ℤ) : Type 0 where
 
 -- ---- a bit of each
 
--- the DCs and so much for each bit
+-- the DCs, and for each bit this weight
 abbrev pub with_bits : List ℤ → ℤ → List ℕ → ℕ → ℤ
 with_bits blocks weight bits r = cell_at 64 blocks r +ℤ (pos (slice_index bits r) *ℤ weight)
 
--- a bit of each block was read, as far as they go; those that weren't are 0
+-- one bit of each block was read up to where the text ends; those that were not read are 0
 pub record TakesBits {I : Type 0} (k : SourceOf I) (weight : ℤ) (result : Result Part TextFault) (old new : Coming I) (before now : List ℤ) : Type 0 where
   pub bits : List ℕ
   pub all : length bits ≡ block_count before
@@ -54,7 +54,7 @@ pub record HasNumbers (q count : ℕ) (number : ℕ → ℤ) (dcs : List ℤ) : 
 abbrev pub high_parts : ℕ → ℕ → (ℕ → ℤ) → ℕ → ℤ
 high_parts q given number r = if nat_lt r given then number r *ℤ pos (2 ^ q) else pos 0
 
--- the numbers of the DCs were read, as far as their items go, whatever the low bits are
+-- the numbers of the DCs were read up to where their items end, whatever the low bits are
 pub record TakesHigh {I : Type 0} (k : SourceOf I) (N q : ℕ) (result : Result Part TextFault) (old new : Coming I) (before now : List ℤ) : Type 0 where
   pub number : ℕ → ℤ
   pub fit : (r : ℕ) → r < block_count before → IsInRange true N (number r)
@@ -80,7 +80,7 @@ pub record HasBits (q n count : ℕ) (low : ℕ → ℕ) (dcs : List ℤ) : Type
 abbrev pub with_low : List ℤ → (ℕ → ℕ) → ℕ → ℤ
 with_low blocks low r = cell_at 64 blocks r +ℤ pos (low r)
 
--- the n planes below q were read, as far as their items go; bits that aren't given are 0
+-- the n planes below q were read up to where their items end; bits that are not given are 0
 pub record TakesPlanes {I : Type 0} (k : SourceOf I) (q n : ℕ) (result : Result Part TextFault) (old new : Coming I) (before now : List ℤ) : Type 0 where
   pub low : ℕ → ℕ
   pub small : (r : ℕ) → low r < 2 ^ q

@@ -1,4 +1,4 @@
--- What calls leave that read block depths. (This project's own.)
+-- The results of calls that read block depths. (This project's own.)
 use Rattle.std.specs.Prelude.{◌≡◌, ◌<◌, ◌≤◌, ℕ, ◌+◌, ◌==◌, ℤ, pos, List, length, slice_index, slice_index_or, if◌then◌else◌, nat_lt, Result}
 use Rattle.bit_pipe.specs.declared.fault.Part.{Part}
 use Rattle.bit_pipe.specs.declared.fault.TextFault.{TextFault}
@@ -16,8 +16,8 @@ abbrev pub depths_through : ℕ → List ℕ → (ℕ → ℕ) → ℕ → ℕ
 depths_through depth_ac depths options i =
     if depth_ac == 0 then 0 else if depth_ac == 1 then i + 1 else numbers_through (depth_kind depth_ac) depths options i
 
--- Block depths were read into marks, as far as their items go: the marks are those that are given, and 0 for further ones. One that
--- is given isn't above the greatest.
+-- Block depths were read into the states of blocks, up to where their items end: the states are the depths that are given, and 0
+-- for further ones. A depth that is given is not above the greatest.
 pub record TakesDepths {I : Type 0} (k : SourceOf I) (depth_ac : ℕ) (result : Result Part TextFault) (old new : Coming I) (now : List ℤ) : Type 0 where
   pub depths : List ℕ
   pub all : length depths ≡ length now

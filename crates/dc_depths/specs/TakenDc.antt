@@ -1,4 +1,4 @@
--- What a call leaves that reads the DC part. (This project's own.)
+-- The result of a call that reads the DC part. (This project's own.)
 use Rattle.std.specs.Prelude.{◌≡◌, ◌<◌, ◌≤◌, ℕ, ◌+◌, ◌-◌, ◌*◌, ◌==◌, ◌&&◌, ℤ, pos, List, length, map, slice_index_or, Bool, true, false, if◌then◌else◌, nat_lt, nat_le, Result}
 use Rattle.std.specs.Int.{int_shr, div_ceil}
 use Rattle.bit_pipe.specs.declared.fault.Part.{Part}
@@ -33,8 +33,8 @@ is_plane_bit_given q planes high count m r b = nat_lt (q - (b + 1)) planes && na
 abbrev pub given_dcs : ℕ → List ℤ → ℕ → ℤ
 given_dcs given dcs r = if nat_lt r given then slice_index_or dcs r (pos 0) else pos 0
 
--- The DC part was read into the first number of each block, as far as its items go: the DCs are those whose numbers are given, each
--- with its low bits that are given, and 0 for further ones. In `dcs` a low bit that isn't given is 0.
+-- The DC part was read into the first number of each block, up to where its items end: the DCs are those whose numbers are given,
+-- each with its low bits that are given, and 0 for further ones. In `dcs` a low bit that is not given is 0.
 pub record TakesDc {I : Type 0} (k : SourceOf I) (depth_dc depth_ac shift : ℕ) (result : Result Part TextFault) (old new : Coming I) (before now : List ℤ) : Type 0 where
   pub dcs : List ℤ
   pub all : length dcs ≡ div_ceil (length before) 64

@@ -1,4 +1,4 @@
-// The DC part.
+// The writer of the DC part.
 ghost use Rattle.std.specs.Prelude.{◌≡◌, ◌≤◌, ◌<◌, ◌-◌, map, true};
 ghost use Rattle.item_defs.specs.Items.{text};
 ghost use Rattle.bit_pipe.specs.Standing.{IsReady, Writes};
@@ -70,9 +70,9 @@ fn put_planes<O: OctetOut>(
     Ok(())
 }
 
-/// Puts the DC part of a segment: the numbers of its blocks' DCs, then their bit planes down to the depth of
-/// AC (docs/formats.md, "DC part and block depths"). A block is 64 numbers, of which the first is its DC. The depth of DC is
-/// at most 28, the shift at most 3, and each DC over 2^q, rounded down, fits the bits of the numbers that are put.
+/// Puts the DC part of a segment: the numbers of its blocks' DCs, then their bit planes down to BitDepthAC (docs/formats.md,
+/// "DC part and block depths"). A block is 64 numbers, of which the first is its DC. BitDepthDC is at most 28, the shift at
+/// most 3, and each DC over 2^q, rounded down, fits the bits of the numbers that are put.
 pub fn put_dc<O: OctetOut>(
     out: &mut BitOut<O>,
     blocks: &[i32],

@@ -1,4 +1,4 @@
-// The DC part from bits.
+// The reader of the DC part.
 ghost use Rattle.std.specs.Prelude.{◌≡◌, ◌≤◌, ◌<◌, ◌^◌, ◌*ℤ◌, ℕ, pos, neg_ℤ, length};
 ghost use Rattle.std.specs.Int.{div_ceil};
 ghost use Rattle.bit_pipe.specs.Coming.{coming, IsIn};
@@ -104,7 +104,7 @@ fn take_dc_planes<I: OctetIn>(
     Ok(Part::Whole)
 }
 
-/// Takes the DC part of a segment: the numbers of its blocks' DCs, then their bit planes down to the depth of AC
+/// Takes the DC part of a segment: the numbers of its blocks' DCs, then their bit planes down to BitDepthAC
 /// (docs/formats.md, "DC part and block depths"). A block is 64 numbers, of which the first becomes its DC, and the
 /// others stay: the number that is given times 2^q and the low bits that are given, and 0 if no number is. Returns
 /// whether all items were in the text.
@@ -113,8 +113,8 @@ fn take_dc_planes<I: OctetIn>(
 ///
 /// # Errors
 ///
-/// `BadOption` and `BadDelta` at the first item that is refused, and the faults of the input. The DCs have what is
-/// given then too.
+/// `BadOption` and `BadDelta` at the first item that is refused, and the faults of the input. The DCs also have
+/// what is given then.
 pub fn take_dc<I: OctetIn>(
     input: &mut BitIn<I>,
     blocks: &mut [i32],

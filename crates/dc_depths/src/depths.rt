@@ -1,4 +1,4 @@
-// The block depths.
+// The writer of the block depths.
 ghost use Rattle.std.specs.Prelude.{◌≡◌, ◌≤◌, ◌<◌, ◌^◌, map};
 ghost use Rattle.item_defs.specs.Items.{raw, text};
 ghost use Rattle.bit_pipe.specs.Standing.{IsReady, Writes};
@@ -39,8 +39,8 @@ fn put_raw<O: OctetOut>(out: &mut BitOut<O>, marks: &[i32]) -> Result<(), PutFau
     Ok(())
 }
 
-/// Puts the block depths, one for each mark, none of which is above `depth_ac` (docs/formats.md, "DC part and
-/// block depths").
+/// Puts the block depths, one for each number of `marks`, none of which is above `depth_ac` (docs/formats.md,
+/// "DC part and block depths").
 pub fn put_depths<O: OctetOut>(
     out: &mut BitOut<O>,
     marks: &[i32],

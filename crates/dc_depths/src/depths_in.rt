@@ -1,4 +1,4 @@
-// The block depths from bits.
+// The reader of the block depths.
 ghost use Rattle.std.specs.Prelude.{◌≡◌, ◌≤◌, ◌<◌, ◌^◌, ℕ, pos, length, slice_index_or};
 ghost use Rattle.bit_pipe.specs.Coming.{coming, IsIn};
 ghost use Rattle.dc_depths.specs.Taken.{TakesDepths};
@@ -7,7 +7,7 @@ use crate::depths::depth_bits_of;
 use bit_pipe::{BitIn, OctetIn, Part, TextFault};
 use gaggle_codes::{NumberRange, take_bounded};
 
-// Sets each mark to 0.
+// Sets each number of `marks` to 0.
 fn clear(marks: &mut [i32])
     ensures { (i : ℕ) → slice_index_or marks.new i (pos 0) ≡ pos 0 }
 {
@@ -31,15 +31,15 @@ fn take_raw<I: OctetIn>(input: &mut BitIn<I>, marks: &mut [i32]) -> Result<Part,
     Ok(Part::Whole)
 }
 
-/// Takes the block depths, one for each mark (docs/formats.md, "DC part and block depths"). The marks are the depths
-/// that are given, and 0 for further ones. Returns whether all items were in the text.
+/// Takes the block depths, one for each number of `marks` (docs/formats.md, "DC part and block depths"). `marks` has
+/// the depths that are given, and 0 for further ones. Returns whether all items were in the text.
 ///
-/// `depth_ac` is at most 27, and there are fewer than 2^20 marks.
+/// `depth_ac` is at most 27, and `marks` has fewer than 2^20 numbers.
 ///
 /// # Errors
 ///
 /// `BadOption`, `BadDelta` and `BadDepth`, a depth above `depth_ac`, at the first item that is refused, and the faults
-/// of the input. The marks have the depths that are given then too.
+/// of the input. `marks` also has the depths that are given then.
 pub fn take_depths<I: OctetIn>(
     input: &mut BitIn<I>,
     marks: &mut [i32],

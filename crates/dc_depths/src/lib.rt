@@ -1,4 +1,4 @@
-//! The DC part and the block depths of a segment's text (docs/formats.md, "DC part and block depths").
+//! This crate codes the DC part and the block depths of a segment's text (docs/formats.md, "DC part and block depths").
 #![tactic(auto)]
 
 mod dc;

@@ -11,7 +11,7 @@ use Rattle.gaggle_codes.specs.Taken.{option_item, given_in}
 use Rattle.gaggle_codes.proofs.RangeItems.{range_long}
 use Rattle.gaggle_codes.proofs.GaggleRead.{values_same}
 
--- values that are whole alone, or after all unary parts
+-- values that are whole by themselves, or after all unary parts
 abbrev pub whole_alone : ℕ → ℕ → Bool
 whole_alone N option = (option == uncoded N) || (option == 0)
 
@@ -22,7 +22,7 @@ abbrev pub gaggle_total : ℕ → ℕ → ℕ → ℕ → ℕ
 gaggle_total N option size zero = 2 + value_total N option (size - 1)
 gaggle_total N option size (suc g) = 1 + value_total N option size
 
--- where number j of gaggle g is whole
+-- the number of items up to the end of number j of gaggle g
 abbrev pub through_in : ℕ → ℕ → ℕ → ℕ → ℕ → ℕ
 through_in N option size zero zero = 2
 through_in N option size zero (suc j) = 2 + cond (whole_alone N option) 0 (size - 1) + (j + 1)
@@ -60,7 +60,7 @@ module _ (kind : Kind) (xs : List ℕ) where
       let r = before_grows o g d in
       rw z (omega (arith, m, r))
 
-  -- where the number at a place is whole
+  -- the number of items up to the end of the number at a place
   pub through_is : (o : ℕ → ℕ) (g j size : ℕ) → min (length xs) (16 * g + 16) - 16 * g ≡ size → j < size → j < 16 → numbers_through kind xs o (16 * g + j) ≡ length (items_before kind xs o g) + through_in kind.bits (o g) size g j
   through_is o g j size e lt few = (let q : (16 * g + j) / 16 ≡ g = omega arith in rw q (by_gaggle g j e lt))
     where
@@ -97,7 +97,7 @@ module _ (N option size : ℕ) where
       by_test true = omega arith
       by_test false = omega arith
 
-  -- a number is given where its items are
+  -- a number is given if its items are given
   pub given_where : (g j m : ℕ) → j < size → (j < given_in N option size g m → through_in N option size g j ≤ m) × (through_in N option size g j ≤ m → j < given_in N option size g m)
   given_where zero j m lt = by_test (whole_alone N option) j lt
     where

@@ -24,7 +24,7 @@ use Rattle.gaggle_codes.proofs.Wholes.{chain_none, fill}
 -- ---- items
 
 module _ (kind : Kind) (option : ℕ) (xs : List ℕ) where
-  -- where each item makes a number whole
+  -- the items, if each makes a number whole
   pub alone : (n : ℕ) → (option ≡ 0) ⊎ (option ≡ uncoded kind.bits) → difference_items kind option n xs ≡ whole_items kind option n xs
   unfolding value_items
   alone n h = by_tests (eqb option (uncoded kind.bits)) (eqb option 0) refl refl h
@@ -39,7 +39,7 @@ module _ (kind : Kind) (option : ℕ) (xs : List ℕ) where
       by_tests false false e f (inl h) = absurd (let q : eqb option 0 ≡ true = grind (arith, nat_tests) in let r : false ≡ true = sym f ∙ q in cc)
       by_tests false false e f (inr h) = absurd (let q : eqb option (uncoded kind.bits) ≡ true = grind (arith, nat_tests) in let r : false ≡ true = sym e ∙ q in cc)
 
-  -- where all unary parts come first
+  -- the items, if all unary parts are first
   pub split : (n : ℕ) → (option ≡ uncoded kind.bits → ⊥) → (option ≡ 0 → ⊥) → difference_items kind option n xs ≡ map (unary_part kind xs option) (range_with_len 1 n) ++ whole_items kind option n xs
   unfolding value_items
   split n a b =
@@ -64,7 +64,7 @@ module _ (kind : Kind) (option : ℕ) (xs : List ℕ) where
       let z : eqb option 0 ≡ false = grind (arith, nat_tests) in
       rw (t, z) refl
 
--- ---- what calls leave
+-- ---- the results of calls
 
 module _ {I : Type 0} {k : SourceOf I} (kind : Kind) (option p count : ℕ) (zeros : List ℕ) (long : length zeros ≡ count) where
   pub differences_alone : {r : Result Part TextFault} {a b : Coming I} {before now : List ℕ} → (option ≡ 0) ⊎ (option ≡ uncoded kind.bits) → TakesWhole k kind option p zeros r a b before now → TakesDifferences k kind option p count r a b before now
@@ -109,7 +109,7 @@ module _ {I : Type 0} {k : SourceOf I} (kind : Kind) (option p count : ℕ) (zer
           whole = sym (ap (λ m. before ++ take m heights) none ∙ append-nil before);
         }
 
-    -- they were, and then the rests
+    -- the unary parts were read, and then the rests
     pub differences_split : {r : Result Part TextFault} {a b c : Coming I} {before now : List ℕ} → TakesZeros k kind.bits option zeros (Ok Whole) a b → TakesWhole k kind option p zeros r b c before now → TakesDifferences k kind option p count r a c before now
     differences_split {r} {a} {b} {c} {before} {now} z w =
         let whole_end = whole_ending z.ending z.answer in

@@ -24,7 +24,7 @@ module _ (signed : Bool) (N : ℕ) (heights : List ℕ) (names : ℕ → ℕ) wh
   unfolding bits_before
   one_more g = rw add-one refl
 
-  -- the bits of the first gaggles stand first in those of more gaggles
+  -- the bits of the first gaggles are a prefix of those of more gaggles
   rest_of : (n g : ℕ) → g ≤ n → (rest : List Bool) × (bits_before signed N heights names g ++ rest ≡ bits_before signed N heights names n)
   unfolding bits_before
   rest_of zero g le = let z : g ≡ 0 = omega arith in ([], rw z refl)
@@ -47,7 +47,7 @@ module _ (signed : Bool) (N : ℕ) (heights : List ℕ) (names : ℕ → ℕ) wh
       Adds k a c (bits_before signed N heights names (g + 1))
   gaggle_more g p q = rw (← one_more g) (adds_then p q)
 
-  -- what a loop over gaggles leaves where one was not put whole
+  -- the result of a loop over gaggles if one was not put whole
   pub gaggle_ended : {S T U : Type 0} {k : SinkOf S} {e : PutFault} {a b c : Standing S} (n g : ℕ) → g < n → Adds k a b (bits_before signed N heights names g) →
       Puts {T = T} k (Err e) b c (gaggle_bits signed N heights (names g) g) → Puts {T = U} k (Err e) a c (bits_before signed N heights names n)
   gaggle_ended n g lt p q =

@@ -22,14 +22,14 @@ use Rattle.bit_pipe.proofs.Endings.{later_read, later_answer, cut_within}
 
 -- ---- one item
 
--- the item was read where a value is answered
+-- the item was read if a value is returned
 pub one_from : {A : Type 0} (e : Ending) (v w : A) → Ok (Some v) ≡ item_answer w e → (e ≡ stopped whole) × (v ≡ w)
 one_from (stopped whole) v w h = (refl, cc)
 one_from (stopped (ended m)) v w h = absurd cc
 one_from (stopped (refused m n name)) v w h = absurd cc
 one_from (failed m e) v w h = absurd cc
 
--- and else it wasn't, and the answer for a part is the same
+-- otherwise it was not, and the answer for a part is the same
 pub none_from : {A : Type 0} (e : Ending) (w : A) → Ok None ≡ item_answer w e → IsCut e × (Ok Ended ≡ part_answer e)
 none_from (stopped whole) w h = absurd cc
 none_from (stopped (ended m)) w h = (tt, refl)
@@ -99,9 +99,9 @@ module _ (kind : Kind) (option size : ℕ) where
       at : (j : ℕ) → j < size → get_or xs j 0 ≡ get_or heights j 0
       at j lt = let z : j ≡ 16 * 0 + j = omega arith in ap (λ n. get_or xs n 0) z ∙ h.here j lt
 
--- ---- what calls leave
+-- ---- the results of calls
 
--- numbers that nothing is known of
+-- numbers of which nothing is known
 pub zeros : ℕ → List ℕ
 zeros zero = []
 zeros (suc n) = 0 ∷ zeros n
@@ -136,7 +136,7 @@ none_given : {n : ℕ} (heights : List ℕ) → n ≡ 0 → [] ≡ take n height
 none_given heights e = rw e refl
 
 module _ {I : Type 0} {k : SourceOf I} (kind : Kind) where
-  -- the option isn't given, or is refused
+  -- the option is missing, or refused
   pub next_unread : {o : Result (Option ℕ) TextFault} {r : Result Part TextFault} {a b : Coming I} (g p size : ℕ) → ((e : Ending) (v : ℕ) → o ≡ item_answer v e → IsCut e × (r ≡ part_answer e)) →
       TakesOne k (IsOption kind.bits) (option_item kind.bits) o a b → TakesGaggle k kind (g + 1) p size r a b []
   unfolding next_items
@@ -213,7 +213,7 @@ module _ {I : Type 0} {k : SourceOf I} (kind : Kind) where
       let q = subst (λ e. Reads k (option_item kind.bits t.value ∷ []) e a b) o.0 t.read in
       (subst (λ v. Takes k a b (text (option_item kind.bits v ∷ []))) (sym o.1) q.ends, subst (λ v. IsOption kind.bits v) (sym o.1) t.known)
 
-  -- the first number isn't given, or is too great
+  -- the first number is missing, or too great
   pub first_unled : {o : Result (Option ℕ) TextFault} {r : Result Part TextFault} {a b c : Coming I} {now : List ℕ} (p size option : ℕ) → 1 ≤ size → ((e : Ending) (v : ℕ) → o ≡ item_answer v e → IsCut e × (r ≡ part_answer e)) →
       TakesOne k (IsOption kind.bits) (option_item kind.bits) (Ok (Some option)) a b → TakesReference k kind o b c [] now → TakesGaggle k kind 0 p size r a c now
   unfolding first_items

@@ -101,7 +101,7 @@ module _ (kind : Kind) (c : ℕ) (some : 1 ≤ kind.bits) (lt : c < 2 ^ kind.bit
   unfolding height
   height_few = mod_below (c + negatives kind.signed kind.bits) (2 ^ kind.bits) (pow_pos kind.bits)
 
-  -- the number of this height is written so
+  -- the number of this height is written in this form
   says_height : complement kind.bits (number_at kind.signed kind.bits height) ≡ c
   unfolding height
   says_height = sym (complement_is kind.signed kind.bits height some height_few) ∙ again_by kind.signed kind.bits c some lt
@@ -159,6 +159,6 @@ module _ (kind : Kind) {I : Type 0} {k : SourceOf I} {a b : Coming I} (before : 
     whole = sym (append-nil before);
   }
 
--- what the code makes of a reference
+-- what the code computes from a reference
 pub reference_code : (N c n : ℕ) → N ≤ 10 → (c + n) % (1 * 2 ^ N % 65536) ≡ (c + n) % 2 ^ N
 reference_code N c n high = ap (λ m. (c + n) % m) (one_shl N 16 (omega arith))

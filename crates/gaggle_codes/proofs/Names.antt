@@ -1,4 +1,4 @@
--- Options by name.
+-- Options by the number that represents them.
 use Rattle.std.proofs.Common.{◌≡◌, ℕ, zero, suc, ◌-◌, ◌^◌, ◌<◌, ◌≤◌, true, false, refl, sym, arith, eqb, cond}
 use Rattle.std.proofs.lemmas.Bool.Decides.{nat_tests}
 use Rattle.item_defs.specs.Bits.{bits_of}
@@ -39,7 +39,7 @@ ones (suc (suc (suc (suc (suc w))))) le = absurd (omega arith)
 few_identifier_bits : (N : ℕ) → identifier_bits N ≤ 4
 few_identifier_bits N = grind (arith, nat_tests)
 
--- an identifier's bits are those of the option's name
+-- an identifier's bits are those of the number that represents the option
 pub name_bits : (N option : ℕ) → bits_of (identifier_bits N) option ≡ bits_of (identifier_bits N) (name_of N option)
 name_bits N option =
     elim (eqb option (uncoded N)) as (λ t. eqb option (uncoded N) ≡ t → bits_of (identifier_bits N) option ≡ bits_of (identifier_bits N) (cond t 15 option)) [

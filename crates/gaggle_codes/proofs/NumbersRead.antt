@@ -45,7 +45,7 @@ front_few bound n xs some few i = elim (cases_lt i n) [
   | inr ge ↦ rw (get_or_past (take n xs) i 0 (omega (arith, length-take n xs, ge))) some
 ]
 
--- ---- lists of so many numbers, of which the last may be 0
+-- ---- lists of this number of numbers, of which the last may be 0
 
 pub padded : ℕ → List ℕ → List ℕ
 padded count hs = map (λ i. get_or hs i 0) (range_with_len 0 count)
@@ -215,7 +215,7 @@ module _ {I : Type 0} {k : SourceOf I} (range : NumberRange) (too_great : ℕ �
       pub got_fits : 16 * g + length got ≤ count
       got_fits = (let n = ap length t.whole in omega (arith, n, length-take (given_in range.bits t.option size g (items_read (length t.items) t.ending)) t.heights, t.all, size_is, lt))
 
-      -- ---- where not all of its items were read
+      -- ---- if not all of its items were read
 
       pub numbers_stop : {now : List ℤ} (answer : Result (Part × ℕ) TextFault) → ((i : ℕ) → i < length got → too_great (get_or got i 0) ≡ false) → ((e : Ending) (n : ℕ) → r ≡ part_answer e → answer ≡ numbers_answer (later_by n e) (16 * g + length got)) → IsCut t.ending →
           count ≡ div_ceil (length before) stride → SetsCells range shift stride (s.heights ++ got) before now → TakesNumbers k (kind_of range too_great) range shift stride answer a c before now
@@ -306,7 +306,7 @@ module _ {I : Type 0} {k : SourceOf I} (range : NumberRange) (too_great : ℕ �
                 ]
               ]
 
-      -- ---- where all of them were read
+      -- ---- if all of them were read
       module _ (all_read : r ≡ Ok Whole) where
         whole_here : t.ending ≡ stopped whole
         whole_here = whole_ending t.ending (sym all_read ∙ t.answer)
@@ -347,7 +347,7 @@ module _ {I : Type 0} {k : SourceOf I} (range : NumberRange) (too_great : ℕ �
         pub in_after_gaggle : IsIn b → IsIn c
         in_after_gaggle h = (let q = subst (λ x. Reads k t.items x b c) whole_here t.read in in_later h q.ends)
 
-      -- what was read of it is few, and fits
+      -- the numbers that were read of it are few, and fit
       pub got_small : (i : ℕ) → get_or got i 0 < 2 ^ range.bits
       got_small i = (let few = t.few in rw t.whole (front_few (2 ^ range.bits) (given_in range.bits t.option size g (items_read (length t.items) t.ending)) t.heights (pow_pos range.bits) few i))
 
@@ -395,7 +395,7 @@ module _ {I : Type 0} {k : SourceOf I} (range : NumberRange) (too_great : ℕ �
           let up = rw z at grows in
           omega (arith, through, inside, of_q, long_q, up)
 
--- ---- what the code answers
+-- ---- the result of the code
 
 pub err_like : {r : Result Part TextFault} {fault : TextFault} → r ≡ Err fault → (given : ℕ) (e : Ending) (n : ℕ) → r ≡ part_answer e → Err fault ≡ numbers_answer (later_by n e) given
 err_like p given (stopped whole) n q = absurd (err_differs _ (sym q ∙ p))

@@ -3,7 +3,7 @@ use Rattle.std.proofs.Common.{◌≡◌, ℕ, suc, ◌+◌, ◌<◌, List, [], �
 use Rattle.std.specs.List.{range_with_len}
 use Rattle.number_defs.specs.Gaggles.{value_at, gaggle_values}
 
--- a list is what its places say
+-- a list is determined by its values at its places
 pub by_places : (f : ℕ → ℕ) (a : ℕ) (xs : List ℕ) → ((k : ℕ) → k < length xs → get_or xs k 0 ≡ f (a + k)) → xs ≡ map f (range_with_len a (length xs))
 by_places f a [] h = refl
 by_places f a (x ∷ xs) h =
@@ -12,7 +12,7 @@ by_places f a (x ∷ xs) h =
     let others : xs ≡ map f (range_with_len (a + 1) (length xs)) = by_places f (a + 1) xs after in
     ap (λ y. y ∷ xs) here ∙ ap (λ ys. f a ∷ ys) others
 
--- the values that a writer maps for one gaggle are the gaggle's
+-- the values that a writer maps for one gaggle are those of the gaggle
 pub gaggle_slice : (N : ℕ) (heights : List ℕ) (g from count : ℕ) → from ≡ max (16 * g) 1 → count ≡ min (length heights) (16 * g + 16) - from →
     map (value_at N heights) (range_with_len from count) ≡ gaggle_values N heights g
 gaggle_slice N heights g from count p q = rw (q, p) refl

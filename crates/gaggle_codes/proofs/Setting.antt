@@ -1,4 +1,4 @@
--- Numbers that are written every so many cells.
+-- Numbers that are written into every `stride`-th cell.
 use Rattle.std.proofs.Common.{subst, ◌≡◌, ◌⊎◌, ℕ, ◌+◌, ◌*◌, ◌/◌, ◌%◌, ◌^◌, ◌<◌, ◌≤◌, ℤ, pos, ◌*ℤ◌, List, [], ◌∷◌, ◌++◌, length, get_or, true, false, refl, sym, ap, ◌∙◌, arith, inl, inr, length-append}
 use Rattle.std.specs.Prelude.{nat_lt}
 use Rattle.std.proofs.Math.ListN.{set}
@@ -14,7 +14,7 @@ use Rattle.number_defs.specs.Cells.{cell_at}
 use Rattle.gaggle_codes.specs.declared.range.NumberRange.{NumberRange}
 use Rattle.gaggle_codes.specs.Given.{given_number, SetsCells}
 
--- places that differ stand in cells that differ
+-- places that differ are in cells that differ
 apart : (m n stride : ℕ) → 1 ≤ stride → m * stride ≡ n * stride → m ≡ n
 apart m n stride low e = elim (cases_lt m n) [
   | inl lt ↦ absurd (further m n stride low lt e)
@@ -27,7 +27,7 @@ apart m n stride low e = elim (cases_lt m n) [
     further : (m n stride : ℕ) → 1 ≤ stride → m < n → m * stride ≡ n * stride → ⊥
     further m n stride low lt e = let more : (m + 1) * stride ≤ n * stride = mul-le-mul_right stride (omega arith) in omega (arith, more, e)
 
--- a place within the slice is one of those that are counted
+-- a place within the slice is among those that are counted
 pub places_before : (n stride m : ℕ) → 1 ≤ stride → m * stride < n → m < div_ceil n stride
 places_before n stride m low lt = elim (cases_lt m (div_ceil n stride)) [
   | inl below ↦ below
@@ -48,7 +48,7 @@ places_before n stride m low lt = elim (cases_lt m (div_ceil n stride)) [
         let e : n / stride * stride ≡ div_ceil n stride * stride = ap (λ d. d * stride) (sym up) in
         omega (arith, whole, rest, more, lt, e, none)
 
--- the first cells are 0 up to here
+-- the cells of the places before this one are 0
 pub record Clears (stride i : ℕ) (old new : List ℤ) : Type 0 where
   pub size : length new ≡ length old
   pub cleared : (m : ℕ) → m < i → m * stride < length old → cell_at stride new m ≡ pos 0

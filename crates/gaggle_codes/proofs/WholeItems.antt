@@ -30,7 +30,7 @@ module _ (kind : Kind) (option p c : ℕ) where
       by_tests false true e f = rw (e, f) refl
       by_tests false false e f = rw (e, f) refl
 
-  -- what the item says
+  -- the number that the item has
   pub after_says : (zeros v said : ℕ) → mapped N p c ≡ v → whole_value N option zeros said ≡ v → IsSaid (whole_shape N option) said → said ≡ (item_after kind option p c).said
   after_says zeros v said m w = by_tests (eqb option (uncoded N)) (eqb option 0) refl refl w
     where

@@ -1,4 +1,4 @@
--- What a loop leaves that reads the numbers of a gaggle.
+-- The result of a loop that reads the numbers of a gaggle.
 use Rattle.std.proofs.Common.{◌≡◌, ℕ, ◌+◌, ◌-◌, ◌*◌, ◌/◌, ◌^◌, ◌<◌, ◌≤◌, List, [], ◌∷◌, ◌++◌, length, map, take, get_or, Bool, true, false, eqb, Ok, Err, refl, sym, ap, subst, ◌∙◌, append_assoc, arith, inl, inr}
 use Rattle.std.specs.Prelude.{Some, None}
 use Rattle.std.specs.List.{range_with_len}
@@ -89,7 +89,7 @@ module _ {I : Type 0} {k : SourceOf I} (range : NumberRange) (option p : ℕ) (z
     whole = s.now_is ∙ ap (λ l. first ++ l) (sym (take_all (length zeros) s.heights (omega (arith, s.chained.count, e))));
   }
 
-  -- where the item of number i isn't given, or is refused
+  -- the item of number i is missing, or refused
   module _ (known : is_option range.bits option ≡ true) (fewer : (j : ℕ) → get_or zeros j 0 < 2 ^ (range.bits - option)) where
     pub whole_stop : {i last : ℕ} {a b c : Coming I} {first now : List ℕ} (too_great : ℕ → Bool) (ending : Ending) → i < length zeros → (s : WholeSoFar k range option p zeros i last a b first now) → items_read (length zeros) ending ≡ i →
         ((xs : List ℕ) → Takes k a b (text (map (whole_item (kind_of range too_great) option (p ∷ xs)) (range_with_len 1 i))) → get_or (p ∷ xs) (1 + i - 1) 0 ≡ last →

@@ -17,7 +17,7 @@ ends_as k s t f g low high (Ok (Some v)) a b e same le p = rw (← e) (p.0, p.1,
 ends_as k s t f g low high (Ok None) a b e same le p = rw (← e) p
 ends_as k s t f g low high (Err fault) a b e same le p = rw (← e) p
 
--- the same value of another shape that is this one
+-- the same value of another shape with the same items
 pub value_as : {I : Type 0} {k : SourceOf I} {s t : Shape} {f g : ℕ → ℕ} {low high : ℕ} {r : Result (Option ℕ) TextFault} {a b : Coming I} → s ≡ t → ((n : ℕ) → f n ≡ g n) → low ≤ high →
     TakesValue k s f low r a b → TakesValue k t g high r a b
 value_as {I} {k} {s} {t} {f} {g} {low} {high} {r} {a} {b} e same le p = record { ends = ends_as k s t f g low high r a b e same le p.ends }
@@ -57,7 +57,7 @@ module _ (N option : ℕ) where
       let split : 2 ^ N ≡ 2 ^ option * 2 ^ (N - option) = ap (λ w. 2 ^ w) (sym whole) ∙ pow-add 2 option (N - option) in
       rw split (mul-add-lt zeros (2 ^ option) rest (2 ^ (N - option)) p q)
 
-  -- what the code makes of them
+  -- what the code computes from them
   pub parts_code : (zeros : ℕ) → N ≤ 10 → option ≤ N → zeros < 2 ^ (N - option) → zeros * 2 ^ option % 65536 ≡ zeros * 2 ^ option
   parts_code zeros high le p =
       let below = parts_below zeros 0 le p (pow_pos option) in

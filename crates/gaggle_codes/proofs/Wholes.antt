@@ -78,7 +78,7 @@ module _ (N option p : ℕ) (zeros : List ℕ) where
           let z : j ≡ i = omega arith in
           ap (λ n. value_at N (p ∷ (heights ++ unmapped N last v ∷ [])) (1 + n) / 2 ^ option) z ∙ ap (λ n. n / 2 ^ option) (next_value v h small) ∙ parts a b ∙ ap (λ n. get_or zeros n 0) (sym z)
 
-  -- numbers that weren't read, with rests of 0
+  -- numbers that were not read, with rests of 0
   module _ (known : is_option N option ≡ true) (fewer : (j : ℕ) → get_or zeros j 0 < 2 ^ (N - option)) where
     filler : ℕ → ℕ
     filler i = whole_value N option (get_or zeros i 0) 0

@@ -29,7 +29,7 @@ pub record ZerosSoFar {I : Type 0} (k : SourceOf I) (N option : ℕ) (zeros : Li
   pub so_far : (kind : Kind) (heights : List ℕ) → kind.bits ≡ N → ((j : ℕ) → j < i → value_at N heights (1 + j) / 2 ^ option ≡ get_or zeros j 0) →
       Takes k old new (text (map (unary_part kind heights option) (range_with_len 1 i)))
 
--- what spells such a unary part
+-- the bits of such a unary part
 part_bits : (N option : ℕ) (kind : Kind) (heights : List ℕ) (i z : ℕ) → kind.bits ≡ N → value_at N heights (1 + i) / 2 ^ option ≡ z →
     spelling (zeros_to (2 ^ (N - option))) z ≡ item_bits (unary_part kind heights option (1 + i))
 part_bits N option kind heights i z e q = rw (e, q) refl

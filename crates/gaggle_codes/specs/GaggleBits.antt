@@ -1,4 +1,4 @@
--- The bits of the items of a list of numbers, by the names of the options. (This project's own.)
+-- The bits of the items of a list of numbers, by the numbers that represent the options. (This project's own.)
 use Rattle.std.specs.Prelude.{ℕ, zero, suc, ◌/◌, ◌%◌, ◌^◌, ◌==◌, List, [], ◌∷◌, ◌++◌, slice_index, Bool, true, false, if◌then◌else◌}
 use Rattle.std.specs.List.{flat_map}
 use Rattle.item_defs.specs.Bits.{bits_of, copies}
@@ -33,6 +33,6 @@ unfoldable pub bits_before : Bool → ℕ → List ℕ → (ℕ → ℕ) → ℕ
 bits_before signed N heights names zero = []
 bits_before signed N heights names (suc g) = bits_before signed N heights names g ++ gaggle_bits signed N heights (names g) g
 
--- the names of the options that a choice takes
+-- the numbers of the options that a choice selects
 abbrev pub chosen_names : Select → ℕ → List ℕ → ℕ → ℕ
 chosen_names select N heights g = name_of N (choices (choice_of select) N heights g)

@@ -1,4 +1,4 @@
--- What calls leave that read the numbers of a gaggle. (This project's own.)
+-- The results of calls that read the numbers of a gaggle. (This project's own.)
 use Rattle.std.specs.Prelude.{◌≡◌, ◌<◌, ◌≤◌, ◌⊎◌, ℕ, zero, suc, min, ℤ, ◌+◌, ◌-◌, ◌*◌, ◌/◌, ◌^◌, ◌==◌, ◌||◌, Bool, true, false, if◌then◌else◌, nat_lt, List, [], ◌∷◌, ◌++◌, length, map, take, slice_index, Option, None, Some, Result, Ok, Err}
 use Rattle.std.specs.List.{range_with_len}
 use Rattle.std.specs.Int.{div_ceil}
@@ -23,11 +23,11 @@ use Rattle.gaggle_codes.specs.Given.{SetsCells}
 pub record IsBound (most N : ℕ) (too_great : ℕ → Bool) : Type 0 where
   pub at : (height : ℕ) → height < 2 ^ N → too_great height ≡ nat_lt most height
 
--- no number is higher than this
+-- no number is higher than `most`
 pub record AreLow (most : ℕ) (heights : List ℕ) : Type 0 where
   pub at : (i : ℕ) → slice_index heights i ≤ most
 
--- and none is added that is
+-- and no such number is added
 pub record StayLow (most : ℕ) (before now : List ℕ) : Type 0 where
   pub kept : AreLow most before → AreLow most now
 
@@ -44,7 +44,7 @@ EndsValue k shape value bound (Ok (Some v)) old new =
 EndsValue k shape value bound (Ok None) old new = EndsItem k shape (Ok None) old new
 EndsValue k shape value bound (Err fault) old new = EndsFault k shape fault old new
 
--- what a call for an item of this shape leaves that answers a value below the bound, made of what the item says
+-- the result of a call for an item of this shape that returns a value below the bound, computed from the item's number
 pub record TakesValue {I : Type 0} (k : SourceOf I) (shape : Shape) (value : ℕ → ℕ) (bound : ℕ) (result : Result (Option ℕ) TextFault) (old new : Coming I) : Type 0 where
   pub ends : EndsValue k shape value bound result old new
 
@@ -57,7 +57,7 @@ abbrev pub whole_shape : ℕ → ℕ → Shape
 whole_shape N option =
     if option == uncoded N then fixed N else if option == 0 then zeros_to (2 ^ (N - option)) else fixed option
 
--- the mapped value by what such an item says, after the zeros of its unary part
+-- the mapped value of such an item's number, after the zeros of its unary part
 abbrev pub whole_value : ℕ → ℕ → ℕ → ℕ → ℕ
 whole_value N option zeros said =
     if option == uncoded N then said else if option == 0 then said else zeros * 2 ^ option + said
@@ -72,7 +72,7 @@ whole_items kind option count heights = map (whole_item kind option heights) (ra
 
 -- ---- many values
 
--- the zeros of unary parts were read, and those that weren't are 0
+-- the zeros of unary parts were read, and those that were not are 0
 pub record TakesZeros {I : Type 0} (k : SourceOf I) (N option : ℕ) (zeros : List ℕ) (result : Result Part TextFault) (old new : Coming I) : Type 0 where
   pub ending : Ending
   pub few : (j : ℕ) → slice_index zeros j < 2 ^ (N - option)
@@ -81,7 +81,7 @@ pub record TakesZeros {I : Type 0} (k : SourceOf I) (N option : ℕ) (zeros : Li
       Reads k (map (unary_part kind heights option) (range_with_len 1 (length zeros))) ending old new
   pub answer : result ≡ part_answer ending
 
--- numbers after the one of height p were read, as far as their items go; `now` are those before and the ones that are whole
+-- numbers after the one of height p were read up to where their items end; `now` has those before and the ones that are whole
 pub record TakesWhole {I : Type 0} (k : SourceOf I) (kind : Kind) (option p : ℕ) (zeros : List ℕ) (result : Result Part TextFault) (old new : Coming I) (before now : List ℕ) : Type 0 where
   pub heights : List ℕ
   pub count : length heights ≡ length zeros
@@ -100,7 +100,7 @@ whole_of N option count m = if option == uncoded N || option == 0 then m else m 
 abbrev pub difference_items : Kind → ℕ → ℕ → List ℕ → List Item
 difference_items kind option count heights = value_items kind heights option (range_with_len 1 count)
 
--- a number of numbers after the one of height p were read, up to where their items end
+-- the numbers after the one of height p were read, up to where their items end
 pub record TakesDifferences {I : Type 0} (k : SourceOf I) (kind : Kind) (option p count : ℕ) (result : Result Part TextFault) (old new : Coming I) (before now : List ℕ) : Type 0 where
   pub heights : List ℕ
   pub all : length heights ≡ count
@@ -139,7 +139,7 @@ pub record HasGaggle (g p size : ℕ) (heights xs : List ℕ) : Type 0 where
   pub before : 0 < g → slice_index xs (16 * g - 1) ≡ p
   pub here : (j : ℕ) → j < size → slice_index xs (16 * g + j) ≡ slice_index heights j
 
--- the numbers of gaggle g were read, as far as their items go
+-- the numbers of gaggle g were read, up to where their items end
 pub record TakesGaggle {I : Type 0} (k : SourceOf I) (kind : Kind) (g p size : ℕ) (result : Result Part TextFault) (old new : Coming I) (now : List ℕ) : Type 0 where
   pub heights : List ℕ
   pub all : length heights ≡ size
@@ -162,7 +162,7 @@ numbers_answer (stopped (refused m spelt name)) given = Err (of_refusal name)
 numbers_answer (failed m e) given = Err (of_input e)
 
 -- Numbers of a kind were read into every `stride`-th cell, up to where their items end: the cells have those that are given, and 0
--- for further ones. A number is given if its items are there, and those of all numbers before it; then it isn't too great.
+-- for further ones. A number is given if its items are there, and those of all numbers before it; then it is not too great.
 pub record TakesNumbers {I : Type 0} (k : SourceOf I) (kind : Kind) (range : NumberRange) (shift stride : ℕ) (result : Result (Part × ℕ) TextFault) (old new : Coming I) (before now : List ℤ) : Type 0 where
   pub heights : List ℕ
   pub all : length heights ≡ div_ceil (length before) stride

@@ -1,4 +1,4 @@
--- The numbers that a writer takes from a slice. (This project's own.)
+-- The numbers that a writer reads from a slice. (This project's own.)
 use Rattle.std.specs.Prelude.{ℕ, ℤ, List, map, Bool, false}
 use Rattle.number_defs.specs.Ranges.{shifted_height}
 use Rattle.number_defs.specs.Cells.{strided}

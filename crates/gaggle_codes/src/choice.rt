@@ -5,11 +5,11 @@ ghost use Rattle.gaggle_codes.specs.Options.{choice_of, name_of};
 
 use base_122::Select;
 
-// The name of the option that codes values as they are.
+// The number of the option that codes values as they are.
 pub(crate) const UNCODED: u8 = 15;
 
-/// Chooses how a gaggle's mapped values are coded: k, or 15 for uncoded (docs/formats.md, "Numbers by
-/// differences"). There are at most 16 values, each of `bits` bits, 2 to 10.
+/// Chooses how a gaggle's mapped values are coded, and returns k, or 15 for uncoded (docs/formats.md,
+/// "Numbers by differences"). There are at most 16 values, each of `bits` bits, 2 to 10.
 pub fn choose(values: &[u16], bits: u8, select: Select) -> u8
     requires low { 2 ≤ bits }
     requires high { bits ≤ 10 }
@@ -60,7 +60,7 @@ fn option_by_total(count: u32, total: u32, bits: u8) -> u8
     k
 }
 
-// The option of the fewest bits: uncoded on a tie, else the least k.
+// Returns the option of the fewest bits: uncoded on a tie, otherwise the least k.
 fn optimal_of(values: &[u16], bits: u8) -> u8
     requires low { 2 ≤ bits }
     requires high { bits ≤ 10 }
@@ -80,7 +80,7 @@ fn optimal_of(values: &[u16], bits: u8) -> u8
     best
 }
 
-// The bits of values that are split at k.
+// Returns the number of bits of values that are split at k.
 fn split_bits(values: &[u16], k: u8) -> u32
     requires count { length values.now ≤ 16 }
     requires k { k ≤ 10 }

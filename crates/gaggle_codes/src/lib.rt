@@ -1,4 +1,4 @@
-//! Numbers by differences, gaggle by gaggle (docs/formats.md, "Numbers by differences").
+//! This crate codes numbers by differences, gaggle by gaggle (docs/formats.md, "Numbers by differences").
 #![tactic(auto)]
 
 mod choice;

@@ -1,4 +1,4 @@
-// Mapped values and the numbers of a gaggle from bits.
+// Reads mapped values and the numbers of a gaggle from bits.
 ghost use Rattle.std.specs.Prelude.{◌≡◌, ◌<◌, ◌≤◌, ◌+◌, ◌-◌, ◌^◌, ◌++◌, ◌∷◌, [], ℕ, Bool, true, length, slice_index, MatchResult};
 ghost use Rattle.item_defs.specs.Items.{zeros_to};
 ghost use Rattle.bit_pipe.specs.Coming.{coming, IsIn};

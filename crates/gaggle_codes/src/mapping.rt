@@ -1,4 +1,4 @@
-// A number after another one as a value from 0, by their difference.
+// A number as the value of its difference to the one before, from 0.
 ghost use Rattle.std.specs.Prelude.{◌≡◌, ◌<◌, ◌≤◌, ◌+◌, ◌^◌};
 ghost use Rattle.number_defs.specs.Mapping.{theta, mapped};
 

@@ -5,7 +5,7 @@ ghost use Rattle.number_defs.specs.Cells.{AreInRange};
 use crate::mapping::mapped_of;
 use crate::range::NumberRange;
 
-// Every `stride`-th cell over 2^shift, rounded down.
+// The numbers of every `stride`-th cell over 2^shift, rounded down.
 #[derive(Clone, Copy)]
 pub(crate) struct Numbers<'a> {
     pub cells: &'a [i32],

@@ -1,4 +1,4 @@
-// Numbers as bits, gaggle by gaggle.
+// The writer of numbers, gaggle by gaggle.
 ghost use Rattle.std.specs.Prelude.{◌≡◌, ◌<◌, ◌≤◌, ◌*◌, ◌++◌, ℕ, Bool, length};
 ghost use Rattle.item_defs.specs.Items.{text};
 ghost use Rattle.bit_pipe.specs.Standing.{Puts, IsReady, Writes};
@@ -16,7 +16,7 @@ use crate::values::{put_identifier, put_mapped};
 use base_122::Select;
 use bit_pipe::{BitOut, OctetOut, PutFault};
 
-// Numbers of a gaggle.
+// The number of numbers of a gaggle.
 const GAGGLE: usize = 16;
 
 // Puts the reference, which only the first gaggle has.

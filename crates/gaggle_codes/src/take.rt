@@ -1,4 +1,4 @@
-// Numbers from bits, gaggle by gaggle.
+// The reader of numbers, gaggle by gaggle.
 ghost use Rattle.std.specs.Prelude.{◌≡◌, ◌<◌, ◌≤◌, ◌+◌, ◌-◌, ◌*◌, ◌^◌, ℕ, Bool, length, slice_index};
 ghost use Rattle.std.specs.Int.{div_ceil};
 ghost use Rattle.bit_pipe.specs.Coming.{coming, IsIn};
@@ -11,7 +11,7 @@ use crate::strided_cells::{clear, set_numbers};
 use crate::take_gaggle::take_gaggle;
 use bit_pipe::{BitIn, OctetIn, Part, TextFault};
 
-// The last of a gaggle's numbers.
+// Returns the last of a gaggle's numbers.
 fn last_of(heights: &[u16]) -> u16
     requires { 0 < length heights.now }
     ensures { result ≡ slice_index heights.now (length heights.now - 1) }
@@ -20,16 +20,16 @@ fn last_of(heights: &[u16]) -> u16
 }
 
 /// Takes numbers of a range by their differences, and refuses those that are higher above the least than `most`
-/// (docs/formats.md, "Numbers by differences"). The numbers times 2^shift go into every `stride`-th cell, as far as
-/// they are given; further ones are 0, and all other cells stay. Returns whether all items were in the
-/// text, and the number of numbers that are given.
+/// (docs/formats.md, "Numbers by differences"). The numbers times 2^shift are put into every `stride`-th cell, as
+/// far as they are given; further ones are 0, and all other cells stay. Returns whether all items were in the text,
+/// and the number of numbers that are given.
 ///
 /// `stride` is at least 1, `range.bits` and `shift` are at most 28 together, and there are fewer than 2^20 numbers.
 ///
 /// # Errors
 ///
 /// `BadOption`, `BadDelta` and `BadDepth` at the first item that is refused, and the faults of the input. The cells
-/// have the numbers that are given then too.
+/// also have the numbers that are given then.
 pub fn take_bounded<I: OctetIn>(
     input: &mut BitIn<I>,
     cells: &mut [i32],
@@ -67,15 +67,15 @@ pub fn take_bounded<I: OctetIn>(
 }
 
 /// Takes numbers of a range by their differences (docs/formats.md, "Numbers by differences"). The numbers times
-/// 2^shift go into every `stride`-th cell, as far as they are given; further ones are 0, and all other cells stay.
-/// Returns whether all items were in the text, and the number of numbers that are given.
+/// 2^shift are put into every `stride`-th cell, as far as they are given; further ones are 0, and all other cells
+/// stay. Returns whether all items were in the text, and the number of numbers that are given.
 ///
 /// `stride` is at least 1, `range.bits` and `shift` are at most 28 together, and there are fewer than 2^20 numbers.
 ///
 /// # Errors
 ///
-/// `BadOption` and `BadDelta` at the first item that is refused, and the faults of the input. The cells have the
-/// numbers that are given then too.
+/// `BadOption` and `BadDelta` at the first item that is refused, and the faults of the input. The cells also
+/// have the numbers that are given then.
 pub fn take_values<I: OctetIn>(
     input: &mut BitIn<I>,
     cells: &mut [i32],

@@ -1,4 +1,4 @@
-// The numbers of one gaggle from bits.
+// The reader of the numbers of one gaggle.
 ghost use Rattle.std.specs.Prelude.{◌≡◌, ◌<◌, ◌≤◌, ◌+◌, ◌^◌, ◌-◌, ◌*◌, ℕ, Bool, true, [], length};
 ghost use Rattle.bit_pipe.specs.Coming.{coming, IsIn};
 ghost use Rattle.bit_pipe.specs.Answers.{TakesOne};
@@ -13,7 +13,7 @@ use crate::range::NumberRange;
 use crate::values::option_bits;
 use bit_pipe::{BitIn, OctetIn, Part, TextFault};
 
-// Returns whether an identifier names an option: all ones, or a k in range.
+// Returns whether an identifier has an option: all ones, or a k in range.
 fn names_option(bits: u8, option: u8) -> bool
     requires { 2 ≤ bits }
     ensures { result ≡ is_option bits option }

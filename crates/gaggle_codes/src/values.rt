@@ -8,7 +8,7 @@ ghost use Rattle.gaggle_codes.specs.GaggleBits.{unary_bits, rest_bits, value_bit
 use crate::choice::UNCODED;
 use bit_pipe::{BitOut, OctetOut, PutFault};
 
-// The bits of an identifier.
+// Returns the number of bits of an identifier.
 pub(crate) fn option_bits(bits: u8) -> u8
     ensures is { result ≡ identifier_bits bits }
     ensures few { result ≤ 4 }
@@ -21,7 +21,7 @@ pub(crate) fn option_bits(bits: u8) -> u8
     }
 }
 
-// An option by its name: k, or all ones of whichever width.
+// Puts an option by its number: k, or all ones of whichever width.
 pub(crate) fn put_identifier<O: OctetOut>(
     out: &mut BitOut<O>,
     bits: u8,
@@ -74,7 +74,7 @@ fn put_rests<O: OctetOut>(out: &mut BitOut<O>, values: &[u16], k: u8) -> Result<
     Ok(())
 }
 
-// Mapped values under an option: as they are, or all unary parts and then all rests.
+// Puts mapped values under an option: as they are, or all unary parts and then all rests.
 pub(crate) fn put_mapped<O: OctetOut>(
     out: &mut BitOut<O>,
     values: &[u16],

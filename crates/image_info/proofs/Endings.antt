@@ -47,7 +47,7 @@ long_so apid u fault e = e ∙ ap (λ (f : InFault). Some (Err f)) (long_read ap
 
 -- ---- all packets were passed
 
--- whatever the answer at the end will be
+-- whatever the result at the end will be
 with_answer : (cap : ℕ) (v : Intake) (took : List ℕ) (passed : List (List ℕ)) (found : Option Framing) → HasRead 0 cap (reading v passed None) took passed → HasRead 0 cap (reading v passed found) took passed
 with_answer cap v took passed found read = record {
   apid = read.apid;

@@ -141,7 +141,7 @@ begun_none wanted = record {
   apart = λ i j lt. absurd (omega (arith, lt));
 }
 
--- a kept packet stays kept
+-- a packet that is kept remains kept
 pub kept_grows : (id : ImageId) (packets : List (List ℕ)) (packet : List ℕ) → 0 < length (kept_of id packets) → 0 < length (kept_of id (packets ++ packet ∷ []))
 kept_grows id packets packet some = by (is_own id packet) refl
   where
@@ -162,7 +162,7 @@ zero_is n e = grind (arith, nat_tests)
 both : (a b : Bool) → a ≡ true → b ≡ true → (a && b) ≡ true
 both a b e f = rw (e, f) refl
 
--- where a packet of its image was kept before, a packet doesn't begin it
+-- if a packet of its image was kept before, a packet doesn't begin it
 pub begins_no_more : (wanted : Option ℕ) (packets : List (List ℕ)) (packet : List ℕ) → 0 < length (kept_of (id_in packet) packets) → begins_next wanted packets packet ≡ false
 begins_no_more wanted packets packet some = by (begins_next wanted packets packet) refl
   where
@@ -173,7 +173,7 @@ begins_no_more wanted packets packet some = by (begins_next wanted packets packe
         let none = is_zero (length (kept_of (id_in packet) packets)) (and_parts (is_kept_after packets packet) (length (kept_of (id_in packet) packets) == 0) two.1).1 in
         absurd (omega (arith, some, none))
 
--- and where none was, a kept one does
+-- and if none was, a kept one does
 pub begins_so : (wanted : Option ℕ) (packets : List (List ℕ)) (packet : List ℕ) → is_wanted wanted (apid_in packet) ≡ true → is_kept_after packets packet ≡ true → kept_of (id_in packet) packets ≡ [] →
     begins_next wanted packets packet ≡ true
 begins_so wanted packets packet is keeps none =

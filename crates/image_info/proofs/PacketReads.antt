@@ -44,7 +44,7 @@ apid_so octets packet n is e = ap (λ n. n % 2048) (e ∙ ap (big_number 2) is)
 pub no_fault : (apid : ℕ) (u : Intake) (fault : InFault) → begins_packet u.pending ≡ true → verdict apid u ≡ Some (Err fault) → ⊥
 no_fault apid u fault whole e = false≢true (sym (long_read apid u fault e).none ∙ whole)
 
--- where it is none of an image, it is skipped
+-- if it is none of an image, it is skipped
 pub other_skip : (apid : ℕ) (u : Intake) (read : PacketRead) → begins_packet u.pending ≡ true → verdict apid u ≡ Some (Ok read) → ((head : PacketHead) (a : Ancillary) → read ≡ Mine head a → ⊥) →
     (skip : Skip) × (skip_of apid (first_packet u.pending) ≡ Some skip)
 other_skip apid u (Mine head a) whole e not = absurd (not head a refl)
@@ -52,7 +52,7 @@ other_skip apid u (Skipped skip) whole e not = (skip, (other_read apid u skip e)
 other_skip apid u Ended whole e not = absurd (false≢true (sym (over_read apid u Ended refl e).0 ∙ whole))
 other_skip apid u (Fault fault) whole e not = absurd (false≢true (sym (over_read apid u (Fault fault) refl e).0 ∙ whole))
 
--- its text, where it is one of an image
+-- its text, if it is one of an image
 pub text_so : (apid : ℕ) (u w : Intake) → begins_packet u.pending ≡ true → skip_of apid (first_packet u.pending) ≡ None → w ≡ answered apid u → w.text ≡ text_in (first_packet u.pending)
 text_so apid u w whole mine stands =
     let next : w.text ≡ text_mine apid (first_packet u.pending) = ap (λ (w : Intake). w.text) (stands ∙ answered_packet apid u whole) in

@@ -1,4 +1,4 @@
--- A list of images goes on by one packet.
+-- A list of images is continued by one packet.
 use Rattle.std.proofs.Common.{◌≡◌, ◌≤◌, ◌<◌, ◌+◌, ◌-◌, ◌^◌, ℕ, List, [], ◌∷◌, ◌++◌, length, take, refl, sym, ap, subst, ◌∙◌, arith, append_assoc, length-append}
 use Rattle.std.specs.Prelude.{Bool, true, false, ◌||◌, Option, None, Some, Result, Ok}
 use Rattle.std.proofs.lemmas.Bool.{false≢true}
@@ -36,7 +36,7 @@ use Rattle.image_info.proofs.EntryLists.{length-entries, entry_is}
 use Rattle.image_info.proofs.Passed.{IsTable, table_none, table_next, few_next}
 use Rattle.image_info.proofs.Bounds.{counts_below}
 
--- what an assembly would be after these packets, with a reader in this state and this answer at its end
+-- what an assembly would be after these packets, with a reader in this state and this result at its end
 abbrev pub reading : Intake → List (List ℕ) → Option Framing → Assembling
 reading v passed found = record {
   apid = 0;
@@ -61,7 +61,7 @@ pub record HasTabled (wish : InfoWish) (start now : Outside) (v : Intake) (table
 
 -- ---- octets more
 
--- at a read call of earlier octets nothing has changed, whatever is taken afterwards
+-- a read call at earlier octets is unchanged, whatever is taken afterwards
 asks_took : (wanted : Option ℕ) (took t : List ℕ) (i j : ℕ) → i ≤ length took → AsksFew wanted took i j → AsksFew wanted (took ++ t) i j
 asks_took wanted took t i j le asks = (asks.0, subst (λ zs. image_count wanted zs ≤ most_images) (sym (take-append-le i took t le)) asks.1)
 
@@ -87,7 +87,7 @@ module _ {wish : InfoWish} {start now new : Outside} {v u : Intake} {table : Lis
   since_filled : Exchange start new (come.took ++ x.took) [] [] (AsksFew wish.apid (come.took ++ x.took))
   since_filled = since_in (since_weaker come.since (λ i j le r. asks_took wish.apid come.took x.took i j le r)) x.since (λ i j le r. asks_now i j r)
 
-  -- where the end was seen, nothing is left
+  -- if the end was reached, nothing is left
   end_filled : SawEnd new (reading (fed v x.took x.saw_end) come.passed None)
   end_filled rest told ended = by v.ended refl ended
     where
@@ -122,7 +122,7 @@ module _ {wish : InfoWish} {start now new : Outside} {v u : Intake} {table : Lis
 
 -- ---- the next packet
 
--- the reader is past the packet with which the octets that wait begin
+-- the reader is after the packet with which the octets that wait begin
 pub past_one : (apid cap : ℕ) (u : Intake) (took : List ℕ) (passed : List (List ℕ)) → HasRead 0 cap (reading u passed None) took passed → begins_packet u.pending ≡ true →
     HasRead 0 cap (reading (answered apid u) (passed ++ first_packet u.pending ∷ []) None) took (passed ++ first_packet u.pending ∷ [])
 past_one apid cap u took passed read whole =
@@ -179,7 +179,7 @@ none_tabled wish start v table is none = subst (λ v. HasTabled wish start start
 
 -- ---- what is left
 
--- octets that may be passed still
+-- octets that can still be passed
 abbrev pub measure : Intake → ℕ
 measure v = (v.cap - v.taken) + length v.pending
 

@@ -49,7 +49,7 @@ next_same standing packet n part =
 
 -- ---- all packets
 
--- where a packet was kept there is a geometry
+-- if a packet was kept there is a geometry
 abbrev HasSize : FateState → Type 0
 HasSize s = (last : LastPart) → s.last ≡ Some last → IsSome s.geometry
 

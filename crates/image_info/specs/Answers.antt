@@ -18,8 +18,8 @@ image_count wanted octets = length (images wanted (whole_packets octets))
 abbrev pub AsksFew : (wanted : Option ℕ) → (took : List ℕ) → ℕ → ℕ → Type 0
 AsksFew wanted took i j = (j ≡ 0) × (image_count wanted (take i took) ≤ most_images)
 
--- What is given are the lines of all images of the octets that were taken, and these were read to the end, or can't be read on for
--- this reason.
+-- What is given is the lines of all images of the octets that were taken, and these were read to the end, or can't be read on for this
+-- reason.
 pub record IsInfo (wish : InfoWish) (new : Outside) (took gave : List ℕ) (done : InfoDone) : Type 0 where
   pub lines : gave ≡ listing wish.apid took
   pub images_are : done.images ≡ image_count wish.apid took
@@ -27,8 +27,8 @@ pub record IsInfo (wish : InfoWish) (new : Outside) (took gave : List ℕ) (done
   pub framing_is : done.framing ≡ framing took
   pub out : IsReadOut wish.octets new took
 
--- Why it was answered so. Where the port reports what is left, what was taken and the end decide between a list that is done, an
--- input that is too long and one with too many images.
+-- Why the call ended so. If the port reports what is left, what was taken and the end decide between a list that is done, an input that is
+-- too long and one with too many images.
 abbrev pub Answers : InfoWish → (old new : Outside) → (took gave : List ℕ) → Result InfoDone InfoFault → Type 0
 Answers wish old new took gave (Ok done) = IsInfo wish new took gave done
 Answers wish old new took gave (Err LongInput) =
@@ -40,8 +40,8 @@ Answers wish old new took gave (Err WriteFault) =
 Answers wish old new took gave (Err TooManyImages) = (most_images < image_count wish.apid took) × (gave ≡ [])
 Answers wish old new took gave (Err Memory) = (old ≡ new) × (took ≡ []) × (gave ≡ [])
 
--- One run over a port: what it took and gave, when, and why it ended so. However it ends, it takes at most as many octets as are
--- wished, and it gives nothing before its last read call.
+-- One run over a port: what it took and gave, when, and why it ended so. However it ends, it takes at most the number of octets in the
+-- wish, and it gives nothing before its last read call.
 pub record Informs (wish : InfoWish) (old new : Outside) (result : Result InfoDone InfoFault) : Type 0 where
   pub took : List ℕ
   pub gave : List ℕ

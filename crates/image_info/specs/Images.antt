@@ -19,7 +19,7 @@ id_in packet = record { apid = apid_in packet; image = (ancillary_in packet).ima
 abbrev pub own_packets : ImageId → List (List ℕ) → List (List ℕ)
 own_packets id packets = picked_of id.apid (Some id.image) packets
 
--- what they leave for the next one's fate, and those that are kept: each by the packets of this image alone
+-- the state that they leave for the next one's fate, and those that are kept: each by the packets of this image alone
 abbrev pub state_of : ImageId → List (List ℕ) → FateState
 state_of id packets = after_all id.apid fresh (own_packets id packets)
 

@@ -1,4 +1,4 @@
--- Laws of what is listed of an image. This project's own.
+-- The laws of what is listed of an image. This project's own.
 use Rattle.std.specs.Prelude.{◌≡◌, ◌↔◌, ℕ, List, length, Contains, All, Option, IsSome}
 use Rattle.std.specs.List.Sorted.{IsStrictlyIncreasing}
 use Rattle.stream_defs.specs.Received.{packets_at, IsComplete}

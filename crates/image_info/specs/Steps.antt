@@ -1,4 +1,4 @@
--- What a step leaves that passes one packet of the stream. This project's own.
+-- The effect of a step that passes one packet of the stream. This project's own.
 use Rattle.std.specs.Prelude.{◌≡◌, ◌≤◌, ◌<◌, ◌+◌, ◌^◌, ℕ, true, List, length, Option, None, Some, Result, Ok, Err}
 use Rattle.bit_pipe.specs.declared.fault.InFault.TheVariants as in_faults
 use Rattle.port_122.specs.Outside.{Outside}

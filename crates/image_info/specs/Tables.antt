@@ -1,4 +1,4 @@
--- The table of the images that have begun, and what a packet leaves of it. This project's own.
+-- The table of the images that have begun, and the effect of a packet on it. This project's own.
 use Rattle.std.specs.Prelude.{◌≡◌, ◌≤◌, ◌<◌, ◌+◌, ◌^◌, ℕ, Bool, true, false, if◌then◌else◌, List, [], ◌∷◌, ◌++◌, length, slice_index_or, slice_set, Option, None, Some, Result, Ok, Err}
 use Rattle.segment_defs.specs.declared.head.SegmentHead.{SegmentHead}
 use Rattle.packet_defs.specs.declared.ancillary.Ancillary.{Ancillary}
@@ -51,7 +51,7 @@ abbrev pub IsWithin : List ImageEntry → Option ℕ → Type 0
 IsWithin table None = Unit {0}
 IsWithin table (Some place) = place < length table
 
--- what its packets leave for the next one's fate, and their counts
+-- the state that its packets leave for the next one's fate, and their counts
 abbrev pub state_at : List ImageEntry → Option ℕ → FateState
 state_at table None = fresh
 state_at table (Some place) = (entry_at table place).state
@@ -88,7 +88,7 @@ entry_past table id place flags a octets found = record {
   count = count_with (count_at table place) octets (closes flags);
 }
 
--- what is left of the table after a packet that is classified so
+-- the table after a packet with this classification
 abbrev pub LeavesTable : (old new : List ImageEntry) → ImageId → Option ℕ → (flags : ℕ) → Ancillary → (octets : ℕ) → Result (Option SegmentHead) Fate → Result Unit TableFull → Type 0
 LeavesTable old new id place flags a octets (Err why) result = (result ≡ Ok tt) × (new ≡ old)
 LeavesTable old new id place flags a octets (Ok found) result = PutsEntry old new place (entry_past old id place flags a octets found) result

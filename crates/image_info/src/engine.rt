@@ -1,4 +1,4 @@
-// The images of a stream, listed as lines.
+// Lists the images of a stream as lines.
 ghost use Rattle.std.specs.Prelude.{◌≡◌};
 ghost use Rattle.image_info.specs.Answers.{Informs};
 ghost use Rattle.image_info.specs.Steps.{framing_in, CanTake, TakesNext};
@@ -55,7 +55,7 @@ pub fn list_images<X: Port>(
     }
 }
 
-// What became of the next packet: it was passed, or there is none, and maybe the stream can't be read on.
+// The result for the next packet: it was passed, or there is none, and maybe the stream can't be read on.
 #[derive(Clone, Copy)]
 enum Step {
     Passed,

@@ -1,4 +1,4 @@
-// The lines of all images, written.
+// Writes the lines of all images.
 ghost use Rattle.port_122.specs.Outside.{WritesAll};
 ghost use Rattle.image_info.specs.Lines.{lines_of};
 ghost use Rattle.image_info.specs.Tables.{AreRanged};

@@ -8,14 +8,14 @@ pub struct ImageId {
     pub image: u16,
 }
 
-/// What was counted of an image's kept packets.
+/// The counts of an image's kept packets.
 #[derive(Clone, Copy, Debug, PartialEq, Eq)]
 pub struct ImageCount {
-    /// The kept packets.
+    /// The number of kept packets.
     pub packets: u64,
-    /// The octets of these packets, each with its primary header.
+    /// The number of octets of these packets, each with its primary header.
     pub octets: u64,
-    /// The segments of which every packet is kept.
+    /// The number of segments of which every packet is kept.
     pub received: u64,
 }
 
@@ -23,7 +23,7 @@ pub struct ImageCount {
 #[derive(Clone, Copy, Debug, PartialEq, Eq)]
 pub struct ImageEntry {
     pub id: ImageId,
-    /// What its packets leave for the next one's fate.
+    /// The state that its packets leave for the next one's fate.
     pub state: FateState,
     pub count: ImageCount,
 }

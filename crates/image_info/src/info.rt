@@ -1,8 +1,8 @@
-// What is asked of a list of images, and how it ends.
+// The wish for a list of images, and its results.
 use packet_defs::Framing;
 use thiserror::Error;
 
-/// Which images are listed.
+/// The wish for a list of images.
 #[derive(Clone, Copy, Debug, PartialEq, Eq)]
 pub struct InfoWish {
     /// The APID of the images; `None` for those of every APID.
@@ -18,7 +18,7 @@ pub struct InfoDone {
     pub framing: Option<Framing>,
 }
 
-/// Why the images were not listed.
+/// The reason why the images were not listed.
 #[derive(Clone, Copy, Debug, PartialEq, Eq, Error)]
 pub enum InfoFault {
     /// A read failed.
@@ -30,7 +30,7 @@ pub enum InfoFault {
     /// The input has more octets than are read.
     #[error("input too long")]
     LongInput,
-    /// More images begin than there are lines for.
+    /// The images that begin are more than there are lines for.
     #[error("too many images")]
     TooManyImages,
     /// There is no memory for a packet or for the table of images.

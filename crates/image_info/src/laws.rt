@@ -1,4 +1,4 @@
-// Laws of what is listed of an image.
+// The laws of what is listed of an image.
 ghost use Rattle.image_info.specs.Laws.{ReceivedAreComplete, ImagesHaveGeometry};
 
 /// The segments that an image's line reports as received are those of which all packets are kept.

@@ -1,4 +1,4 @@
-// One packet of the stream, counted in the table.
+// Passes one packet of the stream, and counts it in the table.
 ghost use Rattle.std.specs.Prelude.{◌≡◌, ◌≤◌, ◌+◌, [], length, true, Some, None};
 ghost use Rattle.packet_defs.specs.Reading.{apid_in};
 ghost use Rattle.packet_defs.specs.Streams.{begins_packet, first_packet};
@@ -13,7 +13,7 @@ use packet_assembly::{classify, past_kept};
 use packet_defs::{Ancillary, PacketHead, PacketRead};
 use space_packets::PacketReader;
 
-// Octets of a primary header.
+// The number of octets of a primary header.
 const HEADER: u64 = 6;
 
 /// Passes the next packet, which the octets that were taken hold, and counts it for its image if it is kept.

@@ -8,7 +8,7 @@ use stream_defs::FateState;
 // The most images of a list.
 const IMAGES: usize = 4096;
 
-// There is no room for another image.
+// The error that there is no room for another image.
 #[derive(Clone, Copy, Debug, PartialEq, Eq)]
 pub struct TableFull;
 
@@ -51,7 +51,7 @@ impl Table {
         None
     }
 
-    // Returns what the packets of an image leave for the next one's fate.
+    // Returns the state that the packets of an image leave for the next one's fate.
     pub fn state_at(&self, place: Option<usize>) -> FateState
         requires { IsWithin self.now.entries.items place }
         ensures { result ≡ state_at self.now.entries.items place }

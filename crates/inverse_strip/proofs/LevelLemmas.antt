@@ -17,7 +17,7 @@ joined-row q n w i l r y two left right made =
     let same = merged-same w l (columns_merged q.ll q.lh n i) r (columns_merged q.hl q.hh n i) two left right in
     record { at = λ j h. made.at j h ∙ same.at j h }
 
--- A row that can be given is that of every height that the bands may have.
+-- A row that can be given is the same for every height that the bands may have.
 pub joined-height : (q : Quarters) (n n' h w i : ℕ) (y : ℕ → ℤ) → 2 ≤ w → HasRow n i h → n ≤ n' → (n ≡ h → n' ≡ h) → Agrees (2 * w) y (joined q n w i) → Agrees (2 * w) y (joined q n' w i)
 joined-height q n n' h w i y two row more end made =
     let three = row.three in
@@ -35,7 +35,7 @@ joined-height q n n' h w i y two row more end made =
           (record { at = λ k l a b c d e f. refl });
     }
 
--- and how large it is
+-- and its bound
 pub joined-small : (m w : ℕ) (l r y : ℕ → ℤ) → 9 ≤ m → 2 ≤ w → AllWithin (3 * m) w l → AllWithin (3 * m) w r → Agrees (2 * w) y (merged l r w) → AllWithin (9 * m) (2 * w) y
 joined-small m w l r y nine two left right made =
     let within = merged-within (3 * m) w l r (omega arith) two left right in

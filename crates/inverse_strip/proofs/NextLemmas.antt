@@ -9,7 +9,7 @@ use Rattle.block_families.specs.Places.{place_in}
 use Rattle.inverse_strip.specs.declared.strip.StripInverse.{StripInverse}
 use Rattle.inverse_strip.specs.Strip.{IsNext, numbers_of}
 
--- the number at a place, from that at the position of its block
+-- the number at a place is the number at the position of its block
 number-there : (p : Pyramid) (t n : ℕ) (numbers : Place → ℤ) → ((column i : ℕ) → column < n → i < 64 → numbers (place_in column i) ≡ coefficient p t column i) → (band y column x : ℕ) → IsPlace (record { band = band; row = y; column = x }) → column < n → band_of p band (block_side band * t + y) (block_side band * column + x) ≡ numbers (record { band = band; row = y; column = block_side band * column + x })
 unfolding coefficient
 number-there p t n numbers set band y column x is h =

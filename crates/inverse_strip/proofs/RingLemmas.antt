@@ -10,7 +10,7 @@ use Rattle.wave_defs.proofs.LineLaws.{even_of-merged, odd_of-merged}
 use Rattle.wave_defs.proofs.RingLaws.{AreRows-turn, RowsWithin-turn, AreNewest-turn}
 use Rattle.inverse_strip.specs.Kept.{AreRings, HoldPairs, AreSmall, half_more}
 
--- what a `Vec` holds after its whole slice was lent and came back as out
+-- what a `Vec` holds after its whole slice was lent and was returned as out
 pub written_whole : (n : ℕ) (out old : List ℤ) → length out ≡ n → length old ≡ n → take n (out ++ drop (length out) old) ≡ out
 written_whole n out old lo ln =
     take-append-le n out (drop (length out) old) (omega arith) ∙ take_all n out (omega arith)

@@ -11,7 +11,7 @@ use Rattle.wave_defs.proofs.LiftLaws.{Agrees-columns_even, Agrees-columns_odd}
 use Rattle.wave_defs.proofs.RingLaws.{newest_at}
 use Rattle.inverse_strip.specs.Kept.{HoldPairs, AreSmall, half_more}
 
--- even row j, where the ring has the high row before it
+-- even row j, if the ring has the high row before it
 pub Agrees-even_row : (c d : ℕ → ℕ → ℤ) (w m j : ℕ) (highs : List (List ℤ)) (y l h : ℕ → ℤ) → m ≡ w → length highs ≡ 3 → 1 ≤ j → Agrees m y (plus_correction l (signal (get_or highs 2 [])) h) → AreNewest d w j highs → Agrees w l (c j) → Agrees w h (d j) → Agrees w y (columns_even c d j)
 Agrees-even_row c d w m j highs y l h em three one lifted newest low high =
     Agrees-columns_even c d w m j (j - 1) y l _ h em refl lifted low (newest_at d w j 2 (j - 1) highs newest (omega arith) (omega arith)) high

@@ -1,4 +1,4 @@
--- How many samples the parts of the rolling inverse hold.
+-- The number of samples that the parts of the rolling inverse hold.
 use Rattle.std.proofs.Common.{◌≡◌, ℕ, suc, ◌+◌, ◌*◌, ◌<◌, ℤ, List, [], ◌∷◌, length, get_or, ap, ◌∙◌, arith}
 use native.Mathlib.Nat.{add-mul}
 use Rattle.wave_defs.specs.Rings.{AreRows}

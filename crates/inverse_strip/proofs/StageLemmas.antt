@@ -7,7 +7,7 @@ use Rattle.wave_defs.specs.Rings.{AreRows, RowsWithin, AreNewest}
 use Rattle.wave_defs.proofs.LevelWithin.{IsWithin-more}
 use Rattle.wave_defs.proofs.RingLaws.{AreRows-turn, RowsWithin-turn, AreNewest-turn, newest_at}
 
--- row number n of those that wait, of which so many came
+-- row number n of those that wait, of which `came` arrived
 pub waiting-at : (f : ℕ → ℕ → ℤ) (w kept came n : ℕ) (rows : List (List ℤ)) (x : List ℤ) → AreRows kept w rows → x ≡ get_or rows (n + kept - came) [] → n < came → came ≤ n + kept → AreNewest f w came rows → Agrees w (signal x) (f n)
 waiting-at f w kept came n rows x s e less fits newest =
     let count = s.count_is in

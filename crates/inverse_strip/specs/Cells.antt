@@ -1,4 +1,4 @@
--- How the numbers of one block row stand in a list: band after band in the order of the bands' numbers, each row after row.
+-- How the numbers of one block row are in a list: band after band in the order of the bands' numbers, each row after row.
 use Rattle.std.specs.Prelude.{◌≡◌, ◌<◌, ℕ, ◌+◌, ◌*◌, ℤ, pos, Bool, List, nat_lt, ◌&&◌, if◌then◌else◌}
 use Rattle.wave_defs.specs.Blocks.{Place, block_side}
 use Rattle.wave_defs.specs.Held.{signal}
@@ -14,7 +14,7 @@ first_of_row band row = first_cell band + block_side band * row
 abbrev pub cell_of : (columns : ℕ) → Place → ℕ
 cell_of columns p = first_of_row p.band p.row * columns + p.column
 
--- the place is within a block row of so many blocks
+-- the place is within a block row of this number of blocks
 unfoldable pub is_place_in : (columns : ℕ) → Place → Bool
 is_place_in columns p =
     nat_lt p.band 10 && nat_lt p.row (block_side p.band) && nat_lt p.column (block_side p.band * columns)

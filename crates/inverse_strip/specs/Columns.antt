@@ -3,7 +3,7 @@ use Rattle.std.specs.Prelude.{ℕ, ℤ}
 use Rattle.inverse_strip.specs.declared.columns.Columns.{Columns}
 use Rattle.inverse_strip.specs.Kept.{HoldPairs, AreSmall}
 
--- the columns stand as after the first pairs of low rows c and high rows d
+-- the columns are as after the first pairs of low rows c and high rows d
 abbrev pub Follow : (ℕ → ℕ → ℤ) → (ℕ → ℕ → ℤ) → Columns → Type 0
 Follow c d s = HoldPairs c d s.width s.taken s.evens s.highs
 

@@ -1,4 +1,4 @@
--- The rings of one level's columns on the way back, and what they hold.
+-- The rings of the columns of a level of the inverse, and what they hold.
 use Rattle.std.specs.Prelude.{◌≡◌, ℕ, ◌+◌, ◌-◌, ◌*◌, ◌/◌, ◌≤◌, ◌<◌, ◌⊎◌, ℤ, List}
 use Rattle.wave_defs.specs.Lifted.{columns_even}
 use Rattle.wave_defs.specs.Rings.{AreRows, RowsWithin, AreNewest}
@@ -8,8 +8,8 @@ pub record AreRings (w : ℕ) (es hs : List (List ℤ)) : Type 0 where
   pub evens : AreRows 4 w es
   pub highs : AreRows 3 w hs
 
--- The newest even and high rows, where n pairs were taken of low rows c and high rows d. Only the pairs that were taken count,
--- so a level follows every image that begins with them.
+-- The newest even and high rows, after n pairs of low rows c and high rows d were taken. The condition depends only on the
+-- pairs that were taken, so a level follows every image that begins with them.
 pub record HoldPairs (c d : ℕ → ℕ → ℤ) (w n : ℕ) (es hs : List (List ℤ)) : Type 0 where
   pub evens : AreNewest (columns_even c d) w n es
   pub highs : AreNewest d w n hs
@@ -23,9 +23,9 @@ pub record AreSmall (m w : ℕ) (es hs : List (List ℤ)) : Type 0 where
   pub evens : RowsWithin (half_more m) w es
   pub highs : RowsWithin m w hs
 
--- Of n rows of each band that were taken and i rows of the image that were given.
+-- In what follows, n rows of each band were taken and i rows of the image were given.
 
--- the next row can be given, where the bands have so many rows in all: all rows that it is made from were taken
+-- the next row can be given, if the bands have `height` rows in all: all rows that it is made from were taken
 pub record HasRow (n i height : ℕ) : Type 0 where
   pub three : 3 ≤ n
   pub made : (i + 3 < 2 * n) ⊎ ((n ≡ height) × (i < 2 * n))
@@ -35,12 +35,12 @@ pub record Waits (n i : ℕ) : Type 0 where
   pub kept : n ≤ i / 2 + 3
   pub given : i ≤ 2 * n
 
--- and would be so after one more row of each band
+-- this would hold after one more row of each band
 abbrev pub IsDrained : ℕ → ℕ → Type 0
 IsDrained n i = n ≤ i / 2 + 2
 
--- Of n block rows that were taken of so many in all, and of the rows that each level gave to the next one: what waits is still
--- kept, and before the last block row each level gave only what no later row changes.
+-- n block rows of `height` were taken, and each level gave these numbers of rows to the next one: what waits is still kept,
+-- and before the last block row each level gave only what no later row changes.
 pub record Counts (n third second first height : ℕ) : Type 0 where
   pub within : n ≤ height
   pub second_waits : 2 * n ≤ third + 6
@@ -49,7 +49,7 @@ pub record Counts (n third second first height : ℕ) : Type 0 where
   pub second_open : n < height → second ≤ 2 * third - 3
   pub first_open : n < height → first ≤ 2 * second - 3
 
--- an image of r block rows may begin with the n that were taken, where it is told to have so many in all
+-- an image of r block rows may begin with the n that were taken, if its height is given as `height`
 pub record IsCompletion (n height r : ℕ) : Type 0 where
   pub more : n ≤ r
   pub whole : n ≡ height → r ≡ height

@@ -1,4 +1,4 @@
--- How the rolling inverse stands once the row that it answered is no longer read.
+-- The state of the rolling inverse after the row that it returned is no longer read.
 use Rattle.std.specs.Prelude.{◌≡◌, ℕ, ◌+◌, Bool, true, false, Option, is_some, List, ℤ}
 use Rattle.std.specs.Borrow.{MutBor, Bor, Fml}
 use Rattle.std.specs.Io.BufRead.{Rests}
@@ -9,7 +9,7 @@ use Rattle.inverse_strip.specs.declared.strip.StripInverse.{StripInverse}
 use Rattle.inverse_strip.specs.contracts.strip.StripInverse.{the_row}
 use Rattle.inverse_strip.specs.Strip.{FollowStrip, columns_of, height_of, taken_of, next_of, numbers_of}
 
--- one row more was made, or none can be made before the next block row
+-- one more row was made, or none can be made before the next block row
 pub record Moves (old new : StripInverse) (made : Bool) : Type 0 where
   pub height : height_of new ≡ height_of old
   pub width : columns_of new ≡ columns_of old

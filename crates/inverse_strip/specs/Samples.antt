@@ -1,4 +1,4 @@
--- How many samples the rolling inverse holds: the lengths of all lists of numbers inside it.
+-- The number of samples that the rolling inverse holds: the lengths of all lists of numbers inside it.
 use Rattle.std.specs.Prelude.{ℕ, ◌+◌, ℤ, List, [], ◌∷◌, length, vec_len}
 use Rattle.inverse_strip.specs.declared.columns.Columns.{Columns}
 use Rattle.inverse_strip.specs.declared.level.InverseLevel.{InverseLevel}

@@ -4,7 +4,7 @@ use Rattle.wave_defs.specs.Rings.{AreNewest}
 use Rattle.inverse_strip.specs.declared.stage.LevelStage.{LevelStage}
 use Rattle.inverse_strip.specs.Level.{FollowLevel}
 
--- the level stands as after the first rows of these bands, and the newest rows of the high ones wait
+-- the level is as after the first rows of these bands, and the newest rows of the high ones wait
 pub record FollowStage (q : Quarters) (s : LevelStage) : Type 0 where
   pub level : FollowLevel q s.level
   pub hl : AreNewest q.hl s.level.left.width s.came s.hl

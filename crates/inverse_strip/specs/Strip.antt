@@ -8,8 +8,8 @@ use Rattle.inverse_strip.specs.declared.strip.StripInverse.{StripInverse}
 use Rattle.inverse_strip.specs.Level.{FollowLevel}
 use Rattle.inverse_strip.specs.Stage.{FollowStage}
 
--- the blocks of a block row, the block rows of the image as far as it is told, those that were taken, and the number of the
--- next row of the image
+-- the blocks of a block row, the number of block rows of the image as it is given, the number of those that were taken, and
+-- the number of the next row of the image
 abbrev pub columns_of : StripInverse → ℕ
 columns_of s = s.third.left.width
 
@@ -30,7 +30,7 @@ row_of s = s.row.items
 abbrev pub numbers_of : StripInverse → Place → ℤ
 numbers_of s = number_in s.next.columns s.next.cells.items
 
--- it stands as after the first block rows of this pyramid, of r block rows in all
+-- it is as after the first block rows of this pyramid, of r block rows in all
 pub record FollowStrip (p : Pyramid) (r : ℕ) (s : StripInverse) : Type 0 where
   pub third : FollowLevel (third_of p) s.third
   pub second : FollowStage (second_of p r s.third.left.width) s.second
@@ -41,7 +41,7 @@ pub record IsNext (p : Pyramid) (t : ℕ) (s : StripInverse) : Type 0 where
   pub band : (band : ℕ) → band < 10
       → HasBlockRow (band_of p band) band (block_side band * t) s.next.columns s.next.cells.items
 
--- where a number is set, all else stays, and with it every image that it follows
+-- if a number is set, all else stays, and it follows the same images
 pub record Keeps (old new : StripInverse) : Type 0 where
   pub height : height_of new ≡ height_of old
   pub width : columns_of new ≡ columns_of old

@@ -8,7 +8,7 @@ ghost use Rattle.inverse_strip.specs.Cells.{first_cell, first_of_row};
 
 use std::alloc::{AllocError, Global};
 
-/// The numbers of a block row of so many blocks, band after band. They fit 32 bits, which halves what waits in memory.
+/// The numbers of a block row of this number of blocks, band after band. They have 32 bits, so those that wait take half the memory.
 #[derive(Drop)]
 pub struct BlockRow {
     pub columns: usize,
@@ -18,7 +18,7 @@ pub struct BlockRow {
     ghost small: { AllWithin (2 ^ 27) (64 * columns) (signal cells.items) },
 }
 
-/// The rows, and the columns, that a band has in one block.
+/// Returns the number of rows, and of columns, that a band has in one block.
 pub fn side_of(band: usize) -> usize
     ensures { result ≡ block_side band }
 {
@@ -31,7 +31,7 @@ pub fn side_of(band: usize) -> usize
     1
 }
 
-/// The numbers of a block before those of a band.
+/// Returns the number of numbers of a block that precede those of a band.
 fn numbers_before(band: usize) -> usize
     requires { band < 10 }
     ensures { result ≡ first_cell band }
@@ -63,7 +63,7 @@ impl BlockRow {
     ghost use Rattle.block_families.specs.Scattering.{SetsSquare};
     ghost use Rattle.inverse_strip.specs.Cells.{first_of_row, number_in};
 
-    /// All numbers are 0.
+    /// Returns a block row in which all numbers are 0.
     pub fn new(alloc: Global, columns: usize) -> Result<BlockRow, AllocError>
         requires { columns ≤ 2 ^ 17 }
         ensures columns { IfOk result (λ s. s.columns ≡ columns) }
@@ -73,7 +73,7 @@ impl BlockRow {
         Ok(BlockRow { columns, cells })
     }
 
-    /// Where a row of a band begins.
+    /// Returns where a row of a band begins.
     fn start_of(&self, band: usize, row: usize) -> usize
         requires band { band < 10 }
         requires row { row < block_side band }
@@ -83,7 +83,7 @@ impl BlockRow {
         (numbers_before(band) + side_of(band) * row) * self.columns
     }
 
-    /// A row of a band.
+    /// Returns a row of a band.
     pub fn row(&self, band: usize, row: usize) -> &[i32]
         requires band { band < 10 }
         requires row { row < block_side band }
@@ -146,7 +146,7 @@ impl BlockRow {
     {
         let upper = self.start_of(band, row);
         let lower = self.start_of(band, row + 1);
-        // The list is looked up once for all four.
+        // The list is accessed once for all four.
         let cells = self.cells.as_mut_slice();
         set_cell(cells, upper + column, values[0]);
         set_cell(cells, upper + column + 1, values[1]);

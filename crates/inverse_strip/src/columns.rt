@@ -11,8 +11,8 @@ use lift_rows::{mirrored_after, mirrored_before, predict_onto, update_onto};
 use line_rings::RowRing;
 use std::alloc::{AllocError, Global};
 
-/// Even row j from the pair of low and high row j and the high row before it, which is the newest
-/// of the ring (docs/formats.md, "A line"). Before the first high row that one itself serves.
+/// Computes even row j from low row j, high row j and the high row before it, which is the newest of the ring
+/// (docs/formats.md, "A line"). The first high row is used in place of the one before it.
 fn even_row(highs: &RowRing<i64>, j: usize, low: &[i64], high: &[i64], into: &mut [i64])
     requires highs { AreRows 3 (length into.old) highs.now }
     requires wide_low { length low.now ≡ length into.old }
@@ -36,7 +36,7 @@ fn even_row(highs: &RowRing<i64>, j: usize, low: &[i64], high: &[i64], into: &mu
     update_onto(into, low, highs.at(2), high);
 }
 
-/// Odd row k, where n pairs were taken and the even and the high rows that it needs are kept
+/// Computes odd row k, if n pairs were taken and the even and the high rows that it needs are kept
 /// (docs/formats.md, "A line"). The line ends after the n pairs.
 fn odd_row(evens: &RowRing<i64>, highs: &RowRing<i64>, n: usize, k: usize, into: &mut [i64])
     requires rings { AreRings (length into.old) evens.now highs.now }
@@ -60,7 +60,7 @@ fn odd_row(evens: &RowRing<i64>, highs: &RowRing<i64>, n: usize, k: usize, into:
     );
 }
 
-/// What is kept of the pairs of a low and a high row that were taken.
+/// The rows that are kept of the pairs of a low and a high row that were taken.
 #[derive(Drop)]
 pub struct Columns {
     pub width: usize,
@@ -80,7 +80,7 @@ impl Columns {
     ghost use Rattle.wave_defs.specs.Held.{Agrees, signal};
     ghost use Rattle.inverse_strip.specs.Columns.{Follow, IsSmall};
 
-    /// No pair was taken.
+    /// Returns columns of which no pair was taken.
     pub fn new(alloc: Global, width: usize) -> Result<Columns, AllocError>
         ensures width { IfOk result (λ s. s.width ≡ width) }
         ensures taken { IfOk result (λ s. s.taken ≡ 0) }
@@ -123,7 +123,7 @@ impl Columns {
         self.taken += 1;
     }
 
-    /// Row i, which is even, of the columns that end after the pairs that were taken. It is one of the newest.
+    /// Returns row i, which is even, of the columns that end after the pairs that were taken. It is one of the newest.
     pub fn even(&self, i: usize) -> &[i64]
         requires even { i % 2 ≡ 0 }
         requires inside { i < 2 * self.now.taken }
@@ -139,7 +139,7 @@ impl Columns {
         self.evens.at(i / 2 + 4 - self.taken)
     }
 
-    /// Row i, which is odd, of the columns that end after the pairs that were taken. It is one of the newest.
+    /// Computes row i, which is odd, of the columns that end after the pairs that were taken. It is one of the newest.
     pub fn odd(&self, i: usize, into: &mut [i64])
         requires odd { i % 2 ≡ 1 }
         requires wide { length into.old ≡ self.now.width }

@@ -8,8 +8,8 @@ use crate::wide::widen;
 use lift_rows::inverse_row;
 use std::alloc::{AllocError, Global};
 
-/// What is kept of the four bands of a level, of which some rows were taken, and how many rows of the
-/// image were given. The left columns are those of LL and LH, the right ones those of HL and HH.
+/// The rows that are kept of the four bands of a level, of which some rows were taken, and how many rows of
+/// the image were given. The left columns are those of LL and LH, the right ones those of HL and HH.
 #[derive(Drop)]
 pub struct InverseLevel {
     pub left: Columns,
@@ -33,7 +33,7 @@ impl InverseLevel {
     ghost use Rattle.inverse_strip.specs.Kept.{HasRow, IsDrained};
     ghost use Rattle.inverse_strip.specs.Level.{FollowLevel, IsSmallLevel};
 
-    /// No row was taken. The bands have rows of `width` samples.
+    /// Returns a level of which no row was taken. The bands have rows of `width` samples.
     pub fn new(alloc: Global, width: usize) -> Result<InverseLevel, AllocError>
         requires { 3 ≤ width }
         ensures width { IfOk result (λ s. s.left.width ≡ width) }
@@ -87,7 +87,7 @@ impl InverseLevel {
         self.right.push(hl, hh);
     }
 
-    /// Takes the next row of each band, as by `push`, whose numbers come in 32 bits.
+    /// Takes the next row of each band, like `push`, if the numbers have 32 bits.
     pub fn push_narrow(&mut self, ll: &[i32], hl: &[i32], lh: &[i32], hh: &[i32])
         requires wide_ll { length ll.now ≡ self.old.left.width }
         requires wide_hl { length hl.now ≡ self.old.left.width }
@@ -123,7 +123,7 @@ impl InverseLevel {
         self.right.push(&self.left_row, &self.right_row);
     }
 
-    /// Whether the next row can be given, where the bands have `height` rows in all.
+    /// Returns whether the next row can be given, if the bands have `height` rows in all.
     pub fn has_row(&self, height: usize) -> bool
         requires { self.now.left.taken < 2 ^ 32 }
         ensures { IsTrue result ↔ HasRow self.now.left.taken self.now.given height }
@@ -133,7 +133,7 @@ impl InverseLevel {
                 || (self.left.taken == height && self.given < 2 * self.left.taken))
     }
 
-    /// Gives the next row, where the bands have `height` rows in all.
+    /// Gives the next row, if the bands have `height` rows in all.
     pub fn next_row(&mut self, height: usize, into: &mut [i64])
         requires wide { length into.old ≡ 2 * self.old.left.width }
         requires few { self.old.left.taken < 2 ^ 32 }

@@ -1,5 +1,5 @@
-//! The inverse transform of an image whose block rows arrive one after the other, in the memory of
-//! some rows.
+//! This crate has the inverse transform of an image whose block rows arrive one after the other, in the
+//! memory of some rows.
 #![tactic(auto)]
 
 mod block_row;

@@ -1,4 +1,4 @@
-//! A level whose low band comes from the level before it, and whose other bands wait until then.
+//! A level whose low band is the output of the level before it, and whose other bands wait for it.
 
 ghost use Rattle.std.specs.Prelude.{◌≡◌, ℕ, ◌+◌, ◌*◌, ◌-◌, ◌/◌, ◌^◌, ◌<◌, ◌≤◌, ℤ, length, vec_len};
 ghost use Rattle.wave_defs.specs.Rings.{AreRows, RowsWithin};
@@ -9,7 +9,7 @@ use crate::wide::turn_wide;
 use line_rings::RowRing;
 use std::alloc::{AllocError, Global};
 
-/// A level, the newest rows of its three high bands, of which so many came, and room for a row.
+/// A level, the newest rows of its three high bands, the number of rows that arrived, and room for a row.
 #[derive(Drop)]
 pub struct LevelStage {
     pub level: InverseLevel,
@@ -41,7 +41,7 @@ impl LevelStage {
     ghost use Rattle.wave_defs.specs.Blocks.{block_side};
     ghost use Rattle.inverse_strip.specs.Cells.{HasBlockRow};
 
-    /// No row came. The bands have rows of `width` samples, and `kept` rows of each high one may wait.
+    /// Returns a level to which no row arrived. The bands have rows of `width` samples, and `kept` rows of each high one may wait.
     pub fn new(alloc: Global, width: usize, kept: usize) -> Result<LevelStage, AllocError>
         requires wide { 3 ≤ width }
         requires some { 1 ≤ kept }
@@ -69,7 +69,7 @@ impl LevelStage {
         })
     }
 
-    /// The next row of each high band comes. There is room for it.
+    /// Adds the next row of each high band. There is room for it.
     pub fn come(&mut self, hl: &[i32], lh: &[i32], hh: &[i32])
         requires wide_hl { length hl.now ≡ self.old.level.left.width }
         requires wide_lh { length lh.now ≡ self.old.level.left.width }
@@ -94,7 +94,7 @@ impl LevelStage {
         self.came += 1;
     }
 
-    /// The rows of its high bands come, as they stand in a block row. HH has the number `high`, and HL and LH have the next two.
+    /// Adds the rows of its high bands, as they are in a block row. HH has the number `high`, and HL and LH have the next two.
     pub fn come_rows(&mut self, bands: &BlockRow, high: usize, side: usize)
         requires high { high < 8 }
         requires side { block_side high ≡ side }
@@ -156,7 +156,7 @@ impl LevelStage {
             .push(&self.low, self.hl.at(i), self.lh.at(i), self.hh.at(i));
     }
 
-    /// Gives the level's next row, where the bands have `height` rows in all.
+    /// Gives the level's next row, if the bands have `height` rows in all.
     pub fn next_row(&mut self, height: usize, into: &mut [i64])
         requires wide { length into.old ≡ 2 * self.old.level.left.width }
         requires few { self.old.level.left.taken < 2 ^ 32 }

@@ -40,7 +40,7 @@ pub struct StripInverse {
     ghost second_small: { IsSmallLevel (9 * 2 ^ 27) second.level },
 }
 
-// The number of a band.
+// Returns the number of a band.
 fn number_of(band: Band) -> usize
     ensures { result ≡ band_place band }
 {
@@ -64,7 +64,7 @@ impl StripInverse {
     ghost use Rattle.std.specs.Borrow.{sem};
     ghost use Rattle.inverse_strip.specs.Lending.{MovesAfter};
 
-    /// Moves one row from a level to the next one, if one can be moved. The first level has none left.
+    /// Moves one row from a level to the next one, if one can be moved; returns whether it did. The first level has none left.
     fn step(&mut self) -> bool
         requires { IsDrained self.old.first.level.left.taken (next_of self.old) }
         ensures height { height_of self.new ≡ height_of self.old }
@@ -150,8 +150,8 @@ impl StripInverse {
         self.next.clear();
     }
 
-    /// No block row was taken, and all numbers of the one that is set next are 0. The image has
-    /// `width` columns and `rows` rows.
+    /// Returns the inverse of which no block row was taken, and in which all numbers of the block row that is
+    /// set next are 0. The image has `width` columns and `rows` rows.
     pub fn new(alloc: Global, width: u32, rows: u32) -> Result<StripInverse, AllocError>
         requires width_whole { width ≡ 8 * (width / 8) }
         requires wide { 24 ≤ width }
@@ -183,8 +183,8 @@ impl StripInverse {
         })
     }
 
-    /// From now on the image has `rows` rows. Not all block rows were taken before, and not all of
-    /// `rows` are.
+    /// Sets the number of rows of the image. Neither all block rows of the earlier height were taken, nor all
+    /// of `rows`.
     pub fn end_at(&mut self, rows: u32)
         requires rows_whole { rows ≡ 8 * (rows / 8) }
         requires high { 24 ≤ rows }
@@ -236,7 +236,7 @@ impl StripInverse {
         );
     }
 
-    /// How many samples it holds: at most 80 rows of the image.
+    /// Returns how many samples it holds: at most 80 rows of the image.
     pub fn samples(&self) -> u64
         ensures all { result ≡ strip_samples self.now }
         ensures bound { result ≤ 80 * (8 * columns_of self.now) }
@@ -244,8 +244,8 @@ impl StripInverse {
         396 * self.third.left.width as u64
     }
 
-    /// The next row of the inverse, if it can be made before the next block row (docs/formats.md, "Levels and padding"), as by
-    /// `make_row`.
+    /// Returns the next row of the inverse, if it can be made before the next block row (docs/formats.md, "Levels and
+    /// padding"), as `make_row` makes it.
     pub fn next_row(&mut self) -> Option<&[i64]>
         ensures* after_borrow { sem 𝓛 (MovesAfter self.entry result) }
         ensures wide { IfSome result (λ x. length x.now ≡ 8 * columns_of self.old) }
@@ -261,7 +261,7 @@ impl StripInverse {
         Some(&self.row)
     }
 
-    /// The row that was made last.
+    /// Returns the row that was made last.
     pub fn row(&self) -> &[i64]
         ensures row { result.now ≡ row_of self.now }
         ensures wide { length result.now ≡ 8 * columns_of self.now }

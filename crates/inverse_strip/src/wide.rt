@@ -1,4 +1,4 @@
-//! Rows of 32 bits that go on in 64.
+//! Rows of 32 bits that are continued in 64 bits.
 
 ghost use Rattle.std.specs.Prelude.{◌≡◌, ◌++◌, drop, ◌∷◌, [], length, slice_index_or, vec_len};
 
@@ -13,7 +13,7 @@ fn widen_each(from: &[i32], into: &mut [i64])
     }
 }
 
-/// The same numbers in 64 bits, in a list of as many.
+/// Copies the numbers in 64 bits into a list of the same length.
 pub fn widen(from: &[i32], into: &mut Vec<i64>)
     requires { vec_len into.old ≡ length from.now }
     ensures { into.new.items ≡ from.now }
@@ -21,7 +21,7 @@ pub fn widen(from: &[i32], into: &mut Vec<i64>)
     widen_each(from, into);
 }
 
-/// A row becomes the newest of a ring, and the oldest goes. `room` has the width of the rows.
+/// Makes a row the newest of a ring, and removes the oldest. `room` has the width of the rows.
 pub fn turn_wide(ring: &mut RowRing<i64>, row: &[i32], room: &mut Vec<i64>)
     requires wide { length row.now ≡ length (slice_index_or ring.old 0 []) }
     requires room { vec_len room.old ≡ length row.now }

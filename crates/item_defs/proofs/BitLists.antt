@@ -1,4 +1,4 @@
--- Lists of bits of one kind, and fronts of lists.
+-- Lists of bits of one kind, and prefixes of lists.
 use Rattle.std.proofs.Common.{◌≡◌, ℕ, zero, suc, ◌+◌, ◌-◌, ◌<◌, ◌≤◌, List, [], ◌∷◌, ◌++◌, length, take, Bool, true, false, eqb, refl, sym, ap, ◌∙◌, append_assoc, arith, zero-add, inl, inr, length-append}
 use Rattle.std.proofs.lemmas.Bool.{cases_eq}
 use Rattle.std.proofs.lemmas.Bool.Decides.{nat_tests}
@@ -6,7 +6,7 @@ use Rattle.std.proofs.lemmas.List.{append-nil}
 use Rattle.item_defs.specs.Bits.{copies}
 use Rattle.item_defs.specs.Items.{zeros_and_one}
 
--- a front that goes on after xs
+-- a prefix that continues after xs
 pub take_past : {A : Type 0} (xs ys : List A) (n : ℕ) → take (length xs + n) (xs ++ ys) ≡ xs ++ take n ys
 take_past [] ys n = rw zero-add refl
 take_past (x ∷ xs) ys n =
@@ -37,7 +37,7 @@ tail_of : List Bool → List Bool
 tail_of [] = []
 tail_of (x ∷ xs) = xs
 
--- among zeros there is no one
+-- there is no one among zeros
 no_one : (i n : ℕ) (more : List Bool) → copies i false ≡ copies n false ++ (true ∷ [] ++ more) → ⊥
 unfolding copies tail_of
 no_one zero zero more e = absurd cc
@@ -45,7 +45,7 @@ no_one zero (suc n) more e = absurd cc
 no_one (suc i) zero more e = absurd cc
 no_one (suc i) (suc n) more e = no_one i n more (ap tail_of e)
 
--- the spelling of a unary part is no front of fewer zeros
+-- the code of a unary part is not a prefix of fewer zeros
 pub zeros_differ : (i limit n : ℕ) (more : List Bool) → i < limit → n ≤ limit → copies i false ≡ zeros_and_one limit n ++ more → ⊥
 zeros_differ i limit n more lt le e =
     elim (cases_eq n limit) [

@@ -7,7 +7,7 @@ use Rattle.item_defs.specs.Laws.{said_of, ReadsOnce, StopsOnce}
 use Rattle.item_defs.proofs.Texts.{text_front}
 use Rattle.item_defs.proofs.Spellings.{one_spelling}
 
--- two spellings in one form, first in the same bits
+-- two codes in one form, each a prefix of the same bits
 one_first_item : (i j : Item) (m n : ℕ) (xs ys bits : List Bool) → i.form ≡ j.form → IsSound i.form.shape → IsSaid i.form.shape m → IsSaid j.form.shape n →
     bits ≡ spelling i.form.shape m ++ xs → bits ≡ spelling j.form.shape n ++ ys → (m ≡ n) × (xs ≡ ys)
 one_first_item i j m n xs ys bits same sound p q e f =
@@ -50,7 +50,7 @@ pub are_append : (is js : List Item) → AreItems is → AreItems js → AreItem
 are_append [] js p q = q
 are_append (i ∷ is) js p q = (p.0, are_append is js p.1 q)
 
--- what isn't refused is no refused spelling
+-- a value that is not refused has no refused code
 pub not_refused : {name : Refusal} (o : Option Refusal) → o ≡ None → o ≡ Some name → ⊥
 not_refused o p q = absurd cc
 

@@ -1,4 +1,4 @@
--- No spelling of a shape stands first in another.
+-- No code of a shape is a prefix of another.
 use Rattle.std.proofs.Common.{◌≡◌, ℕ, zero, suc, ◌^◌, ◌<◌, ◌≤◌, List, [], ◌∷◌, ◌++◌, length, Bool, true, false, eqb, refl, sym, ap, subst, ◌∙◌, arith, length-append}
 use Rattle.std.proofs.lemmas.List.{take_at, drop_at}
 use Rattle.std.specs.Prelude.{take, drop}
@@ -57,7 +57,7 @@ one_spelling (fixed w) m n xs ys sound p q e = same_fixed w m n xs ys p q e
 one_spelling (zeros_to limit) m n xs ys sound p q e = same_zeros limit m n xs ys p q e
 one_spelling (coded codes) m n xs ys sound p q e = sound m n xs ys p q e
 
--- fewer bits than a shape of so many has
+-- fewer bits than a shape of w bits has
 pub lacks_bits : (w : ℕ) (xs : List Bool) → length xs < w → Lacks (fixed w) xs
 lacks_bits w xs lt n more said e = absurd (omega (arith, lt, ap length e, length-append (bits_of w n) more, length-bits_of w n))
 

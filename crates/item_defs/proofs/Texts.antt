@@ -1,4 +1,4 @@
--- Texts of items that stand one after another.
+-- Texts of consecutive items.
 use Rattle.std.proofs.Common.{◌≡◌, ℕ, zero, suc, ◌+◌, ◌<◌, ◌≤◌, List, [], ◌∷◌, ◌++◌, length, get_or, take, drop, map, Bool, refl, sym, ap, ◌∙◌, append_assoc, arith}
 use Rattle.std.proofs.Math.ListN.{set}
 use Rattle.std.proofs.lemmas.List.{append-nil, take_more, take_all, take_more_set, take-append-drop, map-append, get_or-append-add, get_or_append_left}
@@ -16,11 +16,11 @@ text-cons x xs = flat_map-cons item_bits x xs
 pub text-one : (x : Item) → text (x ∷ []) ≡ item_bits x
 text-one x = text-cons x [] ∙ append-nil (item_bits x)
 
--- the text of an item and those after it, and what comes then
+-- the text of an item and those after it, and what follows
 pub text_front : (i : Item) (is : List Item) (more : List Bool) → text (i ∷ is) ++ more ≡ item_bits i ++ (text is ++ more)
 text_front i is more = ap (λ r. r ++ more) (text-cons i is) ∙ append_assoc (item_bits i) (text is) more
 
--- the front of a text that goes on after these items
+-- a prefix of a text that continues after these items
 pub text_past : (is js : List Item) (m : ℕ) (some : List Bool) → text is ++ (text (take m js) ++ some) ≡ text (take (length is + m) (is ++ js)) ++ some
 text_past is js m some = sym (append_assoc (text is) (text (take m js)) some) ∙ ap (λ r. r ++ some) (sym (ap text (take_past is js m) ∙ text-append is (take m js)))
 
@@ -49,7 +49,7 @@ module _ {X : Type 0} (f : X → Item) (xs : List X) where
   pub text_all : (i : ℕ) → length xs ≤ i → text (map f (take i xs)) ≡ text (map f xs)
   text_all i le = ap (λ r. text (map f r)) (take_all i xs le)
 
-  -- the element at i is written over, after which the items of the first i + 1 stand
+  -- the bits of the items of the first i + 1 elements, after the element at i is set
   pub text_more_set : (i : ℕ) (y : X) → i < length xs → text (map f (take (i + 1) (set xs i y))) ≡ text (map f (take i xs)) ++ item_bits (f y)
   text_more_set i y lt = ap (λ r. text (map f r)) (take_more_set xs i y lt) ∙ ap text (map-append f (take i xs) (y ∷ [])) ∙ text-append (map f (take i xs)) (f y ∷ []) ∙ ap (λ r. text (map f (take i xs)) ++ r) (text-one (f y))
 

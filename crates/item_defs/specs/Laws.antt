@@ -16,7 +16,7 @@ ReadsOnce = (is js : List Item) (m : ℕ) (xs ys : List Bool) → StepsAlike is 
     m ≤ length is → m ≤ length js → text (take m is) ++ xs ≡ text (take m js) ++ ys →
     (said_of (take m is) ≡ said_of (take m js)) × (forms_of (take m is) ≡ forms_of (take m js)) × (xs ≡ ys)
 
--- a text stops all readings at one place, in one way and by one name
+-- a text stops all readings at one place, in one way and with one name
 abbrev pub StopsOnce : Type 0
 StopsOnce = (is js : List Item) (bits : List Bool) (s t : Stop) → StepsAlike is js → AreItems is → AreItems js →
     Stops is bits s → Stops js bits t → s ≡ t

@@ -1,10 +1,10 @@
--- Readings of a text: items that follow one another in it, up to a stop. What a form spells next is
--- fixed by what was said so far, so two readings of one text stop at one place, in one way. (this project's own)
+-- Readings of a text: items that follow one another in it, up to a stop. The form of the next item is determined
+-- by the items before it, so two readings of one text stop at one place, in one way. (this project's own)
 use Rattle.std.specs.Prelude.{◌≡◌, ◌⊎◌, ◌+◌, ℕ, List, [], ◌∷◌, ◌++◌, slice_index_or, Bool, None, Some}
 use Rattle.std.specs.List.{AllByRecursion}
 use Rattle.item_defs.specs.Items.{Shape, fixed, zeros_to, coded, Refusal, Item, IsSaid, spelling, item_bits, raw}
 
--- no spelling of this shape is a prefix of these bits
+-- no code of this shape is a prefix of these bits
 abbrev pub Lacks : Shape → List Bool → Type 0
 Lacks s bits = (n : ℕ) (more : List Bool) → IsSaid s n → bits ≡ spelling s n ++ more → ⊥
 
@@ -15,7 +15,7 @@ IsSound (zeros_to limit) = Unit {0}
 IsSound (coded codes) = (m n : ℕ) (xs ys : List Bool) → IsSaid (coded codes) m → IsSaid (coded codes) n →
     spelling (coded codes) m ++ xs ≡ spelling (coded codes) n ++ ys → (m ≡ n) × (xs ≡ ys)
 
--- an item says what its shape can say, and its form doesn't refuse it
+-- an item has a number that its shape can have, and its form does not refuse it
 abbrev pub IsItem : Item → Type 0
 IsItem item = IsSound item.form.shape × IsSaid item.form.shape item.said × (item.form.refusal item.said ≡ None)
 
@@ -32,7 +32,7 @@ StepsAlike [] (j ∷ js) = ⊥
 StepsAlike (i ∷ is) [] = ⊥
 StepsAlike (i ∷ is) (j ∷ js) = (i.form ≡ j.form) × (i.said ≡ j.said → StepsAlike is js)
 
--- the stop of a reading: with all items; within the item after a number of them; at a spelling after a number of items
+-- the stop of a reading: with all items; within the item after a number of items; at a code after a number of items
 -- that is refused by this name
 pub data Stop : Type 0 where
   whole : Stop
@@ -53,7 +53,7 @@ pub record Continues (item : Item) (bits : List Bool) (others : List Bool → St
   pub stops : stop ≡ later 1 then
   pub rest : others more then
 
--- a spelling of the item's shape is a prefix of these bits, and its form refuses it
+-- a code of the item's shape is a prefix of these bits, and its form refuses it
 pub record IsRefused (item : Item) (bits : List Bool) (stop : Stop) : Type 0 where
   pub spelt : ℕ
   pub name : Refusal
@@ -63,7 +63,7 @@ pub record IsRefused (item : Item) (bits : List Bool) (stop : Stop) : Type 0 whe
   pub refuses : item.form.refusal spelt ≡ Some name
   pub read : bits ≡ spelling item.form.shape spelt ++ more
 
--- a reading of these bits as these items stops so
+-- a reading of these bits as these items stops in this way
 abbrev pub Stops : List Item → List Bool → Stop → Type 0
 Stops [] bits stop = stop ≡ whole
 Stops (i ∷ is) bits stop = Continues i bits (Stops is) stop ⊎ (((stop ≡ ended 0) × Lacks i.form.shape bits) ⊎ IsRefused i bits stop)

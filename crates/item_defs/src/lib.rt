@@ -1,4 +1,4 @@
-//! Definitions of texts: bits, the items that a text is made of, what spells each item, and how a text is
+//! This crate defines texts: bits, the items that a text is made of, the code of each item, and how a text is
 //! read as items (docs/formats.md, "Reading a segment").
 #![tactic(auto)]
 
@@ -9,7 +9,7 @@ pub const fn reads_once()
     ensures { ReadsOnce }
 {}
 
-/// A text stops every reading at one place, in one way and by one name.
+/// A text stops every reading at one place, in one way and with one name.
 pub const fn stops_once()
     ensures { StopsOnce }
 {}

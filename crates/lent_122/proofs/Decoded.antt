@@ -1,4 +1,4 @@
--- What a run of the decoder says of all packets.
+-- The result of a run of the decoder over all packets.
 use Rattle.std.proofs.Common.{◌≡◌, ◌≢◌, ◌≤◌, ◌+◌, ◌∙◌, ℕ, ℤ, List, [], length, take, drop, refl, sym, ap, subst, arith}
 use Rattle.std.specs.Prelude.{Some, None, Result, Ok, Err}
 use Rattle.std.proofs.Math.Seq.{take-append_seam}

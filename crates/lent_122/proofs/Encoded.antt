@@ -1,4 +1,4 @@
--- What a run of the encoder says of the whole raster.
+-- The result of a run of the encoder over the whole raster.
 use Rattle.std.proofs.Common.{◌≡◌, ◌≤◌, ◌<◌, ◌+◌, ◌*◌, ◌∙◌, ℕ, ℤ, Bool, List, [], ◌++◌, length, take, refl, sym, ap, subst, arith, inl, inr, length-append}
 use Rattle.std.specs.Prelude.{Option, Some, None, Result, Ok, Err}
 use Rattle.std.proofs.lemmas.Bool.{cases_lt}

@@ -1,4 +1,4 @@
--- What was taken of an input is the front of it.
+-- What was taken of an input is a prefix of it.
 use Rattle.std.proofs.Common.{◌≡◌, ℕ, List, ◌++◌}
 use Rattle.std.specs.Prelude.{Option, Some, None}
 use Rattle.port_122.specs.Outside.{Loses}

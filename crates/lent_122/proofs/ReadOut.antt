@@ -1,4 +1,4 @@
--- A decoder that read to the end, or to what can't be read on, has read all that a stream tells.
+-- A decoder that read to the end, or to what can't be read on, has read all packets of the stream.
 use Rattle.std.proofs.Common.{◌≡◌, ◌<◌, ◌∙◌, ℕ, true, false, List, [], ◌∷◌, ◌++◌, length, refl, sym, ap, subst, inl, inr, arith, append_assoc}
 use Rattle.std.specs.Prelude.{Some}
 use Rattle.std.proofs.lemmas.Bool.{false≢true}
@@ -20,7 +20,7 @@ none_begins : (xs : List ℕ) → has_bad_version xs ≡ true → begins_packet 
 unfolding begins_packet
 none_begins xs bad = rw bad refl
 
--- more octets don't mend it
+-- a stream that can't be read on can't be with more octets
 bad_later : (took more : List ℕ) → has_bad_version (left_over took) ≡ true → has_bad_version (left_over took ++ more) ≡ true
 bad_later took more bad = version-append (left_over took) more (some_octets (left_over took) bad) ∙ bad
 
@@ -37,7 +37,7 @@ framing_bad : (place : ℕ) (left : List ℕ) → has_bad_version left ≡ true 
 unfolding framing_at
 framing_bad place left bad = rw bad refl
 
--- what was taken tells the packets of the whole stream, and why it can't be read on
+-- what was taken determines the packets of the whole stream, and why it can't be read on
 pub record ReadsAll (took packets : List ℕ) : Type 0 where
   pub whole : whole_packets took ≡ whole_packets packets
   pub framing_is : framing took ≡ framing packets

@@ -26,7 +26,7 @@ pub begun_same : (apid : ℕ) (took packets : List ℕ) (g : Geometry) → Reads
 begun_same apid took packets g same is all =
     begun_is apid took g is ∙ ap (λ packets. begun g (kept apid fresh packets)) same.whole ∙ sym (begun_is apid packets g all)
 
--- no more rows than an image can have
+-- at most the rows that an image can have
 pub written_few : (apid : ℕ) (octets : List ℕ) (g : Geometry) → IsGeometryInRange g → geometry_in apid octets ≡ Some g → height g (begun_in apid octets) ≤ rows_range.most
 written_few apid octets g range is = elim range.rows [
   | inl untold ↦

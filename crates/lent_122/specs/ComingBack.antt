@@ -14,8 +14,8 @@ use Rattle.lent_122.specs.Decoding.{BringsBack}
 pub record AreOctets (octets : List ℕ) : Type 0 where
   pub each : (i : ℕ) → i < length octets → slice_index octets i < 2 ^ 8
 
--- The answer to the packets of a raster: all rows are there, none is missing, the packets can be read to their end, and if nothing was
--- left out, the room begins with the raster, octet by octet. Otherwise the room is too small, or there is no memory.
+-- The result for the packets of a raster: all rows are there, none is missing, the packets can be read to their end, and if nothing was
+-- omitted, the room begins with the raster, octet by octet. Otherwise the room is too small, or there is no memory.
 abbrev pub BringsRaster : Setting → (raster room : List ℕ) → Result DecodeDone DecodeRefusal → Type 0
 BringsRaster s raster room (Ok done) = (done.written ≡ s.rows) × (done.damage.missing ≡ []) × (done.framing ≡ None) × (SendsAll s → take (length raster) room ≡ raster)
 BringsRaster s raster room (Err (SmallRoom g rows)) = (g ≡ geometry_of s) × (rows ≡ s.rows)

@@ -1,4 +1,4 @@
--- What is answered where all packets are decoded at once. This project's own.
+-- The result if all packets are decoded at once. This project's own.
 use Rattle.std.specs.Prelude.{◌≡◌, ◌≢◌, ◌≤◌, ◌<◌, ◌+◌, ◌*◌, ◌^◌, ◌-◌, ◌++◌, ℕ, ℤ, List, length, take, drop, Some, None, Result, Ok, Err, ⊤}
 use Rattle.port_122.specs.Outside.{Outside}
 use Rattle.base_122.specs.Ranges.{IsGeometryInRange, rows_range}
@@ -23,7 +23,7 @@ use Rattle.strip_decoder.specs.Walks.{IsDamageOf}
 use Rattle.lent_122.specs.declared.decode.DecodeRefusal.{DecodeRefusal}
 use Rattle.lent_122.specs.declared.decode.DecodeRefusal.TheVariants.{NoSegment, SmallRoom, Memory}
 
--- octets of a picture of so many rows
+-- octets of a picture with this number of rows
 abbrev pub picture_length : Geometry → (rows : ℕ) → ℕ
 picture_length g rows = rows * (g.width * pixel_size g.depth)
 
@@ -39,11 +39,11 @@ pub record BeginsWith (apid : ℕ) (packets : List ℕ) (g : Geometry) : Type 0 
 
 -- ---- a run over a port
 
--- what a decoder is asked for if no number of pixels or octets is too many
+-- the wish for a decoder with no bound on pixels or octets
 abbrev pub wish_for : (apid : ℕ) → List ℕ → DecodeWish
 wish_for apid packets = record { apid = apid; pixels = 2 ^ 64 - 1; octets = length packets + 1 }
 
--- the decoder's own answer: one of these, on a port that never fails
+-- the decoder's own result: one of these, on a port that never fails
 abbrev pub HasRun : (apid : ℕ) (packets : List ℕ) (old new : Outside) → Result DecodeDone DecodeRefusal → Type 0
 HasRun apid packets old new (Ok done) = RunsDecoder (wish_for apid packets) old new (Ok done)
 HasRun apid packets old new (Err NoSegment) = RunsDecoder (wish_for apid packets) old new (Err faults.NoSegment)
@@ -85,14 +85,14 @@ IsRefused apid packets room NoSegment = geometry_in apid packets ≡ None
 IsRefused apid packets room (SmallRoom g rows) = HasSmallRoom apid packets room g rows
 IsRefused apid packets room Memory = ⊤
 
--- The answer and its cause. A refusal leaves the room unchanged.
+-- The result and its cause. A refusal leaves the room unchanged.
 abbrev pub Decodes : (apid : ℕ) (packets old new : List ℕ) → Result DecodeDone DecodeRefusal → Type 0
 Decodes apid packets old new (Ok done) = HasPicture apid packets old new done
 Decodes apid packets old new (Err refusal) = (new ≡ old) × IsRefused apid packets (length old) refusal
 
 -- ---- the round trip
 
--- The answer to all packets of an image: all of its rows are there, none is missing, and if nothing was left out, each pixel is the same.
+-- The result for all packets of an image: all of its rows are there, none is missing, and if nothing was omitted, each pixel is the same.
 -- Otherwise the room is too small, or there is no memory.
 abbrev pub BringsImage : Setting → (rows : ℕ) → (ℕ → ℕ → ℤ) → (new : List ℕ) → Result DecodeDone DecodeRefusal → Type 0
 BringsImage s rows x new (Ok done) = GivesBack s rows x (take (picture_length done.geometry done.written) new) done

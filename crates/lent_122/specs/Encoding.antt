@@ -1,4 +1,4 @@
--- What is answered where a whole raster is encoded. This project's own.
+-- The result if a whole raster is encoded. This project's own.
 use Rattle.std.specs.Prelude.{◌≡◌, ◌<◌, ◌*◌, ◌==◌, ◌&&◌, ◌++◌, ℕ, ℤ, List, length, take, drop, Option, Some, Result, Ok, Err, ⊤, if◌then◌else◌}
 use Rattle.port_122.specs.Outside.{Outside}
 use Rattle.base_122.specs.Ranges.{IsInRange, IsWithin, is_within, width_range, rows_range, first_out_of_range}
@@ -31,7 +31,7 @@ raster_length s = s.rows * row_length s
 
 -- ---- a run over a port
 
--- the encoder's own answer: one of these, on a port that never fails
+-- the encoder's own result: one of these, on a port that never fails
 abbrev pub HasRun : Setting → (old new : Outside) → Result EncodeDone EncodeRefusal → Type 0
 HasRun s old new (Ok done) = EncodesImage s old new (Ok done)
 HasRun s old new (Err Short) = (octets : ℕ) × EncodesImage s old new (Err (faults.Short octets))
@@ -64,7 +64,7 @@ IsRefused s raster room (BadPixel row column value) = HasBadPixel s raster row c
 IsRefused s raster room (SmallRoom octets) = IsAdmitted s × TookRaster s s.rows raster × (octets ≡ length (output s s.rows (image_of s raster))) × (room < octets)
 IsRefused s raster room Memory = ⊤
 
--- The answer and its cause. A refusal leaves the room unchanged.
+-- The result and its cause. A refusal leaves the room unchanged.
 abbrev pub Encodes : Setting → (raster old new : List ℕ) → Result EncodeDone EncodeRefusal → Type 0
 Encodes s raster old new (Ok done) = HasPackets s raster old new done
 Encodes s raster old new (Err refusal) = (new ≡ old) × IsRefused s raster (length old) refusal

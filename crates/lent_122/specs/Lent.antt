@@ -3,7 +3,7 @@ use Rattle.std.specs.Prelude.{take, drop, Some, None, if◌then◌else◌}
 use Rattle.port_122.specs.Outside.{Outside}
 use Rattle.lent_122.specs.declared.port.LentPort.{LentPort}
 
--- it tells what was read, and what it was given if that fits its room
+-- it reports what was read, and what it was given if that fits its room
 abbrev pub outside_of : LentPort → Outside
 outside_of p = record {
   rest = Some (drop p.at p.input.now);

@@ -1,4 +1,4 @@
-// Packets in, whole pictures out.
+// Decodes packets to whole pictures.
 ghost use Rattle.std.specs.Prelude.{◌≡◌, IfErr, Some};
 ghost use Rattle.lent_122.specs.Lent.{outside_of};
 ghost use Rattle.lent_122.specs.Decoding.{HasRun, IsRefused, Decodes, BringsBack};
@@ -10,7 +10,7 @@ use std::alloc::Global;
 use stream_defs::heights_are_known;
 use strip_decoder::{DecodeDone, DecodeFault, decode_packets, received_is_told, round_trip};
 
-/// Why no picture of packets is given.
+/// The reason why no picture of packets is given.
 #[derive(Clone, Copy, Debug, PartialEq, Eq)]
 pub enum DecodeRefusal {
     /// No packet that is kept begins a segment.
@@ -21,11 +21,11 @@ pub enum DecodeRefusal {
     Memory,
 }
 
-/// Decodes the packets of an APID, and puts their picture at the start of the room; the rest of the room is unchanged, and so is all of
-/// it after a refusal. The causes of the answers exclude each other, so each answer except `Memory` is given exactly if its cause holds.
-/// If the room is too small, the packets are read no further than to the first one that is kept, or to their end if their height is
-/// reported last. If it isn't reported at all, the picture has the rows that the block rows determine which the packets reach
-/// (docs/formats.md, "Picture and damage").
+/// Decodes the packets of an APID, and puts their picture at the start of the room; the rest of the room is unchanged, and so is all of it
+/// after a refusal. The causes of the results exclude each other, so each result except `Memory` is given exactly if its cause holds. If
+/// the room is too small, the packets are read no further than to the first one that is kept, or to their end if their height is reported
+/// last. If it isn't reported at all, the picture has the rows that the block rows determine which the packets reach (docs/formats.md,
+/// "Picture and damage").
 pub fn decode_whole(
     alloc: Global,
     apid: u16,
@@ -68,7 +68,7 @@ fn put_picture(
             rows: done.written,
         });
     }
-    // The picture fits, so it was kept; but no clause of a port says that it keeps what fits.
+    // The picture fits, so it was kept; but no clause of a port states that it keeps what fits.
     let Some(picture) = port.given() else {
         return Err(DecodeRefusal::Memory);
     };
@@ -76,8 +76,8 @@ fn put_picture(
     Ok(done)
 }
 
-// The octets of the picture for which there has to be memory beside the room: all, or as many as the room has if the first packet
-// that is kept reports no height. Refuses a picture whose first packet reports that it doesn't fit.
+// Returns the octets of the picture for which memory is needed in addition to the room: all, or the number of octets in the room if the
+// first packet that is kept reports no height. Refuses a picture whose first packet reports that it doesn't fit.
 fn octets_kept(
     alloc: Global,
     apid: u16,

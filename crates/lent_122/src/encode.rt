@@ -1,4 +1,4 @@
-// Whole rasters in, packets out.
+// Encodes whole rasters to packets.
 ghost use Rattle.std.specs.Prelude.{◌≡◌, length, Some, MatchResult};
 ghost use Rattle.base_122.specs.Ranges.{IsInRange};
 ghost use Rattle.lent_122.specs.Lent.{outside_of};
@@ -10,10 +10,10 @@ use base_122::{Field, FieldRange, Setting};
 use std::alloc::Global;
 use strip_coder::{EncodeDone, EncodeFault, Work, encode_rows};
 
-/// Why no packets of a raster are given.
+/// The reason why no packets of a raster are given.
 #[derive(Clone, Copy, Debug, PartialEq, Eq)]
 pub enum EncodeRefusal {
-    /// This is the first field of the setting that is out of range. Rows are too if they are 0.
+    /// The first field of the setting that is out of range is this one. Rows are out of range too if they are 0.
     OutOfRange(Field),
     /// The raster has fewer octets than the setting's width, rows and depth need.
     Short,
@@ -27,9 +27,9 @@ pub enum EncodeRefusal {
     Memory,
 }
 
-/// Encodes a raster, and puts all of its packets at the start of the room; the rest of the room is unchanged, and so is all of it
-/// after a refusal. The causes of the answers exclude each other, so each answer except `Memory` is given exactly if its cause holds. The
-/// caller has the whole raster, and so knows its height: a setting that leaves its rows open is refused by the name of the rows.
+/// Encodes a raster, and puts all of its packets at the start of the room; the rest of the room is unchanged, and so is all of it after a
+/// refusal. The causes of the results exclude each other, so each result except `Memory` is given exactly if its cause holds. The caller
+/// has the whole raster, and so knows its height: a setting that leaves its rows open is refused by the name of the rows.
 pub fn encode_whole(
     alloc: Global,
     setting: &Setting,
@@ -67,7 +67,7 @@ fn put_packets(
             octets: done.octets,
         });
     }
-    // The packets fit, so they were kept; but no clause of a port says that it keeps what fits.
+    // The packets fit, so they were kept; but no clause of a port states that it keeps what fits.
     let Some(packets) = port.given() else {
         return Err(EncodeRefusal::Memory);
     };
@@ -114,7 +114,7 @@ fn encode(
     }
 }
 
-// There are ten weights, which is known once they are read.
+// The number of weights is ten, which is known once they are read.
 fn ten_weights(shifts: &[u8; 10])
     ensures { length shifts.now ≡ 10 }
 {

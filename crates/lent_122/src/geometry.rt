@@ -8,7 +8,7 @@ use base_122::Geometry;
 use packet_assembly::Assembly;
 use std::alloc::{AllocError, Global};
 
-/// The octets of a picture of this number of rows, which is 262,144 at most (docs/formats.md, "Raster and made image").
+/// Returns the octets of a picture of this number of rows, which is 262,144 at most (docs/formats.md, "Raster and made image").
 pub fn picture_length(geometry: &Geometry, rows: u32) -> usize
     requires range { IsGeometryInRange geometry.now }
     requires rows { rows ≤ rows_range.most }
@@ -18,7 +18,7 @@ pub fn picture_length(geometry: &Geometry, rows: u32) -> usize
     rows as usize * (geometry.width as usize * size)
 }
 
-/// The geometry in the first of these packets that is kept. They are read no further. If that packet reports a height, this is the
+/// Returns the geometry in the first of these packets that is kept. They are read no further. If that packet reports a height, this is the
 /// geometry in all of them.
 pub(crate) fn find_geometry(
     alloc: Global,

@@ -7,7 +7,7 @@ use std::alloc::{AllocError, Global};
 
 /// A port that reads from a slice and never fails (docs/architecture.md, "The outside").
 ///
-/// It keeps and tells the octets that it is given while they fit its room, and none from the first octets that don't. It tells neither
+/// It keeps and reports the octets that it is given while they fit its room, and none from the first octets that don't. It reports neither
 /// notes nor read calls.
 #[derive(Drop)]
 pub struct LentPort<'a> {
@@ -23,7 +23,7 @@ pub struct LentPort<'a> {
 impl<'a> LentPort<'a> {
     ghost use Rattle.lent_122.specs.Lent.{outside_of};
 
-    /// A port at the start of this input, with room for this number of octets.
+    /// Returns a port at the start of this input, with room for this number of octets.
     pub fn new(alloc: Global, input: &'a [u8], room: usize) -> Result<LentPort<'a>, AllocError>
         ensures outside { IfOk result (λ port. outside_of port ≡ record {
           rest = Some input.now;
@@ -45,7 +45,7 @@ impl<'a> LentPort<'a> {
         })
     }
 
-    /// The octets that it was given, if all of them fit the room.
+    /// Returns the octets that it was given, if all of them fit the room.
     pub fn given(&self) -> Option<&[u8]>
         ensures { IfSome result (λ octets. (outside_of self.now).given ≡ Some octets.now) }
     {
@@ -53,7 +53,7 @@ impl<'a> LentPort<'a> {
     }
 }
 
-// Keeps the octets where they fit the room, and answers whether they did.
+// Keeps the octets if they fit the room, and returns whether they did.
 fn keep(kept: &mut Vec<u8>, room: usize, bytes: &[u8]) -> bool
     requires { room ≤ vec_capacity kept.old }
     ensures fits { result ≡ nat_le (length kept.old.items + length bytes.now) room }

@@ -5,7 +5,7 @@ use base_122::{Field, Setting};
 use std::alloc::Global;
 use std::test::Fail;
 
-// A setting for an image of 17 rows of 24 pixels, of so many bits.
+// Returns a setting for an image of 17 rows of 24 pixels, of `depth` bits.
 fn setting(depth: u8) -> Setting
     ensures { result.rows ≡ 17 }
 {
@@ -16,7 +16,7 @@ fn setting(depth: u8) -> Setting
     }
 }
 
-// A raster of this value, in so many octets a pixel.
+// Returns a raster of this value, with `size` octets for each pixel.
 fn flat(alloc: Global, size: usize, value: u8) -> Result<Vec<u8>, Fail> {
     let mut raster = Vec::new(alloc);
     for _ in 0..408 {

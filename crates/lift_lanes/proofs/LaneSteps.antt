@@ -1,4 +1,4 @@
--- One lane of n through the operators: the bits that a proof sees there, and the number for which they stand.
+-- One lane of n through the operators: the bits that a proof has there, and the number that they represent.
 use Rattle.std.proofs.Common.{◌≡◌, ℕ, ◌+◌, ◌-◌, ◌*◌, ◌^◌, ◌%◌, ◌<◌, ℤ, pos, ◌+ℤ◌, ◌-ℤ◌, ◌*ℤ◌, List, length, get_or, map, replicate, sym, ap, ◌∙◌, arith, SFits, w32, w64, to_z, of_z}
 use mir.Syntax.{Width}
 use mir.Val.{bits}
@@ -11,7 +11,7 @@ use Rattle.wave_defs.specs.Held.{signal}
 use Rattle.wave_defs.specs.Line.{floor_div}
 use Rattle.wave_defs.proofs.Shifts.{SFits-floor_div}
 
--- lane k of these n bit patterns stands for z
+-- lane k of these n bit patterns represents z
 pub record Lane (w : Width) (n : ℕ) (lanes : List ℕ) (k : ℕ) (z : ℤ) : Type 0 where
   pub many : length lanes ≡ n
   pub at : get_or lanes k 0 ≡ of_z w z
@@ -39,7 +39,7 @@ module _ (w : Width) (n k : ℕ) (inside : k < n) where
       let ez = get_or-zip2 f xs ys k 0 0 0 (omega arith) (omega arith) in
       record { many = length-zip2 f xs ys both ∙ la; at = cc; fits = fits }
 
-  -- a shift by as many bits as divide by m
+  -- a shift by the number of bits that divides by m
   pub Lane-shr : (by m : ℕ) (xs ys : List ℕ) (x : ℤ) → of_z w (pos by) ≡ by → 2 ^ by ≡ m → Lane w n xs k x → Lane w n ys k (pos by) → Lane w n (zip2 (λ a b. of_z w (shr_z (to_z w a) (2 ^ b))) xs ys) k (floor_div x m)
   Lane-shr by m xs ys x eb em a b =
       Lane-zip2 (λ a b. of_z w (shr_z (to_z w a) (2 ^ b))) xs ys x (pos by) (floor_div x m) a b (SFits-floor_div w x m a.fits)
@@ -56,7 +56,7 @@ module _ (w : Width) (n k : ℕ) (inside : k < n) where
   pub Lane-long : (lanes : List ℕ) (z : ℤ) → Lane w n lanes k z → length (map (to_z w) lanes) ≡ n
   Lane-long lanes z a = length-map lanes (to_z w) ∙ a.many
 
--- bits below 2 ^ 32 that stand for z
+-- bits below 2 ^ 32 that represent z
 same_bits : (w : Width) (a : ℕ) (z : ℤ) → a < 2 ^ bits w → to_z w a ≡ z → a ≡ of_z w z
 same_bits w a z h e = sym (of_z-to_z w a h) ∙ ap (of_z w) e
 

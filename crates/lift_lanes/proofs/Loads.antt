@@ -38,7 +38,7 @@ module _ (w : Width) where
           subst (IsWithin b) (sym (load b i k xs h (omega arith) lb at)) at;
     }
 
-    -- a slice whose part from i on is still another's
+    -- a part of a slice, from i on, that is still equal to another slice's
     pub AllWithin-left : (b i n : ℕ) (xs ys : List ℤ) → n ≤ length xs → i + m ≤ n → b < 2 ^ hbits w → ((p : ℕ) → i ≤ p → signal xs p ≡ signal ys p) → AllWithin b n (signal ys) → AllWithin b m (signal (passed (chunk i m xs)))
     AllWithin-left b i n xs ys l le lb same within = record {
       at = λ k h.

@@ -1,4 +1,4 @@
--- A lifting step at one place: how large its value is, and that it depends on the samples there alone.
+-- A lifting step at one place: the bound of its value, and that it only depends on the samples there.
 use Rattle.std.proofs.Common.{◌≡◌, ℕ, ◌*◌, ◌≤◌, ℤ, arith}
 use Rattle.std.proofs.lemmas.Int.{ints}
 use Rattle.wave_defs.specs.Within.{IsWithin}

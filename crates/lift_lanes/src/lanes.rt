@@ -7,7 +7,7 @@ ghost use Rattle.wave_defs.specs.Lifted.{less_predicted, less_correction, plus_p
 
 use std::simd::prelude::*;
 
-/// Eight high samples.
+/// Returns eight high samples.
 #[inline(always)]
 pub fn high_lanes(odd: i32x8, a: i32x8, b: i32x8, c: i32x8, d: i32x8) -> i32x8
     requires many { (length odd ≡ 8) × (length a ≡ 8) × (length b ≡ 8) × (length c ≡ 8) × (length d ≡ 8) }
@@ -25,7 +25,7 @@ pub fn high_lanes(odd: i32x8, a: i32x8, b: i32x8, c: i32x8, d: i32x8) -> i32x8
     odd - (sum >> i32x8::splat(4))
 }
 
-/// Eight low samples.
+/// Returns eight low samples.
 #[inline(always)]
 pub fn low_lanes(even: i32x8, before: i32x8, after: i32x8) -> i32x8
     requires many { (length even ≡ 8) × (length before ≡ 8) × (length after ≡ 8) }
@@ -39,7 +39,7 @@ pub fn low_lanes(even: i32x8, before: i32x8, after: i32x8) -> i32x8
     even - ((i32x8::splat(2) - (before + after)) >> i32x8::splat(2))
 }
 
-/// Four odd samples.
+/// Returns four odd samples.
 #[inline(always)]
 pub fn odd_lanes(high: i64x4, a: i64x4, b: i64x4, c: i64x4, d: i64x4) -> i64x4
     requires many { (length high ≡ 4) × (length a ≡ 4) × (length b ≡ 4) × (length c ≡ 4) × (length d ≡ 4) }
@@ -57,7 +57,7 @@ pub fn odd_lanes(high: i64x4, a: i64x4, b: i64x4, c: i64x4, d: i64x4) -> i64x4
     high + (sum >> i64x4::splat(4))
 }
 
-/// Four even samples.
+/// Returns four even samples.
 #[inline(always)]
 pub fn even_lanes(low: i64x4, before: i64x4, after: i64x4) -> i64x4
     requires many { (length low ≡ 4) × (length before ≡ 4) × (length after ≡ 4) }

@@ -1,5 +1,5 @@
-//! The lifting steps at each place of slices of one length, on lanes. Nothing is refused: the sums
-//! fit by the bounds that the caller keeps.
+//! This crate has the lifting steps at each place of slices of one length, on lanes. Nothing is refused: the
+//! sums fit by the bounds that the caller guarantees.
 #![tactic(auto)]
 
 mod lanes;

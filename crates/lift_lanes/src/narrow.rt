@@ -1,4 +1,4 @@
-//! The kernels forward, in i32.
+//! The forward kernels, in i32.
 
 ghost use Rattle.std.specs.Prelude.{◌≡◌, ℕ, ◌^◌, length};
 ghost use Rattle.wave_defs.specs.Within.{AllWithin};
@@ -9,7 +9,7 @@ use crate::lanes::{high_lanes, low_lanes};
 use crate::samples::{high_sample, low_sample};
 use std::simd::prelude::*;
 
-/// Takes from each odd sample what the even ones round it predict (docs/formats.md, "A line").
+/// Subtracts from each odd sample what the even ones round it predict (docs/formats.md, "A line").
 pub fn predict_sub(odd: &mut [i32], a: &[i32], b: &[i32], c: &[i32], d: &[i32])
     requires long_a { length a.now ≡ length odd.old }
     requires long_b { length b.now ≡ length odd.old }
@@ -40,8 +40,7 @@ pub fn predict_sub(odd: &mut [i32], a: &[i32], b: &[i32], c: &[i32], d: &[i32])
     }
 }
 
-/// Takes from each even sample the correction of the high ones on both sides (docs/formats.md,
-/// "A line").
+/// Subtracts from each even sample the correction of the high ones on both sides (docs/formats.md, "A line").
 pub fn update_sub(even: &mut [i32], before: &[i32], after: &[i32])
     requires long_before { length before.now ≡ length even.old }
     requires long_after { length after.now ≡ length even.old }

@@ -1,4 +1,4 @@
-//! The kernels forward, in i32, from one row onto another.
+//! The forward kernels, in i32, from one row onto another.
 
 ghost use Rattle.std.specs.Prelude.{◌≡◌, ℕ, ◌^◌, length};
 ghost use Rattle.wave_defs.specs.Within.{AllWithin};
@@ -9,7 +9,7 @@ use crate::lanes::{high_lanes, low_lanes};
 use crate::samples::{high_sample, low_sample};
 use std::simd::prelude::*;
 
-/// Makes each high sample of its odd one and of what the even ones round it predict (docs/formats.md, "A line").
+/// Computes each high sample from its odd one and from what the even ones round it predict (docs/formats.md, "A line").
 pub fn predict_sub_onto(high: &mut [i32], odd: &[i32], a: &[i32], b: &[i32], c: &[i32], d: &[i32])
     requires long { length odd.now ≡ length high.old }
     requires long_a { length a.now ≡ length high.old }
@@ -41,7 +41,7 @@ pub fn predict_sub_onto(high: &mut [i32], odd: &[i32], a: &[i32], b: &[i32], c: 
     }
 }
 
-/// Makes each low sample of its even one and of the correction of the high ones on both sides
+/// Computes each low sample from its even one and from the correction of the high ones on both sides
 /// (docs/formats.md, "A line").
 pub fn update_sub_onto(low: &mut [i32], even: &[i32], before: &[i32], after: &[i32])
     requires long { length even.now ≡ length low.old }

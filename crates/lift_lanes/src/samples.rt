@@ -4,7 +4,7 @@ ghost use Rattle.std.specs.Prelude.{◌≡◌, ◌*◌, ◌^◌, ◌-ℤ◌};
 ghost use Rattle.wave_defs.specs.Line.{predicted, correction};
 ghost use Rattle.wave_defs.specs.Within.{IsWithin};
 
-/// What the even samples round an odd one predict it to be.
+/// Returns the value that the even samples round an odd one predict.
 fn predict(a: i32, b: i32, c: i32, d: i32) -> i32
     requires in_a { IsWithin (2 ^ 26) a }
     requires in_b { IsWithin (2 ^ 26) b }
@@ -16,7 +16,7 @@ fn predict(a: i32, b: i32, c: i32, d: i32) -> i32
     (9 * (b + c) - (a + d) + 8) >> 4
 }
 
-/// What the high samples on both sides of an even one correct it by.
+/// Returns the correction of an even sample by the high samples on both sides.
 fn correct(before: i32, after: i32) -> i32
     requires in_before { IsWithin (2 ^ 26) before }
     requires in_after { IsWithin (2 ^ 26) after }
@@ -26,7 +26,7 @@ fn correct(before: i32, after: i32) -> i32
     (2 - (before + after)) >> 2
 }
 
-/// A high sample from the odd sample and the even ones round it.
+/// Returns a high sample from the odd sample and the even ones round it.
 pub fn high_sample(odd: i32, a: i32, b: i32, c: i32, d: i32) -> i32
     requires in_odd { IsWithin (2 ^ 26) odd }
     requires in_a { IsWithin (2 ^ 26) a }
@@ -38,7 +38,7 @@ pub fn high_sample(odd: i32, a: i32, b: i32, c: i32, d: i32) -> i32
     odd - predict(a, b, c, d)
 }
 
-/// A low sample from the even sample and the high ones on both sides.
+/// Returns a low sample from the even sample and the high ones on both sides.
 pub fn low_sample(even: i32, before: i32, after: i32) -> i32
     requires in_even { IsWithin (2 ^ 26) even }
     requires in_before { IsWithin (2 ^ 26) before }

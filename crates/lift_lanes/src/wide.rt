@@ -1,4 +1,4 @@
-//! The kernels back, in i64.
+//! The kernels of the inverse, in i64.
 
 ghost use Rattle.std.specs.Prelude.{◌≡◌, ℕ, ◌^◌, length};
 ghost use Rattle.wave_defs.specs.Within.{AllWithin};

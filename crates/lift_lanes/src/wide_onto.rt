@@ -1,4 +1,4 @@
-//! The kernels back, in i64, from one row onto another.
+//! The kernels of the inverse, in i64, from one row onto another.
 
 ghost use Rattle.std.specs.Prelude.{◌≡◌, ℕ, ◌^◌, length};
 ghost use Rattle.wave_defs.specs.Within.{AllWithin};
@@ -9,7 +9,7 @@ use crate::lanes::{even_lanes, odd_lanes};
 use crate::wide_samples::{even_sample, odd_sample};
 use std::simd::prelude::*;
 
-/// Makes each odd sample of its high one and of what the even ones round it predict (docs/formats.md, "A line").
+/// Computes each odd sample from its high one and from what the even ones round it predict (docs/formats.md, "A line").
 pub fn predict_onto(odd: &mut [i64], high: &[i64], a: &[i64], b: &[i64], c: &[i64], d: &[i64])
     requires long { length high.now ≡ length odd.old }
     requires long_a { length a.now ≡ length odd.old }
@@ -41,7 +41,7 @@ pub fn predict_onto(odd: &mut [i64], high: &[i64], a: &[i64], b: &[i64], c: &[i6
     }
 }
 
-/// Makes each even sample of its low one and of the correction of the high ones on both sides
+/// Computes each even sample from its low one and from the correction of the high ones on both sides
 /// (docs/formats.md, "A line").
 pub fn update_onto(even: &mut [i64], low: &[i64], before: &[i64], after: &[i64])
     requires long { length low.now ≡ length even.old }

@@ -1,10 +1,10 @@
-//! The lifting of one sample back, in i64 (docs/formats.md, "A line").
+//! The lifting of one sample in the inverse, in i64 (docs/formats.md, "A line").
 
 ghost use Rattle.std.specs.Prelude.{◌≡◌, ◌*◌, ◌^◌, ◌+ℤ◌};
 ghost use Rattle.wave_defs.specs.Line.{predicted, correction};
 ghost use Rattle.wave_defs.specs.Within.{IsWithin};
 
-/// What the even samples round an odd one predict it to be.
+/// Returns the value that the even samples round an odd one predict.
 fn predict(a: i64, b: i64, c: i64, d: i64) -> i64
     requires in_a { IsWithin (2 ^ 40) a }
     requires in_b { IsWithin (2 ^ 40) b }
@@ -16,7 +16,7 @@ fn predict(a: i64, b: i64, c: i64, d: i64) -> i64
     (9 * (b + c) - (a + d) + 8) >> 4
 }
 
-/// What the high samples on both sides of an even one correct it by.
+/// Returns the correction of an even sample by the high samples on both sides.
 fn correct(before: i64, after: i64) -> i64
     requires in_before { IsWithin (2 ^ 40) before }
     requires in_after { IsWithin (2 ^ 40) after }
@@ -26,7 +26,7 @@ fn correct(before: i64, after: i64) -> i64
     (2 - (before + after)) >> 2
 }
 
-/// An even sample from the low sample and the high ones on both sides.
+/// Returns an even sample from the low sample and the high ones on both sides.
 pub fn even_sample(low: i64, before: i64, after: i64) -> i64
     requires in_low { IsWithin (2 ^ 40) low }
     requires in_before { IsWithin (2 ^ 40) before }
@@ -36,7 +36,7 @@ pub fn even_sample(low: i64, before: i64, after: i64) -> i64
     low + correct(before, after)
 }
 
-/// An odd sample from the high sample and the even ones round it.
+/// Returns an odd sample from the high sample and the even ones round it.
 pub fn odd_sample(high: i64, a: i64, b: i64, c: i64, d: i64) -> i64
     requires in_high { IsWithin (2 ^ 40) high }
     requires in_a { IsWithin (2 ^ 40) a }

@@ -1,4 +1,4 @@
--- A line whose inner samples a kernel computed, and its ends one by one.
+-- A line whose inner samples a kernel computed, and whose ends are computed one by one.
 use Rattle.std.proofs.Common.{◌≡◌, ◌≢◌, ℕ, ◌+◌, ◌-◌, ◌<◌, ◌≤◌, ℤ, pos, ◌-ℤ◌, List, length, set, refl, sym, ap, ◌∙◌, ⊎_elim, subst, arith, get_or-set_other, get_or-set_same, length-set}
 use Rattle.std.specs.List.{between}
 use borrow.Rule.Slice.PartMut.{put_mid}
@@ -71,7 +71,7 @@ predicted_by_parts n o e ys a b z long lo le ly ea eb ez inner =
           (cases_eq j (n - 1));
     }
 
--- the low samples, the first one by itself
+-- the low samples, with the first one computed by itself
 pub corrected_by_parts : (n : ℕ) (e d ys : List ℤ) (a : ℤ) → 1 ≤ n → length e ≡ n → length d ≡ n → length ys ≡ n - 1
     → a ≡ (signal e 0 -ℤ correction (signal d 0) (signal d 0))
     → Agrees (n - 1) (signal ys) (less_correction (signal (between 1 n e)) (signal (between 0 (n - 1) d)) (signal (between 1 n d)))

@@ -1,4 +1,4 @@
--- Samples that the way back reads and writes, at 64 bits.
+-- Samples that the inverse reads and writes, in 64 bits.
 use Rattle.std.proofs.Common.{◌≡◌, ℕ, ◌+◌, ◌-◌, ◌^◌, ◌<◌, ◌≤◌, ℤ, List, ◌+ℤ◌, arith, w64, to_z, of_z}
 use Rattle.std.proofs.lemmas.Int.{ints}
 use Rattle.wave_defs.specs.Line.{predicted, correction, prediction, even_before, even_within, even_of, odd_of}
@@ -36,7 +36,7 @@ odd_is c d n j p q s r vp vj vq vs h wd ep eq es vap vaj vaq vas er =
     let o = kept w64 (2 ^ 38) (d j) (omega arith) (wd.at j h) in
     cc
 
--- what stands, counted in another way
+-- the same samples under other counts
 pub as_many : (a b i j : ℕ) (low high row : List ℤ) → i ≤ a → j ≤ b → Stands a b low high row → Stands i j low high row
 as_many a b i j low high row h k s = record {
   even = record { at = λ x l. s.even.at x (omega arith) };

@@ -1,4 +1,4 @@
--- A line that is put together again from its halves.
+-- A line that is joined again from its halves.
 use Rattle.std.specs.Prelude.{◌≡◌, ℕ, ◌+◌, ◌*◌, ◌^◌, ◌≤◌, ℤ, List, length}
 use Rattle.wave_defs.specs.Line.{even_of, odd_of}
 use Rattle.wave_defs.specs.Within.{AllWithin}
@@ -12,7 +12,7 @@ pub record AreHalves (low high row : List ℤ) : Type 0 where
   pub low_bounded : AllWithin (2 ^ 38) (length low) (signal low)
   pub high_bounded : AllWithin (2 ^ 38) (length low) (signal high)
 
--- so many even and so many odd samples of the line stand in the row
+-- the first `evens` even and the first `odds` odd samples of the line are in the row
 pub record Stands (evens odds : ℕ) (low high row : List ℤ) : Type 0 where
   pub even : Agrees evens (λ k. signal row (2 * k)) (even_of (signal low) (signal high))
   pub odd : Agrees odds (λ k. signal row (2 * k + 1)) (odd_of (signal low) (signal high) (length low))

@@ -1,4 +1,4 @@
-//! The samples of a line that is put together again, one by one or by pairs.
+//! The samples of a line that is joined again, one by one or in pairs.
 
 ghost use Rattle.std.specs.Prelude.{◌≡◌, ℕ, ◌+◌, ◌*◌, ◌^◌, ◌<◌, ◌≤◌, min, length};
 ghost use Rattle.lift_rows.specs.Back.{AreHalves, Stands};
@@ -6,7 +6,7 @@ ghost use Rattle.lift_rows.specs.Back.{AreHalves, Stands};
 use crate::{mirrored_after, mirrored_before};
 use lift_lanes::{even_sample, odd_sample};
 
-/// Even sample `j`, where all before it stand.
+/// Computes even sample `j`, if all before it are there.
 pub fn put_even(low: &[i64], high: &[i64], row: &mut [i64], j: usize)
     requires halves { AreHalves low.now high.now row.old }
     requires inside { j < length low.now }
@@ -16,7 +16,7 @@ pub fn put_even(low: &[i64], high: &[i64], row: &mut [i64], j: usize)
     row[2 * j] = even_sample(low[j], high[j.saturating_sub(1)], high[j]);
 }
 
-/// Odd sample `j`, where all before it stand. The even ones round it are mirrored at both ends.
+/// Computes odd sample `j`, if all before it are there. The even ones round it are mirrored at both ends.
 pub fn put_odd(low: &[i64], high: &[i64], row: &mut [i64], j: usize)
     requires halves { AreHalves low.now high.now row.old }
     requires inside { j < length low.now }
@@ -31,8 +31,8 @@ pub fn put_odd(low: &[i64], high: &[i64], row: &mut [i64], j: usize)
     row[2 * j + 1] = odd_sample(high[j], before, here, after, second);
 }
 
-/// Even sample `j + 2` and then odd sample `j`, which is neither the first nor one of the last two, so
-/// that nothing is mirrored.
+/// Computes even sample `j + 2` and then odd sample `j`, which is neither the first nor one of the last two,
+/// so nothing is mirrored.
 #[inline(always)]
 pub fn put_pair(low: &[i64], high: &[i64], row: &mut [i64], j: usize)
     requires halves { AreHalves low.now high.now row.old }

@@ -7,7 +7,7 @@ ghost use Rattle.lift_rows.specs.Halves.{evens, odds, high_half, low_half};
 
 use lift_lanes::{high_sample, low_sample, predict_sub, update_sub};
 
-/// The even and the odd samples of a line.
+/// Splits a line into its even and its odd samples.
 #[tactic(auto, using(wave_defs::proofs::Filled::fills), unfolding(crate::specs::Halves::evens, crate::specs::Halves::odds))]
 pub fn split(row: &[i32], even: &mut [i32], odd: &mut [i32])
     requires halves { length row.now ≡ 2 * length even.old }
@@ -21,8 +21,8 @@ pub fn split(row: &[i32], even: &mut [i32], odd: &mut [i32])
     }
 }
 
-/// The high samples in place of the odd ones. Only the first and the last two have even samples
-/// that are mirrored.
+/// Replaces the odd samples by the high ones. Only the first and the last two have even samples that are
+/// mirrored.
 pub fn lift_high(even: &[i32], odd: &mut [i32])
     requires same { length even.now ≡ length odd.old }
     requires long { 3 ≤ length odd.old }
@@ -59,8 +59,8 @@ pub fn lift_high(even: &[i32], odd: &mut [i32])
     odd[n - 1] = last;
 }
 
-/// The low samples in place of the even ones. The first high sample serves on both sides of the
-/// first.
+/// Replaces the even samples by the low ones. For the first of them the first high sample is used on both
+/// sides.
 pub fn lift_low(even: &mut [i32], high: &[i32])
     requires same { length high.now ≡ length even.old }
     requires long { 1 ≤ length even.old }

@@ -1,5 +1,5 @@
-//! One line of the wavelet transform, forward in i32 and back in i64, and the lifting of whole
-//! rows.
+//! This crate has one line of the wavelet transform, forward in i32 and its inverse in i64, and the lifting
+//! of whole rows.
 #![tactic(auto)]
 
 ghost use Rattle.std.specs.Prelude.{◌≡◌, ℕ, ◌+◌, ◌*◌, ◌-◌, ◌^◌, ◌<◌, ◌≤◌, length};
@@ -15,16 +15,16 @@ pub use lift_lanes::{
     update_sub_onto,
 };
 
-/// The number of the even sample before even sample `j`, where the line is mirrored
-/// (docs/formats.md, "A line").
+/// Returns the number of the even sample before even sample `j`, if the line is mirrored (docs/formats.md, "A
+/// line").
 pub fn mirrored_before(j: usize) -> usize
     ensures { result ≡ even_before j }
 {
     j.abs_diff(1)
 }
 
-/// The number of even sample `k` of `n`, where the line is mirrored; `k` is at most one past the
-/// end (docs/formats.md, "A line").
+/// Returns the number of even sample `k` of `n`, if the line is mirrored; `k` is at most one past the end
+/// (docs/formats.md, "A line").
 pub fn mirrored_after(n: usize, k: usize) -> usize
     requires within { k ≤ n + 1 }
     requires long { 3 ≤ n }
@@ -35,7 +35,7 @@ pub fn mirrored_after(n: usize, k: usize) -> usize
     k.min(2 * n - 1 - k)
 }
 
-/// The low and the high samples of a line (docs/formats.md, "A line").
+/// Computes the low and the high samples of a line (docs/formats.md, "A line").
 ///
 /// The line has an even number of samples, at least 6 and each at most 2^24 in magnitude. `low` and
 /// `high` have half as many each.
@@ -54,7 +54,7 @@ pub fn forward_row(row: &[i32], low: &mut [i32], high: &mut [i32])
     halves::lift_low(low, high);
 }
 
-/// The line that has these low and high samples (docs/formats.md, "A line").
+/// Computes the line that has these low and high samples (docs/formats.md, "A line").
 ///
 /// `low` and `high` have the same length, at least 3, and samples of at most 2^38 in magnitude.
 /// `row` has twice as many.

@@ -3,7 +3,7 @@ use Rattle.std.proofs.Common.{◌≡◌, ℕ, ◌+◌, ◌-◌, ◌<◌, List, [
 use Rattle.std.proofs.lemmas.List.{length-map, length-replicate, map-append, replicate_more, length_push}
 use Rattle.circular_buffer.specs.Buffer.{keep_last}
 
--- as many as rows of what they show
+-- a list has the same length as the list of what its elements show
 pub length-filled : {X Y : Type 0} (f : X → Y) (n : ℕ) (xs : List X) (y : Y) → map f xs ≡ replicate n y → length xs ≡ n
 length-filled f n xs y e = sym (length-map xs f) ∙ ap length e ∙ length-replicate n y
 

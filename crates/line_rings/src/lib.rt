@@ -1,4 +1,4 @@
-//! Rings of rows of one width.
+//! This crate has rings of rows of one width.
 #![tactic(auto)]
 
 ghost use Rattle.std.specs.Prelude.{◌≡◌, ℕ, ◌+◌, ◌<◌, ◌≤◌, length, List, [], ◌∷◌, ◌++◌, map, drop, slice_index_or, vec_len, IfOk, replicate};
@@ -8,7 +8,7 @@ use std::alloc::{AllocError, Global};
 use std::marker::Model;
 use std::mem;
 
-/// As many rows as it was made for, from the oldest to the newest.
+/// A fixed number of rows, from the oldest to the newest.
 #[derive(Drop)]
 pub struct RowRing<T: Copy> {
     rows: HeapCircularBuffer<Vec<T>>,
@@ -24,7 +24,7 @@ impl<T: Copy> Model for RowRing<T> {
     ghost invariant = { λ s. (length s.rows.items ≡ s.rows.capacity) × (0 < s.rows.capacity) };
 }
 
-// A row of places that all hold `zero`.
+// Returns a row of places that all hold `zero`.
 fn row_of<T: Copy>(alloc: Global, width: usize, zero: T) -> Result<Vec<T>, AllocError>
     ensures { IfOk result (λ v. v.items ≡ replicate width zero) }
 {
@@ -36,8 +36,8 @@ fn row_of<T: Copy>(alloc: Global, width: usize, zero: T) -> Result<Vec<T>, Alloc
 }
 
 impl<T: Copy> RowRing<T> {
-    /// Rows of `width` places that all hold `zero`. There is at least one row. The one error is
-    /// want of memory.
+    /// Returns `rows` rows of `width` places that all hold `zero`. There is at least one row. The only error
+    /// is a lack of memory.
     pub fn new(alloc: Global, rows: usize, width: usize, zero: T) -> Result<RowRing<T>, AllocError>
         requires { 1 ≤ rows }
         ensures { IfOk result (λ r. r ≡ replicate rows (replicate width zero)) }
@@ -50,8 +50,7 @@ impl<T: Copy> RowRing<T> {
         Ok(RowRing { rows: ring })
     }
 
-    /// The row becomes the newest, and the oldest is handed back. The row has the width of the
-    /// others.
+    /// Makes the row the newest, and returns the oldest. The row has the width of the others.
     pub fn turn(&mut self, row: Vec<T>) -> Vec<T>
         requires { vec_len row ≡ length (slice_index_or self.old 0 []) }
         ensures rows { self.new ≡ drop 1 self.old ++ row.items ∷ [] }
@@ -63,8 +62,7 @@ impl<T: Copy> RowRing<T> {
         }
     }
 
-    /// A copy of the row becomes the newest, in the place of the oldest. The row has the width of
-    /// the others.
+    /// Makes a copy of the row the newest, in the place of the oldest. The row has the width of the others.
     pub fn turn_copy(&mut self, row: &[T])
         requires { length row.now ≡ length (slice_index_or self.old 0 []) }
         ensures { self.new ≡ drop 1 self.old ++ row.now ∷ [] }
@@ -78,8 +76,7 @@ impl<T: Copy> RowRing<T> {
         }
     }
 
-    /// The row becomes the newest, and the oldest stands in its place. The row has the width of the
-    /// others.
+    /// Makes the row the newest, and puts the oldest in `row`. The row has the width of the others.
     pub fn turn_swap(&mut self, row: &mut Vec<T>)
         requires { vec_len row.old ≡ length (slice_index_or self.old 0 []) }
         ensures rows { self.new ≡ drop 1 self.old ++ row.old.items ∷ [] }
@@ -93,7 +90,7 @@ impl<T: Copy> RowRing<T> {
         }
     }
 
-    /// A row, counted from the oldest.
+    /// Returns a row, counted from the oldest.
     pub fn at(&self, i: usize) -> &[T]
         requires { i < length self.now }
         ensures { result.now ≡ slice_index_or self.now i [] }

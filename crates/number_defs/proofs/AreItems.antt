@@ -1,4 +1,4 @@
--- The items of numbers that aren't too great are none of them refused.
+-- No item of numbers that are not too great is refused.
 use Rattle.std.proofs.Common.{◌≡◌, ◌⊎◌, ℕ, zero, suc, ◌+◌, ◌*◌, ◌-◌, ◌/◌, ◌%◌, ◌^◌, ◌<◌, ◌≤◌, min, max, List, [], ◌∷◌, ◌++◌, length, map, take, get_or, Bool, true, false, eqb, cond, refl, sym, ap, subst, ◌∙◌, arith, inl, inr, ℤ, pos, negsuc}
 use Rattle.std.specs.List.{range_with_len}
 use Rattle.std.specs.Int.{int_shr}
@@ -56,7 +56,7 @@ pub option_within : (N option : ℕ) → is_option N option ≡ true → eqb opt
 option_within N option e f = grind (arith, nat_tests)
 
 module _ (kind : Kind) (xs : List ℕ) (few : (i : ℕ) → get_or xs i 0 < 2 ^ kind.bits) where
-  -- a number isn't too great
+  -- a number is not too great
   abbrev IsLow : ℕ → Type 0
   IsLow i = kind.too_great (get_or xs i 0) ≡ false
 
@@ -90,7 +90,7 @@ module _ (kind : Kind) (xs : List ℕ) (few : (i : ℕ) → get_or xs i 0 < 2 ^ 
   rest_item : (k i : ℕ) → IsLow i → IsItem (rest_part kind xs k i)
   rest_item k i low = (tt, mod_below (value_at kind.bits xs i) (2 ^ k) (pow_pos k), value_allowed i _ low (shr_split (value_at kind.bits xs i) k))
 
-  -- the first m of these values, where those that they make whole aren't too great
+  -- the first m of these values, if those that they make whole are not too great
   values_front : (option a n m : ℕ) → is_option kind.bits option ≡ true → ((i : ℕ) → a ≤ i → i < a + n → cond (eqb option (uncoded kind.bits) || eqb option 0) 0 n + (i - a + 1) ≤ m → IsLow i) →
       AreItems (take m (value_items kind xs option (range_with_len a n)))
   unfolding value_items
@@ -182,7 +182,7 @@ module _ (kind : Kind) (xs : List ℕ) (few : (i : ℕ) → get_or xs i 0 < 2 ^ 
         rest (inl some) = gaggle_front g (m - length (items_before kind xs o g)) (valid g (omega arith)) (omega arith) (λ i from inside lt le. low i inside (omega (arith, lt)) (omega (arith, le, some)))
         rest (inr none) = subst (λ n. AreItems (take n (gaggle_items kind xs (o g) g))) (let z : 0 ≡ m - length (items_before kind xs o g) = omega arith in z) tt
 
-    -- the first m items, where the numbers that they make whole aren't too great
+    -- the first m items, if the numbers that they make whole are not too great
     pub numbers_front : (m : ℕ) → ((g : ℕ) → g < gaggle_count (length xs) → is_option kind.bits (o g) ≡ true) → ((i : ℕ) → i < length xs → numbers_through kind xs o i ≤ m → IsLow i) → AreItems (take m (number_items kind xs o))
     numbers_front m valid low = before_front (gaggle_count (length xs)) m valid (omega arith) (λ i inside lt le. low i inside le)
 
@@ -230,7 +230,7 @@ raw_front [] m low = front_none m
 raw_front (x ∷ xs) zero low = tt
 raw_front (x ∷ xs) (suc m) low = ((tt, (let h : x < 2 ^ 1 = omega (arith, low 0 (omega arith) (omega arith)) in h), refl), raw_front xs m (λ i lt le. low (suc i) (omega arith) (omega arith)))
 
--- the first m items of block depths, where the depths that they make whole aren't above the head's
+-- the first m items of block depths, if the depths that they make whole are not above the head's
 pub depths_front : (depth_ac : ℕ) (xs : List ℕ) (o : ℕ → ℕ) (m : ℕ) → depth_bits depth_ac ≤ 10 → AreFew (depth_bits depth_ac) xs →
     ((i : ℕ) → i < length xs → cond (eqb depth_ac 0) 0 (cond (eqb depth_ac 1) (i + 1) (numbers_through (depth_kind depth_ac) xs o i)) ≤ m → get_or xs i 0 ≤ depth_ac) →
     (2 ≤ depth_ac → (g : ℕ) → g < gaggle_count (length xs) → is_option (depth_bits depth_ac) (o g) ≡ true) → AreItems (take m (depth_items depth_ac xs o))

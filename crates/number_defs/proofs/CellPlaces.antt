@@ -1,4 +1,4 @@
--- The places of numbers that stand every so many cells.
+-- The places of the numbers of every `stride`-th cell.
 use Rattle.std.proofs.Common.{◌≡◌, ℕ, ◌+◌, ◌*◌, ◌/◌, ◌%◌, ◌<◌, ◌≤◌, ℤ, pos, List, length, get_or, map, ap, ◌∙◌, arith, inl, inr}
 use Rattle.std.specs.Int.{div_ceil}
 use Rattle.std.proofs.lemmas.Bool.{cases_lt}
@@ -16,7 +16,7 @@ pub strided_at : (stride : ℕ) (cells : List ℤ) (m : ℕ) → m < div_ceil (l
 unfolding strided
 strided_at stride cells m lt = get_or-map-range_with_len (cell_at stride cells) 0 (div_ceil (length cells) stride) m m (pos 0) lt (omega arith)
 
--- such a number lies within the slice
+-- such a number is within the slice
 pub place_within : (n stride m : ℕ) → 1 ≤ stride → m < div_ceil n stride → m * stride < n
 place_within n stride m low lt =
     let whole = div-add-mod' n stride in
@@ -30,7 +30,7 @@ place_within n stride m low lt =
           rw at (omega (arith, whole))
     ]
 
--- what is made of each of them
+-- the image of each of them
 module _ (f : ℤ → ℕ) (stride : ℕ) (cells : List ℤ) where
   pub made_length : length (map f (strided stride cells)) ≡ div_ceil (length cells) stride
   made_length = length-map (strided stride cells) f ∙ length-strided stride cells

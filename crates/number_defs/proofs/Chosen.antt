@@ -29,7 +29,7 @@ pub heuristic_is : (N : ℕ) (values : List ℕ) → is_option N (heuristic N va
 unfolding heuristic
 heuristic_is N values = total_is N (length values) (sum values)
 
--- what is found among such numbers is one
+-- an element that is found among such numbers is one of them
 found_is : (q p : ℕ → Bool) (xs : List ℕ) (d : ℕ) → list_all q xs ≡ true → q d ≡ true → q (unwrap_or (find p xs) d) ≡ true
 found_is q p [] d all e = e
 found_is q p (x ∷ xs) d all e =

@@ -16,7 +16,7 @@ zeros_length : (limit n : ℕ) → n < limit → length (zeros_and_one limit n) 
 zeros_length limit n lt =
     ap length (sym (zeros_then_one n limit lt)) ∙ length-append (copies n false) (true ∷ []) ∙ ap (λ m. m + 1) (length-copies n false)
 
--- as many bits as each item has
+-- the number of bits of each item
 module _ (f : ℕ → Item) (g c : ℕ → ℕ) (each : (i : ℕ) → length (item_bits (f i)) ≡ c (g i)) where
   each_length : (xs : List ℕ) → length (text (map f xs)) ≡ sum_by c (map g xs)
   each_length [] = refl

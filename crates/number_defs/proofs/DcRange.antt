@@ -1,4 +1,4 @@
--- A DC of so many bits, over 2 ^ q, has a number of the bits that are left.
+-- A DC of this number of bits, over 2 ^ q, has a number with the bits that are left.
 use Rattle.std.proofs.Common.{ℕ, ◌+◌, ◌*◌, ◌-◌, ◌/◌, ◌^◌, ◌<◌, ◌≤◌, max, ℤ, pos, negsuc, List, length, true, arith}
 use Rattle.std.specs.Int.{int_shr}
 use Rattle.std.proofs.Math.Pow.{pow_mono}

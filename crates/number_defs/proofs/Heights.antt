@@ -39,7 +39,7 @@ negatives_fit false N = omega arith
 pub complement_back : (signed : Bool) (N height : ℕ) → height < 2 ^ N → (complement N (number_at signed N height) + negatives signed N) % 2 ^ N ≡ height
 complement_back signed N height lt = complement_less N height (negatives signed N) lt (negatives_fit signed N)
 
--- a number of the range has a height of so many bits, from which it is had again
+-- a number of the range has a height of N bits, and this height determines it
 pub height_below : (signed : Bool) (N : ℕ) (z : ℤ) → IsInRange signed N z → height_of signed N z < 2 ^ N
 height_below signed N (pos a) h = omega (arith, ints, h.low, h.high)
 height_below signed N (negsuc a) h = omega (arith, ints, h.low, h.high)
@@ -50,7 +50,7 @@ number_back signed N z h = omega (arith, ints, h.low, h.high)
 pub half : (N : ℕ) → 1 ≤ N → 2 ^ N ≡ 2 * 2 ^ (N - 1)
 half N low = let e : N ≡ suc (N - 1) = omega arith in ap (λ n. 2 ^ n) e ∙ pow-succ' 2 (N - 1)
 
--- two's complement turns the halves of the range round
+-- two's complement exchanges the halves of the range
 pub complement_is : (signed : Bool) (N height : ℕ) → 1 ≤ N → height < 2 ^ N → (height + negatives signed N) % 2 ^ N ≡ complement N (number_at signed N height)
 complement_is false N height low lt =
     let e : pos height -ℤ pos 0 ≡ pos height = omega (arith, ints) in

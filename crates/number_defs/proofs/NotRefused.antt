@@ -1,4 +1,4 @@
--- Numbers whose items aren't refused aren't too great.
+-- Numbers whose items are not refused are not too great.
 use Rattle.std.proofs.Common.{◌≡◌, ℕ, zero, suc, ◌+◌, ◌*◌, ◌-◌, ◌/◌, ◌%◌, ◌^◌, ◌<◌, ◌≤◌, min, List, [], ◌∷◌, ◌++◌, length, map, get_or, Bool, true, false, eqb, cond, refl, sym, ap, subst, ◌∙◌, arith, inl, inr}
 use Rattle.std.specs.List.{range_with_len}
 use Rattle.std.specs.Prelude.{Some, None, nat_lt}
@@ -38,7 +38,7 @@ module _ (kind : Kind) (xs : List ℕ) (few : (i : ℕ) → get_or xs i 0 < 2 ^ 
   abbrev Allowed : ℕ → Type 0
   Allowed i = kind.too_great (get_or xs i 0) ≡ false
 
-  -- what the number before and the mapped value give
+  -- what the number before and the mapped value determine
   by_value : (i v : ℕ) → v ≡ value_at kind.bits xs i → depth_refusal kind (get_or xs (i - 1) 0) v ≡ None → Allowed i
   by_value i v same e =
       let tested : kind.too_great (unmapped kind.bits (get_or xs (i - 1) 0) v) ≡ false = not_refused (kind.too_great (unmapped kind.bits (get_or xs (i - 1) 0) v)) bad_depth e in
@@ -112,7 +112,7 @@ few_bits zero le = refl
 few_bits (suc zero) le = refl
 few_bits (suc (suc n)) le = absurd (omega arith)
 
--- depths of no more than one bit aren't too great
+-- depths of at most one bit are not too great
 low_depths : (depth_ac : ℕ) (xs : List ℕ) → depth_ac ≤ 1 → AreFew (depth_bits depth_ac) xs → (i : ℕ) → get_or xs i 0 ≤ depth_ac
 low_depths zero xs le few i = let h : get_or xs i 0 < 2 ^ depth_bits 0 = few_anywhere (depth_bits 0) xs few i in omega (arith, h, few_bits 0 le)
 low_depths (suc zero) xs le few i = let h : get_or xs i 0 < 2 ^ depth_bits 1 = few_anywhere (depth_bits 1) xs few i in omega (arith, h, few_bits 1 le)

@@ -27,8 +27,8 @@ said_split (i ∷ is) (j ∷ js) is' js' p e =
     let r = said_split is js is' js' (p.1 first) others in
     (let t : said_of (i ∷ is) ≡ said_of (j ∷ js) = cc (first, r.0) in t, r.1)
 
--- Items at the places from low on, below high: the form of each is known from the number before, and what it
--- says then gives the next number.
+-- Items at the places from low on, below high: the form of each is determined by the number before, and what
+-- it says determines the next number.
 module _ (xs ys : List ℕ) (f h : ℕ → Item) (low high : ℕ)
     (forms : (i : ℕ) → low ≤ i → i < high → get_or xs (i - 1) 0 ≡ get_or ys (i - 1) 0 → (f i).form ≡ (h i).form)
     (gives : (i : ℕ) → low ≤ i → i < high → get_or xs (i - 1) 0 ≡ get_or ys (i - 1) 0 → (f i).said ≡ (h i).said → get_or xs i 0 ≡ get_or ys i 0) where
@@ -68,7 +68,7 @@ each_said f h a (suc n) e i from to =
     ] refl
 
 module _ (kind : Kind) (xs ys : List ℕ) (p : (i : ℕ) → get_or xs i 0 < 2 ^ kind.bits) (q : (i : ℕ) → get_or ys i 0 < 2 ^ kind.bits) where
-  -- a mapped value gives its number
+  -- a mapped value determines its number
   pub same_number : (i : ℕ) → get_or xs (i - 1) 0 ≡ get_or ys (i - 1) 0 → value_at kind.bits xs i ≡ value_at kind.bits ys i → get_or xs i 0 ≡ get_or ys i 0
   same_number i s e =
       sym (mapped_back kind.bits (get_or xs (i - 1) 0) (get_or xs i 0) (p (i - 1)) (p i))
@@ -79,7 +79,7 @@ module _ (kind : Kind) (xs ys : List ℕ) (p : (i : ℕ) → get_or xs i 0 < 2 ^
   pub split_value : (k v w : ℕ) → v / 2 ^ k ≡ w / 2 ^ k → v % 2 ^ k ≡ w % 2 ^ k → v ≡ w
   split_value k v w d r = sym (shr_split v k) ∙ ap (λ n. n * 2 ^ k + v % 2 ^ k) d ∙ ap (λ n. w / 2 ^ k * 2 ^ k + n) r ∙ shr_split w k
 
-  -- values as they are, and unary parts alone
+  -- values as they are, and unary parts by themselves
   module _ (a n : ℕ) (s : get_or xs (a - 1) 0 ≡ get_or ys (a - 1) 0) where
     uncoded_alike : (i : ℕ) → get_or xs (i - 1) 0 ≡ get_or ys (i - 1) 0 → (uncoded_value kind xs i).form ≡ (uncoded_value kind ys i).form
     uncoded_alike i t = ap (uncoded_form kind) t
@@ -128,7 +128,7 @@ module _ (kind : Kind) (xs ys : List ℕ) (p : (i : ℕ) → get_or xs i 0 < 2 ^
       rest_same : said_of (map (rest_part kind xs k) (range_with_len a n)) ≡ said_of (map (rest_part kind ys k) (range_with_len a n)) → (i : ℕ) → a ≤ i → i < a + n → get_or xs i 0 ≡ get_or ys i 0
       rest_same = chain_same xs ys (rest_part kind xs k) (rest_part kind ys k) a (a + n) rest_alike rest_number a n (omega arith) (omega arith) s
 
-    -- under an option that both take
+    -- values under an option that both use
     value_steps : (option : ℕ) → StepsAlike (value_items kind xs option (range_with_len a n)) (value_items kind ys option (range_with_len a n))
     unfolding value_items
     value_steps option =
@@ -167,7 +167,7 @@ module _ (kind : Kind) (xs ys : List ℕ) (p : (i : ℕ) → get_or xs i 0 < 2 ^
   lead_steps zero = (refl, λ s. tt)
   lead_steps (suc g) = tt
 
-  -- the reference, or the numbers before, give the number before a gaggle's first mapped value
+  -- the reference, or the numbers before, determine the number before a gaggle's first mapped value
   pub lead_same : (g : ℕ) → ((i : ℕ) → i < 16 * g → get_or xs i 0 ≡ get_or ys i 0) → said_of (lead_items kind xs g) ≡ said_of (lead_items kind ys g) → get_or xs (first_place g - 1) 0 ≡ get_or ys (first_place g - 1) 0
   lead_same zero known e =
       let said : complement kind.bits (number_at kind.signed kind.bits (get_or xs 0 0)) ≡ complement kind.bits (number_at kind.signed kind.bits (get_or ys 0 0)) = cc in

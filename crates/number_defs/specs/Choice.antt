@@ -1,5 +1,5 @@
--- The option that a writer takes for a gaggle of mapped values of N bits. (The thresholds of the
--- heuristic choice and the ties of the optimal one are this project's own.)
+-- The option that a writer chooses for a gaggle of mapped values of N bits. (The thresholds of the heuristic
+-- choice and the ties of the optimal one are this project's own.)
 use Rattle.std.specs.Prelude.{ℕ, ◌+◌, ◌-◌, ◌*◌, ◌/◌, ◌^◌, ◌==◌, List, ◌∷◌, None, length, sum, sum_by, filter, find, unwrap_or, Bool, if◌then◌else◌, nat_le, nat_lt}
 use Rattle.std.specs.List.{range_with_len, list_all, last_or}
 use Rattle.number_defs.specs.Gaggles.{uncoded, gaggle_values}
@@ -48,6 +48,6 @@ optimal N values = unwrap_or (find (is_least N values) (candidates N)) (uncoded 
 
 -- ---- for each gaggle
 
--- what such a choice takes for each gaggle of these numbers of N bits
+-- what such a choice selects for each gaggle of these numbers of N bits
 abbrev pub choices : (ℕ → List ℕ → ℕ) → ℕ → List ℕ → ℕ → ℕ
 choices choice N heights g = choice N (gaggle_values N heights g)

@@ -6,7 +6,7 @@ use Rattle.number_defs.specs.Ranges.{shifted_height, complement}
 use Rattle.number_defs.specs.Gaggles.{Kind, number_items}
 use Rattle.number_defs.specs.Choice.{choices}
 
--- the low bits of each DC that the depths of DC and AC alone would leave for later
+-- the number of low bits of each DC that BitDepthDC and BitDepthAC alone would leave for later
 abbrev pub depth_q : ℕ → ℕ → ℕ
 depth_q depth_dc depth_ac =
     let above = depth_dc - (1 + depth_ac / 2) in
@@ -18,7 +18,7 @@ depth_q depth_dc depth_ac =
     then depth_dc - 10
     else 1 + depth_ac / 2))
 
--- the low bits that are left, none that the weight of LL3 makes 0 among the others
+-- the number of low bits that are left; none of the others is 0 because of the weight of LL3
 abbrev pub dc_q : ℕ → ℕ → ℕ → ℕ
 dc_q depth_dc depth_ac shift = max (depth_q depth_dc depth_ac) shift
 
@@ -44,7 +44,7 @@ unfoldable pub planes_before : ℕ → List ℤ → ℕ → List Item
 planes_before q dcs zero = []
 planes_before q dcs (suc n) = planes_before q dcs n ++ map (dc_bit (q - suc n)) dcs
 
--- the bit planes that are left, down to the depth of AC, and none that the weight of LL3 makes 0
+-- the bit planes that are left, down to BitDepthAC, except those that are 0 because of the weight of LL3
 abbrev pub dc_planes : ℕ → ℕ → ℕ → ℕ
 dc_planes depth_dc depth_ac shift = dc_q depth_dc depth_ac shift - max depth_ac shift
 
@@ -54,7 +54,7 @@ dc_items depth_dc depth_ac shift dcs options =
     let q = dc_q depth_dc depth_ac shift in
     high_items (dc_bits depth_dc depth_ac shift) q dcs options ++ planes_before q dcs (dc_planes depth_dc depth_ac shift)
 
--- the options that such a choice takes
+-- the options that such a choice selects
 abbrev pub dc_choices : (ℕ → List ℕ → ℕ) → ℕ → ℕ → ℕ → List ℤ → ℕ → ℕ
 dc_choices choice depth_dc depth_ac shift dcs =
     let N = dc_bits depth_dc depth_ac shift in

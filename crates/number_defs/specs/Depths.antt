@@ -21,6 +21,6 @@ depth_items depth_ac depths options =
     then []
     else (if depth_ac == 1 then map raw depths else number_items (depth_kind depth_ac) depths options)
 
--- the options that such a choice takes
+-- the options that such a choice selects
 abbrev pub depth_choices : (ℕ → List ℕ → ℕ) → ℕ → List ℕ → ℕ → ℕ
 depth_choices choice depth_ac depths = choices choice (depth_bits depth_ac) depths

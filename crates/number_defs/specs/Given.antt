@@ -1,5 +1,6 @@
 -- The number of items of numbers by differences that make the number at a place whole, with all before it.
--- (CCSDS 122.0-B-2, section 4.3.2; that a number counts from where it is whole is this project's own.)
+-- (CCSDS 122.0-B-2, section 4.3.2; that a number counts from the place at which it is whole is this project's
+-- own.)
 use Rattle.std.specs.Prelude.{ℕ, ◌+◌, ◌-◌, ◌/◌, ◌==◌, ◌||◌, if◌then◌else◌, List, length}
 use Rattle.number_defs.specs.Gaggles.{Kind, uncoded, first_place, places, lead_items, items_before}
 

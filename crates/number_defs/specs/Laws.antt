@@ -26,7 +26,7 @@ pub record MappingUndoes : Type 0 where
   pub value : (N p c : ℕ) → p < 2 ^ N → c < 2 ^ N → mapped N p c < 2 ^ N
   pub number : (N p v : ℕ) → p < 2 ^ N → v < 2 ^ N → unmapped N p v < 2 ^ N
 
--- numbers and heights, also by way of two's complement; the numbers of the range have the heights of N bits
+-- numbers and heights represent each other, also by way of two's complement; the numbers of the range have the heights of N bits
 pub record HeightsUndo : Type 0 where
   pub back : (signed : Bool) (N height : ℕ) → height_of signed N (number_at signed N height) ≡ height
   pub again : (signed : Bool) (N : ℕ) (z : ℤ) → IsInRange signed N z → number_at signed N (height_of signed N z) ≡ z
@@ -47,7 +47,7 @@ pub record DcBitsAreFew : Type 0 where
       IsInRange true (dc_bits depth_dc depth_ac shift) (int_shr dc (dc_q depth_dc depth_ac shift))
 
 -- Lists of the same number of numbers, with any options, have items that step alike; so a text is read as such numbers
--- in one way at most. The numbers have no more bits than their range.
+-- in at most one way. The numbers have no more bits than their range.
 pub record NumbersStepAlike : Type 0 where
   pub numbers : (kind : Kind) (xs ys : List ℕ) (o p : ℕ → ℕ) → length xs ≡ length ys →
       AreFew kind.bits xs → AreFew kind.bits ys →

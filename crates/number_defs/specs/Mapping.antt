@@ -1,4 +1,4 @@
--- A number after another one as a value from 0, by their difference; numbers are given by their heights.
+-- A number as the value of its difference to the one before, from 0; numbers are given by their heights.
 -- (CCSDS 122.0-B-2, section 4.3.2.)
 use Rattle.std.specs.Prelude.{ℕ, ◌+◌, ◌-◌, ◌*◌, ◌/◌, ◌%◌, ◌^◌, ◌==◌, min, if◌then◌else◌, nat_le}
 
@@ -13,8 +13,8 @@ mapped N p c =
     then (if nat_le (c - p) (theta N p) then 2 * (c - p) else theta N p + (c - p))
     else (if nat_le (p - c) (theta N p) then 2 * (p - c) - 1 else theta N p + (p - c))
 
--- the number after p that has the mapped value v: up where v is even, down where it is odd, and where one
--- side alone has room, v - theta away to that side
+-- the number after p that has the mapped value v: up if v is even, down if it is odd, and if only one side
+-- has room, v - theta away to that side
 unfoldable pub unmapped : ℕ → ℕ → ℕ → ℕ
 unmapped N p v =
     if nat_le v (2 * theta N p)

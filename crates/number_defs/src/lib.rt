@@ -1,5 +1,5 @@
-//! Definitions of numbers by differences, of the DC part and of the block depths of a segment's text,
-//! with their laws.
+//! This crate defines numbers by differences, the DC part and the block depths of a segment's text, with
+//! their laws.
 #![tactic(auto)]
 
 ghost use Rattle.number_defs.specs.Laws.{MappingUndoes, HeightsUndo, CountsBits, DcBitsAreFew, NumbersStepAlike};
@@ -19,7 +19,7 @@ pub const fn choice_counts_bits()
     ensures { CountsBits }
 {}
 
-/// The numbers of a DC part have at most 10 bits, and hold each DC of the head's depth.
+/// The numbers of a DC part have at most 10 bits, and hold each DC of the head's BitDepthDC.
 pub const fn dc_bits_are_few()
     ensures { DcBitsAreFew }
 {}

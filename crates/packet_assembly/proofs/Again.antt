@@ -1,4 +1,4 @@
--- Where the end stands, or why the stream can't be read on, each further read answers the same.
+-- If the end was reached, or the stream can't be read on, each further read returns the same.
 use Rattle.std.proofs.Common.{◌≡◌, ◌⊎◌, inl, inr, ℕ, List, [], ◌∷◌, ◌++◌, refl, sym, ap, ◌∙◌, arith, add-zero}
 use Rattle.std.specs.Prelude.{Bool, true, false, ◌==◌, ◌||◌, Option, Some, None, Result, Ok, Err}
 use Rattle.std.proofs.lemmas.Bool.{false≢true}
@@ -36,7 +36,7 @@ or_false : (b : Bool) → (b || false) ≡ b
 or_false true = refl
 or_false false = refl
 
--- nothing more leaves a reader as it was, but for the last text
+-- a read without octets leaves a reader unchanged, except for the last text
 fed_quiet : (v : Intake) → fed v [] false ≡ record v { text = [] }
 fed_quiet v = same_intake refl (add-zero v.taken) (append-nil v.pending) refl (or_false v.ended)
 
@@ -51,7 +51,7 @@ textless_decided v = refl
 quiet_verdict : (apid : ℕ) (v : Intake) → verdict apid (fed v [] false) ≡ verdict apid v
 quiet_verdict apid v = ap (verdict apid) (fed_quiet v) ∙ textless apid v
 
--- where the end is seen once more
+-- if the end is reached once more
 end_again : (apid : ℕ) (v : Intake) (r : PacketRead) → verdict apid v ≡ Some (Ok r) → (has_bad_version v.pending ≡ true) ⊎ (v.ended ≡ true) → verdict apid (fed v [] true) ≡ Some (Ok r)
 end_again apid v r e (inl bad) =
     let worse : has_bad_version (v.pending ++ []) ≡ true = ap has_bad_version (append-nil v.pending) ∙ bad in
@@ -65,7 +65,7 @@ over_again : (apid : ℕ) (v : Intake) (r : PacketRead) (saw_end : Bool) → is_
 over_again apid v r false over e = quiet_verdict apid v ∙ e
 over_again apid v r true over e = end_again apid v r e (over_read apid v r over e).1
 
--- what was decided at once is answered
+-- what was decided without a read is returned
 answers : (apid : ℕ) (p q : Outside) (u w : Intake) (result r : Result PacketRead InFault) → EndsPacket apid p q u w result → verdict apid u ≡ Some r → result ≡ r
 answers apid p q u w (Ok read) r ends e = let first = ends.0 in cc
 answers apid p q u w (Err ReadFault) r ends e = absurd (false≢true (sym ends.1 ∙ decided apid u r e))

@@ -1,4 +1,4 @@
--- What a segment header that agrees says of its segment and of the image.
+-- What a segment header that agrees reports of its segment and of the image.
 use Rattle.std.proofs.Common.{◌≡◌, ◌⊎◌, inl, inr, ◌≤◌, ◌<◌, ◌+◌, ◌-◌, ◌*◌, ◌/◌, ◌%◌, ℕ, List, [], ◌∷◌, refl, sym, ap, subst, ◌∙◌, arith}
 use Rattle.std.specs.Prelude.{Bool, true, false, ◌==◌, ◌&&◌, not, nat_le, nat_lt, min, if◌then◌else◌}
 use Rattle.std.specs.Str.{bytes_eq}

@@ -1,4 +1,4 @@
--- What packets leave from the first one of an image on, and what a segment says that begins after them.
+-- The state after packets from the first one of an image on, and what a segment that begins after them reports.
 use Rattle.std.proofs.Common.{◌≡◌, ◌⊎◌, inl, inr, ◌≤◌, ◌<◌, ◌+◌, ◌-◌, ◌*◌, ℕ, List, refl, sym, ap, subst, ◌∙◌, arith}
 use Rattle.std.specs.Prelude.{Bool, true, false, ◌==◌, not, min, Option, None, Some}
 use Rattle.std.proofs.lemmas.Bool.{false≢true}
@@ -53,7 +53,7 @@ pub record HasBegun (s : FateState) (ended : ℕ) : Type 0 where
   pub last : s.last ≡ Some l
   pub leaves : Leaves g s.told_last l.index ended
 
--- the state that packets leave whose heads reach so many blocks
+-- the state after packets whose heads reach this number of blocks
 pub record IsLeft (s : FateState) (ended : ℕ) : Type 0 where
   pub by : IsUnbegun s ended ⊎ HasBegun s ended
 
@@ -62,7 +62,7 @@ fresh_left = record { by = inl record { geometry = refl; last = refl; nothing = 
 
 -- ---- a segment that begins
 
--- What a segment says that begins after such packets, with the geometry after its first packet.
+-- What a segment reports that begins after such packets, with the geometry after its first packet.
 pub record SegmentBegun (s : FateState) (ended : ℕ) (start : SegmentStart) (g : Geometry) : Type 0 where
   pub height : (g.rows ≡ 0) ⊎ IsWithin rows_range g.rows
   pub segment : start.ancillary.segment ≡ g.segment
@@ -136,7 +136,7 @@ before_by s ended a head t left = elim left.by [
   | inr begun ↦ before_more s ended a head t begun
 ]
 
--- what its first packet leaves
+-- the state after its first packet
 leaves_of : (g0 g : Geometry) (a : Ancillary) (head : SegmentHead) → IsBefore g0 a → Agrees g0 a head g → a.first ≡ first_block g.segment a.index →
     Leaves g a.told_last a.index (a.first + head.blocks)
 leaves_of g0 g a head before p first =
@@ -224,7 +224,7 @@ first_keeps apid s packet e = by (is_kept (fate apid s packet)) refl
     by true is = (is, rw is at e)
     by false is = absurd (let no : false ≡ true = rw is at e in false≢true no)
 
--- a packet that begins a segment does so
+-- a packet that is the first of a segment begins it
 pub begins_so : (apid : ℕ) (s : FateState) (packet : List ℕ) → is_first apid s packet ≡ true → Begins apid s packet
 begins_so apid s packet first =
     let k = first_keeps apid s packet first in
@@ -236,7 +236,7 @@ begins_so apid s packet first =
       ]
     ]
 
--- What the first packet of a segment leaves.
+-- The state after the first packet of a segment.
 pub record FirstLeaves (apid : ℕ) (s : FateState) (packet : List ℕ) (ended : ℕ) (start : SegmentStart) : Type 0 where
   pub g : Geometry
   pub geometry : (after apid s packet).geometry ≡ Some g

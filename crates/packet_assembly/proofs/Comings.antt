@@ -70,7 +70,7 @@ pub sees_on : (v : Intake) (took rest : List ℕ) (saw_end : Bool) → v.taken +
     sees_end v (took ++ rest) ≡ sees_end (fed v took saw_end) rest
 sees_on v took rest saw_end within seen below = sees_by v.ended saw_end v.cap v.taken took rest within seen below
 
--- a packet in front is passed
+-- the first packet is passed
 pub coming_past : (u : Intake) (n : ℕ) (text rest : List ℕ) → coming u rest ≡ take n u.pending ++ coming (record u { pending = drop n u.pending; text = text }) rest
 coming_past u n text rest =
     let more : List ℕ = if u.ended then [] else take (u.cap - u.taken) rest in

@@ -31,7 +31,7 @@ end_from ended packets = fold (λ most packet. max most (end_in packet)) ended p
 
 -- ---- packets that begin no segment
 
--- where they end nothing is reached
+-- a packet that begins no segment reaches nothing
 pub none_reaches : (apid : ℕ) (s : FateState) (packet : List ℕ) → is_first apid s packet ≡ false →
     ((after apid s packet).geometry ≡ s.geometry) × ((n : ℕ) → end_from n (kept apid s (packet ∷ [])) ≡ n)
 unfolding kept
@@ -55,7 +55,7 @@ kept_nothing : (apid : ℕ) (s : FateState) → kept apid s [] ≡ []
 unfolding kept
 kept_nothing apid s = refl
 
--- what packets leave that begin no segment
+-- the state after packets that begin no segment
 pub record StaysSo (apid : ℕ) (s : FateState) (packets : List (List ℕ)) : Type 0 where
   pub geometry : (after_all apid s packets).geometry ≡ s.geometry
   pub last : last_index (after_all apid s packets).last ≡ last_index s.last
@@ -144,7 +144,7 @@ first_reaches apid s x start n starts low =
     let end : end_in x ≡ (ancillary_in x).first + start.head.blocks = rw (k.1, starts.head_is) refl in
     rw k.0 (omega (arith, end, first, low))
 
--- a head was read where a segment begins
+-- a head was read if a segment begins
 pub starts_with : (apid : ℕ) (s : FateState) (x : List ℕ) → is_first apid s x ≡ true → (start : SegmentStart) × Starts apid s x start
 starts_with apid s x first =
     let k = first_keeps apid s x first in
@@ -180,12 +180,12 @@ more_left apid s [] n left = subst (λ zs. IsLeft s (end_from n zs)) (sym (kept_
 more_left apid s (x ∷ xs) n left =
     subst (IsLeft (after_all apid (after apid s x) xs)) (sym (kept_more apid s x xs n)) (more_left apid (after apid s x) xs (end_from n (kept apid s (x ∷ []))) (one_left apid s x n left))
 
--- what any packets leave, and how far their heads reach
+-- the state after any packets, and how far their heads reach
 pub all_left : (apid : ℕ) (packets : List (List ℕ)) → IsLeft (after_all apid fresh packets) (end_of (kept apid fresh packets))
 unfolding end_of
 all_left apid packets = more_left apid fresh packets 0 fresh_left
 
--- whether the height is reported last stays so from the first kept packet on
+-- whether the height is reported last doesn't change after the first kept packet
 pub told_one : (apid : ℕ) (s : FateState) (x : List ℕ) (g : Geometry) → s.geometry ≡ Some g → (h : Geometry) × ((after apid s x).geometry ≡ Some h) × ((after apid s x).told_last ≡ s.told_last)
 told_one apid s x g is = by (is_kept (fate apid s x)) refl
   where

@@ -1,4 +1,4 @@
--- The fate of a packet of the image is what is classified of what it says.
+-- The fate of a packet of the image is the classification of its fields.
 use Rattle.std.proofs.Common.{◌≡◌, ℕ, List, [], ◌∷◌, length, drop, refl, sym, ap, subst, ◌∙◌}
 use Rattle.std.specs.Prelude.{Bool, true, false, if◌then◌else◌, ◌==◌, Option, Some, None, Result, Ok, Err, unwrap_or}
 use Rattle.std.specs.Option.{option_map}
@@ -27,7 +27,7 @@ pub fate_other : (apid : ℕ) (s : FateState) (packet : List ℕ) (skip : Skip) 
 unfolding fate
 fate_other apid s packet skip other = rw other refl
 
--- what is told of a packet of the image
+-- the report of a packet of the image
 abbrev pub note_mine : (number : ℕ) → Fate → List ℕ → PacketNote
 note_mine number why packet = record {
   number = number;

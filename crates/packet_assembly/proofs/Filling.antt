@@ -1,4 +1,4 @@
--- A text that goes on, packet by packet.
+-- A text that continues, packet by packet.
 use Rattle.std.proofs.Common.{◌≡◌, [], ◌∷◌, refl, sym, ap, subst, ◌∙◌}
 use Rattle.std.specs.Prelude.{true, false, is_some, Option, None, Some, Ok, Err}
 use Rattle.std.proofs.lemmas.Bool.{false≢true}

@@ -1,4 +1,4 @@
--- Why a stream can't be read on, once it was told, stays so.
+-- The reason why a stream can't be read on, once it was found, remains true.
 use Rattle.std.proofs.Common.{◌≡◌, ℕ, refl, ap, ◌∙◌}
 use Rattle.std.specs.Prelude.{Option, Some, None, Ok, Err}
 use Rattle.bit_pipe.specs.declared.fault.InFault.{InFault}
@@ -15,14 +15,14 @@ use Rattle.packet_assembly.proofs.Again.{over_answers}
 use Rattle.packet_assembly.proofs.OneStep.{same_intake}
 use Rattle.packet_assembly.proofs.Verdicts.{over_read}
 
--- what was told before
+-- the reason that was found before is true
 abbrev pub ToldSo : (apid : ℕ) → Intake → Option Framing → Type 0
 ToldSo apid v told = (f : Framing) → told ≡ Some f → StandsAtFault apid v f
 
 pub told_none : (apid : ℕ) (v : Intake) → ToldSo apid v None
 told_none apid v f e = absurd (let no : None ≡ Some f = e in cc)
 
--- where a packet comes, nothing was told
+-- if a packet is read, no reason was found
 pub told_mine : (apid : ℕ) (p q : Outside) (v w : Intake) (told : Option Framing) (head : PacketHead) (tells : Ancillary) → ReadsPacket apid p q v w (Ok (Mine head tells)) →
     ToldSo apid v told → ToldSo apid w told
 told_mine apid p q v w told head tells reads so f e = absurd (let no : Ok (Mine head tells) ≡ Ok (Fault f) = over_answers (Fault f) refl reads (so f e) in cc)
@@ -35,7 +35,7 @@ pub told_failed : (apid : ℕ) (p q : Outside) (v w : Intake) (told : Option Fra
     ToldSo apid v told → ToldSo apid w told
 told_failed apid p q v w told fault reads so f e = absurd (let no : Err fault ≡ Ok (Fault f) = over_answers (Fault f) refl reads (so f e) in cc)
 
--- where it is told
+-- if the reason is found
 pub told_fault : (apid : ℕ) (p q : Outside) (v w : Intake) (fault : Framing) → ReadsPacket apid p q v w (Ok (Fault fault)) → ToldSo apid w (Some fault)
 told_fault apid p q v w fault reads f e =
     let u = fed v reads.took reads.saw_end in

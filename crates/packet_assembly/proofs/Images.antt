@@ -23,7 +23,7 @@ use Rattle.packet_assembly.proofs.Ends.{end_from, none_begun, stays_none, first_
 
 -- ---- the last place
 
--- what packets leave, at a geometry and a last place
+-- the state after packets, at a geometry and a last place
 pub leaves_at : (s : FateState) (n : ℕ) (g : Geometry) (l : LastPart) → IsLeft s n → s.geometry ≡ Some g → s.last ≡ Some l → Leaves g s.told_last l.index n
 leaves_at s n g l left geometry last = elim left.by [
   | inl none ↦ absurd (let no : None ≡ Some g = sym none.geometry ∙ geometry in cc)
@@ -149,7 +149,7 @@ end_same apid before packets same = end_none apid before packets (stays_none api
 
 -- ---- from the first kept packet on
 
--- a height that is known stays so
+-- a height that is known doesn't change
 one_known : (apid : ℕ) (s : FateState) (n : ℕ) (x : List ℕ) (g : Geometry) → IsLeft s n → s.geometry ≡ Some g → g.rows ≢ 0 → (after apid s x).geometry ≡ Some g
 one_known apid s n x g left is known = by (is_first apid s x) refl
   where
@@ -169,7 +169,7 @@ pub geometry_known : (apid : ℕ) (before packets : List (List ℕ)) (g : Geomet
     (after_all apid (after_all apid fresh before) packets).geometry ≡ Some g
 geometry_known apid before packets g = known_on apid (after_all apid fresh before) (end_of (kept apid fresh before)) packets g (all_left apid before)
 
--- so does that it is reported last
+-- nor does it change that it is reported last
 told_on : (apid : ℕ) (s : FateState) (packets : List (List ℕ)) (g : Geometry) → s.geometry ≡ Some g → (after_all apid s packets).told_last ≡ s.told_last
 told_on apid s [] g is = refl
 told_on apid s (x ∷ xs) g is =
@@ -188,7 +188,8 @@ told_last_open apid packets more g geometry untold =
 
 -- ---- a segment that begins
 
--- What its first packet leaves, after any packets. The geometry after it is in range if that before it was, or if the image's number is.
+-- The state after its first packet, after any packets. The geometry after it is in range if that before it was, or if the image's number
+-- is.
 pub record Begun (apid : ℕ) (s : FateState) (packet : List ℕ) (start : SegmentStart) : Type 0 where
   pub image : Geometry
   pub geometry : (after apid s packet).geometry ≡ Some image

@@ -84,7 +84,7 @@ follows_index (Some last) a e =
     equal : (m n : ℕ) → (m == n) ≡ true → m ≡ n
     equal m n e = grind (arith, nat_tests)
 
--- what a packet that begins no segment leaves is at the same segment
+-- the state after a packet that begins no segment is at the same segment
 pub stays : (apid : ℕ) (s : FateState) (packet : List ℕ) → is_first apid s packet ≡ false → last_index (after apid s packet).last ≡ last_index s.last
 stays apid s packet none = by_kept (is_kept (fate apid s packet)) refl
   where

@@ -1,4 +1,4 @@
--- No call reads where an octet of a text, its end or its break is at hand.
+-- No call reads while an octet of a text, its end or its break is in the reader.
 use Rattle.std.proofs.Common.{◌≡◌, ℕ, List, [], ◌∷◌, ◌++◌, take, refl, sym, ap, subst, ◌∙◌, arith, append_assoc}
 use Rattle.std.specs.Prelude.{false, None}
 use Rattle.std.specs.List.{AllByRecursion}
@@ -24,7 +24,7 @@ pub brings_more : (apid : ℕ) (s : FateState) (packets : List (List ℕ)) (pack
 brings_more apid s [] packet none text first closed = (text, first, closed, tt)
 brings_more apid s (x ∷ packets) packet none text first closed = (none.0, none.1, none.2, brings_more apid (after apid s x) packets packet none.3 text first closed)
 
--- packets that were passed; where they leave the text open and no octet of it waits, no read call was entered where one was at hand
+-- packets that were passed; if they leave the text open and no octet of it waits, no read call was made while one was in the reader
 pub record Quiet (old new : Outside) (a b : Assembling) : Type 0 where
   pub took : List ℕ
   pub passed : List (List ℕ)
@@ -47,7 +47,7 @@ quiet_nothing p a unheld = record {
   none_ready = λ empty going. record { unheld = unheld; empty = empty; unclosed = going; none = tt };
 }
 
--- a stretch whose packets left the text open, and then one in which no packet came before a read
+-- a stretch whose packets left the text open, and then one in which a read was before any packet
 none_ready_then : {old mid new : Outside} {a b : Assembling} → (q : Quiet old mid a b) → (more : List ℕ) → NoneReady a q.passed → Exchange mid new more [] [] (AsksNone b more) →
     Exchange old new (q.took ++ more) [] [] (AsksNoneReady a (q.took ++ more))
 none_ready_then {old = old} {mid = mid} {a = a} {b = b} q more none_ready asks =
@@ -66,7 +66,7 @@ pub quiet_then : {old mid new : Outside} {a b : Assembling} → (q : Quiet old m
     Silent old new a
 quiet_then q empty going more asks = record { took = q.took ++ more; asks = none_ready_then q more (q.none_ready empty going) asks }
 
--- a packet that leaves the text as it was
+-- a packet that leaves the text unchanged
 quiet_packet : {old mid : Outside} {a b : Assembling} → (q : Quiet old mid a b) → NoneReady a q.passed → (packet : List ℕ) → text_brought b.apid b.state packet ≡ [] →
     is_first b.apid b.state packet ≡ false → is_closed (after b.apid b.state packet).last ≡ false → NoneReady a (q.passed ++ packet ∷ [])
 quiet_packet {a = a} {b = b} q u packet text first closed =

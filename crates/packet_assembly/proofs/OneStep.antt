@@ -1,4 +1,4 @@
--- What one read leaves of a stretch: one packet more, or none.
+-- The effect of one read on a stretch: one packet more, or none.
 use Rattle.std.proofs.Common.{◌≡◌, ◌<◌, ◌+◌, ◌-◌, ℕ, List, [], ◌∷◌, ◌++◌, length, take, refl, sym, ap, subst, ◌∙◌, arith, add-zero, length-append}
 use Rattle.std.specs.Prelude.{Bool, true, false, Option, Some, None, Result, Ok, Err}
 use Rattle.std.proofs.lemmas.List.{append-nil, take-append-drop}
@@ -34,13 +34,13 @@ measure a = (a.intake.cap - a.intake.taken) + length a.intake.pending
 pub none_whole : (octets : List ℕ) → begins_packet octets ≡ false → whole_packets octets ≡ []
 none_whole octets none = let s : Splits octets [] octets = record { octets_are = refl; packets_are = tt; none_left = none } in splits_whole s
 
--- at each read call the state is still the same
+-- at each read call the state is unchanged
 asks_at : (P : FateState → Type 0) (a : Assembling) (took : List ℕ) → P a.state → (i j : ℕ) → AsksUndecided a.intake took i j → AsksAt P a took i j
 asks_at P a took here i j r =
     let none = none_whole (a.intake.pending ++ take i took) (undecided_none (fed a.intake (take i took) false) r.0) in
     (subst P (sym (ap (after_all a.apid a.state) none)) here, r.1)
 
--- so no read call was entered where a whole packet waited
+-- so no read call was made while a whole packet waited
 abbrev pub AsksNone : Assembling → List ℕ → ℕ → ℕ → Type 0
 AsksNone a took i j = (whole_packets (a.intake.pending ++ take i took) ≡ []) × (j ≡ 0)
 
@@ -62,7 +62,7 @@ pub record OneOn (P : FateState → Type 0) (old new : Outside) (a b : Assemblin
   pub comes : (rest : List ℕ) → new.rest ≡ Some rest → coming a.intake (passes.took ++ rest) ≡ packet ++ coming b.intake rest
   pub sees : (rest : List ℕ) → new.rest ≡ Some rest → sees_end a.intake (passes.took ++ rest) ≡ sees_end b.intake rest
 
--- where the end was seen, nothing is left
+-- if the end was reached, nothing is left
 nothing_left : (now : Outside) {saw_end : Bool} {left : List ℕ} → now.rest ≡ Some left → (saw_end ≡ true → AtEnd now) → saw_end ≡ true → left ≡ []
 nothing_left now {left = left} told seen e = used_up now.rest told (seen e)
   where
@@ -168,7 +168,7 @@ nothing_on {P = P} {new = new} {a = a} {b = b} framing reads here intake stands 
       sees = none_sees;
     }
 
--- what stands where there is no packet
+-- what is unchanged if there is no packet
 pub same_intake : (apid : ℕ) (v w : Intake) (took : List ℕ) (saw_end : Bool) → begins_packet (fed v took saw_end).pending ≡ false → w ≡ answered apid (fed v took saw_end) → w ≡ fed v took saw_end
 same_intake apid v w took saw_end none e = e ∙ answered_none apid (fed v took saw_end) none refl
 
@@ -199,7 +199,7 @@ end_by (Err fault) reads here is stands = absurd cc
 pub end_on : {P : FateState → Type 0} {old new : Outside} {a b : Assembling} → PassesNext old new a b (Ok None) → P a.state → EndOn P old new a b
 end_on x here = end_by x.read x.reads here x.answer x.stands
 
--- why none came
+-- why none was read
 abbrev pub FailsStep : InFault → (old new : Outside) (b : Assembling) → Type 0
 FailsStep ReadFault old new b = Rose old.read_faults new.read_faults
 FailsStep LongInput old new b = StandsLong b

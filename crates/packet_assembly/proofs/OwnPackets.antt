@@ -1,4 +1,4 @@
--- What a packet says that isn't foreign to an image.
+-- The fields of a packet that isn't foreign to an image.
 use Rattle.std.proofs.Common.{◌≡◌, ◌⊎◌, inl, inr, ◌≤◌, ◌<◌, ◌+◌, ℕ, refl, sym, arith}
 use Rattle.std.specs.Prelude.{Bool, true, false, ◌==◌, ◌||◌, not, nat_le, if◌then◌else◌, Some}
 use Rattle.std.proofs.lemmas.Bool.{false≢true}
@@ -35,7 +35,7 @@ same_so true false e = absurd (false≢true e)
 same_so false true e = absurd (false≢true e)
 same_so false false e = refl
 
--- what a packet of the image with this geometry says
+-- the fields of a packet of the image with this geometry
 pub record IsOwn (g : Geometry) (told_last : Bool) (a : Ancillary) : Type 0 where
   pub told : a.told_last ≡ told_last
   pub segment : a.segment ≡ g.segment

@@ -1,4 +1,4 @@
--- A geometry that stands is in range.
+-- A geometry that is known is in range.
 use Rattle.std.proofs.Common.{◌≡◌, ◌⊎◌, inl, inr, ◌≤◌, ◌+◌, ◌*◌, ◌%◌, ℕ, List, [], ◌∷◌, refl, sym, subst, arith}
 use Rattle.std.specs.Prelude.{Bool, true, false, not, ◌&&◌, ◌||◌, ◌==◌, nat_lt, if◌then◌else◌, Option, Some, None, Result, Ok, Err, IfSome}
 use Rattle.std.proofs.lemmas.Bool.{false≢true, and_parts}
@@ -98,7 +98,7 @@ head_by false false true o e = absurd cc
 head_by false false false (Some fault) e = absurd cc
 head_by false false false None e = refl
 
--- a head that is kept stands in part 0 and agrees
+-- a head that is kept is in part 0 and agrees
 agreed : (standing : Option Geometry) (a : Ancillary) (first : Bool) (r : Result SegmentHead HeadFault) (head : SegmentHead) →
     (if first then head_refusal standing a r else None) ≡ None → (if first then ok_of r else None) ≡ Some head → disagreement (geometry_for standing a head.image) a head ≡ None
 agreed standing a true (Ok other) head none is = let same : other ≡ head = cc in subst (λ h. disagreement (geometry_for standing a h.image) a h ≡ None) same none
@@ -121,7 +121,7 @@ past_ranged true true g rows r height = record { width = r.width; rows = inr (he
 past_ranged true false g rows r height = r
 past_ranged false last g rows r height = r
 
--- so it is after a packet that is kept
+-- the same after a packet that is kept
 pub ranged_past : (s : FateState) (flags : ℕ) (a : Ancillary) (text : List ℕ) (found : Option SegmentHead) → classified s flags a text ≡ Ok found → IfSome found IsHead → a.image ≤ 65535 →
     IsRanged s → IsRanged (past_kept s flags a found)
 ranged_past s flags a text found e fits image r = record { geometry = by found e fits }

@@ -47,7 +47,7 @@ read_on {a = a} {b = b} {took = took} {passed = passed} {went = went} apid cap r
   count = omega (arith, q.count, read.count, length-append passed went);
 }
 
--- no more octets were taken than the cap lets
+-- at most the octets that the cap allows were taken
 pub read_within : {apid cap : ℕ} {a : Assembling} {took : List ℕ} {passed : List (List ℕ)} → HasRead apid cap a took passed → length took ≤ cap
 read_within read = omega (arith, read.taken, read.cap, read.capped)
 
@@ -62,7 +62,7 @@ all_nothing : (took rest : List ℕ) → took ++ rest ≡ [] → (rest ≡ []) �
 all_nothing [] rest e = (e, refl)
 all_nothing (x ∷ took) rest e = absurd (let long = ap length e in omega (arith, long))
 
--- where the end was seen, nothing is left
+-- if the end was reached, nothing is left
 pub end_on : {P : FateState → Type 0} {old new : Outside} {a b : Assembling} {went : List (List ℕ)} → (q : Passes P old new a b went) → SawEnd old a → SawEnd new b
 end_on {old = old} {new = new} {a = a} {b = b} {went = went} q before rest told ended = by a.intake.ended refl
   where
@@ -86,7 +86,7 @@ end_on {old = old} {new = new} {a = a} {b = b} {went = went} q before rest told 
           omega (arith, fewer, length-append q.took rest, q.taken, q.cap),
         )
 
--- what stood after octets were written stands so
+-- what was valid before octets were written is valid after it
 pub end_later : {Q : ℕ → ℕ → Type 0} {now new : Outside} {g : List ℕ} (a : Assembling) → Exchange now new [] g [] Q → SawEnd now a → SawEnd new a
 end_later {now = now} {new = new} a out before rest told = before rest (before_loses now.rest new.rest [] rest out.rest told)
 
@@ -100,7 +100,7 @@ end_is_over : (o : Option Framing) → is_over (end_read o) ≡ true
 end_is_over None = refl
 end_is_over (Some fault) = refl
 
--- what is answered at the end
+-- what is returned at the end
 abbrev end_answer : Option Framing → Option (Result PacketRead InFault)
 end_answer found = Some (Ok (end_read found))
 
@@ -124,7 +124,7 @@ by_tests false false false true place left read found bad none e = absurd cc
 by_tests false false false false place left read found bad none e = absurd cc
 
 module _ {apid cap : ℕ} {b : Assembling} {took : List ℕ} {passed : List (List ℕ)} (read : HasRead apid cap b took passed) where
-  -- where no whole packet waits
+  -- if no whole packet waits
   splits_so : begins_packet b.intake.pending ≡ false → Splits took passed b.intake.pending
   splits_so none = record { octets_are = read.octets_are; packets_are = read.packets_are; none_left = none }
 
@@ -159,7 +159,7 @@ module _ {apid cap : ℕ} {b : Assembling} {took : List ℕ} {passed : List (Lis
       used_up None none = tt
       used_up (Some rest) none = none rest refl
 
-  -- so it is where all octets that the cap lets were taken; then they can be read on
+  -- the same if all octets that the cap allows were taken; then more can be read
   pub long_packets : StandsLong b → whole_packets took ≡ passed
   long_packets long = whole_so (long_read b.apid b.intake in_faults.LongInput long).none
 

@@ -20,7 +20,7 @@ use Rattle.packet_assembly.proofs.OneStep.{NoneOn, FailsStep, one_on, end_on, fa
 found_nothing : (p : Outside) (a : Assembling) → a.held ≡ None → FoundNone p p a a
 found_nothing p a none = record { none_held = none; passed = []; passes = passes_none p a; none_begins = tt; stays = refl; none_after = none }
 
--- no packet so far began a segment; where none can come, none was passed
+-- no packet so far began a segment; if none can follow, none was passed
 pub record Sought (old new : Outside) (a b : Assembling) : Type 0 where
   pub found : FoundNone old new a b
   pub ended : StandsEnded a → StandsEnded b

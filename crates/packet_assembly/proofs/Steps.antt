@@ -1,4 +1,4 @@
--- One packet, or none, by a reader and what is classified.
+-- One packet, or none, by a reader and by the classification of its fields.
 use Rattle.std.proofs.Common.{◌≡◌, ◌≤◌, ◌<◌, ◌+◌, ◌-◌, ℕ, List, [], ◌∷◌, length, drop, refl, sym, ap, subst, ◌∙◌, arith, length-append, length-drop}
 use Rattle.std.specs.Prelude.{Bool, true, false, nat_lt, Option, Some, None, Result, Ok, Err}
 use Rattle.std.proofs.lemmas.Bool.Decides.{nat_tests}
@@ -35,11 +35,11 @@ use Rattle.packet_assembly.proofs.FateSteps.{note_mine, kept_so, classified_unke
 pub same_assembling : {a b : Assembling} → a.apid ≡ b.apid → a.intake ≡ b.intake → a.state ≡ b.state → a.packets ≡ b.packets → a.text ≡ b.text → a.held ≡ b.held → a.framing ≡ b.framing → a ≡ b
 same_assembling p v s n t h f = λ i. record { apid = p i; intake = v i; state = s i; packets = n i; text = t i; held = h i; framing = f i }
 
--- an assembly whose reader has just read
+-- an assembly whose reader has read once more
 abbrev pub read_into : Assembling → Intake → Assembling
 read_into a w = record a { intake = w; text = drop 0 w.text }
 
--- past this packet
+-- after this packet
 abbrev pub past : Assembling → List ℕ → Intake → Assembling
 past a packet w = record a { intake = w; state = after a.apid a.state packet; packets = a.packets + 1; text = text_brought a.apid a.state packet }
 
@@ -145,7 +145,7 @@ other_passes {old = old} {new = new} {a = a} {v = v} {b = b} {w = w} {skip = ski
 
 -- ---- no packet
 
--- the text is gone then
+-- the text is then removed
 no_text : (apid : ℕ) (u w : Intake) → begins_packet u.pending ≡ false → w ≡ answered apid u → w.text ≡ []
 no_text apid u w none e = ap (λ w. w.text) (e ∙ answered_none_text apid u none)
 

@@ -1,4 +1,4 @@
--- What a segment's text tells of its kept packets, by induction over the packets after its first.
+-- What a segment's text reports of its kept packets, by induction over the packets after its first.
 use Rattle.std.proofs.Common.{◌≡◌, inl, inr, ◌<◌, ◌+◌, ℕ, List, [], ◌∷◌, ◌++◌, length, map, refl, sym, ap, subst, ◌∙◌, arith}
 use Rattle.std.specs.Prelude.{Bool, true, false, ◌==◌, if◌then◌else◌, Some, None}
 use Rattle.std.specs.List.{range_with_len}
@@ -47,7 +47,7 @@ closed_less x parts e c = by c.front c.parts_are
 
 -- ---- the packets after a part
 
--- what these packets of a segment, the first of which has this number, say of what comes of its text
+-- what these packets of a segment, the first of which has this number, determine of the rest of its text
 pub record Brings (first : ℕ) (parts : List (List ℕ)) (tail : Tail) : Type 0 where
   pub numbers : map number_of_part parts ≡ range_with_len first (length parts)
   pub octets : text_of_parts parts ≡ tail.octets
@@ -101,7 +101,7 @@ zero_test n e = grind (arith, nat_tests)
 more_test : (n m : ℕ) → n ≡ m + 1 → (n == 0) ≡ false
 more_test n m e = grind (arith, nat_tests)
 
--- the state stands at an open text of this segment
+-- the state is at an open text of this segment
 pub record IsAt (index part : ℕ) (s : FateState) : Type 0 where
   pub last : LastPart
   pub last_is : s.last ≡ Some last

@@ -1,4 +1,4 @@
--- What is still to come of a text, before a packet and after it.
+-- The rest of a text, before a packet and after it.
 use Rattle.std.proofs.Common.{◌≡◌, ℕ, List, [], ◌∷◌, ◌++◌, refl, sym, ap, ◌∙◌, inl, inr, append_assoc}
 use Rattle.std.specs.Prelude.{Bool, true, false, ◌||◌, ◌==◌, ◌⊎◌, if◌then◌else◌, Option, None, Some, Ok}
 use Rattle.std.specs.Option.{option_map}
@@ -28,12 +28,12 @@ use Rattle.packet_assembly.proofs.KeptPackets.{none_first, some_first}
 use Rattle.packet_assembly.proofs.Comings.{StopsSo, bad_stops, ended_stops, long_stops}
 use Rattle.packet_assembly.proofs.OneStep.{OneOn, NoneOn}
 
--- what comes of a text that is open, where no octet of it waits
+-- the rest of a text that is open, if no octet of it waits
 pub open_tail : (a : Assembling) (rest : List ℕ) → a.held ≡ None → a.text ≡ [] → is_closed a.state.last ≡ false →
     text_tail a rest ≡ tail_over a.apid a.state (whole_packets (coming a.intake rest)) (stop_of a.intake rest)
 open_tail a rest unheld empty going = rw (unheld, empty, going) refl
 
--- octets of a text that wait, and what comes after them
+-- octets of a text that wait, and what follows them
 pub unheld_tail : (a : Assembling) (rest : List ℕ) → a.held ≡ None → text_tail a rest ≡ in_front a.text (tail_after a rest)
 unheld_tail a rest unheld = rw unheld refl
 

@@ -1,4 +1,4 @@
--- What a reader's answers tell of the octets that decided them.
+-- What a reader's results imply for the octets that decided them.
 use Rattle.std.proofs.Common.{◌≡◌, ◌≤◌, ◌+◌, ℕ, List, [], ◌∷◌, length, refl, sym, ap, subst, ◌∙◌, arith, inl, inr, length-drop}
 use Rattle.std.specs.Prelude.{Bool, true, false, Option, Some, None, Result, Ok, Err, ◌⊎◌, ◌==◌}
 use Rattle.std.proofs.lemmas.Bool.{false≢true}
@@ -58,7 +58,7 @@ over_by false false true d f y o r over none bad e = (refl, inr refl)
 over_by false false false true f y o r over none bad e = absurd cc
 over_by false false false false f y o r over none bad e = absurd cc
 
--- why no read came, where the cap decided that
+-- why no octets were read, if the cap decided that
 pub record AtCap (u : Intake) (fault : InFault) : Type 0 where
   pub good : has_bad_version u.pending ≡ false
   pub none : begins_packet u.pending ≡ false
@@ -128,7 +128,7 @@ long_read apid u fault e =
 
 -- ---- what stands afterwards
 
--- a reader that went on by no octet
+-- a reader that took no octet
 pub record Continues (u w : Intake) : Type 0 where
   pub cap : w.cap ≡ u.cap
   pub taken : w.taken ≡ u.taken

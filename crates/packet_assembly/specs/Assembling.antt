@@ -16,9 +16,9 @@ use Rattle.space_packets.specs.Intake.{Intake, unread}
 use Rattle.packet_assembly.specs.declared.note.SegmentStart.{SegmentStart}
 use Rattle.packet_assembly.specs.Comings.{coming, sees_end}
 
--- The APID; the reader; what the packets so far leave for the next one's fate, and how many they are; the octets of the open
--- segment's text that were read and not given yet; the start of the segment whose first packet ended the text before it, if
--- there is one: the octets are those of its text then; and why the stream can't be read on, where that was found.
+-- The APID; the reader; the state that the packets so far leave for the next one's fate, and the number of these packets; the octets of the
+-- open segment's text that were read and not given yet; the start of the segment whose first packet ended the text before it, if there is
+-- one: the octets are those of its text then; and why the stream can't be read on, if that was found.
 pub record Assembling : Type 0 where
   pub apid : ℕ
   pub intake : Intake
@@ -68,9 +68,9 @@ last_index (Some last) = Some last.index
 abbrev pub AsksAt : (FateState → Type 0) → Assembling → List ℕ → ℕ → ℕ → Type 0
 AsksAt P a took i j = P (state_with a (take i took)) × (j ≡ 0)
 
--- Whole packets were passed, one after another, and the octets after them wait. At each read call the octets that were taken so
--- far left a state for which P held. No more was taken than the cap lets come, and what is still to come is what was before without
--- these packets.
+-- Whole packets were passed, one after another, and the octets after them wait. At each read call the octets that were taken so far left a
+-- state for which P held. At most the octets that the cap allows were taken, and what is left is what was left before, without these
+-- packets.
 pub record Passes (P : FateState → Type 0) (old new : Outside) (a b : Assembling) (passed : List (List ℕ)) : Type 0 where
   pub took : List ℕ
   pub since : Exchange old new took [] [] (AsksAt P a took)

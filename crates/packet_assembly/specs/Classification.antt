@@ -1,4 +1,4 @@
--- The fate of an image's packet by what it says. This project's own.
+-- The fate of an image's packet by its fields. This project's own.
 use Rattle.std.specs.Prelude.{ℕ, ◌==◌, if◌then◌else◌, List, [], ◌∷◌, Option, None, Some, Result, Ok, Err}
 use Rattle.std.specs.Option.{option_map}
 use Rattle.base_122.specs.declared.geometry.Geometry.{Geometry}
@@ -48,7 +48,7 @@ abbrev pub geometry_left : Option Geometry → Ancillary → Option SegmentHead 
 geometry_left standing a None = standing
 geometry_left standing a (Some head) = Some (geometry_past (geometry_for standing a head.image) a head)
 
--- what such a packet leaves
+-- the state after such a packet
 abbrev pub past_kept : FateState → (flags : ℕ) → Ancillary → Option SegmentHead → FateState
 past_kept s flags a head = record {
   geometry = geometry_left s.geometry a head;

@@ -1,4 +1,4 @@
--- What a reader has at hand and can still take. This project's own.
+-- The octets that a reader has and can still take. This project's own.
 use Rattle.std.specs.Prelude.{ℕ, ◌-◌, ◌||◌, Bool, nat_lt, if◌then◌else◌, List, [], ◌++◌, length, take}
 use Rattle.space_packets.specs.Intake.{Intake}
 
@@ -6,6 +6,6 @@ use Rattle.space_packets.specs.Intake.{Intake}
 abbrev pub coming : Intake → List ℕ → List ℕ
 coming v rest = v.pending ++ (if v.ended then [] else take (v.cap - v.taken) rest)
 
--- the end is seen before the cap
+-- the end is reached before the cap
 abbrev pub sees_end : Intake → List ℕ → Bool
 sees_end v rest = v.ended || nat_lt (length rest) (v.cap - v.taken)

@@ -1,4 +1,4 @@
--- What an assembly's fields show, and what holds of them, and one packet by what it says. This project's own.
+-- The values that an assembly's fields represent, what holds of them, and the effect of one packet by its fields. This project's own.
 use Rattle.std.specs.Prelude.{◌≡◌, ◌≤◌, ◌<◌, ◌+◌, ◌-◌, ◌^◌, ℕ, [], length, drop, Some, None, Result, Ok, Err, Option}
 use Rattle.segment_defs.specs.declared.head.SegmentHead.{SegmentHead}
 use Rattle.packet_defs.specs.declared.ancillary.Ancillary.{Ancillary}
@@ -33,8 +33,8 @@ assembling a = record {
 abbrev pub StandsAtFault : (apid : ℕ) → Intake → Framing → Type 0
 StandsAtFault apid v fault = verdict apid v ≡ Some (Ok (Fault fault))
 
--- Each packet that was passed had an octet at least; a geometry that stands is in range; and what was told of the stream that
--- can't be read on is so.
+-- Each packet that was passed had at least one octet; a geometry that is known is in range; and if a reason was found why the stream can't
+-- be read on, it is true.
 pub record IsAssembled (a : Inside) : Type 0 where
   pub place : a.next ≤ length a.reader.text
   pub counted : a.packets + length a.reader.pending ≤ a.reader.taken

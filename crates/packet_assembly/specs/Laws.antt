@@ -1,4 +1,4 @@
--- What the calls that go packet by packet keep. This project's own.
+-- What all calls that go packet by packet preserve. This project's own.
 use Rattle.std.specs.Prelude.{◌≡◌, Option, None, Result, Ok, Err}
 use Rattle.bit_pipe.specs.declared.fault.InFault.{InFault}
 use Rattle.bit_pipe.specs.declared.fault.InFault.TheVariants.{LongInput}

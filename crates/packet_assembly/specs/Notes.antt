@@ -1,4 +1,4 @@
--- What a call that passes one packet leaves. This project's own.
+-- The effect of a call that passes one packet. This project's own.
 use Rattle.std.specs.Prelude.{◌≡◌, ℕ, ◌+◌, if◌then◌else◌, List, [], length, drop, Option, None, Some, Result, Ok, Err}
 use Rattle.bit_pipe.specs.declared.fault.InFault.{InFault}
 use Rattle.segment_defs.specs.declared.head.SegmentHead.{SegmentHead}
@@ -63,7 +63,7 @@ note_next a octets = note_of a.packets (fate a.apid a.state (first_packet octets
 abbrev pub passed_next : Assembling → List ℕ → Passed
 passed_next a octets = record { note = note_next a octets; start = start_brought a.apid a.state (first_packet octets) }
 
--- what is answered where this was read, which octets begin with
+-- what is returned if this was read of octets that begin with the packet
 abbrev pub passed_for : Assembling → List ℕ → Result PacketRead InFault → Result (Option Passed) InFault
 passed_for a octets (Ok (Mine head ancillary)) = Ok (Some (passed_next a octets))
 passed_for a octets (Ok (Skipped skip)) = Ok (Some (passed_next a octets))
@@ -76,7 +76,7 @@ note_in (Ok None) = Ok None
 note_in (Ok (Some passed)) = Ok (Some passed.note)
 note_in (Err fault) = Err fault
 
--- an assembly past the packet with which octets begin
+-- an assembly after the packet with which octets begin
 abbrev pub past_next : Assembling → List ℕ → Intake → Assembling
 past_next a octets intake = record a {
   intake = intake;
@@ -97,14 +97,14 @@ stands_after a octets (Ok Ended) intake = at_end a intake None
 stands_after a octets (Ok (Fault fault)) intake = at_end a intake (Some fault)
 stands_after a octets (Err fault) intake = at_end a intake a.framing
 
--- One read of the reader, and what it makes of the fates: each step of the code is one step of the fold.
+-- One read of the reader, and its effect on the fates: each step of the code is one step of the fold.
 pub record PassesNext (old new : Outside) (a b : Assembling) (result : Result (Option Passed) InFault) : Type 0 where
   pub read : Result PacketRead InFault
   pub reads : ReadsPacket a.apid old new a.intake b.intake read
   pub answer : result ≡ passed_for a (fed a.intake reads.took reads.saw_end).pending read
   pub stands : b ≡ stands_after a (fed a.intake reads.took reads.saw_end).pending read b.intake
 
--- the same, where the packet's note alone is answered
+-- the same, if only the packet's note is returned
 pub record ReadsNote (old new : Outside) (a b : Assembling) (result : Result (Option PacketNote) InFault) : Type 0 where
   pub step : Result (Option Passed) InFault
   pub passes : PassesNext old new a b step

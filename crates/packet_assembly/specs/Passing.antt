@@ -1,4 +1,4 @@
--- Stretches in which packets were passed, one after another. These laws are here since the meaning of a text holds them.
+-- Stretches in which packets were passed, one after another. These laws are here since the meaning of a text needs them.
 use Rattle.std.proofs.Common.{◌≡◌, ℕ, List, [], ◌∷◌, ◌++◌, take, refl, sym, ap, subst, ◌∙◌, arith, append_assoc, add-zero, length-append}
 use Rattle.std.specs.List.{AllByRecursion}
 use Rattle.std.proofs.lemmas.List.{append-nil, take-append-le}

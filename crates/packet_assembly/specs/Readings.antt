@@ -18,10 +18,10 @@ pub record HasRead (mine most : ℕ) (a : Assembling) (took : List ℕ) (passed 
   pub state : a.state ≡ after_all mine fresh passed
   pub count : a.packets ≡ length passed
 
--- if the end was seen, nothing is left, and more octets may be taken
+-- if the end was reached, nothing is left, and more octets may be taken
 abbrev pub SawEnd : Outside → Assembling → Type 0
 SawEnd now a = (rest : List ℕ) → now.rest ≡ Some rest → a.intake.ended ≡ true → (rest ≡ []) × (a.intake.taken < a.intake.cap)
 
--- The end was read, which takes that more octets may be taken, or what can't be read on.
+-- The end was read, for which more octets may be taken, or what can't be read on.
 abbrev pub IsReadOut : (cap : ℕ) → Outside → List ℕ → Type 0
 IsReadOut cap now took = (has_bad_version (left_over took) ≡ true) ⊎ (AtEnd now × ((rest : List ℕ) → now.rest ≡ Some rest → length took < cap))

@@ -1,4 +1,4 @@
--- What the calls leave that go through segments and their texts. This project's own.
+-- The effect of the calls that go through segments and their texts. This project's own.
 use Rattle.std.specs.Prelude.{◌≡◌, ◌⊎◌, ℕ, List, [], ◌∷◌, ◌++◌, Option, None, Some, Result, Ok, Err}
 use Rattle.bit_pipe.specs.declared.fault.InFault.{InFault}
 use Rattle.bit_pipe.specs.declared.fault.InFault.TheVariants.{ReadFault, LongInput, Broken}
@@ -51,8 +51,8 @@ EndsSegment old new a b (Err ReadFault) = FoundNone old new a b × Rose old.read
 EndsSegment old new a b (Err LongInput) = FoundNone old new a b × StandsLong b
 EndsSegment old new a b (Err Broken) = ⊥
 
--- What a call that goes on to the next segment leaves. Where none is held, and the end, what can't be read on or an input that is
--- too long was answered before, it is answered again.
+-- The effect of a call that advances to the next segment. If none is held, and the end, what can't be read on or an input that is too long
+-- was returned before, it is returned again.
 pub record FindsSegment (old new : Outside) (a b : Assembling) (result : Result (Option SegmentStart) InFault) : Type 0 where
   pub ends : EndsSegment old new a b result
   pub ended : a.held ≡ None → StandsEnded a → result ≡ Ok None
@@ -69,9 +69,9 @@ pub record BeganAt (a : Assembling) (passed : List (List ℕ)) (start : SegmentS
   pub starts : Starts a.apid (after_all a.apid a.state front) packet start
   pub text_is : text ≡ text_after packet start.head
 
--- Some calls went on within a text: packets were passed, and at each read call the octets that were taken so far left the text
--- of the same segment open. Where no other segment was begun, that segment is still the last one's; else the last packet that was
--- passed begins the other one, and no call goes further.
+-- Some calls continued within a text: packets were passed, and at each read call the octets that were taken so far left the text of the
+-- same segment open. If no other segment was begun, that segment is still the last one's; otherwise the last packet that was passed begins
+-- the other one, and no call goes further.
 pub record Continues (old new : Outside) (a b : Assembling) : Type 0 where
   pub passed : List (List ℕ)
   pub passes : Passes (StaysOpen a) old new a b passed

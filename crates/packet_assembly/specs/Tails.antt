@@ -1,4 +1,4 @@
--- What is still to come of an open segment's text, and how it ends. This project's own.
+-- The rest of an open segment's text, and how it ends. This project's own.
 use Rattle.std.specs.Prelude.{ℕ, ◌==◌, ◌||◌, if◌then◌else◌, List, [], ◌∷◌, ◌++◌, Option, is_some}
 use Rattle.std.specs.Option.{option_map}
 use Rattle.bit_pipe.specs.Sources.{End, Plainly, TooLong, InPieces, Tail}
@@ -11,7 +11,7 @@ use Rattle.space_packets.specs.Intake.{Intake}
 use Rattle.packet_assembly.specs.Comings.{coming, sees_end}
 use Rattle.packet_assembly.specs.Assembling.{Assembling, is_closed}
 
--- how a text that isn't closed ends with the stream: in pieces at the end and at what can't be read on, else at the cap
+-- how a text that isn't closed ends with the stream: in pieces at the end and at what can't be read on, otherwise at the cap
 abbrev pub stop_of : Intake → List ℕ → End
 stop_of v rest = if has_bad_version (left_over (coming v rest)) || sees_end v rest then InPieces else TooLong
 

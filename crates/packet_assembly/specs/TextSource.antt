@@ -9,7 +9,7 @@ use Rattle.packet_assembly.specs.Segments.{Continues}
 use Rattle.packet_assembly.specs.Passing.{goes_nowhere, goes_both}
 use Rattle.packet_assembly.specs.Tails.{told_tail}
 
--- some calls went on within the text, by the same assembly and port
+-- some calls continued within the text, by the same assembly and port
 pub record Went {X : Type 0} (outside : X → Outside) (s t : SegmentText X) : Type 0 where
   pub assembly : t.assembly.ghost_name ≡ s.assembly.ghost_name
   pub port : t.port.ghost_name ≡ s.port.ghost_name

@@ -1,4 +1,4 @@
--- What a call for the next octet of a text leaves. This project's own.
+-- The effect of a call for the next octet of a text. This project's own.
 use Rattle.std.specs.Prelude.{◌≡◌, ◌<◌, ◌++◌, ℕ, take, List, [], ◌∷◌, Option, None, Some, Result, Ok, Err, IfOk, Bool, true, false, length}
 use Rattle.bit_pipe.specs.Sources.{Plainly, TooLong, InPieces, Comes, IsOver}
 use Rattle.bit_pipe.specs.declared.fault.InFault.{InFault}
@@ -12,13 +12,13 @@ use Rattle.packet_assembly.specs.Notes.{text_brought}
 use Rattle.packet_assembly.specs.Segments.{Continues}
 use Rattle.packet_assembly.specs.Tails.{told_tail}
 
--- why no octet came
+-- why no octet was given
 abbrev pub FailsSo : InFault → (old new : Outside) (b : Assembling) → Type 0
 FailsSo ReadFault old new b = Rose old.read_faults new.read_faults
 FailsSo LongInput old new b = IsOver (told_tail new b) TooLong
 FailsSo Broken old new b = IsOver (told_tail new b) InPieces
 
--- the octets that came
+-- the octets that were given
 abbrev pub ComesSo : (old new : Outside) (a b : Assembling) → List ℕ → Type 0
 ComesSo old new a b octets = Comes (told_tail old a) (told_tail new b) octets
 
@@ -43,11 +43,11 @@ pub record NoneReady (a : Assembling) (packets : List (List ℕ)) : Type 0 where
   pub unclosed : is_closed a.state.last ≡ false
   pub none : BringsNone a.apid a.state packets
 
--- a read call with i of these octets taken, whose packets leave the text so, and none given
+-- a read call with i of these octets taken, whose packets leave the text in this state, and none given
 abbrev pub AsksNoneReady : Assembling → List ℕ → ℕ → ℕ → Type 0
 AsksNoneReady a took i j = NoneReady a (whole_packets (a.intake.pending ++ take i took)) × (j ≡ 0)
 
--- no read call but such
+-- all read calls are of this kind
 pub record Silent (old new : Outside) (a : Assembling) : Type 0 where
   pub took : List ℕ
   pub asks : Exchange old new took [] [] (AsksNoneReady a took)

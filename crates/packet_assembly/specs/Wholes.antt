@@ -1,4 +1,4 @@
--- What a segment's text says of its kept packets: if it ends plainly, none is missing. This project's own.
+-- What a segment's text reports of its kept packets: if it ends plainly, none is missing. This project's own.
 use Rattle.std.specs.Prelude.{◌≡◌, ℕ, true, List, [], ◌∷◌, ◌++◌, slice_index_or}
 use Rattle.bit_pipe.specs.Sources.{End, Plainly, Tail}
 use Rattle.packet_defs.specs.Reading.{text_in}
@@ -13,20 +13,20 @@ use Rattle.std.specs.Prelude.{Some}
 abbrev pub parts_in : (apid : ℕ) → List (List ℕ) → (index : ℕ) → List (List ℕ)
 parts_in apid packets index = packets_at index (kept apid fresh packets)
 
--- what comes of the text of a packet's segment after it, where these packets follow and then this end
+-- the rest of the text of a packet's segment after it, if these packets follow and then this end
 abbrev pub tail_past : (apid : ℕ) → (before : List (List ℕ)) (packet : List ℕ) (later : List (List ℕ)) → End → Tail
 tail_past apid before packet later stop = tail_from apid (after apid (after_all apid fresh before) packet) later stop
 
--- The segment's kept packets are the one that begins it and those that bring what comes of its text. They are complete exactly
--- if the text ends plainly.
+-- The segment's kept packets are the one that begins it and those that carry the rest of its text. They are complete exactly if the text
+-- ends plainly.
 pub record TellsParts (apid : ℕ) (before : List (List ℕ)) (packet : List ℕ) (later : List (List ℕ)) (stop : End) (parts : List (List ℕ)) : Type 0 where
   pub first : slice_index_or parts 0 [] ≡ packet
   pub text : text_of_parts parts ≡ text_in packet ++ (tail_past apid before packet later stop).octets
   pub complete : (tail_past apid before packet later stop).ends ≡ Plainly → IsComplete parts
   pub plain : IsComplete parts → (tail_past apid before packet later stop).ends ≡ Plainly
 
--- So it is for each segment that is begun, where the stream's own end isn't plain; and of a segment that none of the packets
--- begins none is kept.
+-- This holds for each segment that is begun, if the stream's own end isn't plain. If none of the packets begins a segment, none of that
+-- segment is kept.
 pub record TailsTell : Type 0 where
   pub begun : (apid : ℕ) (before : List (List ℕ)) (packet : List ℕ) (later : List (List ℕ)) (stop : End) → (stop ≡ Plainly → ⊥) →
       is_first apid (after_all apid fresh before) packet ≡ true →

@@ -128,7 +128,7 @@ fn may_have_blocks(geometry: &Geometry, head: &SegmentHead) -> bool
     head.blocks == geometry.segment
 }
 
-// Returns whether the segment ends a block row at a height in range if it is the last one, and else leaves room for another.
+// Returns whether the segment ends a block row at a height in range if it is the last one, and otherwise leaves room for another.
 fn may_end(geometry: &Geometry, ancillary: &Ancillary, head: &SegmentHead) -> bool
     requires { 0 < geometry.now.width }
     ensures { result ≡ may_end geometry.now ancillary.now head.now }
@@ -165,7 +165,7 @@ fn told_height(geometry: &Geometry, ancillary: &Ancillary, head: &SegmentHead) -
     (8 * block_rows).saturating_sub(u64::from(head.pad_rows))
 }
 
-// Returns whether a header says of the image what this geometry says.
+// Returns whether the image part of a header is that of this geometry.
 fn is_of_image(geometry: &Geometry, image: &ImagePart) -> bool
     ensures { result ≡ is_of_image geometry.now image.now }
 {

@@ -1,4 +1,4 @@
-// The packets of a stream, one after another, and what becomes of them.
+// Reads the packets of a stream, one after another, and returns their fates.
 ghost use Rattle.std.specs.Prelude.{◌≡◌, ◌≤◌, ◌<◌, ◌+◌, ◌-◌, length, drop, Some, None, IfOk, IfSome, [], MatchBool};
 ghost use Rattle.packet_assembly.specs.Notes.{head_octets, start_of};
 
@@ -28,7 +28,7 @@ pub struct Assembly {
     apid: u16,
     state: FateState,
     packets: u64,
-    // where in the text of the reader's last packet the octets begin that weren't given yet
+    // the place in the text of the reader's last packet of the first octet that wasn't given yet
     next: usize,
     held: Option<SegmentStart>,
     framing: Option<Framing>,
@@ -145,7 +145,7 @@ impl Assembly {
         }
     }
 
-    /// Takes the next octet of the segment's text; `None` at its end.
+    /// Takes the next octet of the segment's text. Returns `None` at its end.
     pub fn take_octet<X: Port>(&mut self, port: &mut X) -> Result<Option<u8>, InFault>
         ensures { TakesOctet (X.outside port.old) (X.outside port.new) self.old self.new result }
     {
@@ -239,7 +239,7 @@ impl Assembly {
         }
     }
 
-    // Passes the next packet; `None` if there is none.
+    // Passes the next packet. Returns `None` if there is none.
     fn pass<X: Port>(&mut self, port: &mut X) -> Result<Option<Passed>, InFault>
         ensures { PassesNext (X.outside port.old) (X.outside port.new) self.old self.new result }
     {

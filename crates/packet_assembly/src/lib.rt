@@ -1,5 +1,4 @@
-//! What becomes of each packet of a stream, and the texts of the segments that the kept ones carry. The rules are in
-//! docs/formats.md, "Fates".
+//! The fate of each packet of a stream, and the texts of the segments that the kept ones carry. The rules are in docs/formats.md, "Fates".
 #![tactic(auto)]
 
 mod agreement;

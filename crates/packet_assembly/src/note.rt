@@ -1,23 +1,23 @@
-// What is reported of packets and segments.
+// The reports on packets and segments.
 use packet_defs::Ancillary;
 use segment_defs::SegmentHead;
 use stream_defs::Fate;
 
-/// What became of one packet (docs/formats.md, "Fates").
+/// The fate of one packet (docs/formats.md, "Fates").
 #[derive(Clone, Copy, Debug, PartialEq, Eq)]
 pub struct PacketNote {
-    /// Number of the packet in the stream, from 0.
+    /// The number of the packet in the stream, from 0.
     pub number: u64,
     pub fate: Fate,
-    /// Index of its segment; 0 of a skipped packet.
+    /// The index of its segment; 0 if the packet is skipped.
     pub index: u32,
-    /// Number of its part; 0 of a skipped packet.
+    /// The number of its part; 0 if the packet is skipped.
     pub part: u32,
-    /// Octets of its text; 0 of a skipped packet.
+    /// The octets of its text; 0 if the packet is skipped.
     pub octets: u32,
 }
 
-/// What a segment's first packet says of it.
+/// What a segment's first packet reports of it.
 #[derive(Clone, Copy, Debug, PartialEq, Eq)]
 pub struct SegmentStart {
     pub ancillary: Ancillary,

@@ -1,4 +1,4 @@
-// Packets of an image whose height is reported last, worked by hand from the rules.
+// Packets of an image whose height is reported last, calculated by hand from the rules.
 ghost use Rattle.std.specs.Prelude.{◌<◌};
 
 use crate::{Assembly, Fate, SegmentStart};
@@ -23,7 +23,7 @@ const LAST: [u8; 52] = [
     0x10, 0, 0, 0, 0, 0x77, 0,
 ];
 
-// A port with these octets, which moves 7 at a time.
+// Returns a port with these octets, which moves 7 at a time.
 fn port_of(alloc: Global, parts: &[&[u8]]) -> Result<MemoryPort, AllocError> {
     let mut input = Vec::new(alloc);
     for part in parts {
@@ -32,7 +32,7 @@ fn port_of(alloc: Global, parts: &[&[u8]]) -> Result<MemoryPort, AllocError> {
     MemoryPort::new(alloc, input, Vec::new(alloc), 7)
 }
 
-// The last packet with another octet in one place.
+// Returns the last packet with another octet in one place.
 fn changed(place: usize, octet: u8) -> [u8; 52]
     requires { place < 52 }
 {
@@ -41,7 +41,7 @@ fn changed(place: usize, octet: u8) -> [u8; 52]
     packet
 }
 
-// The index and the first block of a segment.
+// Returns the index and the first block of a segment.
 fn place(start: SegmentStart) -> (u32, u32) {
     (start.ancillary.index, start.ancillary.first)
 }

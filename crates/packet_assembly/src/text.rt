@@ -3,7 +3,7 @@ use crate::assembly::Assembly;
 use bit_pipe::{InFault, OctetIn};
 use port_122::Port;
 
-/// The text of an assembly's segment after its head, on its way from a port (docs/formats.md, "Fates").
+/// The text of an assembly's segment after its head, as it is read from a port (docs/formats.md, "Fates").
 ///
 /// It breaks if another segment's first packet, the end or a framing fault is read before the closing part. As a source it counts
 /// the port's `read_faults`.

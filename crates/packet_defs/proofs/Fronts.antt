@@ -6,7 +6,7 @@ use Rattle.std.proofs.lemmas.List.{length-take-le, take-append-drop, get_or-drop
 use Rattle.packet_defs.specs.Reading.{header_length}
 use Rattle.packet_defs.specs.Streams.{has_bad_version, told_length, begins_packet, first_packet, after_packet, IsPacket}
 
--- a packet's header, and all of it, stand first in these octets
+-- a packet's header, and all of it, are a prefix of these octets
 pub record Begins (octets : List ℕ) : Type 0 where
   pub version : has_bad_version octets ≡ false
   pub header : 6 ≤ length octets
@@ -31,7 +31,7 @@ pub so_begins : (octets : List ℕ) → Begins octets → begins_packet octets �
 unfolding begins_packet
 so_begins octets b = let v = b.version in let h = b.header in let w = b.whole in grind (arith, nat_tests)
 
--- a header tells the same in front of any octets
+-- a header reports the same whatever octets follow
 pub told-append : (xs ys : List ℕ) → 6 ≤ length xs → told_length (xs ++ ys) ≡ told_length xs
 unfolding told_length
 told-append xs ys long =
@@ -79,7 +79,7 @@ packet_begins {packet = packet} p =
     let least = told_least packet in
     record { version = p.version; header = omega (arith, least, p.whole); whole = omega (arith, p.whole) }
 
--- in front of any octets it is the first
+-- whatever octets follow, it is the first
 pub first-packet : {packet : List ℕ} (ys : List ℕ) → IsPacket packet → first_packet (packet ++ ys) ≡ packet
 first-packet {packet = packet} ys p =
     let long : 6 ≤ length packet = (packet_begins p).header in

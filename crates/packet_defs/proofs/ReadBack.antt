@@ -13,7 +13,7 @@ use Rattle.packet_defs.specs.Streams.{told_length}
 use Rattle.packet_defs.specs.Written.{CanBeWritten}
 use Rattle.packet_defs.specs.Laws.{ReadsBack}
 
--- a test that isn't met, in front of others
+-- a test that isn't met, before others
 pub none_first : {X : Type 0} (b : Bool) (x : X) (answers : List (Option X)) → b ≡ false → first_of (when b x ∷ answers) ≡ first_of answers
 none_first b x answers e = rw e refl
 
@@ -36,7 +36,7 @@ mark_fits : (told_last : Bool) → mark_of told_last < 256 ^ 2
 mark_fits true = omega arith
 mark_fits false = omega arith
 
--- each of the two marks tells its own
+-- each of the two marks reports its own value
 mark_tells : (m : ℕ) (told_last : Bool) → m ≡ mark_of told_last → (m == mark_of true) ≡ told_last
 mark_tells m true e = equal m (mark_of true) e
 mark_tells m false e = apart m (mark_of true) (λ f. omega (arith, e, f))

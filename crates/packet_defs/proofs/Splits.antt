@@ -7,7 +7,7 @@ use Rattle.packet_defs.specs.Packets.{joined}
 use Rattle.packet_defs.specs.Streams.{told_length, begins_packet, first_packet, after_packet, IsPacket, Splits, packets_within, whole_packets, left_over}
 use Rattle.packet_defs.proofs.Fronts.{begins_so, so_begins, begins-append, packet_begins, first-packet, after-packet, first_is_packet, told_least}
 
--- each packet has some octets, so there are no more packets than octets
+-- each packet has some octets, so there are at most as many packets as octets
 few_packets : (packets : List (List ℕ)) → AllByRecursion IsPacket packets → length packets ≤ length (joined packets)
 few_packets [] p = omega arith
 few_packets (packet ∷ packets) p =
@@ -24,7 +24,7 @@ unfolding packets_within
 step_none zero octets e = refl
 step_none (suc most) octets e = rw e refl
 
--- whole packets in front of what begins with none are found
+-- whole packets before octets that begin with none are found
 found : (most : ℕ) (packets : List (List ℕ)) (left : List ℕ) → AllByRecursion IsPacket packets → begins_packet left ≡ false → length packets ≤ most →
     packets_within most (joined packets ++ left) ≡ packets
 found most [] left p none few = step_none most left none
@@ -45,7 +45,7 @@ splits_whole {octets = octets} {packets = packets} {left = left} s =
     let few : length packets ≤ length octets = omega (arith, few_packets packets s.packets_are, ap length s.octets_are, length-append (joined packets) left) in
     ap (packets_within (length octets)) s.octets_are ∙ found (length octets) packets left s.packets_are s.none_left few
 
--- and so is what is left over
+-- and so is the rest
 pub splits_left : {octets : List ℕ} {packets : List (List ℕ)} {left : List ℕ} → Splits octets packets left → left_over octets ≡ left
 splits_left {octets = octets} {packets = packets} {left = left} s =
     ap (λ ps. drop (length (joined ps)) octets) (splits_whole s) ∙ ap (drop (length (joined packets))) s.octets_are ∙ drop_at (joined packets) left (length (joined packets)) refl

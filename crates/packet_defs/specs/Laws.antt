@@ -1,4 +1,4 @@
--- The laws that packets keep. This project's own.
+-- The laws of packets. This project's own.
 use Rattle.std.specs.Prelude.{◌≡◌, ℕ, List, ◌++◌, None}
 use Rattle.packet_defs.specs.declared.ancillary.Ancillary.{Ancillary}
 use Rattle.packet_defs.specs.Packets.{packet_with, ancillary_octets}
@@ -18,7 +18,7 @@ pub record PacketsReadBack : Type 0 where
   pub each : (apid flags number : ℕ) (a : Ancillary) (text : List ℕ) → CanBeWritten apid flags a text →
       ReadsBack apid flags a text (packet_with apid flags number (ancillary_octets a ++ text))
 
--- a stream is whole packets and a rest in one way alone
+-- a stream is whole packets and a rest in exactly one way
 pub record StreamsSplit : Type 0 where
   pub some : (octets : List ℕ) → Splits octets (whole_packets octets) (left_over octets)
   pub only : (octets : List ℕ) (packets : List (List ℕ)) (left : List ℕ) → Splits octets packets left → whole_packets octets ≡ packets

@@ -48,7 +48,7 @@ part_of size part text = take size (drop (part * size) text)
 abbrev pub part_size : (packet : ℕ) → ℕ
 part_size packet = packet - ancillary_length
 
--- the packet of one part, of n; the image has so many packets before this text
+-- the packet of one part, of n; the image has `before` packets before this text
 abbrev pub part_packet : (apid : ℕ) (a : Ancillary) (packet before n part : ℕ) → List ℕ → List ℕ
 part_packet apid a packet before n part text =
     packet_with apid (sequence_flags part n) (before + part)

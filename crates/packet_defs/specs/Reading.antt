@@ -1,5 +1,5 @@
--- What a packet says (CCSDS 133.0-B-2, section 4.1, for the primary header; the ancillary data and the order of the tests are
--- this project's own).
+-- The fields of a packet (CCSDS 133.0-B-2, section 4.1, for the primary header; the ancillary data and the order of the tests are this
+-- project's own).
 use Rattle.std.specs.Prelude.{ℕ, ◌+◌, ◌/◌, ◌%◌, ◌^◌, ◌==◌, ◌||◌, Bool, true, false, not, nat_lt, List, [], ◌∷◌, drop, Option, None, Some}
 use Rattle.byteorder.specs.Endian.{big_number}
 use Rattle.packet_defs.specs.declared.ancillary.Ancillary.{Ancillary}

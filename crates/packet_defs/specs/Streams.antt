@@ -57,7 +57,7 @@ place_after octets = length (joined (whole_packets octets))
 abbrev pub left_over : List ℕ → List ℕ
 left_over octets = drop (place_after octets) octets
 
--- the missing octets of a packet that begins with these: of its primary header if that is cut, else of its data field
+-- the missing octets of a packet that begins with these: of its primary header if that is cut, otherwise of its data field
 abbrev pub missing : List ℕ → ℕ
 missing left = if nat_lt (length left) header_length then header_length - length left else told_length left - length left
 

@@ -1,4 +1,4 @@
-//! Definitions of packets: their octets, and how a stream of octets is read as packets.
+//! The definitions of packets: their octets, and how a stream of octets is read as packets.
 #![tactic(auto)]
 
 ghost use Rattle.packet_defs.specs.Laws.{PacketsReadBack, StreamsSplit};

@@ -5,15 +5,15 @@ use crate::ancillary::Ancillary;
 #[derive(Clone, Copy, Debug, PartialEq, Eq)]
 pub struct PacketHead {
     pub apid: u16,
-    /// Sequence flags: 1 for the first part of more, 0 for one between, 2 for the last, 3 for one that is alone.
+    /// The sequence flags: 1 for the first part of more, 0 for one between, 2 for the last, 3 for one that is alone.
     pub flags: u8,
-    /// Sequence count.
+    /// The sequence count.
     pub count: u16,
-    /// Octets of the packet data field.
+    /// The number of octets of the packet data field.
     pub length: u32,
 }
 
-/// Why a packet isn't one of the image with the wanted APID (docs/formats.md, "Fates").
+/// The reason why a packet isn't one of the image with the wanted APID (docs/formats.md, "Fates").
 #[derive(Clone, Copy, Debug, PartialEq, Eq)]
 pub enum Skip {
     Idle,
@@ -24,13 +24,13 @@ pub enum Skip {
     OtherMark,
 }
 
-/// Why a stream of packets can't be read on (docs/formats.md, "Packets").
+/// The reason why a stream of packets can't be read on (docs/formats.md, "Packets").
 #[derive(Clone, Copy, Debug, PartialEq, Eq)]
 pub enum Framing {
     /// A packet begins with another version than 000, at this octet of the stream, from 0.
     BadVersion { octet: u64 },
-    /// The input ends inside a packet: this number of octets is missing, of its primary header if that is cut, else of its
-    /// packet data field.
+    /// The input ends inside a packet: this number of octets is missing, of its primary header if that is cut, otherwise of its packet data
+    /// field.
     CutPacket { missing: u32 },
 }
 

@@ -51,7 +51,7 @@ stays_listed {wish = wish} {b = b} come due none =
       packets_are = come.packets_are;
     }
 
--- Where no packet is at hand afterwards, none was before, so all lines were given.
+-- If no whole packet waits afterwards, none did before, so all lines were given.
 all_given : {wish : DecodeWish} {start now new : Outside} {a b : Assembling} {packets : ℕ} {waiting : List ℕ} (come : HasListed wish start new b packets waiting) →
     (waiting ≡ []) ⊎ (begins_packet a.intake.pending ≡ true) → NoneOn Anywhere now new a b → begins_packet b.intake.pending ≡ false → come.gave ≡ lines_of wish.apid come.passed
 all_given {a = a} {b = b} come due none over = elim due [
@@ -103,7 +103,7 @@ all_listed {wish = wish} {new = new} {b = b} found before x is =
       };
     }
 
--- a read failed where no whole packet waited
+-- a read failed when no whole packet waited
 fault_none : {now new : Outside} {a b : Assembling} → PassesNext now new a b (Err in_faults.ReadFault) → begins_packet b.intake.pending ≡ false
 fault_none {now = now} {new = new} {a = a} {b = b} x = by x.read x.reads x.answer
   where

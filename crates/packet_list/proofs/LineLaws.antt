@@ -49,7 +49,7 @@ unfolding lines_of
 lines-none apid = refl
 
 module _ (apid : ℕ) (packets : List (List ℕ)) (packet : List ℕ) where
-  -- earlier packets are told of as before
+  -- the reports of earlier packets are unchanged
   note_before : (i : ℕ) → i < length packets → note_at apid (packets ++ packet ∷ []) i ≡ note_at apid packets i
   note_before i lt =
       let last = fate apid (after_all apid fresh packets) packet in
@@ -68,7 +68,7 @@ module _ (apid : ℕ) (packets : List (List ℕ)) (packet : List ℕ) where
       ∙ ap (λ f. note_of n f (slice_index_or (packets ++ packet ∷ []) n [])) (at_last (fates apid fresh packets) last Kept)
       ∙ ap (note_of n last) (at_last packets packet [])
 
-  -- so its line comes after theirs
+  -- so its line follows theirs
   pub lines-more : lines_of apid (packets ++ packet ∷ []) ≡ lines_of apid packets ++ line_of (note_of (length packets) (fate apid (after_all apid fresh packets) packet) packet)
   unfolding lines_of
   lines-more =
@@ -83,7 +83,7 @@ module _ (apid : ℕ) (packets : List (List ℕ)) (packet : List ℕ) where
       ∙ ap (λ k. flat_map g (range_with_len 0 n) ++ flat_map f (k ∷ [])) here
       ∙ ap (λ zs. flat_map g (range_with_len 0 n) ++ zs) (append-nil (f n) ∙ ap line_of note_last)
 
--- the lines of packets stand before those of later ones
+-- the lines of packets are a prefix of those of these and later ones
 pub lines-front : (apid : ℕ) (packets later : List (List ℕ)) → (rest : List ℕ) × (lines_of apid (packets ++ later) ≡ lines_of apid packets ++ rest)
 lines-front apid packets [] = ([], ap (lines_of apid) (append-nil packets) ∙ sym (append-nil (lines_of apid packets)))
 lines-front apid packets (x ∷ later) =

@@ -1,4 +1,4 @@
--- A list goes on by one packet, or by none.
+-- A list continues by one packet, or by none.
 use Rattle.std.proofs.Common.{◌≡◌, ◌≤◌, ◌<◌, ◌+◌, ℕ, List, [], ◌∷◌, ◌++◌, length, take, refl, sym, ap, subst, ◌∙◌, inl, inr, arith, append_assoc, length-append}
 use Rattle.std.specs.Prelude.{◌⊎◌, true, Option, None, Some, Result, Ok, Err}
 use Rattle.std.proofs.lemmas.Bool.{false≢true}
@@ -28,13 +28,13 @@ use Rattle.packet_list.specs.Progress.{AsksListed, HasListed}
 use Rattle.packet_list.specs.Steps.{GaveDue, ListsOne}
 use Rattle.packet_list.proofs.LineLaws.{lines-none, lines-more}
 
--- of a state nothing is asked
+-- no condition on a state
 abbrev pub Anywhere : FateState → Type 0
 Anywhere s = Unit {0}
 
 -- ---- what was given
 
--- at a read call of earlier octets nothing has changed, whatever is taken afterwards
+-- a read call at earlier octets is unchanged, whatever is taken afterwards
 asks_took : (apid : ℕ) (took t gave : List ℕ) (i j : ℕ) → i ≤ length took → AsksListed apid took gave i j → AsksListed apid (took ++ t) gave i j
 asks_took apid took t gave i j le asks = (asks.0, asks.1 ∙ ap (listing apid) (sym (take-append-le i took t le)))
 
@@ -149,7 +149,7 @@ fail_note {old = old} {new = new} {a = a} {b = b} fault x = by x.step x.passes x
         let here : PassesNext old new a b (Err fault) = subst (λ f. PassesNext old new a b (Err f)) same passes in
         record { passes = here; fails = fail_on {P = Anywhere} here tt }
 
--- where the input isn't too long, a read failed
+-- if the input isn't too long, a read failed
 pub read_fault : {old new : Outside} {a b : Assembling} (fault : InFault) → (fault ≡ LongInput → ⊥) → ReadsNote old new a b (Err fault) → ReadsNote old new a b (Err ReadFault)
 read_fault ReadFault never x = x
 read_fault LongInput never x = absurd (never refl)
@@ -186,6 +186,6 @@ one_listed {wish = wish} come x =
       packets_are = omega (arith, come.packets_are, length-append mid.passed (n.one.packet ∷ []));
     }
 
--- less is left to be read then
+-- fewer octets are left to be read then
 pub less_left : {old new : Outside} {a b : Assembling} {before waiting : List ℕ} → ListsOne old new a b before waiting → measure b < measure a
 less_left x = (note_on x.lists.reads).one.less

@@ -10,16 +10,16 @@ use Rattle.packet_list.specs.declared.list.ListFault.TheVariants.{ReadFault, Wri
 use Rattle.packet_list.specs.Lines.{listing}
 use Rattle.packet_list.specs.Progress.{AsksListed}
 
--- What is given are the lines of all packets of the octets that were taken, and they were read to the end, or can't be read on for
--- this reason.
+-- What is given is the lines of all packets of the octets that were taken, and they were read to the end, or can't be read on for this
+-- reason.
 pub record IsListing (wish : DecodeWish) (new : Outside) (took gave : List ℕ) (done : ListDone) : Type 0 where
   pub lines : gave ≡ listing wish.apid took
   pub packets : done.packets ≡ length (whole_packets took)
   pub framing_is : done.framing ≡ framing took
   pub out : IsReadOut wish.octets new took
 
--- Why it was answered so. Where the port tells what is left, what was taken and the end decide between a list that is done and an
--- input that is too long.
+-- Why the call ended so. If the port reports what is left, what was taken and the end decide between a list that is done and an input that
+-- is too long.
 abbrev pub Answers : DecodeWish → (old new : Outside) → (took gave : List ℕ) → Result ListDone ListFault → Type 0
 Answers wish old new took gave (Ok done) = IsListing wish new took gave done
 Answers wish old new took gave (Err LongInput) = (length took ≡ wish.octets) × (has_bad_version (left_over took) ≡ false) × (gave ≡ listing wish.apid took)
@@ -27,8 +27,8 @@ Answers wish old new took gave (Err ReadFault) = Rose old.read_faults new.read_f
 Answers wish old new took gave (Err WriteFault) = Rose old.write_faults new.write_faults × ((some : ℕ) × (gave ≡ take some (listing wish.apid took)))
 Answers wish old new took gave (Err Memory) = (old ≡ new) × (took ≡ []) × (gave ≡ [])
 
--- One run over a port: what it took and gave, when, and why it ended so. However it ends, it takes at most as many octets as are
--- wished. At each read call what is given are exactly the lines of the packets that are whole in the octets taken by then.
+-- One run over a port: what it took and gave, when, and why it ended so. However it ends, it takes at most the number of octets in the
+-- wish. At each read call what is given is exactly the lines of the packets that are whole in the octets taken by then.
 pub record Lists (wish : DecodeWish) (old new : Outside) (result : Result ListDone ListFault) : Type 0 where
   pub took : List ℕ
   pub gave : List ℕ

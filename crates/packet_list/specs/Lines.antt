@@ -29,7 +29,7 @@ fate_text Late = codes "late"
 fate_text OutOfPlace = codes "out-of-place"
 fate_text (BadHead fault) = codes "bad-head"
 
--- of a kept packet its segment's index, its part and the octets of its text
+-- for a kept packet its segment's index, its part and the octets of its text
 abbrev pub place_text : Fate → PacketNote → List ℕ
 place_text Kept note = codes " " ++ decimal note.index ++ codes " " ++ decimal note.part ++ codes " " ++ decimal note.octets
 place_text other note = []

@@ -6,7 +6,7 @@ use Rattle.packet_assembly.specs.Assembling.{Assembling}
 use Rattle.packet_assembly.specs.Readings.{HasRead, SawEnd}
 use Rattle.packet_list.specs.Lines.{lines_of, listing}
 
--- a read call with i octets taken and j given: what is given are the lines of the packets that are whole by then
+-- a read call with i octets taken and j given: what is given is the lines of the packets that are whole by then
 abbrev pub AsksListed : (apid : ℕ) → (took gave : List ℕ) → ℕ → ℕ → Type 0
 AsksListed apid took gave i j = (j ≤ length gave) × (take j gave ≡ listing apid (take i took))
 

@@ -1,4 +1,4 @@
--- What a step leaves that lists one packet. This project's own.
+-- The effect of a step that lists one packet. This project's own.
 use Rattle.std.specs.Prelude.{◌≡◌, ◌≤◌, ◌⊎◌, ℕ, List, [], ◌++◌, length, take, Bool, true, false, Option, None, Some, Result, Ok, Err, MatchResult}
 use Rattle.bit_pipe.specs.declared.fault.InFault.{InFault}
 use Rattle.bit_pipe.specs.declared.fault.InFault.TheVariants as in_faults
@@ -11,7 +11,7 @@ use Rattle.packet_list.specs.declared.list.ListFault.{ListFault}
 use Rattle.packet_list.specs.declared.list.ListFault.TheVariants.{ReadFault, WriteFault, LongInput, Memory}
 use Rattle.packet_list.specs.Lines.{line_of}
 
--- Of the lines that waited some were given and the others wait still: none, unless the next packet is at hand.
+-- Of the lines that waited some were given and the others still wait: none, unless the next packet is whole.
 pub record GaveDue (old new : Outside) (a : Assembling) (before waiting : List ℕ) : Type 0 where
   pub gave : List ℕ
   pub lines_are : gave ++ waiting ≡ before

@@ -1,4 +1,4 @@
-// The packets of a stream, listed as lines.
+// Lists the packets of a stream as lines.
 ghost use Rattle.std.specs.Prelude.{◌≡◌, ◌≤◌, ◌+◌, length};
 ghost use Rattle.packet_list.specs.Steps.{GivesDue, ListsNext};
 ghost use Rattle.packet_list.specs.Answers.{Lists};
@@ -12,16 +12,15 @@ use packet_assembly::Assembly;
 use port_122::{Failed, Port, write_all};
 use std::alloc::Global;
 
-// Lines that wait to be given.
+// The room for lines that wait to be given.
 type Lines = ArrayString<4096>;
 
-/// Reads the packets of a stream and gives one line for each, at the latest before the next read call (docs/formats.md,
-/// "Packets" and "Fates"). It reads to the end, or to what can't be read on, and at most the octets of the wish. A line is the
-/// packet's number from 0, a space and its fate: `kept` with the segment's index, the part and the octets of the text, each after
-/// a space, or `idle`, `not-telemetry`, `other-apid`, `no-secondary`, `short-ancillary`, `other-mark`, `foreign`, `late`,
-/// `out-of-place` or `bad-head`. After `Memory` nothing was read or given, after `WriteFault` a prefix of the lines is given, and
-/// else those of all packets of the octets that were taken. `ReadFault` and `WriteFault` are returned only if the port's count
-/// rose. The most pixels of the wish don't matter.
+/// Reads the packets of a stream and gives one line for each, at the latest before the next read call (docs/formats.md, "Packets" and
+/// "Fates"). It reads to the end, or to what can't be read on, and at most the octets of the wish. A line is the packet's number from 0, a
+/// space and its fate: `kept` with the segment's index, the part and the octets of the text, each after a space, or `idle`,
+/// `not-telemetry`, `other-apid`, `no-secondary`, `short-ancillary`, `other-mark`, `foreign`, `late`, `out-of-place` or `bad-head`. After
+/// `Memory` nothing was read or given, after `WriteFault` a prefix of the lines is given, and otherwise those of all packets of the octets
+/// that were taken. `ReadFault` and `WriteFault` are returned only if the port's count rose. The most pixels of the wish don't matter.
 pub fn list_packets<X: Port>(
     alloc: Global,
     port: &mut X,

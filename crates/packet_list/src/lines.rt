@@ -41,7 +41,7 @@ fn fate_name(fate: Fate) -> &'static str
     }
 }
 
-// The line of a packet that is kept.
+// Returns the line of a packet that is kept.
 fn kept_line(number: u64, index: u32, part: u32, octets: u32) -> Line
     ensures { result.bytes ≡ decimal number ++ codes " kept " ++ decimal index ++ codes " " ++ decimal part ++ codes " " ++ decimal octets ++ codes "\n" }
 {
@@ -57,7 +57,7 @@ fn kept_line(number: u64, index: u32, part: u32, octets: u32) -> Line
     line
 }
 
-// The line of another packet, with its fate's name.
+// Returns the line of another packet, with its fate's name.
 fn other_line(number: u64, name: &str) -> Line
     requires { length name.now ≤ 15 }
     ensures { result.bytes ≡ decimal number ++ codes " " ++ name.now ++ codes "\n" }
@@ -70,8 +70,7 @@ fn other_line(number: u64, name: &str) -> Line
     line
 }
 
-/// Returns the line of a packet: its number and its fate, and of a kept one its segment's index, its part and the octets
-/// of its text.
+/// Returns the line of a packet: its number and its fate, and for a kept one its segment's index, its part and the octets of its text.
 pub fn line_of(note: &PacketNote) -> Line
     ensures { result.bytes ≡ line_of note.now }
 {

@@ -1,4 +1,4 @@
-// How a list of packets ends, or a pick of them.
+// The results of a list of packets, or a pick of them.
 use packet_defs::Framing;
 use thiserror::Error;
 
@@ -9,7 +9,7 @@ pub struct ListDone {
     pub framing: Option<Framing>,
 }
 
-/// Why not all packets were listed or picked.
+/// The reason why not all packets were listed or picked.
 #[derive(Clone, Copy, Debug, PartialEq, Eq, Error)]
 pub enum ListFault {
     /// A read failed.

@@ -1,4 +1,4 @@
-// Lists of packets, worked by hand from the rules.
+// Lists of packets, calculated by hand from the rules.
 ghost use Rattle.std.specs.Prelude.{◌<◌};
 
 use crate::{ListDone, ListFault, list_packets};
@@ -24,7 +24,7 @@ const BLACK: [u8; 52] = [
 // An idle packet, whose data field is one octet.
 const IDLE: [u8; 7] = [0x07, 0xff, 0xc0, 0, 0, 0, 0];
 
-// A port with these octets, whose calls of these numbers fail.
+// Returns a port with these octets, whose calls of these numbers fail.
 fn port_of(alloc: Global, parts: &[&[u8]], fail: &[u64]) -> Result<MemoryPort, AllocError> {
     let mut input = Vec::new(alloc);
     for part in parts {

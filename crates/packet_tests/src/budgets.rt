@@ -6,7 +6,7 @@ use base_122::Setting;
 use std::process::Abort;
 use std::test::Fail;
 
-// The packets of a stream have these sizes, one after another.
+// Expects packets of these sizes in a stream, one after another.
 fn expect_sizes(rt: &impl Abort, octets: &[u8], sizes: &[usize]) {
     let mut at = 0;
     for size in sizes {
@@ -18,7 +18,7 @@ fn expect_sizes(rt: &impl Abort, octets: &[u8], sizes: &[usize]) {
     assert_eq!(rt; at, octets.len());
 }
 
-// The made image of a setting has packets of these sizes, and its picture is whole.
+// Expects packets of these sizes for the made image of a setting, and a whole picture.
 fn expect_shares(
     rt: &(impl Abort + AllocGlobal),
     setting: &Setting,
@@ -31,7 +31,7 @@ fn expect_shares(
 
 #[test]
 fn filled_segments_are_their_shares(rt: HostRuntime) -> Result<(), Fail> {
-    // A third of the bound, half of what is left and what is left, in whole code words, behind 30 octets of headers.
+    // A third of the bound, half of what is left and what is left, in whole code words, after 30 octets of headers.
     for (word, total, sizes) in [
         (1, 110, [66, 67, 67]),
         (3, 110, [66, 66, 66]),

@@ -1,4 +1,4 @@
-// Black images of two cameras, worked by hand from the rules.
+// Black images of two cameras, calculated by hand from the rules.
 ghost use Rattle.std.specs.Prelude.{◌≡◌, ◌≢◌};
 ghost use Rattle.base_122.specs.Ranges.{IsInRange};
 
@@ -49,7 +49,7 @@ fn mux_two(
     Ok(done)
 }
 
-// Expects this answer for the records of two cameras with black images, and returns what was given.
+// Expects this result for the records of two cameras with black images, and returns what was given.
 fn given_for(
     rt: &(impl Abort + AllocGlobal),
     records: Vec<u8>,
@@ -65,7 +65,7 @@ fn given_for(
     Ok(port.given().to_vec(rt.alloc())?)
 }
 
-// The records of black rows of these cameras, and then these octets.
+// Returns the records of black rows of these cameras, and then these octets.
 fn black_rows(alloc: Global, cameras: &[u8], rest: &[u8]) -> Result<Vec<u8>, AllocError> {
     let mut records = Vec::new(alloc);
     for camera in cameras {

@@ -7,7 +7,7 @@ use packet_assembly::{Assembly, Fate};
 use port_122::{Failed, Port};
 use std::test::Fail;
 
-// A port that gives the same 52 octets again and again, and takes all that is written. It tells nothing of them.
+// A port that gives the same 52 octets again and again, and takes all that is written. It reports nothing of them.
 #[derive(Drop)]
 struct EndlessPort {
     octets: [u8; 52],

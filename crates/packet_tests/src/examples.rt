@@ -1,4 +1,4 @@
-// Packets worked out by hand, and ports that bring them.
+// Packets calculated by hand, and ports that give them.
 ghost use Rattle.std.specs.Prelude.{◌<◌};
 
 use port_122::MemoryPort;
@@ -30,7 +30,7 @@ pub const FIRST_SEGMENT: Ancillary = Ancillary {
     part: 0,
 };
 
-// The black image's packet with another octet in one place.
+// Returns the black image's packet with another octet in one place.
 pub fn changed(place: usize, octet: u8) -> [u8; 52]
     requires { place < 52 }
 {
@@ -39,7 +39,7 @@ pub fn changed(place: usize, octet: u8) -> [u8; 52]
     packet
 }
 
-// The black image's packet if its height is reported last, with another octet in one place.
+// Returns the black image's packet if its height is reported last, with another octet in one place.
 pub fn reported_last(place: usize, octet: u8) -> [u8; 52]
     requires { place < 52 }
 {
@@ -50,7 +50,7 @@ pub fn reported_last(place: usize, octet: u8) -> [u8; 52]
     packet
 }
 
-// The packet of the second segment of the second image.
+// Returns the packet of the second segment of the second image.
 pub fn second() -> [u8; 51] {
     let mut packet = FIRST;
     packet[21] = 1;
@@ -61,7 +61,7 @@ pub fn second() -> [u8; 51] {
     packet
 }
 
-// A port with these octets, which moves so many at a time, and whose calls of these numbers fail.
+// Returns a port with these octets, which moves at most `piece` of them at a time, and whose calls of these numbers fail.
 pub fn port_of(
     alloc: Global,
     parts: &[&[u8]],

@@ -8,7 +8,7 @@ use segment_defs::{HeadFault, HeadField};
 use std::process::Abort;
 use std::test::Fail;
 
-// What is told of a packet of 22 octets of text in the first segment's part 0.
+// Returns the report of a packet of 22 octets of text in the first segment's part 0.
 fn told(number: u64, fate: Fate) -> PacketNote {
     PacketNote {
         number,
@@ -19,7 +19,7 @@ fn told(number: u64, fate: Fate) -> PacketNote {
     }
 }
 
-// What is told of a skipped packet.
+// Returns the report of a skipped packet.
 fn passed_over(number: u64, skip: Skip) -> PacketNote {
     PacketNote {
         number,
@@ -30,12 +30,12 @@ fn passed_over(number: u64, skip: Skip) -> PacketNote {
     }
 }
 
-// A head that is refused at one of its fields.
+// Returns the fate of a packet whose head is refused at one of its fields.
 fn bad(field: HeadField) -> Fate {
     Fate::BadHead(HeadFault::BadValue(field))
 }
 
-// Passes packets, and compares what is told of each. There is a geometry from the first kept packet on.
+// Passes packets, and compares the report of each. There is a geometry from the first kept packet on.
 fn compare(rt: &impl Abort, packets: &mut Assembly, port: &mut MemoryPort, notes: &[PacketNote]) {
     let mut kept = false;
     assert!(rt; packets.geometry().is_none());
@@ -46,7 +46,7 @@ fn compare(rt: &impl Abort, packets: &mut Assembly, port: &mut MemoryPort, notes
     }
 }
 
-// No further packet comes, for this reason.
+// Expects that no further packet follows, for this reason.
 fn ends(
     rt: &impl Abort,
     packets: &mut Assembly,
@@ -82,7 +82,7 @@ fn a_packet_of_the_image_is_kept(rt: HostRuntime) -> Result<(), Fail> {
     expect(&rt, &[], 51, &[], None)
 }
 
-// With an octet changed in one place the packet has this fate.
+// Expects this fate of the packet with an octet changed in one place.
 fn expect_fate(
     rt: &(impl Abort + AllocGlobal),
     place: usize,
@@ -145,10 +145,10 @@ fn one_octet_changes_the_fate_of_a_height_reported_last(rt: HostRuntime) -> Resu
         (31, 0x42, bad(HeadField::Count)),
         // 73 blocks, of segments of 64.
         (40, 0x04, bad(HeadField::Blocks)),
-        // 8 blocks, in rows of three; and 6, in two block rows, of which 7 rows pad the image.
+        // 8 blocks, in rows of three; and 6, in two block rows, of which 7 rows are padding.
         (41, 0x8c, bad(HeadField::Last)),
         (41, 0x6c, bad(HeadField::Last)),
-        // 6 rows pad an image of 18.
+        // An image of 18 rows has 6 padding rows.
         (33, 0xc0, Fate::Kept),
     ] {
         let packet = reported_last(place, octet);
@@ -196,7 +196,7 @@ fn an_idle_packet_is_skipped(rt: HostRuntime) -> Result<(), Fail> {
     expect(&rt, &[&BLACK, &idle], 51, &notes, None)
 }
 
-// What is told of a packet of 21 octets of text in the first part of a segment.
+// Returns the report of a packet of 21 octets of text in the first part of a segment.
 fn told_of(number: u64, fate: Fate, index: u32) -> PacketNote {
     PacketNote {
         number,

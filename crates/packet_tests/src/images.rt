@@ -1,4 +1,4 @@
-// Lists of images, worked by hand from the rules.
+// Lists of images, calculated by hand from the rules.
 ghost use Rattle.std.specs.Prelude.{◌<◌};
 
 use image_info::{InfoDone, InfoFault, InfoWish, list_images};
@@ -34,7 +34,7 @@ const LAST: [u8; 52] = [
     0x10, 0, 0, 0, 0, 0x77, 0,
 ];
 
-// The packet of a black image with another APID, below 256, and another number of the image.
+// Returns the packet of a black image with another APID, below 256, and another number of the image.
 const fn black(apid: u8, image: u8) -> [u8; 52] {
     let mut packet = BLACK;
     packet[1] = apid;
@@ -42,7 +42,7 @@ const fn black(apid: u8, image: u8) -> [u8; 52] {
     packet
 }
 
-// What is answered and given for a stream of these packets, if the calls of these numbers fail.
+// Returns the result and what is given for a stream of these packets, if the calls of these numbers fail.
 fn listed(
     alloc: Global,
     wish: &InfoWish,

@@ -10,7 +10,7 @@ use std::process::Abort;
 use std::test::Fail;
 use strip_decoder::DecodeFault;
 
-// The made image of this number of rows, and its packets, which report the height last.
+// Returns the made image of this number of rows, and its packets, which report the height last.
 fn made_open(rt: &(impl Abort + AllocGlobal), rows: u32) -> Result<MadeStream, Fail> {
     let setting = usual(17, rows, 65_536);
     assert_eq!(rt; setting.check(), Ok(()));
@@ -28,7 +28,7 @@ struct Found {
     damaged: Option<(u32, u32)>,
 }
 
-// This is found in a stream, and the rows that aren't damaged are those of the raster.
+// Expects that this is found in a stream, and that the rows that aren't damaged are those of the raster.
 fn expect_found(
     rt: &(impl Abort + AllocGlobal),
     raster: &[u8],
@@ -74,11 +74,11 @@ fn a_whole_image_comes_back(rt: HostRuntime) -> Result<(), Fail> {
     Ok(())
 }
 
-// Without one of the three segments of 128 rows.
+// The stream is without one of the three segments of 128 rows.
 #[test]
 fn a_lost_segment_damages_the_rows_it_reaches(rt: HostRuntime) -> Result<(), Fail> {
     let made = made_open(&rt, 128)?;
-    // Block rows 0 to 5; 5 to 10; and without the last segment the headers reach 32 blocks, and so ten block rows.
+    // Block rows 0 to 5, then 5 to 10, are missing; and without the last segment the headers reach 32 blocks, and so ten block rows.
     for (index, height, written, damaged) in [
         (0, 128, 128, Some((0, 69))),
         (1, 128, 128, Some((19, 109))),
@@ -98,7 +98,7 @@ fn a_lost_segment_damages_the_rows_it_reaches(rt: HostRuntime) -> Result<(), Fai
 // Without the last segment and another one, the damage is that of the block rows which the headers reach.
 #[test]
 fn rows_are_damaged_below_an_unknown_height(rt: HostRuntime) -> Result<(), Fail> {
-    // 84 blocks in six segments. The fifth one ends at block 80, and so reaches 26 block rows.
+    // The image has 84 blocks in six segments. The fifth one ends at block 80, and so reaches 26 block rows.
     let made = made_open(&rt, 224)?;
     let left = without(&rt, &without(&rt, &made.packets, 5, 0)?, 1, 0)?;
     let found = Found {
@@ -107,7 +107,7 @@ fn rows_are_damaged_below_an_unknown_height(rt: HostRuntime) -> Result<(), Fail>
         damaged: Some((19, 109)),
     };
     expect_found(&rt, &made.raster, &left, found)?;
-    // The second of three segments alone.
+    // The stream has the second of three segments alone.
     let made = made_open(&rt, 128)?;
     let left = without(&rt, &without(&rt, &made.packets, 2, 0)?, 0, 0)?;
     let found = Found {
@@ -118,14 +118,14 @@ fn rows_are_damaged_below_an_unknown_height(rt: HostRuntime) -> Result<(), Fail>
     expect_found(&rt, &made.raster, &left, found)
 }
 
-// The packet of a segment.
+// Returns the packet of a segment.
 fn packet_of<'a>(rt: &impl Abort, packets: &'a [u8], index: u8) -> &'a [u8] {
     let (start, end) = place_of(rt, packets, index, 0);
     assert!(rt; start < end && end <= packets.len());
     &packets[start..end]
 }
 
-// Such packets have this picture, one after another.
+// Expects this picture of such packets, one after another.
 fn expect_of(
     rt: &(impl Abort + AllocGlobal),
     raster: &[u8],
@@ -159,7 +159,7 @@ fn the_last_segment_may_come_twice_or_first(rt: HostRuntime) -> Result<(), Fail>
 fn a_last_header_ends_a_block_row(rt: HostRuntime) -> Result<(), Fail> {
     let made = made_open(&rt, 128)?;
     let (start, end) = place_of(&rt, &made.packets, 2, 0);
-    // 15 blocks, and so 47 in rows of three; and 17 blocks, in segments of 16.
+    // The blocks are 15, and so 47 in rows of three; and 17, in segments of 16.
     for (high, low) in [(0x00, 0xfc), (0x01, 0x1c)] {
         let mut input = made.packets.to_vec(rt.alloc())?;
         assert!(rt; start <= end && end <= input.len());
@@ -185,7 +185,7 @@ struct Many {
     rows: u8,
 }
 
-// So it is with at most this number of pixels: these rows are given, and no octet after the packet of that header is taken.
+// Expects the same with at most this number of pixels: these rows are given, and no octet after the packet of that header is taken.
 fn expect_many(
     rt: &(impl Abort + AllocGlobal),
     made: &MadeStream,

@@ -1,5 +1,5 @@
-//! Tests of packets: written as texts, read from a stream, what becomes of them, the texts that they carry, the pictures of these,
-//! and what else is made of them: looks, rectangles, lines of images, picks, and the packets of several cameras.
+//! Tests of packets: written as texts, read from a stream, their fates, the texts that they carry, the pictures of these, and other
+//! results: looks, rectangles, lines of images, picks, and the packets of several cameras.
 #![tactic(auto)]
 
 #[cfg(test)]

@@ -38,7 +38,7 @@ const DARK: [u8; 53] = [
     0, 0, 0, 0x0b, 0x53, 0xfc,
 ];
 
-// These packets have this look, of an image of this height.
+// Expects this look of these packets, of an image of this height.
 fn expect_look(
     rt: &(impl Abort + AllocGlobal),
     packets: &[u8],

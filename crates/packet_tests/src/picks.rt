@@ -1,4 +1,4 @@
-// Packets picked from streams, worked by hand from the rules.
+// Packets picked from streams, calculated by hand from the rules.
 ghost use Rattle.std.specs.Prelude.{◌<◌};
 
 use base_122::DecodeWish;
@@ -40,7 +40,7 @@ const COMMAND: [u8; 7] = [0x10, 0x64, 0xc0, 0, 0, 0, 7];
 
 const IDLE: [u8; 7] = [0x07, 0xff, 0xc0, 0, 0, 0, 0];
 
-// Octets one after another.
+// Returns these octets, one list after another.
 fn joined(alloc: Global, parts: &[&[u8]]) -> Result<Vec<u8>, AllocError> {
     let mut all = Vec::new(alloc);
     for part in parts {
@@ -49,7 +49,7 @@ fn joined(alloc: Global, parts: &[&[u8]]) -> Result<Vec<u8>, AllocError> {
     Ok(all)
 }
 
-// A port with these octets, whose calls of these numbers fail, and whose calls move at most `piece` octets.
+// Returns a port with these octets, whose calls of these numbers fail, and whose calls move at most `piece` octets.
 fn port_of(
     alloc: Global,
     parts: &[&[u8]],

@@ -15,14 +15,14 @@ use std::test::Fail;
 use strip_coder::{Work, encode_rows};
 use strip_decoder::{DecodeDone, DecodeFault, decode_packets};
 
-// What most pictures are wished with.
+// The wish for most pictures.
 pub const WISH: DecodeWish = DecodeWish {
     apid: 100,
     pixels: 1 << 20,
     octets: 1 << 20,
 };
 
-// The usual setting for an image of 8 bits, but for segments of 16 blocks.
+// Returns the usual setting for an image of 8 bits, except for segments of 16 blocks.
 pub fn usual(width: u32, rows: u32, packet: u32) -> Setting {
     Setting {
         segment: 16,
@@ -31,12 +31,12 @@ pub fn usual(width: u32, rows: u32, packet: u32) -> Setting {
     }
 }
 
-// An image of 3 by 16 blocks in three segments: blocks 0 to 15, 16 to 31 and 32 to 47. Each segment is one packet.
+// Returns the setting of an image of 3 by 16 blocks in three segments: blocks 0 to 15, 16 to 31 and 32 to 47. Each is one packet.
 pub fn tall() -> Setting {
     usual(17, 128, 65_536)
 }
 
-// Puts the octets of a row of the made image to a raster.
+// Puts the octets of a row of the made image into a raster.
 fn put_row(raster: &mut Vec<u8>, setting: &Setting, row: u32) -> Result<(), Fail>
     requires { IsInRange setting.now }
 {
@@ -62,7 +62,7 @@ pub struct MadeStream {
     pub packets: Vec<u8>,
 }
 
-// The raster of the made image of a setting.
+// Returns the raster of the made image of a setting.
 pub fn make_raster(rt: &impl AllocGlobal, setting: &Setting) -> Result<Vec<u8>, Fail>
     requires { IsInRange setting.now }
 {
@@ -73,7 +73,7 @@ pub fn make_raster(rt: &impl AllocGlobal, setting: &Setting) -> Result<Vec<u8>, 
     Ok(raster)
 }
 
-// Encodes the raster that this port has, and answers whether that was done.
+// Encodes the raster that this port has, and returns whether that was done.
 fn encode_port(alloc: Global, setting: &Setting, port: &mut MemoryPort) -> bool
     requires { IsInRange setting.now }
 {
@@ -81,12 +81,12 @@ fn encode_port(alloc: Global, setting: &Setting, port: &mut MemoryPort) -> bool
         return false;
     };
     let done = encode_rows(port, setting, &mut work).is_ok();
-    // Its drop would be dear to prove.
+    // Its drop would be costly to prove.
     mem::forget(work);
     done
 }
 
-// The packets of a raster, which report its height last if the setting leaves the rows open.
+// Returns the packets of a raster, which report its height last if the setting leaves the rows open.
 pub fn make_packets(
     rt: &(impl Abort + AllocGlobal),
     setting: &Setting,
@@ -98,7 +98,7 @@ pub fn make_packets(
     Ok(port.given().to_vec(rt.alloc())?)
 }
 
-// The made image of a setting, and its packets.
+// Returns the made image of a setting, and its packets.
 pub fn encode_made(rt: &(impl Abort + AllocGlobal), setting: &Setting) -> Result<MadeStream, Fail> {
     assert_eq!(rt; setting.check(), Ok(()));
     let raster = make_raster(rt, setting)?;
@@ -106,7 +106,7 @@ pub fn encode_made(rt: &(impl Abort + AllocGlobal), setting: &Setting) -> Result
     Ok(MadeStream { raster, packets })
 }
 
-// Where the first packet of a stream ends.
+// Returns the end of the first packet of a stream.
 pub fn packet_end(rt: &impl Abort, octets: &[u8]) -> usize
     ensures { result ≤ length octets.now }
 {
@@ -116,7 +116,7 @@ pub fn packet_end(rt: &impl Abort, octets: &[u8]) -> usize
     end
 }
 
-// Where the packet of a segment's part begins and ends in a stream that has it, which has fewer packets than octets.
+// Returns the begin and the end of the packet of a segment's part in a stream that has it, which has fewer packets than octets.
 pub fn place_of(rt: &impl Abort, octets: &[u8], index: u8, part: u8) -> (usize, usize) {
     let mut at = 0;
     for _ in 0..octets.len() {
@@ -131,7 +131,7 @@ pub fn place_of(rt: &impl Abort, octets: &[u8], index: u8, part: u8) -> (usize, 
     (at, at)
 }
 
-// What a decoder answered, and the port that it left.
+// The result of a decoder, and the port that it left.
 #[derive(Drop)]
 pub struct Outcome {
     pub answer: Result<DecodeDone, DecodeFault>,
@@ -153,7 +153,7 @@ pub fn decoded(
     Ok(Outcome { answer, port })
 }
 
-// Why a decoder has failed.
+// Returns why a decoder has failed.
 pub fn fault_of(answer: &Result<DecodeDone, DecodeFault>) -> Option<DecodeFault> {
     match answer {
         Ok(_) => None,
@@ -161,7 +161,7 @@ pub fn fault_of(answer: &Result<DecodeDone, DecodeFault>) -> Option<DecodeFault>
     }
 }
 
-// The input has no picture, for this reason.
+// Expects that the input has no picture, for this reason.
 fn expect_fault(
     rt: &(impl Abort + AllocGlobal),
     wish: &DecodeWish,
@@ -174,7 +174,7 @@ fn expect_fault(
     Ok(())
 }
 
-// The rows of an image that aren't damaged are those of its raster.
+// Expects that the rows of an image that aren't damaged are those of its raster.
 pub fn expect_rows(
     rt: &impl Abort,
     width: u32,
@@ -193,7 +193,7 @@ pub fn expect_rows(
     assert_eq!(rt; given.get(after..), raster.get(after..));
 }
 
-// Just these rows are damaged.
+// Expects that exactly these rows are damaged.
 pub fn expect_damage(rt: &impl Abort, damage: &Damage, damaged: Option<RowRange>) {
     assert_eq!(rt; damage.next_range(0), damaged);
     if let Some(range) = damaged {
@@ -201,7 +201,7 @@ pub fn expect_damage(rt: &impl Abort, damage: &Damage, damaged: Option<RowRange>
     }
 }
 
-// The answer is an image of this setting's geometry, in which just these rows are damaged.
+// Expects an image of this setting's geometry, in which exactly these rows are damaged.
 fn expect_done(
     rt: &impl Abort,
     setting: &Setting,
@@ -220,7 +220,7 @@ fn expect_done(
     }
 }
 
-// The input has a picture of this setting's geometry, in which just these rows are damaged; the others are those of the raster.
+// Expects a picture of this setting's geometry, in which exactly these rows are damaged; the others are those of the raster.
 pub fn expect_picture(
     rt: &(impl Abort + AllocGlobal),
     setting: &Setting,
@@ -235,7 +235,7 @@ pub fn expect_picture(
     Ok(())
 }
 
-// The input has a picture of this setting's geometry, in which no row is damaged.
+// Expects a picture of this setting's geometry, in which no row is damaged.
 pub fn expect_whole(
     rt: &(impl Abort + AllocGlobal),
     setting: &Setting,
@@ -246,7 +246,7 @@ pub fn expect_whole(
     Ok(())
 }
 
-// The made image of a setting comes back whole.
+// Expects that the made image of a setting is decoded whole.
 fn expect_back(rt: &(impl Abort + AllocGlobal), setting: &Setting) -> Result<(), Fail> {
     let made = encode_made(rt, setting)?;
     expect_picture(rt, setting, &made.raster, &made.packets, None, None)
@@ -268,7 +268,7 @@ fn an_image_comes_back(rt: HostRuntime) -> Result<(), Fail> {
     Ok(())
 }
 
-// These packets without that of a segment's part.
+// Returns these packets without that of a segment's part.
 pub fn without(
     rt: &(impl Abort + AllocGlobal),
     packets: &[u8],
@@ -282,7 +282,7 @@ pub fn without(
     Ok(left)
 }
 
-// Just these rows of the made image are damaged without the packet of a segment's part.
+// Expects that exactly these rows of the made image are damaged without the packet of a segment's part.
 fn expect_loss(
     rt: &(impl Abort + AllocGlobal),
     packet: u32,
@@ -298,7 +298,7 @@ fn expect_loss(
 
 #[test]
 fn a_lost_packet_damages_the_rows_it_reaches(rt: HostRuntime) -> Result<(), Fail> {
-    // Block rows 0 to 5, 5 to 10 and 10 to 15.
+    // Block rows 0 to 5, 5 to 10 and 10 to 15 are missing.
     for (packet, index, part, first, last) in [
         (65_536, 0, 0, 0, 69),
         (65_536, 1, 0, 19, 109),
@@ -311,7 +311,7 @@ fn a_lost_packet_damages_the_rows_it_reaches(rt: HostRuntime) -> Result<(), Fail
     Ok(())
 }
 
-// Where a segment's packet can't be read, all rows from one on are damaged.
+// Expects that if a segment's packet can't be read, all rows from one on are damaged.
 fn expect_bad_version(
     rt: &(impl Abort + AllocGlobal),
     made: &MadeStream,
@@ -344,7 +344,7 @@ fn what_cant_be_read_on_is_lost(rt: HostRuntime) -> Result<(), Fail> {
     expect_picture(&rt, &tall(), &made.raster, cut, damaged, framing)
 }
 
-// Whether there is a picture.
+// Returns whether there is a picture.
 fn is_decoded(
     rt: &(impl Abort + AllocGlobal),
     wish: &DecodeWish,
@@ -369,11 +369,11 @@ fn no_picture_without_a_segment_or_of_too_many_pixels(rt: HostRuntime) -> Result
     Ok(())
 }
 
-// The decoder took this number of octets, and stopped there.
+// Expects that the decoder took this number of octets, and stopped there.
 fn expect_capped(rt: &impl Abort, outcome: &Outcome, octets: u64, raster: &[u8]) {
     assert_eq!(rt; fault_of(&outcome.answer), Some(DecodeFault::LongInput));
     assert_eq!(rt; outcome.port.taken(), octets);
-    // The last segment lacks an octet, and its blocks reach row 59.
+    // An octet of the last segment is missing, and its blocks reach row 59.
     let given = outcome.port.given();
     assert_eq!(rt; given.get(..59 * 17), raster.get(..59 * 17));
 }
@@ -389,7 +389,7 @@ fn cap_leaves_the_rows_before(rt: HostRuntime) -> Result<(), Fail> {
     Ok(())
 }
 
-// Where one call fails a front of the raster is given, before the first call nothing; and the fault.
+// Expects that if one call fails a prefix of the raster is given, and nothing before the first call. Returns the fault.
 fn fault_at(
     rt: &(impl Abort + AllocGlobal),
     made: &MadeStream,
@@ -407,7 +407,7 @@ fn a_fault_leaves_a_front_of_the_image(rt: HostRuntime) -> Result<(), Fail> {
     let made = encode_made(&rt, &tall())?;
     let mut reads = false;
     let mut writes = false;
-    // A row in each write: no fewer than 128 calls.
+    // Each write has a row, so there are at least 128 calls.
     for call in 0..128 {
         match fault_at(&rt, &made, call)? {
             Some(DecodeFault::ReadFault) => reads = true,

@@ -7,7 +7,7 @@ use space_packets::{Framing, PacketHead, PacketRead, PacketReader, Packetiser, S
 use std::process::Abort;
 use std::test::Fail;
 
-// What the black image's packet says.
+// What the black image's packet reports.
 const MINE: PacketRead = PacketRead::Mine {
     head: PacketHead {
         apid: 100,
@@ -18,10 +18,10 @@ const MINE: PacketRead = PacketRead::Mine {
     ancillary: FIRST_SEGMENT,
 };
 
-// The packets that are asked for, each with its APID, and what is answered.
+// The packets that are requested, each with its APID, and the expected results.
 type Answers<'a> = &'a [(u16, Result<PacketRead, InFault>)];
 
-// Whether this text stands after an answer: that of the black image's packet, or none.
+// Returns whether this is the text after such a result: that of the black image's packet, or none.
 fn is_text_of(answer: Result<PacketRead, InFault>, text: &[u8]) -> bool {
     match answer {
         Ok(PacketRead::Mine { .. }) => text == &BLACK[30..],
@@ -29,7 +29,7 @@ fn is_text_of(answer: Result<PacketRead, InFault>, text: &[u8]) -> bool {
     }
 }
 
-// Asks for packets, and compares the answers, and the text after each.
+// Requests packets, and compares the results, and the text after each.
 fn compare(
     rt: &impl Abort,
     reader: &mut PacketReader,
@@ -43,7 +43,8 @@ fn compare(
     }
 }
 
-// What ends the reading is answered again, and nothing is read for it. The cap's octets are taken where it is that.
+// Expects that the result that ends the reading is returned again, and nothing is read for it. If it is the cap, the cap's octets are
+// taken.
 fn ends(
     rt: &impl Abort,
     reader: &mut PacketReader,
@@ -61,7 +62,7 @@ fn ends(
     );
 }
 
-// Reads these octets up to what ends the reading, with pieces of this size and calls of these numbers that fail.
+// Reads these octets up to the result that ends the reading, with pieces of this size and calls of these numbers that fail.
 fn expect(
     rt: &(impl Abort + AllocGlobal),
     parts: &[&[u8]],

@@ -1,4 +1,4 @@
-// Rectangles worked out by hand, for some packets of black images.
+// Rectangles calculated by hand, for some packets of black images.
 ghost use Rattle.std.specs.Prelude.{◌<◌};
 
 use base_122::DecodeWish;
@@ -13,7 +13,7 @@ const WISH: DecodeWish = DecodeWish {
     octets: 1000,
 };
 
-// The packet of the first segment of a black image of this size, with 16 blocks in a segment.
+// Returns the packet of the first segment of a black image of this size, with 16 blocks in a segment.
 type First = [u8; 51];
 
 const fn first_of(mark: u8, rows: u8, width: [u8; 4]) -> First {
@@ -24,7 +24,7 @@ const fn first_of(mark: u8, rows: u8, width: [u8; 4]) -> First {
     ]
 }
 
-// That of a later segment, which isn't the last one.
+// Returns that of a later segment, which isn't the last one.
 fn packet_of(first: &First, index: u8) -> First
     requires { index < 16 }
 {
@@ -39,7 +39,7 @@ fn packet_of(first: &First, index: u8) -> First
     packet
 }
 
-// That of the last one, without the octet of the rows that pad the image.
+// Returns that of the last one, without the octet of the padding rows.
 fn last_of(first: &First, index: u8) -> First
     requires { index < 16 }
 {
@@ -49,14 +49,14 @@ fn last_of(first: &First, index: u8) -> First
     packet
 }
 
-// Adds it with that octet: no row pads the image.
+// Adds it with that octet: there are no padding rows.
 fn push_last(octets: &mut Vec<u8>, packet: &First) -> Result<(), AllocError> {
     octets.extend_from_slice(&packet[..33])?;
     octets.push(0)?;
     octets.extend_from_slice(&packet[33..])
 }
 
-// The packets of these segments, and of the last one if it has this number.
+// Returns the packets of these segments, and of the last one if it has this number.
 fn stream_of(
     alloc: Global,
     first: &First,

@@ -6,16 +6,16 @@ use port_122::MemoryPort;
 use std::process::Abort;
 use std::test::Fail;
 
-// What is asked for, and what is answered.
+// What is requested, and the expected result.
 #[derive(Clone, Copy, Debug, PartialEq, Eq)]
 enum Step {
     // The next segment, by its index.
     Segment(Result<Option<u32>, InFault>),
     // The next octet of its text.
     Octet(Result<Option<u8>, InFault>),
-    // How many octets were read so far.
+    // The number of octets that were read so far.
     Taken(u64),
-    // Why the stream can't be read on.
+    // The reason why the stream can't be read on.
     Framing(Option<Framing>),
 }
 
@@ -27,7 +27,7 @@ const NONE_FOUND: Step = Step::Segment(Ok(None));
 
 const BROKEN: Step = Step::Octet(Err(InFault::Broken));
 
-// The index of the segment that was found.
+// Returns the index of the segment that was found.
 fn index_of(found: Result<Option<SegmentStart>, InFault>) -> Result<Option<u32>, InFault> {
     match found {
         Ok(Some(start)) => Ok(Some(start.ancillary.index)),
@@ -36,7 +36,7 @@ fn index_of(found: Result<Option<SegmentStart>, InFault>) -> Result<Option<u32>,
     }
 }
 
-// Asks for what a step does, and tells what was answered.
+// Requests what a step does, and returns the step with the result.
 fn asked(assembly: &mut Assembly, port: &mut MemoryPort, step: Step) -> Step {
     match step {
         Step::Segment(_) => Step::Segment(index_of(assembly.next_segment(port))),
@@ -104,7 +104,7 @@ fn a_later_part_goes_on(rt: HostRuntime) -> Result<(), Fail> {
     let mut last = FIRST;
     last[2] = 0x80;
     last[29] = 1;
-    // Two octets, and the 21 that stand as the text of the later part.
+    // The steps are two octets, and then the 21 of the text of the later part.
     let mut steps = [Step::Octet(Ok(None)); 27];
     steps[0] = FIRST_FOUND;
     steps[1] = Step::Octet(Ok(Some(0x5a)));

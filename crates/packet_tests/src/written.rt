@@ -51,7 +51,7 @@ fn a_short_text_is_one_packet(rt: HostRuntime) -> Result<(), Fail> {
     Ok(())
 }
 
-// The first six octets of a packet, and its part's number.
+// Returns the first six octets of a packet, and its part's number.
 fn head_and_part(octets: &[u8], at: usize) -> ([u8; 6], u8)
     requires { at + 30 ≤ length octets.now }
 {
@@ -91,7 +91,7 @@ fn parts_and_packets_are_numbered(rt: HostRuntime) -> Result<(), Fail> {
 
 #[test]
 fn each_packet_is_one_write(rt: HostRuntime) -> Result<(), Fail> {
-    // Packets of 70, 70 and 50 octets, and the call that fails.
+    // The packets have 70, 70 and 50 octets; each is given with the call that fails.
     for (call, given) in [(0, 0), (1, 70), (2, 140), (3, 190)] {
         let fail = [call].to_vec(rt.alloc())?;
         let mut port = MemoryPort::new(rt.alloc(), Vec::new(rt.alloc()), fail, 4096)?;

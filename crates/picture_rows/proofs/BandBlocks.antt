@@ -1,4 +1,4 @@
--- The numbers of a block in the bands of blocks that stand one after another.
+-- The numbers of a block in the bands of consecutive blocks.
 use Rattle.std.proofs.Common.{◌≡◌, ◌<◌, ◌≤◌, ◌+◌, ◌*◌, ◌/◌, ◌%◌, ◌^◌, ◌==◌, ◌*ℤ◌, ℕ, ℤ, pos, true, List, length, get_or, refl, sym, ap, ◌∙◌, inl, inr, arith}
 use Rattle.std.specs.Prelude.{All}
 use Rattle.std.specs.List.{range_with_len, list_all}
@@ -74,7 +74,7 @@ part_is weights i part number shifts e =
     let k = get_or weights (place_of i).band 0 in
     sym (divided part k (shift_low weights (place_of i).band shifts)) ∙ ap (λ z. floor_div z (2 ^ k)) e
 
--- zero stays zero
+-- zero is unchanged
 pub zero_is : (weights : List ℕ) (i : ℕ) (number : ℤ) → All IsShift weights → number ≡ pos 0 → pos 0 ≡ floor_div number (2 ^ get_or weights (place_of i).band 0)
 zero_is weights i number shifts e =
     let none : pos 0 *ℤ weight_at weights i ≡ pos 0 = ap pos (omega arith) in

@@ -82,7 +82,7 @@ column_passed p a standing room lt =
 
 -- ---- a whole block row
 
--- a strip took the block row that was set next
+-- a strip took the block row whose numbers were set
 pub record RowTaken (s t : StripInverse) : Type 0 where
   pub height : height_of t ≡ height_of s
   pub width : columns_of t ≡ columns_of s
@@ -91,7 +91,7 @@ pub record RowTaken (s t : StripInverse) : Type 0 where
   pub zero : (q : Place) → numbers_of t q ≡ pos 0
   pub follows : (p : Pyramid) (r : ℕ) → FollowStrip p r s → IsNext p (taken_of s) s → FollowStrip p r t
 
--- the picture past its block row
+-- the picture after its block row
 abbrev pub past_row : PictureState → StripInverse → PictureState
 past_row p strip = record p { strip = strip; at = record p.at { column = 0; row = p.at.row + 1 } }
 
@@ -99,7 +99,7 @@ module _ (p : PictureState) (t : StripInverse) (standing : IsCurrent p) (room : 
   full : p.at.column + 1 ≡ block_count p.geometry.width
   full = let column = standing.sized.column in omega (arith, column, last)
 
-  -- an image that may go on from it may go on from the block row before
+  -- an image that may continue from it may continue from the block row before
   completes : (r : ℕ) → IsCompletion (taken_of t) (height_of t) r → IsCompletion (taken_of p.strip) (height_of p.strip) r
   completes r is =
       let sized = standing.sized in
@@ -126,7 +126,7 @@ module _ (p : PictureState) (t : StripInverse) (standing : IsCurrent p) (room : 
     given = λ numbers set. append-nil (rows_of p.geometry numbers p.at.next);
   }
 
-  -- and the rows were given that come with it
+  -- and the rows were given that its block row determines
   pub row_passed : (a b : Outside) (z : PictureState) → HasNone a b (past_row p t) z → HasPassed (HasNextSet p) a b p z
   row_passed a b z rows =
       let same = rows.same in
@@ -141,7 +141,7 @@ module _ (p : PictureState) (t : StripInverse) (standing : IsCurrent p) (room : 
         goes = goes_then refl (λ numbers before stands. stands) (row_goes a) rows.goes;
       }
 
-  -- those are the whole block rows past its last block
+  -- those are the whole block rows after its last block
   rows_whole : p.at.row + 1 ≡ block_rows_before p.geometry (passed_in p + 1)
   rows_whole =
       let c = block_count p.geometry.width in
@@ -159,7 +159,7 @@ module _ (p : PictureState) (t : StripInverse) (standing : IsCurrent p) (room : 
 
 -- ---- a block whose numbers are known
 
--- the rows that the block rows past the next block determine
+-- the rows that the block rows after the next block determine
 abbrev through : Geometry → PictureAt → ℕ
 through g at = rows_through g (block_rows_before g (at.row * block_count g.width + at.column + 1))
 

@@ -15,7 +15,7 @@ use Rattle.picture_rows.specs.Pictures.{PictureState, IsSized, IsCurrent, passed
 use Rattle.picture_rows.specs.Steps.{HasEnded}
 use Rattle.picture_rows.proofs.Heights.{rows_of_shorter}
 
--- a strip has this number of rows now, and all else is as before
+-- a strip has this number of rows now, and all else is unchanged
 pub record StripEnded (rows : ℕ) (s t : StripInverse) : Type 0 where
   pub height : height_of t ≡ rows / 8
   pub width : columns_of t ≡ columns_of s
@@ -90,6 +90,6 @@ pub ended-passed : (rows : ℕ) (p q : PictureState) → HasEnded rows p q → p
 ended-passed rows p q end =
     ap (λ (g : Geometry). q.at.row * block_count g.width + q.at.column) end.geometry ∙ ap (λ (at : PictureAt). at.row * block_count p.geometry.width + at.column) end.at
 
--- of those of the lower image
+-- they are blocks of the lower image
 pub ended-total : (rows : ℕ) (p q : PictureState) → HasEnded rows p q → total_in q ≡ total_blocks p.geometry.width rows
 ended-total rows p q end = ap (λ (g : Geometry). total_blocks g.width g.rows) end.geometry

@@ -68,7 +68,7 @@ module _ (g : Geometry) (h : ℕ) (numbers : ℕ → ℕ → ℤ) (wide : IsWith
       ∙ sym (rows_of_shorter (b / c) (8 * (b / c) - 21) low (omega arith))
       ∙ ap (rows_of g numbers) (sym (through_open g.rows (b / c) (omega (arith, low, fewer))))
 
--- and so they are for a picture that differs from it in its height alone
+-- and they are the same for a picture that differs from it in its height alone
 pub rows_of_ended : (g h : Geometry) (n : ℕ) (numbers : ℕ → ℕ → ℤ) → IsGeometryInRange h → IsWithin rows_range h.rows → h ≡ record g { rows = h.rows } → h.rows ≤ g.rows →
     n < total_blocks h.width h.rows → rows_of h numbers (rows_through h (block_rows_before h n)) ≡ rows_of g numbers (rows_through g (block_rows_before g n))
 rows_of_ended g h n numbers range within same fewer lt =

@@ -43,7 +43,7 @@ module _ (g : Geometry) (numbers : ℕ → ℕ → ℤ) (n : ℕ) where
       ∙ raster_octets-more g.depth n g.width (whole_with g numbers)
       ∙ ap (λ k. raster_octets g.depth k g.width (whole_with g numbers) ++ row_octets) (sym now)
 
-  -- rows that pad the picture aren't given
+  -- padding rows of the picture aren't given
   pub front-same : g.rows ≤ n → rows_of g numbers (n + 1) ≡ rows_of g numbers n
   unfolding rows_of
   front-same le =
@@ -60,7 +60,7 @@ front-begins g numbers m n le =
     let all : min n g.rows ≡ k + l = omega (arith, le) in
     (rows_from g.depth g.width image (0 + k) l, ap (λ i. raster_octets g.depth i g.width image) all ∙ rows_from-append g.depth g.width image 0 k l)
 
--- a part of what comes after the first rows
+-- a part of what follows the first rows
 pub front-part : (g : Geometry) (numbers : ℕ → ℕ → ℤ) (n m all : ℕ) (octets more : List ℕ) → rows_of g numbers all ≡ rows_of g numbers n ++ (octets ++ more) → m ≤ length octets →
     (some : ℕ) × (rows_of g numbers n ++ take m octets ≡ take some (rows_of g numbers all))
 front-part g numbers n m all octets more whole le =
@@ -205,7 +205,7 @@ module _ (p : PictureState) (t : StripInverse) (sized : IsSized p) (made : RowMa
     };
   }
 
-  -- a row that pads the picture wasn't
+  -- a padding row of the picture wasn't
   pub row_made : (a : Outside) → p.geometry.rows ≤ p.at.next → HasGiven a a p (stepped p t (p.at.next + 1))
   row_made a le = record {
     sized = sized_next;
@@ -273,7 +273,7 @@ row_none p t a sized none = record {
 
 -- ---- one stretch after another
 
--- rows go on, and then more of them
+-- the rows are continued by rows, and then by more of them
 pub goes_then : {B C : (ℕ → ℕ → ℤ) → Type 0} {a b c : Outside} {x y z : PictureState} → y.geometry ≡ x.geometry → ((numbers : ℕ → ℕ → ℤ) → B numbers → Represents numbers y → C numbers) →
     Continues B a b x y → Continues C b c y z → Continues B a c x z
 goes_then {B = B} {C = C} {a = a} {b = b} {c = c} {x = x} {y = y} {z = z} same f u v = record {
@@ -287,7 +287,7 @@ goes_then {B = B} {C = C} {a = a} {b = b} {c = c} {x = x} {y = y} {z = z} same f
       sym (append_assoc (rows_of x.geometry numbers x.at.next) u.gave v.gave) ∙ ap (λ zs. zs ++ v.gave) (u.given numbers before) ∙ there;
 }
 
--- rows go on, and then a write fails
+-- the rows are continued by rows, and then a write fails
 pub breaks_then : {B C : (ℕ → ℕ → ℤ) → Type 0} {r : ℕ} {a b c : Outside} {x y : PictureState} → y.geometry ≡ x.geometry → ((numbers : ℕ → ℕ → ℤ) → B numbers → Represents numbers y → C numbers) →
     Continues B a b x y → StopsEarly C r b c y → StopsEarly B r a c x
 breaks_then {B = B} {C = C} {r = r} {a = a} {b = b} {c = c} {x = x} {y = y} same f u v = record {

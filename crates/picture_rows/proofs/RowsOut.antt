@@ -14,7 +14,7 @@ use Rattle.picture_rows.specs.Fronts.{rows_of}
 use Rattle.picture_rows.specs.Pictures.{PictureState, IsCurrent, passed_in}
 use Rattle.picture_rows.proofs.RowGives.{front-begins}
 
--- rows that pad the picture give nothing
+-- padding rows of the picture give nothing
 few_rows : (g : Geometry) (numbers : ℕ → ℕ → ℤ) (n : ℕ) → rows_of g numbers n ≡ rows_of g numbers (min n g.rows)
 unfolding rows_of
 few_rows g numbers n = let e : min n g.rows ≡ min (min n g.rows) g.rows = omega arith in ap (λ k. raster_octets g.depth k g.width (whole_with g numbers)) e
@@ -64,7 +64,7 @@ row_is : (p : PictureState) (n : ℕ) → IsCurrent p → passed_in p ≡ n → 
 row_is p n standing passed =
     sym (ap (λ m. m / block_count p.geometry.width) passed) ∙ div-mul-add p.at.row (block_count p.geometry.width) p.at.column standing.sized.column
 
--- and given exactly the rows that these determine
+-- and has given exactly the rows that these determine
 next_rows : (p : PictureState) (numbers : ℕ → ℕ → ℤ) → IsCurrent p → rows_of p.geometry numbers p.at.next ≡ rows_of p.geometry numbers (rows_through p.geometry p.at.row)
 next_rows p numbers standing = by (p.at.row == block_count p.geometry.rows) refl
   where
@@ -78,7 +78,7 @@ next_rows p numbers standing = by (p.at.row == block_count p.geometry.rows) refl
         let other : p.at.row ≡ block_count p.geometry.rows → ⊥ = λ last. (let hit : (p.at.row == block_count p.geometry.rows) ≡ true = grind (arith, nat_tests) in absurd (let both : true ≡ false = sym hit ∙ e in cc)) in
         ap (rows_of p.geometry numbers) (standing.next_settled (omega (arith, other, standing.sized.rows)))
 
--- what is given past n blocks
+-- what is given after n blocks
 pub rows_out : (p : PictureState) (g : Geometry) (n : ℕ) (numbers : ℕ → ℕ → ℤ) (gave : List ℕ) → IsCurrent p → p.geometry ≡ g → passed_in p ≡ n → gave ≡ rows_of g numbers p.at.next →
     gave ≡ rows_of g numbers (rows_through g (block_rows_before g n))
 rows_out p g n numbers gave standing same passed is =

@@ -1,4 +1,4 @@
--- What a picture holds, and for which blocks. This project's own.
+-- What a picture holds, and which blocks it represents. This project's own.
 use Rattle.std.specs.Prelude.{◌≡◌, ◌≤◌, ◌<◌, ◌+◌, ◌-◌, ◌*◌, ℕ, ℤ, pos}
 use Rattle.base_122.specs.Sizes.{block_count, total_blocks}
 use Rattle.base_122.specs.Ranges.{IsGeometryInRange}
@@ -33,7 +33,7 @@ total_in p = total_blocks p.geometry.width p.geometry.rows
 abbrev pub passed_in : PictureState → ℕ
 passed_in p = p.at.row * block_count p.geometry.width + p.at.column
 
--- a block is still to come
+-- a block is left
 abbrev pub HasRoom : PictureState → Type 0
 HasRoom p = passed_in p < total_in p
 
@@ -58,9 +58,8 @@ pub record IsCurrent (p : PictureState) : Type 0 where
 
 -- ---- for which blocks
 
--- Blocks with these numbers, counted in raster order, whatever the later ones are: the strip took the whole block rows of them,
--- of an image of any height that it may still have, and the next block row has the numbers of the blocks in its first columns,
--- and else zeros.
+-- Blocks with these numbers, counted in raster order, whatever the later ones are: the strip took the whole block rows of them, of an image
+-- of any height that it may still have, and the next block row has the numbers of the blocks in its first columns, and otherwise zeros.
 pub record RepresentsTo (columns : ℕ) (numbers : ℕ → ℕ → ℤ) (p : PictureState) : Type 0 where
   pub strip : (r : ℕ) → IsCompletion (taken_of p.strip) (height_of p.strip) r → FollowStrip (bands_of p.geometry numbers) r p.strip
   pub set : (column i : ℕ) → column < columns → i < 64 →
@@ -72,7 +71,7 @@ pub record RepresentsTo (columns : ℕ) (numbers : ℕ → ℕ → ℤ) (p : Pic
 abbrev pub Represents : (ℕ → ℕ → ℤ) → PictureState → Type 0
 Represents numbers p = RepresentsTo p.at.column numbers p
 
--- nothing was taken yet of a picture of this geometry
+-- no block was taken yet of a picture of this geometry
 pub record IsFresh (g : Geometry) (p : PictureState) : Type 0 where
   pub geometry : p.geometry ≡ g
   pub standing : IsCurrent p

@@ -1,4 +1,4 @@
--- What the steps of a picture leave. This project's own.
+-- The effect of the steps of a picture. This project's own.
 use Rattle.std.specs.Prelude.{◌≡◌, ◌<◌, ◌+◌, ℕ, ℤ, pos, List, ◌++◌, [], Bool, true, false, Result, Ok, Err, MatchResult, slice_index_or, take}
 use Rattle.port_122.specs.Outside.{Outside, Exchange, NoRead, Rose}
 use Rattle.base_122.specs.Sizes.{block_count}
@@ -9,8 +9,8 @@ use Rattle.picture_rows.specs.Pictures.{PictureState, IsSized, IsCurrent, Repres
 
 -- ---- rows
 
--- Some rows were given: for all blocks such that this was so before, the picture stands for them, and what was given goes on from
--- the first rows of their picture to more of them.
+-- Some rows were given: for all blocks such that this was so before, the picture represents them, and what was given continues the first
+-- rows of their picture to more of them.
 pub record Continues (Before : (ℕ → ℕ → ℤ) → Type 0) (p q : Outside) (old new : PictureState) : Type 0 where
   pub gave : List ℕ
   pub out : Exchange p q [] gave [] NoRead
@@ -28,7 +28,7 @@ pub record StopsEarly (Before : (ℕ → ℕ → ℤ) → Type 0) (r : ℕ) (p q
 abbrev pub Represented : PictureState → (ℕ → ℕ → ℤ) → Type 0
 Represented p numbers = Represents numbers p
 
--- all but the strip and the next row is as before
+-- all except the strip and the next row is unchanged
 pub record SameBut (old new : PictureState) : Type 0 where
   pub geometry : new.geometry ≡ old.geometry
   pub row : new.at.row ≡ old.at.row
@@ -68,12 +68,12 @@ GivesRows result p q old new = MatchResult result (λ _. HasNone p q old new) (�
 abbrev pub HasNextSet : PictureState → (ℕ → ℕ → ℤ) → Type 0
 HasNextSet p numbers = RepresentsTo (p.at.column + 1) numbers p
 
--- the next block has these numbers, and zeros past them
+-- the next block has these numbers, and zeros after them
 pub record HasNextNumbers (xs : List ℤ) (p : PictureState) (numbers : ℕ → ℕ → ℤ) : Type 0 where
   pub stands : Represents numbers p
   pub next : (i : ℕ) → i < 64 → numbers (passed_in p) i ≡ slice_index_or xs i (pos 0)
 
--- the next block was passed, and the rows that come with it given
+-- the next block was passed, and the rows that it completes were given
 pub record HasPassed (Before : (ℕ → ℕ → ℤ) → Type 0) (p q : Outside) (old new : PictureState) : Type 0 where
   pub standing : IsCurrent new
   pub geometry : new.geometry ≡ old.geometry
@@ -85,8 +85,8 @@ PassesBlock result Before p q old new = MatchResult result (λ _. HasPassed Befo
 
 -- ---- the height
 
--- The image has this number of rows now, and all else is as before: the rows that were given are the first ones of the image of
--- either height.
+-- The image has this number of rows now, and all else is unchanged: the rows that were given are the first ones of the image of either
+-- height.
 pub record HasEnded (rows : ℕ) (old new : PictureState) : Type 0 where
   pub standing : IsCurrent new
   pub geometry : new.geometry ≡ record old.geometry { rows = rows }

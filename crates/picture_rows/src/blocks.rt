@@ -1,4 +1,4 @@
-// The blocks of a picture, one after another in raster order, and the rows that come with each whole block row.
+// Passes the blocks of a picture, one after another in raster order, and gives the rows that each whole block row determines.
 ghost use Rattle.std.specs.Prelude.{◌≡◌, [], length};
 ghost use Rattle.block_families.specs.Places.{AreWeighted};
 ghost use Rattle.picture_rows.specs.Pictures.{picture_state, IsCurrent, HasRoom};
@@ -11,7 +11,7 @@ use block_families::scatter;
 use inverse_strip::StripInverse;
 use port_122::{Failed, Port};
 
-// Goes on past the next block, whose numbers are set, and gives the rows that come where its block row is whole.
+// Advances past the next block, whose numbers are set, and gives the rows that its block row determines if it is whole.
 fn pass_block<X: Port>(port: &mut X, picture: &mut Picture) -> Result<(), Failed>
     requires standing { IsCurrent (picture_state picture.old) }
     requires room { HasRoom (picture_state picture.old) }
@@ -27,7 +27,7 @@ fn pass_block<X: Port>(port: &mut X, picture: &mut Picture) -> Result<(), Failed
     give_rows(port, picture)
 }
 
-/// The next block is lost: its numbers are 0.
+/// Passes the next block as lost: its numbers are 0.
 pub fn put_missing<X: Port>(port: &mut X, picture: &mut Picture) -> Result<(), Failed>
     requires standing { IsCurrent (picture_state picture.old) }
     requires room { HasRoom (picture_state picture.old) }
@@ -36,7 +36,7 @@ pub fn put_missing<X: Port>(port: &mut X, picture: &mut Picture) -> Result<(), F
     pass_block(port, picture)
 }
 
-/// The next block has these 64 numbers.
+/// Passes the next block with these 64 numbers.
 pub fn put_block<X: Port>(
     port: &mut X,
     picture: &mut Picture,

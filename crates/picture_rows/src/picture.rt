@@ -1,4 +1,4 @@
-// What is held of a picture.
+// The state of a picture.
 ghost use Rattle.std.specs.Prelude.{◌*◌, ◌≤◌};
 ghost use Rattle.base_122.specs.Sizes.{padded_size};
 ghost use Rattle.inverse_strip.specs.Strip.{columns_of};
@@ -7,7 +7,7 @@ use base_122::Geometry;
 use inverse_strip::StripInverse;
 use std::alloc::{AllocError, Global};
 
-/// How far a picture has come: the block row and the column of the next block, and the next row to be given.
+/// The progress of a picture: the block row and the column of the next block, and the next row to be given.
 #[derive(Clone, Copy, Debug, PartialEq, Eq)]
 pub struct PictureAt {
     pub row: u32,
@@ -15,8 +15,7 @@ pub struct PictureAt {
     pub next: u32,
 }
 
-/// The inverse transform, and how far the picture has come.
-/// It holds at most 80 rows of the padded picture.
+/// The inverse transform, and the progress of the picture. It holds at most 80 rows of the padded picture.
 #[derive(Drop)]
 pub struct Picture {
     pub geometry: Geometry,
@@ -32,8 +31,8 @@ impl Picture {
     ghost use Rattle.picture_rows.specs.Pictures.{picture_state, samples_of, passed_in, IsFresh, IsCurrent};
     ghost use Rattle.picture_rows.specs.Steps.{HasEnded};
 
-    /// Takes all memory that a picture of this geometry needs (docs/architecture.md, "The decoder"). If its height is reported last, it
-    /// has the greatest height until `end_at` is called. The one error is want of memory.
+    /// Takes all memory that a picture of this geometry needs (docs/architecture.md, "The decoder"). If its height is reported last, it has
+    /// the greatest height until `end_at` is called. It fails only if there is too little memory.
     pub fn new(alloc: Global, geometry: &Geometry) -> Result<Picture, AllocError>
         requires range { IsGeometryInRange geometry.now }
         requires height { IsWithin rows_range geometry.now.rows }
@@ -64,7 +63,7 @@ impl Picture {
         self.strip.end_at(self.geometry.padded_rows());
     }
 
-    /// The samples that it holds.
+    /// Returns the number of samples that it holds.
     pub fn samples(&self) -> u64
         requires { IsGeometryInRange self.now.geometry }
         ensures value { result ≡ samples_of (picture_state self.now) }

@@ -6,8 +6,7 @@ use crate::picture::Picture;
 use port_122::{Failed, Port};
 use raster_rows::write_row;
 
-// Makes the next row and gives it, where it isn't one that pads the picture; answers false where none can be made before the next
-// block row.
+// Makes the next row, and gives it unless it is a padding row of the picture. Returns false if none can be made before the next block row.
 fn give_row<X: Port>(port: &mut X, picture: &mut Picture) -> Result<bool, Failed>
     requires sized { IsSized (picture_state picture.old) }
     ensures { GivesRow result (X.outside port.old) (X.outside port.new) (picture_state picture.old) (picture_state picture.new) }

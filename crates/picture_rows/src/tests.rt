@@ -11,7 +11,7 @@ use std::alloc::{AllocError, Global};
 use std::process::Abort;
 use std::test::Fail;
 
-// A picture of 17 columns, and so of three blocks in a block row. Its pixels are unsigned and have 8 bits.
+// Returns a picture of 17 columns, and so of three blocks in a block row. Its pixels are unsigned and have 8 bits.
 fn begun(alloc: Global, rows: u32) -> Result<Picture, AllocError>
     requires { IsWithin rows_range rows }
     ensures { IfOk result (λ p. IsFresh (image_geometry (usual_setting 17 0) rows) (picture_state p)) }

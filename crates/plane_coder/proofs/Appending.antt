@@ -1,4 +1,4 @@
--- Entries said one after another, and put together.
+-- Entries that are added one after another, and put together.
 use Rattle.std.proofs.Common.{◌≡◌, ℕ, zero, suc, ◌+◌, ◌*◌, ◌-◌, ◌/◌, ◌%◌, ◌<◌, ◌≤◌, ◌⊎◌, inl, inr, Bool, true, false, cond, ◌||◌, List, [], ◌∷◌, ◌++◌, length, map, nat_lt, get_or, set, refl, ap, sym, ◌∙◌, subst, arith, append_assoc, append-nil}
 use Rattle.std.specs.Prelude.{Result, if◌then◌else◌}
 use Rattle.std.specs.List.{list_any, flat_map}
@@ -30,7 +30,7 @@ use Rattle.block_masks.proofs.Agreeing.{agrees_other, agrees_again, agrees_first
 use Rattle.plane_coder.proofs.FourTypes.{IsTyped}
 use Rattle.plane_coder.proofs.Spelling.{on_ok, puts_open, raw_text, short_text, again_text, first_text}
 
--- entries that nothing says
+-- no entries add nothing
 pub appends_none : (book : Book) (a : PendingBits) → Appends book a a [] 0
 appends_none book a = record {
   bits = λ before agrees. sym (append-nil (said a));
@@ -57,7 +57,7 @@ appends_both {book} {a} {b} {c} {xs} {ys} m n first second = record {
   load = omega (arith, first.load, second.load);
 }
 
--- the places of a span, one more
+-- the places of a span, and one more
 pub appends_more : {book : Book} {a b c : PendingBits} (f : ℕ → List Entry) (start n most : ℕ) → Appends book a b (flat_map f (span start n)) (most * n) → Appends book b c (f (start + n)) most →
     Appends book a c (flat_map f (span start (n + 1))) (most * (n + 1))
 appends_more {book} {a} {b} {c} f start n most p q =
@@ -69,7 +69,7 @@ appends_start book a f start most =
     let none : 0 ≡ most * 0 = omega arith in
     subst (Appends book a a (flat_map f (span start 0))) none (subst (λ l. Appends book a a l 0) (sym (flat_map-span-none f start)) (appends_none book a))
 
--- entries that are said where a test holds
+-- entries that are added if a test holds
 pub appends_if_not : {book : Book} {b : Bool} (a : PendingBits) (xs : List Entry) (most : ℕ) → b ≡ false → Appends book a a (cond b xs []) most
 appends_if_not {book} a xs most not_so = subst (λ b. Appends book a a (cond b xs []) most) (sym not_so) (appends_less 0 most (omega arith) (appends_none book a))
 
@@ -91,7 +91,7 @@ few_unopened sent = omega (arith, one_less (get_or sent 0 false) 1, one_less (ge
 pub silent_load : (a : PendingBits) → a.count ≡ 0 → load a ≤ 5
 silent_load a silent = omega (arith, silent, few_unopened a.gaggle.sent)
 
--- what was said from nothing on, and put
+-- what was added from the start, and put
 pub spells_said : {S : Type 0} {k : SinkOf S} {book : Book} {a b : PendingBits} {g : Gaggle} {r : Result (Unit {0}) PutFault} {s t : Standing S} {xs : List Entry} (most : ℕ) →
     IsOpen s → a.count ≡ 0 → Appends book a b xs most → Puts k r s t (said b) → g ≡ b.gaggle → Spells k book a.gaggle g r s t xs
 spells_said {S} {k} {book} {a} {b} {g} {r} {s} {t} {xs} most opened silent p put same =
@@ -136,7 +136,7 @@ opens_already (suc (suc n)) a high is =
     let back : suc (suc n) - 2 ≡ n = omega arith in
     opens_again (suc (suc n)) a (omega arith) high (ap (λ m. get_or a.gaggle.sent m false) back ∙ sym (ap (λ l. get_or l (suc (suc n)) false) a.opened_told) ∙ is)
 
--- one is due
+-- an identifier is due
 pub is_long : (n : ℕ) (a : PendingBits) → get_or a.opened n false ≡ false → 2 ≤ n
 is_long zero a is = let no : true ≡ false = sym (ap (λ l. get_or l zero false) a.opened_told) ∙ is in cc
 is_long (suc zero) a is = let no : true ≡ false = sym (ap (λ l. get_or l (suc zero) false) a.opened_told) ∙ is in cc
@@ -149,7 +149,7 @@ is_due (suc (suc n)) a is =
     let back : suc (suc n) - 2 ≡ n = omega arith in
     ap (λ m. get_or a.gaggle.sent m false) back ∙ sym (ap (λ l. get_or l (suc (suc n)) false) a.opened_told) ∙ is
 
--- it was sent
+-- the identifier was sent
 pub opened_there : (n : ℕ) (opened sent : List Bool) → 2 ≤ n → opened ≡ true ∷ true ∷ sent → set opened n true ≡ true ∷ true ∷ set sent (n - 2) true
 opened_there zero opened sent low is = absurd (omega arith)
 opened_there (suc zero) opened sent low is = absurd (omega arith)
@@ -208,7 +208,7 @@ appends_word book a b c word opens same more put kept = record {
   load = omega (arith, same, more);
 }
 
--- ---- how many bits may come
+-- ---- how many bits may follow
 
 pub load_pushed : (a b : PendingBits) (n : ℕ) → b.count ≡ a.count + n → b.gaggle ≡ a.gaggle → load b ≡ load a + n
 load_pushed a b n more kept = let same = ap (λ (g : Gaggle). unopened g.sent) kept in omega (arith, same, more)
@@ -247,7 +247,7 @@ appends_raws book a b bits most put kept more = record {
   load = more;
 }
 
--- a word of no bit says nothing
+-- a word of no bits adds nothing
 pub appends_nothing : {book : Book} {a c : PendingBits} {most : ℕ} → Appends book a c (word_of 0 ∷ map Bit (bits_of 0 0)) most → Appends book a c [] most
 unfolding bits_of
 appends_nothing {book} {a} {c} p = record {
@@ -261,7 +261,7 @@ appends_nothing {book} {a} {c} p = record {
     no_longer [] n low = let other : is_word_of n (word_of 0) ≡ false = grind arith in ap (λ b. b || false) other
     no_longer (x ∷ before) n low = ap (λ b. is_word_of n x || b) (no_longer before n low)
 
--- types and signs that are said where a test holds
+-- types and signs that are added if a test holds
 pub appends_typed : {book : Book} {a c : PendingBits} {b : Bool} {t : Typed} {entries : List Entry} {most : ℕ} → IsTyped b t entries → Appends book a c (entries_of t) most → Appends book a c (cond b entries []) most
 appends_typed {book} {a} {c} {b = true} {most = most} is p = subst (λ l. Appends book a c l most) (is.said refl) p
 appends_typed {book} {a} {c} {b = false} {t} {most = most} is p =

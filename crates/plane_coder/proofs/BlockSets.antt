@@ -28,7 +28,7 @@ none_passes p (x ∷ xs) none = one (p x) none (λ rest. none_passes p xs rest)
     one true h rest = cc
     one false h rest = rest h
 
--- what those that pass a test send is what each sends if it passes
+-- what the elements that pass a test send is what each element sends if it passes
 filtered : (f : ℕ → List Entry) (p : ℕ → Bool) (xs : List ℕ) → flat_map f (filter p xs) ≡ flat_map (λ i. cond (p i) (f i) []) xs
 filtered f p [] = refl
 filtered f p (x ∷ xs) = one (p x) (filtered f p xs)
@@ -88,7 +88,7 @@ module _ (block : List ℤ) (weights : List ℕ) (plane : ℕ) where
   unfolding span
   refining_none s = refl
 
-  -- so many fours, and one more
+  -- this number of fours, and one more
   pub refining_more : (from k : ℕ) → from ≤ k → refining block weights plane (4 * from) (4 * (k - from)) ++ refining block weights plane (4 * k) 4 ≡ refining block weights plane (4 * from) (4 * ((k + 1) - from))
   refining_more from k le =
       let place : 4 * k ≡ 4 * from + 4 * (k - from) = omega arith in
@@ -96,7 +96,7 @@ module _ (block : List ℤ) (weights : List ℕ) (plane : ℕ) where
       ap (λ s. refining block weights plane (4 * from) (4 * (k - from)) ++ refining block weights plane s 4) place ∙
       refining_both (4 * from) (4 * (k - from)) 4 ∙ ap (refining block weights plane (4 * from)) sum
 
-  -- where no position is refined
+  -- if no position is refined
   pub refining_nothing : (s n : ℕ) → false ≡ list_any (refined block weights plane) (span s n) → [] ≡ refining block weights plane s n
   refining_nothing s n none = sym (ap (map (λ p. Bit (bit (magnitude block p) plane))) (none_passes (refined block weights plane) (span s n) (sym none)))
 

@@ -77,7 +77,7 @@ shallow_words block weights plane q d le =
     sym (ap (λ l. l ++ (block_entries stages.Children block d weights plane q ++ block_entries stages.Grandchildren block d weights plane q)) a ∙
     ap (λ l. l ++ block_entries stages.Grandchildren block d weights plane q) b ∙ c)
 
--- those of block r of many
+-- the words of block r of many
 pub words_there : (cells marks : List ℤ) (weights : List ℕ) (plane q r d : ℕ) → length cells ≡ 64 * length marks → r < length marks → d ≡ depth_of (get_or marks r (pos 0)) →
     block_entries stages.Parents (slice_range cells (64 * r) (64 * r + 64)) d weights plane q ++ (block_entries stages.Children (slice_range cells (64 * r) (64 * r + 64)) d weights plane q ++
     block_entries stages.Grandchildren (slice_range cells (64 * r) (64 * r + 64)) d weights plane q)

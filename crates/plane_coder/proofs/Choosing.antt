@@ -67,7 +67,7 @@ sum_of_counts t n small =
     let wide : length (counts_in t n) * 2 ^ 13 ≡ 16 * 2 ^ 13 = ap (λ m. m * 2 ^ 13) whole in
     omega (arith, bound, wide)
 
--- ---- block after block: the stages are counted together, and stand one after another
+-- ---- block after block: the stages are counted together, and follow one another
 
 counts_three : {a b c : Tally} (m n : ℕ) (xs ys zs x y z : List Entry) → Counts a b (xs ++ (ys ++ zs)) m → Counts b c (x ++ (y ++ z)) n → Counts a c ((xs ++ x) ++ ((ys ++ y) ++ (zs ++ z))) (m + n)
 counts_three m n xs ys zs x y z p q = record {
@@ -90,7 +90,7 @@ counts_three m n xs ys zs x y z p q = record {
   most = λ i. omega (arith, p.most i, q.most i);
 }
 
--- the words of so many blocks of a gaggle
+-- the words of this number of blocks of a gaggle
 abbrev pub so_far : Plane → ℕ → ℕ → List Entry
 so_far p start n =
     flat_map (of_block p Parents) (span start n) ++ (flat_map (of_block p Children) (span start n) ++ flat_map (of_block p Grandchildren) (span start n))
@@ -115,7 +115,7 @@ one_counted {a} {b} {c} p start n first next =
     subst (Counts a c (so_far p start (n + 1))) most (subst (λ l. Counts a c l (21 * n + 21)) whole
     (counts_three (21 * n) 21 (f Parents) (f Children) (f Grandchildren) (g Parents) (g Children) (g Grandchildren) first next))
 
--- the stages whose words count are 1 to 3
+-- the words of stages 1 to 3 are counted
 pub counted_is : (p : Plane) (g : ℕ) → so_far p (16 * g) (gaggle_size p g) ≡ counted p g
 unfolding span
 counted_is p g =

@@ -24,7 +24,7 @@ coded_word book length option v code long is few fits = record {
   fits = fits;
 }
 
--- an empty word is nothing
+-- an empty word has no bits
 coded_nothing : (book : Book) (v : ℕ) → IsCodeOf book 0 0 v no_code
 coded_nothing book v = record { bits = bits_none 0 ∙ sym (bits_none v); few = omega arith; fits = omega arith }
 
@@ -62,7 +62,7 @@ raw_coded book rest zero below = record { bits = refl; few = omega arith; fits =
 raw_coded book rest (suc zero) below = record { bits = refl; few = omega arith; fits = omega arith }
 raw_coded book rest (suc (suc v)) below = absurd (omega arith)
 
--- there are sixteen words of four bits at most
+-- there are at most sixteen words of four bits
 pub word_within : (length word : ℕ) → length ≤ 4 → word < 1 * 2 ^ length % 256 → word < 16
 word_within length word few below =
     let whole : 1 * 2 ^ length % 256 ≡ 2 ^ length = one_shl length 8 (omega arith) in

@@ -116,7 +116,7 @@ all_words : each_eight is_word ≡ true
 unfolding packed value_of
 all_words = refl
 
--- the signs are of the second mask's positions, and 1 where the first has none
+-- the signs are of the second mask's positions, and 1 if the first has none
 abbrev are_signs : Bool → Bool → Bool → Bool → Bool → Bool → Bool → Bool → Bool
 are_signs p q r s a b c d = entry SIGNS (four p q r s) (four a b c d) == packed (chosen (due_there a (not p)) (due_there b (not q)) (due_there c (not r)) (due_there d (not s)))
 
@@ -258,7 +258,7 @@ shows_later m at f p = record {
   small = p.small;
 }
 
--- ---- entries that are sent where a test holds
+-- ---- entries that are sent if a test holds
 
 pub record IsTyped (b : Bool) (t : Typed) (entries : List Entry) : Type 0 where
   pub said : b ≡ true → entries_of t ≡ entries

@@ -57,7 +57,7 @@ module _ (block : List ℤ) (weights : List ℕ) (plane : ℕ) where
       let some = length-chosen f (refined block weights plane) start count in
       raws_are n (map f (filter (refined block weights plane) (span start count))) (omega (arith, some)) is ∙ map-map Bit f (filter (refined block weights plane) (span start count))
 
-  -- ---- flags of sets that are told by their numbers
+  -- ---- flags of sets that are given by their numbers
 
   abbrev flags_by : (ℕ → Set) → ℕ → List Bool
   flags_by S count = map (λ i. set_significant block plane (S i)) (filter (λ i. flag_due block weights plane (S i)) (span 0 count))

@@ -17,7 +17,7 @@ none_kept blocks plane n = record {
   at = λ r m e. let none : None ≡ Some m = sym (none_of n r) ∙ e in absurd cc;
 }
 
--- those of one more block
+-- the masks of one more block
 pub more_kept : (blocks : List ℤ) (plane r : ℕ) (kept : List (Option Masks)) (made : Option Masks) → r < length kept → AreKept blocks plane kept →
     IfSome made (IsView (slice_range blocks (64 * r) (64 * r + 64)) plane) → AreKept blocks plane (set kept r made)
 more_kept blocks plane r kept made within are is = record {

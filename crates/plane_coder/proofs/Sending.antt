@@ -30,7 +30,7 @@ use Rattle.plane_coder.specs.Views.{plane_of, plane_in}
 use Rattle.block_masks.proofs.Marking.{length-depths_of}
 use Rattle.plane_coder.proofs.Spelling.{on_ok_map, spells_none, spells_both, spells_cut}
 
--- a list of a span's places, one more
+-- a list of a span's places, and one more
 more_of_span : {A : Type 0} (f : ℕ → List A) (start n : ℕ) (xs : List A) → xs ≡ f (start + n) → flat_map f (span start n) ++ xs ≡ flat_map f (span start (n + 1))
 more_of_span f start n xs is = ap (λ l. flat_map f (span start n) ++ l) is ∙ sym (flat_map-span-suc f start n)
 
@@ -131,7 +131,7 @@ pub plane_same : (book : Book) (o o' : ℕ → List ℕ) (p : Plane) (stages : �
 plane_same book o o' p stages same =
     flat_map-span-below (stage_items book o p) (stage_items book o' p) 0 stages (λ n below. stage_same book o o' p (0 + n) same)
 
--- a stage by the marks as they are now is that by the marks before
+-- a stage with the states as they are now is the stage with the states before
 pub stage_moved : (view : View) (book : Book) (m0 m1 : List ℤ) (j : ℕ) → SameMarks m0 m1 →
     stage_items book (options_at m1) (plane_in view (depths_of m1)) j ≡ stage_items book (options_at m0) (plane_in view (depths_of m0)) j
 stage_moved view book m0 m1 j same =
@@ -167,7 +167,7 @@ chosen_agree view m0 m1 chooses = record {
 pub chosen_known : (view : View) (m0 m1 : List ℤ) → Chooses view m0 m1 → AreKnown m1
 chosen_known view m0 m1 chooses = record { at = λ g below. (chooses.each g (omega (arith, chooses.whole))).known }
 
--- the items of the whole plane, by the options in the marks
+-- the items of the whole plane, by the options in the states
 pub plane_whole : (view : View) (m0 m1 : List ℤ) (last : ℕ) → Chooses view m0 m1 →
     plane_items view.tables.now.book (options_at m1) (plane_in view (depths_of m1)) (last + 1) ≡ chosen_items view.tables.now.book (plane_in view (depths_of m0)) last
 plane_whole view m0 m1 last chooses =
@@ -189,7 +189,7 @@ pub plane_puts : {S : Type 0} {k : SinkOf S} (book : Book) (r : Result (Unit {0}
     Puts k r s t (text (chosen_items book p last)) → Puts k r s t (text (chosen_items book p' last))
 plane_puts {S} {k} book r s t p p' last same put = subst (λ (x : Plane). Puts k r s t (text (chosen_items book x last))) same put
 
--- a stage by the marks as they are now is that by the marks before
+-- a stage with the states as they are now is the stage with the states before
 pub stage_then : {S : Type 0} {k : SinkOf S} (view : View) (book : Book) (m0 m1 : List ℤ) (j : ℕ) {r : Result (Unit {0}) PutFault} {s t : Standing S} → SameMarks m0 m1 →
     Puts k r s t (text (stage_items book (options_at m1) (plane_in view (depths_of m1)) j)) → Puts k r s t (text (stage_items book (options_at m0) (plane_in view (depths_of m0)) j))
 stage_then {S} {k} view book m0 m1 j {r} {s} {t} same put = subst (λ l. Puts k r s t (text l)) (stage_moved view book m0 m1 j same) put

@@ -56,14 +56,14 @@ module _ {S : Type 0} {k : SinkOf S} {book : Book} where
     options = second.options ∙ first.options;
   }
 
-  -- entries that are sent where a test holds
+  -- entries that are sent if a test holds
   pub spells_if_not : {a : Gaggle} {s : Standing S} {b : Bool} (xs : List Entry) → b ≡ false → IsOpen s → Spells k book a a (Ok tt) s s (cond b xs [])
   spells_if_not {a} {s} xs not_so h = subst (λ b. Spells k book a a (Ok tt) s s (cond b xs [])) (sym not_so) (spells_none a s h)
 
   pub spells_if : {a c : Gaggle} {r : Result (Unit {0}) PutFault} {s t : Standing S} {b : Bool} (xs : List Entry) → b ≡ true → Spells k book a c r s t xs → Spells k book a c r s t (cond b xs [])
   spells_if {a} {c} {r} {s} {t} xs so p = subst (λ b. Spells k book a c r s t (cond b xs [])) (sym so) p
 
-  -- entries that would have come after the end
+  -- further entries after a call that failed
   pub spells_cut : {a b : Gaggle} {e : PutFault} {s t : Standing S} {xs : List Entry} (ys : List Entry) →
       Spells k book a b (Err e) s t xs → Spells k book a b (Err e) s t (xs ++ ys)
   spells_cut {a} {b} {e} {s} {t} {xs} ys p = record {
@@ -77,7 +77,7 @@ module _ {S : Type 0} {k : SinkOf S} {book : Book} where
     options = p.options;
   }
 
-  -- after a failure nothing is told of what was sent
+  -- after a failure nothing is claimed of what was sent
   pub spells_failed : {a b : Gaggle} {e : PutFault} {s t : Standing S} {xs : List Entry} → Spells k book a b (Err e) s t xs → Spells k book a a (Err e) s t xs
   spells_failed p = record { puts = p.puts; agrees = λ before agrees. tt; is_open = tt; options = refl }
 

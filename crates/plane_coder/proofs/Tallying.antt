@@ -62,7 +62,7 @@ counts_before {xs = xs} bits p = record {
   most = p.most;
 }
 
--- words that are counted where a test holds
+-- words that are counted if a test holds
 pub counts_if_not : {b : Bool} (a : Tally) (xs : List Entry) (most : ℕ) → b ≡ false → Counts a a (cond b xs []) most
 counts_if_not a xs most not_so = subst (λ b. Counts a a (cond b xs []) most) (sym not_so) (counts_less 0 most (omega arith) (counts_none a))
 
@@ -87,7 +87,7 @@ places_within = refl
 pub place_within : (w : ℕ) → w < 80 → place w < 80
 place_within w lt = let test = list_all-span-zero (λ w. nat_lt (place w) 80) 80 w places_within lt in grind (arith, test)
 
--- a word's place is among those of its length
+-- a word's place is among the places of its length
 abbrev is_in_row : ℕ → Bool
 is_in_row w = place w / 16 == w / 16
 
@@ -124,7 +124,7 @@ long_place (suc (suc (suc zero))) v low high fits = equal_from _ _ (list_all-spa
 long_place (suc (suc (suc (suc zero)))) v low high fits = equal_from _ _ (list_all-span-zero (is_place 4) 16 v places_of_four fits)
 long_place (suc (suc (suc (suc (suc n))))) v low high fits = absurd (omega arith)
 
--- the count at a word's place goes up
+-- the count at a word's place rises
 module _ (a b : Tally) (word : ℕ) (packed : IsPacked word) (more : b.counts ≡ set a.counts (place word) (get_or a.counts (place word) 0 + 1)) where
   parts : 16 * (word / 16) + word % 16 ≡ word
   parts = omega arith
@@ -176,9 +176,9 @@ module _ (a b : Tally) (word : ℕ) (packed : IsPacked word) (more : b.counts �
     most = λ i. elim (same_or_not i (place word)) [ inl e ↦ rw e (omega (arith, here)) | inr e ↦ omega (arith, elsewhere i e) ];
   }
 
--- ---- types that are counted where a test holds
+-- ---- types that are counted if a test holds
 
--- a word of no bit counts for no length
+-- a word of no bits is not counted for any length
 pub counts_typed : {a c : Tally} {b : Bool} {t : Typed} {entries : List Entry} → IsTyped b t entries → Counts a c (word_of t.word ∷ []) 1 → Counts a c (cond b entries []) 1
 counts_typed {a} {c} {b = true} {t} is p = subst (λ l. Counts a c l 1) (is.said refl) (counts_raws (bits_of (t.signs / 16) (t.signs % 16)) p)
 counts_typed {a} {c} {b = false} is p =

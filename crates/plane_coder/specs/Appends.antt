@@ -15,11 +15,11 @@ use Rattle.plane_coder.specs.Coding.{unopened}
 abbrev pub said : PendingBits → List Bool
 said s = bits_of s.count s.value
 
--- how many bits there are, with the identifiers that may come
+-- how many bits there are, with the identifiers that may follow
 abbrev pub load : PendingBits → ℕ
 load s = s.count + unopened s.gaggle.sent
 
--- these entries were said, in at most so many bits: for all that went before, as the gaggle's flags tell it
+-- these entries were added, in at most this number of bits, whatever entries went before, if the gaggle's flags are right about them
 pub record Appends (book : Book) (old new : PendingBits) (entries : List Entry) (most : ℕ) : Type 0 where
   pub bits : (before : List Entry) → Agrees old.gaggle.sent before → said new ≡ said old ++ text (spelled_after book old.gaggle.options before entries)
   pub agrees : (before : List Entry) → Agrees old.gaggle.sent before → Agrees new.gaggle.sent (before ++ entries)
@@ -30,7 +30,7 @@ pub record Appends (book : Book) (old new : PendingBits) (entries : List Entry) 
 abbrev pub identified : List ℕ → List Entry → ℕ → List Item
 identified options before n = if nat_lt n 2 then [] else opening options before n
 
--- it was said, so that a word of this length can follow
+-- the identifier was added, so that a word of this length can follow
 pub record Opens (n : ℕ) (old new : PendingBits) : Type 0 where
   pub bits : (before : List Entry) → Agrees old.gaggle.sent before → said new ≡ said old ++ text (identified old.gaggle.options before n)
   pub agrees : (before : List Entry) (word : Bits) → word.count ≡ n → Agrees old.gaggle.sent before → Agrees new.gaggle.sent (before ++ Word word ∷ [])

@@ -17,7 +17,7 @@ pub record HasOptions (view : View) (depths : List ℕ) (marks : List ℤ) (g : 
   pub known : AreOptions (options_at marks g)
   pub fresh : sent_at marks g ≡ false ∷ false ∷ false ∷ []
 
--- those of the first `count` gaggles
+-- the options of the first `count` gaggles are chosen
 pub record ChoosesFirst (view : View) (old new : List ℤ) (count : ℕ) : Type 0 where
   pub depths : depths_of new ≡ depths_of old
   pub whole : length new ≡ length old

@@ -1,4 +1,4 @@
--- The codes of words as they are looked up.
+-- The codes of words in the tables.
 use Rattle.std.specs.Prelude.{◌≡◌, ◌<◌, ◌≤◌, ℕ, ◌+◌, ◌^◌, ◌==◌, Bool, false, List, [], if◌then◌else◌, nat_lt, slice_index_or}
 use lib.ListN.{get_or}
 use Rattle.item_defs.specs.Bits.{bits_of}
@@ -15,7 +15,7 @@ pub record IsWordOf (length option value : ℕ) : Type 0 where
   pub short : length < 2 → option ≡ 0
   pub fits : value < 2 ^ length
 
--- what stands for a word under an option: a word of one bit is raw, and an empty one nothing
+-- the bits that represent a word under an option: a word of one bit is raw, and an empty one has no bits
 abbrev pub word_bits : Book → (length option value : ℕ) → List Bool
 word_bits book length option value = if nat_lt length 2 then bits_of length value else item_bits (word_item book length option value)
 
@@ -24,18 +24,18 @@ pub record IsCodeOf (book : Book) (length option value : ℕ) (code : Code) : Ty
   pub few : code.len ≤ 8
   pub fits : code.bits < 2 ^ code.len
 
--- where the codes of a length and option stand
+-- the index of the codes of a length and option
 abbrev pub row_of : ℕ → ℕ → ℕ
 row_of length option = if nat_lt length 3 then length + option else if length == 3 then 4 + option else 7 + option
 
 abbrev pub code_in : List (List Code) → ℕ → ℕ → Code
 code_in rows row value = slice_index_or (slice_index_or rows row []) value no_code
 
--- the option of a word of this length, where there is a choice
+-- the option of a word of this length, if there is a choice
 abbrev pub option_for : List ℕ → ℕ → ℕ
 option_for options length = if nat_lt length 2 then 0 else option_of options length
 
--- how many bits the identifiers take that were not put yet
+-- the number of bits of the identifiers that were not put yet
 abbrev pub unopened : List Bool → ℕ
 unopened sent =
     (if get_or sent 0 false then 0 else 1) + (if get_or sent 1 false then 0 else 2) + (if get_or sent 2 false then 0 else 2)

@@ -1,4 +1,4 @@
--- Entries as they are picked: sixteen times the number of bits, and the number that they make.
+-- Entries as packed numbers: sixteen times the number of bits, plus the number that they make.
 use Rattle.std.specs.Prelude.{◌≤◌, ◌<◌, ℕ, ◌/◌, ◌%◌, ◌^◌, List, ◌∷◌, map}
 use Rattle.item_defs.specs.Bits.{bits_of}
 use Rattle.plane_defs.specs.declared.entries.Entry.{Entry}

@@ -17,10 +17,10 @@ pub record Counts (old new : Tally) (entries : List Entry) (rise : ℕ) : Type 0
   pub at : (n s : ℕ) → 2 ≤ n → n ≤ 4 → s < 16 → count_at new n s ≡ count_at old n s + count_by (has_symbol n s) entries
   pub most : (i : ℕ) → get_or new.counts i 0 ≤ get_or old.counts i 0 + rise
 
--- no count is above this
+-- no count is above `most`
 pub record AreAtMost (t : Tally) (most : ℕ) : Type 0 where
   pub at : (i : ℕ) → get_or t.counts i 0 ≤ most
 
--- the counts of these entries alone
+-- the counts of exactly these entries
 pub record CountsOf (t : Tally) (entries : List Entry) : Type 0 where
   pub at : (n s : ℕ) → 2 ≤ n → n ≤ 4 → s < 16 → count_at t n s ≡ count_by (has_symbol n s) entries

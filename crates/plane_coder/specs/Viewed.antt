@@ -13,7 +13,7 @@ pub record IsView (block : List ℤ) (plane : ℕ) (m : Masks) : Type 0 where
   pub bits : Shows m.bits (λ p. bit (magnitude block p) plane) 0 64
   pub negative : Shows m.negative (λ p. negative (get_or block p (pos 0))) 0 64
 
--- the masks that are kept are those of their blocks
+-- the kept masks are the masks of their blocks
 pub record AreKept (blocks : List ℤ) (plane : ℕ) (kept : List (Option Masks)) : Type 0 where
   pub at : (r : ℕ) (m : Masks) → get_or kept r None ≡ Some m → IsView (slice_range blocks (64 * r) (64 * r + 64)) plane m
 

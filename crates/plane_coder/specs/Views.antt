@@ -1,4 +1,4 @@
--- The plane that a call is about.
+-- The plane that a call codes.
 use Rattle.std.specs.Prelude.{ℕ, ℤ, List}
 use Rattle.wave_defs.specs.Held.{blocks_in}
 use Rattle.plane_defs.specs.Planes.{Plane}
@@ -6,7 +6,7 @@ use Rattle.block_masks.specs.declared.plan.PlanePlan.{PlanePlan}
 use Rattle.plane_coder.specs.declared.plane.Source.{Source}
 use Rattle.plane_coder.specs.declared.view.View.{View}
 
--- with the blocks' depths as the marks tell them
+-- the plane with the blocks' depths from their states
 abbrev pub plane_of : List ℤ → List ℕ → PlanePlan → Plane
 plane_of cells depths plan =
     record { blocks = blocks_in cells; depths = depths; weights = plan.weights.shifts; number = plan.plane; q = plan.q }

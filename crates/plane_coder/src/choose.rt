@@ -55,7 +55,7 @@ fn best_options(book: &Book, tally: &Tally) -> [u8; 3]
     ]
 }
 
-// The options of gaggle g.
+// Returns the options of gaggle g.
 fn choose_options(view: &View, marks: &[i32], g: usize) -> [u8; 3]
     requires whole { length view.now.blocks.now ≡ 64 * length marks.now }
     requires within { 16 * g < length marks.now }
@@ -66,7 +66,7 @@ fn choose_options(view: &View, marks: &[i32], g: usize) -> [u8; 3]
     best_options(&view.tables.book, &tally)
 }
 
-// Keeps the options of each gaggle in the marks, with no word sent yet.
+// Stores the options of each gaggle in the states, with no word sent yet.
 pub(crate) fn choose_all(view: &View, marks: &mut [i32])
     requires whole { length view.now.blocks.now ≡ 64 * length marks.old }
     ensures { Chooses view.now marks.old marks.new }

@@ -10,7 +10,7 @@ ghost use Rattle.plane_coder.specs.Fours.{AreFours, ArePicked};
 use crate::plane_masks::Typed;
 use block_masks::{joined, part};
 
-// For four positions of both masks of `Fours`, the word of the types that are due, as it is picked.
+// The entry for four positions of both masks of `Fours`: the word of the types that are due, as a packed number.
 const WORDS: [[u8; 16]; 16] = [
     [
         0, 17, 17, 35, 17, 35, 35, 55, 17, 35, 35, 55, 35, 55, 55, 79,
@@ -62,7 +62,7 @@ const WORDS: [[u8; 16]; 16] = [
     ],
 ];
 
-// The signs after that word, as they are picked.
+// The signs after that word, as a packed number.
 const SIGNS: [[u8; 16]; 16] = [
     [
         0, 17, 17, 35, 17, 35, 35, 55, 17, 35, 35, 55, 35, 55, 55, 79,
@@ -114,12 +114,12 @@ const SIGNS: [[u8; 16]; 16] = [
     ],
 ];
 
-// For each mask of up to four sets: the positions of these sets, four of each.
+// The entry for each mask of up to four sets: the positions of these sets, four of each.
 const FILLED: [u16; 16] = [
     0, 15, 240, 255, 3840, 3855, 4080, 4095, 61440, 61455, 61680, 61695, 65280, 65295, 65520, 65535,
 ];
 
-// The positions of the sets of a mask, where each set has four positions.
+// Returns the positions of the sets of a mask, if each set has four positions.
 #[inline(always)]
 pub(crate) fn filled(sets: u64) -> u64
     requires { sets < 16 }
@@ -128,7 +128,7 @@ pub(crate) fn filled(sets: u64) -> u64
     u64::from(FILLED[sets as usize])
 }
 
-// For each mask of two sets of four positions, the sets that have a position.
+// The entry for each mask of two sets of four positions: the sets that have a position.
 const SOME: [u8; 256] = [
     0, 1, 1, 1, 1, 1, 1, 1, 1, 1, 1, 1, 1, 1, 1, 1, 2, 3, 3, 3, 3, 3, 3, 3, 3, 3, 3, 3, 3, 3, 3, 3,
     2, 3, 3, 3, 3, 3, 3, 3, 3, 3, 3, 3, 3, 3, 3, 3, 2, 3, 3, 3, 3, 3, 3, 3, 3, 3, 3, 3, 3, 3, 3, 3,
@@ -140,7 +140,7 @@ const SOME: [u8; 256] = [
     2, 3, 3, 3, 3, 3, 3, 3, 3, 3, 3, 3, 3, 3, 3, 3, 2, 3, 3, 3, 3, 3, 3, 3, 3, 3, 3, 3, 3, 3, 3, 3,
 ];
 
-// Of the two sets of four positions from `at` on, those that have a position in a mask of all positions.
+// Returns which of the two sets of four positions from `at` on have a position in a mask of all positions.
 #[inline(always)]
 fn two_sets(mask: u64, at: u8) -> u64
     requires within { at + 8 ≤ 64 }
@@ -150,7 +150,7 @@ fn two_sets(mask: u64, at: u8) -> u64
     u64::from(SOME[part(mask, at, 8) as usize])
 }
 
-// Of the four sets of four positions from `at` on, those that have a position in a mask of all positions.
+// Returns which of the four sets of four positions from `at` on have a position in a mask of all positions.
 #[inline(always)]
 pub(crate) fn four_sets(mask: u64, at: u8) -> u64
     requires { at + 16 ≤ 64 }
@@ -168,7 +168,7 @@ pub(crate) struct Fours {
 }
 
 impl Fours {
-    // The word of the types of four positions, and their signs. If no type is due there, both have no bit.
+    // Returns the word of the types of four positions, and their signs. If no type is due there, both have no bit.
     #[inline(always)]
     pub fn four(&self, at: u8) -> Typed
         requires { at + 4 ≤ 16 }

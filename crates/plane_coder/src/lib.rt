@@ -1,12 +1,12 @@
-//! A bit plane of a segment, written as raw bits and coded words (docs/formats.md, "Bit planes" and "Words and codes").
+//! This crate writes a bit plane of a segment as raw bits and coded words (docs/formats.md, "Bit planes" and "Words and codes").
 //!
-//! `masks` reads what the numbers of a block are in a plane, and `seen` tells of each set of positions and flags which
-//! word and signs it sends, by masks and look-ups. `fours` looks up the types of four positions with their signs, without a
-//! test whether their set is significant. `view` keeps the masks of the first blocks for all stages: `choose` has
-//! `tally` count the words of a gaggle and takes its options, then `stages` has `put` go through the blocks, where `say`
-//! gathers the bits in a `pending`. The marks keep the options meanwhile.
+//! `masks` computes what the numbers of a block are in a plane. `plane_masks` has the word and the signs that each set of
+//! positions and flags sends, by masks and tables. `fours` looks up the types of four positions with their signs, without a
+//! test of whether their set is significant. `view` keeps the masks of the first blocks for all stages. `choose` counts the
+//! words of a gaggle with `tally` and chooses its options. Then `stages` goes over the blocks with `put`, and `pushes`
+//! collects the bits in a `pending`. The states of the blocks keep the options meanwhile.
 //!
-//! What the reader of planes needs too stands in `block_masks`: plans, masks, sets of positions and what marks keep.
+//! `block_masks` has what the reader of planes needs too: plans, masks, sets of positions and the states of blocks.
 #![tactic(auto)]
 
 mod choose;

@@ -5,7 +5,7 @@ ghost use Rattle.plane_coder.specs.Viewed.{IsView, AreKept};
 
 use block_masks::{all_having_bit, all_negative, all_reaching, depth_of, either};
 
-// For each position: the number is significant above the plane, has the plane's bit, and is negative.
+// Masks of the positions whose number is significant above the plane, has the plane's bit, or is negative.
 #[derive(Clone, Copy)]
 pub(crate) struct Masks {
     pub above: u64,
@@ -43,7 +43,7 @@ impl Masks {
     }
 }
 
-// The masks of a block that is deep enough to have a bit of the plane.
+// Returns the masks of a block that is deep enough to have a bit of the plane.
 #[inline(always)]
 fn deep_masks(block: &[i32], depth: u8, plane: u8) -> Option<Masks>
     requires whole { length block.now ≡ 64 }

@@ -9,7 +9,7 @@ ghost use Rattle.plane_coder.specs.Picked.{IsPacked};
 use crate::tables::{CodeTables, NOTHING};
 use base_122::Code;
 
-// Where the tables have the codes of each length of words from 0 on, each under one of its options.
+// Returns the index of the codes of each length of words from 0 on, each under one of its options.
 #[inline(always)]
 fn rows_of(options: [u8; 3]) -> [u8; 5]
     requires { AreOptions options }
@@ -55,7 +55,7 @@ impl<'a> OptionCodes<'a> {
         }
     }
 
-    // The code of a picked word.
+    // Returns the code of a picked word.
     #[inline(always)]
     pub fn code(&self, word: u8) -> Code
         requires { IsPacked word }

@@ -1,4 +1,4 @@
-// What a gaggle says, as bits on their way.
+// The bits of a gaggle that are not put yet.
 
 ghost use Rattle.std.specs.Prelude.{◌≡◌, ◌+◌, ◌-◌, ◌/◌, ◌%◌, ◌≤◌, ◌<◌, ◌^◌, ◌++◌, [], ◌∷◌, ℕ, false, true, slice_index_or, slice_set};
 ghost use Rattle.item_defs.specs.Bits.{bits_of};
@@ -22,7 +22,7 @@ fn identifier_width(length: u8) -> u8
     if length < 3 { 1 } else { 2 }
 }
 
-// The number that names an option: the uncoded one is all ones.
+// Returns the identifier of an option: that of the uncoded one is all ones.
 fn identifier_number(length: u8, option: u8) -> u8
     requires short { 2 ≤ length }
     requires long { length ≤ 4 }
@@ -36,13 +36,13 @@ fn identifier_number(length: u8, option: u8) -> u8
     option
 }
 
-// Up to 63 bits that are put together, and the gaggle after them.
+// Up to 63 bits that are collected, and the state of the gaggle after them.
 #[derive(Drop)]
 pub(crate) struct PendingBits {
     value: u64,
     count: u8,
     pub gaggle: Gaggle,
-    // For each length of words from 0 on: no identifier is due before the next word of that length.
+    // For each length of words from 0 on: whether no identifier is due before the next word of that length.
     opened: [bool; 5],
     ghost fits: { value < 2 ^ count },
     ghost most: { count + unopened gaggle.sent ≤ 63 },
@@ -53,7 +53,7 @@ pub(crate) struct PendingBits {
 impl PendingBits {
     ghost use Rattle.plane_coder.specs.Appends.{Appends, load, said, Opens};
 
-    // Nothing so far.
+    // Returns a collection without bits.
     #[inline(always)]
     pub fn new(gaggle: Gaggle) -> PendingBits
         requires { AreOptions gaggle.options }
@@ -81,7 +81,7 @@ impl PendingBits {
         self.count += count;
     }
 
-    // The identifier of an option, before the first word of its length.
+    // Adds the identifier of an option, before the first word of its length.
     #[cold]
     #[inline(never)]
     fn open(&mut self, length: u8)
@@ -100,7 +100,7 @@ impl PendingBits {
         self.push(identifier_number(length, option), identifier_width(length));
     }
 
-    // The identifier before a word of this length, where it is the first.
+    // Adds the identifier before a word of this length, if the word is the first.
     #[inline(always)]
     fn open_first(&mut self, length: u8)
         requires { length ≤ 4 }
@@ -113,7 +113,7 @@ impl PendingBits {
         self.open(length);
     }
 
-    // A word.
+    // Adds a word.
     #[inline(always)]
     pub fn word(&mut self, option_codes: &OptionCodes, word: u8)
         requires packed { IsPacked word }
@@ -126,7 +126,7 @@ impl PendingBits {
         self.push(code.bits, code.len);
     }
 
-    // Raw bits.
+    // Adds raw bits.
     #[inline(always)]
     pub fn raws(&mut self, raws: u8)
         requires packed { IsPacked raws }
@@ -136,7 +136,7 @@ impl PendingBits {
         self.push(raws % 16, raws / 16);
     }
 
-    // A word of types and the signs after it.
+    // Adds a word of types and the signs after it.
     #[inline(always)]
     pub fn typed(&mut self, option_codes: &OptionCodes, typed: Typed)
         requires packed { ArePacked typed }

@@ -1,4 +1,4 @@
-// A plane of a segment.
+// The writer of a plane of a segment.
 
 ghost use Rattle.std.specs.Prelude.{◌≡◌, ◌+◌, ◌*◌, ◌≤◌, IsTrue, length};
 ghost use Rattle.item_defs.specs.Items.{text};
@@ -18,7 +18,7 @@ use base_122::Book;
 use bit_pipe::{BitOut, OctetOut, PutFault};
 use block_masks::{CodedPlane, PlanePlan};
 
-// Puts the stages of a plane up to the last one asked, with the options of fewest bits.
+// Puts the stages of a plane up to its last one, with the options of fewest bits.
 pub(crate) fn put_stages<O: OctetOut>(
     out: &mut BitOut<O>,
     view: &View,
@@ -126,12 +126,12 @@ fn put_many<O: OctetOut>(
 /// Puts a bit plane of a segment up to the plan's last stage (docs/formats.md, "Bit planes" and "Words
 /// and codes").
 ///
-/// `blocks` has 64 numbers for each block, `marks` one number for each, whose lowest five bits are the
-/// block's depth. The words of a gaggle go out by the options that take the fewest bits over its words of
-/// stages 1 to 3, whichever stages are sent. `Stopped` comes exactly where the bits don't all fit in the
-/// bound; those that fit were put. The book is sound, the plane at most 26 and the last stage at most 4.
+/// `blocks` has 64 numbers for each block, and `marks` one number for each, its state, whose lowest five bits
+/// are the block's depth. The words of a gaggle are coded with the options that take the fewest bits over its
+/// words of stages 1 to 3, whichever stages are sent. Returns `Stopped` exactly if the bits do not all fit in
+/// the bound; those that fit were put. The book is sound, the plane at most 26 and the last stage at most 4.
 ///
-/// The other bits of the marks are free, and the call writes there; the depths stay, whatever it answers.
+/// The other bits of `marks` are free, and the call overwrites them. The depths stay, whatever it returns.
 pub fn put_plane<O: OctetOut>(
     out: &mut BitOut<O>,
     blocks: &[i32],
@@ -150,7 +150,7 @@ pub fn put_plane<O: OctetOut>(
     put_plane_with(out, blocks, marks, plan, &CodeTables::new(book))
 }
 
-/// The same with tables that were made before: they serve all planes of a segment.
+/// Puts a bit plane, as `put_plane` does, with tables that were made before. The same tables are right for all planes of a segment.
 pub fn put_plane_with<O: OctetOut>(
     out: &mut BitOut<O>,
     blocks: &[i32],

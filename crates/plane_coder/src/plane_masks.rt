@@ -1,4 +1,4 @@
-// A block as a plane sees it.
+// The masks of a block in a plane, and what they send.
 
 ghost use Rattle.std.specs.Prelude.{◌≡◌, ◌<◌, ◌≤◌, ◌+◌, ◌-◌, ◌*◌, ◌/◌, ◌&&◌, ℕ, Bool, true, pos, [], ◌∷◌, length, map, slice_index_or};
 ghost use Rattle.item_defs.specs.Bits.{bit};
@@ -64,7 +64,7 @@ impl<'a> PlaneMasks<'a> {
         }
     }
 
-    // The types of up to four positions, and their signs.
+    // Returns the types of up to four positions, and their signs.
     #[inline(always)]
     pub fn types(&self, at: u8, count: u8) -> Typed
         requires few { count ≤ 4 }
@@ -80,7 +80,7 @@ impl<'a> PlaneMasks<'a> {
         }
     }
 
-    // The types of some positions, of those that a mask has.
+    // Returns the types of those of some positions that a mask has.
     #[inline(always)]
     fn types_in(&self, at: u8, count: u8, among: u64) -> Fours
         requires few { count ≤ 16 }
@@ -97,7 +97,7 @@ impl<'a> PlaneMasks<'a> {
         }
     }
 
-    // The types of the children of significant families.
+    // Returns the types of the children of significant families.
     #[inline(always)]
     pub fn types_of_children(&self, sets: Sets) -> Fours
         requires { AreSets (significant self.now.block.now self.now.plan.now.plane) sets }
@@ -106,7 +106,7 @@ impl<'a> PlaneMasks<'a> {
         self.types_in(4, 12, filled(sets.families))
     }
 
-    // The types of the significant sets of four grandchildren in family i.
+    // Returns the types of the significant sets of four grandchildren in family i.
     #[inline(always)]
     pub fn types_of_quads(&self, i: u8) -> Fours
         requires { i < 3 }
@@ -115,7 +115,7 @@ impl<'a> PlaneMasks<'a> {
         self.types_in(16 + 16 * i, 16, filled(self.quads(i)))
     }
 
-    // The sets that are significant in the plane.
+    // Returns the sets that are significant in the plane.
     #[inline(always)]
     pub fn sets(&self) -> Sets
         ensures { AreSets (significant self.now.block.now self.now.plan.now.plane) result }
@@ -123,7 +123,7 @@ impl<'a> PlaneMasks<'a> {
         Sets::of(self.reached)
     }
 
-    // The flag of all descendants, where it is due.
+    // Returns the flag of all descendants, if it is due.
     #[inline(always)]
     pub fn flag_of_all(&self) -> u8
         ensures flag { raws_of result ≡ map BitEntry (flags self.now.block.now self.now.plan.now.weights.shifts self.now.plan.now.plane (Descendants ∷ [])) }
@@ -136,7 +136,7 @@ impl<'a> PlaneMasks<'a> {
         pick(new, one(self.sets().descendants))
     }
 
-    // The flags of the families.
+    // Returns the flags of the families.
     #[inline(always)]
     pub fn flags_of_families(&self) -> u8
         ensures flags { word_of result ≡ word (flags self.now.block.now self.now.plan.now.weights.shifts self.now.plan.now.plane (Family 0 ∷ Family 1 ∷ Family 2 ∷ [])) }
@@ -147,7 +147,7 @@ impl<'a> PlaneMasks<'a> {
         pick(masked(new, sets.descendants), sets.families)
     }
 
-    // The flags of the families' grandchildren.
+    // Returns the flags of the families' grandchildren.
     #[inline(always)]
     pub fn flags_of_grandchildren(&self) -> u8
         ensures flags { word_of result ≡ word (flags self.now.block.now self.now.plan.now.weights.shifts self.now.plan.now.plane (Grandchildren 0 ∷ Grandchildren 1 ∷ Grandchildren 2 ∷ [])) }
@@ -161,7 +161,7 @@ impl<'a> PlaneMasks<'a> {
         pick(both(new, sets.families), sets.grandchildren)
     }
 
-    // The sets of four grandchildren in family i that are significant in the plane.
+    // Returns the sets of four grandchildren in family i that are significant in the plane.
     #[inline(always)]
     pub fn quads(&self, i: u8) -> u64
         requires { i < 3 }
@@ -170,7 +170,7 @@ impl<'a> PlaneMasks<'a> {
         four_sets(self.reached, 16 + 16 * i)
     }
 
-    // The flags of the four sets of grandchildren in a family whose grandchildren are significant.
+    // Returns the flags of the four sets of grandchildren in a family whose grandchildren are significant.
     #[inline(always)]
     pub fn flags_of_quads(&self, i: u8) -> u8
         requires family { i < 3 }
@@ -183,7 +183,7 @@ impl<'a> PlaneMasks<'a> {
         pick(new, self.quads(i))
     }
 
-    // The positions whose bits refine a number.
+    // Returns the positions whose bits refine a number.
     #[inline(always)]
     pub fn refined(&self) -> u64
         ensures { Shows result (is_refined self.now.block.now self.now.plan.now.weights.shifts self.now.plan.now.plane) 0 64 }
@@ -191,7 +191,7 @@ impl<'a> PlaneMasks<'a> {
         both(self.above, self.plan.coded)
     }
 
-    // Their bits, of which up to four are picked.
+    // Returns their bits, of which up to four are picked.
     #[inline(always)]
     pub fn refinement(&self, refined: u64, at: u8, count: u8) -> u8
         requires few { count ≤ 4 }

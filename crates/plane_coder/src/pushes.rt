@@ -1,4 +1,4 @@
-// What a block says in stages 1 to 4.
+// The bits of a block in stages 1 to 4.
 
 ghost use Rattle.std.specs.Prelude.{◌≡◌, ◌+◌, ◌-◌, ◌*◌, ◌≤◌, ◌<◌, true, [], cond};
 ghost use Rattle.plane_defs.specs.Spans.{span};
@@ -84,7 +84,7 @@ fn push_quads_types(
     }
 }
 
-// The sets of four grandchildren in a family whose grandchildren are significant.
+// Adds the flags and the types of the sets of four grandchildren in a family whose grandchildren are significant.
 #[inline(always)]
 pub(crate) fn push_quads(
     pending: &mut PendingBits,
@@ -103,7 +103,7 @@ pub(crate) fn push_quads(
     push_quads_types(pending, option_codes, plane_masks, i);
 }
 
-// The refinement bits of the positions from 4 times `from` to 4 times `to`.
+// Adds the refinement bits of the positions from 4 times `from` to 4 times `to`.
 #[inline(always)]
 pub(crate) fn push_refinement(
     pending: &mut PendingBits,

@@ -21,7 +21,7 @@ use bit_pipe::{BitOut, OctetOut, PutFault};
 use block_masks::{CodedPlane, Sets, has, is_any_of};
 use plane_defs::Stage;
 
-// The bit of weight 2^place of a two's complement form.
+// Returns the bit of weight 2^place of a two's complement form.
 fn twos_bit_at(number: i32, place: u8) -> bool
     requires { place < 32 }
     ensures { result ≡ twos_bit number place }
@@ -29,7 +29,7 @@ fn twos_bit_at(number: i32, place: u8) -> bool
     (number >> place) & 1 == 1
 }
 
-// The DC part left the plane's bit out, and it can be other than 0.
+// Returns whether the plane's bit of the DC was not in the DC part and can be other than 0.
 fn is_dc_bit_due(plan: &CodedPlane) -> bool
     ensures { result ≡ (coded plan.now.weights.shifts plan.now.plane 0 && nat_lt plan.now.plane plan.now.q) }
 {
@@ -90,7 +90,7 @@ fn put_children<O: OctetOut>(
     pending.put(out)
 }
 
-// The sets of four grandchildren in family i, where its grandchildren are significant.
+// Puts the sets of four grandchildren in family i, if its grandchildren are significant.
 #[inline(always)]
 fn put_quads<O: OctetOut>(
     out: &mut BitOut<O>,

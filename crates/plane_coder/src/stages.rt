@@ -82,7 +82,7 @@ fn put_gaggle<O: OctetOut>(
     Ok(())
 }
 
-// Puts a stage of all blocks, with the options and flags that the marks keep.
+// Puts a stage of all blocks, with the options and flags that the states keep.
 pub(crate) fn put_stage<O: OctetOut>(
     out: &mut BitOut<O>,
     number: u8,

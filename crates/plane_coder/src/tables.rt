@@ -1,4 +1,4 @@
-// The codes of words, by how a word is picked.
+// The codes of words, by the packed number of a word.
 
 ghost use Rattle.std.specs.Prelude.{◌≡◌, ◌+◌, ◌<◌, ◌≤◌, ◌/◌, ◌%◌, ◌^◌, ℕ, IsTrue, slice_index_or};
 ghost use Rattle.plane_defs.specs.Codes.{is_book_sound, no_code};
@@ -10,19 +10,19 @@ use word_codes::code_of_word;
 
 pub(crate) const NOTHING: Code = Code { bits: 0, len: 0 };
 
-/// The code of each word under each option of its length, as a sound book gives them (docs/formats.md, "Words and
-/// codes"). Made once, it serves all planes of a segment.
+/// The code of each word under each option of its length, as a sound book has them (docs/formats.md, "Words and
+/// codes"). The tables are made once, and are right for all planes of a segment.
 #[derive(Drop)]
 pub struct CodeTables {
     /// The book that the tables are of.
     pub book: Book,
-    // No word, words of one bit, then the options of words of two, three and four bits.
+    // An empty word, words of one bit, then the options of words of two, three and four bits.
     pub(crate) rows: [[Code; 16]; 11],
     ghost sound: { IsTrue (is_book_sound book) },
     ghost coded: { (n option v : ℕ) → IsWordOf n option v → IsCodeOf book n option v (code_in rows (row_of n option) v) },
 }
 
-// The codes of the words of this length under an option, by their values.
+// Returns the codes of the words of this length under an option, by their values.
 fn codes_of(book: &Book, length: u8, option: u8) -> [Code; 16]
     requires sound { IsTrue (is_book_sound book.now) }
     requires short { 2 ≤ length }
@@ -37,7 +37,7 @@ fn codes_of(book: &Book, length: u8, option: u8) -> [Code; 16]
     codes
 }
 
-// A word of one bit is its own code.
+// Returns the codes of words of one bit, which are the words themselves.
 fn raw_codes() -> [Code; 16]
     ensures { (book : BookValue) (v : ℕ) → v < 2 → IsCodeOf book 1 0 v (slice_index_or result v no_code) }
 {
@@ -48,7 +48,7 @@ fn raw_codes() -> [Code; 16]
 }
 
 impl CodeTables {
-    /// What a sound book gives.
+    /// Returns the tables of a sound book.
     pub fn new(book: &Book) -> CodeTables
         requires { IsTrue (is_book_sound book.now) }
         ensures { result.book ≡ book.now }

@@ -9,8 +9,8 @@ ghost use Rattle.plane_defs.specs.Entries.{typed, parents, children, children_ty
 use crate::plane_masks::PlaneMasks;
 use block_masks::{Sets, has};
 
-// Where each word is counted, as it is picked: sixteen times its length, and its symbol. Words of a bit or none have
-// places of their own that nothing reads.
+// The place at which each word is counted, by its packed number: sixteen times its length, plus its symbol. Words of
+// one bit or none have places of their own that nothing reads.
 const PLACES: [u8; 80] = [
     0, 0, 0, 0, 0, 0, 0, 0, 0, 0, 0, 0, 0, 0, 0, 0, 16, 16, 16, 16, 16, 16, 16, 16, 16, 16, 16, 16,
     16, 16, 16, 16, 32, 34, 33, 35, 32, 32, 32, 32, 32, 32, 32, 32, 32, 32, 32, 32, 48, 51, 50, 54,
@@ -137,7 +137,7 @@ impl Tally {
         self.add_grandchildren(plane_masks, sets);
     }
 
-    // How many words of this length have each symbol.
+    // Returns how many words of this length have each symbol.
     pub fn counts_of(&self, length: u8) -> [u32; 16]
         requires short { 2 ≤ length }
         requires long { length ≤ 4 }

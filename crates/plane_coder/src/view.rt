@@ -1,4 +1,4 @@
-// What a call reads and never changes.
+// The inputs of a call, which never change.
 
 ghost use Rattle.std.specs.Prelude.{◌≡◌, ◌+◌, ◌*◌, ◌<◌, ◌≤◌, length, slice_range};
 ghost use Rattle.plane_coder.specs.Viewed.{IsView, AreKept};
@@ -8,8 +8,8 @@ use crate::plane_masks::PlaneMasks;
 use crate::tables::CodeTables;
 use block_masks::CodedPlane;
 
-// The blocks of a segment, 64 numbers each, with the plane and the codes. The masks that are kept serve all stages; those
-// of other blocks are made anew in each.
+// The blocks of a segment, 64 numbers each, with the plane and the codes. The masks that are kept are used in all stages;
+// those of other blocks are computed again in each.
 #[derive(Drop)]
 pub(crate) struct View<'a> {
     pub blocks: &'a [i32],
@@ -33,7 +33,7 @@ impl<'a> View<'a> {
         Masks::new(&self.blocks[64 * r..64 * r + 64], self.plan.plane)
     }
 
-    // Block r as the plane sees it.
+    // Returns the masks of block r in the plane.
     #[inline(always)]
     pub fn plane_masks(&self, r: usize) -> PlaneMasks<'a>
         requires { 64 * r + 64 ≤ length self.now.blocks.now }

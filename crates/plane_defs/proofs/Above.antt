@@ -1,4 +1,4 @@
--- Blocks whose AC numbers reach the plane above alike: what a word says settles where its numbers or sets reach the plane.
+-- Blocks whose AC numbers have the same significance in the plane above: a word determines which of its numbers or sets reach the plane.
 use Rattle.std.proofs.Common.{◌≡◌, ℕ, zero, suc, ◌+◌, ◌<◌, ◌≤◌, Bool, false, not, ◌&&◌, List, [], ◌∷◌, ◌++◌, refl, ap, sym, ◌∙◌, ℤ, arith}
 use Rattle.std.specs.Prelude.{filter, ◌||◌}
 use Rattle.std.specs.List.{list_any, AllByRecursion}

@@ -52,7 +52,7 @@ flat_parts f g [] alike e = tt
 flat_parts f g (x ∷ xs) alike e =
     let r = split_steps (f x) (g x) (flat_map f xs) (flat_map g xs) alike.0 e in (r.0, flat_parts f g xs alike.1 r.1)
 
--- raw bits that tell the same
+-- raw bits that report the same
 bits_same : {X : Type 0} (f g : X → Bool) (tell : X → Told) (xs : List X) →
     SameSteps (map (λ x. step free (tell x) (Bit (f x))) xs) (map (λ x. step free (tell x) (Bit (g x))) xs)
 bits_same f g tell [] = tt
@@ -121,9 +121,9 @@ at_span P start (suc count) p all low high =
       | inr last ↦ let here : start + count ≡ p = omega arith in subst P here parts.1.0
     ]
 
--- ---- what each set goes by
+-- ---- what each set depends on
 
--- a set that isn't significant has no significant member
+-- a set that is not significant has no significant member
 pub in_family : (w : List ℤ) (plane i : ℕ) → set_significant w plane (Family i) ≡ false → list_any (significant w plane) (span (children_of i) 4) ≡ false
 unfolding set_significant
 in_family w plane i h = (or_parts _ _ (sym (list_any-append (significant w plane) (span (children_of i) 4) (span (grandchildren_of i) 16)) ∙ h)).0

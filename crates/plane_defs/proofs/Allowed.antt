@@ -40,7 +40,7 @@ inside_map : {X : Type 0} (f : X → Bool) (xs : List X) → AllByRecursion (λ 
 inside_map f [] all = tt
 inside_map f (x ∷ xs) all = (all.0, inside_map f xs all.1)
 
--- those that are due are none of them so
+-- if the word is 0, none of those that are due has the property
 zero_word : {X : Type 0} (f d : X → Bool) (xs : List X) → value_of (map f (filter d xs)) ≡ 0 → AllByRecursion (λ x. d x ≡ true → f x ≡ false) xs
 zero_word f d xs none = of_filter (λ x. f x ≡ false) d xs (inside_map f (filter d xs) (zero_bits (map f (filter d xs)) none))
 
@@ -68,7 +68,7 @@ some_one_allowed true w h = not_true (eqb w 0) (λ e. h refl (zero_from w e))
     zero_from n e = grind (arith, nat_tests)
 some_one_allowed false w h = refl
 
--- each bit that is wanted is there
+-- no wanted bit is missing
 lacks_none : {X : Type 0} (want f : X → Bool) (xs : List X) → AllByRecursion (λ x. want x ≡ true → f x ≡ true) xs → lacks_one (map want xs) (map f xs) ≡ false
 lacks_none want f [] all = refl
 lacks_none want f (x ∷ xs) all = ap (λ b. b || lacks_one (map want xs) (map f xs)) (met (want x) (f x) all.0) ∙ lacks_none want f xs all.1
@@ -300,7 +300,7 @@ module _ (block : List ℤ) (weights : List ℕ) (plane : ℕ) (whole : IsMultip
       if_sent true steps all = all
       if_sent false steps all = tt
 
--- so the types of the children aren't empty where they must have a one
+-- the types of the children are not empty if one of them must be 1
 pub some_due : (block : List ℤ) (weights : List ℕ) (plane i : ℕ) → IsMultiple block weights → i < 3 →
     is_new block plane (Family i) ≡ true → live weights plane (Grandchildren i) ≡ false → types block weights plane (span (children_of i) 4) ≡ [] → ⊥
 unfolding value_of

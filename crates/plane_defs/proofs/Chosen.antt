@@ -1,4 +1,4 @@
--- Sets that are chosen as a word wants them.
+-- Sets that are chosen to match a word.
 use Rattle.std.proofs.Common.{◌≡◌, ℕ, ◌+◌, ◌<◌, ◌≤◌, Bool, true, false, cond, List, [], ◌∷◌, refl, ap, ◌∙◌, subst, arith}
 use Rattle.std.specs.Prelude.{◌||◌, ◌&&◌, ◌==◌}
 use Rattle.std.specs.List.{list_any, AllByRecursion}
@@ -17,7 +17,7 @@ equal_from m n e = grind (arith, nat_tests)
 equal_self : (p : ℕ) → (p == p) ≡ true
 equal_self p = grind (arith, nat_tests)
 
--- each element of a list stands in it
+-- each element of a list is in the list
 all_inside : (xs : List ℕ) → AllByRecursion (λ p. list_any (λ q. q == p) xs ≡ true) xs
 all_inside [] = tt
 all_inside (x ∷ xs) = (
@@ -54,7 +54,7 @@ module _ (sets : ℕ → Set) (owner : ℕ → ℕ) (count : ℕ) (free wanted :
       any_equal (chosen_anew owner free wanted pick chosen) (λ p. wanted j && (p == pick j)) (members (sets j)) (in_set true below e)
       ∙ any_and (wanted j) (λ p. p == pick j) (members (sets j)) inside
 
--- ---- where a member lies
+-- ---- the place of a member
 
 found : (P : ℕ → Type 0) (p : ℕ) (xs : List ℕ) → AllByRecursion P xs → list_any (λ q. q == p) xs ≡ true → P p
 found P p [] all e = cc

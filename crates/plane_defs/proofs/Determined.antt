@@ -1,4 +1,4 @@
--- A set whose flag is not due is significant at a plane exactly where it is at the plane above.
+-- A set whose flag is not due is significant at a plane exactly if it is at the plane above.
 use Rattle.std.proofs.Common.{◌≡◌, ℕ, zero, suc, ◌+◌, ◌*◌, ◌<◌, ◌≤◌, ◌^◌, ◌⊎◌, inl, inr, Bool, true, false, not, ◌&&◌, List, [], ◌∷◌, refl, ap, sym, ◌∙◌, subst, arith, ℤ, add-one}
 use Rattle.std.specs.Prelude.{nat_le, ◌||◌}
 use Rattle.std.specs.List.{list_any}
@@ -45,7 +45,7 @@ list_any-span-within p start (suc count) skipped whole fits h =
         let place : (start + skipped) + count ≡ start + (skipped + count) = omega arith in
         list_any-span-here p start whole (skipped + count) (omega arith) (ap p (sym place) ∙ e)
 
--- a set lies in the set that encloses it
+-- a set is part of the set that encloses it
 pub enclosed : (block : List ℤ) (plane : ℕ) (s : Set) → IsKnown s → set_significant block plane s ≡ true → enclosing_significant block plane s ≡ true
 unfolding set_significant enclosing_significant
 enclosed block plane Descendants known h = refl
@@ -67,7 +67,7 @@ both_reached n n' m h h' = grind arith
 both_missed : (n n' : ℕ) → 0 < n → 0 < n' → nat_le n 0 ≡ nat_le n' 0
 both_missed n n' h h' = grind arith
 
--- below its shift a number has no bit
+-- a number has no bit below its shift
 below_shift : (m plane shift part : ℕ) → m ≡ 2 ^ shift * part → plane < shift → nat_le (2 ^ plane) m ≡ nat_le (2 ^ (plane + 1)) m
 below_shift m plane shift zero whole low =
     let none : m ≡ 0 = omega arith in
@@ -119,7 +119,7 @@ settled false here false enclosing kept dead inside h = dead refl
 settled false true true enclosing kept dead inside h = sym (inside refl) ∙ h
 settled false false true enclosing kept dead inside h = refl
 
--- what is sent settles the rest: a set whose flag is not due is significant just where it was
+-- what is sent determines the rest: a set whose flag is not due is significant exactly if it was
 pub undue : (block : List ℤ) (weights : List ℕ) (plane : ℕ) (s : Set) → IsKnown s → IsMultiple block weights → flag_due block weights plane s ≡ false →
     set_significant block plane s ≡ set_significant block (plane + 1) s
 unfolding flag_due set_significant live

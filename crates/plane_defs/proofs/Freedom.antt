@@ -1,4 +1,4 @@
--- The flags of free sets may be had in any way.
+-- The flags of free sets may have any values.
 use Rattle.std.proofs.Common.{◌≡◌, ℕ, ◌+◌, ◌<◌, Bool, true, false, cond, List, refl, ap, sym, ◌∙◌, subst, ℤ}
 use Rattle.std.specs.Prelude.{◌||◌, ◌&&◌, ◌==◌}
 use Rattle.std.specs.List.{list_any}
@@ -36,7 +36,7 @@ module _ (sets : ℕ → Set) (owner : ℕ → ℕ) (count : ℕ) (block : List 
   abbrev other : ℕ → Bool
   other = chosen_anew owner free wanted pick chosen
 
-  -- a number that is chosen anew is some pick, or was chosen before
+  -- a number that is newly chosen is some pick, or was chosen before
   by_owner : (P : ℕ → Type 0) → ((j : ℕ) → free j ≡ true → P (pick j)) → ((p : ℕ) → chosen p ≡ true → P p) → (p : ℕ) → other p ≡ true → P p
   by_owner P picked kept p h = by_free (free (owner p)) refl h
     where

@@ -1,4 +1,4 @@
--- Two planes whose AC numbers above are the same have items that step alike; a whole plane that says the same settles its numbers.
+-- Two planes whose AC numbers above are the same have items that step alike; a whole plane that says the same determines its numbers.
 use Rattle.std.proofs.Common.{◌≡◌, ℕ, zero, suc, ◌-◌, ◌*◌, ◌/◌, ◌^◌, ◌<◌, ◌≤◌, inl, inr, min, Bool, true, false, cond, List, [], ◌∷◌, ◌++◌, length, refl, ap, sym, ◌∙◌, subst, arith, ℤ, get_or, add-one, zero-add}
 use Rattle.std.specs.Prelude.{nat_lt, nat_le}
 use Rattle.std.specs.List.{flat_map, AllByRecursion}
@@ -50,7 +50,7 @@ module _ (u v : List ℤ) (d : ℕ) (weights : List ℕ) (plane q : ℕ) (alike 
   abbrev SaidIn : Stage → Type 0
   SaidIn stage = entries_of (block_steps stage u d weights plane q) ≡ entries_of (block_steps stage v d weights plane q)
 
-  -- the stage of the grandchildren goes by what that of the children said
+  -- the stage of the grandchildren depends on what the stage of the children said
   pub block_same : (k : ℕ) → k < 5 → (k ≡ 3 → SaidIn stages.Children) → SameSteps (block_steps (stage_number k) u d weights plane q) (block_steps (stage_number k) v d weights plane q)
   unfolding block_steps
   block_same zero below before = dcs_same u v weights plane q
@@ -109,7 +109,7 @@ module _ (book : Book) (o u : ℕ → List ℕ) (known : (g : ℕ) → AreOption
   pub steps_same : (k r : ℕ) → k < 5 → (k ≡ 3 → BlockSaid 2 r) → SameSteps (steps_of_block (plane_with xs) (stage_number k) r) (steps_of_block (plane_with ys) (stage_number k) r)
   steps_same k r below before = block_same (get_or xs r []) (get_or ys r []) (get_or depths r 0) weights number q (acs r) k below before
 
-  -- for stages that don't go by another one
+  -- stages that do not depend on another one
   pub plain_parts : (k g : ℕ) → k < 3 → GaggleSaid k g → AllByRecursion (BlockSaid k) (rows g)
   plain_parts k g below said =
       flat_parts (steps_of_block (plane_with xs) (stage_number k)) (steps_of_block (plane_with ys) (stage_number k)) (rows g)
@@ -131,7 +131,7 @@ module _ (book : Book) (o u : ℕ → List ℕ) (known : (g : ℕ) → AreOption
   pub gaggle_fits : (blocks : List (List ℤ)) (stage : Stage) (g : ℕ) → Fits (steps_of_gaggle (plane_with blocks) stage g)
   gaggle_fits blocks stage g = flat_fits (steps_of_block (plane_with blocks) stage) (λ r. block_fits stage (get_or blocks r []) (get_or depths r 0) weights number q) (rows g)
 
-  -- what stands before a stage is the same
+  -- what precedes a stage is the same
   pub sent_before : (k g : ℕ) → ((j : ℕ) → j < k → GaggleSaid j g) → before_stage (plane_with xs) k g ≡ before_stage (plane_with ys) k g
   unfolding span
   sent_before zero g said = refl
@@ -203,7 +203,7 @@ module _ (book : Book) (o u : ℕ → List ℕ) (known : (g : ℕ) → AreOption
             (stage_both n (omega arith) (before.1 parts.0)).1 parts.1,
       )
 
-  -- a whole plane settles which numbers reach it
+  -- a whole plane determines which numbers reach it
   pub numbers_settle : ((r p : ℕ) → IsAc p → magnitude (get_or xs r []) p < 2 ^ get_or depths r 0) → ((r p : ℕ) → IsAc p → magnitude (get_or ys r []) p < 2 ^ get_or depths r 0) →
       said_of (plane_reading book o (plane_with xs) 5) ≡ said_of (plane_reading book u (plane_with ys) 5) → (r : ℕ) → r < length depths → SameAc (get_or xs r []) (get_or ys r []) number
   numbers_settle small also_small said r within =

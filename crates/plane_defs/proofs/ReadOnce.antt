@@ -1,4 +1,4 @@
--- The codes of a sound table are told apart by the bits that follow.
+-- The codes of a sound table are distinguished by the next bits.
 use Rattle.std.proofs.Common.{◌≡◌, ℕ, zero, suc, ◌+◌, ◌^◌, ◌<◌, ◌≤◌, ◌⊎◌, inl, inr, Bool, true, false, cond, List, [], ◌∷◌, ◌++◌, length, take, get_or, refl, sym, ap, ◌∙◌, subst, arith, add-one, zero-add, append_assoc}
 use Rattle.std.specs.Prelude.{count_by}
 use Rattle.std.proofs.lemmas.Bool.{cases_lt}
@@ -37,7 +37,7 @@ none_if b h = rw h refl
 below_or_at : (k n : ℕ) → k < suc n → (k < n) ⊎ (k ≡ n)
 below_or_at k n h = grind arith
 
--- one place that passes, and two
+-- a test that passes at one place, and at two
 count_one : (p : ℕ → Bool) (count m : ℕ) → m < count → p m ≡ true → 1 ≤ count_by p (span 0 count)
 count_one p zero m below here = absurd (omega arith)
 count_one p (suc count) m below here =
@@ -58,7 +58,7 @@ count_two p (suc count) m n apart below first second =
           omega (arith, one, count_one p count m (omega arith) first)
     ]
 
--- what is counted is somewhere
+-- if some are counted, there is one
 counted_somewhere : (p : ℕ → Bool) (count : ℕ) → 1 ≤ count_by p (span 0 count) → (m : ℕ) × (m < count) × (p m ≡ true)
 unfolding span
 counted_somewhere p zero h = absurd (omega arith)
@@ -96,7 +96,7 @@ module _ (bits : List Bool) where
       let P : ℕ → Type 0 = λ n. value_of octet < 2 ^ n in
       let h = subst P length-octet (value_below octet) in omega arith
 
--- a code that begins some bits begins their first eight
+-- a code that is a prefix of some bits is a prefix of their first eight
 begins_octet : (table : List Code) (count m : ℕ) (xs bits : List Bool) → is_table_sound table count ≡ true → m < count → code_bits (entry table m) ++ xs ≡ bits →
     is_prefix (code_bits (entry table m)) (bits_of 8 (value_of (octet bits))) ≡ true
 unfolding octet

@@ -1,4 +1,4 @@
--- A plane's items are made from what it sees of the numbers.
+-- A plane's items only depend on what the plane has of the numbers.
 use Rattle.std.proofs.Common.{◌≡◌, ℕ, ◌+◌, ◌*◌, ◌<◌, Bool, true, false, ◌&&◌, cond, List, [], ◌∷◌, ◌++◌, refl, ap, sym, ◌∙◌, arith, ℤ, pos, get_or}
 use Rattle.std.specs.Prelude.{map, filter, nat_lt}
 use Rattle.std.specs.List.{flat_map, AllByRecursion}
@@ -43,7 +43,7 @@ pub flat_equal : {X A : Type 0} (f g : X → List A) (xs : List X) → AllByRecu
 flat_equal f g [] same = refl
 flat_equal f g (x ∷ xs) same = ap (λ a. a ++ flat_map f xs) same.0 ∙ ap (λ l. g x ++ l) (flat_equal f g xs same.1)
 
--- the chosen ones pass the test
+-- those that are chosen pass the test
 passed : {X : Type 0} (p : X → Bool) (xs : List X) → AllByRecursion (λ x. p x ≡ true) (filter p xs)
 passed p [] = tt
 passed {X} p (x ∷ xs) = chosen (p x) refl (passed p xs)
@@ -105,7 +105,7 @@ module _ (u v : List ℤ) (weights : List ℕ) (plane : ℕ) (seen : SeenAlike u
       filter_same (λ i. set_significant u plane (set_of i)) (λ i. set_significant v plane (set_of i)) (span 0 count)
       (all_span (λ i. set_significant u plane (set_of i) ≡ set_significant v plane (set_of i)) 0 count (λ i low high. sets_same (set_of i) (known i (omega arith))))
 
-  -- what the chosen ones send
+  -- what the chosen sets send
   sent_same : (count : ℕ) (set_of : ℕ → Set) (f g : ℕ → List Entry) → ((i : ℕ) → i < count → IsKnown (set_of i)) → ((i : ℕ) → i < count → f i ≡ g i) →
       flat_map f (filter (λ i. set_significant u plane (set_of i)) (span 0 count)) ≡ flat_map g (filter (λ i. set_significant v plane (set_of i)) (span 0 count))
   sent_same count set_of f g known same =

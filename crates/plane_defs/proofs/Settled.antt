@@ -1,4 +1,4 @@
--- Two blocks that are the same above a plane and send the same word are the same where the word speaks.
+-- Two blocks that are the same above a plane and send the same word have the same values for the word.
 use Rattle.std.proofs.Common.{◌≡◌, ℕ, ◌+◌, Bool, true, false, not, ◌&&◌, List, [], ◌∷◌, refl, ap, sym, ◌∙◌, ℤ}
 use Rattle.std.specs.Prelude.{map, filter, cond, ◌||◌}
 use Rattle.std.specs.List.{list_any, AllByRecursion}
@@ -14,7 +14,7 @@ head_same x y xs ys h = cc
 pub tail_same : {A : Type 0} (x y : A) (xs ys : List A) → x ∷ xs ≡ y ∷ ys → xs ≡ ys
 tail_same x y xs ys h = cc
 
--- the same elements are due, and those that aren't are alike: then equal words make all alike
+-- if the same elements are due and all others are the same, equal words make all the same
 pub settle : {X : Type 0} (f g d e : X → Bool) (xs : List X) → AllByRecursion (λ x. (d x ≡ e x) × (d x ≡ false → f x ≡ g x)) xs →
     map f (filter d xs) ≡ map g (filter e xs) → AllByRecursion (λ x. f x ≡ g x) xs
 settle f g d e [] known h = tt
@@ -63,7 +63,7 @@ settled true here coded kept dead h = kept refl
 settled false here false kept dead h = dead refl
 settled false here true kept dead h = cc
 
--- a number whose type isn't due is significant just where it was
+-- a number whose type is not due is significant exactly if it was
 pub type_undue : (block : List ℤ) (weights : List ℕ) (plane p : ℕ) → IsMultiple block weights → type_due block weights plane p ≡ false →
     significant block plane p ≡ significant block (plane + 1) p
 unfolding type_due

@@ -43,7 +43,7 @@ pub filter-span-none : (p : ℕ → Bool) (start : ℕ) → filter p (span start
 unfolding span
 filter-span-none p start = refl
 
--- what is chosen of one position more
+-- the chosen elements with one more position
 pub map-filter-span-suc : {A : Type 0} (f : ℕ → A) (p : ℕ → Bool) (start count : ℕ) →
     map f (filter p (span start (count + 1))) ≡ map f (filter p (span start count)) ++ cond (p (start + count)) (f (start + count) ∷ []) []
 map-filter-span-suc f p start count =
@@ -65,7 +65,7 @@ at_most_one : {A : Type 0} (b : Bool) (x : A) → length (cond b (x ∷ []) []) 
 at_most_one true x = omega arith
 at_most_one false x = omega arith
 
--- no more is chosen than there is
+-- no more elements are chosen than there are
 pub length-chosen : {A : Type 0} (f : ℕ → A) (p : ℕ → Bool) (start count : ℕ) → length (map f (filter p (span start count))) ≤ count
 length-chosen f p start zero = rw map-filter-span-none (omega arith)
 length-chosen {A = A} f p start (suc count) =
@@ -81,7 +81,7 @@ pub length-map-filter : {X A : Type 0} (f : X → A) (p : X → Bool) (xs : List
 length-map-filter f p [] = omega arith
 length-map-filter f p (x ∷ xs) = omega (arith, one_more f (p x) x (filter p xs) (length xs) (length-map-filter f p xs))
 
--- what a function makes of each number of a span from 0
+-- a function at each number of a span from 0
 pub length-map-span : {A : Type 0} (f : ℕ → A) (count : ℕ) → length (map f (span 0 count)) ≡ count
 unfolding span
 length-map-span f zero = refl

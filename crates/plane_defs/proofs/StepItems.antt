@@ -72,7 +72,7 @@ one_word n v w low high p q e = sym (word_of-symbol n v low high p) ∙ ap (word
 pub record AreOptionsOf (options : List ℕ) : Type 0 where
   pub at : (n : ℕ) → 2 ≤ n → n ≤ 4 → option_of options n < n
 
--- those of lengths that were sent are the same
+-- the options of lengths that were sent are the same
 pub record OptionsAgree (before : List Entry) (o u : List ℕ) : Type 0 where
   pub at : (n : ℕ) → 2 ≤ n → n ≤ 4 → list_any (is_word_of n) before ≡ true → option_of o n ≡ option_of u n
 
@@ -120,7 +120,7 @@ word_form book n o u v w check same =
     ap (λ s. let f : Form = record { shape = s; refusal = refused_where (λ said. refuses check (word_said n u said)) false_flag } in f) (word_shape book n u v w)
 
 module _ (book : Book) (o u : List ℕ) (p : AreOptionsOf o) (q : AreOptionsOf u) (before : List Entry) (agree : OptionsAgree before o u) where
-  -- what a word's items settle
+  -- what a word's items determine
   abbrev WordSettles : (n v w : ℕ) → List Item → List Item → Type 0
   WordSettles n v w is js = StepsAlike is js × (said_of is ≡ said_of js → (v ≡ w) × (2 ≤ n → option_of o n ≡ option_of u n))
 
@@ -162,7 +162,7 @@ module _ (book : Book) (o u : List ℕ) (p : AreOptionsOf o) (q : AreOptionsOf u
       by_count false true e f = let z : n ≡ 1 = equal_from n 1 f in ((refl, λ s. tt), λ s. (head_same _ _ _ _ s, λ two. absurd (omega arith)))
       by_count false false e f = let two : 2 ≤ n = grind (arith, nat_tests) in long_word n v w check two high below also
 
-  -- what a step's items settle
+  -- what a step's items determine
   abbrev EntrySettles : Entry → Entry → List Item → List Item → Type 0
   EntrySettles a b is js = StepsAlike is js × (said_of is ≡ said_of js → (a ≡ b) × OptionsAgree (before ++ a ∷ []) o u)
 

@@ -1,4 +1,4 @@
--- The words of flags that have a completion: those that the step's check lets through. (this project's own)
+-- The words of flags that have a completion: those that the step's check accepts. (this project's own)
 use Rattle.std.specs.Prelude.{◌≡◌, ◌<◌, ℕ, ◌+◌, ◌-◌, ◌/◌, ℤ, Bool, true, false, ◌&&◌, ◌==◌, if◌then◌else◌, nat_lt, List}
 use Rattle.std.specs.List.{list_any}
 use Rattle.plane_defs.specs.declared.sets.Set.{Set}
@@ -7,14 +7,14 @@ use Rattle.plane_defs.specs.Sets.{significant, members, set_significant, type_du
 use Rattle.plane_defs.specs.StepLaws.{IsAc}
 use Rattle.plane_defs.specs.Completed.{MayComplete, completed}
 
--- which of the sets of a word a position belongs to; a number that names none for the others
+-- the number of the set of a word that a position belongs to; for other positions a number that no set has
 abbrev pub family_of : ℕ → ℕ
 family_of p = if nat_lt p 4 then 3 else if nat_lt p 16 then (p - 4) / 4 else (p - 16) / 16
 
 abbrev pub sixteen_of : ℕ → ℕ
 sixteen_of p = if nat_lt p 16 then 3 else (p - 16) / 16
 
--- those of the sets that aren't significant above and are live are as wanted, by one member each; all other positions stay
+-- those of the sets that are not significant above and are live are significant as wanted, by one member each; all other positions stay
 abbrev pub chosen_anew : (owner : ℕ → ℕ) → (free wanted : ℕ → Bool) → (pick : ℕ → ℕ) → (chosen : ℕ → Bool) → ℕ → Bool
 chosen_anew owner free wanted pick chosen p =
     if free (owner p) then wanted (owner p) && (p == pick (owner p)) else chosen p
@@ -30,20 +30,20 @@ pub record ArePicks (block : List ℤ) (weights : List ℕ) (plane : ℕ) (sets 
   pub inside : (j : ℕ) → free j ≡ true → list_any (λ q. q == pick j) (members (sets j)) ≡ true
 
 pub record WordsChosen : Type 0 where
-  -- free sets are as wanted
+  -- free sets have the wanted flags
   pub as_wanted : (sets : ℕ → Set) (owner : ℕ → ℕ) (count : ℕ) (block : List ℤ) (weights : List ℕ) (plane : ℕ) (free wanted : ℕ → Bool) (pick : ℕ → ℕ) (chosen : ℕ → Bool) (j : ℕ) →
       AreApart sets owner count → ArePicks block weights plane sets free pick count → free j ≡ true →
       list_any (chosen_anew owner free wanted pick chosen) (members (sets j)) ≡ wanted j
-  -- the others stay as they were
+  -- the other sets stay as they were
   pub as_before : (sets : ℕ → Set) (owner : ℕ → ℕ) (count : ℕ) (free wanted : ℕ → Bool) (pick : ℕ → ℕ) (chosen : ℕ → Bool) (j : ℕ) →
       AreApart sets owner count → j < count → free j ≡ false →
       list_any (chosen_anew owner free wanted pick chosen) (members (sets j)) ≡ list_any chosen (members (sets j))
-  -- the words of families, of the sets of sixteen, and of the sets of four are such
+  -- the words of families, of the sets of sixteen, and of the sets of four are of this kind
   pub families : AreApart Family family_of 3
   pub sixteens : AreApart Grandchildren sixteen_of 3
 
--- The flags of sets that are free may be had in any way by one block or another, and all other numbers stay: so only the set that
--- encloses them can make a word of flags false.
+-- The flags of free sets may have any values, each in some block, and all other numbers stay: so only the set that encloses them
+-- can make a word of flags false.
 pub record ChosenAs (sets : ℕ → Set) (owner : ℕ → ℕ) (count : ℕ) (block : List ℤ) (weights : List ℕ) (plane : ℕ) (chosen minus free wanted : ℕ → Bool) : Type 0 where
   pub other : ℕ → Bool
   pub may : MayComplete block weights plane other

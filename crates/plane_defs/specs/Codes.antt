@@ -9,11 +9,11 @@ use Rattle.base_122.specs.declared.book.Code.{Code}
 use Rattle.base_122.specs.declared.book.Book.{Book}
 use Rattle.plane_defs.specs.Spans.{span}
 
--- v is before w: it has fewer ones, or the same number of ones and is greater
+-- v precedes w: it has fewer ones, or the same number of ones and is greater
 abbrev pub precedes : ℕ → ℕ → Bool
 precedes w v = nat_lt (count_ones v) (count_ones w) || (count_ones v == count_ones w && nat_lt w v)
 
--- the symbol of a word: the number of words of its length that are before it
+-- the symbol of a word: the number of words of its length that precede it
 unfoldable pub symbol : ℕ → ℕ → ℕ
 symbol length w = count_by (precedes w) (span 0 (2 ^ length))
 
@@ -32,8 +32,8 @@ no_code = record { bits = 0; len = 0 }
 abbrev pub entry : List Code → ℕ → Code
 entry table s = get_or table s no_code
 
--- each of the first `count` codes has 1 to 8 bits, and each string of 8 bits begins with exactly one
--- of them: so no code begins another, and no bits are refused
+-- each of the first `count` codes has 1 to 8 bits, and each string of 8 bits begins with exactly one of them:
+-- so no code is a prefix of another, and no bits are refused
 unfoldable pub is_table_sound : List Code → ℕ → Bool
 is_table_sound table count =
     list_all (λ s. nat_le 1 (entry table s).len && nat_le (entry table s).len 8) (span 0 count) &&
@@ -53,7 +53,7 @@ is_book_sound book =
 abbrev pub uncoded : ℕ → ℕ
 uncoded length = length - 1
 
--- the place of the table of a length and option in the book
+-- the index of the table of a length and option in the book
 abbrev pub table_place : ℕ → ℕ → ℕ
 table_place length option = if nat_lt length 3 then 0 else if nat_lt length 4 then 1 + option else 3 + option
 
@@ -66,7 +66,7 @@ codes_of book length option = map (λ s. code_bits (code_at book length option s
 
 -- ---- items
 
--- what represents a word: the code of its symbol, or its bits as they are
+-- the item of a word: the code of its symbol, or its bits as they are
 abbrev pub word_item : Book → (length option value : ℕ) → Item
 word_item book length option value =
     if option == uncoded length then plain length value else code (codes_of book length option) (symbol length value)
@@ -74,7 +74,7 @@ word_item book length option value =
 abbrev pub identifier_width : ℕ → ℕ
 identifier_width length = if nat_lt length 3 then 1 else 2
 
--- the number that names an option: the uncoded one is all ones
+-- the number that represents an option: that of the uncoded one is all ones
 abbrev pub identifier_number : ℕ → ℕ → ℕ
 identifier_number length option = if length == 3 && option == 2 then 3 else option
 

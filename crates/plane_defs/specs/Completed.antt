@@ -1,5 +1,5 @@
--- Blocks that complete a reading: where a set is significant and none of its members was read so, some member that wasn't read yet is
--- made significant in the plane. (this project's own)
+-- Blocks that complete a reading: if a set is significant and none of its members was read so, some member that was not read yet
+-- is made significant in the plane. (this project's own)
 use Rattle.std.specs.Prelude.{◌≡◌, ◌<◌, ℕ, ◌+◌, ◌-◌, ◌^◌, ℤ, pos, negsuc, Bool, true, ◌||◌, ◌==◌, if◌then◌else◌, List, map, length}
 use Rattle.std.specs.List.{list_any}
 use lib.ListN.{get_or}
@@ -25,7 +25,7 @@ pub record MayComplete (block : List ℤ) (weights : List ℕ) (plane : ℕ) (ch
   pub chosen_acs : (p : ℕ) → chosen p ≡ true → IsAc p
   pub chosen_due : (p : ℕ) → chosen p ≡ true → type_due block weights plane p ≡ true
 
--- above the plane all stays; in it the chosen numbers come, and with them the sets that have some of them
+-- above the plane all stays; in it the chosen numbers become significant, and with them the sets that have some of them
 pub record Completes (block : List ℤ) (weights : List ℕ) (plane : ℕ) (chosen minus : ℕ → Bool) (new : List ℤ) : Type 0 where
   pub whole : length new ≡ 64
   pub dc : get_or new 0 (pos 0) ≡ get_or block 0 (pos 0)

@@ -1,6 +1,6 @@
--- The raw bits and words that a block sends in a plane, made from its values alone.
--- (CCSDS 122.0-B-2, sections 4.5.2 and 4.5.3; sending a flag of a set only where some member can have a
--- bit in the plane is this project's own.)
+-- The raw bits and words that a block sends in a plane, made only from its values. (CCSDS 122.0-B-2, sections
+-- 4.5.2 and 4.5.3; that a flag of a set is sent only if some member can have a bit in the plane is this
+-- project's own.)
 use Rattle.std.specs.Prelude.{ℕ, ◌<◌, ◌≤◌, ◌/◌, ◌%◌, ◌^◌, ℤ, pos, negsuc, Bool, true, false, ◌&&◌, ◌==◌, if◌then◌else◌, List, [], ◌∷◌, ◌++◌, nat_lt, filter, map, length}
 use Rattle.std.specs.List.{flat_map}
 use lib.ListN.{get_or}
@@ -32,7 +32,7 @@ abbrev pub types : List ℤ → List ℕ → ℕ → List ℕ → List Bool
 types block weights plane positions =
     map (significant block plane) (filter (type_due block weights plane) positions)
 
--- the signs of the numbers there that this plane makes significant
+-- the signs of the numbers there that become significant in this plane
 abbrev pub signs : List ℤ → List ℕ → ℕ → List ℕ → List Entry
 signs block weights plane positions =
     map (λ p. Bit (negative (get_or block p (pos 0)))) (filter (newly_significant block weights plane) positions)
@@ -94,7 +94,7 @@ abbrev pub refinement : List ℤ → List ℕ → ℕ → List Entry
 refinement block weights plane =
     map (λ p. Bit (bit (magnitude block p) plane)) (filter (refined block weights plane) (span 1 63))
 
--- the entries of one stage of a block of depth d: below its depth it sends all, above it the DC's bit alone
+-- the entries of one stage of a block of depth d: in planes below its depth all of them, in the others only the DC's bit
 unfoldable pub block_entries : Stage → List ℤ → ℕ → List ℕ → ℕ → ℕ → List Entry
 block_entries stages.DcBits block d weights plane q = dc_bits block weights plane q
 block_entries stages.Parents block d weights plane q = if nat_lt plane d then parents block weights plane else []

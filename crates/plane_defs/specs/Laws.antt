@@ -1,4 +1,4 @@
--- What reading needs of planes: what was said before, and the next word, settle which bits are due next.
+-- What reading needs of planes: what was said before and the next word determine which bits are due next.
 use Rattle.std.specs.Prelude.{◌≡◌, ◌<◌, ◌≤◌, ℕ, ◌+◌, ◌*◌, ◌^◌, ℤ, true, false, List, [], ◌∷◌, ◌++◌, Bool}
 use Rattle.std.specs.List.{AllByRecursion}
 use Rattle.item_defs.specs.Bits.{bits_of}
@@ -19,7 +19,7 @@ pub record IsMultiple (block : List ℤ) (weights : List ℕ) : Type 0 where
   pub part : ℕ → ℕ
   pub whole : (p : ℕ) → magnitude block p ≡ 2 ^ shift weights p * part p
 
--- the same down to the plane above this one
+-- the same numbers down to the plane above this one
 abbrev pub SameAbove : List ℤ → List ℤ → ℕ → Type 0
 SameAbove u v plane = (p : ℕ) → significant u (plane + 1) p ≡ significant v (plane + 1) p
 
@@ -28,23 +28,23 @@ abbrev pub SameSets : List ℤ → List ℤ → ℕ → List Set → Type 0
 SameSets u v plane sets = AllByRecursion (λ s. set_significant u plane s ≡ set_significant v plane s) sets
 
 pub record WordsSettle : Type 0 where
-  -- a set lies in the set that encloses it
+  -- a set is part of the set that encloses it
   pub enclosed : (block : List ℤ) (plane : ℕ) (s : Set) → IsKnown s → set_significant block plane s ≡ true →
       enclosing_significant block plane s ≡ true
-  -- a set whose flag isn't due is significant exactly if it was
+  -- a set whose flag is not due is significant exactly if it was
   pub undue : (block : List ℤ) (weights : List ℕ) (plane : ℕ) (s : Set) → IsKnown s → IsMultiple block weights →
       flag_due block weights plane s ≡ false → set_significant block plane s ≡ set_significant block (plane + 1) s
-  -- two blocks that send the same types have the same numbers significant
+  -- two blocks that send the same types have the same significant numbers
   pub types_settle : (u v : List ℤ) (weights : List ℕ) (plane : ℕ) (positions : List ℕ) → SameAbove u v plane →
       IsMultiple u weights → IsMultiple v weights → types u weights plane positions ≡ types v weights plane positions →
       AllByRecursion (λ p. significant u plane p ≡ significant v plane p) positions
-  -- two blocks that send the same flags have the same sets significant
+  -- two blocks that send the same flags have the same significant sets
   pub flags_settle : (u v : List ℤ) (weights : List ℕ) (plane : ℕ) (sets : List Set) → SameAbove u v plane →
       IsMultiple u weights → IsMultiple v weights → AllByRecursion IsKnown sets →
       AllByRecursion (λ s. enclosing_significant u plane s ≡ enclosing_significant v plane s) sets →
       flags u weights plane sets ≡ flags v weights plane sets → SameSets u v plane sets
 
--- entries that are of one kind and length for as long as the same is said
+-- entries that are of one kind and length for as long as they say the same
 abbrev pub EntriesAlike : List Entry → List Entry → Type 0
 EntriesAlike [] [] = Unit {0}
 EntriesAlike (Bit a ∷ xs) (Bit b ∷ ys) = a ≡ b → EntriesAlike xs ys
@@ -60,24 +60,24 @@ pub record AreAlike (u v : List ℤ) (weights : List ℕ) (plane : ℕ) : Type 0
 abbrev pub three_families : List Set
 three_families = Family 0 ∷ Family 1 ∷ Family 2 ∷ []
 
--- what was said before in a stage settles what is due next in it
+-- what was said before in a stage determines what is due next in it
 pub record StagesStep : Type 0 where
   pub dc_bits_step : (u v : List ℤ) (weights : List ℕ) (plane q : ℕ) → EntriesAlike (dc_bits u weights plane q) (dc_bits v weights plane q)
   pub parents_step : (u v : List ℤ) (weights : List ℕ) (plane : ℕ) → AreAlike u v weights plane → EntriesAlike (parents u weights plane) (parents v weights plane)
   pub children_step : (u v : List ℤ) (weights : List ℕ) (plane : ℕ) → AreAlike u v weights plane → EntriesAlike (children u weights plane) (children v weights plane)
-  -- the stage of the children settles which families are significant
+  -- the stage of the children determines which families are significant
   pub families_settle : (u v : List ℤ) (weights : List ℕ) (plane : ℕ) → AreAlike u v weights plane → children u weights plane ≡ children v weights plane →
       SameSets u v plane three_families
-  -- and that the stage of the grandchildren goes by
+  -- the stage of the grandchildren depends on these
   pub grandchildren_step : (u v : List ℤ) (weights : List ℕ) (plane : ℕ) → AreAlike u v weights plane → SameSets u v plane three_families →
       EntriesAlike (grandchildren u weights plane) (grandchildren v weights plane)
   pub refinement_step : (u v : List ℤ) (weights : List ℕ) (plane : ℕ) → SameAbove u v plane → EntriesAlike (refinement u weights plane) (refinement v weights plane)
 
 pub record TablesReadOnce : Type 0 where
-  -- two codes that both begin some bits are one
+  -- two codes that are prefixes of the same bits are the same
   pub once : (table : List Code) (count m n : ℕ) (xs ys : List Bool) → is_table_sound table count ≡ true →
       m < count → n < count → code_bits (entry table m) ++ xs ≡ code_bits (entry table n) ++ ys → m ≡ n
-  -- some code begins any eight bits
+  -- any eight bits begin with some code
   pub begins : (table : List Code) (count v : ℕ) → is_table_sound table count ≡ true → v < 256 →
       (m : ℕ) × (m < count) × (is_prefix (code_bits (entry table m)) (bits_of 8 v) ≡ true)
   -- so in a sound book no code of a word is a prefix of another

@@ -1,4 +1,4 @@
--- A block's mark: its depth is in the last five bits, and the other bits are free. (This project's own.)
+-- A block's state: its depth is in the last five bits, and the other bits are free. (This project's own.)
 use Rattle.std.specs.Prelude.{ℕ, ℤ, pos, List, map}
 use Rattle.std.specs.Int.RustNames.{unsigned_abs}
 use Rattle.std.specs.Int.{int_rem_euclid}

@@ -12,8 +12,8 @@ use Rattle.plane_defs.specs.Entries.{block_entries, stage_number}
 use Rattle.plane_defs.specs.Choice.{cheapest, symbol_counts}
 use Rattle.plane_defs.specs.Spelled.{spelled_after}
 
--- a plane of a segment: its blocks, which are 64 numbers each, and a depth for each; the shifts of the
--- bands, the plane's number, and how many low bits of the DC numbers the DC part left out
+-- a plane of a segment: its blocks, which are 64 numbers each, and a depth for each; the shifts of the bands,
+-- the plane's number, and the number of low bits of the DC numbers that the DC part left out
 pub record Plane : Type 0 where
   pub blocks : List (List ℤ)
   pub depths : List ℕ
@@ -52,7 +52,7 @@ stage_items book options p k = flat_map (gaggle_items book options p k) (span 0 
 abbrev pub plane_items : Book → (ℕ → List ℕ) → Plane → ℕ → List Item
 plane_items book options p stages = flat_map (stage_items book options p) (span 0 stages)
 
--- ---- the options that a writer takes: by the words of stages 1 to 3, whatever stages are sent
+-- ---- the options that a writer chooses: by the words of stages 1 to 3, whichever stages are sent
 
 abbrev pub counted : Plane → ℕ → List Entry
 counted p g = flat_map (λ k. of_gaggle p (stage_number k) g) (span 1 3)

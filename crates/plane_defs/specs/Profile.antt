@@ -47,7 +47,7 @@ four_even =
     codes "0111" ∷ codes "00100" ∷ codes "00101" ∷ codes "00110" ∷ codes "00111" ∷ codes "00000" ∷
     codes "00001" ∷ codes "00010" ∷ codes "00011" ∷ []
 
--- each table has 16 places, of which those that it doesn't use have no code
+-- each table has 16 places, and those that it does not use have no code
 unfoldable pub profile : Book
 profile = record {
   codes =

@@ -1,5 +1,5 @@
--- The items of a bit plane as they are read: those of the plane, with the words refused that no values have after
--- what was sent before. (this project's own)
+-- The items of a bit plane as they are read: those of the plane, in which words are refused that no values have
+-- after what was sent before. (this project's own)
 use Rattle.std.specs.Prelude.{ℕ, ◌*◌, ◌^◌, Bool, ◌==◌, if◌then◌else◌, List, [], ◌∷◌, ◌++◌, filter}
 use Rattle.std.specs.List.{flat_map}
 use lib.ListN.{get_or}
@@ -24,7 +24,7 @@ word_of length s = get_or (filter (λ w. symbol length w == s) (span 0 (2 ^ leng
 abbrev pub word_said : (length option said : ℕ) → ℕ
 word_said length option said = if option == uncoded length then said else word_of length said
 
--- an item of which such numbers are refused as false flags
+-- an item of which these numbers are refused as false flags
 abbrev pub checked : (ℕ → Bool) → Item → Item
 checked test item =
     record { form = record { shape = item.form.shape; refusal = refused_where test false_flag }; said = item.said }
@@ -33,7 +33,7 @@ abbrev pub checked_word : Book → (length option value : ℕ) → Check → Ite
 checked_word book length option value check =
     checked (λ said. refuses check (word_said length option said)) (word_item book length option value)
 
--- what spells a step, with these entries of its gaggle and plane before it
+-- the items of a step, with these entries of its gaggle and plane before it
 unfoldable pub entry_reading : Book → List ℕ → List Entry → Check → Entry → List Item
 entry_reading book options before check (Bit bit) = raw (digit bit) ∷ []
 entry_reading book options before check (Word bits) =
@@ -43,7 +43,7 @@ entry_reading book options before check (Word bits) =
 abbrev pub step_reading : Book → List ℕ → List Entry → Step → List Item
 step_reading book options before s = entry_reading book options before s.check s.entry
 
--- what spells some steps, with these entries before them
+-- the items of some steps, with these entries before them
 abbrev pub read_after : Book → List ℕ → List Entry → List Step → List Item
 read_after book options before [] = []
 read_after book options before (s ∷ more) =

@@ -1,5 +1,5 @@
--- What reading needs of a plane's steps: what was said before in a plane settles each step's kind, its length, the words that are
--- refused there and what it tells. Of the numbers above the plane only the AC numbers count. (this project's own)
+-- What reading needs of a plane's steps: what was said before in a plane determines each step's kind, its length, the words that
+-- are refused there and what it reports. Of the numbers above the plane only the AC numbers matter. (this project's own)
 use Rattle.std.specs.Prelude.{◌≡◌, ◌<◌, ◌≤◌, ℕ, ◌+◌, ℤ, pos, true, false, List, [], ◌∷◌, map}
 use Rattle.std.specs.List.{AllByRecursion}
 use Rattle.plane_defs.specs.declared.entries.Entry.{Entry}
@@ -28,7 +28,7 @@ SameKind (Bit a) (Word b) = ⊥
 SameKind (Word a) (Bit b) = ⊥
 SameKind (Word a) (Word b) = a.count ≡ b.count
 
--- for as long as the same is said
+-- the steps are of the same kind for as long as they say the same
 abbrev pub SameSteps : List Step → List Step → Type 0
 SameSteps [] [] = Unit {0}
 SameSteps [] (t ∷ ts) = ⊥
@@ -49,7 +49,7 @@ pub record AcsAlike (u v : List ℤ) (weights : List ℕ) (plane : ℕ) : Type 0
   pub first : IsMultiple u weights
   pub second : IsMultiple v weights
 
--- the word of a step isn't refused there
+-- the word of a step is not refused there
 abbrev pub value_of_entry : Entry → ℕ
 value_of_entry (Bit b) = 0
 value_of_entry (Word bits) = bits.value
@@ -61,12 +61,12 @@ pub record StepsSettle : Type 0 where
   pub dcs : (u v : List ℤ) (weights : List ℕ) (plane q : ℕ) → SameSteps (dc_steps u weights plane q) (dc_steps v weights plane q)
   pub parents : (u v : List ℤ) (weights : List ℕ) (plane : ℕ) → AcsAlike u v weights plane → SameSteps (parents_steps u weights plane) (parents_steps v weights plane)
   pub children : (u v : List ℤ) (weights : List ℕ) (plane : ℕ) → AcsAlike u v weights plane → SameSteps (children_steps u weights plane) (children_steps v weights plane)
-  -- the stage of the children settles what the stage of the grandchildren goes by
+  -- the stage of the children determines what the stage of the grandchildren depends on
   pub grandchildren : (u v : List ℤ) (weights : List ℕ) (plane : ℕ) → AcsAlike u v weights plane →
       entries_of (children_steps u weights plane) ≡ entries_of (children_steps v weights plane) →
       SameSteps (grandchildren_steps u weights plane) (grandchildren_steps v weights plane)
   pub refinement : (u v : List ℤ) (weights : List ℕ) (plane : ℕ) → AcsAlike u v weights plane → SameSteps (refinement_steps u weights plane) (refinement_steps v weights plane)
-  -- the stages settle which numbers reach this plane
+  -- the stages determine which numbers reach this plane
   pub plane : (u v : List ℤ) (weights : List ℕ) (plane : ℕ) → AcsAlike u v weights plane →
       entries_of (parents_steps u weights plane) ≡ entries_of (parents_steps v weights plane) →
       entries_of (children_steps u weights plane) ≡ entries_of (children_steps v weights plane) →
@@ -76,11 +76,11 @@ pub record StepsSettle : Type 0 where
 pub record StepsAllowed : Type 0 where
   pub children : (block : List ℤ) (weights : List ℕ) (plane : ℕ) → IsMultiple block weights → AllByRecursion IsAllowed (children_steps block weights plane)
   pub grandchildren : (block : List ℤ) (weights : List ℕ) (plane : ℕ) → IsMultiple block weights → AllByRecursion IsAllowed (grandchildren_steps block weights plane)
-  -- and if the types of a new family's children must have a one, some are due
+  -- if one of the types of a new family's children must be 1, some are due
   pub some_due : (block : List ℤ) (weights : List ℕ) (plane i : ℕ) → IsMultiple block weights → i < 3 →
       is_new block plane (Family i) ≡ true → live weights plane (Grandchildren i) ≡ false → types block weights plane (span (children_of i) 4) ≡ [] → ⊥
 
--- two blocks of which a plane sees the same: the AC numbers that reach it and the plane above, the signs and bits there, and the
+-- two blocks that are the same in a plane: the AC numbers that reach it and the plane above, the signs and bits there, and the
 -- DC's bit
 pub record SeenAlike (u v : List ℤ) (weights : List ℕ) (plane : ℕ) : Type 0 where
   pub alike : AcsAlike u v weights plane
@@ -89,7 +89,7 @@ pub record SeenAlike (u v : List ℤ) (weights : List ℕ) (plane : ℕ) : Type 
   pub bits : (p : ℕ) → IsAc p → significant u (plane + 1) p ≡ true → bit (magnitude u p) plane ≡ bit (magnitude v p) plane
   pub dc : twos_bit (get_or u 0 (pos 0)) plane ≡ twos_bit (get_or v 0 (pos 0)) plane
 
--- a plane's items are made from what it sees alone
+-- a plane's items only depend on these values
 abbrev pub PlaneSees : Type 0
 PlaneSees = (book : Book) (options : ℕ → List ℕ) (xs ys : List (List ℤ)) (depths weights : List ℕ) (number q stages : ℕ) →
     ((r : ℕ) → SeenAlike (get_or xs r []) (get_or ys r []) weights number) →

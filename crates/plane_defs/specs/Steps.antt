@@ -1,5 +1,5 @@
 -- What a block sends in a plane, step by step: each raw bit or word, with the words that no values have there and with
--- what it tells of the block's numbers. (CCSDS 122.0-B-2, sections 4.5.2 and 4.5.3; which words are refused is this
+-- what it reports of the block's numbers. (CCSDS 122.0-B-2, sections 4.5.2 and 4.5.3; which words are refused is this
 -- project's own.)
 use Rattle.std.specs.Prelude.{ℕ, ◌+◌, ℤ, pos, Bool, false, not, ◌&&◌, ◌||◌, ◌==◌, if◌then◌else◌, List, [], ◌∷◌, ◌++◌, nat_lt, filter, map, length}
 use Rattle.std.specs.List.{flat_map, list_any}
@@ -15,13 +15,13 @@ use Rattle.plane_defs.specs.Spans.{span}
 use Rattle.plane_defs.specs.Sets.{magnitude, significant, coded, set_significant, live, type_due, flag_due, newly_significant, refined, children_of, quad_of}
 use Rattle.plane_defs.specs.Entries.{twos_bit, negative, word, types, flags, significant_families}
 
--- which words are refused: none, the one of zeros alone, or those in which one of these ones is missing
+-- which words are refused: none, only the word of zeros, or those in which one of these ones is missing
 pub data Check : Type 0 where
   free : Check
   some_one : Check
   ones_at : List Bool → Check
 
--- some bit is wanted and isn't there
+-- some wanted bit is missing
 abbrev pub lacks_one : List Bool → List Bool → Bool
 lacks_one [] bits = false
 lacks_one (want ∷ wants) [] = false
@@ -32,7 +32,7 @@ refuses free w = false
 refuses some_one w = w == 0
 refuses (ones_at wants) w = lacks_one wants (bits_of (length wants) w)
 
--- what a step gives: flags of sets alone, the types of numbers, a number's sign, or its bit of this plane
+-- what a step gives: only flags of sets, the types of numbers, a number's sign, or its bit of this plane
 pub data Told : Type 0 where
   flags_alone : Told
   types_at : List ℕ → Told
@@ -50,7 +50,7 @@ step check tells entry = record { entry = entry; check = check; tells = tells }
 abbrev pub some_one_where : Bool → Check
 some_one_where b = if b then some_one else free
 
--- the plane makes the set significant
+-- the set becomes significant in the plane
 unfoldable pub is_new : List ℤ → ℕ → Set → Bool
 is_new block plane s = set_significant block plane s && not (set_significant block (plane + 1) s)
 
@@ -93,7 +93,7 @@ children_steps block weights plane =
     flags_step block weights plane (descendants_check block plane) (Family 0 ∷ Family 1 ∷ Family 2 ∷ [])
     ∷ children_types_steps block weights plane
 
--- ---- stage 3: a new family without a child has a grandchild; so has a new set of grandchildren
+-- ---- stage 3: a new family without a child has a grandchild; a new set of grandchildren has one too
 
 -- the grandchildren of a new family of which no child is significant
 unfoldable pub is_forced : List ℤ → ℕ → Set → Bool

@@ -1,14 +1,14 @@
-// What a block sends.
+// The entries that a block sends.
 
-/// The bits of a word, as a number with its highest bit first.
+/// A word: its bits as a number with the highest bit first.
 #[derive(Clone, Copy, Debug, PartialEq, Eq)]
 pub struct Bits {
     pub value: u8,
     pub count: u8,
 }
 
-/// What a block sends in a plane: raw bits and words of up to four bits
-/// (docs/formats.md, "Bit planes").
+/// An entry that a block sends in a plane: a raw bit or a word of up to four bits (docs/formats.md, "Bit
+/// planes").
 #[derive(Clone, Copy, Debug, PartialEq, Eq)]
 pub enum Entry {
     Bit(bool),

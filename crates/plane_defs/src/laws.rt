@@ -1,8 +1,8 @@
-// What holds of planes.
+// The laws of bit planes.
 ghost use Rattle.plane_defs.specs.Laws.{WordsSettle, StagesStep, TablesReadOnce};
 
-/// A word settles which of its numbers or sets are significant: what was said before and the word
-/// itself determine which bits are due next (docs/formats.md, "Bit planes").
+/// A word determines which of its numbers or sets are significant: what was said before and the word itself
+/// determine which bits are due next (docs/formats.md, "Bit planes").
 pub const fn words_settle()
     ensures { WordsSettle }
 {}
@@ -13,16 +13,17 @@ pub const fn stages_step()
     ensures { StagesStep }
 {}
 
-/// In a sound table no code is a prefix of another, and each eight bits begin with a code
-/// (docs/formats.md, "Words and codes").
+/// In a sound table no code is a prefix of another, and any eight bits begin with a code (docs/formats.md,
+/// "Words and codes").
 pub const fn words_read_once()
     ensures { TablesReadOnce }
 {}
 
 ghost use Rattle.plane_defs.specs.StepLaws.{StepsSettle, StepsAllowed};
 
-/// What was said before in a plane settles each step: its kind and length, which words are refused there, and
-/// what it gives; the whole plane settles which AC coefficients reach it (docs/formats.md, "Bit planes").
+/// What was said before in a plane determines each step: its kind and length, which words are refused there,
+/// and what it gives; the whole plane determines which AC coefficients reach it (docs/formats.md, "Bit
+/// planes").
 pub const fn steps_settle()
     ensures { StepsSettle }
 {}
@@ -35,7 +36,7 @@ pub const fn steps_are_allowed()
 ghost use Rattle.plane_defs.specs.Completed.{CompletionLaws};
 
 /// If a set is known to be significant, and a member's type is due, some block has such a member: the numbers that a reading
-/// hasn't reached may be chosen (docs/formats.md, "Reading a segment").
+/// has not reached may be chosen (docs/formats.md, "Reading a segment").
 pub const fn readings_complete()
     ensures { CompletionLaws }
 {}
@@ -55,8 +56,8 @@ pub const fn flags_are_free()
 
 ghost use Rattle.plane_defs.specs.StepLaws.{PlaneSees};
 
-/// A plane's items are made from the bits of the plane and what was significant above it, and from nothing below
-/// (docs/formats.md, "Bit planes").
+/// A plane's items only depend on the bits of the plane and on what was significant above it, and on nothing
+/// below (docs/formats.md, "Bit planes").
 pub const fn planes_see()
     ensures { PlaneSees }
 {}

@@ -1,5 +1,5 @@
-//! Definitions of the bit planes: the sets of a block, what a block sends in each stage of a plane,
-//! and the codes of words (docs/formats.md, "Bit planes" and "Words and codes").
+//! This crate defines the bit planes: the sets of a block, what a block sends in each stage of a plane, and
+//! the codes of words (docs/formats.md, "Bit planes" and "Words and codes").
 #![tactic(auto)]
 
 mod entries;

@@ -1,4 +1,4 @@
--- What is significant above the plane below this one: what was above this one, and what has its bit.
+-- What is significant above the plane below this one: what was significant above this one, and what has this one's bit.
 use Rattle.std.proofs.Common.{◌≡◌, ℕ, ◌+◌, ◌*◌, ◌<◌, ◌≤◌, ◌^◌, ◌||◌, Bool, true, false, List, length, get_or, refl, ap, sym, ◌∙◌, arith, ℤ, pos}
 use Rattle.std.specs.Prelude.{nat_le, unsigned_abs}
 use Rattle.std.proofs.Math.Pow.{pow_mono}
@@ -16,7 +16,7 @@ use Rattle.plane_reader.proofs.ToldNumbers.{reach_here, reach_still}
 use Rattle.plane_reader.proofs.ShownNumbers.{block_reaches}
 use Rattle.plane_reader.proofs.ShownBlocks.{shown_long, block_shown}
 
--- a number without the bits of a plane and below it is significant in the plane where it is above
+-- a number without the bits of a plane and below it is significant in the plane if it is above
 cleared_reaches : (plane : ℕ) (z : ℤ) → IsCleared plane z → nat_le (2 ^ plane) (unsigned_abs z) ≡ nat_le (2 ^ (plane + 1)) (unsigned_abs z)
 cleared_reaches plane z cleared = by_test (nat_le (2 ^ (plane + 1)) (unsigned_abs z)) refl
   where

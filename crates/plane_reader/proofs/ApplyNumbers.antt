@@ -1,4 +1,4 @@
--- The DC gets the bit of a plane.
+-- The DC is given the bit of a plane.
 use Rattle.std.proofs.Common.{◌≡◌, inl, inr, ℕ, suc, ◌+◌, ◌-◌, ◌*◌, ◌%◌, ◌<◌, ◌≤◌, ◌^◌, ap, sym, ◌∙◌, arith, ℤ, pos, negsuc, ◌+ℤ◌, to_z, of_z, w32}
 use Rattle.std.proofs.Math.Pow.{pow_mono}
 use Rattle.std.proofs.lemmas.Int.{ints, to_z-of_z, wrapping_add-bits, int_wrap_fits, fits_signed_from_abs}
@@ -36,7 +36,7 @@ fits_still (negsuc n) plane fits low cleared =
     both : (n h : ℕ) → n < 2147483648 → h ≤ 67108864 → FitsSigned w32 (negsuc n +ℤ pos h)
     both n h small most = omega (arith, ints)
 
--- the bit is added within the type
+-- the sum with the bit is within the type
 pub dc_added : (z : ℤ) (plane : ℕ) → SFits w32 z → plane < 27 → IsCleared plane z → to_z w32 ((of_z w32 z + 1 * 2 ^ plane % 4294967296) % 4294967296) ≡ z +ℤ pos (2 ^ plane)
 dc_added z plane fits low cleared =
     let le : plane ≤ 26 = omega arith in

@@ -1,4 +1,4 @@
--- The AC numbers of a block get what was found of them.
+-- The AC numbers of a block are given what was found of them.
 use Rattle.std.proofs.Common.{◌≡◌, inl, inr, ℕ, ◌<◌, ◌≤◌, ◌^◌, false, List, length, ap, ◌∙◌, arith, ℤ}
 use Rattle.std.specs.Prelude.{◌==◌}
 use Rattle.std.proofs.lemmas.Bool.{cases_lt, cases_eq}
@@ -7,11 +7,11 @@ use Rattle.item_defs.specs.Bits.{bit}
 use Rattle.block_masks.specs.BitsSet.{SetsBits}
 use Rattle.plane_reader.specs.Applied.{Applies}
 
--- no position is past the last
+-- no position above 63 is in a mask
 past_last : (mask p : ℕ) → mask < 2 ^ 64 → 64 ≤ p → bit mask p ≡ false
 past_last mask p small high = ap (λ k. k == 1) (bit_at_above mask 64 p small high)
 
--- the bits that were set, but for the DC's
+-- the bits that were set, except the DC's
 pub applied : (plane bits ac_bits minus : ℕ) {before now : List ℤ} → ac_bits < 2 ^ 64 → length before ≡ 64 → bit ac_bits 0 ≡ false → ((k : ℕ) → k < 64 → (k ≡ 0 → ⊥) → bit ac_bits k ≡ bit bits k) →
     SetsBits plane ac_bits minus before now → Applies plane bits minus before now
 applied plane bits ac_bits minus small whole gone others set = record {

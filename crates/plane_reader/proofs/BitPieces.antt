@@ -28,13 +28,13 @@ use Rattle.plane_reader.proofs.PieceLaws.{leads_rest, leads_on}
 use Rattle.plane_reader.proofs.StepPieces.{bit_agrees, bit_items, head_of, entry_same, bit_same, possible_more, none_possible}
 
 module _ (tells : ℕ → Told) where
-  -- a bit told of each position
+  -- the steps that report one bit for each position
   abbrev pub told_steps : List ℕ → List Bool → List Step
   told_steps [] bits = []
   told_steps (p ∷ ps) [] = []
   told_steps (p ∷ ps) (x ∷ bits) = step free (tells p) (Bit x) ∷ told_steps ps bits
 
-  -- what a block tells of each
+  -- the steps of a block for each position
   abbrev pub steps_at : (so : List ℤ → ℕ → Bool) → List ℕ → List ℤ → List Step
   steps_at so ps v = map (λ p. step free (tells p) (Bit (so v p))) ps
 
@@ -90,7 +90,7 @@ module _ (tells : ℕ → Told) (so : List ℤ → ℕ → Bool) where
       let there : map (so v) ps ≡ bits = same_bits v ps bits rest more (less (length bits) (length ps) e) (tail_of (step free (tells p) (Bit x)) (step free (tells p) (Bit (so v p))) _ _ same) in
       ap (λ y. y ∷ map (so v) ps) here ∙ ap (λ l. x ∷ l) there
 
-  -- who has them sends them
+  -- a block that has them sends them
   told_of : (v : List ℤ) (ps : List ℕ) (bits : List Bool) → map (so v) ps ≡ bits → steps_at tells so ps v ≡ told_steps tells ps bits
   told_of v ps bits e = from ps ∙ ap (told_steps tells ps) e
     where
@@ -141,7 +141,7 @@ module _ (tells : ℕ → Told) (so : List ℤ → ℕ → Bool) where
         options = known;
       }
 
--- ---- what is told of a position
+-- ---- what is reported of a position
 
 told_any : (tells : ℕ → Told) (reads : Told → Bool) (ps : List ℕ) (bits : List Bool) → length bits ≡ length ps → list_any (λ s. reads s.tells) (told_steps tells ps bits) ≡ list_any (λ p. reads (tells p)) ps
 told_any tells reads [] bits e = refl
@@ -161,13 +161,13 @@ or_none true = refl
 or_none false = refl
 
 module _ (tells : ℕ → Told) (reads : ℕ → Told → Bool) (due : ℕ → Bool) (start count : ℕ) (done : List Step) (bits : List Bool) (long : length bits ≡ length (filter due (span start count))) (q : ℕ) where
-  -- of those that were read, and of those before
+  -- of the positions that were read, and of those before
   pub told_there : ((p : ℕ) → reads q (tells p) ≡ (p == q)) → list_any (λ s. reads q s.tells) (done ++ told_steps tells (filter due (span start count)) bits) ≡ (list_any (λ s. reads q s.tells) done || (inside start count q && due q))
   told_there is =
       list_any-append (λ s. reads q s.tells) done (told_steps tells (filter due (span start count)) bits)
       ∙ ap (λ t. list_any (λ s. reads q s.tells) done || t) (told_any tells (reads q) (filter due (span start count)) bits long ∙ any_same (λ p. reads q (tells p)) (λ p. p == q) is (filter due (span start count)) ∙ among due start count q)
 
-  -- nothing of it
+  -- nothing is reported of it
   pub told_nowhere : ((p : ℕ) → reads q (tells p) ≡ false) → list_any (λ s. reads q s.tells) (done ++ told_steps tells (filter due (span start count)) bits) ≡ list_any (λ s. reads q s.tells) done
   told_nowhere is =
       list_any-append (λ s. reads q s.tells) done (told_steps tells (filter due (span start count)) bits)

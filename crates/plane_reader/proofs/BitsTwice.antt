@@ -1,4 +1,4 @@
--- A number that gets the bit of a plane has it, and one that has it keeps its size where it gets it once more.
+-- A number that is given the bit of a plane has it, and a number that has it keeps its magnitude if it is given it again.
 use Rattle.std.proofs.Common.{◌≡◌, ℕ, zero, suc, ◌+◌, ◌<◌, ◌^◌, Bool, true, false, not, max, refl, ap, sym, ◌∙◌, arith, ℤ, pos, neg_ℤ}
 use Rattle.std.specs.Prelude.{◌==◌, ◌||◌, unsigned_abs, if◌then◌else◌}
 use Rattle.std.specs.Int.{bit_at}
@@ -9,7 +9,7 @@ use Rattle.block_masks.specs.BitsSet.{with_bit}
 use Rattle.block_masks.proofs.SettingLanes.{size_set}
 use Rattle.plane_reader.proofs.ToldNumbers.{abs_told}
 
--- the size of a number with the bit
+-- the magnitude of a number with the bit
 abbrev size_with : (plane n : ℕ) → ℕ
 size_with plane n = n + (if not (bit n plane) then 2 ^ plane else 0)
 

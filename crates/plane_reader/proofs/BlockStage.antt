@@ -1,4 +1,4 @@
--- A stage of a block that isn't deep enough: nothing of it is sent.
+-- A stage of a block that is not deep enough: nothing of it is sent.
 use Rattle.std.proofs.Common.{◌≡◌, ℕ, zero, suc, ◌<◌, ◌≤◌, false, cond, ℤ, List, [], refl, ap, sym, subst, arith, append-nil}
 use Rattle.std.specs.Prelude.{Ok, nat_lt}
 use Rattle.std.proofs.lemmas.Bool.Decides.{nat_tests}

@@ -1,4 +1,4 @@
--- A stage of a block that is deep enough: what comes next, by what the block is above the plane and what was told of it.
+-- A stage of a block that is deep enough: what is next, given what the block is above the plane and what was read of it.
 use Rattle.std.proofs.Common.{◌≡◌, ℕ, ◌+◌, ◌<◌, ◌≤◌, Bool, true, false, not, ◌&&◌, ◌||◌, cond, ℤ, List, [], ◌∷◌, refl, ap, sym, ◌∙◌, subst, arith, append-nil}
 use Rattle.std.specs.Prelude.{Result, Option, map, filter, nat_le, nat_lt}
 use Rattle.std.specs.List.{flat_map, list_any}
@@ -64,7 +64,7 @@ module _ (f : Frame) (deep : f.plane < f.depth) (v : List ℤ) where
   unfolding block_steps
   deep_refinement = ap (λ t. cond t (refinement_steps v f.weights f.plane) []) is_deep
 
--- ---- what comes next
+-- ---- what is next
 
 module _ {f : Frame} {plan : CodedPlane} {depth k : ℕ} {earlier : ℕ → List Step} {mark : ℤ} {x : List ℤ} (frame : IsFrame f plan depth) (stands : StandsBefore f k earlier mark x) where
   pub stage_next : (above : ℕ) → IsAbove f above → k < 5 → (steps : List ℤ → List Step) → ((v : List ℤ) → steps_of f k v ≡ steps v) → StageNext f k earlier [] plan above steps (λ v. [])
@@ -106,7 +106,7 @@ parents_next {f = f} {above = above} next types shows = record {
   possible = next.possible;
 }
 
--- ---- an answer that says more
+-- ---- an answer that claims more
 
 pub also_as : {I A : Type 0} {k : SourceOf I} {book : Book} {f : Frame} {stage : ℕ} {earlier : ℕ → List Step} {done : List Step} {next : List ℤ → List Step} {Is : A → List ℤ → Type 0} {r : Result (Option A) TextFault} {g h : Gaggle} {m n : Found} {a b : Coming I} (Also : A → List ℤ → Type 0) →
     ((x : A) (v : List ℤ) → Is x v → Also x v) → FoundPiece k book f stage earlier done next Is r g h m n a b → FoundPiece k book f stage earlier done next Also r g h m n a b
@@ -130,18 +130,18 @@ also_as Also also p = record {
   found = p.found;
 }
 
--- the words of a stage, and what the mark says then
+-- the words of a stage, and what the block's state says then
 pub words_as : {I : Type 0} {k : SourceOf I} {book : Book} {f : Frame} {stage : ℕ} {earlier : ℕ → List Step} {steps : List ℤ → List Step} {r : Result (Option (Unit {0})) TextFault} {g h : Gaggle} {m n : Found} {a b : Coming I} (mark : ℤ) → (stage ≡ 2 → ⊥) → ((v : List ℤ) → steps_of f stage v ≡ steps v) →
     FoundPiece k book f stage earlier [] steps Anything r g h m n a b → FoundPiece k book f stage earlier [] (steps_of f stage) (MarkSays f stage mark) r g h m n a b
 words_as {book = book} {f = f} {stage = stage} {earlier = earlier} {steps = steps} mark other same p =
     found_as book f stage earlier [] (steps_of f stage) (λ v s. sym (same v)) (also_as (MarkSays f stage mark) (λ x v is e. absurd (other e)) p)
 
--- the children, and what the mark says then
+-- the children, and what the block's state says then
 pub children_words : {I : Type 0} {k : SourceOf I} {book : Book} {f : Frame} {earlier : ℕ → List Step} {r : Result (Option (Unit {0})) TextFault} {g h : Gaggle} {m n : Found} {a b : Coming I} (mark : ℤ) → ((v : List ℤ) → steps_of f 2 v ≡ children_steps v f.weights f.plane) →
     FoundPiece k book f 2 earlier [] (λ v. children_steps v f.weights f.plane) (MarkSays f 2 mark) r g h m n a b → FoundPiece k book f 2 earlier [] (steps_of f 2) (MarkSays f 2 mark) r g h m n a b
 children_words {book = book} {f = f} {earlier = earlier} mark same p = found_as book f 2 earlier [] (steps_of f 2) (λ v s. sym (same v)) p
 
--- ---- the children that were told of significant families
+-- ---- the children that were read in significant families
 
 any_flat : {X : Type 0} (P : Step → Bool) (f : X → List Step) (xs : List X) → list_any P (flat_map f xs) ≡ list_any (λ x. list_any P (f x)) xs
 any_flat P f [] = refl
@@ -232,7 +232,7 @@ children_shown {f} {plan} {depth} {earlier} {mark} {x} frame deep stands v sends
     by_above true e = told_still f frame.awaits (told_before earlier 3) v x tells p ac e ∙ sym (still_significant v f.plane p (above_v ∙ e))
     by_above false e = told_here f frame.awaits (told_before earlier 3) v x tells p ac e ∙ by_due (type_due v f.weights f.plane p) refl e
 
--- the grandchildren, after what was told of the families and the children
+-- the grandchildren, after the families and the children were read
 pub grandchildren_next : {f : Frame} {plan : CodedPlane} {depth : ℕ} {earlier : ℕ → List Step} {mark : ℤ} {x : List ℤ} (frame : IsFrame f plan depth) → f.plane < f.depth → (stands : StandsBefore f 3 earlier mark x) →
     (above : ℕ) → IsAbove f above → (now : ℕ) → ((p : ℕ) → 1 ≤ p → p < 16 → bit now p ≡ significant x plan.plane p) → (families : ℕ) → families ≡ families_in mark →
     GrandchildrenNext f 3 earlier [] plan above now families (λ v. [])

@@ -27,7 +27,7 @@ abbrev pub FlagCall : {I : Type 0} → SourceOf I → (is_live was : Bool) → R
 FlagCall k is_live was r a b = (book : Book) (gaggle : Gaggle) (found : Found) (f : Frame) (stage : ℕ) (earlier : ℕ → List Step) (done : List Step) (after : List ℤ → List Step) → AreOptions gaggle.options → DescendantsNext f stage earlier done is_live was after →
     FoundPiece k book f stage earlier done (descendants_steps f) (AreDescendants f) r gaggle gaggle found found a b
 
--- a call for a word of which one at least must be 1 where that is wanted
+-- a call for a word of which at least one bit must be 1 if `wanted`
 abbrev pub SomeCall : {I : Type 0} → SourceOf I → Book → (mask : ℕ) → (wanted : Bool) → Result (Option ℕ) TextFault → Gaggle → Gaggle → Coming I → Coming I → Type 0
 SomeCall k book mask wanted r g h a b = (f : Frame) (stage : ℕ) (earlier : ℕ → List Step) (done : List Step) (tells : Told) (start count : ℕ) (due : ℕ → Bool) (so : List ℤ → ℕ → Bool) (after : List ℤ → List Step) →
     WordNext f stage earlier done (some_one_where wanted) tells start count mask due so after → TakesPlaces k book f stage earlier done (some_one_where wanted) tells start count due so r g h a b

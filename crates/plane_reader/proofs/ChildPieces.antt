@@ -42,7 +42,7 @@ module _ {f : Frame} {stage : ℕ} {earlier : ℕ → List Step} {done : List St
   all_now v s = set_now f v s.candidate Descendants tt ∙ ap (λ t. t || (flag_due v f.weights f.plane Descendants && set_significant v f.plane Descendants)) (sym next.was_is) ∙ ap (λ t. was || (t && set_significant v f.plane Descendants)) (due_all v s)
 
   module _ {I : Type 0} {k : SourceOf I} {book : Book} {g : Gaggle} {m : Found} (known : AreOptions g.options) {a : Coming I} where
-    -- it isn't due
+    -- the flag is not due
     pub descendants_known : (was ≡ true) ⊎ (is_live ≡ false) → IsIn a → Takes k a a [] → FoundPiece k book f stage earlier done (descendants_steps f) (AreDescendants f) (Ok (Some was)) g g m m a a
     descendants_known none i t =
         found_as book f stage earlier done (descendants_steps f) (λ v s. sym (as_one v false (due_all v s ∙ not_due was is_live none)))
@@ -60,7 +60,7 @@ module _ {f : Frame} {stage : ℕ} {earlier : ℕ → List Step} {done : List St
         stays false true s (inr e) = cc
         stays false false s e = refl
 
-    -- it is
+    -- the flag is due
     pub descendants_read : was ≡ false → is_live ≡ true → {r : Result (Option Bool) TextFault} {b : Coming I} → TakesFlag k r a b → FoundPiece k book f stage earlier done (descendants_steps f) (AreDescendants f) r g g m m a b
     descendants_read none lives t =
         found_as book f stage earlier done (descendants_steps f) (λ v s. sym (as_one v true (due v s)))

@@ -31,7 +31,7 @@ use Rattle.plane_reader.proofs.SignPieces.{found_whole}
 use Rattle.plane_reader.proofs.FoundPieces.{flags_piece, missing_more, fault_more, BothSay, say_as, both_read}
 use Rattle.plane_reader.proofs.SetFacts.{marked_set, live_set, above_same, flag_is, set_now, flags_by, three_families_are}
 
--- a mask tells as well what is the same at its places
+-- a mask also shows any property that is the same at its places
 pub shows_range : {m start count : ℕ} {f g : ℕ → Bool} → ((k : ℕ) → k < count → f (start + k) ≡ g (start + k)) → Shows m f start count → Shows m g start count
 shows_range same s = record { at = λ k lt. s.at k lt ∙ same k lt; small = s.small }
 
@@ -76,14 +76,14 @@ module _ {f : Frame} {stage : ℕ} {earlier : ℕ → List Step} {done : List St
   }
 
   module _ {I : Type 0} {k : SourceOf I} {book : Book} {g h : Gaggle} {m n : Found} {a b : Coming I} where
-    -- the flag isn't given
+    -- the flag is missing
     pub flag_missing : FoundPiece k book f stage earlier done (descendants_steps f) (AreDescendants f) (Ok None) g h m n a b → FoundPiece k book f stage earlier done (λ v. children_steps v f.weights f.plane) (AreFamilies f) (Ok None) g h m n a b
     flag_missing p = missing_more (λ v. family_step v ∷ types_part v) (AreFamilies f) 0 p
 
     pub flag_fault : {e : TextFault} → FoundPiece k book f stage earlier done (descendants_steps f) (AreDescendants f) (Err e) g h m n a b → FoundPiece k book f stage earlier done (λ v. children_steps v f.weights f.plane) (AreFamilies f) (Err e) g h m n a b
     flag_fault p = fault_more (λ v. family_step v ∷ types_part v) (AreFamilies f) 0 p
 
-  -- which flags of families are due, where all descendants are so
+  -- which flags of families are due, given whether all descendants are significant
   abbrev pub family_due : Bool → ℕ → Bool
   family_due all i = (not (set_significant f.block (f.plane + 1) (Family i)) && live f.weights f.plane (Family i)) && all
 
@@ -134,7 +134,7 @@ module _ {f : Frame} {stage : ℕ} {earlier : ℕ → List Step} {done : List St
           found_joined book f stage earlier done p (found_whole p)
           (found_as book f stage earlier (done ++ p.piece.part) (λ v. family_step v ∷ []) (λ v sends. ap (λ x. x ∷ []) (sym (family_is v sends))) (flags_piece n w))
 
-    -- the word of the families isn't given
+    -- the word of the families is missing
     pub families_missing : {h : Gaggle} {c : Coming I} → TakesPlaces k book f stage earlier (done ++ p.piece.part) (some_one_where (all && not s.descendants)) flags_alone 0 3 (family_due all) (λ x i. set_significant x f.plane (Family i)) (Ok None) g h b c →
         FoundPiece k book f stage earlier done (λ v. children_steps v f.weights f.plane) (AreFamilies f) (Ok None) g h m n a c
     families_missing w = found_as book f stage earlier done (λ v. children_steps v f.weights f.plane) (λ v t. parts_are v) (missing_more types_part (AreFamilies f) 0 (family_cut w))
@@ -244,7 +244,7 @@ module _ {f : Frame} {stage : ℕ} {earlier : ℕ → List Step} {done : List St
           all_pieces : FoundPiece k book f stage earlier done (λ v. (descendants_steps f v ++ (family_step v ∷ [])) ++ types_part v) Anything r g i m q a d
           all_pieces = found_joined book f stage earlier done both_pieces (found_whole both_pieces) types_piece
 
-        -- the types aren't given whole
+        -- the types are missing, or not whole
         pub types_missing : {i : Gaggle} {q : Found} {d : Coming I} → FoundPiece k book f stage earlier (done ++ both_pieces.piece.part) (group_steps f 4 3 (λ i. bit families i) (λ i. bit wanted i)) Anything (Ok None) h i n q c d →
             FoundPiece k book f stage earlier done (λ v. children_steps v f.weights f.plane) (AreFamilies f) (Ok None) g i m q a d
         types_missing x = found_as book f stage earlier done (λ v. children_steps v f.weights f.plane) (λ v t. append-nil ((descendants_steps f v ++ (family_step v ∷ [])) ++ types_part v) ∙ parts v) (missing_more (λ v. []) (AreFamilies f) 0 (all_pieces x))

@@ -21,7 +21,7 @@ use Rattle.plane_reader.proofs.PieceLaws.{nothing}
 use Rattle.plane_reader.proofs.StepPieces.{bit_step}
 use Rattle.plane_reader.proofs.IndexPieces.{piece_as, leads_as}
 
--- what is so of a value says more of it
+-- a property that implies another one of the value
 so_as : {I A : Type 0} {k : SourceOf I} {book : Book} {f : Frame} {stage : ℕ} {earlier : ℕ → List Step} {done : List Step} {next : List ℤ → List Step} {Is : A → List ℤ → Type 0} (Also : A → List ℤ → Type 0) {r : Result (Option A) TextFault} {g h : Gaggle} {a b : Coming I} →
     ((x : A) (v : List ℤ) → Is x v → Also x v) → Piece k book f stage earlier done next Is r g h a b → Piece k book f stage earlier done next Also r g h a b
 so_as Also also p = record {
@@ -59,7 +59,7 @@ module _ {f : Frame} {plan : CodedPlane} {earlier : ℕ → List Step} {after : 
   steps_none e v = ap (λ t. cond t (dc_step f v) []) e
 
   module _ {I : Type 0} {k : SourceOf I} {book : Book} {g : Gaggle} (known : AreOptions g.options) {a : Coming I} where
-    -- none is due
+    -- no bit is due
     pub dc_none : {t : Bool} → t ≡ (coded plan.weights.shifts plan.plane 0 && nat_lt plan.plane plan.q) → t ≡ false → IsIn a → Takes k a a [] →
         Piece k book f 0 earlier [] (λ v. dc_steps v f.weights f.plane f.q) (IsDcBit f) (Ok (Some false)) g g a a
     dc_none {t} told e i takes =
@@ -67,7 +67,7 @@ module _ {f : Frame} {plan : CodedPlane} {earlier : ℕ → List Step} {after : 
         piece_as book f 0 earlier [] (λ v. dc_steps v f.weights f.plane f.q) (λ v s. sym (steps_none none v))
         (nothing book f 0 earlier false (IsDcBit f) [] known i takes next.possible (λ v s. ap (λ l. has_bit_in l 0 && twos_bit (get_or v 0 (pos 0)) f.plane) (sym (steps_none none v))))
 
-    -- it is, and was read as far as it goes
+    -- a bit is due, and was read if the text has it
     pub dc_read : {t : Bool} → t ≡ (coded plan.weights.shifts plan.plane 0 && nat_lt plan.plane plan.q) → t ≡ true → {r : Result (Option Bool) TextFault} {b : Coming I} → TakesFlag k r a b →
         Piece k book f 0 earlier [] (λ v. dc_steps v f.weights f.plane f.q) (IsDcBit f) r g g a b
     dc_read {t} told e {r} {b} flag =

@@ -1,4 +1,4 @@
--- The first stage of a block, where its DC's bit was read or not.
+-- The first stage of a block, whether its DC's bit was read or not.
 use Rattle.std.proofs.Common.{◌≡◌, ℕ, zero, suc, ◌-◌, ◌≤◌, Bool, true, false, ◌&&◌, cond, ℤ, pos, List, [], ◌∷◌, ◌++◌, get_or, refl, ap, sym, ◌∙◌, subst, arith, append-nil}
 use Rattle.std.specs.Prelude.{Ok, Err, Some, None, Result, Option}
 use Rattle.std.specs.List.{list_any}
@@ -81,7 +81,7 @@ some_agree flags = record { at = each }
 known_options : (g : Gaggle) → Knows g g.options
 known_options g = record { at = λ n low high e. refl }
 
--- ---- a reading that stops within the first step read none
+-- ---- a reading that stops within the first step has read no step
 
 none_before_cut : (t : Bool) (s next : Step) (part more : List Step) → cond t (s ∷ []) [] ≡ part ++ next ∷ more → part ≡ []
 none_before_cut t s next [] more e = refl
@@ -95,7 +95,7 @@ cut_before book options sent part (stopped (ended m)) t s cut stops = none_befor
 cut_before book options sent part (stopped (refused m spelt name)) t s cut stops = none_before_cut t s stops.next part stops.more stops.parts
 cut_before book options sent part (failed m e) t s cut stops = none_before_cut t s stops.next part stops.more stops.parts
 
--- ---- how far a list was read, where a value of it is answered
+-- ---- how far a list was read, if a value of it is returned
 
 missing_part : {A : Type 0} (value : A) (ending : Ending) → Ok None ≡ item_answer value ending → Ok Ended ≡ part_answer ending
 missing_part value (stopped whole) e = absurd cc
@@ -111,7 +111,7 @@ fault_part value fault (failed m f) e = from_err e
 
 -- ---- the stage
 
--- the DC's bit of a block was read, as far as it goes
+-- the DC's bit of a block was read, if the text has it
 abbrev pub DcPiece : {I : Type 0} → SourceOf I → Book → (f : Frame) → (earlier : ℕ → List Step) → Result (Option Bool) TextFault → Gaggle → Coming I → Coming I → Type 0
 DcPiece k book f earlier r g a b = Piece k book f 0 earlier [] (λ v. dc_steps v f.weights f.plane f.q) (IsDcBit f) r g g a b
 

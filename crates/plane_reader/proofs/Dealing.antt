@@ -87,7 +87,7 @@ first_more count window lt =
     ∙ ap (λ n. bits_of count n ++ bits_of 1 (window / 2 ^ (63 - count))) (shr-shr window (63 - count) 1 ∙ ap (λ n. window / 2 ^ n) up)
     ∙ ap (λ l. first_of count window ++ l) (one_of (window / 2 ^ (63 - count)))
 
--- no position of a mask between
+-- no position of a mask is between
 pub filter_to : (f : ℕ → Bool) (low count : ℕ) → ((p : ℕ) → low ≤ p → p < low + count → f p ≡ false) → filter f (span 0 (low + count)) ≡ filter f (span 0 low)
 filter_to f low zero none = let e : low + 0 ≡ low = omega arith in ap (λ n. filter f (span 0 n)) e
 filter_to f low (suc n) none =
@@ -208,9 +208,9 @@ moved_bit window count rest lt e =
     top : (x : ℕ) → x % 2 ^ 64 / 2 ^ 63 % 2 ≡ x / 2 ^ 63 % 2
     top x = omega arith
 
--- ---- the positions that a window serves
+-- ---- the positions that a window has bits for
 
--- the first 56 positions have all but eight of the ones
+-- the first 56 positions have all of the ones except at most eight
 pub front_ones : (mask : ℕ) → mask < 2 ^ 64 → count_ones mask ≤ 8 + count_ones (mask % 2 ^ 56)
 front_ones mask fits =
     let high = mask / 2 ^ 56 in
@@ -232,7 +232,7 @@ front_low mask = record {
 
 -- ---- the loop over them
 
--- so many positions were passed, and the window moved on by as many bits
+-- this number of positions was passed, and the window moved on by the same number of bits
 pub record DealtOn (mask window rest left bits : ℕ) : Type 0 where
   pub count : ℕ
   pub dealt : DealtSo mask window count left bits
@@ -279,7 +279,7 @@ part_less mask rest position small part here gone =
     both a (suc zero) la lb h = omega (arith, h refl)
     both a (suc (suc b)) la lb h = absurd (omega (arith, lb))
 
--- all that a window serves got their bits
+-- all positions that a window has bits for are given their bits
 pub dealt_all : {mask here window rest bits : ℕ} → DealtOn here window rest 0 bits → IsFront mask here → 0 < here → count_ones here ≤ 56 → (left : ℕ) → Shows left (λ p. not (bit here p) && bit mask p) 0 64 → Deals mask window (count_ones here) left bits
 dealt_all {mask} {here} {window} {rest} {bits} s front some few left shows = record {
   some = total;

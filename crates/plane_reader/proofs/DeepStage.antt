@@ -1,4 +1,4 @@
--- A stage of a block that is deep enough: what its words told, put into the block.
+-- A stage of a block that is deep enough: what its words give, put into the block.
 use Rattle.std.proofs.Common.{◌≡◌, ℕ, ◌<◌, ◌≤◌, ℤ, List, [], refl, ap, sym, subst, arith}
 use Rattle.std.specs.Prelude.{Ok, Err, Some, None, Result, Option}
 use Rattle.item_defs.specs.Readings.{whole, ended, refused}

@@ -30,7 +30,7 @@ small_word : (n w : ℕ) → n ≤ 4 → w < 2 ^ n → w < 16
 small_word n w few lt = let most : 2 ^ n ≤ 2 ^ 4 = pow_mono few in omega (arith, lt, most)
 
 module _ {I : Type 0} {k : SourceOf I} (book : Book) (due : ℕ) (due_small : due < 16) (few : count_ones due ≤ 4) {g h : Gaggle} where
-  -- it isn't read whole
+  -- the word is not read whole
   due_as : {r : _} {a b : Coming I} (w : TakesWord k book (count_ones due) r g h a b) → TakesDue k book due (item_answer (spread_entry due w.value) w.ending) g h a b
   due_as {r} w = record {
     places = spread_entry due w.value;

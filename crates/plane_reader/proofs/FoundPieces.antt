@@ -35,7 +35,7 @@ or_none : (t : Bool) → (t || (false || false)) ≡ t
 or_none true = refl
 or_none false = refl
 
--- a step of flags tells nothing of numbers
+-- a step of flags reports nothing of numbers
 flags_find : (plane : ℕ) (done : List Step) (check : Check) (told : Entry) (v : List ℤ) (m : Found) → Finds plane done v m → Finds plane (done ++ step check flags_alone told ∷ []) v m
 flags_find plane done check told v m first = record {
   bits = shows_same (λ p. ap (λ t. t && bit (magnitude v p) plane) (sym (list_any-append (λ s. tells_bit p s.tells) done (step check flags_alone told ∷ []) ∙ or_none (has_bit_in done p)))) first.bits;
@@ -53,7 +53,7 @@ module _ {I A : Type 0} {k : SourceOf I} {book : Book} {f : Frame} {stage : ℕ}
     ];
   }
 
--- ---- what was cut, and what would come after it
+-- ---- what was cut, and what would follow it
 
 module _ {I A B : Type 0} {k : SourceOf I} {book : Book} {f : Frame} {stage : ℕ} {earlier : ℕ → List Step} {done : List Step} {next : List ℤ → List Step} {Is : A → List ℤ → Type 0} (more : List ℤ → List Step) (Also : B → List ℤ → Type 0) (other : B) {g h : Gaggle} {m n : Found} {a b : Coming I} where
   pub missing_more : FoundPiece k book f stage earlier done next Is (Ok None) g h m n a b → FoundPiece k book f stage earlier done (λ v. next v ++ more v) Also (Ok None) g h m n a b
@@ -72,7 +72,7 @@ abbrev pub BothSay : {A B : Type 0} → (A → List ℤ → Type 0) → (B → L
 BothSay Is Also x v = Is x.0 v × Also x.1 v
 
 module _ {I A : Type 0} {k : SourceOf I} {book : Book} {f : Frame} {stage : ℕ} {earlier : ℕ → List Step} {done : List Step} {next : List ℤ → List Step} {Is : A → List ℤ → Type 0} {g h : Gaggle} {m n : Found} {a b : Coming I} where
-  -- the answer says besides what is so of all blocks that send what was read
+  -- the answer also claims what holds of all blocks that send what was read
   unfoldable pub say_as : {B : Type 0} {Also : B → List ℤ → Type 0} {x : A} (y : B) (p : FoundPiece k book f stage earlier done next Is (Ok (Some x)) g h m n a b) → ((v : List ℤ) → Sends f stage earlier (done ++ p.piece.part) v → Is x v → Also y v) →
       FoundPiece k book f stage earlier done next Also (Ok (Some y)) g h m n a b
   say_as {x = x} y p also =

@@ -1,4 +1,4 @@
--- What stays of the marks and the blocks where a call reads one block.
+-- What stays of the states and the blocks if a call reads one block.
 use Rattle.std.proofs.Common.{rules, ◌≡◌, ℕ, ◌+◌, ◌-◌, ◌*◌, ◌<◌, ◌≤◌, inl, inr, ℤ, pos, Bool, false, cond, List, [], ◌∷◌, length, get_or, set, take, drop, refl, ap, sym, ◌∙◌, subst, arith, get_or-set_same, get_or-set_other}
 use borrow.Rule.Slice.PartMut.{put_mid}
 use Rattle.std.proofs.Math.ListN.{get_or-eq_default}
@@ -31,7 +31,7 @@ gaggle_same x y e f =
 pub kept_same : (old new : List ℤ) → KeepsGaggles old new → (h : ℕ) → kept new h ≡ kept old h
 kept_same old new keeps h = gaggle_same (kept new h) (kept old h) (keeps.options (16 * h)) (keeps.sent (16 * h))
 
--- ---- marks
+-- ---- states
 
 pub keeps_none : (marks : List ℤ) → KeepsGaggles marks marks
 keeps_none marks = record { depths = refl; options = λ r. refl; sent = λ r. refl }
@@ -39,7 +39,7 @@ keeps_none marks = record { depths = refl; options = λ r. refl; sent = λ r. re
 pub keeps_then : (a b c : List ℤ) → KeepsGaggles a b → KeepsGaggles b c → KeepsGaggles a c
 keeps_then a b c p q = record { depths = q.depths ∙ p.depths; options = λ r. q.options r ∙ p.options r; sent = λ r. q.sent r ∙ p.sent r }
 
--- one mark more was changed
+-- one more state is changed
 pub keeps_one : (first marks : List ℤ) (r : ℕ) (m : ℤ) → r < length marks → depth_of m ≡ depth_of (get_or marks r (pos 0)) → options_in m ≡ options_in (get_or marks r (pos 0)) →
     sent_in m ≡ sent_in (get_or marks r (pos 0)) → KeepsGaggles first marks → KeepsGaggles first (set marks r m)
 unfolding depths_of
@@ -56,7 +56,7 @@ keeps_one first marks r m within depth options sent keeps = record {
           | inr apart ↦ ap f (get_or-set_other marks r i m (pos 0) apart)
         ]
 
--- ---- marks that keep nothing
+-- ---- states that keep nothing
 
 is_clear : (m : ℤ) → options_in m ≡ 0 ∷ 0 ∷ 0 ∷ [] → sent_in m ≡ false ∷ false ∷ false ∷ [] → IsClear m
 is_clear m options sent = record { options = subst AreOptions (sym options) (record { two = omega arith; three = omega arith; four = omega arith }); sent = sent }
@@ -122,7 +122,7 @@ module _ (cells : List ℤ) (r n : ℕ) (b : List ℤ) (within : 64 * r + 64 ≤
   pub put_long : length (put_mid (64 * r) n cells b) ≡ length cells
   put_long = search (rules, overwrites)
 
--- the AC numbers of the first blocks stay where they stay in one more
+-- the AC numbers of the first blocks stay if they stay in one more block
 pub acs_stay : (first cells : List ℤ) (r n : ℕ) (b : List ℤ) → 64 * r + 64 ≤ length cells → n ≡ 64 → length b ≡ 64 → (r < 64 → SameAcs (take n (drop (64 * r) cells)) b) → KeepsAcs first cells → KeepsAcs first (put_mid (64 * r) n cells b)
 acs_stay first cells r n b within size whole same keeps i low p ac =
     elim (same_or_other i r) [

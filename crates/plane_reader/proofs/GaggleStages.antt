@@ -1,4 +1,4 @@
--- A stage, gaggle by gaggle: what the marks keep of a gaggle is loaded, and stored again.
+-- A stage, gaggle by gaggle: what the states keep of a gaggle is loaded, and stored again.
 use Rattle.std.proofs.Common.{◌≡◌, ℕ, ◌+◌, ◌/◌, inl, inr, ℤ, List, length, refl, ap, sym, ◌∙◌}
 use Rattle.std.specs.Prelude.{Ok, Err}
 use Rattle.base_122.specs.declared.book.Book.{Book}
@@ -54,7 +54,7 @@ pub next_gaggle : {I : Type 0} {source : SourceOf I} {book : Book} {plan : Coded
     Advances source book plan above stage gaggle stage next (Ok Whole) now new → Reaches source book plan above k g c stage next 0 old new
 next_gaggle reaches advances = record { so_far = λ s from start p. advances.leaves s from start (reaches.so_far s from start p) }
 
--- or one that stops within it
+-- a call for a gaggle that stops within it
 pub ended_gaggle : {I : Type 0} {source : SourceOf I} {book : Book} {plan : CodedPlane} {above : List ℕ} {k g stage gaggle next : ℕ} {old now new : Held I} (gaggles : ℕ → Gaggle) (marks : List ℤ) → Reaches source book plan above k 0 0 k g 0 old now →
     Advances source book plan above k g k next (Ok Ended) now new → Advances source book plan above k 0 stage gaggle (Ok Ended) old (held gaggles marks new.blocks new.input)
 ended_gaggle gaggles marks reaches advances = record { leaves = λ s from start p. advances.leaves s from start (reaches.so_far s from start p) }

@@ -1,4 +1,4 @@
--- A call for a block of a gaggle, as its loop goes on by it or stops.
+-- A call for a block of a gaggle, whose loop continues with it or stops.
 use Rattle.std.proofs.Common.{◌≡◌, ℕ, ◌+◌, ◌-◌, ◌*◌, ◌<◌, ◌≤◌, min, ℤ, pos, List, [], length, get_or, set, take, drop, refl, ap, sym, ◌∙◌, subst, arith, get_or-set_same, get_or-set_other}
 use Rattle.std.specs.Prelude.{Result, Ok}
 use borrow.Rule.Slice.PartMut.{put_mid}
@@ -30,7 +30,7 @@ use Rattle.plane_reader.proofs.PlaneStop.{plane_cut}
 use Rattle.plane_reader.proofs.ShownBlocks.{shown_long, block_shown, shown_alike}
 use Rattle.plane_reader.proofs.GaggleMarks.{one_there, one_other, kept_same, block_put, blocks_stay, put_long}
 
--- what was read up to some place goes on from there
+-- a reading up to some place continues from there
 pub goes_to : {I : Type 0} {source : SourceOf I} {book : Book} {plan : CodedPlane} {above : List ℕ} {k g c stage gaggle block : ℕ} {old new : Held I} → Continues source book plan above k g c old →
     Reaches source book plan above k g c stage gaggle block old new → Continues source book plan above stage gaggle block new
 goes_to goes reaches = record { start = goes.start; from = goes.from; is_start = goes.is_start; so_far = reaches.so_far goes.start goes.from goes.is_start goes.so_far }
@@ -47,7 +47,7 @@ pub goes_known : {I : Type 0} {source : SourceOf I} {book : Book} {plan : CodedP
     Continues source book plan above k g c (held (with_one (kept marks) h x) marks blocks input) → AreOptions x.options
 goes_known h marks blocks x input goes = subst (λ y. AreOptions y.options) (one_there (kept marks) h x) (goes.so_far.known h)
 
--- a call changed block r in the slices, and what waits for it
+-- a call changes block r in the slices, and what waits for it
 pub changes_block : {I : Type 0} (plane : ℕ) (marks blocks : List ℤ) (v w : List Found) (g r n : ℕ) (m : ℤ) (b : List ℤ) (x y : Gaggle) (i j : Coming I) → r < length marks → length blocks ≡ 64 * length marks → n ≡ 64 → length b ≡ 64 →
     length (put_mid (64 * r) n blocks b) ≡ length blocks → KeepsGaggles marks (set marks r m) → ((h : ℕ) → (h ≡ r → ⊥) → get_or w h nothing ≡ get_or v h nothing) →
     ReadsBlock g r m (shown_block plane (get_or w r nothing) b) (held (with_one (kept marks) g x) marks (shown plane v blocks) i)
@@ -90,7 +90,7 @@ module _ {I : Type 0} {source : SourceOf I} {book : Book} {plan : CodedPlane} {a
   pub above_there : KeepsAbove above r (frame_of s (16 * g + c))
   above_there = subst (λ n. KeepsAbove above n (frame_of s (16 * g + c))) place (start.masks (16 * g + c) inside)
 
-  -- the block stands before its stage
+  -- the block is before its stage
   pub stands_there : StandsBefore (frame_of s (16 * g + c)) k (λ j. steps_of (frame_of s (16 * g + c)) j (get_or so_far.values (16 * g + c) [])) mark block
   stands_there =
       let earlier : ℕ → List Step = λ j. steps_of (frame_of s (16 * g + c)) j (get_or so_far.values (16 * g + c) []) in
@@ -136,7 +136,7 @@ module _ {I : Type 0} {source : SourceOf I} {book : Book} {plan : CodedPlane} {a
       by_ending (stopped (refused n spelt name)) h = subst (λ z. Leaves z Next Stop) (sym (taken.answer ∙ ap part_answer h)) (stop (subst IsCut (sym h) tt))
       by_ending (failed n fault) h = subst (λ z. Leaves z Next Stop) (sym (taken.answer ∙ ap part_answer h)) (stop (subst IsCut (sym h) tt))
 
--- a call for block r, with slices of the marks and the blocks
+-- a call for block r, with slices of the states and the blocks
 pub call_leaves : {I : Type 0} {source : SourceOf I} {book : Book} {plan : CodedPlane} {above : List ℕ} {k : ℕ} (g r : ℕ) (marks blocks : List ℤ) (v w : List Found) (x y : Gaggle) (i j : Coming I) (m : ℤ) (b : List ℤ) {result : Result Part TextFault} {old : Held I} →
     16 * g ≤ r → r < 16 * g + 16 → r < length marks → length blocks ≡ 64 * length marks → length b ≡ 64 → KeepsGaggles marks (set marks r m) → ((h : ℕ) → (h ≡ r → ⊥) → get_or w h nothing ≡ get_or v h nothing) →
     Reaches source book plan above k g 0 k g (r - 16 * g) old (held (with_one (kept marks) g x) marks (shown plan.plane v blocks) i) →

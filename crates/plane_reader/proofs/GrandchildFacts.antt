@@ -23,7 +23,7 @@ at_zero {f = f} s k lt = s.at k lt ∙ ap f (zero-add k)
 pub shows_within : {mask count : ℕ} {f g : ℕ → Bool} → ((k : ℕ) → k < count → f k ≡ g k) → Shows mask f 0 count → Shows mask g 0 count
 shows_within {f = f} {g = g} same s = record { at = λ k lt. at_zero s k lt ∙ same k lt ∙ ap g (sym (zero-add k)); small = s.small }
 
--- a mask tells its own bits
+-- a mask shows its own bits
 pub own_bits : {mask count : ℕ} → mask < 2 ^ count → Shows mask (bit mask) 0 count
 own_bits {mask} small = record { at = λ k lt. ap (bit mask) (sym (zero-add k)); small = small }
 
@@ -48,7 +48,7 @@ module _ (f : Frame) (v : List ℤ) (c : IsCandidate f.weights f.plane f.q f.dep
   unfolding is_new
   new_is s known = ap (λ t. set_significant v f.plane s && not t) (above_same f v c s known)
 
-  -- a set is new where its flag is due and 1
+  -- a set is new if its flag is due and 1
   pub new_due : (s : Set) → IsKnown s → is_new v f.plane s ≡ (flag_due v f.weights f.plane s && set_significant v f.plane s)
   new_due s known =
       new_is s known
@@ -65,7 +65,7 @@ module _ (f : Frame) (v : List ℤ) (c : IsCandidate f.weights f.plane f.q f.dep
 
 -- ---- types
 
--- the positions above the plane, and those that are coded in it, tell which types are due
+-- the positions above the plane, and those that are coded in it, determine which types are due
 pub types_due : (f : Frame) (above types : ℕ) → ((p : ℕ) → IsAc p → bit above p ≡ significant f.block (f.plane + 1) p) → Shows types (λ p. not (bit above p) && coded f.weights f.plane p) 0 64 →
     (p : ℕ) → IsAc p → bit types p ≡ type_due f.block f.weights f.plane p
 unfolding type_due

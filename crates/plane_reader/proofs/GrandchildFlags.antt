@@ -1,4 +1,4 @@
--- The word of the flags of the sets of sixteen grandchildren, and what comes after it.
+-- The word of the flags of the sets of sixteen grandchildren, and what follows it.
 use Rattle.std.proofs.Common.{◌≡◌, ℕ, ◌+◌, ◌<◌, ◌≤◌, Bool, true, false, not, ◌&&◌, ◌||◌, cond, ℤ, List, [], ◌∷◌, ◌++◌, refl, ap, sym, ◌∙◌, subst, arith}
 use Rattle.std.specs.Prelude.{Ok, Err, Some, None, Result, Option, map, filter}
 use Rattle.std.specs.List.{list_any, AllByRecursion}
@@ -31,7 +31,7 @@ use Rattle.plane_reader.proofs.FoundPieces.{flags_piece, missing_more, fault_mor
 use Rattle.plane_reader.proofs.SetFacts.{marked_set, live_set, flag_is, set_now, flags_by, three_grandchildren_are}
 use Rattle.plane_reader.proofs.GrandchildFacts.{at_zero, shows_within, own_bits, new_is, new_due}
 
--- what is so of chosen sets, by their index
+-- what holds of chosen sets, by their index
 chosen_same : (F : ℕ → Set) (h d : Set → Bool) (k e : ℕ → Bool) (xs : List ℕ) → AllByRecursion (λ i. (d (F i) ≡ e i) × (h (F i) ≡ k i)) xs → map h (filter d (map F xs)) ≡ map k (filter e xs)
 chosen_same F h d k e [] all = refl
 chosen_same F h d k e (x ∷ xs) all = ap (λ t. map h (cond t (F x ∷ filter d (map F xs)) (filter d (map F xs)))) all.0.0 ∙ one (e x) (chosen_same F h d k e xs all.1)
@@ -131,7 +131,7 @@ module _ {f : Frame} {stage : ℕ} {earlier : ℕ → List Step} {done : List St
   live_shown are =
       shows_within (λ i lt. live_set plan.weights.shifts plan.plane (Grandchildren i) ∙ ap (λ w. live w plan.plane (Grandchildren i)) (sym next.next.weights) ∙ ap (λ n. live f.weights n (Grandchildren i)) (sym next.next.plane)) are.grandchildren
 
-  -- the word of the flags comes next
+  -- the word of the flags is next
   pub sixteens_word : {mask : ℕ} → Shows mask sixteen_due 0 3 → WordNext f stage earlier done (wanted_ones sixteen_due last_hope 0 3) flags_alone 0 3 mask sixteen_due sixteen_now (λ v. types_of v ++ after v)
   sixteens_word shown = record {
     below = next.next.below;
@@ -142,17 +142,17 @@ module _ {f : Frame} {stage : ℕ} {earlier : ℕ → List Step} {done : List St
   }
 
   module _ {I : Type 0} {k : SourceOf I} {book : Book} {g h : Gaggle} {a b : Coming I} {m : Found} where
-    -- it isn't given
+    -- the word is missing
     pub sixteens_missing : TakesPlaces k book f stage earlier done (wanted_ones sixteen_due last_hope 0 3) flags_alone 0 3 sixteen_due sixteen_now (Ok None) g h a b →
         FoundPiece k book f stage earlier done (λ v. grandchildren_steps v f.weights f.plane) Anything (Ok None) g h m m a b
     sixteens_missing w = as_stage (missing_more types_of Anything tt (flags_piece m w))
 
-    -- or refused, or the input fails
+    -- the word is refused, or the input fails
     pub sixteens_fault : {e : TextFault} → TakesPlaces k book f stage earlier done (wanted_ones sixteen_due last_hope 0 3) flags_alone 0 3 sixteen_due sixteen_now (Err e) g h a b →
         FoundPiece k book f stage earlier done (λ v. grandchildren_steps v f.weights f.plane) Anything (Err e) g h m m a b
     sixteens_fault w = as_stage (fault_more types_of Anything tt (flags_piece m w))
 
-    -- it is: the masks tell which sets of sixteen are new, and which are significant
+    -- the word is there: the masks say which sets of sixteen are new, and which are significant
     module _ (places sixteens : ℕ) (w : FoundPiece k book f stage earlier done word_of (λ x v. Shows x (λ i. sixteen_due i && sixteen_now v i) 0 3) (Ok (Some places)) g h m m a b)
         (either : (t : ℕ → Bool) → Shows places t 0 3 → Shows sixteens (λ i. sixteen_above i || t i) 0 3) where
       abbrev read : List Step
@@ -163,7 +163,7 @@ module _ {f : Frame} {stage : ℕ} {earlier : ℕ → List Step} {done : List St
           let e = one_given w.piece.value places w.piece.ending w.piece.answer in
           subst (λ x. Shows x (λ i. sixteen_due i && sixteen_now v i) 0 3) (sym e.1) (w.piece.so e.0 v s)
 
-      -- what they send comes next
+      -- what they send is next
       pub sixteens_next : AllQuadsNext f stage earlier read plan above sixteens places after
       sixteens_next = record {
         next = record {
@@ -182,7 +182,7 @@ module _ {f : Frame} {stage : ℕ} {earlier : ℕ → List Step} {done : List St
             shows_within (λ i lt. ap (λ t. t && sixteen_now v i) (sym (due_is v first i lt)) ∙ sym (new_due f v first.candidate (Grandchildren i) lt)) (new_shown v s);
       }
 
-      -- and was read, as far as it goes
+      -- what they send was read, up to where the text ends
       pub sixteens_then : {i' : Gaggle} {n : Found} {c : Coming I} {r : Result (Option (Unit {0})) TextFault} → FoundPiece k book f stage earlier read types_of Anything r h i' m n b c →
           FoundPiece k book f stage earlier done (λ v. grandchildren_steps v f.weights f.plane) Anything r g i' m n a c
       sixteens_then p = as_stage (found_joined book f stage earlier done w (found_whole w) p)

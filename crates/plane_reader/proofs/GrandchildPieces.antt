@@ -24,7 +24,7 @@ use Rattle.plane_reader.proofs.SignPieces.{found_missing, found_fault, found_who
 use Rattle.plane_reader.proofs.TypePieces.{filter_span}
 use Rattle.plane_reader.proofs.GrandchildFacts.{at_zero}
 
--- what set i sends, where the mask tells that it is significant
+-- what set i sends, if the mask has it as significant
 abbrev pub sixteen_item : Frame → (sixteens : ℕ) → ℕ → List ℤ → List Step
 sixteen_item f sixteens i v = cond (bit sixteens i) (quads_steps v f.weights f.plane i) []
 
@@ -45,12 +45,12 @@ module _ {f : Frame} {stage : ℕ} {earlier : ℕ → List Step} {done : List St
   as_all {book = book} p = found_as book f stage earlier done (λ v. all_quads_steps v f.weights f.plane) (λ v s. sym (all_are v s)) p
 
   module _ {I : Type 0} {k : SourceOf I} {book : Book} {g h : Gaggle} {m o : Found} {a b : Coming I} (n : ℕ) where
-    -- all were read
+    -- all sets were read
     pub sixteens_whole : n ≡ 3 → SoFar k book f stage earlier done (sixteen_item f sixteens) 0 n g h m o a b → FoundPiece k book f stage earlier done (λ v. all_quads_steps v f.weights f.plane) Anything (Ok (Some tt)) g h m o a b
     sixteens_whole e p = as_all (found_as book f stage earlier done (λ v. pieces item 0 3 v) (λ v s. ap (λ x. pieces item 0 x v) e) p)
 
     module _ (lt : n < 3) (p : SoFar k book f stage earlier done (sixteen_item f sixteens) 0 n g h m o a b) where
-      -- a set that isn't significant
+      -- a set that is not significant
       pub sixteen_skipped : bit sixteens n ≡ false → SoFar k book f stage earlier done (sixteen_item f sixteens) 0 (n + 1) g h m o a b
       sixteen_skipped e =
           found_as book f stage earlier done (λ v. pieces item 0 (n + 1) v)
@@ -63,7 +63,7 @@ module _ {f : Frame} {stage : ℕ} {earlier : ℕ → List Step} {done : List St
         one_is : (v : List ℤ) → item (0 + n) v ≡ quads_steps v f.weights f.plane n
         one_is v = ap (λ j. item j v) (zero-add n) ∙ ap (λ t. cond t (quads_steps v f.weights f.plane n) []) due
 
-        -- what it sends comes next
+        -- what the set sends is next
         pub sixteen_next : QuadsNext f stage earlier (done ++ p.piece.part) plan above n (bit new n) (rest_after item 0 3 after n)
         sixteen_next = record {
           next = record {
@@ -80,7 +80,7 @@ module _ {f : Frame} {stage : ℕ} {earlier : ℕ → List Step} {done : List St
           new_is = λ v s. sym (at_zero (next.new_is v (sends_front done p.piece.part s)) n lt);
         }
 
-        -- a call for it
+        -- a call for the set
         pub sixteen_call : {flag : Bool} → flag ≡ bit new n → {i : Gaggle} {q : Found} {c : Coming I} {r : Result (Option (Unit {0})) TextFault} →
             ((f : Frame) (stage : ℕ) (earlier : ℕ → List Step) (done : List Step) (after : List ℤ → List Step) → QuadsNext f stage earlier done plan above n flag after →
             FoundPiece k book f stage earlier done (λ v. quads_steps v f.weights f.plane n) Anything r h i o q b c) →

@@ -29,7 +29,7 @@ module _ {f : Frame} {stage : ℕ} {earlier : ℕ → List Step} {done : List St
     abbrev one_group : List ℤ → List Step
     one_group v = typed_steps v f.weights f.plane (some_one_where (wanted n)) (span (first + 4 * n) 4)
 
-    -- a group that isn't sent
+    -- a group that is not sent
     pub group_skipped : now n ≡ false → SoFar k book f stage earlier done (group_item f first now wanted) 0 (n + 1) g h m o a b
     group_skipped e =
         found_as book f stage earlier done (λ v. pieces item 0 (n + 1) v)
@@ -41,7 +41,7 @@ module _ {f : Frame} {stage : ℕ} {earlier : ℕ → List Step} {done : List St
     one_is : now n ≡ true → (v : List ℤ) → item (0 + n) v ≡ one_group v
     one_is e v = let z : 0 + n ≡ n = omega arith in ap (λ j. item j v) z ∙ ap (λ t. cond t (one_group v) []) e
 
-    -- its types come next
+    -- the types of the group are next
     pub group_next : now n ≡ true → TypesNext f stage earlier (done ++ p.piece.part) (wanted n) (first + 4 * n) 4 mask (rest_after item 0 count after n)
     group_next e = record {
       below = next.below;

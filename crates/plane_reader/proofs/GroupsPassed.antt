@@ -1,4 +1,4 @@
--- The groups of a mask, of which those are left that weren't read yet.
+-- The groups of a mask of which some are still to be read.
 use Rattle.std.proofs.Common.{◌≡◌, inl, inr, ℕ, zero, suc, ◌+◌, ◌-◌, ◌*◌, ◌<◌, ◌≤◌, Bool, true, false, ℤ, List, [], ap, sym, ◌∙◌, subst, refl, arith}
 use Rattle.std.specs.Prelude.{Ok, Err, Some, None, Result, Option}
 use Rattle.std.proofs.lemmas.Bool.{cases_lt}
@@ -79,7 +79,7 @@ module _ {f : Frame} {stage : ℕ} {earlier : ℕ → List Step} {done : List St
       before : SoFar k book f stage earlier done (group_item f first now wanted) 0 j g h m o a b
       before = let whole : p.n + (j - p.n) ≡ j = omega (arith, above) in skip_to (j - p.n) j whole (omega (arith, group_below)) none
 
-      -- a call for its types
+      -- a call for the types of a group
       module _ (flag : Bool) (is : flag ≡ wanted j) {i : Gaggle} {q : Found} {c : Coming I} {r : Result (Option (Unit {0})) TextFault}
           (types : (f : Frame) (stage : ℕ) (earlier : ℕ → List Step) (done : List Step) (after : List ℤ → List Step) → TypesNext f stage earlier done flag (first + 4 * j) 4 due after →
           FoundPiece k book f stage earlier done (λ v. typed_steps v f.weights f.plane (some_one_where flag) (span (first + 4 * j) 4)) Anything r h i o q b c) where

@@ -18,7 +18,7 @@ use Rattle.plane_reader.specs.Frames.{Frame, Sends, Possible, Leads}
 use Rattle.plane_reader.specs.Pieces.{ReadsSteps, Piece, FoundPiece, Finds, Anything, pieces, SoFar}
 use Rattle.plane_reader.proofs.PieceLaws.{sends_front, leads_on, nothing, cut_piece, joined, later_cut}
 
--- ---- the same steps told otherwise
+-- ---- the same steps, written in another way
 
 module _ {I A : Type 0} {k : SourceOf I} (book : Book) (f : Frame) (stage : ℕ) (earlier : ℕ → List Step) (done : List Step) {next : List ℤ → List Step} (other : List ℤ → List Step) {Is : A → List ℤ → Type 0} {r : Result (Option A) TextFault} {g h : Gaggle} {a b : Coming I}
     (same : (v : List ℤ) → Sends f stage earlier done v → next v ≡ other v) where
@@ -105,7 +105,7 @@ module _ (item : ℕ → List ℤ → List Step) (start total : ℕ) where
       ap (λ x. pieces item start x v) (sym whole) ∙ sym (pieces_both item start (n + 1) (total - (n + 1)) v) ∙ ap (λ l. l ++ pieces item (start + (n + 1)) (total - (n + 1)) v) (sym (pieces_more item start n v))
       ∙ append_assoc (pieces item start n v) (item (start + n) v) (pieces item (start + (n + 1)) (total - (n + 1)) v)
 
-  -- what comes after the nth piece
+  -- what follows the nth piece
   abbrev pub rest_after : (List ℤ → List Step) → ℕ → List ℤ → List Step
   rest_after after n v = pieces item (start + (n + 1)) (total - (n + 1)) v ++ after v
 
@@ -118,7 +118,7 @@ module _ {I : Type 0} {k : SourceOf I} (book : Book) (f : Frame) (stage : ℕ) (
   so_far_more n p e q = found_as book f stage earlier done (λ v. pieces item start (n + 1) v) (λ v s. pieces_more item start n v) (found_joined book f stage earlier done p e q)
 
   module _ (total : ℕ) (n : ℕ) (lt : n < total) where
-    -- the next piece is to come
+    -- the next piece follows
     pub leads_next : {after : List ℤ → List Step} → Leads f stage earlier done (λ v. pieces item start total v) after → {g h : Gaggle} {l m : Found} {a b : Coming I} → (p : SoFar k book f stage earlier done item start n g h l m a b) → p.piece.ending ≡ stopped whole →
         Leads f stage earlier (done ++ p.piece.part) (λ v. item (start + n) v) (rest_after item start total after n)
     leads_next {after} leads p e =
@@ -127,7 +127,7 @@ module _ {I : Type 0} {k : SourceOf I} (book : Book) (f : Frame) (stage : ℕ) (
         ∙ append_assoc (pieces item start n v ++ item (start + n) v) (pieces item (start + (n + 1)) (total - (n + 1)) v) (after v)) leads in
         leads_on done p.piece.part first (p.piece.all e)
 
-    -- it isn't read whole
+    -- the piece is not read whole
     pub so_far_cut : {g h i : Gaggle} {l m o : Found} {a b c : Coming I} {r : Result (Option (Unit {0})) TextFault} → (p : SoFar k book f stage earlier done item start n g h l m a b) → p.piece.ending ≡ stopped whole →
         (q : FoundPiece k book f stage earlier (done ++ p.piece.part) (λ v. item (start + n) v) Anything r h i m o b c) → IsCut q.piece.ending →
         FoundPiece k book f stage earlier done (λ v. pieces item start total v) Anything r g i l o a c

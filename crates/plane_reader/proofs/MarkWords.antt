@@ -1,4 +1,4 @@
--- The words of the children, and what the mark says then.
+-- The words of the children, and what the block's state says then.
 use Rattle.std.proofs.Common.{◌≡◌, ℕ, ℤ, List, [], sym, subst, append-nil}
 use Rattle.std.specs.Prelude.{Ok, Err, Some, None}
 use Rattle.base_122.specs.declared.book.Book.{Book}

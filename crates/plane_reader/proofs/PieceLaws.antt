@@ -34,12 +34,12 @@ pub sends_front : {f : Frame} {k : ℕ} {earlier : ℕ → List Step} {v : List 
 sends_front done part s = record { candidate = s.candidate; before = s.before; rest = part ++ s.rest; here = s.here ∙ append_assoc done part s.rest }
 
 module _ {f : Frame} {k : ℕ} {earlier : ℕ → List Step} where
-  -- what was read of a piece is the first part of what was to come
+  -- what was read of a piece is a prefix of what was to follow
   pub leads_rest : {next after : List ℤ → List Step} (done part : List Step) → Leads f k earlier done next after → (v : List ℤ) → (s : Sends f k earlier (done ++ part) v) → part ++ s.rest ≡ next v ++ after v
   leads_rest {next} {after} done part l v s =
       front_equal done (part ++ s.rest) (next v ++ after v) (sym (s.here ∙ append_assoc done part s.rest) ∙ l.at v (sends_front done part s))
 
-  -- after a piece the next one comes
+  -- after a piece the next one follows
   pub leads_on : {next more after : List ℤ → List Step} (done part : List Step) → Leads f k earlier done (λ v. next v ++ more v) after → ((v : List ℤ) → Sends f k earlier (done ++ part) v → next v ≡ part) →
       Leads f k earlier (done ++ part) more after
   leads_on {next} {more} {after} done part l all = record {
@@ -109,7 +109,7 @@ module _ {I : Type 0} {k : SourceOf I} (book : Book) (f : Frame) (stage : ℕ) (
     options = known;
   }
 
-  -- a piece that was cut, and what would come after it
+  -- a piece that was cut, and what would follow it
   unfoldable pub cut_piece : {A B : Type 0} {next : List ℤ → List Step} (more : List ℤ → List Step) {Is : A → List ℤ → Type 0} (Also : B → List ℤ → Type 0) (other : B) (done : List Step) {r : Result (Option A) TextFault} {g h : Gaggle} {a b : Coming I} →
       (p : Piece k book f stage earlier done next Is r g h a b) → IsCut p.ending → Piece k book f stage earlier done (λ v. next v ++ more v) Also (item_answer other p.ending) g h a b
   cut_piece {next = next} more Also other done {a = a} {b = b} p cut = record {

@@ -17,7 +17,7 @@ use Rattle.plane_reader.proofs.ShownBlocks.{shown_own}
 use Rattle.plane_reader.proofs.PlaneStart.{HasNone, not_begun}
 use Rattle.plane_reader.proofs.PlaneStop.{plane_whole}
 
--- marks that are clear are a plane's start
+-- clear states are a plane's start
 pub plane_begins : {I : Type 0} (source : SourceOf I) (book : Book) (plan : CodedPlane) (old marks blocks : List ℤ) (waiting : List Found) (input : Coming I) → ((r : ℕ) → get_or waiting r nothing ≡ nothing) →
     AwaitPlane plan.weights.shifts plan.plane plan.q (depths_of old) blocks → Clears old marks → IsIn input → Progress source book (start_of plan old blocks) 0 0 0 input (held (kept marks) marks (shown plan.plane waiting blocks) input)
 plane_begins source book plan old marks blocks waiting input none awaits clears opened =

@@ -21,13 +21,13 @@ use Rattle.plane_reader.specs.Progress.{items_to, entries_to}
 abbrev pub entries_before_block : Plane → (k g c : ℕ) → List Entry
 entries_before_block p k g c = before_stage p k g ++ flat_map (of_block p (stage_number k)) (span (16 * g) c)
 
--- the same, seen from all of the stage's blocks
+-- the same, counted over all of the stage's blocks
 pub entries_here : (p : Plane) (k g c : ℕ) → c < 16 → 16 * g + c < length p.depths → entries_to p k (16 * g + c) g ≡ entries_before_block p k g c
 entries_here p k g c few within =
     let count : min (16 * g + c - 16 * g) (min 16 (length p.depths - 16 * g)) ≡ c = omega arith in
     ap (λ n. before_stage p k g ++ flat_map (of_block p (stage_number k)) (span (16 * g) n)) count
 
--- one block more is its gaggle's
+-- one more block adds to its own gaggle
 pub entries_more : (p : Plane) (k g c : ℕ) → c < 16 → 16 * g + c < length p.depths → entries_to p k (16 * g + (c + 1)) g ≡ entries_before_block p k g c ++ of_block p (stage_number k) (16 * g + c)
 entries_more p k g c few within =
     let count : min (16 * g + (c + 1) - 16 * g) (min 16 (length p.depths - 16 * g)) ≡ c + 1 = omega arith in
@@ -35,7 +35,7 @@ entries_more p k g c few within =
     ap (λ n. before_stage p k g ++ flat_map f (span (16 * g) n)) count ∙ ap (λ l. before_stage p k g ++ l) (flat_map-span-suc f (16 * g) c)
     ∙ sym (append_assoc (before_stage p k g) (flat_map f (span (16 * g) c)) (f (16 * g + c)))
 
--- and no other's
+-- and to no other gaggle
 pub entries_other : (p : Plane) (k g c h : ℕ) → c < 16 → (h ≡ g → ⊥) → entries_to p k (16 * g + (c + 1)) h ≡ entries_to p k (16 * g + c) h
 entries_other p k g c h few apart =
     let count : min (16 * g + (c + 1) - 16 * h) (min 16 (length p.depths - 16 * h)) ≡ min (16 * g + c - 16 * h) (min 16 (length p.depths - 16 * h)) =
@@ -51,7 +51,7 @@ entries_gaggle p k g c h all few =
     let count : min (16 * (g + 1) + 0 - 16 * h) (min 16 (length p.depths - 16 * h)) ≡ min (16 * g + c - 16 * h) (min 16 (length p.depths - 16 * h)) = omega arith in
     ap (λ n. before_stage p k h ++ flat_map (of_block p (stage_number k)) (span (16 * h) n)) count
 
--- and past all of them the next stage
+-- past all of them the next stage begins
 pub entries_stage : (p : Plane) (k n h : ℕ) → length p.depths ≤ n → entries_to p (k + 1) (16 * 0 + 0) h ≡ entries_to p k n h
 entries_stage p k n h all =
     let none : min (16 * 0 + 0 - 16 * h) (min 16 (length p.depths - 16 * h)) ≡ 0 = omega arith in
@@ -130,7 +130,7 @@ module _ (book : Book) (o : ℕ → List ℕ) (p : Plane) where
       zero_plus : (k : ℕ) → 0 + k ≡ k
       zero_plus k = omega arith
 
-  -- before a stage's first block stand the stages before
+  -- the stages before it precede a stage's first block
   pub items_whole : (k : ℕ) → items_to book o p k 0 0 ≡ plane_reading book o p k
   items_whole k =
       let B = plane_reading book o p k in
@@ -139,7 +139,7 @@ module _ (book : Book) (o : ℕ → List ℕ) (p : Plane) where
   pub items_none : items_to book o p 0 0 0 ≡ []
   items_none = items_whole 0 ∙ flat_map-span-none (λ j. flat_map (gaggle_reading book o p j) (span 0 (gaggles p))) 0
 
--- ---- other values of which the same was sent
+-- ---- other values that send the same
 
 module _ (p p' : Plane) (k g c : ℕ) (few : c ≤ 16) (within : 16 * g + c ≤ length p.depths) (same : SendSame p p' k (16 * g + c)) where
   pub items_same : (book : Book) (o : ℕ → List ℕ) → items_to book o p k g c ≡ items_to book o p' k g c

@@ -22,11 +22,11 @@ use Rattle.plane_reader.specs.Frames.{Frame, steps_of, Sends}
 use Rattle.plane_reader.specs.Pieces.{Knows, StopsAfter}
 use Rattle.plane_reader.specs.Stages.{told_before, StandsBefore, StageTaken}
 
--- the options that were read are known to be so
+-- the options that were read are those that are known
 pub knows_own : (gaggle : Gaggle) → Knows gaggle gaggle.options
 knows_own gaggle = record { at = λ n low high there. refl }
 
--- other names of the same block, and another mark with the same families
+-- the same block under other names, and another state with the same families
 pub stands_moved : (f : Frame) (k : ℕ) (u u' : List ℤ) (m m' : ℤ) (b b' : List ℤ) → u' ≡ u → families_in m' ≡ families_in m → b' ≡ b →
     StandsBefore f k (λ j. steps_of f j u) m b → StandsBefore f k (λ j. steps_of f j u') m' b'
 stands_moved f k u u' m m' b b' values mark cells h =

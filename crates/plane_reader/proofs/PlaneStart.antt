@@ -20,7 +20,7 @@ use Rattle.plane_reader.specs.Progress.{Start, frame_of, plane_of, Held, StandsA
 use Rattle.plane_reader.proofs.PlaneItems.{entries_none, items_none}
 use Rattle.plane_reader.proofs.PlaneStands.{stands_moved}
 
--- a block is what it may stand for
+-- a block is among the blocks that it may be
 pub own_candidate : (weights : List ℕ) (plane q depth : ℕ) (block : List ℤ) → AwaitsPlane weights plane q depth block → IsCandidate weights plane q depth block block
 own_candidate weights plane q depth block h = record {
   whole = h.whole;
@@ -30,7 +30,7 @@ own_candidate weights plane q depth block h = record {
   above = record { mags = λ p ac. refl; signs = λ p ac reached. refl };
 }
 
--- where nothing is told a number stays
+-- a number stays if nothing is reported of it
 pub number_stays : (plane : ℕ) (z : ℤ) → z ≡ told_number plane z false false
 number_stays plane (pos n) = omega (arith, ints)
 number_stays plane (negsuc n) = omega (arith, ints)

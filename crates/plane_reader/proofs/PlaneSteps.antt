@@ -1,4 +1,4 @@
--- A plane is read one block further, and goes on to the next gaggle and the next stage.
+-- A plane is read one block further, and continues with the next gaggle and the next stage.
 use Rattle.std.proofs.Common.{◌≡◌, ℕ, ◌+◌, ◌-◌, ◌*◌, ◌<◌, ◌≤◌, min, inl, inr, ℤ, pos, List, [], ◌++◌, length, get_or, set, refl, ap, sym, ◌∙◌, subst, arith, get_or-set_same, get_or-set_other}
 use Rattle.std.specs.Prelude.{Result}
 use Rattle.std.proofs.Math.ListN.{length-set}
@@ -29,7 +29,7 @@ use Rattle.plane_reader.specs.Progress.{Start, frame_of, plane_of, items_to, ent
 use Rattle.plane_reader.proofs.PlaneItems.{entries_before_block, entries_here, entries_more, entries_other, entries_gaggle, entries_stage, items_here, items_more, items_gaggle, items_stage, items_same, entries_same}
 use Rattle.plane_reader.proofs.PlaneStands.{knows_own, stands_moved, sends_part, stands_then}
 
--- a call changed this of block r, of gaggle g, alone
+-- a call changes this of block r of gaggle g, and nothing else
 pub record ReadsBlock {I : Type 0} (g r : ℕ) (m : ℤ) (b : List ℤ) (old new : Held I) : Type 0 where
   pub others : (h : ℕ) → (h ≡ g → ⊥) → new.gaggles h ≡ old.gaggles h
   pub mark : get_or new.marks r (pos 0) ≡ m
@@ -71,7 +71,7 @@ module _ {I : Type 0} {source : SourceOf I} {book : Book} {s : Start} {k : ℕ} 
       set_at so_far.values place r t.possible.block [] (λ u. IsCandidate s.weights s.plane s.q (get_or s.depths r 0) (block_at s.blocks r) u) inside
       (λ e. subst (λ n. IsCandidate s.weights s.plane s.q (get_or s.depths n 0) (block_at s.blocks n) t.possible.block) (sym e) t.possible.sends.candidate) (so_far.candidates r lt)
 
-  -- blocks at other places stand as they did
+  -- blocks at other places are as before
   pub stands_other : (i j : ℕ) → (i ≡ place → ⊥) → StandsAt s so_far.values j i old → StandsAt s values_then j i new
   stands_other i j apart h =
       stands_moved (frame_of s i) j (get_or so_far.values i []) (get_or values_then i []) (get_or old.marks i (pos 0)) (get_or new.marks i (pos 0)) (block_at old.blocks i) (block_at new.blocks i)
@@ -109,7 +109,7 @@ module _ {I : Type 0} {source : SourceOf I} {book : Book} {s : Start} {k : ℕ} 
         subst (λ v. ReadsSteps source book (o g) (entries_before_block (plane_of s values_then) k g c) t.part t.ending (steps_of (frame_of s place) k v) old.input new.input) (sym value_here)
         (t.read t.possible.block t.possible.sends (entries_before_block (plane_of s values_then) k g c) (o g) agrees_here (knows g))
 
-  -- ---- where it was read whole
+  -- ---- if it was read whole
 
   module _ (w : t.ending ≡ stopped whole) where
     steps_then : steps_of (frame_of s place) k (get_or values_then place []) ≡ t.part
@@ -203,9 +203,9 @@ stage_further {source = source} {book = book} {s = s} {k = k} g {from = from} {n
       is_in = so_far.is_in;
     }
 
--- ---- the same held otherwise
+-- ---- the same state in another form
 
--- the gaggles are the same, and the marks tell the same of depths and families
+-- the gaggles are the same, and the states have the same depths and families
 pub record SameHeld {I : Type 0} (old new : Held I) : Type 0 where
   pub gaggles : (h : ℕ) → new.gaggles h ≡ old.gaggles h
   pub depths : depths_of new.marks ≡ depths_of old.marks

@@ -49,7 +49,7 @@ stops_cut book options sent part d (stopped (ended m)) steps cut h = h
 stops_cut book options sent part d (stopped (refused m s name)) steps cut h = h
 stops_cut book options sent part d (failed m e) steps cut h = h
 
--- the steps that stand whole in what was read, which is no more than all
+-- the steps that are whole in what was read, which are no more than all steps
 cut_whole : (book : Book) (options : List ℕ) (sent : List Entry) (part : List Step) (m : ℕ) (steps : List Step) → CutAfter book options sent part m steps →
     (whole_steps book options sent m steps ≡ part) × (m ≤ length (read_after book options sent steps))
 cut_whole book options sent part m steps h =
@@ -67,7 +67,7 @@ cut_whole book options sent part m steps h =
       ),
     )
 
--- ---- what is told
+-- ---- what is reported
 
 pub tells_alike : (plane : ℕ) (ss ts : List Step) (v before now : List ℤ) → TellAlike ss ts → Tells plane ts v before now → Tells plane ss v before now
 tells_alike plane ss ts v before now alike h = record {
@@ -79,7 +79,7 @@ tells_alike plane ss ts v before now alike h = record {
   dc = h.dc ∙ ap (λ b. get_or before 0 (pos 0) +ℤ pos (if b && twos_bit (get_or v 0 (pos 0)) plane then 2 ^ plane else 0)) (sym (alike.bits 0));
 }
 
--- a block before a stage has what the stages before tell of the values
+-- a block before a stage has what the stages before it report of the values
 pub stands_tells : {I : Type 0} (s : Start) (values : List (List ℤ)) (k r : ℕ) (now : Held I) → StandsAt s values k r now →
     IsCandidate s.weights s.plane s.q (get_or s.depths r 0) (block_at s.blocks r) (get_or values r []) →
     Tells s.plane (steps_through (plane_of s values) k r) (get_or values r []) (block_at s.blocks r) (block_at now.blocks r)

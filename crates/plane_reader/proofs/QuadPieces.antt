@@ -72,7 +72,7 @@ module _ {f : Frame} {stage : ℕ} {earlier : ℕ → List Step} {done : List St
   pub live_shown : {quads : ℕ} → AreQuads (coded plan.weights.shifts plan.plane) i quads → Shows quads (λ j. live f.weights f.plane (Quad i j)) 0 4
   live_shown q = shows_within (λ j lt. live_set plan.weights.shifts plan.plane (Quad i j) ∙ ap (λ w. live w plan.plane (Quad i j)) (sym next.next.weights) ∙ ap (λ n. live f.weights n (Quad i j)) (sym next.next.plane)) q.shown
 
-  -- the word of the flags comes next
+  -- the word of the flags is next
   pub quads_word : {mask : ℕ} → Shows mask quad_due 0 4 → WordNext f stage earlier done (some_one_where new) flags_alone 0 4 mask quad_due quad_now (λ v. types_of v ++ after v)
   quads_word shown = record {
     below = next.next.below;
@@ -83,15 +83,15 @@ module _ {f : Frame} {stage : ℕ} {earlier : ℕ → List Step} {done : List St
   }
 
   module _ {I : Type 0} {k : SourceOf I} {book : Book} {g h : Gaggle} {a b : Coming I} {m : Found} where
-    -- it isn't given
+    -- the word is missing
     pub quads_missing : TakesPlaces k book f stage earlier done (some_one_where new) flags_alone 0 4 quad_due quad_now (Ok None) g h a b → FoundPiece k book f stage earlier done (λ v. quads_steps v f.weights f.plane i) Anything (Ok None) g h m m a b
     quads_missing w = as_quads (missing_more types_of Anything tt (flags_piece m w))
 
-    -- or refused, or the input fails
+    -- the word is refused, or the input fails
     pub quads_fault : {e : TextFault} → TakesPlaces k book f stage earlier done (some_one_where new) flags_alone 0 4 quad_due quad_now (Err e) g h a b → FoundPiece k book f stage earlier done (λ v. quads_steps v f.weights f.plane i) Anything (Err e) g h m m a b
     quads_fault w = as_quads (fault_more types_of Anything tt (flags_piece m w))
 
-    -- it is: the masks tell which sets of four are new, and which are significant
+    -- the word is there: the masks say which sets of four are new, and which are significant
     module _ (places now types : ℕ) (w : FoundPiece k book f stage earlier done word_of (λ x v. Shows x (λ j. quad_due j && quad_now v j) 0 4) (Ok (Some places)) g h m m a b)
         (either : (t : ℕ → Bool) → Shows places t 0 4 → Shows now (λ j. quad_above j || t j) 0 4) (types_shown : Shows types (λ p. not (bit above p) && coded plan.weights.shifts plan.plane p) 0 64) where
       abbrev read : List Step
@@ -117,7 +117,7 @@ module _ {f : Frame} {stage : ℕ} {earlier : ℕ → List Step} {done : List St
           flat_chosen (λ j. typed_steps v f.weights f.plane (some_one_where (is_new v f.plane (Quad i j))) (span (quad_of i j) 4)) (λ j. typed_steps v f.weights f.plane (some_one_where (bit places j)) (span ((16 + 16 * i) + 4 * j) 4))
           (quad_now v) (bit now) 4 (now_same v s) (λ j lt. ap (λ t. typed_steps v f.weights f.plane (some_one_where t) (span (quad_of i j) 4)) (new_same v s j lt))
 
-      -- the types come next
+      -- the types are next
       pub quads_next : GroupsNext f stage earlier read (16 + 16 * i) 4 (bit now) (bit places) types now places after
       quads_next =
           let possible = w.piece.possible in
@@ -136,7 +136,7 @@ module _ {f : Frame} {stage : ℕ} {earlier : ℕ → List Step} {done : List St
             possible = possible;
           }
 
-      -- and were read, as far as they go
+      -- the types were read, up to where the text ends
       pub quads_then : {i' : Gaggle} {n : Found} {c : Coming I} {r : Result (Option (Unit {0})) TextFault} → FoundPiece k book f stage earlier read (group_steps f (16 + 16 * i) 4 (bit now) (bit places)) Anything r h i' m n b c →
           FoundPiece k book f stage earlier done (λ v. quads_steps v f.weights f.plane i) Anything r g i' m n a c
       quads_then p = as_quads (found_joined book f stage earlier done w (found_whole w) (found_as book f stage earlier read types_of (λ v s. sym (types_same v s)) p))

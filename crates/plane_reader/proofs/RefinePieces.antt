@@ -107,7 +107,7 @@ bit_shows done v plane p x told q e =
 
 -- ---- the positions that are left
 
--- all up to n were read, and these are left of a mask
+-- all positions below n were read, and these of the mask are left
 pub record Passed {I : Type 0} (k : SourceOf I) (book : Book) (f : Frame) (stage : ℕ) (earlier : ℕ → List Step) (done : List Step) (mask left : ℕ) (g : Gaggle) (m o : Found) (a b : Coming I) : Type 0 where
   pub n : ℕ
   pub within : n ≤ 63
@@ -135,7 +135,7 @@ module _ {f : Frame} {stage : ℕ} {earlier : ℕ → List Step} {done : List St
     }
 
     module _ {left : ℕ} {o : Found} {b : Coming I} (p : Passed k book f stage earlier done mask left g m o a b) where
-      -- up to a place before which none is left
+      -- up to a place before which no position is left
       skip_to : (n : ℕ) → p.n ≤ n → n ≤ 63 → ((q : ℕ) → q ≤ n → bit left q ≡ false) → SoFar k book f stage earlier done (refine_item f) 1 n g g m o a b
       skip_to n low high none =
           found_as book f stage earlier done (λ v. pieces (refine_item f) 1 n v)

@@ -1,4 +1,4 @@
--- Refinement bits, as many read at once as stand at hand.
+-- Refinement bits that are read at once, as many as a window has.
 use Rattle.std.proofs.Common.{◌≡◌, inl, inr, ℕ, zero, suc, ◌+◌, ◌-◌, ◌/◌, ◌<◌, ◌≤◌, ◌^◌, Bool, true, false, ◌&&◌, ◌||◌, cond, ℤ, pos, List, [], ◌∷◌, ◌++◌, length, get_or, refl, ap, sym, ◌∙◌, subst, arith, append_assoc}
 use Rattle.std.specs.Prelude.{Ok, Some, map, filter}
 use Rattle.std.proofs.lemmas.Bool.{cases_lt}
@@ -34,7 +34,7 @@ use Rattle.plane_reader.proofs.SignPieces.{found_whole}
 use Rattle.plane_reader.proofs.SignsPassed.{never}
 use Rattle.plane_reader.proofs.RefinePieces.{refine_item, refine_leads, Passed}
 
--- those of a span from 0 that are past others, of which there are none
+-- the positions of a span from 0 that are past the others, of which there are none
 filter_past : (f g : ℕ → Bool) (low count : ℕ) → ((p : ℕ) → p < low → f p ≡ false) → ((p : ℕ) → low ≤ p → p < low + count → f p ≡ g p) → filter f (span 0 (low + count)) ≡ filter g (span low count)
 filter_past f g low zero none same =
     let e : low + 0 ≡ 0 + low = omega arith in
@@ -91,7 +91,7 @@ module _ {f : Frame} {stage : ℕ} {earlier : ℕ → List Step} {done : List St
   abbrev read_before : List Step
   read_before = done ++ p.so_far.piece.part
 
-  -- what comes after them
+  -- what follows them
   abbrev left_after : List ℤ → List Step
   left_after v = pieces (refine_item f) (1 + (p.n + (top - p.n))) (63 - (p.n + (top - p.n))) v ++ after v
 

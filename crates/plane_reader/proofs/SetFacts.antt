@@ -16,7 +16,7 @@ use Rattle.plane_texts.proofs.BlockChoice.{acs_above}
 use Rattle.plane_reader.specs.Frames.{Frame, due_bits}
 use Rattle.plane_reader.proofs.TypePieces.{filter_span}
 
--- a mask tells of the AC numbers above: so of sets
+-- a mask of the AC numbers that are significant above gives the same for sets
 pub marked_set : (f : Frame) (mask : ℕ) → ((p : ℕ) → IsAc p → bit mask p ≡ significant f.block (f.plane + 1) p) → (s : Set) → IsKnown s → list_any (λ p. bit mask p) (members s) ≡ set_significant f.block (f.plane + 1) s
 unfolding set_significant
 marked_set f mask marked s known = any_alike (λ p. bit mask p) (significant f.block (f.plane + 1)) (members s) (members_acs s known) marked
@@ -35,7 +35,7 @@ module _ (f : Frame) (v : List ℤ) (c : IsCandidate f.weights f.plane f.q f.dep
   unfolding flag_due
   flag_is s known = ap (λ t. (not t && live f.weights f.plane s) && enclosing_significant v f.plane s) (above_same s known)
 
-  -- a set is significant where it was above, or where its flag is due and 1
+  -- a set is significant if it was significant above, or if its flag is due and 1
   pub set_now : (s : Set) → IsKnown s → set_significant v f.plane s ≡ (set_significant f.block (f.plane + 1) s || (flag_due v f.weights f.plane s && set_significant v f.plane s))
   set_now s known = by_due (flag_due v f.weights f.plane s) refl
     where
@@ -54,7 +54,7 @@ module _ (f : Frame) (v : List ℤ) (c : IsCandidate f.weights f.plane f.q f.dep
       by_due true e = sym (ap (λ t. t || set_significant v f.plane s) (not_above e))
       by_due false e = undue v f.weights f.plane s known c.multiple e ∙ above_same s known ∙ or_false (set_significant f.block (f.plane + 1) s)
 
--- ---- flags of sets that go by an index
+-- ---- flags of sets that are numbered by an index
 
 map_filter_index : (F : ℕ → Set) (S D : Set → Bool) (xs : List ℕ) → map S (filter D (map F xs)) ≡ map (λ i. S (F i)) (filter (λ i. D (F i)) xs)
 map_filter_index F S D [] = refl
@@ -64,7 +64,7 @@ map_filter_index F S D (x ∷ xs) = one (D (F x)) (map_filter_index F S D xs)
     one true e = ap (λ l. S (F x) ∷ l) e
     one false e = e
 
--- their word is that of the places that are due
+-- their word is the word of the places that are due
 pub flags_by : (v : List ℤ) (weights : List ℕ) (plane : ℕ) (F : ℕ → Set) (count : ℕ) (due : ℕ → Bool) → ((i : ℕ) → i < count → flag_due v weights plane (F i) ≡ due i) →
     flags v weights plane (map F (span 0 count)) ≡ due_bits due (λ x i. set_significant x plane (F i)) 0 count v
 flags_by v weights plane F count due same =

@@ -14,7 +14,7 @@ use Rattle.plane_reader.proofs.GaggleMarks.{block_put, blocks_stay, put_long}
 use Rattle.plane_reader.proofs.ShownNumbers.{number_told, number_stays, block_long, block_number, block_dc, block_shows_own}
 use Rattle.plane_reader.proofs.ShownBlocks.{long_block, number_there, shown_long, block_shown}
 
--- a block that got what was found is what it showed
+-- a block that is given what was found is what it showed
 pub shown_is : (plane : ℕ) (found : Found) (before now : List ℤ) → ((p : ℕ) → IsAc p → magnitude before p < 2 ^ 30) → Applies plane found.bits found.minus before now → now ≡ shown_block plane found before
 shown_is plane found before now small applies = ext_get_or (pos 0) now (shown_block plane found before) (applies.whole ∙ sym (block_long plane found before)) (λ p lt. number p (omega (arith, lt, applies.whole)))
   where
@@ -37,7 +37,7 @@ same_blocks xs ys long whole same = ext_get_or (pos 0) xs ys long (λ i lt.
     let few : p < 64 = omega arith in
     ap (λ n. get_or xs n (pos 0)) (sym place) ∙ sym (number_there xs r p few) ∙ ap (λ b. get_or b p (pos 0)) (same r (omega (arith, lt, whole))) ∙ number_there ys r p few ∙ ap (λ n. get_or ys n (pos 0)) place)
 
--- the blocks before r got what waits for them, and their masks too
+-- the blocks before r are given what waits for them, and their masks too
 pub record Settles (plane r : ℕ) (waiting : List Found) (before now : List ℤ) (above masks : List ℕ) : Type 0 where
   pub size : length now ≡ length before
   pub put : (i : ℕ) → i < r → block_at now i ≡ shown_block plane (get_or waiting i nothing) (block_at before i)

@@ -1,5 +1,5 @@
--- What bits mean doesn't depend on the source that they come from. So bits that were taken at once may be taken for ones that came
--- in two parts, from a source that is nothing but what is still to come.
+-- What bits mean does not depend on their source. So bits that were taken at once may be treated as bits that arrive in two parts,
+-- from a source that is only what is left.
 use Rattle.std.proofs.Common.{◌≡◌, ℕ, ◌+◌, ◌-◌, ◌*◌, ◌/◌, ◌%◌, ◌^◌, ◌<◌, ◌≤◌, ℤ, List, [], ◌++◌, Bool, length, take, drop, refl, sym, ap, subst, ◌∙◌, append_assoc, append-nil, length-append, arith}
 use Rattle.std.specs.Prelude.{Option, None, Some, Ok}
 use Rattle.std.proofs.lemmas.Nat.{pow_pos, shr-shr, shr_high}
@@ -63,7 +63,7 @@ module _ {I : Type 0} {k : SourceOf I} {a b : Coming I} (book : Book) (options :
       let all : EndsReading k items (stopped whole) a b = subst (λ x. EndsReading k items x a b) e r.reads.ends in
       record { reads = record { ends = subst (λ x. EndsReading k items x a c) (sym e) (subst (Takes k a c) (append-nil (text items)) (takes_then all none)) }; stops = r.stops }
 
--- what was read whole of a source was read of another one where its steps were
+-- what was read whole of a source is read of another one that has its steps
 found_moved : {I J A : Type 0} {j : SourceOf J} {k : SourceOf I} {c d : Coming J} {a b : Coming I} {book : Book} {f : Frame} {stage : ℕ} {earlier : ℕ → List Step} {done : List Step} {next : List ℤ → List Step} {Is : A → List ℤ → Type 0} {x : A} {g h : Gaggle} {m n : Found} → IsIn b →
     ((sent : List Entry) (options : List ℕ) (part : List Step) (steps : List Step) (ending : Ending) → ending ≡ stopped whole → Agrees g.sent sent → Knows h options → ReadsSteps j book options sent part ending steps c d → ReadsSteps k book options sent part ending steps a b) →
     FoundPiece j book f stage earlier done next Is (Ok (Some x)) g h m n c d → FoundPiece k book f stage earlier done next Is (Ok (Some x)) g h m n a b
@@ -90,7 +90,7 @@ found_moved {next = next} {x = x} is_in moves q =
       found = q.found;
     }
 
--- what was read whole of a source was read of the shadow, and the other way round where its bits were taken
+-- what was read whole of a source is read of the shadow, and the reverse if its bits were taken
 module _ {I A : Type 0} {k : SourceOf I} {a b : Coming I} (book : Book) (f : Frame) (stage : ℕ) (earlier : ℕ → List Step) (done : List Step) (next : List ℤ → List Step) (Is : A → List ℤ → Type 0) (x : A) {g h : Gaggle} {m n : Found} (is_in : IsIn b) where
   pub found_back : ((sent : List Entry) (options : List ℕ) → Agrees g.sent sent → Knows h options → TakesSome k a b) →
       FoundPiece told book f stage earlier done next Is (Ok (Some x)) g h m n (shadow k a) (shadow k b) → FoundPiece k book f stage earlier done next Is (Ok (Some x)) g h m n a b
@@ -99,7 +99,7 @@ module _ {I A : Type 0} {k : SourceOf I} {a b : Coming I} (book : Book) (f : Fra
   pub found_forth : FoundPiece k book f stage earlier done next Is (Ok (Some x)) g h m n a b → FoundPiece told book f stage earlier done next Is (Ok (Some x)) g h m n (shadow k a) (shadow k b)
   found_forth = found_moved (shadow_in k b is_in) (λ sent options part steps ending e agrees knows r. steps_forth book options sent part steps ending e r)
 
-  -- no bit came after it
+  -- no bit follows it
   pub found_on : {c : Coming I} → IsIn c → Takes k b c [] → FoundPiece k book f stage earlier done next Is (Ok (Some x)) g h m n a b → FoundPiece k book f stage earlier done next Is (Ok (Some x)) g h m n a c
   found_on opened none = found_moved opened (λ sent options part steps ending e agrees knows r. steps_on book options sent part steps ending e none r)
 

@@ -65,7 +65,7 @@ shown_own plane waiting blocks none =
     shown_at plane waiting blocks i (omega (arith, lt, shown_long plane waiting blocks)) ∙
     ap (λ f. shown_number plane f (i % 64) (get_or blocks i (pos 0))) (none (i / 64)) ∙ number_stays plane nothing (i % 64) (get_or blocks i (pos 0)) (none_waits (i % 64)))
 
--- a block for which nothing can wait stands as it is
+-- a block for which nothing can wait is as it is
 pub stands_unkept : {f : Frame} {k : ℕ} {earlier : ℕ → List Step} {mark : ℤ} {block : List ℤ} (plane : ℕ) (waiting : List Found) (r : ℕ) → length waiting ≡ 64 → length block ≡ 64 →
     StandsBefore f k earlier mark (shown_block plane (get_or waiting r nothing) block) → 64 ≤ r → StandsBefore f k earlier mark block
 stands_unkept {f} {k} {earlier} {mark} {block} plane waiting r first whole stands past =

@@ -19,7 +19,7 @@ use Rattle.plane_reader.specs.Applied.{Applies, AddsDc}
 use Rattle.plane_reader.specs.BlocksShown.{nothing, shown_number, shown_block, Joins}
 use Rattle.plane_reader.proofs.BitsTwice.{has_bit, bit_twice}
 
--- what a mask shows stands at its own positions
+-- what a mask shows is at its own positions
 pub shown_there : {mask count : ℕ} {f : ℕ → Bool} → Shows mask f 0 count → (p : ℕ) → p < count → bit mask p ≡ f p
 shown_there {f = f} shows p lt = let z : 0 + p ≡ p = omega arith in shows.at p lt ∙ ap f z
 
@@ -60,7 +60,7 @@ module _ (plane : ℕ) (found : Found) (block : List ℤ) where
   block_past : (p : ℕ) → 64 ≤ p → get_or (shown_block plane found block) p (pos 0) ≡ pos 0
   block_past p past = get_or_past (shown_block plane found block) p (pos 0) (omega (arith, past, block_long))
 
-  -- an AC number is significant in the plane where it was, or where its bit waits
+  -- an AC number is significant in the plane if it was, or if its bit waits
   pub block_reaches : (p : ℕ) → IsAc p → significant (shown_block plane found block) plane p ≡ (significant block plane p || bit found.bits p)
   unfolding significant
   block_reaches p ac = by_bit (bit found.bits p) refl
@@ -83,14 +83,14 @@ block_shows_own plane block whole =
     ext_get_or (pos 0) (shown_block plane nothing block) block (block_long plane nothing block ∙ sym whole) (λ p lt.
     block_number plane nothing block p (omega (arith, lt, block_long plane nothing block)) ∙ number_stays plane nothing p (get_or block p (pos 0)) (none_waits p))
 
--- a block that nothing waits for shows what it gets
+-- a block that nothing waits for shows what it is given
 pub applies_shown : (plane bits minus : ℕ) (before now : List ℤ) → length before ≡ 64 → Applies plane bits minus before now → Applies plane bits minus (shown_block plane nothing before) (shown_block plane nothing now)
 applies_shown plane bits minus before now whole applies =
     subst (λ x. Applies plane bits minus x (shown_block plane nothing now)) (sym (block_shows_own plane before whole)) (subst (λ x. Applies plane bits minus before x) (sym (block_shows_own plane now applies.whole)) applies)
 
 -- ---- more is found
 
--- what was found further goes to what is shown
+-- what is found further is added to what is shown
 pub applies_more : (plane : ℕ) (found more now : Found) (block : List ℤ) → Joins found more now → Applies plane more.bits more.minus (shown_block plane found block) (shown_block plane now block)
 applies_more plane found more now block joins = record {
   whole = block_long plane now block;
@@ -144,7 +144,7 @@ applies_more plane found more now block joins = record {
             same true x y z = refl
             same false x y z = refl
 
--- the DC gets its bit, and what waits goes on to
+-- the DC is given its bit, and what waits still waits
 pub adds_shown : (plane : ℕ) (found : Found) (more : Bool) (before now : List ℤ) → AddsDc plane more before now → AddsDc plane more (shown_block plane found before) (shown_block plane found now)
 adds_shown plane found more before now adds = record {
   whole = block_long plane found now;

@@ -32,7 +32,7 @@ use Rattle.block_masks.specs.Places.{inside}
 use Rattle.plane_reader.proofs.StepPieces.{bit_step}
 use Rattle.plane_reader.proofs.IndexPieces.{rest_after, pieces_more, found_as, leads_as, so_far_more, so_far_cut, leads_next}
 
--- ---- a piece that wasn't read whole answers no value
+-- ---- a piece that was not read whole gives no value
 
 pub none_same : {A B : Type 0} (value : A) (other : B) (ending : Ending) → Ok None ≡ item_answer value ending → Ok None ≡ item_answer other ending
 none_same value other (stopped whole) e = absurd cc
@@ -71,7 +71,7 @@ module _ {I A B : Type 0} {k : SourceOf I} (book : Book) (f : Frame) (stage : �
     options = p.options;
   }
 
-  -- one step that wasn't read finds nothing
+  -- one step that was not read finds nothing
   cut_step : {check : Check} {tells : Told} {r : Result (Option A) TextFault} {t : Result (Option B) TextFault} {m : Found} (p : OneStep k book f stage earlier done next check tells Is r g h a b) → IsCut p.piece.ending → t ≡ item_answer other p.piece.ending →
       FoundPiece k book f stage earlier done next Also t g h m m a b
   unfolding retyped
@@ -83,7 +83,7 @@ module _ {I A B : Type 0} {k : SourceOf I} (book : Book) (f : Frame) (stage : �
   pub fault_step : {check : Check} {tells : Told} {m : Found} {e : TextFault} → OneStep k book f stage earlier done next check tells Is (Err e) g h a b → FoundPiece k book f stage earlier done next Also (Err e) g h m m a b
   fault_step {e = e} p = cut_step p (one_fault p.piece.value e p.piece.ending p.piece.answer) (fault_same e p.piece.value other p.piece.ending p.piece.answer)
 
--- the endings of pieces that weren't read whole
+-- the endings of pieces that were not read whole
 pub found_missing : {I A : Type 0} {k : SourceOf I} {book : Book} {f : Frame} {stage : ℕ} {earlier : ℕ → List Step} {done : List Step} {next : List ℤ → List Step} {Is : A → List ℤ → Type 0} {g h : Gaggle} {m n : Found} {a b : Coming I} →
     (p : FoundPiece k book f stage earlier done next Is (Ok None) g h m n a b) → IsCut p.piece.ending
 found_missing p = one_missing p.piece.value p.piece.ending p.piece.answer

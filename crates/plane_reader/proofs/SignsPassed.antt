@@ -1,4 +1,4 @@
--- The signs of the positions of a mask, of which those are left that weren't read yet.
+-- The signs of the positions of a mask, of which some are still to be read.
 use Rattle.std.proofs.Common.{◌≡◌, inl, inr, ℕ, zero, suc, ◌+◌, ◌-◌, ◌<◌, ◌≤◌, ◌^◌, Bool, true, false, ◌||◌, ◌&&◌, ℤ, List, [], ap, sym, ◌∙◌, subst, refl, arith}
 use Rattle.std.specs.Prelude.{◌==◌, Ok, Err, Some, None}
 use Rattle.std.proofs.lemmas.Bool.{cases_lt}
@@ -26,14 +26,14 @@ never e = cc
 pub no_bit : (n count k : ℕ) → n < 2 ^ count → count ≤ k → bit n k ≡ false
 no_bit n count k small le = ap (λ x. x == 1) (bit_at_above n count k small le)
 
--- a position of a mask of so many
+-- a position of a mask of `count` bits
 pub bit_inside : (n count k : ℕ) → n < 2 ^ count → bit n k ≡ true → k < count
 bit_inside n count k small here = elim (cases_lt k count) [
   | inl lt ↦ lt
   | inr ge ↦ absurd (never (sym here ∙ no_bit n count k small ge))
 ]
 
--- all below n were read, and these are left of a mask
+-- all positions below n were read, and these of the mask are left
 pub record SignsPassed {I : Type 0} (k : SourceOf I) (book : Book) (f : Frame) (stage : ℕ) (earlier : ℕ → List Step) (done : List Step) (new : ℕ → Bool) (start count mask left : ℕ) (g : Gaggle) (m o : Found) (a b : Coming I) : Type 0 where
   pub n : ℕ
   pub within : n ≤ count
@@ -53,7 +53,7 @@ module _ {f : Frame} {stage : ℕ} {earlier : ℕ → List Step} {done : List St
   }
 
   module _ {left : ℕ} {o : Found} {b : Coming I} (p : SignsPassed k book f stage earlier done new start count mask left g m o a b) where
-    -- up to a place before which none is left
+    -- up to a place before which no position is left
     skip_to : (more n : ℕ) → p.n + more ≡ n → n ≤ count → ((q : ℕ) → q < n → bit left q ≡ false) → SoFar k book f stage earlier done (sign_item new) start n g g m o a b
     skip_to zero n e high none = let same : p.n ≡ n = omega arith in subst (λ z. SoFar k book f stage earlier done (sign_item new) start z g g m o a b) same p.so_far
     skip_to (suc more) n e high none =

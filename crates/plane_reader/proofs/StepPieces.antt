@@ -45,7 +45,7 @@ pub bit_same : (a b : Bool) → Bit a ≡ Bit b → a ≡ b
 bit_same a b e = cc
 
 module _ (f : Frame) (stage : ℕ) (below : stage < 5) (earlier : ℕ → List Step) (done : List Step) where
-  -- some block sends any entry here that the check lets through
+  -- some block has any entry here that the check accepts
   pub possible_more : (v : List ℤ) → Sends f stage earlier done v → (s : Step) (more : List Step) (e : Entry) → steps_of f stage v ≡ done ++ s ∷ more → Replaces s.check s.entry e → Possible f stage earlier (done ++ step s.check s.tells e ∷ [])
   possible_more v sends s more e here replaces =
       let a = advance f.weights f.plane f.q f.depth f.block v sends.candidate stage below done s more e here replaces in
@@ -66,14 +66,14 @@ module _ (f : Frame) (stage : ℕ) (below : stage < 5) (earlier : ℕ → List S
   none_possible p = subst (Possible f stage earlier) (sym (append-nil done)) p
 
   module _ {after : List ℤ → List Step} (check : Check) (tells : Told) (entry : List ℤ → Entry) (leads : Leads f stage earlier done (λ v. step check tells (entry v) ∷ []) after) where
-    -- a block that sends this entry next has it there
+    -- a block that has this entry next has it there
     sent_next : (e : Entry) (v : List ℤ) → Sends f stage earlier (done ++ step check tells e ∷ []) v → entry v ≡ e
     sent_next e v s = entry_same check check tells tells (entry v) e (sym (head_of (step check tells e) (step check tells (entry v)) _ _ (leads_rest done (step check tells e ∷ []) leads v s)))
 
     first_step : (v : List ℤ) → Sends f stage earlier done v → steps_of f stage v ≡ done ++ step check tells (entry v) ∷ after v
     first_step v s = leads.at v s
 
-    -- the step isn't read: nothing is
+    -- the step is not read: nothing is
     pub unread_step : {I A : Type 0} {k : SourceOf I} (book : Book) (value : A) (Is : A → List ℤ → Type 0) (ending : Ending) {g h : Gaggle} {a b : Coming I} → IsCut ending → Possible f stage earlier done →
         ((v : List ℤ) → Sends f stage earlier done v → (sent : List Entry) (options : List ℕ) → Agrees g.sent sent → Knows h options → Reads k (entry_reading book options sent check (entry v)) ending a b) →
         ((options : List ℕ) → Knows h options → Knows g options) → AreOptions h.options →

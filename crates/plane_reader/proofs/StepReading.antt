@@ -143,7 +143,7 @@ pub items_are : (book : Book) (options : List ℕ) (sent : List Entry) (check : 
 unfolding entry_reading
 items_are book options sent check n value = refl
 
--- a word that wasn't read whole is as well any other one of its length, whatever its check
+-- a word that was not read whole may also be any other one of its length, whatever its check
 pub word_cut : {I : Type 0} {k : SourceOf I} (book : Book) (options : List ℕ) (sent : List Entry) (check : Check) (n v w : ℕ) {ending : Ending} {a b : Coming I} → IsCut ending →
     Reads k (entry_reading book options sent free (word_with n v)) ending a b → Reads k (entry_reading book options sent check (word_with n w)) ending a b
 word_cut {I} {k} book options sent check n v w {ending} {a} {b} cut r =
@@ -155,7 +155,7 @@ word_cut {I} {k} book options sent check n v w {ending} {a} {b} cut r =
     by_tests false false r =
         reads_last k (opening options sent n) (checked_word book n (option_of options n) v free) (checked_word book n (option_of options n) w check) (word_shape book n (option_of options n) v w) (λ n. refl) cut r
 
--- one that was read whole is so whatever its check
+-- a word that was read whole is read so whatever its check
 pub word_whole : {I : Type 0} {k : SourceOf I} (book : Book) (options : List ℕ) (sent : List Entry) (check : Check) (n v : ℕ) {a b : Coming I} →
     Reads k (entry_reading book options sent free (word_with n v)) (stopped whole) a b → Reads k (entry_reading book options sent check (word_with n v)) (stopped whole) a b
 word_whole {I} {k} book options sent check n v {a} {b} r =

@@ -1,4 +1,4 @@
--- A block in a plane, with what steps told of it: what it has above the plane and in it.
+-- A block in a plane, with what steps report of it: what it has above the plane and in it.
 use Rattle.std.proofs.Common.{◌≡◌, ℕ, ◌+◌, ◌^◌, Bool, true, false, ◌&&◌, List, [], ◌++◌, ap, sym, ◌∙◌, subst, arith, ℤ, pos, get_or}
 use Rattle.std.specs.Prelude.{◌==◌, nat_le, unsigned_abs}
 use Rattle.std.proofs.lemmas.List.{append-nil}
@@ -17,7 +17,7 @@ use Rattle.plane_reader.specs.Pieces.{Finds}
 use Rattle.plane_reader.specs.Taken.{AwaitsPlane}
 use Rattle.plane_reader.proofs.ToldNumbers.{weight, abs_told, reach_above, reach_here, reach_still}
 
--- ---- nothing told
+-- ---- nothing reported
 
 pub told_none : (f : Frame) (stage : ℕ) (earlier : ℕ → List Step) (part : List Step) (v x : List ℤ) → part ≡ [] → Tells f.plane (told_before earlier stage) v f.block x → Tells f.plane (told_before earlier stage ++ part) v f.block x
 told_none f stage earlier part v x none tells = subst (λ l. Tells f.plane l v f.block x) (sym (ap (λ l. told_before earlier stage ++ l) none ∙ append-nil (told_before earlier stage))) tells

@@ -1,4 +1,4 @@
--- What the steps of a stage tell of the DC: its bit in the first stage, and nothing in the others.
+-- What the steps of a stage report of the DC: its bit in the first stage, and nothing in the others.
 use Rattle.std.proofs.Common.{◌≡◌, ℕ, zero, suc, ◌<◌, ◌≤◌, Bool, true, false, ◌&&◌, cond, List, [], ◌∷◌, ◌++◌, map, refl, ap, sym, ◌∙◌, arith, ℤ, pos, get_or}
 use Rattle.std.specs.Prelude.{◌==◌, ◌||◌, filter, nat_lt}
 use Rattle.std.specs.List.{flat_map, list_any, AllByRecursion}
@@ -16,7 +16,7 @@ use Rattle.plane_texts.specs.Given.{tells_bit, tells_sign, has_bit_in, has_sign_
 use Rattle.plane_texts.proofs.SmallFacts.{true_false, lt_from, not_equal, both, neither_left, or_left}
 use Rattle.plane_reader.specs.Frames.{Frame, Sends}
 
--- ---- steps that tell nothing of the DC
+-- ---- steps that report nothing of the DC
 
 abbrev pub no_dc : List Step → Type 0
 no_dc steps = has_bit_in steps 0 ≡ false
@@ -80,7 +80,7 @@ module _ (v : List ℤ) (weights : List ℕ) (plane : ℕ) where
   no_dc_stage (suc (suc (suc (suc zero)))) d q low high = no_dc_sent (nat_lt plane d) _ no_dc_refinement
   no_dc_stage (suc (suc (suc (suc (suc k))))) d q low high = absurd (omega (arith, high))
 
--- a front of the steps of a later stage tells nothing of the DC
+-- a prefix of the steps of a later stage reports nothing of the DC
 pub no_dc_part : {f : Frame} {k : ℕ} {earlier : ℕ → List Step} {part : List Step} {v : List ℤ} → 1 ≤ k → k < 5 → Sends f k earlier part v → has_bit_in part 0 ≡ false
 no_dc_part {f} {k} {earlier} {part} {v} low high s =
     neither_left (has_bit_in part 0) (has_bit_in s.rest 0)
@@ -105,7 +105,7 @@ module _ {f : Frame} {earlier : ℕ → List Step} {part : List Step} {v : List 
   unfolding block_steps
   steps_are = s.here
 
-  -- a front of the steps of the first stage tells nothing of the AC numbers
+  -- a prefix of the steps of the first stage reports nothing of the AC numbers
   pub dc_part_alone : (p : ℕ) → 1 ≤ p → (has_bit_in part p ≡ false) × (has_sign_in part p ≡ false)
   dc_part_alone p first =
       let r = dc_alone v f.weights f.plane f.q (sends_dc v f.weights f.plane f.q) p first in (

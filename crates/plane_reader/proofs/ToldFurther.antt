@@ -1,4 +1,4 @@
--- A block that has what was told of it before, and then gets what was found in a stage.
+-- A block that has what was reported of it before, and is then given what was found in a stage.
 use Rattle.std.proofs.Common.{◌≡◌, ℕ, zero, suc, ◌+◌, ◌*◌, ◌/◌, ◌%◌, ◌<◌, ◌≤◌, ◌^◌, Bool, true, false, not, ◌&&◌, List, [], ◌++◌, refl, ap, sym, ◌∙◌, subst, arith, ℤ, pos, negsuc, neg_ℤ, ◌+ℤ◌, get_or}
 use Rattle.std.specs.Prelude.{◌==◌, ◌||◌, unsigned_abs, if◌then◌else◌}
 use Rattle.std.proofs.Math.Pow.{pow_mono}
@@ -24,7 +24,7 @@ use Rattle.plane_reader.proofs.ToldNumbers.{weight, abs_told, pow_more, weight_b
 use Rattle.plane_reader.proofs.ToldSigns.{sign_with_bit, covered_part, covered_before}
 use Rattle.plane_reader.proofs.ToldDc.{no_dc_part, dc_part_alone, dc_part_below}
 
--- ---- a number that gets its bit, of which something may have been told before
+-- ---- a number that is given its bit, of which something may have been reported before
 
 abbrev signed : Bool → ℕ → ℤ
 signed b n = if b then neg_ℤ (pos n) else pos n
@@ -74,7 +74,7 @@ module _ (plane : ℕ) (z : ℤ) (cleared : IsCleared plane z) where
       size true = omega arith
       size false = omega arith
 
--- ---- what two lists of steps tell
+-- ---- what two lists of steps report
 
 or_false : (a : Bool) → (a || false) ≡ a
 or_false true = refl

@@ -57,7 +57,7 @@ module _ (plane : ℕ) (z : ℤ) (cleared : IsCleared plane z) where
           let none = least (2 ^ (plane + 1)) cleared.part (unsigned_abs z) cleared.whole lt in
           le_false _ _ (omega (arith, none, weight_below plane more))
 
-  -- a number that didn't reach the plane above does reach the plane just if it has the bit
+  -- a number that did not reach the plane above reaches the plane exactly if it has the bit
   pub reach_here : nat_le (2 ^ (plane + 1)) (unsigned_abs z) ≡ false → (more : Bool) → nat_le (2 ^ plane) (unsigned_abs z + weight plane more) ≡ more
   reach_here below more = by_bit more
     where
@@ -68,6 +68,6 @@ module _ (plane : ℕ) (z : ℤ) (cleared : IsCleared plane z) where
       by_bit true = le_true _ _ (omega arith)
       by_bit false = le_false _ _ (omega (arith, none, pow_pos plane))
 
--- one that did does
+-- a number that reached the plane above reaches the plane
 pub reach_still : (plane : ℕ) (z : ℤ) → nat_le (2 ^ (plane + 1)) (unsigned_abs z) ≡ true → (more : Bool) → nat_le (2 ^ plane) (unsigned_abs z + weight plane more) ≡ true
 reach_still plane z above more = le_true _ _ (omega (arith, from_le_true _ _ above, pow_more plane))

@@ -1,4 +1,4 @@
--- A sign comes after the bit of its number: where steps tell a number's sign, they tell that the number has the plane's bit.
+-- A sign follows the bit of its number: if steps report a number's sign, they report that the number has the plane's bit.
 use Rattle.std.proofs.Common.{◌≡◌, ℕ, ◌+◌, Bool, true, false, ◌&&◌, not, cond, List, [], ◌∷◌, ◌++◌, map, refl, ap, sym, ◌∙◌, subst, arith, ℤ, pos, get_or}
 use Rattle.std.specs.Prelude.{◌==◌, ◌||◌, filter, nat_lt}
 use Rattle.std.specs.List.{flat_map, list_any, AllByRecursion}
@@ -19,11 +19,11 @@ use Rattle.plane_reader.specs.Frames.{Frame, Sends}
 use Rattle.plane_reader.specs.Stages.{told_before}
 
 module _ (plane : ℕ) (v : List ℤ) where
-  -- the number has the plane's bit, and this step tells it
+  -- the number has the plane's bit, and this step reports it
   abbrev pub gives : Step → ℕ → Bool
   gives s p = tells_bit p s.tells && bit (magnitude v p) plane
 
-  -- each sign is of a number of which this was told, or is told by an earlier step
+  -- each sign is of a number whose bit was reported, or is reported by an earlier step
   abbrev pub IsCovered : (ℕ → Bool) → List Step → Type 0
   IsCovered told [] = Unit {0}
   IsCovered told (s ∷ steps) = ((p : ℕ) → tells_sign p s.tells ≡ true → told p ≡ true) × IsCovered (λ p. told p || gives s p) steps
@@ -35,7 +35,7 @@ module _ (plane : ℕ) (v : List ℤ) where
   more_or true b c f e = or_left b c (f refl)
   more_or false b c f e = or_right b c e
 
-  -- more may have been told
+  -- more may have been reported
   widen : (f g : ℕ → Bool) → ((p : ℕ) → f p ≡ true → g p ≡ true) → (steps : List Step) → IsCovered f steps → IsCovered g steps
   widen f g more [] c = tt
   widen f g more (s ∷ steps) c = (λ p e. more p (c.0 p e), widen (λ p. f p || gives s p) (λ p. g p || gives s p) (λ p e. more_or (f p) (g p) (gives s p) (more p) e) steps c.1)
@@ -59,7 +59,7 @@ module _ (plane : ℕ) (v : List ℤ) where
   all_of P each [] = tt
   all_of P each (x ∷ xs) = (each x, all_of P each xs)
 
-  -- steps that tell no sign
+  -- steps that report no sign
   covered_map : {X : Type 0} (f : ℕ → Bool) (g : X → Step) → ((x : X) (p : ℕ) → tells_sign p (g x).tells ≡ false) → (xs : List X) → IsCovered f (map g xs)
   covered_map f g none [] = tt
   covered_map f g none (x ∷ xs) = (λ p e. true_false (sym e ∙ none x p), covered_map (λ p. f p || gives (g x) p) g none xs)
@@ -195,12 +195,12 @@ module _ (plane : ℕ) (v : List ℤ) where
 
 -- ---- a block
 
--- the steps of a stage, as far as they go
+-- a prefix of the steps of a stage
 pub covered_part : {f : Frame} {k : ℕ} {earlier : ℕ → List Step} {part : List Step} {v : List ℤ} → Sends f k earlier part v → IsCovered f.plane v (nothing f.plane v) part
 covered_part {f} {k} {earlier} {part} {v} s =
     covered_front f.plane v (nothing f.plane v) part s.rest (subst (IsCovered f.plane v (nothing f.plane v)) s.here (covered_stage f.plane v f.weights (stage_number k) f.depth f.q))
 
--- those of the stages before
+-- the steps of the stages before
 pub covered_before : {f : Frame} {k : ℕ} {earlier : ℕ → List Step} {part : List Step} {v : List ℤ} → Sends f k earlier part v → IsCovered f.plane v (nothing f.plane v) (told_before earlier k)
 covered_before {f} {k} {earlier} {part} {v} s =
     covered_flat f.plane v earlier (span 0 k)

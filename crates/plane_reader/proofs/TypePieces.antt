@@ -96,7 +96,7 @@ module _ (f : Frame) (v : List ℤ) (c : IsCandidate f.weights f.plane f.q f.dep
         step check (types_at (filter (type_due f.block f.weights f.plane) (span start count))) (word (due_bits (type_due f.block f.weights f.plane) (λ x. significant x f.plane) start count v)) ∷ sign_steps (newly_significant v f.weights f.plane) start count v
     typed_are check = ap (λ l. step check (types_at l) (word (map (significant v f.plane) l)) ∷ sign_steps (newly_significant v f.weights f.plane) start count v) filter_due
 
--- a number whose type is due has the plane's bit where it is significant
+-- a number whose type is due has the plane's bit if it is significant
 bit_of_due : (block : List ℤ) (weights : List ℕ) (plane p : ℕ) → type_due block weights plane p ≡ true → significant block plane p ≡ bit (magnitude block p) plane
 unfolding type_due
 bit_of_due block weights plane p due = sym (reached_is block plane p) ∙ by_above (significant block (plane + 1) p) due
@@ -127,11 +127,11 @@ module _ {f : Frame} {stage : ℕ} {earlier : ℕ → List Step} {done : List St
   both_leads : Leads f stage earlier done (λ v. word_of v ++ signs_of v) after
   both_leads = leads_as done (λ v. word_of v ++ signs_of v) after (λ v s. ap (λ l. l ++ after v) (typed_parts v s)) next.leads
 
-  -- the part of the mask that tells of the group
+  -- the bits of the mask that are for the group
   pub due_part : {m : ℕ} → Shows m (λ p. bit mask p) start count → Shows m due start count
   due_part s = record { at = λ j lt. s.at j lt ∙ next.marked (start + j) (omega (arith, next.first), omega (arith, lt, next.within)); small = s.small }
 
-  -- the word of the types comes next
+  -- the word of the types is next
   pub types_word : (part_mask : ℕ) → Shows part_mask due start count → WordNext f stage earlier done (some_one_where wanted) (types_at (filter due (span start count))) start count part_mask due so (λ v. signs_of v ++ after v)
   types_word part_mask shown = record {
     below = next.below;
@@ -146,21 +146,21 @@ module _ {f : Frame} {stage : ℕ} {earlier : ℕ → List Step} {done : List St
   typed_as {book = book} p = found_as book f stage earlier done (λ v. typed_steps v f.weights f.plane (some_one_where wanted) (span start count)) (λ v s. sym (typed_parts v s)) p
 
   module _ {I : Type 0} {k : SourceOf I} {book : Book} {g h : Gaggle} {a b : Coming I} where
-    -- the word isn't given
+    -- the word is missing
     pub types_missing : {m : Found} → TakesPlaces k book f stage earlier done (some_one_where wanted) (types_at (filter due (span start count))) start count due so (Ok None) g h a b →
         FoundPiece k book f stage earlier done (λ v. typed_steps v f.weights f.plane (some_one_where wanted) (span start count)) Anything (Ok None) g h m m a b
     types_missing {m} w =
         let p = missing_step book f stage earlier done Anything tt {m = m} w in
         typed_as (subst (λ r. FoundPiece k book f stage earlier done (λ v. word_of v ++ signs_of v) Anything r g h m m a b) (sym p.piece.answer) (found_cut book f stage earlier signs_of Anything p.piece.value done p (found_missing p)))
 
-    -- or refused, or the input fails
+    -- the word is refused, or the input fails
     pub types_fault : {m : Found} {e : TextFault} → TakesPlaces k book f stage earlier done (some_one_where wanted) (types_at (filter due (span start count))) start count due so (Err e) g h a b →
         FoundPiece k book f stage earlier done (λ v. typed_steps v f.weights f.plane (some_one_where wanted) (span start count)) Anything (Err e) g h m m a b
     types_fault {m} {e} w =
         let p = fault_step book f stage earlier done Anything tt {m = m} w in
         typed_as (subst (λ r. FoundPiece k book f stage earlier done (λ v. word_of v ++ signs_of v) Anything r g h m m a b) (sym p.piece.answer) (found_cut book f stage earlier signs_of Anything p.piece.value done p (found_fault p)))
 
-    -- it is: the positions have the plane's bit
+    -- the word is there: the positions have the plane's bit
     module _ (new : ℕ) {m n : Found} (w : TakesPlaces k book f stage earlier done (some_one_where wanted) (types_at (filter due (span start count))) start count due so (Ok (Some new)) g h a b)
         (minus : n.minus ≡ m.minus) (bits : (f' g' : ℕ → Bool) (c : ℕ) → start + c ≤ 64 → Shows m.bits f' 0 64 → Shows new g' start c → Shows n.bits (λ p. f' p || (inside start c p && g' p)) 0 64) where
       types_found : (told : Entry) (v : List ℤ) → Sends f stage earlier done v → Shows new (λ p. due p && so v p) start count → Finds f.plane done v m → Finds f.plane (done ++ group_step f wanted start count told ∷ []) v n
@@ -248,4 +248,4 @@ module _ {f : Frame} {stage : ℕ} {earlier : ℕ → List Step} {done : List St
           FoundPiece k book f stage earlier done (λ v. typed_steps v f.weights f.plane (some_one_where wanted) (span start count)) Anything r g h m o a c
       types_given known signs = types_then (signs book h f stage earlier (done ++ word_piece.piece.part) new_at after known signs_next)
 
--- a mask tells its own bits
+-- a mask shows its own bits

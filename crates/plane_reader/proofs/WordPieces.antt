@@ -77,7 +77,7 @@ module _ (f : Frame) (stage : ℕ) (earlier : ℕ → List Step) (done : List St
   all_right [] ts all = all
   all_right (s ∷ ss) ts all = all_right ss ts all.1
 
-  -- a block's own word isn't refused
+  -- a block's own word is not refused
   word_allowed : (v : List ℤ) → Sends f stage earlier done v → refuses check (value_of (due_bits due so start count v)) ≡ false
   word_allowed v s =
       let all = subst (AllByRecursion IsAllowed) (next.leads.at v s) (block_is_allowed (stage_number stage) v f.depth f.weights f.plane f.q s.candidate.multiple) in
@@ -87,7 +87,7 @@ module _ (f : Frame) (stage : ℕ) (earlier : ℕ → List Step) (done : List St
   Next k book Is r g h a b = OneStep k book f stage earlier done (λ v. step check tells (entry v) ∷ []) check tells Is r g h a b
 
   module _ {I A : Type 0} {k : SourceOf I} (book : Book) (Is : A → List ℤ → Type 0) {g h : Gaggle} {a b : Coming I} {r : Result (Option ℕ) TextFault} (t : TakesWord k book n r g h a b) where
-    -- the word isn't given whole
+    -- the word is missing, or not whole
     pub cut_word : (value : A) → IsCut t.ending → Next k book Is (item_answer value t.ending) g h a b
     cut_word value cut =
         unread_step f stage next.below earlier done check tells entry next.leads book value Is t.ending cut next.possible
@@ -95,7 +95,7 @@ module _ (f : Frame) (stage : ℕ) (earlier : ℕ → List Step) (done : List St
         (word_cut book options sent check n t.value (value_of (due_bits due so start count v)) cut (t.read sent options agrees knows)))
         t.knows t.options
 
-    -- it is, and its check lets it through
+    -- the word is there, and its check accepts it
     pub read_word : (value : A) → t.ending ≡ stopped whole → refuses check t.value ≡ false → ((v : List ℤ) → Sends f stage earlier (done ++ step check tells (word_with n t.value) ∷ []) v → value_of (due_bits due so start count v) ≡ t.value → Is value v) →
         Next k book Is (Ok (Some value)) g h a b
     read_word value e passes is =
@@ -138,7 +138,7 @@ module _ (f : Frame) (stage : ℕ) (earlier : ℕ → List Step) (done : List St
               (record { kind = many p.block; fit = (few, t.fits); passes = passes; has_bits = omega (arith, some) })
         ]
 
-    -- it is refused
+    -- the word is refused
     pub refused_word : (value : A) → t.ending ≡ stopped whole → refuses check t.value ≡ true → Next k book Is (Err FalseFlag) g h a b
     refused_word value e bad =
         unread_step f stage next.below earlier done check tells entry next.leads book value Is (stopped (refused opened spelt false_flag)) tt next.possible

@@ -31,7 +31,7 @@ module _ {I : Type 0} (k : SourceOf I) where
   one_break i j zero a b e q = record { within = q.within; some = q.some; taken = q.taken; lacks = rw e at q.lacks }
   one_break i j (suc m) a b e q = absurd (omega (arith, q.within))
 
-  -- an item that was read is as well one of the same shape that says the same, where the first refuses nothing
+  -- an item that was read is also one of the same shape with the same value, if the first refuses nothing
   ends_as : (i j : Item) (ending : Ending) (a b : Coming I) → i.form.shape ≡ j.form.shape → i.said ≡ j.said → ((n : ℕ) → i.form.refusal n ≡ None) →
       EndsReading k (i ∷ []) ending a b → EndsReading k (j ∷ []) ending a b
   ends_as i j (stopped whole) a b e s none q = rw (e, s) at q
@@ -46,7 +46,7 @@ module _ {I : Type 0} (k : SourceOf I) where
   pub reads_as' : (i j : Item) {ending : Ending} {a b : Coming I} → i.form.shape ≡ j.form.shape → i.said ≡ j.said → ((n : ℕ) → i.form.refusal n ≡ None) → Reads k (i ∷ []) ending a b → Reads k (j ∷ []) ending a b
   reads_as' i j {ending} {a} {b} e s none q = record { ends = ends_as i j ending a b e s none q.ends }
 
-  -- an item that wasn't read whole is as well any other one of its form
+  -- an item that was not read whole may also be any other one of its form
   cut_as : (i j : Item) (ending : Ending) (a b : Coming I) → IsCut ending → i.form ≡ j.form → EndsReading k (i ∷ []) ending a b → EndsReading k (j ∷ []) ending a b
   cut_as i j (stopped whole) a b cut e q = absurd cut
   cut_as i j (stopped (ended m)) a b cut e q = (one_break i j m a b (ap (λ f. f.shape) e) q.0, q.1)
@@ -156,7 +156,7 @@ module _ (g : Gaggle) (n : ℕ) (low : 2 ≤ n) (high : n ≤ 4) where
   opening_one sent options fresh agrees = ap (λ t. cond t [] (option_item n (option_of options n) ∷ [])) (sym (agrees.at n low high) ∙ fresh)
 
 module _ {I : Type 0} {k : SourceOf I} (g : Gaggle) (n : ℕ) (low : 2 ≤ n) (high : n ≤ 4) (known : AreOptions g.options) where
-  -- it was read before
+  -- the option was read before
   pub opens_known : {a : Coming I} → IsIn a → get_or g.sent (n - 2) false ≡ true → get_or g.options (n - 2) 0 < n → Takes k a a [] → OpensLength k n (Ok (Some (get_or g.options (n - 2) 0))) g g a a
   opens_known {a} i was fits t = record {
     is_in = λ e. i;
@@ -171,7 +171,7 @@ module _ {I : Type 0} {k : SourceOf I} (g : Gaggle) (n : ℕ) (low : 2 ≤ n) (h
     options = known;
   }
 
-  -- it was read now
+  -- the option was read now
   pub opens_now : {a b : Coming I} (value : ℕ) → length g.options ≡ 3 → length g.sent ≡ 3 → get_or g.sent (n - 2) false ≡ false → value < n → IsIn a → Reads k (option_item n value ∷ []) (stopped whole) a b →
       OpensLength k n (Ok (Some value)) g (with_option g n value) a b
   opens_now {a} {b} value three three_sent fresh fits i r = record {
@@ -187,7 +187,7 @@ module _ {I : Type 0} {k : SourceOf I} (g : Gaggle) (n : ℕ) (low : 2 ≤ n) (h
     options = options_set g.options n value three low high fits known;
   }
 
-  -- it isn't given, or refused
+  -- the option is missing, or refused
   pub opens_cut : {a b : Coming I} (value : ℕ) (ending : Ending) → IsCut ending → get_or g.sent (n - 2) false ≡ false → value < n → Reads k (option_item n value ∷ []) ending a b →
       OpensLength k n (item_answer value ending) g g a b
   opens_cut {a} {b} value ending cut fresh fits r = record {
@@ -252,7 +252,7 @@ answer_later value n (stopped (refused m spelt name)) = refl
 answer_later value n (failed m e) = refl
 
 module _ {I : Type 0} {k : SourceOf I} (book : Book) (n : ℕ) (low : 2 ≤ n) (high : n ≤ 4) (g h : Gaggle) where
-  -- the option isn't given, or refused
+  -- the option is missing, or refused
   pub word_unopened : {r : _} {a b : Coming I} (o : OpensLength k n r g h a b) → IsCut o.ending → TakesWord k book n (item_answer 0 o.ending) g h a b
   word_unopened {a = a} {b = b} o cut = record {
     is_in = λ e. absurd (subst IsCut e cut);
@@ -266,7 +266,7 @@ module _ {I : Type 0} {k : SourceOf I} (book : Book) (n : ℕ) (low : 2 ≤ n) (
     options = o.options;
   }
 
-  -- the word comes after it
+  -- the word follows it
   pub word_opened : {r s : _} {a b c : Coming I} (o : OpensLength k n r g h a b) → o.ending ≡ stopped whole → TakesOne k (IsBelow (2 ^ n)) (word_item book n o.option) s b c → TakesWord k book n s g h a c
   word_opened {a = a} {b = b} {c = c} o e t = record {
     value = t.value;

@@ -1,4 +1,4 @@
--- What the check of a word refuses, told by its places.
+-- What the check of a word refuses, by the places of its bits.
 use Rattle.std.proofs.Common.{◌≡◌, ℕ, ◌+◌, ◌-◌, ◌*◌, ◌<◌, ◌≤◌, ◌^◌, Bool, true, false, not, nat_eq, ◌&&◌, cond, ℤ, List, [], ◌∷◌, ◌++◌, length, refl, ap, sym, ◌∙◌, subst, arith}
 use Rattle.std.specs.Prelude.{◌==◌, ◌||◌, Ok, Err, Some, None, Result, Option, map, filter}
 use Rattle.std.specs.List.{list_any}
@@ -72,7 +72,7 @@ module _ {I : Type 0} {k : SourceOf I} {book : Book} {mask : ℕ} {r : Result (O
       from_test : (n : ℕ) → not (nat_eq n 0) ≡ false → n ≡ 0
       from_test n e = grind arith
 
--- ---- flags of which one at least is wanted
+-- ---- flags of which at least one must be 1
 
 some_refuses : (wanted : Bool) (value : ℕ) → (wanted ≡ true → value ≡ 0 → ⊥) → refuses (some_one_where wanted) value ≡ false
 some_refuses false value none = refl
@@ -125,7 +125,7 @@ module _ {I : Type 0} {k : SourceOf I} {book : Book} {mask : ℕ} {g h : Gaggle}
       let p = one_given d.places places d.word.ending d.answer in
       places_refused next places d (some_bad wanted d.word.value e (no_places d due start count next.few next.shown (sym p.1 ∙ z)))
 
--- ---- flags of which some are wanted
+-- ---- flags of which some must be 1
 
 any_filter : (q g : ℕ → Bool) (xs : List ℕ) → list_any q (filter g xs) ≡ list_any (λ p. g p && q p) xs
 any_filter q g [] = refl

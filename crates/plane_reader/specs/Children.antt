@@ -1,4 +1,4 @@
--- What comes next of a block's children. (This project's own.)
+-- What the text has next of a block's children. (This project's own.)
 use Rattle.std.specs.Prelude.{◌≡◌, ◌<◌, ℕ, ◌+◌, ℤ, Bool, List, [], ◌∷◌, map}
 use Rattle.item_defs.specs.Bits.{bit}
 use Rattle.plane_defs.specs.declared.entries.Entry.TheVariants.{Bit}
@@ -11,11 +11,11 @@ use Rattle.block_masks.specs.declared.plan.CodedPlane.{CodedPlane}
 use Rattle.block_masks.specs.Masks.{Shows}
 use Rattle.plane_reader.specs.Frames.{Frame, Possible, Leads}
 
--- the flag of all descendants, where it is due
+-- the step of the flag of all descendants, if it is due
 abbrev pub descendants_steps : Frame → List ℤ → List Step
 descendants_steps f v = map (λ b. step free flags_alone (Bit b)) (flags v f.weights f.plane (Descendants ∷ []))
 
--- it comes next; the set was significant above or not, and can have a bit of the plane or not
+-- this flag is next; the set was significant above or not, and can have a bit of the plane or not
 pub record DescendantsNext (f : Frame) (stage : ℕ) (earlier : ℕ → List Step) (done : List Step) (is_live was : Bool) (after : List ℤ → List Step) : Type 0 where
   pub below : stage < 5
   pub live_is : is_live ≡ live f.weights f.plane Descendants
@@ -27,11 +27,11 @@ pub record DescendantsNext (f : Frame) (stage : ℕ) (earlier : ℕ → List Ste
 abbrev pub AreDescendants : Frame → Bool → List ℤ → Type 0
 AreDescendants f x v = set_significant v f.plane Descendants ≡ x
 
--- bit i tells whether family i is significant
+-- bit i says whether family i is significant
 abbrev pub AreFamilies : Frame → ℕ → List ℤ → Type 0
 AreFamilies f families v = Shows families (λ i. set_significant v f.plane (Family i)) 0 3
 
--- a stage's steps come next, read by this plane and by what was significant above it
+-- a stage's steps are next; they are read with this plane and with what was significant above it
 pub record StageNext (f : Frame) (stage : ℕ) (earlier : ℕ → List Step) (done : List Step) (plan : CodedPlane) (above : ℕ) (next after : List ℤ → List Step) : Type 0 where
   pub below : stage < 5
   pub weights : f.weights ≡ plan.weights.shifts

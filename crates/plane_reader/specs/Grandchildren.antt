@@ -1,4 +1,4 @@
--- What comes next of a block's grandchildren. (This project's own.)
+-- What the text has next of a block's grandchildren. (This project's own.)
 use Rattle.std.specs.Prelude.{◌≡◌, ◌≤◌, ◌<◌, ℕ, ◌+◌, ℤ, Bool, true, not, List}
 use Rattle.std.specs.List.{list_any}
 use Rattle.item_defs.specs.Bits.{bit}
@@ -11,13 +11,13 @@ use Rattle.block_masks.specs.Masks.{Shows}
 use Rattle.plane_reader.specs.Frames.{Frame, Sends}
 use Rattle.plane_reader.specs.Children.{AreFamilies, StageNext}
 
--- what the set of sixteen in family i sends comes next; the set is significant, and is new or not
+-- the steps of the set of sixteen in family i are next; the set is significant, and is new or not
 pub record QuadsNext (f : Frame) (stage : ℕ) (earlier : ℕ → List Step) (done : List Step) (plan : CodedPlane) (above i : ℕ) (new : Bool) (after : List ℤ → List Step) : Type 0 where
   pub next : StageNext f stage earlier done plan above (λ v. quads_steps v f.weights f.plane i) after
   pub reached : (v : List ℤ) → Sends f stage earlier done v → set_significant v f.plane (Grandchildren i) ≡ true
   pub new_is : (v : List ℤ) → Sends f stage earlier done v → is_new v f.plane (Grandchildren i) ≡ new
 
--- what all sets of sixteen send comes next; the masks tell which are significant, and which are new
+-- the steps of all sets of sixteen are next; the masks say which are significant, and which are new
 pub record AllQuadsNext (f : Frame) (stage : ℕ) (earlier : ℕ → List Step) (done : List Step) (plan : CodedPlane) (above sixteens new : ℕ) (after : List ℤ → List Step) : Type 0 where
   pub next : StageNext f stage earlier done plan above (λ v. all_quads_steps v f.weights f.plane) after
   pub reached : (v : List ℤ) → Sends f stage earlier done v → Shows sixteens (λ i. set_significant v f.plane (Grandchildren i)) 0 3
@@ -27,7 +27,7 @@ pub record AllQuadsNext (f : Frame) (stage : ℕ) (earlier : ℕ → List Step) 
 abbrev pub no_child : ℕ → ℕ → Bool
 no_child mask i = not (list_any (λ p. bit mask p) (span (children_of i) 4))
 
--- what a block sends of its grandchildren comes next; the masks tell which families are significant, and which of their children
+-- the steps of a block's grandchildren are next; the masks say which families are significant, and which of their children
 pub record GrandchildrenNext (f : Frame) (stage : ℕ) (earlier : ℕ → List Step) (done : List Step) (plan : CodedPlane) (above now families : ℕ) (after : List ℤ → List Step) : Type 0 where
   pub next : StageNext f stage earlier done plan above (λ v. grandchildren_steps v f.weights f.plane) after
   pub families_are : (v : List ℤ) → Sends f stage earlier done v → AreFamilies f families v

@@ -1,4 +1,4 @@
--- The groups of a mask, of which those are left that weren't read yet. (This project's own.)
+-- The groups of a mask of which some are still to be read. (This project's own.)
 use Rattle.std.specs.Prelude.{◌≡◌, ◌<◌, ◌≤◌, ℕ, Bool, false, List}
 use Rattle.item_defs.specs.Bits.{bit}
 use Rattle.base_122.specs.declared.book.Book.{Book}
@@ -10,7 +10,7 @@ use Rattle.plane_reader.specs.declared.found.Found.{Found}
 use Rattle.plane_reader.specs.Frames.{Frame, group_item}
 use Rattle.plane_reader.specs.Pieces.{SoFar}
 
--- all below n were read, and these are left of a mask
+-- all groups below n were read, and these of the mask are still to be read
 pub record GroupsPassed {I : Type 0} (k : SourceOf I) (book : Book) (f : Frame) (stage : ℕ) (earlier : ℕ → List Step) (done : List Step) (first count : ℕ) (now wanted : ℕ → Bool) (mask left : ℕ) (g h : Gaggle) (m o : Found) (a b : Coming I) : Type 0 where
   pub n : ℕ
   pub within : n ≤ count

@@ -1,4 +1,4 @@
--- What calls leave that read some steps of a block. (This project's own.)
+-- The results of calls that read some steps of a block. (This project's own.)
 use Rattle.std.specs.Prelude.{◌≡◌, ◌<◌, ◌≤◌, ℕ, ◌+◌, ◌-◌, ◌^◌, ◌&&◌, ℤ, pos, Bool, true, false, List, [], ◌∷◌, ◌++◌, length, Result, Ok, Option, Some}
 use lib.ListN.{get_or}
 use Rattle.std.specs.List.{flat_map}
@@ -26,15 +26,15 @@ use Rattle.bit_pipe.specs.Answers.{item_answer}
 use Rattle.plane_reader.specs.declared.found.Found.{Found}
 use Rattle.plane_reader.specs.Frames.{Frame, Sends, Possible, due_bits}
 
--- the options that a gaggle's identifiers told
+-- the options that a gaggle's identifiers gave
 pub record Knows (gaggle : Gaggle) (options : List ℕ) : Type 0 where
   pub at : (n : ℕ) → 2 ≤ n → n ≤ 4 → get_or gaggle.sent (n - 2) false ≡ true → option_of options n ≡ get_or gaggle.options (n - 2) 0
 
--- a word of so many bits
+-- a word of this number of bits
 abbrev pub word_with : (count value : ℕ) → Entry
 word_with count value = Word (record { value = value; count = count })
 
--- a word was read, for all entries that went before, as the gaggle's flags tell them
+-- a word was read, whatever entries went before, if the gaggle's flags are right about them
 pub record TakesWord {I : Type 0} (k : SourceOf I) (book : Book) (count : ℕ) (result : Result (Option ℕ) TextFault) (before now : Gaggle) (old new : Coming I) : Type 0 where
   pub value : ℕ
   pub fits : value < 2 ^ count
@@ -47,7 +47,7 @@ pub record TakesWord {I : Type 0} (k : SourceOf I) (book : Book) (count : ℕ) (
   pub knows : (options : List ℕ) → Knows now options → Knows before options
   pub options : AreOptions now.options
 
--- the masks tell what these steps tell of v's numbers: those that have the plane's bit, and those that are negative
+-- the masks say what these steps report of v's numbers: those that have the plane's bit, and those that are negative
 pub record Finds (plane : ℕ) (steps : List Step) (v : List ℤ) (found : Found) : Type 0 where
   pub bits : Shows found.bits (λ p. has_bit_in steps p && bit (magnitude v p) plane) 0 64
   pub minus : Shows found.minus (λ p. has_sign_in steps p && negative (get_or v p (pos 0))) 0 64
@@ -66,13 +66,14 @@ StopsAfter book options sent part (stopped (ended m)) steps = CutAfter book opti
 StopsAfter book options sent part (stopped (refused m spelt name)) steps = CutAfter book options sent part m steps
 StopsAfter book options sent part (failed m e) steps = CutAfter book options sent part m steps
 
--- these steps were read up to this end, `part` of them whole
+-- these steps were read up to this end, the steps `part` whole
 pub record ReadsSteps {I : Type 0} (k : SourceOf I) (book : Book) (options : List ℕ) (sent : List Entry) (part : List Step) (ending : Ending) (steps : List Step) (old new : Coming I) : Type 0 where
   pub reads : Reads k (read_after book options sent steps) ending old new
   pub stops : StopsAfter book options sent part ending steps
 
--- The next steps of a block were read, as far as they go: `part` whole. What they tell holds of all blocks that send what was
--- read, and some block does; where all were read, the answer's value is so of each.
+-- The next steps of a block were read up to where the text ends, the steps `part` whole. What they report holds of all blocks
+-- that send what was read, and there is such a block. If all steps were read, the answer's value is right for each of these
+-- blocks.
 pub record Piece {I : Type 0} {A : Type 0} (k : SourceOf I) (book : Book) (f : Frame) (stage : ℕ) (earlier : ℕ → List Step) (done : List Step) (next : List ℤ → List Step) (Is : A → List ℤ → Type 0)
     (result : Result (Option A) TextFault) (before now : Gaggle) (old new : Coming I) : Type 0 where
   pub value : A
@@ -91,7 +92,7 @@ pub record Piece {I : Type 0} {A : Type 0} (k : SourceOf I) (book : Book) (f : F
   pub knows : (options : List ℕ) → Knows now options → Knows before options
   pub options : AreOptions now.options
 
--- the same of one step, which has this entry where it was read
+-- the same for one step, which has this entry if it was read
 pub record OneStep {I : Type 0} {A : Type 0} (k : SourceOf I) (book : Book) (f : Frame) (stage : ℕ) (earlier : ℕ → List Step) (done : List Step) (next : List ℤ → List Step) (check : Check) (tells : Told) (Is : A → List ℤ → Type 0)
     (result : Result (Option A) TextFault) (before now : Gaggle) (old new : Coming I) : Type 0 where
   pub piece : Piece k book f stage earlier done next Is result before now old new
@@ -99,35 +100,35 @@ pub record OneStep {I : Type 0} {A : Type 0} (k : SourceOf I) (book : Book) (f :
   pub one : piece.ending ≡ stopped whole → piece.part ≡ step check tells told ∷ []
   pub none : IsCut piece.ending → piece.part ≡ []
 
--- the same with the masks of what the steps tell
+-- the same with the masks of what the steps report
 pub record FoundPiece {I : Type 0} {A : Type 0} (k : SourceOf I) (book : Book) (f : Frame) (stage : ℕ) (earlier : ℕ → List Step) (done : List Step) (next : List ℤ → List Step) (Is : A → List ℤ → Type 0)
     (result : Result (Option A) TextFault) (before now : Gaggle) (first last : Found) (old new : Coming I) : Type 0 where
   pub piece : Piece k book f stage earlier done next Is result before now old new
   pub found : (v : List ℤ) → Sends f stage earlier (done ++ piece.part) v → Finds f.plane done v first → Finds f.plane (done ++ piece.part) v last
 
--- the places of a word, of those that are due: its step was read
+-- the places of a word, among those that are due: its step was read
 abbrev pub TakesPlaces : {I : Type 0} → SourceOf I → Book → (f : Frame) → (stage : ℕ) → (earlier : ℕ → List Step) → (done : List Step) → (check : Check) → (tells : Told) → (start count : ℕ) → (due : ℕ → Bool) → (so : List ℤ → ℕ → Bool) →
     Result (Option ℕ) TextFault → (before now : Gaggle) → (old new : Coming I) → Type 0
 TakesPlaces k book f stage earlier done check tells start count due so result before now old new =
     OneStep k book f stage earlier done (λ v. step check tells (word (due_bits due so start count v)) ∷ []) check tells (λ places v. Shows places (λ p. due p && so v p) start count) result before now old new
 
--- an answer that says nothing
+-- an answer that claims nothing
 abbrev pub Anything : Unit {0} → List ℤ → Type 0
 Anything x v = Unit {0}
 
--- the places of a word of so many bits
+-- the places of a word of this number of bits
 abbrev pub ArePlaces : ℕ → Result (Option ℕ) TextFault → Type 0
 ArePlaces count (Ok (Some places)) = places < 2 ^ count
 ArePlaces count other = Unit {0}
 
--- this holds where a value was given
+-- this holds if a value was given
 abbrev pub OnSome : {A : Type 0} → Result (Option A) TextFault → Type 0 → Type 0
 OnSome (Ok (Some value)) Holds = Holds
 OnSome other Holds = Unit {0}
 
 -- ---- by an index
 
--- the pieces of the first n places from a start on
+-- the pieces of the first n places, from a start on
 abbrev pub pieces : (item : ℕ → List ℤ → List Step) → (start n : ℕ) → List ℤ → List Step
 pieces item start n v = flat_map (λ i. item i v) (span start n)
 

@@ -40,7 +40,7 @@ start_of plan marks blocks = record { weights = plan.weights.shifts; plane = pla
 abbrev pub frame_of : Start → ℕ → Frame
 frame_of s r = record { weights = s.weights; plane = s.plane; q = s.q; depth = get_or s.depths r 0; block = block_at s.blocks r }
 
--- it is this plan's plane, its blocks await it, and these tell of the first blocks what is significant above it
+-- it is the plane of this plan, its blocks await it, and the masks say which numbers of the first blocks are significant above it
 pub record IsStart (s : Start) (plan : CodedPlane) (above : List ℕ) : Type 0 where
   pub weights : s.weights ≡ plan.weights.shifts
   pub plane : s.plane ≡ plan.plane
@@ -63,7 +63,7 @@ items_to book options p k g c =
 abbrev pub entries_to : Plane → (k n h : ℕ) → List Entry
 entries_to p k n h = before_stage p k h ++ flat_map (of_block p (stage_number k)) (span (16 * h) (min (n - 16 * h) (gaggle_size p h)))
 
--- what a call has: what is kept of each gaggle, the marks, the blocks and the input
+-- what a call has: what is kept of each gaggle, the states of the blocks, the blocks and the input
 pub record Held (I : Type 0) : Type 0 where
   pub gaggles : ℕ → Gaggle
   pub marks : List ℤ
@@ -73,20 +73,20 @@ pub record Held (I : Type 0) : Type 0 where
 abbrev pub held : {I : Type 0} → (ℕ → Gaggle) → (marks blocks : List ℤ) → Coming I → Held I
 held gaggles marks blocks input = record { gaggles = gaggles; marks = marks; blocks = blocks; input = input }
 
--- what the marks keep of each gaggle, and the same with one in its place
+-- what the states keep of each gaggle, and the same with one gaggle in its place
 abbrev pub kept : List ℤ → ℕ → Gaggle
 kept marks g = record { options = options_at marks g; sent = sent_at marks g }
 
 abbrev pub with_one : (ℕ → Gaggle) → ℕ → Gaggle → ℕ → Gaggle
 with_one gaggles g gaggle h = if h == g then gaggle else gaggles h
 
--- block r before stage k, where the stages before sent what they send of these values
+-- block r is before stage k, and the stages before it gave what these values send in them
 abbrev pub StandsAt : {I : Type 0} → Start → List (List ℤ) → (k r : ℕ) → Held I → Type 0
 StandsAt s values k r now =
     StandsBefore (frame_of s r) k (λ j. steps_of (frame_of s r) j (get_or values r [])) (get_or now.marks r (pos 0)) (block_at now.blocks r)
 
--- The stages before stage k were read whole, and of stage k the blocks before block c of gaggle g. The text so far is that of some
--- values that the blocks may have.
+-- The stages before stage k were read whole, and of stage k the blocks before block c of gaggle g. The text so far is the text of
+-- some values that the blocks may have.
 pub record Progress {I : Type 0} (source : SourceOf I) (book : Book) (s : Start) (k g c : ℕ) (from : Coming I) (now : Held I) : Type 0 where
   pub values : List (List ℤ)
   pub all : length values ≡ length s.depths
@@ -111,28 +111,28 @@ pub record Continues {I : Type 0} (source : SourceOf I) (book : Book) (plan : Co
 pub record Stops {I : Type 0} (source : SourceOf I) (book : Book) (s : Start) (k : ℕ) (result : Result Part TextFault) (from new : Coming I) (blocks : List ℤ) : Type 0 where
   pub takes : (stages : ℕ) → k < stages → TakesPlane source book s.plane s.q s.weights stages s.depths result from new s.blocks blocks
 
--- what a call that reads some of stage k leaves, as it answers: that all was read, or a stop
+-- the result of a call that reads a part of stage k, by its answer: all was read, or the reading stopped
 abbrev pub Leaves : Result Part TextFault → (next stop : Type 0) → Type 0
 Leaves (Ok Whole) next stop = next
 Leaves (Ok Ended) next stop = stop
 Leaves (Err e) next stop = stop
 
--- what was read up to block c of gaggle g in stage k was read on up to this place
+-- a reading up to block c of gaggle g in stage k was continued up to this place
 pub record Reaches {I : Type 0} (source : SourceOf I) (book : Book) (plan : CodedPlane) (above : List ℕ) (k g c stage gaggle block : ℕ) (old new : Held I) : Type 0 where
   pub so_far : (s : Start) (from : Coming I) → IsStart s plan above → Progress source book s k g c from old → Progress source book s stage gaggle block from new
 
--- a call read on from a gaggle in stage k up to another one, or up to a stop
+-- a call continued from a gaggle in stage k up to another one, or up to a stop
 pub record Advances {I : Type 0} (source : SourceOf I) (book : Book) (plan : CodedPlane) (above : List ℕ) (k g stage gaggle : ℕ) (result : Result Part TextFault) (old new : Held I) : Type 0 where
   pub leaves : (s : Start) (from : Coming I) → IsStart s plan above → Progress source book s k g 0 from old →
       Leaves result (Progress source book s stage gaggle 0 from new) (Stops source book s k result from new.input new.blocks)
 
--- the marks keep what they tell of depths and gaggles
+-- the states keep the depths of blocks and what is kept of gaggles
 pub record KeepsGaggles (old new : List ℤ) : Type 0 where
   pub depths : depths_of new ≡ depths_of old
   pub options : (r : ℕ) → options_in (get_or new r (pos 0)) ≡ options_in (get_or old r (pos 0))
   pub sent : (r : ℕ) → sent_in (get_or new r (pos 0)) ≡ sent_in (get_or old r (pos 0))
 
--- a mark that tells of no word that was sent
+-- a state that records no word as sent
 pub record IsClear (mark : ℤ) : Type 0 where
   pub options : AreOptions (options_in mark)
   pub sent : sent_in mark ≡ false ∷ false ∷ false ∷ []

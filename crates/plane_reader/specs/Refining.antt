@@ -14,14 +14,14 @@ use Rattle.plane_defs.specs.Spans.{span}
 use Rattle.block_masks.specs.Places.{inside}
 use Rattle.plane_reader.specs.Frames.{Frame, Possible, Leads}
 
--- the refinement bits come next, at the positions of a mask
+-- the refinement bits at the positions of a mask are next
 pub record RefinementNext (f : Frame) (stage : ℕ) (earlier : ℕ → List Step) (done : List Step) (mask : ℕ) (after : List ℤ → List Step) : Type 0 where
   pub below : stage < 5
   pub shown : (p : ℕ) → IsAc p → bit mask p ≡ refined f.block f.weights f.plane p
   pub leads : Leads f stage earlier done (λ v. refinement_steps v f.weights f.plane) after
   pub possible : Possible f stage earlier done
 
--- the DC's bit comes first, where it is due in a plane
+-- the DC's bit is next, if it is due in a plane
 pub record DcBitNext (f : Frame) (plan : CodedPlane) (earlier : ℕ → List Step) (after : List ℤ → List Step) : Type 0 where
   pub weights : f.weights ≡ plan.weights.shifts
   pub plane : f.plane ≡ plan.plane
@@ -29,7 +29,7 @@ pub record DcBitNext (f : Frame) (plan : CodedPlane) (earlier : ℕ → List Ste
   pub leads : Leads f 0 earlier [] (λ v. dc_steps v f.weights f.plane f.q) after
   pub possible : Possible f 0 earlier []
 
--- whether the DC's bit is 1, and not where none is due
+-- whether the DC's bit is 1; not, if none is due
 abbrev pub IsDcBit : Frame → Bool → List ℤ → Type 0
 IsDcBit f x v = x ≡ (has_bit_in (dc_steps v f.weights f.plane f.q) 0 && twos_bit (get_or v 0 (pos 0)) f.plane)
 
@@ -40,8 +40,8 @@ pub record IsFront (mask here : ℕ) : Type 0 where
   pub same : (p : ℕ) → p < end → bit here p ≡ bit mask p
   pub past : (p : ℕ) → end ≤ p → p < 64 → bit here p ≡ false
 
--- the first bits of a window went to the first positions of a mask, in turn: to all of them before an end, which leaves the
--- others, and these have bits that are 1
+-- the first bits of a window are given to the first positions of a mask, in order: to all of them before an end. `left` has
+-- the other positions, and `bits` has those whose bit is 1
 pub record Deals (mask window count left bits : ℕ) : Type 0 where
   pub some : 0 < count
   pub few : count ≤ 56

@@ -1,10 +1,10 @@
--- Bits that come from nothing but what is told of a source. What bits mean doesn't depend on their source, so what is read of a
--- source may be shown of its shadow. (This project's own.)
+-- Bits of a source that is only what another source has left. What bits mean does not depend on their source, so what is
+-- read of a source may be proved of this shadow of it. (This project's own.)
 use Rattle.std.specs.Prelude.{[], Option}
 use Rattle.bit_pipe.specs.Sources.{Tail, SourceOf}
 use Rattle.bit_pipe.specs.Coming.{Coming}
 
--- the source that is nothing but what is still to come, where that is told
+-- the source that is only what is left, if that is known
 abbrev pub told : SourceOf (Option Tail)
 told = record {
   tail = λ t. t;

@@ -1,4 +1,4 @@
--- What a call leaves that reads a stage of a block. (This project's own.)
+-- The result of a call that reads a stage of a block. (This project's own.)
 use Rattle.std.specs.Prelude.{◌≡◌, ◌<◌, ℕ, ℤ, List, [], ◌++◌, Result}
 use Rattle.std.specs.List.{flat_map}
 use Rattle.base_122.specs.declared.book.Book.{Book}
@@ -26,17 +26,18 @@ use Rattle.plane_reader.specs.Pieces.{Knows, ReadsSteps}
 abbrev pub told_before : (ℕ → List Step) → ℕ → List Step
 told_before earlier k = flat_map earlier (span 0 k)
 
--- the families' bits of a mark tell which are significant, for all blocks that send this
+-- the families' bits of a state say which families are significant, for all blocks that send this
 abbrev pub FamiliesTold : Frame → (k : ℕ) → (ℕ → List Step) → List Step → ℤ → Type 0
 FamiliesTold f k earlier done mark = f.plane < f.depth → (v : List ℤ) → Sends f k earlier done v → Shows (families_in mark) (λ i. set_significant v f.plane (Family i)) 0 3
 
--- a block before stage k: it has what the stages before told of all blocks that send them, and some block does
+-- a block before stage k: it has what the stages before it report of all blocks that send them, and there is such a block
 pub record StandsBefore (f : Frame) (k : ℕ) (earlier : ℕ → List Step) (mark : ℤ) (now : List ℤ) : Type 0 where
   pub possible : Possible f k earlier []
   pub tells : (v : List ℤ) → Sends f k earlier [] v → Tells f.plane (told_before earlier k) v f.block now
   pub families : k ≡ 3 → FamiliesTold f k earlier [] mark
 
--- Stage k of a block was read, as far as it goes: `part` are the steps that were read whole, and the block has besides what they tell.
+-- Stage k of a block was read up to where the text ends: `part` are the steps that were read whole, and the
+-- block is also given what they report.
 pub record StageTaken {I : Type 0} (k : SourceOf I) (book : Book) (f : Frame) (stage : ℕ) (earlier : ℕ → List Step)
     (result : Result Part TextFault) (before now : Gaggle) (mark : ℤ) (block : List ℤ) (old new : Coming I) : Type 0 where
   pub part : List Step

@@ -1,4 +1,4 @@
--- What a call leaves that reads a bit plane. (This project's own.)
+-- The result of a call that reads a bit plane. (This project's own.)
 use Rattle.std.specs.Prelude.{◌≡◌, ◌<◌, ◌≤◌, ℕ, ◌+◌, ◌*◌, ◌^◌, ℤ, pos, unsigned_abs, List, [], length, Result}
 use lib.ListN.{get_or}
 use Rattle.wave_defs.specs.Held.{block_at}
@@ -22,8 +22,8 @@ use Rattle.bit_pipe.specs.Answers.{part_answer, items_read}
 abbrev pub plane_with : List (List ℤ) → (depths weights : List ℕ) → (plane q : ℕ) → Plane
 plane_with values depths weights plane q = record { blocks = values; depths = depths; weights = weights; number = plane; q = q }
 
--- The first stages of a plane were read, as far as their items go: each block has besides what it had just the bits and signs that
--- the items give. What they don't give of the values may be anything that the block can have.
+-- The first stages of a plane were read up to where their items end: each block also has the bits and signs that the items give,
+-- and no others. Where the items do not give the values, these may be any that the block can have.
 pub record TakesPlane {I : Type 0} (k : SourceOf I) (book : Book) (plane q : ℕ) (weights : List ℕ) (stages : ℕ) (depths : List ℕ)
     (result : Result Part TextFault) (old new : Coming I) (before now : List ℤ) : Type 0 where
   pub values : List (List ℤ)
@@ -45,7 +45,7 @@ pub record IsCleared (plane : ℕ) (z : ℤ) : Type 0 where
   pub part : ℕ
   pub whole : unsigned_abs z ≡ 2 ^ (plane + 1) * part
 
--- A block before its plane is read: it can be spelled, and has no bit of the plane or below it. The DC has one where the DC part
+-- A block before its plane is read: it can be coded, and has no bit of the plane or below it. The DC has one if the DC part
 -- had the plane.
 pub record AwaitsPlane (weights : List ℕ) (plane q depth : ℕ) (block : List ℤ) : Type 0 where
   pub whole : length block ≡ 64

@@ -4,7 +4,7 @@ use Rattle.block_masks.specs.declared.plan.CodedPlane.{CodedPlane}
 use Rattle.plane_reader.specs.Taken.{AwaitsPlane}
 use Rattle.plane_reader.specs.Frames.{Frame}
 
--- this plane, this depth, and a block that awaits the plane
+-- the frame has this plane, this depth, and a block that awaits the plane
 pub record IsFrame (f : Frame) (plan : CodedPlane) (depth : ℕ) : Type 0 where
   pub weights : f.weights ≡ plan.weights.shifts
   pub plane : f.plane ≡ plan.plane

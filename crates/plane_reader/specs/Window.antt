@@ -1,4 +1,4 @@
--- What stands first in a window of bits. (This project's own.)
+-- What is first in a window of bits. (This project's own.)
 use Rattle.std.specs.Prelude.{◌≡◌, ◌≤◌, ◌<◌, ℕ, ◌+◌, ◌-◌, ◌^◌, Bool, true, false, count_ones}
 use lib.ListN.{get_or, drop}
 use Rattle.item_defs.specs.Bits.{value_of}
@@ -11,7 +11,8 @@ use Rattle.bit_pipe.specs.declared.front.Front.{Front}
 use Rattle.bit_pipe.specs.Windows.{first_of}
 use Rattle.plane_reader.specs.declared.window.Types.{Types}
 
--- a word of so many bits, and how many spell it: one bit is raw, and more are spelled by the option that is known of their number
+-- a word of this number of bits, and the number of bits of its code: one bit is raw, and a longer word is
+-- coded by the known option of its length
 pub record IsWordIn (book : Book) (gaggle : Gaggle) (count window : ℕ) (word : Front) : Type 0 where
   pub none : count ≡ 0 → word.len ≡ 0
   pub fits : word.number < 2 ^ count
@@ -20,7 +21,7 @@ pub record IsWordIn (book : Book) (gaggle : Gaggle) (count window : ℕ) (word :
   pub sent : 2 ≤ count → get_or gaggle.sent (count - 2) false ≡ true
   pub coded : 2 ≤ count → item_bits (word_item book count (get_or gaggle.options (count - 2) 0) word.number) ≡ first_of word.len window
 
--- the types of some due places, one of them 1 where that is wanted, and the signs of those that are: the bits after the word
+-- the types of some due places, of which one is 1 if `is_wanted`, and the signs of those whose type is 1: the bits after the word
 pub record AreTypesIn (book : Book) (gaggle : Gaggle) (due : ℕ) (is_wanted : Bool) (window : ℕ) (types : Types) : Type 0 where
   pub word : Front
   pub is_word : IsWordIn book gaggle (count_ones due) window word

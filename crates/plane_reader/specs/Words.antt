@@ -1,4 +1,4 @@
--- What calls leave that read an option, a raw bit, or the word of some due places. (This project's own.)
+-- The results of calls that read an option, a raw bit, or the word of some due places. (This project's own.)
 use Rattle.std.specs.Prelude.{◌≡◌, ◌<◌, ◌≤◌, ℕ, ◌-◌, ◌&&◌, Bool, List, [], ◌∷◌, ◌++◌, Result, Option, count_ones, map, filter}
 use Rattle.item_defs.specs.Bits.{bit, digit, value_of}
 use Rattle.item_defs.specs.Items.{raw}
@@ -17,7 +17,7 @@ use Rattle.bit_pipe.specs.Reading.{Ending, stopped, Reads}
 use Rattle.bit_pipe.specs.Answers.{item_answer}
 use Rattle.plane_reader.specs.Pieces.{Knows, word_with, TakesWord}
 
--- the option of a length, whose identifier was read where no word of that length was before
+-- the option of a length, whose identifier was read if no word of that length was read before
 pub record OpensLength {I : Type 0} (k : SourceOf I) (count : ℕ) (result : Result (Option ℕ) TextFault) (before now : Gaggle) (old new : Coming I) : Type 0 where
   pub option : ℕ
   pub known : option < count
@@ -38,7 +38,7 @@ pub record TakesFlag {I : Type 0} (k : SourceOf I) (result : Result (Option Bool
   pub read : Reads k (raw (digit value) ∷ []) ending old new
   pub answer : result ≡ item_answer value ending
 
--- the word of these due places was read, and its bits stand at their places
+-- the word of these due places was read, and its bits are at their places
 pub record TakesDue {I : Type 0} (k : SourceOf I) (book : Book) (due : ℕ) (result : Result (Option ℕ) TextFault) (before now : Gaggle) (old new : Coming I) : Type 0 where
   pub places : ℕ
   pub words : Result (Option ℕ) TextFault

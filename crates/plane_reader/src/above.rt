@@ -12,8 +12,8 @@ use crate::stages::Terms;
 use crate::waiting::{BLOCK, KEPT};
 use block_masks::all_reaching;
 
-/// Which AC numbers of the first blocks are significant in a plane: bit p of mask r tells of number p of block r, and bit 0
-/// tells nothing (docs/formats.md, "Bit planes"). `blocks` has the 64 numbers of each block, one block after another.
+/// Returns which AC numbers of the first blocks are significant in a plane: bit p of mask r is for number p of block r, and
+/// bit 0 is 0 (docs/formats.md, "Bit planes"). `blocks` has the 64 numbers of each block, one block after another.
 pub fn all_significant(blocks: &[i32], plane: u8) -> [u64; KEPT]
     requires whole { length blocks.now % 64 ≡ 0 }
     requires low { plane < 31 }
@@ -26,7 +26,7 @@ pub fn all_significant(blocks: &[i32], plane: u8) -> [u64; KEPT]
     masks
 }
 
-// The mask of block r.
+// Returns the mask of block r.
 #[inline(always)]
 pub(crate) fn mask_above(terms: &Terms, r: usize, block: &[i32]) -> u64
     requires whole { length block.now ≡ 64 }

@@ -1,4 +1,4 @@
-// What was found of a block's numbers, put into it.
+// Puts what was found of a block's numbers into it.
 
 ghost use Rattle.std.specs.Prelude.{◌≡◌, ◌<◌, length};
 ghost use Rattle.plane_reader.specs.Applied.{Applies, AddsDc};
@@ -6,7 +6,7 @@ ghost use Rattle.plane_reader.specs.Applied.{Applies, AddsDc};
 use crate::found::Found;
 use block_masks::{set_bits, without};
 
-// Gives the AC numbers that were found to have the plane's bit that bit, and their signs.
+// Gives the plane's bit to the AC numbers that were found to have it, and their signs.
 #[inline]
 pub(crate) fn apply(found: Found, plane: u8, block: &mut [i32])
     requires whole { length block.old ≡ 64 }

@@ -19,7 +19,7 @@ use crate::word::take_flag;
 use bit_pipe::{BitIn, OctetIn, TextFault};
 use block_masks::{Gaggle, Sets, either, except, masked};
 
-// Whether all descendants are significant: their flag, where it is due.
+// Returns whether all descendants are significant: their flag, if it is due.
 fn take_descendants<I: OctetIn>(
     input: &mut BitIn<I>,
     is_live: bool,
@@ -37,7 +37,7 @@ fn take_descendants<I: OctetIn>(
     take_flag(input)
 }
 
-// A set is significant in the plane and wasn't above it.
+// Returns whether a set is significant in the plane and was not above it.
 #[inline]
 fn is_new(now: bool, was: bool) -> bool
     ensures { result ≡ (now && not was) }
@@ -45,7 +45,7 @@ fn is_new(now: bool, was: bool) -> bool
     now && !was
 }
 
-// Takes what a block sends of its children, and answers which families are significant.
+// Reads what a block sends of its children, and returns which families are significant.
 pub(crate) fn take_children<I: OctetIn>(
     input: &mut BitIn<I>,
     terms: &Terms,

@@ -1,4 +1,4 @@
-// What the words of a block gave in a stage.
+// What the words of a block give in a stage.
 
 ghost use Rattle.std.specs.Prelude.{◌≡◌, ◌+◌, ◌-◌, ◌≤◌, ◌<◌, ◌^◌, ◌&&◌, ◌||◌, ℕ, Bool};
 ghost use Rattle.item_defs.specs.Bits.{bit as bit_in};
@@ -8,14 +8,14 @@ ghost use Rattle.plane_reader.specs.BlocksShown.{Joins};
 
 use block_masks::{both, either, joined};
 
-// Masks of the positions that have the plane's bit, and of those that are told to be negative.
+// Masks of the positions that have the plane's bit, and of those whose sign was read as negative.
 #[derive(Clone, Copy)]
 pub(crate) struct Found {
     pub bits: u64,
     pub minus: u64,
 }
 
-// A mask of some positions, from `start` on, as one of all 64.
+// Returns a mask of some positions, from `start` on, as one of all 64.
 #[inline(always)]
 pub(crate) fn placed(mask: u64, start: u8) -> u64
     requires start { start < 64 }
@@ -26,10 +26,10 @@ pub(crate) fn placed(mask: u64, start: u8) -> u64
 }
 
 impl Found {
-    // Nothing was found.
+    // The masks if nothing was found.
     pub const NOTHING: Found = Found { bits: 0, minus: 0 };
 
-    // The positions of a mask, and with them those that have the bit.
+    // Adds the positions of a mask that have the bit.
     #[inline(always)]
     pub fn with(self, mask: u64) -> u64
         ensures { (p : ℕ) → p < 64 → bit_in result p ≡ (bit_in mask p || bit_in self.bits p) }
@@ -37,7 +37,7 @@ impl Found {
         either(mask, self.bits)
     }
 
-    // Those of the told signs whose numbers have the bit.
+    // Returns those of the negative signs whose numbers have the bit.
     #[inline(always)]
     fn signs(self) -> u64
         ensures { (p : ℕ) → p < 64 → bit_in result p ≡ (bit_in self.minus p && bit_in self.bits p) }
@@ -45,7 +45,7 @@ impl Found {
         both(self.minus, self.bits)
     }
 
-    // These, and others that were found after them.
+    // Returns these masks with those that were found after them.
     #[inline(always)]
     pub fn and(self, more: Found) -> Found
         ensures { Joins self more result }
@@ -57,7 +57,7 @@ impl Found {
         }
     }
 
-    // The positions from `start` on of which these have the plane's bit.
+    // Adds the positions from `start` on that have the plane's bit.
     #[inline]
     pub fn add_bits(&mut self, mask: u64, start: u8)
         requires start { start < 64 }
@@ -69,7 +69,7 @@ impl Found {
         self.bits = either(self.bits, placed(mask, start));
     }
 
-    // The positions from `start` on of which these are told to be negative.
+    // Adds the positions from `start` on that were read as negative.
     #[inline]
     pub fn add_minus(&mut self, mask: u64, start: u8)
         requires start { start < 64 }

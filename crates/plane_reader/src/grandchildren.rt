@@ -17,7 +17,7 @@ use crate::types::{take_some_types, take_wanted};
 use bit_pipe::{BitIn, OctetIn, TextFault};
 use block_masks::{Gaggle, Sets, both, either, except, has, is_any_of, quads_of, three};
 
-// Takes what the significant set of sixteen grandchildren in a family sends; it is new or was significant above.
+// Reads what the significant set of sixteen grandchildren in a family sends; the set is new or was significant above.
 fn take_quads<I: OctetIn>(
     input: &mut BitIn<I>,
     terms: &Terms,
@@ -52,7 +52,7 @@ fn take_quads<I: OctetIn>(
     take_groups(input, terms.tables, gaggle, found, types, groups)
 }
 
-// Takes what the sets of sixteen grandchildren send that are significant now, some of them new.
+// Reads what the sets of sixteen grandchildren send that are significant now, some of them new.
 fn take_sixteens<I: OctetIn>(
     input: &mut BitIn<I>,
     terms: &Terms,
@@ -82,7 +82,7 @@ fn take_sixteens<I: OctetIn>(
     Ok(Some(()))
 }
 
-// The families of which no child is in a mask of all positions.
+// Returns the families of which no child is in a mask of all positions.
 #[inline]
 fn without_child(mask: u64) -> u64
     ensures { Shows result (no_child mask) 0 3 }
@@ -94,7 +94,7 @@ fn without_child(mask: u64) -> u64
     )
 }
 
-// Takes what a block sends of its grandchildren, where these families are significant and the mask `now` tells which children are.
+// Reads what a block sends of its grandchildren; these families are significant and the mask `now` says which children are.
 pub(crate) fn take_grandchildren<I: OctetIn>(
     input: &mut BitIn<I>,
     terms: &Terms,

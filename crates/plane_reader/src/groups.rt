@@ -20,7 +20,7 @@ use bit_pipe::{BitIn, OctetIn, TextFault};
 use block_masks::{Gaggle, first_in, has, part, split_lowest, without};
 use word_codes::WordTables;
 
-// Groups of four positions from `first` on: those whose types are sent, and those of which one type at least must be 1.
+// Groups of four positions from `first` on: the groups whose types are sent, and those in which at least one type must be 1.
 #[derive(Clone, Copy)]
 pub(crate) struct Groups {
     pub first: u8,
@@ -29,7 +29,7 @@ pub(crate) struct Groups {
     pub wanted: u64,
 }
 
-// What was read of some groups at hand: those that are left, what the others told, and how many bits that took.
+// What was read of some groups in a window: the groups that are left, what the others gave, and how many bits that took.
 #[derive(Clone, Copy)]
 struct Read {
     left: u64,
@@ -37,8 +37,8 @@ struct Read {
     len: u8,
 }
 
-// Reads groups of which these are left from a window, as many as stand at hand, up to one whose word's option isn't known or that
-// must have a type that is 1 and has none.
+// Reads groups from a window, of those that are left, until the window ends, a word's option is not known, or a group that must
+// have a type of 1 has none.
 #[inline(always)]
 fn groups_in(
     tables: &WordTables,
@@ -83,7 +83,7 @@ fn groups_in(
     read
 }
 
-// Takes what stands at hand of the groups of which these are left, and answers those that are left then.
+// Reads what the window has of the groups that are left, and returns the groups that are left then.
 #[inline(always)]
 fn take_from_window<I: OctetIn>(
     input: &mut BitIn<I>,
@@ -115,7 +115,7 @@ fn take_from_window<I: OctetIn>(
     read.left
 }
 
-// Takes the types of these groups, of which these are due, and their signs: as many at once as stand at hand.
+// Reads the types of these groups, of which these are due, and their signs: as many at once as a window has.
 pub(crate) fn take_groups<I: OctetIn>(
     input: &mut BitIn<I>,
     tables: &WordTables,

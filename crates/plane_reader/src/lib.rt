@@ -1,11 +1,11 @@
-//! A bit plane of a segment, read (docs/formats.md, "Bit planes", "Words and codes" and "Reading a segment").
+//! This crate reads a bit plane of a segment (docs/formats.md, "Bit planes", "Words and codes" and "Reading a segment").
 //!
-//! `take_plane` puts into the blocks of a segment the bits and signs that the plane's text gives. `plane` goes over the stages,
-//! gaggles and blocks, and `stages` takes what a block sends in a stage, by masks of 64 positions: `children`, `grandchildren`
-//! and `refine` its parts, `groups` and `types` flags, types and signs, and `word` the words of a gaggle. `found` gathers what
-//! they give; for the first blocks it waits (`waiting`) till the plane's end, and `apply` puts it into the block. `above` tells what
-//! is significant above the plane, and `block_masks` keeps in the marks what lasts from one stage to the next. Where the octets stand in memory, groups and refinement bits are read from
-//! one window of their bits, by `hand`, and else one after another.
+//! `take_plane` puts the bits and signs that the plane's text gives into the blocks of a segment. `plane` goes over the stages, gaggles and
+//! blocks. `stages` reads what a block sends in a stage, with masks of 64 positions: `children`, `grandchildren` and `refine` read the
+//! parts of a stage, `groups` and `types` read flags, types and signs, and `word` reads the words of a gaggle. `found` collects what they
+//! give. For the first blocks of a segment this waits (`waiting`) till the plane's end; then `apply` puts it into the block. `above` holds
+//! what is significant above the plane, and `block_masks` keeps in a block's state what lasts from one stage to the next. If the octets are
+//! in memory, groups and refinement bits are read from one window of their bits (`hand`), otherwise one after another.
 #![tactic(auto)]
 
 mod above;

@@ -1,4 +1,4 @@
-// A plane of a segment, stage by stage and gaggle by gaggle.
+// The reader of a plane of a segment, stage by stage and gaggle by gaggle.
 
 ghost use Rattle.std.specs.Prelude.{◌≡◌, ◌+◌, ◌*◌, ◌≤◌, ◌<◌, ℕ, IsTrue, length};
 ghost use Rattle.bit_pipe.specs.Coming.{coming, IsIn};
@@ -19,10 +19,10 @@ use bit_pipe::{BitIn, OctetIn, Part, TextFault};
 use block_masks::{CodedPlane, Gaggle, PlanePlan, depth_of, load, mark_of, store};
 use word_codes::WordTables;
 
-// Blocks of a gaggle.
+// The number of blocks of a gaggle.
 const GAGGLE: usize = 16;
 
-// Each mark keeps its depth, and nothing of a gaggle or of families.
+// Clears each state: it keeps its depth, and nothing of a gaggle or of families.
 fn clear(marks: &mut [i32])
     ensures { Clears marks.old marks.new }
 {
@@ -35,7 +35,7 @@ fn clear(marks: &mut [i32])
     }
 }
 
-// Takes a stage of gaggle g.
+// Reads a stage of gaggle g.
 fn take_gaggle_stage<I: OctetIn>(
     input: &mut BitIn<I>,
     terms: &Terms,
@@ -67,7 +67,7 @@ fn take_gaggle_stage<I: OctetIn>(
     Ok(Part::Whole)
 }
 
-// Takes a stage of all blocks, with what the marks keep.
+// Reads a stage of all blocks, with what the states keep.
 fn take_stage<I: OctetIn>(
     input: &mut BitIn<I>,
     terms: &Terms,
@@ -105,7 +105,7 @@ fn take_stage<I: OctetIn>(
     Ok(Part::Whole)
 }
 
-// Takes the stages of a plane up to the last one that is sent.
+// Reads the stages of a plane up to the last one that is sent.
 fn take_plane_stages<I: OctetIn>(
     input: &mut BitIn<I>,
     terms: &Terms,
@@ -135,23 +135,23 @@ fn take_plane_stages<I: OctetIn>(
     Ok(Part::Whole)
 }
 
-/// Takes a bit plane of a segment up to the plan's last stage (docs/formats.md, "Bit planes" and "Reading a segment"): the
-/// bits and signs that the text gives go into the blocks, and nothing else of them changes. The answer is `Whole` where all
-/// items stood in the text, and `Ended` where the text ended before.
+/// Reads a bit plane of a segment up to the plan's last stage (docs/formats.md, "Bit planes" and "Reading a segment"). The
+/// bits and signs that the text gives are put into the blocks, and nothing else of the blocks changes. Returns `Whole` if
+/// the text has all items, and `Ended` if it ends before.
 ///
-/// `blocks` has the 64 weighted numbers of each block, one block after another, and `marks` one number for each block, whose
-/// lowest five bits are the block's depth, at most 27. Before the call a block has no bit of the plane or below it, but for a
-/// DC of which the DC part had the plane. The plane is at most 26, and the last stage at most 4.
+/// `blocks` has the 64 weighted numbers of each block, one block after another, and `marks` one number for each block, its
+/// state, whose lowest five bits are the block's depth, at most 27. Before the call a block has no bit of the plane or below
+/// it, except a DC whose bits of the plane were in the DC part. The plane is at most 26, and the last stage at most 4.
 ///
-/// The other bits of the marks are free, and the call writes there; the depths stay, whatever it answers.
+/// The other bits of `marks` are free, and the call overwrites them. The depths stay, whatever it returns.
 ///
-/// `above` tells which AC numbers of the first blocks are significant above the plane, as `all_significant` does, and then which
-/// are in the plane, so that it serves the next lower one.
+/// `above` says which AC numbers of the first blocks are significant above the plane, as `all_significant` returns it. After the
+/// call it says which are significant in the plane, as the next lower plane needs it.
 ///
 /// # Errors
 ///
-/// `BadOption` at the first identifier that names no option, `FalseFlag` at the first word that leaves a set without a
-/// significant member, and the faults of the input. The blocks have what was read whole before then too.
+/// `BadOption` at the first identifier that has no option, `FalseFlag` at the first word that leaves a set without a
+/// significant member, and the faults of the input. The blocks also have what was read whole before.
 pub fn take_plane_with<I: OctetIn>(
     input: &mut BitIn<I>,
     blocks: &mut [i32],
@@ -183,11 +183,11 @@ pub fn take_plane_with<I: OctetIn>(
     read
 }
 
-/// The same by a sound book. Several planes are read sooner by `take_plane_with`, with tables that are made once.
+/// Reads a bit plane by a sound book. `take_plane_with` is faster for several planes, as its tables are made once.
 ///
 /// # Errors
 ///
-/// As there.
+/// The same as those of `take_plane_with`.
 pub fn take_plane<I: OctetIn>(
     input: &mut BitIn<I>,
     blocks: &mut [i32],

@@ -1,4 +1,4 @@
-// The refinement bits of a block, and the DC's bit.
+// The reader of the refinement bits of a block, and of the DC's bit.
 
 ghost use Rattle.std.specs.Prelude.{◌≡◌, ◌<◌, ◌≤◌, ◌&&◌, ℕ, ℤ, [], List, nat_lt, count_ones};
 ghost use Rattle.bit_pipe.specs.Coming.{coming, IsIn};
@@ -16,7 +16,7 @@ use crate::word::take_flag;
 use bit_pipe::{BitIn, OctetIn, TextFault};
 use block_masks::{CodedPlane, either, except, first_in, has, masked, one, split_lowest, without};
 
-// Those of a mask's positions that a window serves for sure: all, or where these are more than 56, those among the first 56.
+// Returns those of a mask's positions that a window surely has bits for: all, or those among the first 56 if there are more than 56.
 #[inline(always)]
 fn served(mask: u64) -> u64
     requires some { 0 < mask }
@@ -31,7 +31,7 @@ fn served(mask: u64) -> u64
     }
 }
 
-// What bits were dealt out to positions: those whose bit is 1, those that are left, and how many bits that took.
+// What bits were dealt out to positions: the positions whose bit is 1, those that are left, and how many bits were taken.
 #[derive(Clone, Copy)]
 struct Dealt {
     bits: u64,
@@ -39,7 +39,7 @@ struct Dealt {
     count: u8,
 }
 
-// Deals the bits of a window out to the positions of a mask that it serves, the first to the first.
+// Deals the bits of a window out to the positions of a mask that it has bits for, the first bit to the first position.
 #[inline(always)]
 fn deal(mask: u64, window: u64) -> Dealt
     requires some { 0 < mask }
@@ -62,7 +62,7 @@ fn deal(mask: u64, window: u64) -> Dealt
     }
 }
 
-// Takes the plane's bit of each AC number of this mask: as many at once as stand at hand, else one after another.
+// Reads the plane's bit of each AC number of this mask: as many at once as a window has, otherwise one after another.
 pub(crate) fn take_refinement<I: OctetIn>(
     input: &mut BitIn<I>,
     found: &mut Found,
@@ -93,7 +93,7 @@ pub(crate) fn take_refinement<I: OctetIn>(
     Ok(Some(()))
 }
 
-// The DC part left the plane's bit out, and it can be other than 0.
+// Returns whether the plane's bit of the DC was not in the DC part and can be other than 0.
 #[inline]
 fn is_dc_bit_due(plan: &CodedPlane) -> bool
     ensures { result ≡ (coded plan.now.weights.shifts plan.now.plane 0 && nat_lt plan.now.plane plan.now.q) }
@@ -101,7 +101,7 @@ fn is_dc_bit_due(plan: &CodedPlane) -> bool
     has(plan.coded, 0) && plan.plane < plan.q
 }
 
-// Takes the DC's bit where it is due: whether it is 1.
+// Reads the DC's bit if it is due, and returns whether it is 1.
 pub(crate) fn take_dc_bit<I: OctetIn>(
     input: &mut BitIn<I>,
     plan: &CodedPlane,

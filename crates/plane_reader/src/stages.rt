@@ -1,4 +1,4 @@
-// The stages of a block.
+// The reader of the stages of a block.
 
 ghost use Rattle.std.specs.Prelude.{◌≡◌, ◌≤◌, ◌<◌, ◌⊎◌, ℕ, ℤ, List, [], length, Some, None};
 ghost use Rattle.bit_pipe.specs.declared.fault.Part.TheVariants.{Whole, Ended};
@@ -31,7 +31,7 @@ use bit_pipe::{BitIn, OctetIn, Part, TextFault};
 use block_masks::{CodedPlane, Gaggle, both, depth_of, except, families_of, with_families};
 use word_codes::WordTables;
 
-// A plane, the codes of its words, and for the first blocks which of their numbers are significant above it.
+// A plane, the codes of its words, and masks of the numbers of the first blocks that are significant above it.
 #[derive(Clone, Copy)]
 pub(crate) struct Terms<'a> {
     pub plan: &'a CodedPlane,
@@ -39,14 +39,14 @@ pub(crate) struct Terms<'a> {
     pub above: &'a [u64; KEPT],
 }
 
-// What is seen of a block before a stage: which of its numbers are significant above the plane, and what waits for it.
+// What is known of a block before a stage: which of its numbers are significant above the plane, and what waits for it.
 #[derive(Clone, Copy)]
 struct Seen {
     above: u64,
     waits: Found,
 }
 
-// Takes the types of the parents, and their signs.
+// Reads the types of the parents, and their signs.
 fn take_parents<I: OctetIn>(
     input: &mut BitIn<I>,
     terms: &Terms,
@@ -71,7 +71,7 @@ fn take_parents<I: OctetIn>(
     take_types(input, terms.tables, gaggle, found, due, group)
 }
 
-// Takes what a block sends of its children, and keeps in its mark which families are significant.
+// Reads what a block sends of its children, and keeps in its state which families are significant.
 fn take_families<I: OctetIn>(
     input: &mut BitIn<I>,
     terms: &Terms,
@@ -98,7 +98,7 @@ fn take_families<I: OctetIn>(
     Ok(Some(()))
 }
 
-// Takes the words of a stage of a block that is deep enough.
+// Reads the words of a stage of a block that is deep enough.
 fn take_words<I: OctetIn>(
     input: &mut BitIn<I>,
     terms: &Terms,
@@ -134,7 +134,7 @@ fn take_words<I: OctetIn>(
     }
 }
 
-// Whether all was read.
+// Returns whether all was read.
 #[inline]
 fn part_of(read: Option<()>) -> Part
     ensures { (read ≡ Some tt → result ≡ Whole) × (read ≡ None → result ≡ Ended) }
@@ -146,7 +146,7 @@ fn part_of(read: Option<()>) -> Part
     }
 }
 
-// Takes the bit of a block's DC.
+// Reads the bit of a block's DC.
 fn take_dc<I: OctetIn>(
     input: &mut BitIn<I>,
     plan: &CodedPlane,
@@ -166,7 +166,7 @@ fn take_dc<I: OctetIn>(
     Ok(Part::Whole)
 }
 
-// Takes the words of a stage of a block that is deep enough. What they tell waits, or goes into the block.
+// Reads the words of a stage of a block that is deep enough. What they give waits, or is put into the block.
 fn take_deep<I: OctetIn>(
     input: &mut BitIn<I>,
     terms: &Terms,
@@ -202,7 +202,7 @@ fn take_deep<I: OctetIn>(
     Ok(part_of(read?))
 }
 
-// Takes a stage of block r, whose mark tells its depth and keeps its families.
+// Reads a stage of block r, whose state has its depth and its families.
 pub(crate) fn take_block<I: OctetIn>(
     input: &mut BitIn<I>,
     terms: &Terms,

@@ -1,4 +1,4 @@
-// The flags of sets, and the types of numbers with their signs.
+// The reader of the flags of sets, and of the types of numbers with their signs.
 
 ghost use Rattle.std.specs.Prelude.{◌≡◌, ◌≤◌, ◌<◌, ◌+◌, ◌^◌, ◌&&◌, ℕ, ℤ, Bool, List};
 ghost use Rattle.bit_pipe.specs.Coming.{coming, IsIn};
@@ -19,7 +19,7 @@ use bit_pipe::{BitIn, OctetIn, TextFault};
 use block_masks::{Gaggle, except, first_in, is_any, one, part, spread, without};
 use word_codes::WordTables;
 
-// Takes the word of some due places, of which one at least must be 1 where that is wanted.
+// Reads the word of some due places, of which at least one must be 1 if `is_wanted` is set.
 #[inline(always)]
 pub(crate) fn take_some_types<I: OctetIn>(
     input: &mut BitIn<I>,
@@ -47,7 +47,7 @@ pub(crate) fn take_some_types<I: OctetIn>(
     Ok(Some(places))
 }
 
-// Takes the word of some due places, of which these must be 1.
+// Reads the word of some due places, of which these must be 1.
 pub(crate) fn take_wanted<I: OctetIn>(
     input: &mut BitIn<I>,
     tables: &WordTables,
@@ -74,7 +74,7 @@ pub(crate) fn take_wanted<I: OctetIn>(
     Ok(Some(places))
 }
 
-// Takes the signs of these of some positions, one after another.
+// Reads the signs of some positions, one after another.
 #[cold]
 fn take_signs_singly<I: OctetIn>(
     input: &mut BitIn<I>,
@@ -104,7 +104,7 @@ fn take_signs_singly<I: OctetIn>(
     Ok(Some(()))
 }
 
-// Takes the signs of these of up to four positions, all at once where they stand at hand.
+// Reads the signs of at most four positions, all at once if a window has them.
 #[inline(always)]
 fn take_signs<I: OctetIn>(
     input: &mut BitIn<I>,
@@ -136,7 +136,7 @@ fn take_signs<I: OctetIn>(
     Ok(Some(()))
 }
 
-// A group of positions whose types are one word, of which one at least must be 1 where that is wanted.
+// A group of positions whose types are one word, of which at least one must be 1 if `is_wanted` is set.
 #[derive(Clone, Copy)]
 pub(crate) struct Group {
     pub start: u8,
@@ -144,7 +144,7 @@ pub(crate) struct Group {
     pub is_wanted: bool,
 }
 
-// Takes the types of some due places, and the signs of those that are 1, one word after another.
+// Reads the types of some due places, and the signs of those that are 1, one word after another.
 fn take_types_in_turn<I: OctetIn>(
     input: &mut BitIn<I>,
     tables: &WordTables,
@@ -173,7 +173,7 @@ fn take_types_in_turn<I: OctetIn>(
     take_signs(input, found, new, group.start, group.count)
 }
 
-// Takes the types of a group, of which these are due, and the signs of those that are 1: all at once where they stand at hand.
+// Reads the types of a group, of which these are due, and the signs of those that are 1: all at once if a window has them.
 #[inline(always)]
 pub(crate) fn take_types<I: OctetIn>(
     input: &mut BitIn<I>,

@@ -1,5 +1,5 @@
-// What was found of the first blocks of a segment in the stages of a plane. It waits till the plane's end, and then goes into each
-// block at once. What is found of a later block goes into it after each stage.
+// What was found of the first blocks of a segment in the stages of a plane. It waits till the plane's end, and is then put into
+// each block at once. What is found of a later block is put into it after each stage.
 
 ghost use Rattle.std.specs.Prelude.{◌≡◌, ◌≤◌, ◌<◌, ◌*◌, ◌%◌, ◌^◌, ◌||◌, ℕ, length};
 ghost use lib.ListN.{get_or};
@@ -14,13 +14,13 @@ use crate::apply::apply;
 use crate::found::Found;
 use block_masks::reaching;
 
-/// So many blocks of a segment, the first ones, have masks that last.
+/// The number of the first blocks of a segment that have masks which last from plane to plane.
 pub const KEPT: usize = 64;
 
-// Numbers of a block.
+// The number of numbers of a block.
 pub(crate) const BLOCK: usize = 64;
 
-// What waits for block r.
+// Returns what waits for block r.
 #[inline(always)]
 pub(crate) fn deferred_for(waiting: &[Found; KEPT], r: usize) -> Found
     ensures { result ≡ get_or waiting.now r nothing }
@@ -28,7 +28,7 @@ pub(crate) fn deferred_for(waiting: &[Found; KEPT], r: usize) -> Found
     if r < KEPT { waiting[r] } else { Found::NOTHING }
 }
 
-// What was found of block r in a stage waits with what was found before, or goes into the block where it isn't among the first.
+// Adds what was found of block r in a stage to what waits, or puts it into the block if the block is not among the first.
 #[inline(always)]
 pub(crate) fn defer(
     waiting: &mut [Found; KEPT],
@@ -51,7 +51,7 @@ pub(crate) fn defer(
     }
 }
 
-// Which of the first sixteen numbers of a block are significant in the plane, with what waits for them.
+// Returns which of the first sixteen numbers of a block are significant in the plane, with what waits for them.
 #[inline(always)]
 pub(crate) fn first_reaching(block: &[i32], plane: u8, waits: Found) -> u64
     requires whole { length block.now ≡ 64 }
@@ -61,7 +61,7 @@ pub(crate) fn first_reaching(block: &[i32], plane: u8, waits: Found) -> u64
     waits.with(reaching(block, 0, plane))
 }
 
-// Puts what waits into the first blocks, and adds to the masks what is significant in them now.
+// Puts what waits into the first blocks, and adds to the masks what becomes significant in them.
 pub(crate) fn settle(
     waiting: &[Found; KEPT],
     plane: u8,

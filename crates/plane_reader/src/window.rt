@@ -1,4 +1,4 @@
-// The types of a group and their signs, where all their bits stand at hand.
+// The types of a group and their signs, if a window has all their bits.
 
 ghost use Rattle.std.specs.Prelude.{◌≤◌, ◌<◌, IfSome};
 ghost use Rattle.block_masks.specs.Gaggles.{AreOptions};
@@ -9,8 +9,8 @@ use bit_pipe::Front;
 use block_masks::{Gaggle, spread};
 use word_codes::{WordTables, word_in};
 
-// The word of so many bits that stands first in a window, and how many bits spell it, where it needs no option or its option is
-// known.
+// Returns the word of this number of bits that is first in a window, and the length of its code, if it needs no option or its
+// option is known.
 #[inline(always)]
 fn known_word(tables: &WordTables, gaggle: &Gaggle, count: u8, window: u64) -> Option<Front>
     requires few { count ≤ 4 }
@@ -30,7 +30,7 @@ fn known_word(tables: &WordTables, gaggle: &Gaggle, count: u8, window: u64) -> O
     Some(word_in(tables, gaggle.options[place], count, window))
 }
 
-// What a window tells of a group: the places whose type is 1, those of them that are negative, and how many bits say so.
+// What a window has of a group: the places whose type is 1, those of them that are negative, and how many bits that takes.
 #[derive(Clone, Copy)]
 pub(crate) struct Types {
     pub new: u64,
@@ -38,8 +38,8 @@ pub(crate) struct Types {
     pub len: u8,
 }
 
-// The types of these due places and the signs that come with them, as they stand first in a window. None come where the word's
-// option isn't known, or where one type at least must be 1 and none is.
+// Returns the types of these due places and the signs that follow them, as they are first in a window. Returns none if
+// the word's option is not known, or if at least one type must be 1 and none is.
 #[inline(always)]
 pub(crate) fn types_in(
     tables: &WordTables,
@@ -57,7 +57,7 @@ pub(crate) fn types_in(
     if is_wanted && new == 0 {
         return None;
     }
-    // The word has as many ones, and is known before its places are.
+    // The word has this number of ones, and it is known before its places are.
     let count = count_of(u64::from(word.number));
     let signs = ((window << word.len) >> 1 >> (63 - count)) as u8;
     Some(Types {

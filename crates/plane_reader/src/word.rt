@@ -1,4 +1,4 @@
-// A word of a block's stage.
+// The reader of a word of a block's stage.
 
 ghost use Rattle.std.specs.Prelude.{◌≡◌, ◌≤◌, ◌<◌, ◌-◌, count_ones};
 ghost use Rattle.item_defs.specs.Items.{raw};
@@ -12,7 +12,7 @@ use bit_pipe::{BitIn, OctetIn, TextFault};
 use block_masks::{Gaggle, spread};
 use word_codes::{WordTables, take_option, take_word_by};
 
-// How many places of four are told.
+// Returns how many of four places are in a mask.
 #[inline(always)]
 pub(crate) fn count_of(places: u64) -> u8
     requires { places < 16 }
@@ -21,7 +21,7 @@ pub(crate) fn count_of(places: u64) -> u8
     places.count_ones() as u8
 }
 
-// A word of one bit.
+// Returns a word of one bit.
 #[inline(always)]
 fn take_raw<I: OctetIn>(input: &mut BitIn<I>) -> Result<Option<u8>, TextFault>
     requires open { IsIn (coming input.old) }
@@ -33,7 +33,7 @@ fn take_raw<I: OctetIn>(input: &mut BitIn<I>) -> Result<Option<u8>, TextFault>
     Ok(Some(bit as u8))
 }
 
-// The identifier of a length's option, where none was read yet.
+// Reads the identifier of a length's option, if none was read yet.
 #[inline(always)]
 fn open<I: OctetIn>(
     input: &mut BitIn<I>,
@@ -58,8 +58,8 @@ fn open<I: OctetIn>(
     Ok(Some(option))
 }
 
-// Takes a word of up to four bits: an empty one is nothing, one of one bit is raw, and before the first longer one of its
-// length stands the identifier of its option.
+// Reads a word of at most four bits. An empty one has no bits, one of one bit is raw, and the identifier of its option
+// precedes the first longer one of its length.
 #[inline(always)]
 pub(crate) fn take_any<I: OctetIn>(
     input: &mut BitIn<I>,
@@ -84,7 +84,7 @@ pub(crate) fn take_any<I: OctetIn>(
     take_word_by(input, tables, option, count)
 }
 
-// Takes a raw bit.
+// Reads a raw bit.
 pub(crate) fn take_flag<I: OctetIn>(input: &mut BitIn<I>) -> Result<Option<bool>, TextFault>
     requires open { IsIn (coming input.old) }
     ensures { TakesFlag I.source result (coming input.old) (coming input.new) }
@@ -92,7 +92,7 @@ pub(crate) fn take_flag<I: OctetIn>(input: &mut BitIn<I>) -> Result<Option<bool>
     Ok(input.take()?)
 }
 
-// Takes the word of up to four due places: the places whose bit is 1.
+// Reads the word of at most four due places, and returns the places whose bit is 1.
 #[inline(always)]
 pub(crate) fn take_due<I: OctetIn>(
     input: &mut BitIn<I>,

@@ -1,4 +1,4 @@
--- A step taken further: a block that sends some steps, and then one more with any entry that isn't refused there.
+-- A reading continued by one step: a block that sends some steps, and then one more with any entry that is not refused there.
 use Rattle.std.proofs.Common.{◌≡◌, ℕ, ◌+◌, ◌<◌, ◌≤◌, List, [], ◌∷◌, ◌++◌, length, take, refl, ap, sym, ◌∙◌, subst, arith, ℤ}
 use Rattle.plane_defs.specs.declared.entries.Entry.{Entry}
 use Rattle.plane_defs.specs.Entries.{stage_number, block_entries}
@@ -47,16 +47,16 @@ module _ (weights : List ℕ) (b q d : ℕ) (u v w : List ℤ) (first : IsCandid
     second = second.multiple;
   }
 
--- a block of which a candidate is made is one itself
+-- a block from which a candidate is made is a candidate
 above_both : (u v w : List ℤ) (b : ℕ) → AboveSame u v b → AboveSame v w b → AboveSame u w b
 above_both u v w b f g = record {
   mags = λ p ac. f.mags p ac ∙ g.mags p ac;
   signs = λ p ac e. f.signs p ac e ∙ g.signs p ac (sym (acs_above u v b f (b + 1) (omega arith) p ac) ∙ e);
 }
 
--- ---- a step further
+-- ---- one step more
 
--- a candidate that sent what v did before, and then these steps and this entry
+-- a candidate that sends what v sent before, and then these steps and this entry
 pub record Advanced (weights : List ℕ) (b q d : ℕ) (u v : List ℤ) (k : ℕ) (done : List Step) (s : Step) (e : Entry) : Type 0 where
   pub other : List ℤ
   pub candidate : IsCandidate weights b q d u other

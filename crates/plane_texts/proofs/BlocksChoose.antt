@@ -1,4 +1,4 @@
--- In each stage a block may have any entry that isn't refused.
+-- In each stage a block may have any entry that is not refused.
 use Rattle.std.proofs.Common.{ℕ, zero, suc, ◌<◌, arith}
 use Rattle.plane_texts.specs.Candidates.{MayChoose}
 use Rattle.plane_texts.proofs.DcBitChoice.{dc_bit_choice}

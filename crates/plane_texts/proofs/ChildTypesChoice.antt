@@ -1,4 +1,4 @@
--- The types or a sign of a family's children may be chosen; where a new family would be left without a child, a grandchild is chosen too.
+-- The types or a sign of a family's children may be chosen; if a new family would have no child then, a grandchild is chosen too.
 use Rattle.std.proofs.Common.{◌≡◌, ◌⊎◌, ℕ, zero, suc, ◌+◌, ◌-◌, ◌<◌, ◌≤◌, inl, inr, Bool, true, false, not, ◌&&◌, cond, List, [], ◌∷◌, length, refl, ap, sym, ◌∙◌, subst, arith, ℤ, length-append}
 use Rattle.std.specs.Prelude.{nat_lt, ◌||◌, ◌==◌, map}
 use Rattle.std.specs.List.{list_any}
@@ -34,7 +34,7 @@ raw_at j [] lt = absurd (omega (arith, lt))
 raw_at zero (y ∷ ys) lt = (y, refl)
 raw_at (suc j) (y ∷ ys) lt = raw_at j ys (omega (arith, lt))
 
--- ---- a grandchild besides
+-- ---- also a grandchild
 
 module _ (w : List ℤ) (weights : List ℕ) (b : ℕ) (new minus : ℕ → Bool) (may : MayComplete w weights b new) (i : ℕ) (known : i < 3) where
   pub record Extended : Type 0 where
@@ -142,7 +142,7 @@ module _ (w : List ℤ) (weights : List ℕ) (b d q : ℕ) (chosen minus : ℕ �
       keep_family : Kept
       keep_family = by_kind r.stays
 
-      -- ---- what stands in the stage then
+      -- ---- what the stage has then
 
       module _ (k : Kept) where
         abbrev last : List ℤ
@@ -204,7 +204,7 @@ module _ (w : List ℤ) (weights : List ℕ) (b d q : ℕ) (chosen minus : ℕ �
                 (ac, two.seen_same w weights b chosen minus k.more r.minus' may k.may_more p ac (other_children h (omega (arith, lt, known)) (λ s. omega (arith, s, lt)) p low high)))))
                 ∙ sym (family_entries last weights b h t (sym (families_kept h (omega (arith, lt, known))) ∙ s))
 
-        -- entries of this one
+        -- entries of this family
         sends_here : EntriesChoose c e (entries_of (family_sends old weights b i)) (entries_of (family_sends last weights b i))
         sends_here =
             entries_as c e _ _ _ _ (family_entries old weights b i true reached)

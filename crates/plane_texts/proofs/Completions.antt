@@ -1,4 +1,4 @@
--- Two completions of the same numbers: what a plane sees alike in both.
+-- Two completions of the same numbers: what a plane has the same in both.
 use Rattle.std.proofs.Common.{◌≡◌, ℕ, ◌+◌, ◌-◌, ◌^◌, ◌<◌, ◌≤◌, Bool, true, false, not, ◌&&◌, cond, List, refl, ap, sym, ◌∙◌, ℤ, pos, negsuc, get_or}
 use Rattle.std.specs.Prelude.{nat_le, ◌||◌, unsigned_abs}
 use Rattle.std.specs.List.{list_any}
@@ -53,11 +53,11 @@ module _ (w : List ℤ) (weights : List ℕ) (b : ℕ) (chosen minus : ℕ → B
   pub set_is : (s : Set) → IsKnown s → set_significant done b s ≡ (set_significant w (b + 1) s || list_any chosen (members s))
   set_is s known = (completes w weights b chosen minus may).sets s known
 
-  -- a set that was significant above stays so
+  -- a set that was significant above is significant
   pub set_stays : (s : Set) → IsKnown s → set_significant w (b + 1) s ≡ true → set_significant done b s ≡ true
   set_stays s known e = set_is s known ∙ ap (λ t. t || list_any chosen (members s)) e
 
-  -- a set that wasn't is new where it is significant
+  -- a set that was not is new if it is significant
   pub is_new_here : (s : Set) → IsKnown s → set_significant w (b + 1) s ≡ false → set_significant done b s ≡ true → is_new done b s ≡ true
   unfolding is_new
   is_new_here s known none e = ap (λ t. t && not (set_significant done (b + 1) s)) e ∙ ap not (set_above_is s known ∙ none)

@@ -27,7 +27,7 @@ pub shift_low : (weights : List ℕ) (b p : ℕ) → coded weights b p ≡ true 
 unfolding coded
 shift_low weights b p e = le_from (shift weights p) b e
 
--- a multiple stays one where a number is another
+-- a multiple stays a multiple if another number of the block is changed
 pub set_multiple : (u : List ℤ) (weights : List ℕ) (p : ℕ) (z : ℤ) → IsMultiple u weights → p < length u → IsTimes (shift weights p) z → IsMultiple (set u p z) weights
 set_multiple u weights p z m lt times = record { part = λ n. cond (n == p) times.0 (m.part n); whole = λ n. by_place n (n == p) refl }
   where

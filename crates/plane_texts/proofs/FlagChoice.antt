@@ -72,7 +72,7 @@ module _ (w : List ℤ) (weights : List ℕ) (b : ℕ) (chosen minus : ℕ → B
   unfolding flag_due
   due_encloses i e = (and_parts (not (set_significant old (b + 1) (sets i)) && live weights b (sets i)) (enclosing_significant old b (sets i)) e).1
 
-  -- where a word of them has bits, one is due
+  -- if a word of them has bits, one is due
   pub some_due : 1 ≤ length (flags old weights b listed) → (i : ℕ) × ((i < count) × (due i ≡ true))
   some_due some =
       let long : length (flags old weights b listed) ≡ length (filter due (span 0 count)) =
@@ -149,7 +149,7 @@ module _ (w : List ℤ) (weights : List ℕ) (b : ℕ) (chosen minus : ℕ → B
         (all_both (λ i. i < count) (λ i. due i ≡ true) (filter due (span 0 count)) (all_filter (λ i. i < count) due (span 0 count) (all_span (λ i. i < count) 0 count (λ i low high. omega (arith, high)))) (passed due (span 0 count)))
         (sym (any_of_map (λ i. set_significant made b (sets i)) (filter due (span 0 count))) ∙ ap (list_any (λ t. t)) r.bits ∙ some_bit n x small some)
 
-    -- where the word lacks no wanted one, the sets that are due have it
+    -- if no wanted place is missing in the word, the sets that are due have it
     pub hope_has : (hope : Set → Bool) → length (map hope (filter (flag_due old weights b) listed)) ≡ n → lacks_one (map hope (filter (flag_due old weights b) listed)) (bits_of (length (map hope (filter (flag_due old weights b) listed))) x) ≡ false →
         (i : ℕ) → i < count → due i ≡ true → hope (sets i) ≡ true → set_significant made b (sets i) ≡ true
     hope_has hope long passes i lt is_due wants =

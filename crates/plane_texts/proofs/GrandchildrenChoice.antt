@@ -1,4 +1,4 @@
--- The flags of the sets of sixteen grandchildren may be chosen; and what stays where one of them alone changes.
+-- The flags of the sets of sixteen grandchildren may be chosen; and what stays if only one of them changes.
 use Rattle.std.proofs.Common.{◌≡◌, ℕ, suc, ◌+◌, ◌-◌, ◌^◌, ◌<◌, ◌≤◌, inl, inr, Bool, true, false, not, ◌&&◌, cond, List, [], ◌∷◌, length, refl, ap, sym, ◌∙◌, subst, arith, ℤ}
 use Rattle.std.specs.Prelude.{nat_lt, ◌||◌, ◌==◌, map, filter}
 use Rattle.std.specs.List.{flat_map, list_any}
@@ -38,7 +38,7 @@ sixteens_listed : three_grandchildren ≡ map Grandchildren (span 0 3)
 unfolding span
 sixteens_listed = refl
 
--- what a family sends of its grandchildren by their sets of four
+-- what a family sends of its grandchildren, by their sets of four
 pub quad_sends : List ℤ → List ℕ → (b i j : ℕ) → List Step
 quad_sends v weights b i j = cond (set_significant v b (Quad i j)) (typed_steps v weights b (some_one_where (is_new v b (Quad i j))) (span (quad_of i j) 4)) []
 
@@ -144,7 +144,7 @@ module _ (w : List ℤ) (weights : List ℕ) (b d q : ℕ) (chosen minus : ℕ �
           no_sixteen : (p : ℕ) → p < 16 → sixteen_of p < 3 → ⊥
           no_sixteen p low h = grind (arith, nat_tests)
 
-      -- a family whose set of sixteen isn't due
+      -- a family whose set of sixteen is not due
       unmoved : (h : ℕ) → h < 3 → flag_due old weights b (Grandchildren h) ≡ false → set_significant old b (Family h) ≡ set_significant set b (Family h)
       unmoved h lt none =
           two.set_same w weights b chosen minus r.new minus may r.may_new (Family h) lt
@@ -223,7 +223,7 @@ module _ (w : List ℤ) (weights : List ℕ) (b d q : ℕ) (chosen minus : ℕ �
     pub sixteens_choice : StageChosen w weights b d q 3 chosen minus 0 (Word (record { value = x; count = n }))
     sixteens_choice = sixteens_made (flagged.flags_choice w weights b chosen minus may Grandchildren sixteen_of 3 words_chosen.sixteens x n listed_long) 0 refl
 
-  -- ---- one set of sixteen alone changes, and stays significant
+  -- ---- only one set of sixteen changes, and stays significant
 
   module _ (new minus' : ℕ → Bool) (may' : MayComplete w weights b new) (i : ℕ) (known : i < 3) (outside : (p : ℕ) → Outside (grandchildren_of i) 16 p → (chosen p ≡ new p) × (minus p ≡ minus' p))
       (reached : set_significant (completed w b chosen minus) b (Grandchildren i) ≡ true) (still : set_significant (completed w b new minus') b (Grandchildren i) ≡ true) where

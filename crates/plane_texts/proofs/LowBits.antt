@@ -53,6 +53,6 @@ twos (negsuc n) b = by_rest (n / 2 ^ b % 2) (omega arith)
     by_rest (suc zero) lt = refl
     by_rest (suc (suc d)) lt = absurd (omega arith)
 
--- bits from both of two places on
+-- the bits from the greater of two places on
 pub left_over : (q b a s : ℕ) → b < q → a ≤ b → s ≤ b → q - (b + 1) < q - max a s
 left_over q b a s lt deep low = omega arith

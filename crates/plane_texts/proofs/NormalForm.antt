@@ -1,4 +1,4 @@
--- A block as a plane sees it: the numbers that were significant above it, and those that it makes significant.
+-- A block as it is in a plane: the numbers that were significant above it, and those that become significant in it.
 use Rattle.std.proofs.Common.{◌≡◌, ℕ, suc, ◌+◌, ◌-◌, ◌*◌, ◌/◌, ◌^◌, ◌<◌, ◌≤◌, inl, inr, Bool, true, false, not, ◌&&◌, cond, eqb, List, length, refl, ap, sym, ◌∙◌, subst, arith, ℤ, pos, negsuc, get_or}
 use Rattle.std.specs.Prelude.{nat_le, nat_lt, ◌||◌, unsigned_abs, map}
 use Rattle.std.specs.Int.{int_shr}
@@ -64,7 +64,7 @@ module _ (u : List ℤ) (weights : List ℕ) (b : ℕ) (long : length u ≡ 64) 
   unfolding kept
   upper = map kept (span 0 64)
 
-  -- the numbers that the plane makes significant
+  -- the numbers that become significant in the plane
   pub new_here : ℕ → Bool
   new_here p = (nat_le 1 p && nat_lt p 64) && (significant u b p && not (significant u (b + 1) p))
 
@@ -155,7 +155,7 @@ module _ (u : List ℤ) (weights : List ℕ) (b : ℕ) (long : length u ≡ 64) 
       is_coded p here above true e = e
       is_coded p here above false e = true_false (sym here ∙ not_coded u weights b p m e ∙ above)
 
-  -- ---- the same block as the plane sees it
+  -- ---- the same block in the plane
 
   abbrev pub shown : List ℤ
   shown = completed upper b new_here minus_here
@@ -273,7 +273,7 @@ module _ (u : List ℤ) (weights : List ℕ) (b : ℕ) (long : length u ≡ 64) 
   entries_shown : (stage : Stage) (d q : ℕ) → block_entries stage u d weights b q ≡ block_entries stage shown d weights b q
   entries_shown stage d q = sym (steps_entries stage u d weights b q) ∙ ap entries_of (steps_shown stage d q) ∙ steps_entries stage shown d weights b q
 
-  -- another completion of the numbers above serves
+  -- another completion of the numbers above is enough
   pub from_completion : (d q k j : ℕ) (e : Entry) → b < d → ((p : ℕ) → 1 ≤ p → magnitude u p < 2 ^ d) → (chosen minus : ℕ → Bool) → MayComplete upper weights b chosen →
       ((i : ℕ) → i < k → block_entries (stage_number i) shown d weights b q ≡ block_entries (stage_number i) (completed upper b chosen minus) d weights b q) →
       EntriesChoose j e (block_entries (stage_number k) shown d weights b q) (block_entries (stage_number k) (completed upper b chosen minus) d weights b q) → BlockChosen u d weights b q k j e

@@ -30,7 +30,7 @@ abbrev pub MayComplete' : ℕ → Type 0
 MayComplete' k = (w : List ℤ) (weights : List ℕ) (b d q : ℕ) (chosen minus : ℕ → Bool) (j : ℕ) (e : Entry) → MayComplete w weights b chosen → nat_lt b d ≡ true → j < length (block_steps (stage_number k) (completed w b chosen minus) d weights b q) →
     Replaces (step_at (block_steps (stage_number k) (completed w b chosen minus) d weights b q) j).check (step_at (block_steps (stage_number k) (completed w b chosen minus) d weights b q) j).entry e → StageChosen w weights b d q k chosen minus j e
 
--- so a block's step may have any entry
+-- then a block's step may have any entry
 pub from_completions : (k : ℕ) → ((u : List ℤ) (d : ℕ) (weights : List ℕ) (b q j : ℕ) → nat_lt b d ≡ false → j < length (block_steps (stage_number k) u d weights b q) → j < 0) → MayComplete' k → MayChoose k
 from_completions k none may u d weights b q j e long m below lt replaces = by_depth (nat_lt b d) refl
   where

@@ -1,4 +1,4 @@
--- The parts of a plane's reading: what stands before a block of a stage, the block's own items, and what follows.
+-- The parts of a plane's reading: what precedes a block of a stage, the block's own items, and what follows.
 use Rattle.std.proofs.Common.{◌≡◌, ℕ, ◌+◌, ◌-◌, ◌*◌, ◌/◌, ◌<◌, ◌≤◌, List, [], ◌∷◌, ◌++◌, length, ap, sym, ◌∙◌, arith, get_or, append_assoc, append-nil, length-append, zero-add}
 use Rattle.std.specs.List.{flat_map}
 use Rattle.item_defs.specs.Items.{Item}
@@ -23,7 +23,7 @@ read_append book options before (s ∷ ss) ts =
     ∙ sym (append_assoc (step_reading book options before s) (read_after book options (before ++ s.entry ∷ []) ss) _)
     ∙ ap (λ b. (step_reading book options before s ++ read_after book options (before ++ s.entry ∷ []) ss) ++ read_after book options b ts) (append_assoc before (s.entry ∷ []) (entries_of ss))
 
--- a list of which a part stands after others
+-- a list of which a part is after others
 pub record Parts (whole first second : List Item) : Type 0 where
   pub others : List Item
   pub same : whole ≡ first ++ (second ++ others)

@@ -39,7 +39,7 @@ quads_listed : (i : ℕ) → quads_of i ≡ map (Quad i) (span 0 4)
 unfolding span quads_of
 quads_listed i = refl
 
--- which of them a position belongs to; a number that names none for the others
+-- the number of the set that a position belongs to; for other positions a number that no set has
 quad_owner : ℕ → ℕ → ℕ
 quad_owner i p = cond (nat_le (grandchildren_of i) p && nat_lt p (grandchildren_of i + 16)) ((p - grandchildren_of i) / 4) 4
 

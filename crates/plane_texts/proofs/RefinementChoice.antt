@@ -29,7 +29,7 @@ use Rattle.plane_texts.proofs.Completions.{significant_same}
 
 -- ---- stages before the refinement
 
--- blocks of which a plane sees the same AC numbers send the same before it
+-- blocks with the same AC numbers in a plane send the same before it
 pub stages_kept : (u v : List ℤ) (d : ℕ) (weights : List ℕ) (b q : ℕ) → AcsAlike u v weights b → ((p : ℕ) → IsAc p → SeenAt u v b p) → get_or u 0 (pos 0) ≡ get_or v 0 (pos 0) → (i : ℕ) → i < 4 →
     block_entries (stage_number i) u d weights b q ≡ block_entries (stage_number i) v d weights b q
 unfolding block_entries
@@ -42,7 +42,7 @@ stages_kept u v d weights b q alike seen dc (suc (suc (suc (suc i)))) lt = absur
 
 -- ---- a number with another bit
 
--- the bits above b, and this one there
+-- the bits above b, and this bit at b
 refined_size : (m b x : ℕ) → ℕ
 refined_size m b x = (2 * (m / 2 ^ (b + 1)) + x) * 2 ^ b
 

@@ -1,4 +1,4 @@
--- What a block's steps tell is what their entries say of the block.
+-- What a block's steps report is what their entries say of the block.
 use Rattle.std.proofs.Common.{◌≡◌, ℕ, zero, suc, ◌+◌, ◌≤◌, Bool, true, false, cond, List, [], ◌∷◌, map, refl, arith, ℤ, pos, get_or}
 use Rattle.std.specs.Prelude.{filter, nat_lt, not, ◌&&◌}
 use Rattle.std.specs.List.{flat_map, AllByRecursion}
@@ -20,7 +20,7 @@ abbrev pub bit_there : List ℤ → ℕ → ℕ → Bool
 bit_there block plane zero = twos_bit (get_or block 0 (pos 0)) plane
 bit_there block plane (suc p) = bit (magnitude block (suc p)) plane
 
--- a type is of an AC number that isn't significant above
+-- a type is of an AC number that is not significant above
 abbrev pub IsTyped : List ℤ → ℕ → ℕ → Type 0
 IsTyped block plane p = (1 ≤ p) × (significant block (plane + 1) p ≡ false)
 

@@ -71,7 +71,7 @@ neither_right false b e = e
 
 -- ---- lists
 
--- what holds of a list's element, where one is another
+-- a property of a list's element holds if another element is changed
 pub set_at : {A : Type 0} (xs : List A) (r i : ℕ) (v d : A) (P : A → Type 0) → r < length xs → (i ≡ r → P v) → P (get_or xs i d) → P (get_or (set xs r v) i d)
 set_at xs r i v d P inside here there = by_place (i == r) refl
   where

@@ -1,5 +1,5 @@
--- What a reading gives of the blocks where it has come to one block of a stage: all that stands before, of this block what is whole, and
--- nothing of what stands after.
+-- What a reading gives of the blocks if it has reached one block of a stage: all that precedes, the whole steps of this block,
+-- and nothing of what follows.
 use Rattle.std.proofs.Common.{◌≡◌, ℕ, zero, suc, ◌+◌, ◌-◌, ◌*◌, ◌/◌, ◌<◌, ◌≤◌, inl, inr, Bool, true, false, List, [], ◌++◌, length, refl, ap, sym, ◌∙◌, subst, arith, get_or, zero-add}
 use Rattle.std.specs.Prelude.{◌||◌}
 use Rattle.std.specs.List.{flat_map}
@@ -19,9 +19,9 @@ use Rattle.plane_texts.proofs.WholeSteps.{whole_all}
 use Rattle.plane_texts.proofs.Says.{steps_say}
 use Rattle.plane_texts.proofs.NothingTold.{TellsNone, nothing_told, none_flat}
 
--- ---- steps that tell the same
+-- ---- steps that report the same
 
--- both tell the bits of the same numbers, and the signs
+-- both report the bits of the same numbers, and the signs
 pub record TellAlike (ss ts : List Step) : Type 0 where
   pub bits : (n : ℕ) → has_bit_in ss n ≡ has_bit_in ts n
   pub signs : (n : ℕ) → has_sign_in ss n ≡ has_sign_in ts n
@@ -32,7 +32,7 @@ alike_equal ss ts e = record { bits = λ n. ap (λ l. has_bit_in l n) e; signs =
 pub alike_then : (ss ts us : List Step) → TellAlike ss ts → TellAlike ts us → TellAlike ss us
 alike_then ss ts us f g = record { bits = λ n. f.bits n ∙ g.bits n; signs = λ n. f.signs n ∙ g.signs n }
 
--- steps after others that tell nothing
+-- steps after others that report nothing
 none_after : (ss ts : List Step) → TellsNone ts → TellAlike (ss ++ ts) ss
 none_after ss ts none = record {
   bits = λ n. list_any-append (λ s. tells_bit n s.tells) ss ts ∙ ap (λ b. has_bit_in ss n || b) (none n).0 ∙ no_more (has_bit_in ss n);
@@ -69,7 +69,7 @@ module _ (book : Book) (o : ℕ → List ℕ) (p : Plane) where
   here_within : (stages j r : ℕ) → j < stages → r < length p.depths → count_before book o p j r + length (read_here book o p j r) ≤ length (plane_reading book o p stages)
   here_within stages j r below within = omega (arith, part_long _ _ _ (plane_parts book o p stages j r below within), before_long book o p j r)
 
-  -- a stage's blocks stand after the stages before
+  -- a stage's blocks are after the stages before
   stages_first : (j r : ℕ) → length (plane_reading book o p j) ≤ count_before book o p j r
   stages_first j r = omega arith
 
@@ -78,7 +78,7 @@ module _ (book : Book) (o : ℕ → List ℕ) (p : Plane) where
       length (plane_reading book o p k) + length (flat_map (gaggle_reading book o p k) (span 0 g)) +
       length (read_after book (o g) (before_stage p k g) (flat_map (steps_of_block p (stage_number k)) (span (16 * g) (r - 16 * g))))
 
-  -- the items of a block stand before those of the next ones
+  -- the items of a block are before those of the next ones
   row_order : (k r s : ℕ) → r < s → s < length p.depths → count_before book o p k r + length (read_here book o p k r) ≤ count_before book o p k s
   row_order k r s lt within =
       elim (cases_lt (r / 16) (s / 16)) [
@@ -113,7 +113,7 @@ module _ (book : Book) (o : ℕ → List ℕ) (p : Plane) where
 
   -- ---- up to a block of a stage
 
-  -- c of the items of block r in stage k are there
+  -- c of the items of block r in stage k are given
   module _ (stages k r c m : ℕ) (below : k < stages) (within : r < length p.depths) (part : c ≤ length (read_here book o p k r)) (place : m ≡ count_before book o p k r + c) where
     stages_before : (s : ℕ) → s < length p.depths → flat_map (given_in_stage m s) (span 0 k) ≡ steps_through p k s
     stages_before s inside =

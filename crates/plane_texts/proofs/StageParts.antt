@@ -1,4 +1,4 @@
--- Parts of a stage that two blocks send alike.
+-- Parts of a stage that are the same in two blocks.
 use Rattle.std.proofs.Common.{◌≡◌, ℕ, ◌+◌, ◌<◌, ◌≤◌, Bool, true, false, cond, List, [], ◌∷◌, ◌++◌, refl, ap, sym, ◌∙◌, arith, ℤ, pos, get_or}
 use Rattle.std.specs.Prelude.{map, filter}
 use Rattle.std.specs.List.{flat_map, AllByRecursion}
@@ -45,7 +45,7 @@ newly_here block weights plane p h = (and_parts (type_due block weights plane p)
 pub typed_entries : (block : List ℤ) (weights : List ℕ) (plane : ℕ) (check : Check) (ps : List ℕ) → entries_of (typed_steps block weights plane check ps) ≡ typed block weights plane ps
 typed_entries block weights plane check ps = ap (λ l. word (types block weights plane ps) ∷ l) (map_map entry_of _ _)
 
--- a number that the plane sees alike
+-- a number that is the same in the plane
 pub record SeenAt (u v : List ℤ) (b p : ℕ) : Type 0 where
   pub here : significant u b p ≡ significant v b p
   pub sign : significant u b p ≡ true → negative (get_or u p (pos 0)) ≡ negative (get_or v p (pos 0))
@@ -75,7 +75,7 @@ module _ (u v : List ℤ) (weights : List ℕ) (b : ℕ) (alike : AcsAlike u v w
   pub typed_kept : (ps : List ℕ) → AllSeen ps → typed u weights b ps ≡ typed v weights b ps
   typed_kept ps all = ap (λ t. word t ∷ signs u weights b ps) (types_kept ps all) ∙ ap (λ l. word (types v weights b ps) ∷ l) (signs_kept ps all)
 
-  -- both sets, and those that enclose them, are seen alike
+  -- both sets, and those that contain them, are the same in the plane
   abbrev pub SetSeen : Set → Type 0
   SetSeen s = IsKnown s × (enclosing_significant u b s ≡ enclosing_significant v b s) × (set_significant u b s ≡ set_significant v b s)
 
@@ -85,7 +85,7 @@ module _ (u v : List ℤ) (weights : List ℕ) (b : ℕ) (alike : AcsAlike u v w
       (all_filter (λ s. set_significant u b s ≡ set_significant v b s) (flag_due u weights b) sets (all_zip {P = SetSeen} sets (λ s h. h.2) all))
       ∙ ap (map (set_significant v b)) (due_filter u v weights b alike sets (all_zip {P = SetSeen} sets (λ s h. h.0) all) (all_zip {P = SetSeen} sets (λ s h. h.1) all))
 
-  -- those parts of a list whose sets are significant
+  -- the parts of a list whose sets are significant
   pub parts_kept : (start count : ℕ) (set_of : ℕ → Set) (f g : ℕ → List Entry) → ((i : ℕ) → start ≤ i → i < start + count → set_significant u b (set_of i) ≡ set_significant v b (set_of i)) →
       ((i : ℕ) → start ≤ i → i < start + count → set_significant u b (set_of i) ≡ true → f i ≡ g i) →
       flat_map f (filter (λ i. set_significant u b (set_of i)) (span start count)) ≡ flat_map g (filter (λ i. set_significant v b (set_of i)) (span start count))
@@ -146,7 +146,7 @@ module _ (u v : List ℤ) (weights : List ℕ) (b : ℕ) (alike : AcsAlike u v w
           (λ j low high e. typed_kept (span (quad_of i j) 4) (span_seen (quad_of i j) 4 (omega arith) (omega arith) (λ p ac from to. seen p ac (omega arith) (omega arith)))) in
           ap (λ l. word l ∷ quads_types u weights b i) first ∙ ap (λ l. word (flags v weights b sets) ∷ l) second
 
-  -- all sets are seen alike where all numbers are
+  -- all sets are the same if all numbers are
   pub sets_seen : ((p : ℕ) → IsAc p → SeenAt u v b p) → (s : Set) → IsKnown s → set_significant u b s ≡ set_significant v b s
   unfolding set_significant
   sets_seen seen s known = any_alike (significant u b) (significant v b) (members s) (members_acs s known) (λ p ac. (seen p ac).here)

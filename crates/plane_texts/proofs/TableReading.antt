@@ -1,5 +1,5 @@
--- What is read of a plane depends on the steps of its blocks alone: planes whose blocks send the same up to a block of a stage are read
--- alike up to there.
+-- What is read of a plane depends only on the steps of its blocks: planes whose blocks send the same up to a block of a stage have the
+-- same reading up to there.
 use Rattle.std.proofs.Common.{◌≡◌, ℕ, ◌+◌, ◌-◌, ◌*◌, ◌/◌, ◌<◌, ◌≤◌, min, List, [], ◌∷◌, ◌++◌, length, refl, ap, sym, ◌∙◌, arith, get_or}
 use Rattle.std.specs.List.{flat_map, AllByRecursion}
 use Rattle.base_122.specs.declared.book.Book.{Book}
@@ -19,13 +19,13 @@ flat_same f g (x ∷ xs) all = ap (λ l. l ++ flat_map f xs) all.0 ∙ ap (λ l.
 pub span_same : {X : Type 0} (f g : ℕ → List X) (start count : ℕ) → ((r : ℕ) → start ≤ r → r < start + count → f r ≡ g r) → flat_map f (span start count) ≡ flat_map g (span start count)
 span_same f g start count same = flat_same f g (span start count) (all_span (λ r. f r ≡ g r) start count same)
 
--- as many blocks, which send the same in the stages before stage k, and in stage k those below n
+-- the same number of blocks, which send the same in the stages before stage k, and in stage k those below n
 pub record SendSame (p p' : Plane) (k n : ℕ) : Type 0 where
   pub size : length p.depths ≡ length p'.depths
   pub early : (j r : ℕ) → j < k → r < length p.depths → steps_of_block p (stage_number j) r ≡ steps_of_block p' (stage_number j) r
   pub here : (r : ℕ) → r < n → steps_of_block p (stage_number k) r ≡ steps_of_block p' (stage_number k) r
 
--- so they do in an earlier stage, in all blocks
+-- then they send the same in an earlier stage, in all blocks
 pub send_earlier : (p p' : Plane) (k n j : ℕ) → SendSame p p' k n → j < k → SendSame p p' j (length p.depths)
 send_earlier p p' k n j same lt = record {
   size = same.size;
@@ -51,7 +51,7 @@ module _ (p p' : Plane) (k n : ℕ) (same : SendSame p p' k n) where
       flat_map (steps_of_block p (stage_number k)) (span start count) ≡ flat_map (steps_of_block p' (stage_number k)) (span start count)
   rows_same start count within = span_same (steps_of_block p (stage_number k)) (steps_of_block p' (stage_number k)) start count (λ r low high. same.here r (within r low high))
 
-  -- what stands before the stage in a gaggle
+  -- what is before the stage in a gaggle
   stage_entries_same : (j g : ℕ) → j < k → of_gaggle p (stage_number j) g ≡ of_gaggle p' (stage_number j) g
   stage_entries_same j g lt =
       span_same (of_block p (stage_number j)) (of_block p' (stage_number j)) (16 * g) (gaggle_size p g)
@@ -80,11 +80,11 @@ module _ (p p' : Plane) (k n : ℕ) (same : SendSame p p' k n) where
   gaggles_same book o g le =
       span_same (gaggle_reading book o p k) (gaggle_reading book o p' k) 0 g (λ j low high. gaggle_same book o j (λ r from to. omega (arith, le, high, from, to)))
 
-  -- all gaggles, where all blocks are among the first
+  -- all gaggles, if all blocks are among the first n
   pub stage_same : (book : Book) (o : ℕ → List ℕ) → length p.depths ≤ n → stage_reading book o p k ≡ stage_reading book o p' k
   stage_same book o le = gaggles_same book o (gaggles p) (omega (arith, le)) ∙ ap (λ m. flat_map (gaggle_reading book o p' k) (span 0 ((m + 15) / 16))) same.size
 
--- ---- the stages before, and how many items stand before a block
+-- ---- the stages before, and how many items are before a block
 
 pub early_same : (book : Book) (o : ℕ → List ℕ) (p p' : Plane) (k n : ℕ) → SendSame p p' k n → plane_reading book o p k ≡ plane_reading book o p' k
 early_same book o p p' k n same =

@@ -1,4 +1,4 @@
--- Which steps stand whole in the first items of a list.
+-- Which steps are whole in the first items of a list.
 use Rattle.std.proofs.Common.{◌≡◌, ℕ, ◌+◌, ◌-◌, ◌<◌, ◌≤◌, false, cond, List, [], ◌∷◌, ◌++◌, length, refl, ap, sym, ◌∙◌, subst, arith, append-nil, append_assoc, length-append}
 use Rattle.std.specs.Prelude.{nat_le}
 use Rattle.std.proofs.lemmas.Bool.Decides.{nat_tests}
@@ -10,7 +10,7 @@ use Rattle.plane_defs.specs.Reading.{step_reading, read_after}
 use Rattle.plane_texts.specs.Given.{whole_steps}
 use Rattle.plane_texts.proofs.SmallFacts.{le_to}
 
--- all of them, where all items are there
+-- all steps are whole, if all items are given
 pub whole_all : (book : Book) (o : List ℕ) (before : List Entry) (m : ℕ) (ss : List Step) → length (read_after book o before ss) ≤ m → whole_steps book o before m ss ≡ ss
 whole_all book o before m [] le = refl
 whole_all book o before m (s ∷ ss) le =
@@ -19,7 +19,7 @@ whole_all book o before m (s ∷ ss) le =
     ap (λ t. cond t (s ∷ whole_steps book o (before ++ s.entry ∷ []) (m - used) ss) []) (le_to used m (omega (arith, le, long)))
     ∙ ap (λ l. s ∷ l) (whole_all book o (before ++ s.entry ∷ []) (m - used) ss (omega (arith, le, long)))
 
--- so many items are less than the next step has
+-- this number of items is less than the next step has
 abbrev pub IsShort : Book → List ℕ → List Entry → ℕ → List Step → Type 0
 IsShort book o before c [] = Unit {0}
 IsShort book o before c (s ∷ more) = c < length (step_reading book o before s)

@@ -52,7 +52,7 @@ pub word_is : (n x : ℕ) → x < 2 ^ n → word (bits_of n x) ≡ Word (record 
 word_is n x lt =
     ap (λ v. Word (record { value = v; count = length (bits_of n x) })) (value_of-bits_of n x ∙ mod-eq_of_lt lt) ∙ ap (λ k. Word (record { value = x; count = k })) (length-bits_of n x)
 
--- a word that isn't 0 has a one
+-- a word that is not 0 has a one
 no_one : (bits : List Bool) → list_any (λ b. b) bits ≡ false → bits ≡ copies (length bits) false
 unfolding copies
 no_one [] e = refl
@@ -72,7 +72,7 @@ pub any_of_map : {X : Type 0} (f : X → Bool) (xs : List X) → list_any (λ b.
 any_of_map f [] = refl
 any_of_map f (x ∷ xs) = ap (λ b. f x || b) (any_of_map f xs)
 
--- one of those that pass a test is one of all
+-- an element that passes a test is an element of the list
 pub any_of_filter : {X : Type 0} (f t : X → Bool) (xs : List X) → list_any f (filter t xs) ≡ true → list_any f xs ≡ true
 any_of_filter f t [] e = e
 any_of_filter {X} f t (x ∷ xs) e = by_test (t x) e (any_of_filter f t xs)
@@ -85,7 +85,7 @@ any_of_filter {X} f t (x ∷ xs) e = by_test (t x) e (any_of_filter f t xs)
     by_test true e more = either (f x) (list_any f (filter t xs)) (list_any f xs) e more
     by_test false e more = or_right (f x) (list_any f xs) (more e)
 
--- where a word lacks no wanted one, each wanted place has it
+-- if no wanted place is missing in the word, each wanted place has it
 pub wants_had : {X : Type 0} (want has : X → Bool) (xs : List X) → lacks_one (map want xs) (map has xs) ≡ false → AllByRecursion (λ x. want x ≡ true → has x ≡ true) xs
 wants_had want has [] e = tt
 wants_had want has (x ∷ xs) e = (first (want x) (has x) _ e, wants_had want has xs (rest (want x) (has x) _ e))

@@ -19,7 +19,7 @@ pub record AboveSame (u v : List ℤ) (plane : ℕ) : Type 0 where
 abbrev pub DcAbove : (u v : List ℤ) (plane q : ℕ) → Type 0
 DcAbove u v plane q = (c : ℕ) → min (plane + 1) q ≤ c → int_shr (get_or v 0 (pos 0)) c ≡ int_shr (get_or u 0 (pos 0)) c
 
--- v can be spelled, and is the block above the plane
+-- v can be coded, and is the block above the plane
 pub record IsCandidate (weights : List ℕ) (plane q depth : ℕ) (block v : List ℤ) : Type 0 where
   pub whole : length v ≡ 64
   pub multiple : IsMultiple v weights
@@ -34,14 +34,14 @@ abbrev pub HasBits : Entry → Type 0
 HasBits (Bit b) = Unit {0}
 HasBits (Word bits) = 1 ≤ bits.count
 
--- an entry of the same kind that the check lets through
+-- an entry of the same kind that the check accepts
 pub record Replaces (check : Check) (x e : Entry) : Type 0 where
   pub kind : SameKind x e
   pub fit : IsEntry e
   pub passes : refuses check (value_of_entry e) ≡ false
   pub has_bits : HasBits e
 
--- the second list has the same entries before a place, and this one there
+-- the second list has the same entries before a place, and this entry at it
 pub record EntriesChoose (j : ℕ) (e : Entry) (es fs : List Entry) : Type 0 where
   pub within : j < length fs
   pub before : take j es ≡ take j fs
@@ -62,8 +62,8 @@ pub record BlockChosen (u : List ℤ) (d : ℕ) (weights : List ℕ) (b q k j : 
   pub before : (i : ℕ) → i < k → block_entries (stage_number i) u d weights b q ≡ block_entries (stage_number i) v d weights b q
   pub here : EntriesChoose j e (block_entries (stage_number k) u d weights b q) (block_entries (stage_number k) v d weights b q)
 
--- Any entry that the check of a step of stage k lets through is had by some block that is the same above the plane and in what it
--- sent before.
+-- For any entry that the check of a step of stage k accepts there is a block that has it and is the same above the plane and in
+-- what it sent before.
 abbrev pub MayChoose : ℕ → Type 0
 MayChoose k = (u : List ℤ) (d : ℕ) (weights : List ℕ) (b q j : ℕ) (e : Entry) → length u ≡ 64 → IsMultiple u weights → ((p : ℕ) → 1 ≤ p → magnitude u p < 2 ^ d) → j < length (block_steps (stage_number k) u d weights b q) →
     Replaces (step_at (block_steps (stage_number k) u d weights b q) j).check (step_at (block_steps (stage_number k) u d weights b q) j).entry e → BlockChosen u d weights b q k j e

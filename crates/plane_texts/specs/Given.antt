@@ -14,7 +14,7 @@ use Rattle.plane_defs.specs.StepLaws.{IsAc}
 use Rattle.plane_defs.specs.Planes.{Plane, of_block, before_stage}
 use Rattle.plane_defs.specs.Reading.{step_reading, read_after, steps_of_block, gaggle_reading, plane_reading}
 
--- those of the steps that are whole in the first m items, with these entries before them
+-- the steps that are whole in the first m items, with these entries before them
 abbrev pub whole_steps : Book → List ℕ → List Entry → ℕ → List Step → List Step
 whole_steps book options before m [] = []
 whole_steps book options before m (s ∷ more) =
@@ -57,7 +57,7 @@ has_bit_in steps p = list_any (λ s. tells_bit p s.tells) steps
 abbrev pub has_sign_in : List Step → ℕ → Bool
 has_sign_in steps p = list_any (λ s. tells_sign p s.tells) steps
 
--- a number with one more bit in its magnitude, and negative if it was or is so now
+-- a number with one more bit in its magnitude, and negative if it was negative or `minus` says so
 abbrev pub told_number : (plane : ℕ) → ℤ → (more minus : Bool) → ℤ
 told_number plane z more minus =
     let size = unsigned_abs z + (if more then 2 ^ plane else 0) in

@@ -1,4 +1,4 @@
--- Octets that go out part by part.
+-- Octets that are written part by part.
 use Rattle.std.proofs.Common.{◌≡◌, ◌≤◌, ◌+◌, ℕ, List, [], ◌++◌, length, sym, ◌∙◌, ap, subst, arith, length-append, take}
 use Rattle.std.specs.Prelude.{Result, Ok, Err, IsErr}
 use Rattle.std.proofs.lemmas.Bool.{false≢true}
@@ -11,7 +11,7 @@ use Rattle.port_122.proofs.Stretches.{since_out, rose_since}
 prefix_of_part : (before part after : List ℕ) (n : ℕ) → n ≤ length part → take (length before + n) (before ++ (part ++ after)) ≡ before ++ take n part
 prefix_of_part before part after n le = take-append-add before (part ++ after) n ∙ ap (λ zs. before ++ zs) (take-append-le n part after le)
 
--- where the next part couldn't be written whole, a prefix of all is given
+-- if the next part could not be written whole, a prefix of all is given
 pub failed_part : {T E : Type 0} {a b c : Outside} (before part after : List ℕ) (r : Result T E) →
     Exchange a b [] before [] NoRead → Rose b.write_faults c.write_faults × ((n : ℕ) × (n ≤ length part) × Exchange b c [] (take n part) [] NoRead) →
     IsErr r → WritesAll r a c (before ++ (part ++ after))

@@ -13,7 +13,7 @@ since_in {a = a} {c = c} {t = t} {g = g} {w = w} {t' = t'} {Q = Q} p q f =
     let both : Exchange a c (t ++ t') (g ++ []) (w ++ []) Q = since_then p q f in
     subst (λ g. Exchange a c (t ++ t') g w Q) (append-nil g) (subst (λ w. Exchange a c (t ++ t') (g ++ []) w Q) (append-nil w) both)
 
--- a stretch, and then one that asks at its start alone, and gives and notes nothing
+-- a stretch, and then one that only asks at its start, and gives and notes nothing
 pub since_asked : {a b c : Outside} {t g w t' : List ℕ} {Q : ℕ → ℕ → Type 0} →
     Exchange a b t g w Q → Exchange b c t' [] [] AtStart → Q (length t) (length g) → Exchange a c (t ++ t') g w Q
 since_asked {t = t} {g = g} {Q = Q} p q here = since_in p q
@@ -41,8 +41,8 @@ pub since_end : {a b c : Outside} {t g w piece : List ℕ} {Q : ℕ → ℕ → 
 since_end {a = a} {c = c} {t = t} {g = g} {w = w} {Q = Q} p q some here =
     (subst (λ t. Exchange a c t g w Q) (append-nil t) (since_read 0 p q here), q.at_end refl some)
 
--- All that stands given for the octets taken was given, and the stretch that follows asks only where nothing more
--- stands given: then the whole asks only where what stands given was given.
+-- All octets that are due for the octets taken were given, and the stretch that follows asks only if nothing
+-- more is due. Then the whole stretch asks only if the octets that are due were given.
 pub since_prompt : {a b c : Outside} {t g w t' : List ℕ} {R : ℕ → ℕ → Type 0} (given_for : List ℕ → List ℕ) →
     Exchange a b t g w (GivenBy given_for t) → Exchange b c t' [] [] R →
     ((i j : ℕ) → i ≤ length t' → R i j → length g + j ≡ length (given_for (t ++ take i t'))) →

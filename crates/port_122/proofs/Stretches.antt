@@ -7,24 +7,24 @@ use Rattle.std.proofs.lemmas.Bool.{false≢true}
 use Rattle.std.proofs.Math.Seq.{take-add}
 use Rattle.port_122.specs.Outside.{Outside, IsUsedUp, AtEnd, Grows, Loses, AsksOnly, CountedFrom, Exchange, NoRead, Written, WriteFailed, Noted, NoteFailed, WritesAll, NotesAll, Rose}
 
--- what is told grows by nothing
+-- a reported list grows by nothing
 pub grows_start : {A : Type 0} (o : Option (List A)) → Grows o o []
 grows_start None = tt
 grows_start (Some xs) = sym (append-nil xs)
 
--- what is told grows by one list and then by another
+-- a reported list grows by one list and then by another
 pub grows_then : {A : Type 0} (a b c : Option (List A)) (xs ys : List A) → Grows a b xs → Grows b c ys → Grows a c (xs ++ ys)
 grows_then a b None xs ys p q = tt
 grows_then a None (Some c) xs ys p q = absurd q
 grows_then None (Some b) (Some c) xs ys p q = absurd p
 grows_then (Some a) (Some b) (Some c) xs ys p q = rw (q, p) (append_assoc a xs ys)
 
--- what is told loses nothing
+-- a reported list loses nothing
 pub loses_start : (o : Option (List ℕ)) → Loses o o []
 loses_start None = tt
 loses_start (Some xs) = refl
 
--- what is told loses one list and then another
+-- a reported list loses one list and then another
 pub loses_then : (a b c : Option (List ℕ)) (xs ys : List ℕ) → Loses a b xs → Loses b c ys → Loses a c (xs ++ ys)
 loses_then None None None xs ys p q = tt
 loses_then None None (Some c) xs ys p q = absurd q
@@ -39,12 +39,12 @@ used_up_later b None p e = tt
 used_up_later None (Some c) p e = absurd p
 used_up_later (Some b) (Some c) p e = rw (← p) e
 
--- what holds of each in two lists holds of each in both
+-- a property of each element of two lists is one of each element of both
 pub each_of_both : {X : Type 0} (P : X → Type 0) (xs ys : List X) → AllByRecursion P xs → AllByRecursion P ys → AllByRecursion P (xs ++ ys)
 each_of_both P [] ys p q = q
 each_of_both P (x ∷ xs) ys p q = (p.0, each_of_both P xs ys p.1 q)
 
--- what holds of each may be said more weakly
+-- a weaker property of each element
 pub each_weaker : {X : Type 0} (P Q : X → Type 0) (xs : List X) → ((x : X) → P x → Q x) → AllByRecursion P xs → AllByRecursion Q xs
 each_weaker P Q [] f p = tt
 each_weaker P Q (x ∷ xs) f p = (f x p.0, each_weaker P Q xs f p.1)
@@ -78,13 +78,13 @@ asks_then (Some a) (Some b) (Some c) at ag bt bg t g Q R p q f x y = (
       (each_weaker (CountedFrom bt bg R) (CountedFrom at ag Q) y.0 (counted_then at ag bt bg t g Q R p q f) y.2),
 )
 
--- what holds of counts past those of a start may be said more weakly
+-- a weaker property of counts past those of a start
 pub counted_weaker : (t g : Option (List ℕ)) (Q R : ℕ → ℕ → Type 0) → ((i j : ℕ) → Q i j → R i j) → (entry : ℕ × ℕ) → CountedFrom t g Q entry → CountedFrom t g R entry
 counted_weaker None g Q R f entry q = absurd q
 counted_weaker (Some t) None Q R f entry q = absurd q
 counted_weaker (Some t) (Some g) Q R f entry q = (q.0, q.1, q.2, q.3, f q.0 q.1 q.4)
 
--- what holds at each read call may be said more weakly
+-- a weaker property at each read call
 pub asks_weaker : (a b : Option (List (ℕ × ℕ))) (t g : Option (List ℕ)) (Q R : ℕ → ℕ → Type 0) → ((i j : ℕ) → Q i j → R i j) → AsksOnly a b t g Q → AsksOnly a b t g R
 asks_weaker a None t g Q R f x = tt
 asks_weaker None (Some b) t g Q R f x = absurd x
@@ -128,14 +128,14 @@ since_then {a = a} {b = b} {c = c} {t = t} {g = g} {w = w} {t' = t'} {g' = g'} {
       };
     }
 
--- the same, where the second has no read call
+-- two stretches, of which the second has no read call
 pub since_out : {a b c : Outside} {t g w g' w' : List ℕ} {Q : ℕ → ℕ → Type 0} →
     Exchange a b t g w Q → Exchange b c [] g' w' NoRead → Exchange a c t (g ++ g') (w ++ w') Q
 since_out {a = a} {b = b} {c = c} {t = t} {g = g} {w = w} {g' = g'} {w' = w'} {Q = Q} p q =
     let both : Exchange a c (t ++ []) (g ++ g') (w ++ w') Q = since_then p q (λ i j _ no. absurd no) in
     subst (λ t. Exchange a c t (g ++ g') (w ++ w') Q) (append-nil t) both
 
--- a part of the octets is out, and then a write of the rest
+-- a part of the octets is written, and then the rest
 pub since_written : {a b c : Outside} (octets : List ℕ) (done count : ℕ) →
     Exchange a b [] (take done octets) [] NoRead → Written b c (take (length octets - done) (drop done octets)) count →
     Exchange a c [] (take (done + count) octets) [] NoRead
@@ -143,7 +143,7 @@ since_written {b = b} {c = c} octets done count p q =
     let next : Written b c (drop done octets) count = subst (λ piece. Written b c piece count) (take_rest octets done) q in
     rw (take-add done count octets) (since_out p next.since)
 
--- a part of the octets, and then a note of the rest
+-- a part of the octets is noted, and then the rest
 pub since_noted : {a b c : Outside} (octets : List ℕ) (done count : ℕ) →
     Exchange a b [] [] (take done octets) NoRead → Noted b c (take (length octets - done) (drop done octets)) count →
     Exchange a c [] [] (take (done + count) octets) NoRead
@@ -158,19 +158,19 @@ since_same {a = a} {c = c} {t = t} {g = g} {w = w} {Q = Q} p q =
     let both : Exchange a c t (g ++ []) (w ++ []) Q = since_out p q in
     subst (λ g. Exchange a c t g w Q) (append-nil g) (subst (λ w. Exchange a c t (g ++ []) w Q) (append-nil w) both)
 
--- where a part is out and the next write fails
+-- a part of the octets is written, and the next write fails
 pub failed_write : {T E : Type 0} {a b c : Outside} (octets : List ℕ) (done : ℕ) (r : Result T E) →
     done ≤ length octets → Exchange a b [] (take done octets) [] NoRead → WriteFailed b c → IsErr r → WritesAll r a c octets
 failed_write octets done (Ok x) le p q is = absurd (false≢true is)
 failed_write octets done (Err e) le p q is = (omega (arith, p.faults.writes, q.rose), (done, le, since_same p q.since))
 
--- where a part is noted and the next note fails
+-- a part of the octets is noted, and the next note fails
 pub failed_note : {T E : Type 0} {a b c : Outside} (octets : List ℕ) (done : ℕ) (r : Result T E) →
     done ≤ length octets → Exchange a b [] [] (take done octets) NoRead → NoteFailed b c → IsErr r → NotesAll r a c octets
 failed_note octets done (Ok x) le p q is = absurd (false≢true is)
 failed_note octets done (Err e) le p q is = (omega (arith, p.faults.notes, q.rose), (done, le, since_same p q.since))
 
--- what holds at each read call may be said more weakly
+-- a weaker property at each read call
 pub since_weaker : {a b : Outside} {t g w : List ℕ} {Q R : ℕ → ℕ → Type 0} →
     Exchange a b t g w R → ((i j : ℕ) → i ≤ length t → R i j → Q i j) → Exchange a b t g w Q
 since_weaker {a = a} {b = b} p f = record {
@@ -186,7 +186,7 @@ since_weaker {a = a} {b = b} p f = record {
 pub rose_since : {a b c : ℕ} → a ≤ b → Rose b c → Rose a c
 rose_since p q = omega (arith, p, q)
 
--- the end is still there
+-- the end is still reached
 pub at_end_later : {b c : Outside} {g w : List ℕ} {Q : ℕ → ℕ → Type 0} → Exchange b c [] g w Q → AtEnd b → AtEnd c
 at_end_later {b = b} {c = c} p e = used_up_later b.rest c.rest p.rest e
 

@@ -1,4 +1,4 @@
--- What a port that tells its octets shows of a stretch of calls.
+-- What a port that reports its octets shows of a stretch of calls.
 use Rattle.std.proofs.Common.{◌≡◌, ℕ, List, ◌++◌, sym, ◌∙◌, ap}
 use Rattle.std.specs.Prelude.{Option, Some, None}
 use Rattle.std.proofs.lemmas.List.{append-nil}
@@ -14,12 +14,12 @@ all_lost a None xs less p r e =
 all_lost a (Some ys) xs less p r e =
     let at : xs ≡ less ++ ys = rw p at r in sym (at ∙ ap (λ zs. less ++ zs) e ∙ append-nil less)
 
--- the octets given were told so
+-- the octets given were reported
 pub given_told : {a b : Outside} {t g w : List ℕ} {Q : ℕ → ℕ → Type 0} (xs ys : List ℕ) →
     Exchange a b t g w Q → a.given ≡ Some xs → b.given ≡ Some ys → ys ≡ xs ++ g
 given_told {a = a} {b = b} {g = g} xs ys p before after = grown a.given b.given xs ys g before after p.given
 
--- where the end was seen, the octets taken are the whole input
+-- if a read was at the end, the octets taken are the whole input
 pub end_told : {a b : Outside} {t g w : List ℕ} {Q : ℕ → ℕ → Type 0} (xs : List ℕ) →
     Exchange a b t g w Q → a.rest ≡ Some xs → AtEnd b → t ≡ xs
 end_told {a = a} {b = b} {t = t} xs p before e = all_lost a.rest b.rest xs t before p.rest e

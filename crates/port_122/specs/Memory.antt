@@ -3,7 +3,7 @@ use Rattle.std.specs.Prelude.{◌≡◌, ◌⊎◌, ◌+◌, ◌-◌, ◌^◌, �
 use Rattle.port_122.specs.Outside.{Outside}
 use Rattle.port_122.specs.declared.memory.MemoryPort.{MemoryPort}
 
--- the octets still to be read
+-- the octets that are still to be read
 abbrev pub octets_left : MemoryPort → List ℕ
 octets_left m = drop m.at m.input.items
 
@@ -11,7 +11,7 @@ octets_left m = drop m.at m.input.items
 abbrev pub octets_taken : MemoryPort → List ℕ
 octets_taken m = take m.at m.input.items
 
--- it reports all
+-- it reports all of its octets
 abbrev pub outside_of : MemoryPort → Outside
 outside_of m = record {
   rest = Some (octets_left m);
@@ -24,7 +24,7 @@ outside_of m = record {
   note_faults = m.note_faults;
 }
 
--- Before its first call: all of the input is left, nothing was done, and the calls of these numbers will fail.
+-- The port before its first call: all of the input is left, nothing was done, and the calls of these numbers will fail.
 pub record IsFresh (m : MemoryPort) (input fail : List ℕ) (piece : ℕ) : Type 0 where
   pub outside : outside_of m ≡ record {
     rest = Some input;
@@ -45,8 +45,8 @@ pub record IsFresh (m : MemoryPort) (input fail : List ℕ) (piece : ℕ) : Type
 abbrev pub FailsByNumber : MemoryPort → Type 0
 FailsByNumber m = Contains m.fail.items m.calls ⊎ (m.calls ≡ 2 ^ 64 - 1)
 
--- One call that could move this number of octets: its number is counted, it fails by its number, or else only for want of
--- memory, which is reported from then on, and it moves all that it could within one piece.
+-- One call that could move this number of octets: its number is counted, it fails by its number or otherwise only for
+-- lack of memory, which is reported from then on, and it moves all that it could within one piece.
 pub record Call {E : Type 0} (old new : MemoryPort) (could : ℕ) (result : Result ℕ E) : Type 0 where
   pub counted : new.calls ≡ min (old.calls + 1) (2 ^ 64 - 1)
   pub fails : new.fail.items ≡ old.fail.items

@@ -13,13 +13,13 @@ pub record Outside : Type 0 where
   pub write_faults : ℕ
   pub note_faults : ℕ
 
--- what is known afterwards was known before, and has grown by this
+-- what is known afterwards was known before, and has grown by this list
 abbrev pub Grows : {A : Type 0} → Option (List A) → Option (List A) → List A → Type 0
 Grows old None xs = ⊤
 Grows None (Some now) xs = ⊥
 Grows (Some before) (Some now) xs = now ≡ before ++ xs
 
--- it is known before and afterwards or never, and began with this
+-- it is known before and afterwards, or never, and began with this list
 abbrev pub Loses : Option (List ℕ) → Option (List ℕ) → List ℕ → Type 0
 Loses None None xs = ⊤
 Loses (Some before) (Some now) xs = before ≡ xs ++ now
@@ -38,7 +38,7 @@ AtEnd now = IsUsedUp now.rest
 abbrev pub Rose : ℕ → ℕ → Type 0
 Rose before now = min (before + 1) (2 ^ 64 - 1) ≤ now
 
--- a read call is entered with the octets taken and given as it began
+-- a read call is recorded with the numbers of octets taken and given at its start
 abbrev pub Enters : Option (List (ℕ × ℕ)) → Option (List (ℕ × ℕ)) → Option (List ℕ) → Option (List ℕ) → Type 0
 Enters old None taken given = ⊤
 Enters (Some before) (Some now) (Some taken) (Some given) = now ≡ before ++ (length taken, length given) ∷ []
@@ -81,7 +81,7 @@ GivenBy given_for took i j = j ≡ length (given_for (take i took))
 abbrev pub NoRead : ℕ → ℕ → Type 0
 NoRead i j = ⊥
 
--- a read call at the start alone
+-- a read call only at the start
 abbrev pub AtStart : ℕ → ℕ → Type 0
 AtStart i j = (i ≡ 0) × (j ≡ 0)
 
@@ -119,7 +119,7 @@ pub record NoteFailed (old new : Outside) : Type 0 where
   pub since : Exchange old new [] [] [] NoRead
   pub rose : Rose old.note_faults new.note_faults
 
--- what a call that writes all of these octets leaves: a prefix of them is written if it failed
+-- the result of a call that writes all of these octets: a prefix of them is written if it failed
 abbrev pub WritesAll : {T E : Type 0} → Result T E → Outside → Outside → List ℕ → Type 0
 WritesAll result old new octets = MatchResult result
     (λ _. Exchange old new [] octets [] NoRead)

@@ -3,7 +3,7 @@ use Rattle.std.specs.Prelude.{◌+◌, ℕ, List, ◌++◌, length, take, drop, 
 use Rattle.port_122.specs.Outside.{Outside}
 use Rattle.port_122.specs.declared.steady.SteadyPort.{SteadyPort}
 
--- the octets still to be read
+-- the octets that are still to be read
 abbrev pub octets_left : SteadyPort → List ℕ
 octets_left s = drop s.at s.input.items
 
@@ -20,7 +20,7 @@ outside_of s = record {
   note_faults = 0;
 }
 
--- what is known of octets that are kept in this room, after more of them
+-- what is known of the octets that are kept in this room, after more of them
 abbrev pub told_after : ℕ → Option (List ℕ) → List ℕ → Option (List ℕ)
 told_after room None octets = None
 told_after room (Some kept) octets = if nat_le (length kept + length octets) room then Some (kept ++ octets) else None

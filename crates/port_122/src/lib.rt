@@ -1,5 +1,5 @@
-//! The outside of the program: octets that are read, octets that are written and notes, with each fault counted.
-//! The rules are in docs/architecture.md, "The outside".
+//! This crate has the outside of the program: octets that are read, octets that are written and notes, with each
+//! fault counted. The rules are in docs/architecture.md, "The outside".
 #![tactic(auto)]
 
 mod memory;

@@ -8,9 +8,9 @@ use std::alloc::{AllocError, Global};
 
 /// A port that reads from memory, and keeps and reports all that it is given (docs/architecture.md, "The outside").
 ///
-/// Its calls of all three kinds are numbered together from 0, and those fail whose numbers were handed in. The
-/// number stops at 2^64 - 1, and a call of that number fails. No call moves more than one piece. A call that finds
-/// no memory fails too, and `starved` reports this from then on.
+/// Its calls of all three kinds are numbered together from 0, and those fail whose numbers were given to `new`.
+/// The number stops at 2^64 - 1, and a call of that number fails. No call moves more than one piece. A call that
+/// finds no memory fails too, and `starved` reports this from then on.
 #[derive(Drop)]
 pub struct MemoryPort {
     input: Vec<u8>,
@@ -58,7 +58,7 @@ impl MemoryPort {
         })
     }
 
-    /// Returns whether a call has failed for want of memory.
+    /// Returns whether a call has failed for lack of memory.
     pub fn starved(&self) -> bool
         ensures { result ≡ self.now.starved }
     {
@@ -94,7 +94,7 @@ impl MemoryPort {
     }
 }
 
-// Whether a call of this number fails.
+// Returns whether a call of this number fails.
 fn fails(numbers: &[u64], number: u64) -> bool
     ensures { IsTrue result ↔ (Contains numbers.now number ⊎ (number ≡ 2 ^ 64 - 1)) }
 {

@@ -1,9 +1,9 @@
-// Whole pieces out.
+// Writes of whole pieces.
 ghost use Rattle.port_122.specs.Outside.{WritesAll, NotesAll};
 
 use crate::port::{Failed, Port};
 
-/// Gives all of the octets, by one write or more. After `Failed` a prefix of them is given, and
+/// Gives all of the octets, by one or more writes. After `Failed` a prefix of them is given, and
 /// `write_faults` rose (docs/architecture.md, "The outside").
 pub fn write_all<X: Port>(port: &mut X, bytes: &[u8]) -> Result<(), Failed>
     ensures { WritesAll result (X.outside port.old) (X.outside port.new) bytes.now }
@@ -15,8 +15,8 @@ pub fn write_all<X: Port>(port: &mut X, bytes: &[u8]) -> Result<(), Failed>
     Ok(())
 }
 
-/// Notes all of the octets, by one call or more. After `Failed` a prefix of them is noted, and
-/// `note_faults` rose (docs/architecture.md, "The outside").
+/// Notes all of the octets, by one or more calls. After `Failed` a prefix of them is noted, and `note_faults`
+/// rose (docs/architecture.md, "The outside").
 pub fn note_all<X: Port>(port: &mut X, bytes: &[u8]) -> Result<(), Failed>
     ensures { NotesAll result (X.outside port.old) (X.outside port.new) bytes.now }
 {

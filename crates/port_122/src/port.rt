@@ -2,7 +2,7 @@
 ghost use Rattle.std.specs.Prelude.{MatchResult};
 ghost use Rattle.port_122.specs.Outside.{Outside, Read, ReadFailed, Written, WriteFailed, Noted, NoteFailed};
 
-/// A call of a port failed. The port counts it.
+/// The fault of a call of a port that failed. The port counts it.
 #[derive(Clone, Copy, Debug, PartialEq, Eq)]
 pub struct Failed;
 
@@ -21,15 +21,15 @@ pub trait Port {
             (λ n. Read (outside self.old) (outside self.new) into.new n)
             (λ _. ReadFailed (outside self.old) (outside self.new)) };
 
-    /// Gives the first octets of a piece, and returns their number: at least one of a piece that isn't empty.
-    /// After `Failed` nothing is given and `write_faults` rose.
+    /// Gives the first octets of a piece, and returns their number: at least one of a piece that is not
+    /// empty. After `Failed` nothing is given and `write_faults` rose.
     fn write(&mut self, bytes: &[u8]) -> Result<usize, Failed>
         ensures { MatchResult result
             (λ n. Written (outside self.old) (outside self.new) bytes.now n)
             (λ _. WriteFailed (outside self.old) (outside self.new)) };
 
-    /// Notes the first octets of a piece, and returns their number: at least one of a piece that isn't empty.
-    /// After `Failed` nothing is noted and `note_faults` rose.
+    /// Notes the first octets of a piece, and returns their number: at least one of a piece that is not
+    /// empty. After `Failed` nothing is noted and `note_faults` rose.
     fn note(&mut self, bytes: &[u8]) -> Result<usize, Failed>
         ensures { MatchResult result
             (λ n. Noted (outside self.old) (outside self.new) bytes.now n)

@@ -12,8 +12,8 @@ use std::io::{Read, Write};
 /// A port over a reader and two writers, which counts their faults (docs/architecture.md, "The outside").
 ///
 /// It reports no octets: nothing is claimed of what a file, a pipe or a terminal holds. A call that was interrupted
-/// (`ErrorKind::Interrupted`) moved nothing and is made again. Any other error is a fault, `WouldBlock` too, and so is
-/// a write or a note that takes nothing of a piece that isn't empty.
+/// (`ErrorKind::Interrupted`) moved nothing and is made again. Any other error is a fault, also `WouldBlock`, and so
+/// is a write or a note that takes nothing of a piece that is not empty.
 #[derive(Drop)]
 pub struct StdPort<I: Read, O: Write, N: Write> {
     input: I,

@@ -8,7 +8,7 @@ use std::alloc::{AllocError, Global};
 /// A port that reads from memory and never fails (docs/architecture.md, "The outside").
 ///
 /// It keeps and reports the octets that it is given while they fit its room, and also those that it notes. From the
-/// first octets that don't fit it keeps and reports none of that kind. It doesn't report its read calls.
+/// first octets that do not fit it keeps and reports none of that kind. It does not report its read calls.
 #[derive(Drop)]
 pub struct SteadyPort {
     input: Vec<u8>,

@@ -70,7 +70,7 @@ module _ (apid : ℕ) (taken : List ℕ) (g : Geometry) (geometry : geometry_in 
   begun_is : b ≡ ended / c
   begun_is = rw geometry refl
 
-  -- past all blocks they are all
+  -- after all blocks they are all
   pub all_rows : blocks_passed g ended / c ≡ block_rows g b
   all_rows = elim (known_or_not g.rows) [
     | inl none ↦
@@ -133,7 +133,7 @@ is_look wish old new took gave walked x = record {
       t.2.gave_is ∙ shown_rows g t.0 k ∙ ap (look_rows g t.0) (all_rows wish.apid took g x.geometry) ∙ ap (λ received. look_octets g received (begun_in wish.apid took)) same;
 }
 
--- a look was walked through
+-- a walk with a look ended without a fault
 pub looks : (wish : DecodeWish) (old new : Outside) (walked : Walked LookRow) → Walks look_sink wish old new (Ok walked) → Looks wish old new (Ok walked.done)
 looks wish old new walked x = record {
   took = x.took;

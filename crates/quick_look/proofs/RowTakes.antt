@@ -75,7 +75,7 @@ module _ (s t : LookRow) (value : ℤ) (column : ℕ) (block : Option (List ℤ)
     unfolding low_with
     value_is = gives ∙ ap (λ k. low_of k block) stands.shift ∙ ap (low_of (get_or g.weights.shifts 9 0)) (sym is) ∙ ap (λ n. low_of (get_or g.weights.shifts 9 0) (blocks n)) (sym at)
 
-    -- and those before it have stayed
+    -- and those before it are unchanged
     values_are : (j : ℕ) → j < m + 1 → get_or t.values.items j (pos 0) ≡ low_with g numbers r j
     values_are j lt =
         let here : get_or t.values.items j (pos 0) ≡ get_or (set s.values.items s.column value) j (pos 0) = ap (λ xs. get_or xs j (pos 0)) is_set.values in

@@ -20,8 +20,8 @@ use Rattle.quick_look.specs.Looks.{IsLook}
 abbrev pub low_image : Setting → (rows : ℕ) → (ℕ → ℕ → ℤ) → (r c : ℕ) → ℤ
 low_image s rows x r c = clamped s.depth s.signed ((pyramid (padded x rows s.width) (block_count rows) (block_count s.width)).ll3 r c)
 
--- The look at all packets of an image has these values if the setting sends all of it, and a run that took exactly these packets and was
--- answered Ok gave the raster of these values.
+-- The look at all packets of an image has these values if the setting sends all of it, and a run that took exactly these packets and
+-- returned Ok gave the raster of these values.
 pub record LooksOfImages : Type 0 where
   pub at : (s : Setting) (rows : ℕ) (x : ℕ → ℕ → ℤ) (received : Numbers) → IsImageFor s rows x → SendsAll s → ReceivedIn holds_after s.apid (output s rows x) received →
       (r c : ℕ) → r < block_count rows → c < block_count s.width → look (image_geometry s rows) received r c ≡ low_image s rows x r c

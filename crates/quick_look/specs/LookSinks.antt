@@ -1,4 +1,4 @@
--- What the sink of a look shows of the blocks that it has taken. This project's own.
+-- The meaning of the sink of a look, by the blocks that it has taken. This project's own.
 use Rattle.std.specs.Prelude.{◌≡◌, ◌≤◌, ◌<◌, ◌/◌, ◌%◌, ◌^◌, ℕ, ℤ, pos, List, [], length, take, Option, Result, slice_index_or, unwrap_or, vec_len, refl}
 use Rattle.std.proofs.Common.{sym, ap, ◌∙◌}
 use Rattle.std.proofs.Math.Seq.{take-length}
@@ -16,7 +16,7 @@ use Rattle.quick_look.specs.Look.{low_with, rows_with}
 
 -- ---- a row of the look
 
--- it has a place for the value of each block of a block row, and one of them is still to be set
+-- it has a place for the value of each block of a block row, and one of them isn't set yet
 pub record IsOpen (s : LookRow) : Type 0 where
   pub depth : IsDepth s.depth
   pub shift : s.shift ≤ 3

@@ -19,7 +19,7 @@ use Rattle.quick_look.specs.Look.{look_rows, look_octets}
 
 -- ---- what is given
 
--- What is given once these octets are taken: nothing without a geometry, else the first rows of the look at the segments that are
+-- What is given once these octets are taken: nothing without a geometry, otherwise the first rows of the look at the segments that are
 -- received, at least one for each whole block row among the blocks that these octets settle.
 pub record PromptLook (apid : ℕ) (taken given : List ℕ) : Type 0 where
   pub none : geometry_in apid taken ≡ None → given ≡ []
@@ -32,8 +32,7 @@ pub record FrontLook (apid : ℕ) (taken given : List ℕ) : Type 0 where
   pub some : (g : Geometry) (received : Numbers) → geometry_in apid taken ≡ Some g → ReceivedIn holds_after apid taken received →
       (n : ℕ) × (given ≡ take n (look_octets g received (begun_in apid taken)))
 
--- All is as a decoder answers it for the octets that were taken, and what is given is the whole look at the segments that are received in
--- them.
+-- For the octets that were taken the answer is a decoder's, and what is given is the whole look at the segments that are received in them.
 pub record IsLook (wish : DecodeWish) (start new : Outside) (took gave : List ℕ) (done : DecodeDone) : Type 0 where
   pub found : PictureBy false wish start new took [] done
   pub look : (all : List ℕ) → start.rest ≡ Some all → (received : Numbers) → ReceivedIn holds_after wish.apid took received →
@@ -43,7 +42,7 @@ pub record IsLook (wish : DecodeWish) (start new : Outside) (took gave : List �
 abbrev pub GivesFront : DecodeWish → Outside → (took gave : List ℕ) → Type 0
 GivesFront wish start took gave = (all : List ℕ) → start.rest ≡ Some all → FrontLook wish.apid took gave
 
--- Why it was answered so. The answers exclude each other by what was taken, the end and the counts, except for faults of the port.
+-- Why the call ended so. The answers exclude each other by what was taken, the end and the counts, except for faults of the port.
 abbrev pub LookAnswers : DecodeWish → (old new : Outside) (took gave : List ℕ) → Result DecodeDone DecodeFault → Type 0
 LookAnswers wish old new took gave (Ok done) = IsLook wish old new took gave done
 LookAnswers wish old new took gave (Err NoSegment) = (geometry_in wish.apid took ≡ None) × IsReadOut wish.octets new took × (gave ≡ [])
@@ -58,9 +57,9 @@ abbrev pub LookAsks : DecodeWish → Outside → (took gave : List ℕ) → ℕ 
 LookAsks wish start took gave i j =
     (j ≤ length gave) × HasFewPixels wish.pixels wish.apid (take i took) × ((all : List ℕ) → start.rest ≡ Some all → PromptLook wish.apid (take i took) (take j gave))
 
--- One run over a port: what it took and gave, when, and why it ended so. However it ends, it takes at most the number of octets that is
--- wished. What is given at each read call is a prefix of the look for the octets that were taken by then, with at least the rows
--- whose blocks they settle.
+-- One run over a port: what it took and gave, when, and why it ended so. However it ends, it takes at most the number of octets in the
+-- wish. What is given at each read call is a prefix of the look for the octets that were taken by then, with at least the rows whose blocks
+-- they settle.
 pub record Looks (wish : DecodeWish) (old new : Outside) (result : Result DecodeDone DecodeFault) : Type 0 where
   pub took : List ℕ
   pub gave : List ℕ

@@ -1,4 +1,4 @@
-// What the values of a look are.
+// The laws on the values of a look.
 ghost use Rattle.quick_look.specs.Look.{LookIsLow};
 ghost use Rattle.quick_look.specs.LookLaws.{LooksOfImages};
 

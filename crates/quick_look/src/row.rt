@@ -1,4 +1,4 @@
-// A row of a look takes the blocks.
+// The sink that makes one row of a look from blocks.
 ghost use Rattle.std.specs.Prelude.{◌≡◌, ◌≤◌, ◌^◌, vec_len};
 ghost use Rattle.wave_defs.specs.Line.{floor_div};
 ghost use Rattle.quick_look.specs.LookSinks.{IsOpen, TakesValue};
@@ -9,7 +9,7 @@ use raster_rows::write_row;
 use std::alloc::{AllocError, Global};
 use strip_decoder::BlockSink;
 
-/// One row of a look: a value for each block of a block row, those of the first `column` blocks being set. It holds P/8 values.
+/// One row of a look: a value for each block of a block row. Those of the first `column` blocks are set. It holds P/8 values.
 #[derive(Drop)]
 pub struct LookRow {
     pub depth: u8,
@@ -51,7 +51,7 @@ impl BlockSink for LookRow {
     fn end_at(&mut self, _geometry: &Geometry) {}
 }
 
-// A weighted number without its weight.
+// Returns a weighted number without its weight.
 fn unweighted(number: i32, shift: u8) -> i64
     requires { shift ≤ 3 }
     ensures { result ≡ floor_div number (2 ^ shift) }
@@ -59,7 +59,7 @@ fn unweighted(number: i32, shift: u8) -> i64
     i64::from(number >> shift)
 }
 
-// The next block has this value, and if its block row is whole the row is given.
+// Sets the value of the next block, and gives the row if its block row is whole.
 fn take_value<X: Port>(port: &mut X, row: &mut LookRow, value: i64) -> Result<(), Failed>
     requires { IsOpen row.old }
     ensures { TakesValue result value (X.outside port.old) (X.outside port.new) row.old row.new }

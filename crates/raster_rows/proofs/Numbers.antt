@@ -1,4 +1,4 @@
--- Numbers that spell pixels.
+-- Numbers that represent pixels.
 use Rattle.std.proofs.Common.{◌≡◌, ◌<◌, ◌≤◌, ◌-◌, ◌*◌, ◌^◌, ℕ, ℤ, pos, negsuc, ◌+ℤ◌, ◌-ℤ◌, ◌≤ℤ◌, ◌<ℤ◌, Bool, true, false, nat_le, refl, arith}
 use Rattle.std.specs.Prelude.{if◌then◌else◌}
 use Rattle.std.specs.Int.{int_min, int_max}
@@ -9,7 +9,7 @@ use Rattle.std.proofs.lemmas.Nat.{pow_pos}
 use Rattle.raster_rows.specs.Pixels.{IsDepth, IsPixel, sign_weight, least_pixel, greatest_pixel, number_of, clamped}
 use Rattle.raster_rows.proofs.Ranges.{twice_half}
 
--- half of the values have the sign bit at most
+-- half of the values are at most the weight of the sign bit
 pub half_most : (depth : ℕ) → IsDepth depth → 2 ^ (depth - 1) ≤ sign_weight depth
 half_most depth is =
     let low : depth ≤ 8 → 2 ^ (depth - 1) ≤ 2 ^ 7 = λ le. let few : depth - 1 ≤ 7 = omega arith in pow_mono few in
@@ -34,18 +34,18 @@ number_below : (depth : ℕ) (pixel : ℤ) → pixel <ℤ pos (2 * sign_weight d
 number_below depth (pos n) lt = omega (arith, ints, lt)
 number_below depth (negsuc n) lt = omega (arith, sign_some depth)
 
--- a value that isn't negative is spelt by itself
+-- a value that is not negative is represented by itself
 pub number_of-pos : (depth : ℕ) (value : ℤ) → pos 0 ≤ℤ value → pos (number_of depth value) ≡ value
 number_of-pos depth (pos n) le = refl
 number_of-pos depth (negsuc n) le = absurd (omega (arith, ints, le))
 
--- a negative value is spelt by a number with the sign bit
+-- a negative value is represented by a number with the sign bit
 pub number_of-neg : (depth : ℕ) (value : ℤ) → value <ℤ pos 0 → pos 0 ≤ℤ (value +ℤ pos (2 * sign_weight depth)) →
     pos (number_of depth value) ≡ value +ℤ pos (2 * sign_weight depth)
 number_of-neg depth (pos n) lt some = absurd (omega (arith, ints, lt))
 number_of-neg depth (negsuc n) lt some = omega (arith, ints, some)
 
--- the least value isn't above the greatest
+-- the least value is not above the greatest
 pub least_most : (depth : ℕ) (signed : Bool) → IsDepth depth → least_pixel depth signed ≤ℤ greatest_pixel depth signed
 least_most depth true is =
     let half : 0 < 2 ^ (depth - 1) = pow_pos (depth - 1) in
@@ -71,7 +71,7 @@ pixel_bounds depth false pixel is here =
     let high : pixel ≤ℤ pos (2 ^ depth - 1) = here.high in
     (omega (arith, ints, low), omega (arith, ints, half, twice, high, some))
 
--- the number that spells a pixel
+-- the number that represents a pixel
 pub pixel_spelt : (depth : ℕ) (signed : Bool) (pixel : ℤ) → IsDepth depth → IsPixel depth signed pixel →
     (pixel <ℤ pos 0 → pos (number_of depth pixel) ≡ pixel +ℤ pos (2 * sign_weight depth)) × (pos 0 ≤ℤ pixel → pos (number_of depth pixel) ≡ pixel) ×
     (number_of depth pixel < 2 * sign_weight depth) × (sign_weight depth ≤ 2 ^ 15) × (depth ≤ 8 → sign_weight depth ≡ 2 ^ 7)

@@ -1,4 +1,4 @@
--- The octets of the pixels that octets spell are those octets.
+-- The octets of the pixels that octets represent are those octets.
 use Rattle.std.proofs.Common.{◌≡◌, ◌<◌, ◌≤◌, ◌+◌, ◌-◌, ◌*◌, ◌/◌, ◌%◌, ◌^◌, ◌∙◌, inl, inr, ℕ, zero, suc, pos, negsuc, ◌-ℤ◌, Bool, true, false, nat_le, List, [], ◌∷◌, ◌++◌, length, get_or, take, map, append_assoc, refl, sym, ap, arith}
 use Rattle.std.specs.Prelude.{if◌then◌else◌}
 use Rattle.std.specs.List.{range_with_len}
@@ -10,11 +10,11 @@ use Rattle.raster_rows.specs.Pixels.{pixel_size, sign_weight, number_at, value_o
 use Rattle.raster_rows.proofs.PixelPlaces.{whole_before}
 use Rattle.raster_rows.proofs.MadeLaws.{row_octets-append}
 
--- a number that is taken from a greater one
+-- a greater number subtracted from a smaller one
 below_zero : (n m : ℕ) → n < m → pos n -ℤ pos m ≡ negsuc (m - n - 1)
 below_zero n m lt = omega (arith, ints)
 
--- the number that spells the value of a number
+-- the number that represents the value of a number
 pub number_of-value_of : (depth : ℕ) (signed : Bool) (number : ℕ) → number < 2 * sign_weight depth → number_of depth (value_of depth signed number) ≡ number
 number_of-value_of depth false number lt = refl
 number_of-value_of depth true number lt = elim (cases_lt number (sign_weight depth)) [

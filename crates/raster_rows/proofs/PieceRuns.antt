@@ -38,7 +38,7 @@ one_put depth signed octets column n value before mid p lt is here =
       same = length-set mid (column + n) value ∙ p.same;
     }
 
--- two facts, where both are tested
+-- a fact that follows from two others, if both of their tests hold
 both_held : {P Q R : Type 0} (a b : Bool) → OnTrue a P → (b ≡ true → Q) → (P → Q → R) → OnTrue (a && b) R
 both_held true true p q f = f p (q refl)
 both_held true false p q f = tt

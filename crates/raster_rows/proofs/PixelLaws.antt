@@ -9,7 +9,7 @@ use Rattle.raster_rows.specs.Pixels.{IsDepth, IsPixel, pixel_size, sign_weight, 
 use Rattle.raster_rows.proofs.Numbers.{half_most}
 use Rattle.raster_rows.proofs.PixelPlaces.{pixel_at-append_left, pixel_at-append_right}
 
--- the value of the number that spells a pixel
+-- the value of the number that represents a pixel
 pub value_of-number_of : (depth : ℕ) (signed : Bool) (pixel : ℤ) → IsDepth depth → IsPixel depth signed pixel → value_of depth signed (number_of depth pixel) ≡ pixel
 value_of-number_of depth false (pos n) is here = refl
 value_of-number_of depth false (negsuc n) is here = let low : pos 0 ≤ℤ negsuc n = here.low in absurd (omega (arith, ints, low))
@@ -31,14 +31,14 @@ pub length-octets_of : (depth number : ℕ) → length (octets_of depth number) 
 length-octets_of depth number = let P : Bool → Type 0 = λ b. length (if b then number ∷ [] else number / 256 ∷ number % 256 ∷ []) ≡ (if b then 1 else 2) in
     elim (nat_le depth 8) as P [ true ↦ refl | false ↦ refl ]
 
--- the number that its octets spell
+-- the number that its octets represent
 pub number_at-octets_of : (depth number : ℕ) → number_at depth (octets_of depth number) 0 ≡ number
 number_at-octets_of depth number =
     let octets : Bool → List ℕ = λ b. if b then number ∷ [] else number / 256 ∷ number % 256 ∷ [] in
     let P : Bool → Type 0 = λ b. (if b then get_or (octets b) 0 0 else 256 * get_or (octets b) (2 * 0) 0 + get_or (octets b) (2 * 0 + 1) 0) ≡ number in
     elim (nat_le depth 8) as P [ true ↦ refl | false ↦ div-add-mod number 256 ]
 
--- the pixel that its octets spell
+-- the pixel that its octets represent
 pub pixel_at-octets_of : (depth : ℕ) (signed : Bool) (pixel : ℤ) → IsDepth depth → IsPixel depth signed pixel →
     pixel_at depth signed (octets_of depth (number_of depth pixel)) 0 ≡ pixel
 pixel_at-octets_of depth signed pixel is here = ap (value_of depth signed) (number_at-octets_of depth (number_of depth pixel)) ∙ value_of-number_of depth signed pixel is here

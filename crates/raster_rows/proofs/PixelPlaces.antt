@@ -6,7 +6,7 @@ use Rattle.std.proofs.lemmas.Nat.{div-mul-add, le-div}
 use Rattle.std.proofs.Math.Nat.{mul-le-mul_right}
 use Rattle.raster_rows.specs.Pixels.{pixel_size, value_of, pixel_at, whole_pixels}
 
--- a pixel has an octet or two
+-- a pixel has one or two octets
 pub size_some : (depth : ℕ) → 0 < pixel_size depth
 size_some depth = let P : Bool → Type 0 = λ b. 0 < (if b then 1 else 2) in
     elim (nat_le depth 8) as P [ true ↦ omega arith | false ↦ omega arith ]
@@ -15,7 +15,7 @@ pub size_most : (depth : ℕ) → pixel_size depth ≤ 2
 size_most depth = let P : Bool → Type 0 = λ b. (if b then 1 else 2) ≤ 2 in
     elim (nat_le depth 8) as P [ true ↦ omega arith | false ↦ omega arith ]
 
--- the pixels at two places are the same where their octets are
+-- the pixels at two places are the same if their octets are
 same_numbers : (b : Bool) (xs ys : List ℕ) (i j : ℕ) →
     ((m : ℕ) → m < (if b then 1 else 2) → get_or xs (i * (if b then 1 else 2) + m) 0 ≡ get_or ys (j * (if b then 1 else 2) + m) 0) →
     (if b then get_or xs i 0 else 256 * get_or xs (2 * i) 0 + get_or xs (2 * i + 1) 0) ≡
@@ -47,7 +47,7 @@ pub pixel_at-append_left : (depth : ℕ) (signed : Bool) (xs ys : List ℕ) (k :
 pixel_at-append_left depth signed xs ys k le = same_pixels depth signed (xs ++ ys) xs k k
     (λ m lt. get_or_append_left xs ys 0 (k * pixel_size depth + m) (omega arith))
 
--- a pixel of the second of two lists, where the first has whole pixels
+-- a pixel of the second of two lists, if the first has whole pixels
 pub pixel_at-append_right : (depth : ℕ) (signed : Bool) (xs ys : List ℕ) (n k : ℕ) → length xs ≡ n * pixel_size depth →
     pixel_at depth signed (xs ++ ys) (n + k) ≡ pixel_at depth signed ys k
 pixel_at-append_right depth signed xs ys n k len = same_pixels depth signed (xs ++ ys) ys (n + k) k

@@ -13,7 +13,7 @@ use Rattle.raster_rows.specs.RowReads.{BeginsWith, FirstInRange, InRow, Unfinish
 use Rattle.raster_rows.specs.declared.reading.RowFault.TheVariants.{ReadFault, Short}
 use Rattle.raster_rows.proofs.PixelPlaces.{size_some, pixel_at-append_left, pixel_at-append_right, pixel_at-take, whole_pixels-is, whole_before}
 
--- the octets of the row's whole pixels so far, and that the buffer holds those of a pixel that isn't whole
+-- the octets of the row's whole pixels so far; the buffer holds those of a pixel that is not whole
 pub record RowSoFar (depth : ℕ) (signed : Bool) (width : ℕ) (old now : Outside) (before after : List ℤ) (buffer : List ℕ) (column held : ℕ) : Type 0 where
   pub front : List ℕ
   pub size : length front ≡ column * pixel_size depth
@@ -38,7 +38,7 @@ later_pixel depth signed front piece column k n m len le room lt =
     let whole : (k + 1) * pixel_size depth ≤ n * pixel_size depth = whole_before (pixel_size depth) k n lt in
     pixel_at-append_right depth signed front (take m piece) column k len ∙ pixel_at-take depth signed piece m k room (omega (arith, whole, le))
 
--- what holds of each column before another and of n from there on
+-- a property of each column before another and of n from there on
 pub both_parts : (P : ℕ → Type 0) (column n : ℕ) → ((k : ℕ) → k < column → P k) → ((k : ℕ) → k < n → P (column + k)) → (k : ℕ) → k < column + n → P k
 both_parts P column n p q k lt = elim (cases_lt k column)
     [ inl low ↦ p k low | inr high ↦ let at : column + (k - column) ≡ k = omega arith in subst P at (q (k - column) (omega arith)) ]
@@ -67,7 +67,7 @@ more_begins depth signed front piece column n m before mid after len le room p q
       same = q.same ∙ p.same;
     }
 
--- what holds of the whole pixels' octets holds with those of a pixel that isn't whole
+-- a property of the whole pixels' octets holds with those of a pixel that is not whole
 pub still_in_range : (depth : ℕ) (signed : Bool) (front more : List ℕ) (column : ℕ) → length front ≡ column * pixel_size depth →
     FirstInRange depth signed front column → FirstInRange depth signed (front ++ more) column
 still_in_range depth signed front more column len p = record {
@@ -88,7 +88,7 @@ pub so_far_size : {depth width column held : ℕ} {signed : Bool} {old now : Out
 so_far_size {held = held} {buffer = buffer} p =
     omega (arith, length-append p.front (take held buffer), p.size, length-take-le held buffer p.room)
 
--- a row that isn't read to its end
+-- a row that is not read to its end
 unfinished : {depth width column held : ℕ} {signed : Bool} {old now : Outside} {before after : List ℤ} {buffer : List ℕ} →
     (p : RowSoFar depth signed width old now before after buffer column held) → column < width →
     Unfinished depth signed width (p.front ++ take held buffer) before after
@@ -111,7 +111,7 @@ asks_here {depth = depth} {held = held} {signed = signed} {buffer = buffer} more
     let same : take (length took) (took ++ more) ≡ took = take-append-le (length took) took more (omega arith) ∙ take-length took in
     (here.inside, refl, subst (λ zs. FirstInRange depth signed zs (whole_pixels depth zs)) (sym same) here.in_range)
 
--- the read calls so far, where more is taken
+-- the read calls so far, if more is taken
 pub asked_so_far : {depth width column held : ℕ} {signed : Bool} {old now : Outside} {before after : List ℤ} {buffer : List ℕ} (more : List ℕ) →
     (p : RowSoFar depth signed width old now before after buffer column held) →
     Exchange old now (p.front ++ take held buffer) [] [] (InRow depth signed width ((p.front ++ take held buffer) ++ more))

@@ -15,7 +15,7 @@ use Rattle.raster_rows.specs.declared.reading.RowFault.TheVariants.{BadPixel}
 use Rattle.raster_rows.proofs.PixelPlaces.{size_some, whole_pixels-above, whole_before}
 use Rattle.raster_rows.proofs.RowRuns.{RowSoFar, so_far_size, asks_here, asked_so_far, more_in_range, more_begins, later_pixel, still_in_range, still_begins}
 
--- the octets at the front of a buffer into whose middle some were read
+-- the first octets of a buffer into whose middle some were read
 pub buffer_more : (buffer piece : List ℕ) (held count k : ℕ) → held ≤ length buffer → count ≤ length piece →
     take (held + count) (put_mid held k buffer piece) ≡ take held buffer ++ take count piece
 buffer_more buffer piece held count k le room =

@@ -42,7 +42,7 @@ FirstInRange-append depth signed xs ys n m len p q =
           (λ k lt. subst (IsPixel depth signed) (sym (pixel_at-append_right depth signed xs ys n k len)) (q.each k lt));
     }
 
--- pixels in range, and then the first that isn't
+-- pixels in range, and then the first that is not
 pub IsFirstBad-append : (depth : ℕ) (signed : Bool) (xs ys : List ℕ) (n column : ℕ) (value : ℤ) → length xs ≡ n * pixel_size depth →
     FirstInRange depth signed xs n → IsFirstBad depth signed ys column value → IsFirstBad depth signed (xs ++ ys) (n + column) value
 IsFirstBad-append depth signed xs ys n column value len p q = record {
@@ -52,12 +52,12 @@ IsFirstBad-append depth signed xs ys n column value len p q = record {
   earlier = FirstInRange-append depth signed xs ys n column len p q.earlier;
 }
 
--- where all whole pixels are in range none is the first that isn't
+-- if all whole pixels are in range, no pixel is out of range
 pub none_bad : {depth column : ℕ} {signed : Bool} {octets : List ℕ} {value : ℤ} →
     FirstInRange depth signed octets (whole_pixels depth octets) → IsFirstBad depth signed octets column value → ⊥
 none_bad {depth = depth} {column = column} {signed = signed} p q = q.bad (subst (IsPixel depth signed) (sym q.value_is) (p.each column q.whole))
 
--- there is one first pixel out of range at most
+-- at most one pixel is the first out of range
 pub one_bad : (depth : ℕ) (signed : Bool) (octets : List ℕ) (c d : ℕ) (v w : ℤ) → IsFirstBad depth signed octets c v → IsFirstBad depth signed octets d w → (c ≡ d) × (v ≡ w)
 one_bad depth signed octets c d v w p q = elim (cases_order c d) [
   | inl same ↦ (same, p.value_is ∙ ap (pixel_at depth signed octets) same ∙ sym q.value_is)

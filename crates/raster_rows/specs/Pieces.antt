@@ -2,7 +2,7 @@
 use Rattle.std.specs.Prelude.{◌≡◌, ◌<◌, ◌≤◌, ◌+◌, ℕ, ℤ, pos, Bool, List, length, slice_index_or}
 use Rattle.raster_rows.specs.Pixels.{IsPixel, pixel_at}
 
--- the first n pixels of these octets are in range and stand in a row from a column on, and its others are as before
+-- the first n pixels of these octets are in range and are in a row from a column on, and its others are as before
 pub record PixelsPut (depth : ℕ) (signed : Bool) (octets : List ℕ) (column n : ℕ) (before after : List ℤ) : Type 0 where
   pub in_range : (k : ℕ) → k < n → IsPixel depth signed (pixel_at depth signed octets k)
   pub put : (k : ℕ) → k < n → slice_index_or after (column + k) (pos 0) ≡ pixel_at depth signed octets k

@@ -31,12 +31,12 @@ pub record IsPixel (depth : ℕ) (signed : Bool) (value : ℤ) : Type 0 where
   pub low : least_pixel depth signed ≤ℤ value
   pub high : value ≤ℤ greatest_pixel depth signed
 
--- the number that the octets of the pixel at a place spell, the greater octet first
+-- the number that the octets of the pixel at a place represent, the greater octet first
 abbrev pub number_at : ℕ → List ℕ → ℕ → ℕ
 number_at depth octets place =
     if nat_le depth 8 then slice_index octets place else 256 * slice_index octets (2 * place) + slice_index octets (2 * place + 1)
 
--- the value that a number spells, in two's complement where pixels are signed
+-- the value that a number represents, in two's complement if pixels are signed
 abbrev pub value_of : ℕ → Bool → ℕ → ℤ
 value_of depth true number = if nat_lt number (sign_weight depth) then pos number else pos number -ℤ pos (2 * sign_weight depth)
 value_of depth false number = pos number
@@ -53,12 +53,12 @@ whole_pixels depth octets = length octets / pixel_size depth
 abbrev pub raster_pixel : ℕ → Bool → ℕ → List ℕ → ℕ → ℕ → ℤ
 raster_pixel depth signed width octets row column = pixel_at depth signed octets (row * width + column)
 
--- the number that spells a value
+-- the number that represents a value
 abbrev pub number_of : ℕ → ℤ → ℕ
 number_of depth (pos n) = n
 number_of depth (negsuc n) = 2 * sign_weight depth - (n + 1)
 
--- the octets that spell a number, the greater first
+-- the octets that represent a number, the greater first
 abbrev pub octets_of : ℕ → ℕ → List ℕ
 octets_of depth number = if nat_le depth 8 then number ∷ [] else number / 256 ∷ number % 256 ∷ []
 

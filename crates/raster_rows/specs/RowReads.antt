@@ -27,13 +27,13 @@ abbrev pub InRow : ℕ → Bool → ℕ → List ℕ → ℕ → ℕ → Type 0
 InRow depth signed width took i j =
     (i < width * pixel_size depth) × (j ≡ 0) × FirstInRange depth signed (take i took) (whole_pixels depth (take i took))
 
--- a row wasn't read to its end: all whole pixels that were taken are in range and stand in the row
+-- a row was not read to its end: all whole pixels that were taken are in range and are in the row
 pub record Unfinished (depth : ℕ) (signed : Bool) (width : ℕ) (took : List ℕ) (before after : List ℤ) : Type 0 where
   pub inside : length took < width * pixel_size depth
   pub in_range : FirstInRange depth signed took (whole_pixels depth took)
   pub begins : BeginsWith depth signed took (whole_pixels depth took) before after
 
--- why it was answered so, by the octets taken
+-- why this was the answer, by the octets taken
 abbrev pub RowAnswers : {T : Type 0} → ℕ → Bool → ℕ → ℕ → Outside → Outside → List ℕ → List ℤ → List ℤ → Result T RowFault → Type 0
 RowAnswers depth signed width row old new took before after (Ok done) =
     (length took ≡ width * pixel_size depth) × FirstInRange depth signed took width × BeginsWith depth signed took width before after
@@ -44,7 +44,7 @@ RowAnswers depth signed width row old new took before after (Err (Short octets))
 RowAnswers depth signed width row old new took before after (Err (BadPixel at column value)) =
     (at ≡ row) × (length took ≤ width * pixel_size depth) × IsFirstBad depth signed took column value × BeginsWith depth signed took column before after
 
--- One row: the octets that were taken, what held at each read call, and why it was answered so.
+-- One row: the octets that were taken, what held at each read call, and why this was the answer.
 pub record RowRead {T : Type 0} (depth : ℕ) (signed : Bool) (width row : ℕ) (old new : Outside) (before after : List ℤ) (result : Result T RowFault) : Type 0 where
   pub took : List ℕ
   pub since : Exchange old new took [] [] (InRow depth signed width took)

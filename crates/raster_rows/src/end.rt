@@ -5,7 +5,7 @@ ghost use Rattle.raster_rows.specs.Ends.{SawEnd};
 
 use port_122::{Failed, Port};
 
-/// Reads one octet, and answers whether the end of the input was there instead. `Failed` comes only where
+/// Reads one octet, and returns whether the input was at its end instead. Returns `Failed` only if
 /// `read_faults` rose.
 pub fn at_end<X: Port>(port: &mut X) -> Result<bool, Failed>
     ensures { MatchResult result

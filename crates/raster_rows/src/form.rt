@@ -1,8 +1,8 @@
-// How the pixels of a raster stand in octets.
+// The octets of the pixels of a raster.
 ghost use Rattle.std.specs.Prelude.{◌++◌, take, ◌≡◌, ◌+◌, ◌*◌, ◌/◌, ◌^◌, ◌-◌, ◌≤◌, ◌≤ℤ◌, ◌<◌, ◌↔◌, pos, length, IsTrue};
 ghost use Rattle.raster_rows.specs.Pixels.{IsDepth, IsPixel, pixel_size, sign_weight, least_pixel, greatest_pixel, number_at, value_of, pixel_at, number_of, clamped, octets_of};
 
-/// A read asks for at most so many octets, and a piece that is given has at most so many.
+/// The greatest number of octets that a read asks for, and that a piece which is given has.
 pub(crate) const PIECE: usize = 4096;
 
 /// The octets and the range of a pixel.
@@ -37,7 +37,7 @@ impl PixelForm {
         }
     }
 
-    /// How many octets so many pixels have.
+    /// Returns how many octets this number of pixels has.
     pub(crate) fn octets(self, pixels: usize) -> usize
         requires { pixels < 2 ^ 32 }
         ensures { result ≡ pixels * pixel_size self.depth }
@@ -45,14 +45,14 @@ impl PixelForm {
         if self.size == 1 { pixels } else { 2 * pixels }
     }
 
-    /// How many whole pixels so many octets have.
+    /// Returns how many whole pixels this number of octets has.
     pub(crate) fn pixels(self, octets: usize) -> usize
         ensures { result ≡ octets / pixel_size self.depth }
     {
         if self.size == 1 { octets } else { octets / 2 }
     }
 
-    // The number that the octets of a pixel spell.
+    // Returns the number that the octets of a pixel represent.
     fn number_at(self, octets: &[u8], place: usize) -> i32
         requires { (place + 1) * pixel_size self.depth ≤ length octets.now }
         ensures { result ≡ pos (number_at self.depth octets.now place) }
@@ -64,7 +64,7 @@ impl PixelForm {
         }
     }
 
-    /// The pixel at a place of these octets.
+    /// Returns the pixel at a place of these octets.
     pub(crate) fn pixel_at(self, octets: &[u8], place: usize) -> i32
         requires { (place + 1) * pixel_size self.depth ≤ length octets.now }
         ensures { result ≡ pixel_at self.depth self.signed octets.now place }
@@ -77,7 +77,7 @@ impl PixelForm {
         }
     }
 
-    /// The nearest pixel to a value.
+    /// Returns the nearest pixel to a value.
     #[tactic(auto, using(crate::proofs::Numbers::least_most, crate::proofs::Numbers::clamped_is))]
     pub(crate) fn nearest(self, value: i64) -> i32
         ensures value { result ≡ clamped self.depth self.signed value }
@@ -92,7 +92,7 @@ impl PixelForm {
         value as i32
     }
 
-    /// The number that spells a pixel.
+    /// Returns the number that represents a pixel.
     #[tactic(auto, using(crate::proofs::Numbers::pixel_spelt))]
     pub(crate) fn number_of(self, pixel: i32) -> u16
         requires { IsPixel self.depth self.signed pixel }
@@ -125,7 +125,7 @@ impl PixelForm {
         into[2 * place + 1] = (number % 256) as u8;
     }
 
-    /// Whether a value is in the range of pixels.
+    /// Returns whether a value is in the range of pixels.
     pub(crate) fn holds(self, value: i32) -> bool
         ensures { IsTrue result ↔ IsPixel self.depth self.signed value }
     {
@@ -133,7 +133,7 @@ impl PixelForm {
     }
 }
 
-/// Half the number of values of a pixel.
+/// Returns half the number of values of a pixel.
 #[tactic(auto, using(crate::proofs::Ranges::half_shift))]
 pub(crate) fn half_range(depth: u8) -> i32
     requires { IsDepth depth }
@@ -144,7 +144,7 @@ pub(crate) fn half_range(depth: u8) -> i32
     (1u32 << (depth - 1)) as i32
 }
 
-// The least value of a pixel.
+// Returns the least value of a pixel.
 fn least_pixel(depth: u8, signed: bool) -> i32
     requires { IsDepth depth }
     ensures { result ≡ least_pixel depth signed }
@@ -152,7 +152,7 @@ fn least_pixel(depth: u8, signed: bool) -> i32
     if signed { -half_range(depth) } else { 0 }
 }
 
-// The greatest value of a pixel.
+// Returns the greatest value of a pixel.
 #[tactic(auto, using(crate::proofs::Ranges::twice_half))]
 fn greatest_pixel(depth: u8, signed: bool) -> i32
     requires { IsDepth depth }

@@ -1,4 +1,4 @@
-//! Rows of a raster in and out, and the made image (docs/formats.md, "Raster and made image").
+//! This crate reads and writes rows of a raster, and makes the made image (docs/formats.md, "Raster and made image").
 #![tactic(auto)]
 
 mod end;

@@ -15,8 +15,8 @@ pub struct MadeImage {
     pub seed: u32,
 }
 
-/// The pixel of a made image at a row and a column, in the range of its depth
-/// (docs/formats.md, "Raster and made image").
+/// Returns the pixel of a made image at a row and a column, in the range of its depth (docs/formats.md,
+/// "Raster and made image").
 #[tactic(auto, using(crate::proofs::Ranges::twice_half))]
 pub fn made_pixel(made: &MadeImage, row: u32, column: u32) -> i32
     requires { IsDepth made.now.depth }
@@ -32,7 +32,7 @@ pub fn made_pixel(made: &MadeImage, row: u32, column: u32) -> i32
     }
 }
 
-// A level of 12 bits at this depth.
+// Returns a level of 12 bits at this depth.
 #[tactic(auto, using(crate::proofs::Ranges::level_shift))]
 fn scaled(level: u32, depth: u8) -> i32
     requires depth { IsDepth depth }
@@ -44,7 +44,7 @@ fn scaled(level: u32, depth: u8) -> i32
     ((level << depth) / 4096) as i32
 }
 
-// The ramp, 0 to 255.
+// Returns the ramp, 0 to 255.
 fn ramp_at(seed: u32, row: u32, column: u32) -> u32
     ensures value { result ≡ ramp seed row column }
     ensures most { result < 256 }
@@ -54,7 +54,7 @@ fn ramp_at(seed: u32, row: u32, column: u32) -> u32
     folded as u32
 }
 
-// The noise, 0 to 255: the upper octet of a sum of 32 bits.
+// Returns the noise, 0 to 255: the upper octet of a sum of 32 bits.
 fn noise_at(seed: u32, row: u32, column: u32) -> u32
     ensures value { result ≡ noise seed row column }
     ensures most { result < 256 }

@@ -1,4 +1,4 @@
-// A row in.
+// The reader of a row.
 ghost use Rattle.std.specs.Prelude.{◌≡◌, ◌+◌, ◌-◌, ◌*◌, ◌<◌, ◌≤◌, ◌^◌, length, take, drop, MatchResult};
 ghost use Rattle.std.specs.Bool.{OnTrue};
 ghost use Rattle.base_122.specs.Ranges.{IsInRange};
@@ -10,25 +10,24 @@ use crate::form::{PIECE, PixelForm};
 use base_122::Setting;
 use port_122::Port;
 
-/// Why a row was not read (docs/formats.md, "Raster and made image").
+/// The reason why a row was not read (docs/formats.md, "Raster and made image").
 #[derive(Clone, Copy, Debug, PartialEq, Eq)]
 pub enum RowFault {
     /// A read failed.
     ReadFault,
-    /// The input ended inside the row, of which so many octets were taken.
+    /// The input ended inside the row, of which `octets` octets were taken.
     Short { octets: u64 },
-    /// A value is out of the range of pixels: the first of the row.
+    /// A value is out of the range of pixels, and is the first of the row that is.
     BadPixel { row: u32, column: u32, value: i32 },
 }
 
-/// Reads the first `width` values of a row (docs/formats.md, "Raster and made image"), which is called by this
-/// number in a fault.
+/// Reads the first `width` values of a row (docs/formats.md, "Raster and made image"). A fault has the number
+/// `row`.
 ///
-/// `BadPixel` comes exactly where some whole pixel that was taken is out of range, and names the first. `Short`
-/// comes exactly where the input ends inside the row and no whole pixel before is out of range. `ReadFault` comes
-/// only where `read_faults` rose. The whole pixels that were taken and are in range before any other stand at the
-/// front of `into`, and its other numbers stay. No octet past the row is taken, and each piece is tested before the next
-/// read.
+/// Returns `BadPixel` exactly if some whole pixel that was taken is out of range, and it has the first. Returns `Short`
+/// exactly if the input ends inside the row and no whole pixel before is out of range. Returns `ReadFault` only if
+/// `read_faults` rose. The whole pixels that were taken and are in range before any other are the first of `into`, and
+/// its other numbers stay. No octet past the row is taken, and each piece is tested before the next read.
 pub fn read_row<X: Port>(
     port: &mut X,
     setting: &Setting,
@@ -51,7 +50,7 @@ struct OutOfRange {
     value: i32,
 }
 
-// Reads a row by pieces of at most the buffer's length, and tests the pixels of each piece before it reads on.
+// Reads a row in pieces of at most the buffer's length, and tests the pixels of each piece before it continues.
 fn fill_row<X: Port>(
     port: &mut X,
     form: PixelForm,
@@ -121,7 +120,7 @@ fn take_pixels(
     Ok(())
 }
 
-// Whether the first pixels of these octets are all in range. Without an end before the last, the loop takes many at once.
+// Returns whether the first pixels of these octets are all in range. The loop has no early exit, so it handles many pixels at once.
 fn are_in_range(form: PixelForm, octets: &[u8], count: usize) -> bool
     requires whole { count * pixel_size form.depth ≤ length octets.now }
     ensures { OnTrue result (FirstInRange form.depth form.signed octets.now count) }
@@ -145,7 +144,7 @@ fn put_pixels(form: PixelForm, octets: &[u8], count: usize, into: &mut [i32], co
     }
 }
 
-// Moves what follows the whole pixels, an octet at most, to the front, and answers how many octets that is.
+// Moves what follows the whole pixels, at most one octet, to the beginning, and returns how many octets that is.
 fn carry(buffer: &mut [u8], used: usize, end: usize) -> usize
     requires order { used ≤ end }
     requires few { end ≤ used + 1 }

@@ -7,7 +7,7 @@ use base_122::Setting;
 use port_122::{MemoryPort, SteadyPort};
 use std::test::Fail;
 
-// A setting of 17 rows and columns.
+// Returns a setting of 17 rows and columns.
 fn setting(depth: u8, signed: bool) -> Setting
     requires some { 1 ≤ depth }
     requires most { depth ≤ 16 }

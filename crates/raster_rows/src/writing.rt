@@ -1,4 +1,4 @@
-// A row out.
+// The writer of a row.
 ghost use Rattle.std.specs.Prelude.{◌≡◌, ◌<◌, ◌≤◌, ◌*◌, ◌^◌, length, take, map};
 ghost use Rattle.port_122.specs.Outside.{WritesAll};
 ghost use Rattle.raster_rows.specs.Pixels.{IsDepth, pixel_size, pixel_octets, clamped};
@@ -6,9 +6,9 @@ ghost use Rattle.raster_rows.specs.Pixels.{IsDepth, pixel_size, pixel_octets, cl
 use crate::form::{PIECE, PixelForm};
 use port_122::{Failed, Port, write_all};
 
-/// Clamps the first `width` values of a row to the range of pixels and gives their octets
-/// (docs/formats.md, "Raster and made image"). After `Failed` a prefix of the octets is given, and
-/// `write_faults` rose.
+/// Clamps the first `width` values of a row to the range of pixels and gives their octets (docs/formats.md,
+/// "Raster and made image"). If it returns `Failed`, a prefix of the octets is given, and `write_faults`
+/// rose.
 pub fn write_row<X: Port>(
     port: &mut X,
     depth: u8,
@@ -26,7 +26,7 @@ pub fn write_row<X: Port>(
     give_pixels(port, form, &row[..width as usize], &mut buffer)
 }
 
-// Gives the octets of these values, by pieces that fit the buffer.
+// Gives the octets of these values, in pieces that fit the buffer.
 fn give_pixels<X: Port>(
     port: &mut X,
     form: PixelForm,
@@ -49,7 +49,7 @@ fn give_pixels<X: Port>(
     Ok(())
 }
 
-// Puts the octets of these values at the front, and answers how many they are.
+// Puts the octets of these values at the beginning of `into`, and returns how many octets they have.
 fn spell_pixels(form: PixelForm, pixels: &[i64], into: &mut [u8]) -> usize
     requires few { length pixels.now < 2 ^ 32 }
     requires room { length pixels.now * pixel_size form.depth ≤ length into.old }
@@ -64,7 +64,7 @@ fn spell_pixels(form: PixelForm, pixels: &[i64], into: &mut [u8]) -> usize
     form.octets(pixels.len())
 }
 
-// Puts the octets of these values at the front, one for each.
+// Puts the octets of these values at the beginning, one for each.
 fn spell_octets(form: PixelForm, pixels: &[i64], into: &mut [u8])
     requires narrow { form.depth ≤ 8 }
     requires room { length pixels.now * pixel_size form.depth ≤ length into.old }
@@ -75,7 +75,7 @@ fn spell_octets(form: PixelForm, pixels: &[i64], into: &mut [u8])
     }
 }
 
-// Puts the octets of these values at the front, two for each.
+// Puts the octets of these values at the beginning, two for each.
 fn spell_pairs(form: PixelForm, pixels: &[i64], into: &mut [u8])
     requires wide { 8 < form.depth }
     requires room { length pixels.now * pixel_size form.depth ≤ length into.old }

@@ -1,4 +1,4 @@
--- The rectangles of examples that were worked out by hand.
+-- The rectangles of examples that were calculated by hand.
 use Rattle.std.proofs.Common.{◌≡◌, ℕ, [], ◌∷◌, ◌/◌, refl}
 use Rattle.std.specs.Prelude.{◌==◌, ◌||◌}
 use Rattle.rect_defs.specs.declared.rect.Rect.{Rect}

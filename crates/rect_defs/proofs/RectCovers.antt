@@ -134,7 +134,7 @@ module _ (rows width block_rows : ℕ) (lost : ℕ → Bool) (i j : ℕ) (inside
       (reaches_same ((b + u) / columns) r i at.row (reaches_by r i is.row_low is.row_high))
       (reaches_same ((b + u) % columns) (c + u) j at.column_is (reaches_by (c + u) j near.low near.high))))
 
-  -- and where a missing block reaches it, the rectangle of its run has it
+  -- and if a missing block reaches it, the rectangle of its run has it
   back : Hit reaches_it 0 (block_rows * columns) → list_any is_chosen (range_with_len 0 (block_rows * columns)) ≡ true
   back h =
       let b = h.place in
@@ -178,7 +178,7 @@ module _ (g : Geometry) (received : ℕ → Option (List (List ℤ))) (n i j : �
   abbrev lost_reaches : ℕ → Bool
   lost_reaches block = is_lost g received block && (reaches (block / width_in) i && reaches (block % width_in) j)
 
-  -- a missing block's row is damaged where it reaches it
+  -- a missing block's row is damaged if the block reaches it
   damaged : Hit lost_reaches 0 (height_in * width_in) → is_damaged (height g n) (missing_rows g received n) i ≡ true
   unfolding missing_below
   damaged h =

@@ -91,7 +91,7 @@ module _ (g : Geometry) (received : ℕ → Option (List (List ℤ))) (n : ℕ) 
         same_block p q c g.weights.shifts t s (λ i small. same.at (t * c + s) i (low t s (below t two.1) few) small (not_lost (is_some (received ((t * c + s) / g.segment))) two.0));
   }
 
-  -- a pixel in no rectangle is reached by none of them
+  -- none of these blocks reaches a pixel that is in no rectangle
   unreached : (i j t s : ℕ) → i < height g n → j < g.width → has_some (rects g received n) i j ≡ false → t < band_rows g n → s < c → free t s ≡ true → Reaches t i → Reaches s j → ⊥
   unreached i j t s inside across none tall few gone row column = by (is_lost g received (t * c + s)) (nat_le r t) refl refl gone
     where

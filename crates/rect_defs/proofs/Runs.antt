@@ -40,7 +40,7 @@ module _ (columns : ℕ) (lost : ℕ → Bool) where
     going = λ k low high. let same : k ≡ block = omega (arith, low, high) in ap lost same ∙ e;
   }
 
-  -- or where that of the block before it begins
+  -- or at the beginning of the run of the block before it
   further : (block column : ℕ) → block % columns ≡ suc column → (block - 1) % columns ≡ column → suc column ≤ block → lost block ≡ true → RunOf (block - 1) → RunOf block
   further block column at before some e r = record {
     first = r.first;
@@ -72,7 +72,7 @@ module _ (columns : ℕ) (lost : ℕ → Bool) where
       by true f rest = rest f
       by false f rest = here block e (or_not (block % columns == 0) (lost (block - 1)) f)
 
-  -- it goes on up to the block
+  -- it continues up to the block
   pub run_long : (block : ℕ) → 0 < columns → (r : RunOf block) → SameRow columns block r.first (block % columns + r.first - block) → block < r.first + run_length columns lost r.first
   run_long block some r same =
       let low : block % columns < columns = mod_below block columns some in

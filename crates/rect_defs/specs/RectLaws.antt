@@ -18,7 +18,7 @@ has_pixel i j rect = (nat_le rect.first_row i && nat_le i rect.last_row) && (nat
 abbrev pub has_some : List Rect → (row column : ℕ) → Bool
 has_some rects i j = list_any (has_pixel i j) rects
 
--- a missing block of these block rows, of a number of columns each, reaches a pixel by its row and by its column
+-- a missing block of these block rows, with this number of columns each, reaches a pixel by its row and by its column
 abbrev pub is_reached : (block_rows columns : ℕ) → (lost : ℕ → Bool) → (row column : ℕ) → Bool
 is_reached block_rows columns lost i j =
     list_any (λ block. lost block && (reaches (block / columns) i && reaches (block % columns) j)) (range_with_len 0 (block_rows * columns))
@@ -33,7 +33,7 @@ pub record RectsAreReach : Type 0 where
   pub alone : (rows width block_rows : ℕ) (p q : ℕ → Bool) → 0 < width → ((block : ℕ) → block < block_rows * block_count width → p block ≡ q block) →
       rects_of rows width block_rows p ≡ rects_of rows width block_rows q
 
--- two images of a number of rows and columns have the same pixels outside these rectangles
+-- two images with this number of rows and columns have the same pixels outside these rectangles
 pub record SameOutsideRects (rows width : ℕ) (rects : List Rect) (a b : ℕ → ℕ → ℤ) : Type 0 where
   pub at : (i j : ℕ) → i < rows → j < width → has_some rects i j ≡ false → a i j ≡ b i j
 

@@ -12,7 +12,7 @@ use Rattle.rect_defs.specs.declared.rect.Rect.{Rect}
 abbrev pub begins_run : (columns : ℕ) → (lost : ℕ → Bool) → (block : ℕ) → Bool
 begins_run columns lost block = lost block && ((block % columns == 0) || not (lost (block - 1)))
 
--- the missing blocks that follow one another from this one on in its block row
+-- the number of consecutive missing blocks from this one on in its block row
 abbrev pub run_length : (columns : ℕ) → (lost : ℕ → Bool) → (block : ℕ) → ℕ
 run_length columns lost block = prefix_len lost (range_with_len block (columns - block % columns))
 

@@ -1,6 +1,6 @@
 // Missing blocks of an image.
 
-/// Missing blocks that follow one another, all that do: the numbers of the first and of the last, in raster order.
+/// A maximal run of consecutive missing blocks: the numbers of the first and of the last, in raster order.
 #[derive(Clone, Copy, Debug, PartialEq, Eq)]
 pub struct Gap {
     pub first: u64,

@@ -1,4 +1,4 @@
-// Laws of rectangles.
+// The laws of rectangles.
 ghost use Rattle.rect_defs.specs.Gaps.{GapsGiveRects};
 ghost use Rattle.rect_defs.specs.RectLaws.{RectsAreReach, LossesStayInRects};
 

@@ -1,4 +1,4 @@
-//! Definitions of the rectangles of a picture that missing blocks reach.
+//! The definitions of the rectangles of a picture that missing blocks reach.
 #![tactic(auto)]
 
 mod gap;

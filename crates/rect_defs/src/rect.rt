@@ -1,6 +1,6 @@
 // Rectangles of a picture.
 
-/// The pixels from a first to a last row and from a first to a last column; these four are among them (docs/formats.md, "Picture and damage").
+/// The pixels from a first to a last row and from a first to a last column, all four included (docs/formats.md, "Picture and damage").
 #[derive(Clone, Copy, Debug, PartialEq, Eq)]
 pub struct Rect {
     pub first_row: u32,

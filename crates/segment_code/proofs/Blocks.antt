@@ -11,7 +11,7 @@ use Rattle.segment_defs.proofs.Sizes.{size_of-least}
 use Rattle.segment_code.specs.Numbers.{AreBounded}
 use Rattle.segment_code.proofs.SizeBits.{greatest-within, greatest-push}
 
--- the blocks before one of this index, and it
+-- the blocks before the block of this index, and that block
 abbrev pub blocks_before : List ℤ → ℕ → List (List ℤ)
 blocks_before cells i = map (block_at cells) (range_with_len 0 i)
 

@@ -1,4 +1,4 @@
--- A text without a limit never reaches the bound: an item that isn't given has few bits.
+-- A text without a limit never reaches the bound: an item that is not given has few bits.
 use Rattle.std.proofs.Common.{◌≡◌, ℕ, zero, suc, ◌+◌, ◌^◌, ◌<◌, ◌≤◌, inl, inr, List, [], ◌∷◌, ◌++◌, length, take, drop, get_or, Bool, true, false, cond, eqb, refl, sym, ap, ◌∙◌, subst, append_assoc, arith, ℤ, length-append}
 use Rattle.std.proofs.lemmas.Bool.{cases_lt}
 use Rattle.std.proofs.lemmas.Bool.Decides.{nat_tests}
@@ -29,9 +29,9 @@ use Rattle.text_defs.proofs.SegmentItems.{depth_bits_few}
 use Rattle.text_defs.proofs.SoundItems.{shape_at, segment_shapes}
 use Rattle.segment_code.proofs.TextBits.{texts_are_short}
 
--- ---- in enough bits some spelling stands first
+-- ---- enough bits begin with a code of the shape
 
--- a unary part is as long as its limit at most, and some code begins any eight bits
+-- a unary part is at most as long as its limit, and any eight bits begin with some code
 pub data IsShort (book : Book) (s : Shape) : Type 0 where
   is_fixed : (w : ℕ) → s ≡ fixed w → IsShort book s
   is_zeros : (limit : ℕ) → limit ≤ 1024 → s ≡ zeros_to limit → IsShort book s
@@ -106,7 +106,7 @@ item_within (i ∷ is) (suc m) lt =
     let rest = item_within is m (omega (arith, lt)) in
     omega (arith, rest, ap length (text-cons i is), length-append (item_bits i) (text is), ap length (text-cons i (take m is)), length-append (item_bits i) (text (take m is)))
 
--- bits in which no spelling of an item stands first are few
+-- bits that begin with no code of an item are few
 brief_at : (book : Book) → is_book_sound book ≡ true → (i : Item) (bits : List Bool) → IsShort book i.form.shape → Lacks i.form.shape bits → length bits ≤ 1024 + length (item_bits i)
 brief_at book sound i bits (is_fixed w e) lacks =
     let few = fixed_first w bits (subst (λ s. Lacks s bits) e lacks) in

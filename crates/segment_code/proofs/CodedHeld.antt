@@ -1,4 +1,4 @@
--- A coded text holds something: all items are read, or those before the cut.
+-- A coded text holds values: all items are read, or those before the cut.
 use Rattle.std.proofs.Common.{◌≡◌, ℕ, ◌+◌, ◌-◌, ◌*◌, ◌/◌, ◌<◌, ◌≤◌, inl, inr, max, Bool, true, false, cond, List, ◌++◌, length, take, drop, refl, ap, sym, ◌∙◌, subst, arith, ℤ, get_or, length-append, append_assoc}
 use Rattle.std.specs.Prelude.{◌==◌}
 use Rattle.std.proofs.lemmas.Bool.{cases_lt, cases_Bool}
@@ -50,7 +50,7 @@ module _ (book : Book) (h : SegmentHead) (blocks : List (List ℤ)) (ok : IsHead
   abbrev zeros : List Bool
   zeros = copies (padding h.image.word h.limit h.fill (length (coded_bits book h blocks))) false
 
-  -- what stands after the head, before the cut
+  -- the bits after the head, before the cut
   abbrev after : List Bool
   after = text items ++ zeros
 

@@ -1,4 +1,4 @@
--- The options that a writer takes are there, and no block depth is above the head's.
+-- The options that a writer chooses exist, and no block depth is above the head's.
 use Rattle.std.proofs.Common.{◌≡◌, ℕ, zero, suc, ◌<◌, ◌≤◌, max, Bool, true, false, List, [], ◌∷◌, refl, arith, ℤ, get_or}
 use Rattle.std.specs.Prelude.{map, filter, nat_le, fold, ◌||◌, not}
 use Rattle.std.specs.List.{list_all, AllByRecursion}

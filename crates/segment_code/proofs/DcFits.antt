@@ -20,7 +20,7 @@ dc_cell cells r =
     let place : 64 * r + 0 ≡ r * 64 = omega arith in
     get_or-take 64 (drop (64 * r) cells) 0 (pos 0) (omega arith) ∙ get_or-drop (64 * r) cells 0 (pos 0) ∙ ap (λ k. get_or cells k (pos 0)) place
 
--- the DC numbers of the blocks are every 64th cell
+-- the DC numbers of the blocks are the cells 0, 64, 128 and so on
 pub dcs_strided : (cells : List ℤ) (n : ℕ) → length cells ≡ 64 * n → dcs_of (blocks_in cells) ≡ strided 64 cells
 unfolding blocks_in strided
 dcs_strided cells n e =

@@ -1,4 +1,4 @@
--- Blocks of which a text gives the DC alone.
+-- Blocks of which a text gives only the DC.
 use Rattle.std.proofs.Common.{◌≡◌, ℕ, zero, suc, ◌+◌, ◌-◌, ◌*◌, ◌/◌, ◌%◌, ◌^◌, ◌<◌, ◌≤◌, Bool, true, false, cond, List, [], ◌∷◌, length, map, eqb, refl, ap, ◌∙◌, arith, ℤ, pos, get_or, length-append}
 use Rattle.std.specs.Prelude.{◌&&◌, ◌||◌, ◌==◌, neg_ℤ, ◌+ℤ◌, ◌*ℤ◌, nat_lt, nat_le}
 use Rattle.std.specs.Int.{int_shr}
@@ -27,7 +27,7 @@ use Rattle.text_defs.proofs.GivesAll.{span_long, numbers_fit}
 use Rattle.segment_code.proofs.GivenTests.{at_least_test, less_test, absorbs}
 use Rattle.segment_code.proofs.LowParts.{sum_zeros}
 
--- ---- a block with this DC, of which all else is 0
+-- ---- a block with this DC, in which all other numbers are 0
 
 abbrev pub zeros : List ℤ
 zeros = map (λ i. pos 0) (span 1 63)
@@ -77,7 +77,7 @@ module _ (head : SegmentHead) (values : List (List ℤ)) (depths : List ℕ) (op
           sum_alike _ (λ b. 0) (span 0 head.depth_ac) (all_span _ 0 head.depth_ac (λ b low high. none_at (has_bit head values depths options m r p b) (bit (magnitude (block_of values r) p) b) (2 ^ b) (no_bit (magnitude (block_of values r) p) b e)))
           ∙ sum_zeros (span 0 head.depth_ac)
 
-  -- a DC each of whose low ones is given
+  -- a DC of which each low bit is given
   pub dc_whole : dc_through head values options r ≤ m → ((b : ℕ) → b < q_of head → (complement 1 (int_shr (dc_of (block_of values r)) b) == 1) ≡ true → (is_dc_bit_given head values options m r b || has_bit head values depths options m r 0 b) ≡ true) →
       given_dc head values depths options m r ≡ dc_of (block_of values r)
   dc_whole through bits =
@@ -99,7 +99,7 @@ pub either_given : (a b c : Bool) → (a ≡ false → c ≡ false) → c ≡ tr
 either_given true b c f e = refl
 either_given false b c f e = absurd (let z = f refl in cc)
 
--- the number of each DC stands in the DC part
+-- the number of each DC is in the DC part
 pub through_within : (head : SegmentHead) (values : List (List ℤ)) (options : Options) (r : ℕ) → r < length values → dc_through head values options r ≤ length (dc_part_items head values options)
 unfolding dc_items
 through_within head values options r lt =
@@ -112,7 +112,7 @@ through_within head values options r lt =
     by_bits N q true = omega (arith, length-map (dcs_of values) (dc_bit q), length-map values dc_of, lt)
     by_bits N q false = numbers_fit (dc_kind N) (map (shifted_height true N q) (dcs_of values)) options.dcs r (omega (arith, length-map (dcs_of values) (shifted_height true N q), length-map values dc_of, lt))
 
--- a bit of the DC part stands in it
+-- a bit of the DC part is in it
 pub dc_bit_there : (head : SegmentHead) (values : List (List ℤ)) (options : Options) (m r c : ℕ) → head.depth_ac ≤ c → dc_shift head ≤ c → c < q_of head → r < length values → length (dc_part_items head values options) ≤ m →
     is_dc_bit_given head values options m r c ≡ true
 dc_bit_there head values options m r c past over under count given =

@@ -1,4 +1,4 @@
--- What the DC part of a segment gives, where nothing is given after it.
+-- What the DC part of a segment gives, if nothing is given after it.
 use Rattle.std.proofs.Common.{◌≡◌, ◌⊎◌, ℕ, ◌+◌, ◌-◌, ◌*◌, ◌^◌, ◌<◌, ◌≤◌, inl, inr, Bool, true, false, cond, List, [], length, map, drop, refl, sym, ap, ◌∙◌, subst, arith, ℤ, pos, get_or, length-drop, length-take}
 use Rattle.std.specs.Prelude.{◌&&◌, ◌||◌, ◌==◌, nat_lt, nat_le, unsigned_abs, Result}
 use Rattle.std.specs.Int.{int_shr}
@@ -36,7 +36,7 @@ use Rattle.segment_code.proofs.GivenParts.{block_is}
 use Rattle.segment_code.proofs.GivenTests.{no_both}
 use Rattle.segment_code.proofs.LowParts.{low_zero, multiple_from, lesser}
 
--- ---- a multiple in its DC, and 0 besides
+-- ---- a multiple in its DC, and 0 elsewhere
 
 pub dc_multiple : (z : ℤ) (weights : List ℕ) (part : ℕ) → unsigned_abs z ≡ 2 ^ shift weights 0 * part → IsMultiple (dc_block z) weights
 dc_multiple z weights part e = record { part = λ p. by_place p (cases_lt 0 p); whole = λ p. whole p (cases_lt 0 p) }
@@ -66,7 +66,7 @@ module _ {I : Type 0} {k : SourceOf I} {a b : Coming I} {result : Result Part Te
   pub now_long : length now ≡ 64 * head.blocks
   now_long = t.cells.size ∙ long
 
-  -- the low bits that don't stand in the DC part are 0
+  -- the low bits that are not in the DC part are 0
   bits_low : (r b : ℕ) → r < length t.dcs → b < low_bits head → (complement 1 (int_shr (get_or t.dcs r (pos 0)) b) == 1) ≡ false
   bits_low r b lt low = ap (λ x. x == 1) (t.bits r b lt (omega (arith, low)) (no_both _ _ test))
     where
@@ -133,7 +133,7 @@ module _ {I : Type 0} {k : SourceOf I} {a b : Coming I} {result : Result Part Te
         ap (λ ds. is_plane_bit_given (q_of head) (dc_planes head.depth_dc head.depth_ac (dc_shift head)) (length (high_items (dc_bits head.depth_dc head.depth_ac (dc_shift head)) (q_of head) ds t.options)) (length values) m r b) (dcs_back t.dcs)
         ∙ ap (λ n. is_plane_bit_given (q_of head) (dc_planes head.depth_dc head.depth_ac (dc_shift head)) (length (high_items (dc_bits head.depth_dc head.depth_ac (dc_shift head)) (q_of head) t.dcs t.options)) n m r b) (length-map t.dcs dc_block)
 
-    -- so many items of the DC part are given
+    -- this number of items of the DC part are given
     abbrev read : ℕ
     read = items_read (length (dc_items head.depth_dc head.depth_ac (dc_shift head) t.dcs t.options)) t.ending
 

@@ -1,4 +1,4 @@
--- What the items that were read and the octets after them say of a text that ends by itself.
+-- What the items that were read and the octets after them say of a text that has no end from outside.
 use Rattle.std.proofs.Common.{◌≡◌, ◌⊎◌, ℕ, ◌+◌, ◌*◌, ◌/◌, ◌^◌, ◌<◌, ◌≤◌, inl, inr, Bool, true, false, cond, List, [], ◌∷◌, ◌++◌, length, take, refl, sym, ap, ◌∙◌, subst, arith, ℤ, append_assoc, length-append}
 use Rattle.std.specs.Prelude.{◌≢◌, ◌==◌, Result, Ok, Err}
 use Rattle.std.specs.Int.{div_ceil}
@@ -70,7 +70,7 @@ module _ {I : Type 0} (k : SourceOf I) (head : SegmentHead) (size : ℕ) (old : 
     abbrev items : List Item
     items = segment_items head values depths options
 
-    -- in the octets that were taken
+    -- the items in the octets that were taken
     pub items_here : (m : ℕ) (next : List Bool) → bits ≡ text (take m items) ++ next → m ≤ length items → AreItems (take m items) → ItemsIn head size p.octets values depths options m (next ++ stop.pending)
     items_here m next e le are = record {
       spellable = spellable;
@@ -79,7 +79,7 @@ module _ {I : Type 0} (k : SourceOf I) (head : SegmentHead) (size : ℕ) (old : 
       within = within;
     }
 
-    -- and in those with more after them
+    -- the items in those octets with more after them
     pub items_then : (m : ℕ) (next : List Bool) → bits ≡ text (take m items) ++ next → m ≤ length items → AreItems (take m items) → (more : List ℕ) → (head.limit ≢ 0 → size + length (p.octets ++ more) ≤ head.limit) →
         ItemsIn head size (p.octets ++ more) values depths options m (next ++ (stop.pending ++ bits_of_octets more))
     items_then m next e le are more fits = record {
@@ -95,7 +95,7 @@ module _ {I : Type 0} (k : SourceOf I) (head : SegmentHead) (size : ℕ) (old : 
       within = fits;
     }
 
-  -- ---- what was asked for, joined
+  -- ---- the octets that were asked for, joined
 
   source_is : (new : I) (more : List ℕ) → Comes (k.tail stop.source) (k.tail new) more → Comes (k.tail old) (k.tail new) (p.octets ++ more)
   source_is new more q = subst (λ s. Comes (k.tail s) (k.tail new) (p.octets ++ more)) begins.source (comes_then (k.tail start.source) (k.tail stop.source) (k.tail new) p.octets more p.came q)
@@ -269,7 +269,7 @@ module _ {I : Type 0} (k : SourceOf I) (head : SegmentHead) (size : ℕ) (old : 
     follows : NothingFollows (segment_items head values depths options) m q.some
     follows = record { within = q.within; lacks = q.lacks }
 
-    -- the input is over below the limit
+    -- the input is at its end below the limit
     over : (head.limit ≡ 0) ⊎ (stop.used < 8 * head.limit) → (stop.pending ≡ []) × IsOver (k.tail stop.source) Plainly
     over below = by_end is_end.bits below
       where

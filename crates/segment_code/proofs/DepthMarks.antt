@@ -1,4 +1,4 @@
--- Marks that hold the depths of their blocks alone.
+-- States of blocks that hold only the depths of their blocks.
 use Rattle.std.proofs.Common.{◌≡◌, ℕ, suc, ◌*◌, ◌/◌, ◌<◌, ◌≤◌, List, [], ◌∷◌, length, refl, ap, ◌∙◌, arith, get_or}
 use Rattle.std.specs.Prelude.{ℤ, pos, map}
 use Rattle.std.proofs.lemmas.Int.{ints}
@@ -19,12 +19,12 @@ pub length-blocks_in : (cells : List ℤ) (n : ℕ) → length cells ≡ 64 * n 
 unfolding blocks_in
 length-blocks_in cells n e = length-map-range_with_len (block_at cells) 0 (length cells / 64) ∙ omega (arith, e)
 
--- as the writer of depths reads them
+-- the depths as the writer of depths reads them
 pub plain_depths : (ds : List ℕ) → plain.depths_of (map pos ds) ≡ ds
 plain_depths [] = refl
 plain_depths (d ∷ ds) = ap (λ l. d ∷ l) (plain_depths ds)
 
--- as the writer of planes reads them
+-- the depths as the writer of planes reads them
 pub low_depths : (ds : List ℕ) → ((r : ℕ) → get_or ds r 0 < 32) → depths_of (map pos ds) ≡ ds
 unfolding depths_of
 low_depths [] low = refl

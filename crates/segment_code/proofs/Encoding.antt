@@ -22,11 +22,11 @@ use Rattle.segment_head.proofs.WrittenFields.{octets_of-append}
 use Rattle.segment_code.specs.Text.{GivesText, BreaksWithin}
 use Rattle.segment_code.proofs.TextOctets.{IsLimit, padded_within, text_within, text_unlimited, text_cut}
 
--- a text of so many bits has no limit and is short, or has a limit of whole words
+-- a text of this number of bits has no limit and is short, or has a limit of whole words
 abbrev pub IsBounded : (word limit : ℕ) (fill : Bool) (count : ℕ) → Type 0
 IsBounded word limit fill count = ((1 ≤ word) × (word ≤ 4) × (limit ≡ 0) × (fill ≡ false) × (count + 32 ≤ 2 ^ 35)) ⊎ IsLimit word limit
 
--- octets whose bits stand first in a text are the text's first
+-- octets whose bits are a prefix of a text are the text's first octets
 front_of : (octets : List ℕ) (bits more zeros : List Bool) → AreOctets octets → bits ≡ bits_of_octets octets ++ more → octets_of (bits ++ zeros) ≡ octets ++ octets_of (more ++ zeros)
 front_of octets bits more zeros small e =
     ap (λ r. octets_of (r ++ zeros)) e
@@ -146,7 +146,7 @@ module _ {S : Type 0} (k : SinkOf S) (out : S) (s t : Standing S) (word limit : 
       by_result (Ok n) same m = subst (λ text. GivesText k out u text n) same m
       by_result (Err e) same m = subst (BreaksWithin k out u) same m
 
--- ---- as many bits as fit were put
+-- ---- exactly the bits that fit were put
 
 -- all bits were put
 pub fits_whole : {S : Type 0} {k : SinkOf S} {s t : Standing S} {bits : List Bool} → Adds k s t bits → Adds k s t (take s.room bits)
@@ -167,7 +167,7 @@ module _ {S : Type 0} (k : SinkOf S) (out : S) (s t : Standing S) (word limit : 
     | inr ge ↦ closed k out s t word limit fill bits begins is_open none r b (subst (Adds k s t) (take_all s.room bits ge) p) c
   ]
 
--- the sink stands so at the return too
+-- the sink has the same state at the return
 pub told : {S E : Type 0} (k : SinkOf S) (out : S) (r : Result ℕ E) (book : Book) (h : SegmentHead) (blocks : List (List ℤ)) (u v : S) → u ≡ v →
     MatchResult r (λ octets. GivesText k out u (text_octets h.image.word h.limit h.fill (coded_bits book h blocks)) octets) (λ _. BreaksWithin k out u (text_octets h.image.word h.limit h.fill (coded_bits book h blocks))) →
     MatchResult r (λ octets. GivesText k out v (coded book h blocks) octets) (λ _. BreaksWithin k out v (coded book h blocks))

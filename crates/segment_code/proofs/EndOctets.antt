@@ -18,7 +18,7 @@ use Rattle.segment_code.specs.declared.decode.SegmentFault.TheVariants.{ShortSeg
 use Rattle.segment_code.specs.Faults.{of_input}
 use Rattle.segment_code.specs.TextEnds.{EndsLength, Passes}
 
--- so many octets came
+-- this number of octets was read
 pub record HaveCome {I : Type 0} (k : SourceOf I) (count : ℕ) (old new : I) : Type 0 where
   pub octets : List ℕ
   pub long : length octets ≡ count
@@ -58,7 +58,7 @@ module _ {I : Type 0} {k : SourceOf I} where
   pub ends_short : {a b c : I} (n count : ℕ) (part : Part) → n < count → HaveCome k n a b → GivesOctet k (Ok None) b c → Passes k count part (Err ShortSegment) a c
   ends_short n count part lt p q = let e = no_more p q.ends.0 q.faults q.went in ends_so e count part (Err ShortSegment) (omega (arith, e.long, lt), q.ends.1)
 
-  -- all of them came
+  -- all of them were read
   pub ends_there : {a b : I} (n count : ℕ) (part : Part) → n ≡ count → HaveCome k n a b → Passes k count part (Ok part) a b
   ends_there n count part same p = ends_so p count part (Ok part) (refl, p.long ∙ same)
 

@@ -22,7 +22,7 @@ use Rattle.plane_defs.proofs.SpanLists.{length-chosen, length-map-span, get_or-m
 use Rattle.plane_defs.proofs.StepItems.{AreOptionsOf}
 use Rattle.plane_defs.proofs.Tables.{code_len}
 
--- ---- a raw bit takes a bit; a word takes its option's identifier and a code at most
+-- ---- a raw bit takes one bit; a word takes at most its option's identifier and a code
 
 abbrev pub most_bits : Entry → ℕ
 most_bits (Bit b) = 1
@@ -124,6 +124,6 @@ unfolding span
 length_span start zero = refl
 length_span start (suc count) = omega (arith, length_span start count, length-append (span start count) ((start + count) ∷ []))
 
--- no more is chosen of a span than there is
+-- no more elements of a span are chosen than it has
 pub chosen_few : (p : ℕ → Bool) (start count : ℕ) → length (filter p (span start count)) ≤ count
 chosen_few p start count = omega (arith, length-chosen (λ k. k) p start count, length-map (filter p (span start count)) (λ k. k))

@@ -1,4 +1,4 @@
--- A text read from an input that stands after the head, with the end that was found.
+-- A text read from an input that is after the head, with the end that was found.
 use Rattle.std.proofs.Common.{◌≡◌, ℕ, ◌*◌, ◌≤◌, List, length, take, sym, ap, ◌∙◌, subst, ℤ}
 use Rattle.std.specs.Prelude.{Result, Ok, Err}
 use Rattle.item_defs.specs.Readings.{AreItems, whole, ended, refused}

@@ -19,7 +19,7 @@ less_test a b lt = grind (arith, nat_tests)
 pub not_less_test : (a b : ℕ) → b ≤ a → nat_lt a b ≡ false
 not_less_test a b le = grind (arith, nat_tests)
 
--- what holds wherever a bit is 1 makes no difference to it
+-- a condition that holds whenever a bit is 1 does not change the bit
 pub absorbs : (h c : Bool) → (c ≡ true → h ≡ true) → (h && c) ≡ c
 absorbs true c f = refl
 absorbs false true f = f refl

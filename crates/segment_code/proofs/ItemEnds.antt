@@ -26,7 +26,7 @@ none_long : (l : List ℕ) → length l ≡ 0 → l ≡ []
 none_long [] e = refl
 none_long (x ∷ l) e = absurd (omega (arith, e))
 
--- a front of octets is one of more octets
+-- a prefix of octets is one of more octets
 further : {items : List Item} {m : ℕ} {left : List Bool} (rest more : List ℕ) → Front items m (bits_of_octets rest) left → Front items m (bits_of_octets (rest ++ more)) (left ++ bits_of_octets more)
 further {items} {m} {left} rest more p = record {
   within = p.within;
@@ -41,7 +41,7 @@ end_of head size rest items m left (inr cut) = (nothing_follows, cut.0)
 
 module _ (head : SegmentHead) (size : ℕ) (is js : List Item) (same : ItemsAlike is js) (back : ItemsAlike js is) (rest more : List ℕ) (m n : ℕ) (left other : List Bool)
     (a : Front is m (bits_of_octets rest) left) (b : Front js n (bits_of_octets (rest ++ more)) other) where
-  -- where all items are given in the first octets, they are all in the others too
+  -- if all items are given in a prefix of some octets, they are all in these octets too
   same_count : m ≡ length is → (s : End) → EndsSo js n other s → m ≡ n
   same_count whole s ends = elim (cases_lt m n) [
     | inl lt ↦ absurd (no_earlier_end is js (bits_of_octets (rest ++ more)) same m n (left ++ bits_of_octets more) other all_given lt (further rest more a) b whole)
@@ -62,7 +62,7 @@ module _ (head : SegmentHead) (size : ℕ) (is js : List Item) (same : ItemsAlik
       let second : bits_of_octets (rest ++ more) ≡ text js ++ other = fb.read ∙ ap (λ l. text l ++ other) (ap (λ k. take k js) whole_js ∙ take-length js) in
       (sym e ∙ whole_js, omega (arith, ap length first, ap length second, length-append (text is) (left ++ bits_of_octets more), length-append (text js) other, ap length r.1))
 
-  -- no octets follow the first
+  -- no octets follow the prefix
   none_more : AreAll head size rest is m left → AreAll head size (rest ++ more) js n other → (head.limit ≢ 0 → size + length (rest ++ more) ≤ head.limit) → length more ≡ 0
   none_more (inr (follows, some, full)) all within = omega (arith, full, within some, length-append rest more)
   none_more (inl whole) (inr cut) within =
@@ -84,7 +84,7 @@ no_prefix book head size rest more v w p q fits a b =
 
 -- ---- they hold one list of blocks
 
--- the same head without a limit: items and what they give don't depend on it
+-- the same head without a limit: items, and what they give, do not depend on it
 abbrev unlimited : SegmentHead → SegmentHead
 unlimited h = record {
   first = h.first;

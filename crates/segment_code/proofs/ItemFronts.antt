@@ -1,4 +1,4 @@
--- Fronts of lists of items, none of which is refused.
+-- Prefixes of lists of items, of which none is refused.
 use Rattle.std.proofs.Common.{ℕ, zero, suc, ◌≤◌, List, [], ◌∷◌, length, take, arith}
 use Rattle.item_defs.specs.Items.{Item}
 use Rattle.item_defs.specs.Readings.{AreItems, whole, ended, refused}

@@ -1,4 +1,4 @@
--- What octets that end by themselves say of a segment's text, whose end the input gives.
+-- What octets that have no end from outside say of a segment's text whose end the input gives.
 use Rattle.std.proofs.Common.{◌≡◌, ◌⊎◌, ℕ, ◌+◌, ◌-◌, ◌≤◌, inl, inr, Bool, true, false, cond, List, [], ◌∷◌, ◌++◌, length, take, refl, sym, ap, ◌∙◌, subst, arith, ℤ, append_assoc, length-append}
 use Rattle.std.specs.Prelude.{◌≢◌, ◌==◌, Result, Option, None, Some, Ok, Err}
 use Rattle.std.proofs.lemmas.Bool.Decides.{nat_tests}
@@ -53,7 +53,7 @@ module _ (head : SegmentHead) where
       by_limit true n = no_octets
       by_limit false n = ap bits_of_octets (take_all n [] (omega arith)) ∙ no_octets
 
-  -- behind the limit no bits are read
+  -- after the limit no bits are read
   full_further : (rest further : List ℕ) → head.limit ≢ 0 → head_length head + length rest ≡ head.limit → bits_further rest further ≡ []
   unfolding bits_further
   full_further rest further some full =

@@ -126,7 +126,7 @@ planes_few q dcs (suc n) =
 
 -- ---- the DC part
 
--- options that there are, for so many numbers of N bits
+-- options that exist, for this number of numbers of N bits
 abbrev Known : (N count : ℕ) (options : ℕ → ℕ) → Type 0
 Known N count options = (g : ℕ) → g < gaggle_count count → is_option N (options g) ≡ true
 

@@ -38,7 +38,7 @@ sum_split F g b (suc w) lt none same =
 
 -- ---- magnitudes
 
--- the bits from this one on
+-- the part of the magnitude from this bit on
 abbrev pub upper : (n w : ℕ) → ℕ
 upper n w = 2 ^ w * (n / 2 ^ w)
 
@@ -60,7 +60,7 @@ magnitude_given F n b w lt small none same =
     let whole : sum_by (λ c. bit_weight n c) (span 0 w) ≡ n = sum_bits n w ∙ mod-eq_of_lt small in
     omega (arith, sum_split F (λ c. bit_weight n c) b w lt none same, a, whole, upper_split n (b + 1))
 
--- a multiple that agrees above
+-- a multiple that is the same above
 pub upper_from : (n m w part : ℕ) → n ≡ 2 ^ w * part → n / 2 ^ w ≡ m / 2 ^ w → n ≡ upper m w
 upper_from n m w part e same =
     let f : n ≡ part * 2 ^ w + 0 = omega (arith, e) in
@@ -76,7 +76,7 @@ upper_least n w = omega (arith, upper_split n w)
 
 -- ---- numbers of either sign
 
--- a number from this bit on
+-- the part of a number from this bit on
 abbrev pub cut : (z : ℤ) (w : ℕ) → ℤ
 cut z w = lifted (int_shr z w) w
 
@@ -97,7 +97,7 @@ cut_parts z w =
 pub cut_whole : (z : ℤ) (w : ℕ) → complement w z ≡ 0 → cut z w ≡ z
 cut_whole z w e = let p = cut_parts z w in omega (arith, ints, p, e)
 
--- a number without low bits that agrees above
+-- a number without low bits that is the same above
 pub cut_from : (y z : ℤ) (w : ℕ) → complement w y ≡ 0 → int_shr z w ≡ int_shr y w → y ≡ cut z w
 cut_from y z w low same = sym (ap (λ x. lifted x w) same ∙ cut_whole y w low)
 

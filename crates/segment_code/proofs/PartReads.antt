@@ -103,7 +103,7 @@ module _ {I : Type 0} {k : SourceOf I} {a b : Coming I} {result : Result Part Te
   part_is : dc_part_items head (dc.values head t clear long) only ≡ part
   part_is = dc.part_is head t clear long book no_numbers no_words
 
-  -- the number of a DC isn't whole where it isn't given
+  -- the number of a DC is not whole if it is not given
   no_more : (numbers : ℕ → ℕ) (words : ℕ → ℕ → List ℕ) (n r : ℕ) → n ≡ m → r < head.blocks → t.given ≤ r → n < dc_through head (dc.values head t clear long) (dc.options head t clear long book numbers words) r
   no_more numbers words n r e lt past = elim (cases_lt n (dc_through head (dc.values head t clear long) (dc.options head t clear long book numbers words) r)) [
     | inl less ↦ less
@@ -193,7 +193,7 @@ module _ {I : Type 0} {k : SourceOf I} {a b : Coming I} {result : Result Part Te
       depths_all : length d.depths ≡ head.blocks
       depths_all = d.all ∙ count
 
-      -- so many of their items are read
+      -- the number of their items that were read
       abbrev d_read : ℕ
       d_read = items_read (length depths_part) d.ending
 

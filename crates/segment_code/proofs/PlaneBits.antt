@@ -87,7 +87,7 @@ block_most stages.Refinement block d weights plane q = where_sent (nat_lt plane 
 
 -- ---- a plane
 
--- the stages before this one
+-- the bits of the stages before this one
 abbrev stages_most : ℕ → ℕ
 stages_most zero = 0
 stages_most (suc k) = stages_most k + stage_most (stage_number k)

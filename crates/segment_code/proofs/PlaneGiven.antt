@@ -1,4 +1,4 @@
--- What a text gives of a block where its planes are read down to one, and that one as far as it goes.
+-- What a text gives of a block if its planes are read down to one plane, and that one up to where the text ends.
 use Rattle.std.proofs.Common.{◌≡◌, ◌⊎◌, ℕ, zero, suc, ◌+◌, ◌-◌, ◌*◌, ◌/◌, ◌^◌, ◌<◌, ◌≤◌, min, inl, inr, Bool, true, false, cond, List, length, refl, sym, ap, ◌∙◌, arith, ℤ, pos, get_or}
 use Rattle.std.specs.Prelude.{◌&&◌, ◌||◌, ◌==◌, neg_ℤ, ◌+ℤ◌, ◌*ℤ◌, nat_lt, unsigned_abs}
 use Rattle.std.specs.Int.{int_shr}
@@ -36,7 +36,7 @@ use Rattle.segment_code.proofs.GivenTests.{at_least, at_least_test, below_test, 
 use Rattle.segment_code.proofs.NumberCuts.{sum_split, sum_below, upper, magnitude_given, upper_from, cut, cut_from, dc_parts}
 use Rattle.segment_code.proofs.StepFacts.{ArePlain, all_plain, sign_reached, no_dc_bit}
 
--- one of some numbers alone passes a test
+-- exactly one of some numbers passes a test
 any_alone : (f : ℕ → Bool) (p w : ℕ) → p < w → ((c : ℕ) → c < w → (c ≡ p → ⊥) → f c ≡ false) → list_any f (span 0 w) ≡ f p
 any_alone f p zero lt others = absurd (omega arith)
 any_alone f p (suc w) lt others =
@@ -63,7 +63,7 @@ any_alone f p (suc w) lt others =
         let same : w ≡ p = omega arith in
         ap (λ b. b || f w) (none w (omega (arith, same)) (omega arith)) ∙ ap f same
 
--- the sign that stood there, or came now
+-- the sign that was there before, or was read now
 signs_agree : (nb hb ns hs : Bool) → ((nb ≡ ns) × (ns ≡ true → hs ≡ true)) ⊎ ((nb ≡ false) × (ns ≡ true → hs ≡ hb)) → (nb || (hb && ns)) ≡ (hs && ns)
 signs_agree nb hb true hs (inl h) = ap (λ b. b || (hb && true)) h.0 ∙ sym (ap (λ b. b && true) (h.1 refl))
 signs_agree nb hb false hs (inl h) = ap (λ b. b || (hb && false)) h.0 ∙ none hb ∙ sym (none hs)
@@ -131,7 +131,7 @@ module _ (head : SegmentHead) (values : List (List ℤ)) (depths : List ℕ) (op
     unfolding significant
     stands le = at_least_test (2 ^ (p + 1)) (unsigned_abs (get_or before i (pos 0))) le
 
-    -- a number that was significant above has its sign from there
+    -- a number that was significant above has its sign from the planes above
     sign_above : 2 ^ (p + 1) ≤ n → negative (get_or V i (pos 0)) ≡ true → has_sign head values depths options m r i ≡ true
     sign_above le e =
         let t = top head.depth_ac n (some_size (get_or V i (pos 0)) e) small in
@@ -143,7 +143,7 @@ module _ (head : SegmentHead) (values : List (List ℤ)) (depths : List ℕ) (op
         over t lt (inl high) = high
         over t lt (inr under) = let mono : 2 ^ (t + 1) ≤ 2 ^ (p + 1) = pow_mono (omega arith) in absurd (omega (arith, mono, lt, le))
 
-    -- one that wasn't has none but from this plane
+    -- a number that was not has no sign except from this plane
     sign_here : n < 2 ^ (p + 1) → has_sign head values depths options m r i ≡ has_sign_in (given_in head values depths options m r p) i
     sign_here lt = any_alone (λ c. any_sign i (given_in head values depths options m r c)) p head.depth_ac inside others
       where
@@ -206,7 +206,7 @@ module _ (head : SegmentHead) (values : List (List ℤ)) (depths : List ℕ) (op
     unfolding coded wave_blocks.place_of
     dc_coded c le = at_least_test shift c le
 
-    -- below the depth of AC no bit stands in the DC part
+    -- no bit below BitDepthAC is in the DC part
     in_planes : (c : ℕ) → c < head.depth_ac → c < q → is_dc_bit_given head values options m r c ≡ false
     in_planes c lt under = no_both (nat_lt (q - (c + 1)) (dc_planes head.depth_dc head.depth_ac shift)) _ (not_less_test (q - (c + 1)) (dc_planes head.depth_dc head.depth_ac shift) (omega (arith, lt, under)))
 
@@ -215,7 +215,7 @@ module _ (head : SegmentHead) (values : List (List ℤ)) (depths : List ℕ) (op
         none_without (is_dc_bit_given head values options m r c || has_bit head values depths options m r 0 c) (complement 1 (int_shr z c) == 1) (2 ^ c)
         (ap (λ b. b || has_bit head values depths options m r 0 c) (in_planes c (omega (arith, lt, inside)) under) ∙ (lower c lt 0).0)
 
-    -- a low bit above the plane that isn't 0 is given
+    -- a low bit above the plane that is not 0 is given
     bit_given : (c : ℕ) → p < c → c < q → (complement 1 (int_shr z c) == 1) ≡ true → (is_dc_bit_given head values options m r c || has_bit head values depths options m r 0 c) ≡ true
     bit_given c high under e = by_shift (cases_lt c shift) (cases_lt c head.depth_ac)
       where

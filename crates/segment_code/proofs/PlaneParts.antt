@@ -21,7 +21,7 @@ use Rattle.segment_defs.specs.Depths.{block_depths}
 use Rattle.segment_defs.specs.SegmentItems.{q_of, plane_at, stages_sent, nth_plane}
 use Rattle.segment_code.specs.Parts.{coded_plane}
 
--- the plane of which a call is told
+-- the plane that a call is given
 told_plane : (h : SegmentHead) (cells : List ℤ) (depths : List ℕ) (plan : PlanePlan) (n : ℕ) → depths ≡ block_depths (blocks_in cells) →
     plan.plane ≡ nth_plane h n → plan.q ≡ q_of h → plan.weights ≡ h.image.weights →
     plane_of cells depths plan ≡ plane_at h (blocks_in cells) (block_depths (blocks_in cells)) (nth_plane h n)

@@ -70,7 +70,7 @@ same_number n = grind (arith, nat_tests)
 other_number : (a b : ℕ) → b < a → eqb a b ≡ false
 other_number a b lt = grind (arith, nat_tests)
 
--- the words of one plane are others
+-- one plane has other words
 words_with : (ℕ → ℕ → List ℕ) → ℕ → (ℕ → List ℕ) → ℕ → ℕ → List ℕ
 words_with words p options c = cond (eqb c p) options (words c)
 
@@ -90,7 +90,7 @@ words_known words p options known also b g n low high = by_test (eqb b p)
     by_test true = also g n low high
     by_test false = known b g n low high
 
--- nothing stands after some places
+-- nothing is after some places
 rest_empty : {X : Type 0} (f : ℕ → List X) (a d : ℕ) → ((i : ℕ) → a ≤ i → i < a + d → f i ≡ []) → flat_map f (span 0 (a + d)) ≡ flat_map f (span 0 a)
 rest_empty f a zero none = ap (λ n. flat_map f (span 0 n)) (let z : a + 0 ≡ a = omega arith in z)
 rest_empty f a (suc d) none =
@@ -117,7 +117,7 @@ module _ (head : SegmentHead) (block : List ℤ) (h : HasDc head block) where
       at zero = (2 ^ (low_bits head - dc_shift head) * h.part, lesser (unsigned_abs (get_or block 0 (pos 0))) (low_bits head) (dc_shift head) h.part (omega arith) h.dc)
       at (suc i) = (0, no_number (suc i) (omega arith) ∙ (let e : 0 ≡ 2 ^ shift head.image.weights.shifts (suc i) * 0 = omega arith in e))
 
-  -- the low bits of its DC down from the planes
+  -- the low bits of the block's DC, from the planes down
   dc_low : (w : ℕ) → w ≤ low_bits head → complement w (get_or block 0 (pos 0)) ≡ 0
   dc_low w le = low_of_multiple (get_or block 0 (pos 0)) w (2 ^ (low_bits head - w) * h.part) (lesser (unsigned_abs (get_or block 0 (pos 0))) (low_bits head) w h.part le h.dc)
 
@@ -250,7 +250,7 @@ module _ {I : Type 0} {k : SourceOf I} {book : Book} (head : SegmentHead) (goes_
   abbrev n : ℕ
   n = head.depth_ac - (p + 1)
 
-  -- ---- what they send is settled: the values of this plane serve for them too
+  -- ---- what they send is known: the values of this plane are also right for them
 
   above_same : (r : ℕ) → r < length depths → AboveSame (get_or s.values r []) (get_or t.values r []) p
   above_same r lt =
@@ -321,7 +321,7 @@ module _ {I : Type 0} {k : SourceOf I} {book : Book} (head : SegmentHead) (goes_
     mp = items_read (length here) t.ending
 
     module _ (m r : ℕ) (lt : r < length depths) (deep : get_or depths r 0 ≤ head.depth_ac) (m_is : m ≡ length (dc_part_items head t.values options) + length (depth_items head.depth_ac depths numbers) + (length first + mp)) where
-      -- so many items are given of plane e
+      -- the number of given items of plane e
       abbrev left : ℕ → ℕ
       left e = m - before_plane head t.values depths options (head.depth_ac - (e + 1))
 

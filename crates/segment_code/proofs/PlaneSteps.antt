@@ -23,7 +23,7 @@ use Rattle.segment_code.proofs.NumberCuts.{upper, upper_step, upper_from, upper_
 use Rattle.segment_code.proofs.GivenTests.{at_least, at_least_test, below_test, absorbs, none_without, not_both, no_size}
 use Rattle.segment_code.proofs.StepFacts.{all_plain, no_dc_bit}
 
--- a magnitude from a bit on is a multiple as it was
+-- a magnitude from a bit on is a multiple as it was before
 upper_multiple : (n s p part : ℕ) → n ≡ 2 ^ s * part → (x : ℕ) × (upper n p ≡ 2 ^ s * x)
 upper_multiple n s p part e = elim (cases_lt p s) [
   | inl over ↦ (part, sym (upper_from n n p (2 ^ (s - p) * part) (lesser n s p part (omega arith) e) refl) ∙ e)
@@ -36,7 +36,7 @@ cut_multiple z s w part e = elim (cases_lt w s) [
   | inr within ↦ lifted_times (int_shr z w) s w within
 ]
 
--- a number of some size has the sign that it was given
+-- a number of some magnitude has the sign that it was given
 sign_kept : (minus : Bool) (size : ℕ) → 1 ≤ size → negative (cond minus (neg_ℤ (pos size)) (pos size)) ≡ minus
 sign_kept true zero some = absurd (omega arith)
 sign_kept true (suc n) some = refl

@@ -10,7 +10,7 @@ use Rattle.segment_defs.specs.Size.{size_of, greatest}
 use Rattle.segment_defs.specs.Depths.{signed_size}
 use Rattle.segment_defs.proofs.Sizes.{size_of-unique, size_of-mono, size_of-least}
 
--- so many powers of two are at most n
+-- the first m powers of two are at most n
 powers_below : (m n : ℕ) → 2 ^ m ≤ 2 * n + 1 → (k : ℕ) → k < m → 2 ^ k ≤ n
 powers_below zero n h k lt = absurd (omega arith)
 powers_below (suc m) n h k lt =
@@ -51,14 +51,14 @@ module _ {X : Type 0} (f : X → ℕ) where
   within_after m a [] le h = le
   within_after m a (x ∷ xs) le h = let here : f x ≤ m = h 0 x (omega arith) in within_after m (max a (f x)) xs (omega arith) (λ k d lt. h (suc k) d (omega arith))
 
-  -- the greatest is at most what each is at most
+  -- the greatest is at most any bound of all
   pub greatest-within : (m : ℕ) (xs : List X) → ((k : ℕ) (d : X) → k < length xs → f (get_or xs k d) ≤ m) → greatest f xs ≤ m
   greatest-within m xs h = within_after m 0 xs (omega arith) h
 
   pub greatest-push : (xs : List X) (x : X) → greatest f (xs ++ x ∷ []) ≡ max (greatest f xs) (f x)
   greatest-push xs x = fold-append (λ most y. max most (f y)) 0 xs (x ∷ [])
 
--- two's complement takes a bit at least
+-- two's complement takes at least one bit
 pub signed_size-some : (z : ℤ) → 1 ≤ signed_size z
 signed_size-some (pos a) = omega arith
 signed_size-some (negsuc a) = omega arith

@@ -1,5 +1,5 @@
--- What a block's steps in a plane tell besides their entries: a sign is told of a number that the plane has, and the DC has a bit
--- alone in the planes that the DC part left out.
+-- What a block's steps in a plane report besides their entries: a sign is reported only for a number that has a bit in the plane,
+-- and the DC has a bit only in the planes that the DC part left out.
 use Rattle.std.proofs.Common.{◌≡◌, ℕ, ◌-◌, ◌/◌, ◌≤◌, inl, inr, Bool, true, false, cond, List, [], ◌∷◌, ◌++◌, length, map, refl, ap, ◌∙◌, subst, arith, ℤ, pos, get_or}
 use Rattle.std.specs.Prelude.{filter, nat_lt, nat_le, ◌&&◌, ◌||◌, ◌==◌}
 use Rattle.std.specs.List.{flat_map, list_any, AllByRecursion}
@@ -142,7 +142,7 @@ given_plain book options p stages m r =
     (steps_plain (stage_number k) (get_or p.blocks r []) (get_or p.depths r 0) p.weights p.number p.q))
     (span 0 stages)
 
--- ---- what they tell
+-- ---- what they report
 
 pub sign_reached : (block : List ℤ) (plane q p : ℕ) (steps : List Step) → ArePlain block plane q steps → any_sign p steps ≡ true → significant block plane p ≡ true
 sign_reached block plane q p [] all e = never e

@@ -1,4 +1,4 @@
--- The octets of a text that was put whole, or as far as its limit.
+-- The octets of a text that was put whole, or up to its limit.
 use Rattle.std.proofs.Common.{◌≡◌, ℕ, ◌*◌, ◌/◌, ◌%◌, ◌≤◌, List, ◌++◌, length, take, drop, Bool, true, false, refl, sym, ap, ◌∙◌, arith, length-append}
 use Rattle.std.specs.Prelude.{◌==◌}
 use Rattle.std.proofs.lemmas.Bool.Decides.{nat_tests}
@@ -28,7 +28,7 @@ pub record IsLimit (word limit : ℕ) : Type 0 where
   pub some : 1 ≤ limit
   pub whole : limit % word ≡ 0
 
--- what is within the limit stays within it as whole words
+-- what is within the limit is within it after it is padded to whole words
 pub padded_within : (word limit used : ℕ) (fill : Bool) → IsLimit word limit → used ≤ 8 * limit → padded_length word limit fill used ≤ 8 * limit
 padded_within word limit used fill l le =
     let k = limit / word in
@@ -67,7 +67,7 @@ pub text_unlimited : (word bound : ℕ) (bits : List Bool) → octets_of (padded
 unfolding text_octets
 text_unlimited word bound bits = refl
 
--- the bits reach the limit or pass it
+-- the bits reach the limit or exceed it
 pub text_cut : (word limit : ℕ) (fill : Bool) (bits : List Bool) → IsLimit word limit → 8 * limit ≤ length bits → octets_of (padded word limit fill (take (8 * limit) bits)) ≡ text_octets word limit fill bits
 unfolding text_octets
 text_cut word limit fill bits l le =

@@ -1,4 +1,4 @@
--- What a call leaves that reads a segment's text, from the octets after its head. (This project's own.)
+-- The result of a call that reads a segment's text, from the octets after its head. (This project's own.)
 use Rattle.std.specs.Prelude.{◌≡◌, ◌<◌, ◌≤◌, ℕ, ℤ, List, ◌++◌, length, Result, Ok, Err}
 use Rattle.item_defs.specs.Bits.{AreOctets}
 use Rattle.item_defs.specs.Items.{bad_option, bad_delta, bad_depth, false_flag}
@@ -14,7 +14,7 @@ use Rattle.text_defs.specs.Outcomes.{Holds, SegmentRefusal, at_item, short_segme
 use Rattle.segment_code.specs.declared.decode.SegmentFault.{SegmentFault}
 use Rattle.segment_code.specs.declared.decode.SegmentFault.TheVariants.{BadOption, BadDelta, BadDepth, FalseFlag, ShortSegment, Overlong, BrokenSegment, ReadFault, LongInput}
 
--- all items stood in the text, or the limit cut them
+-- all items are in the text, or the limit cut them
 abbrev pub IsPart : Part → (count all : ℕ) → Type 0
 IsPart Whole count all = count ≡ all
 IsPart Ended count all = count < all
@@ -24,7 +24,7 @@ pub record HoldsPart (book : Book) (head : SegmentHead) (octets : List ℕ) (blo
   pub holds : Holds book head octets (blocks_in blocks)
   pub so : IsPart part holds.count (length (segment_items head holds.blocks holds.depths holds.options))
 
--- these octets are refused, whatever would follow
+-- these octets are refused, whatever may follow
 abbrev pub RefusedBy : Book → SegmentHead → List ℕ → SegmentRefusal → Type 0
 RefusedBy book head octets name = (further : List ℕ) → Refused book head (octets ++ further) name
 
@@ -40,8 +40,8 @@ EndsSegment k book head (Err BrokenSegment) octets old new blocks = IsOver (k.ta
 EndsSegment k book head (Err LongInput) octets old new blocks = IsOver (k.tail new) TooLong
 EndsSegment k book head (Err ReadFault) octets old new blocks = Rose (k.faults old) (k.faults new)
 
--- A segment's text was read: these octets came, and the answer is what they hold, the name by which they are refused, or how the
--- input ended.
+-- A segment's text was read: these are its octets, and the answer is what they hold, the name by which they are refused, or how
+-- the input ended.
 pub record DecodesSegment {I : Type 0} (k : SourceOf I) (book : Book) (head : SegmentHead) (result : Result Part SegmentFault) (old new : I) (blocks : List ℤ) : Type 0 where
   pub octets : List ℕ
   pub small : AreOctets octets

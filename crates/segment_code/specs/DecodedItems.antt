@@ -1,4 +1,4 @@
--- What a call leaves that reads a segment's text, from the octets after its head to those of its end. (This project's own.)
+-- The result of a call that reads a segment's text, from the octets after its head to those of its end. (This project's own.)
 use Rattle.std.specs.Prelude.{◌≤◌, ℕ, ℤ, List, Result, Ok, Err}
 use Rattle.item_defs.specs.Bits.{AreOctets}
 use Rattle.item_defs.specs.Items.{bad_option, bad_delta, bad_depth, false_flag}
@@ -24,8 +24,8 @@ EndsItems k book head size (Err BrokenSegment) octets old new blocks = IsOver (k
 EndsItems k book head size (Err LongInput) octets old new blocks = IsOver (k.tail new) TooLong
 EndsItems k book head size (Err ReadFault) octets old new blocks = Rose (k.faults old) (k.faults new)
 
--- The octets of a text after its head were read, and no more: they are these, and the answer is what they hold, the name by which
--- they are refused, or how the input ended.
+-- The octets of a text after its head were read, and no others: these are the octets, and the answer is what they hold, the name
+-- by which they are refused, or how the input ended.
 pub record DecodesItems {I : Type 0} (k : SourceOf I) (book : Book) (head : SegmentHead) (size : ℕ) (result : Result Part SegmentFault) (old new : I) (blocks : List ℤ) : Type 0 where
   pub octets : List ℕ
   pub small : AreOctets octets

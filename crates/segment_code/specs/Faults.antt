@@ -1,4 +1,4 @@
--- Faults of an input and of a text among those of a segment.
+-- Faults of an input and of a text, as faults of a segment.
 use Rattle.bit_pipe.specs.declared.fault.InFault.{InFault}
 use Rattle.bit_pipe.specs.declared.fault.InFault.TheVariants as inputs
 use Rattle.bit_pipe.specs.declared.fault.TextFault.{TextFault}

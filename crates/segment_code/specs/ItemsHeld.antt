@@ -25,7 +25,7 @@ pub record ItemsIn (head : SegmentHead) (size : ℕ) (rest : List ℕ) (blocks :
   pub front : Front (segment_items head blocks depths options) count (bits_of_octets rest) more
   pub within : head.limit ≢ 0 → size + length rest ≤ head.limit
 
--- all items are given, and the octets are exactly those that are expected; or the limit cuts the items
+-- all items are given, and there are exactly the octets that are expected; or the limit cuts the items
 abbrev pub AreAll : SegmentHead → (size : ℕ) → List ℕ → List Item → ℕ → List Bool → Type 0
 AreAll head size rest items count more =
     ((count ≡ length items) × (size + length rest ≡ wanted_octets head size items))
@@ -44,7 +44,7 @@ pub record HoldsItems (book : Book) (head : SegmentHead) (size : ℕ) (rest : Li
   pub given : w ≡ given_blocks head blocks depths options count
   pub so : IsPart part count (length (segment_items head blocks depths options))
 
--- an item follows that its form refuses by this name
+-- the next item is refused by its form, with this name
 pub record RefusesItem (book : Book) (head : SegmentHead) (size : ℕ) (rest : List ℕ) (name : Refusal) : Type 0 where
   pub blocks : List (List ℤ)
   pub depths : List ℕ

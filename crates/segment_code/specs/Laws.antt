@@ -30,14 +30,14 @@ CodedHoldsExactly = (book : Book) → is_book_sound book ≡ true → (head : Se
     head.depth_ac ≡ depth_ac_of blocks → head.limit ≡ 0 → HasNoStop head →
     (w : List (List ℤ)) → Holds book head (drop (head_length head) (coded book head blocks)) w ↔ (w ≡ blocks)
 
--- head and items of values that can be spelled, with any options, take fewer than 2 ^ 31 octets: the bound of 2 ^ 32
--- octets that stands for no limit never cuts them
+-- head and items of values that can be coded, with any options, take fewer than 2 ^ 31 octets, so the bound of 2 ^
+-- 32 octets that represents no limit never cuts them
 abbrev pub TextsAreShort : Type 0
 TextsAreShort = (head : SegmentHead) (blocks : List (List ℤ)) (depths : List ℕ) (options : Options) → IsHead head → length head.image.weights.shifts ≡ 10 →
     IsSpellable head blocks depths → AreWordOptions options → AreNumberOptions head options → length (head_bits head ++ text (segment_items head blocks depths options)) < 2 ^ 34
 
--- Octets that hold the items of a text end by themselves: no proper prefix of them holds items after such a head. They hold one list of
--- blocks.
+-- Octets that hold the items of a text need no end from outside: no proper prefix of them holds items after such a head. They hold one
+-- list of blocks.
 pub record ItemsEndThere : Type 0 where
   pub no_prefix : (book : Book) (head : SegmentHead) (size : ℕ) (rest more : List ℕ) (v w : List (List ℤ)) (p q : Part) → IsHead head → HoldsItems book head size rest v p → HoldsItems book head size (rest ++ more) w q → more ≡ []
   pub one : (book : Book) (head : SegmentHead) (size : ℕ) (rest : List ℕ) (v w : List (List ℤ)) (p q : Part) → IsHead head → HoldsItems book head size rest v p → HoldsItems book head size rest w q → v ≡ w

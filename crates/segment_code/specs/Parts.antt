@@ -15,6 +15,6 @@ coded_plane book head blocks n = nth_plane_items head blocks (block_depths block
 abbrev pub coded_planes : Book → SegmentHead → List (List ℤ) → ℕ → List Item
 coded_planes book head blocks n = planes_items head blocks (block_depths blocks) (chosen_options book head blocks) n
 
--- what stands after the DC part: the block depths and all planes, unless the text stops at the DC numbers
+-- the items after the DC part: the block depths and all planes, unless the text stops at the DC numbers
 abbrev pub coded_rest : Book → SegmentHead → List (List ℤ) → List Item
 coded_rest book head blocks = if head.stop.dc then [] else items_after_dc head blocks (block_depths blocks) (chosen_options book head blocks)

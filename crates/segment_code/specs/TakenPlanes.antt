@@ -1,4 +1,4 @@
--- What calls leave that read the bit planes of a segment. (This project's own.)
+-- The results of calls that read the bit planes of a segment. (This project's own.)
 use Rattle.std.specs.Prelude.{◌≡◌, ◌<◌, ◌≤◌, ℕ, ◌+◌, ◌-◌, ◌*◌, ◌^◌, min, max, ℤ, pos, unsigned_abs, List, [], length, Result, Ok, Err}
 use Rattle.std.specs.Int.{int_shr}
 use lib.ListN.{get_or}
@@ -24,11 +24,11 @@ use Rattle.segment_defs.specs.declared.head.SegmentHead.{SegmentHead}
 use Rattle.segment_defs.specs.SegmentItems.{Options, dc_shift, q_of, dc_part_items, planes_items}
 use Rattle.text_defs.specs.Given.{given_block}
 
--- the low bits of a DC that the DC part doesn't give
+-- the number of low bits of a DC that the DC part does not give
 abbrev pub low_bits : SegmentHead → ℕ
 low_bits head = min (q_of head) (max head.depth_ac (dc_shift head))
 
--- A block before the planes: its AC numbers are 0, and so are the low bits of its DC that the DC part doesn't give.
+-- A block before the planes: its AC numbers are 0, and so are the low bits of its DC that the DC part does not give.
 pub record HasDc (head : SegmentHead) (block : List ℤ) : Type 0 where
   pub whole : length block ≡ 64
   pub acs : (p : ℕ) → IsAc p → get_or block p (pos 0) ≡ pos 0
@@ -47,13 +47,13 @@ with_words book words = record { book = book; dcs = λ g. 0; depths = λ g. 0; w
 abbrev pub AreKnown : (ℕ → ℕ → List ℕ) → Type 0
 AreKnown words = (b g n : ℕ) → 2 ≤ n → n ≤ 4 → option_of (words b g) n < n
 
--- a block of this depth that a text can spell
+-- a block of this depth that a text can have
 pub record IsSpelled (weights : List ℕ) (depth : ℕ) (v : List ℤ) : Type 0 where
   pub whole : length v ≡ 64
   pub multiple : IsMultiple v weights
   pub below : (p : ℕ) → 1 ≤ p → magnitude v p < 2 ^ depth
 
--- the DC has the bits that stand in the DC part
+-- the DC has the bits that are in the DC part
 abbrev pub KeepsDc : SegmentHead → (u v : List ℤ) → Type 0
 KeepsDc head u v = (c : ℕ) → min head.depth_ac (q_of head) ≤ c → int_shr (get_or v 0 (pos 0)) c ≡ int_shr (get_or u 0 (pos 0)) c
 
@@ -70,8 +70,8 @@ pub record PlanesAbove {I : Type 0} (k : SourceOf I) (book : Book) (head : Segme
   pub lows : (r : ℕ) → r < length depths → complement (min (plane + 1) (q_of head)) (get_or (block_at now r) 0 (pos 0)) ≡ 0
   pub size : length now ≡ length before
 
--- The planes that are sent were read, as far as their items go: the blocks are what these and the DC part give, whatever the options
--- of the numbers before them.
+-- The planes that are sent were read up to where their items end: the blocks are what these and the DC part give, whatever the
+-- options of the numbers before them.
 pub record TakesPlanes {I : Type 0} (k : SourceOf I) (book : Book) (head : SegmentHead) (depths : List ℕ) (result : Result Part TextFault) (old new : Coming I) (before now : List ℤ) : Type 0 where
   pub values : List (List ℤ)
   pub all : length values ≡ length depths

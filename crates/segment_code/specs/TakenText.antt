@@ -1,4 +1,4 @@
--- What calls leave that read the items of a segment's text. (This project's own.)
+-- The results of calls that read the items of a segment's text. (This project's own.)
 use Rattle.std.specs.Prelude.{◌≡◌, ℕ, ℤ, pos, List, length, take, slice_index_or, Result, Ok, Err}
 use Rattle.item_defs.specs.Readings.{AreItems}
 use Rattle.base_122.specs.declared.book.Book.{Book}
@@ -19,8 +19,8 @@ use Rattle.text_defs.specs.Given.{given_blocks}
 pub record AreClear (cells : List ℤ) : Type 0 where
   pub at : (i : ℕ) → slice_index_or cells i (pos 0) ≡ pos 0
 
--- The items of a segment were read, as far as they go, and none before the end is refused: the blocks are what they give. What they
--- don't give of the values may be anything that can be spelled.
+-- The items of a segment were read up to where the text ends, and none before the end is refused: the blocks are what the items
+-- give. The values may be any that can be coded where the items do not give them.
 pub record TakesText {I : Type 0} (k : SourceOf I) (book : Book) (head : SegmentHead) (result : Result Part TextFault) (old new : Coming I) (now : List ℤ) : Type 0 where
   pub values : List (List ℤ)
   pub depths : List ℕ
@@ -35,12 +35,12 @@ pub record TakesText {I : Type 0} (k : SourceOf I) (book : Book) (head : Segment
   pub are : AreItems (take (items_read (length (segment_items head values depths options)) ending) (segment_items head values depths options))
   pub given : blocks_in now ≡ given_blocks head values depths options (items_read (length (segment_items head values depths options)) ending)
 
--- how far they were read, and how many bits were taken
+-- how far the items were read, and how many bits were taken
 abbrev pub with_used : Result Part TextFault → ℕ → Result (Part × ℕ) TextFault
 with_used (Ok part) used = Ok (record { 0 = part; 1 = used })
 with_used (Err fault) used = Err fault
 
--- they were read from an input that is after the head, of `size` octets
+-- the items were read from an input that is after the head, of `size` octets
 pub record TakesFrom {I : Type 0} (k : SourceOf I) (book : Book) (head : SegmentHead) (size : ℕ) (result : Result (Part × ℕ) TextFault) (old new : I) (now : List ℤ) : Type 0 where
   pub start : Coming I
   pub begins : BeginsIn old (bound_of head.limit) size start

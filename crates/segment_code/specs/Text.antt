@@ -1,4 +1,4 @@
--- What an encoder leaves in its sink (this project's own).
+-- What an encoder writes into its sink (this project's own).
 use Rattle.std.specs.Prelude.{◌≡◌, ℕ, ℤ, List, ◌++◌, length, Result}
 use Rattle.item_defs.specs.Items.{text}
 use Rattle.base_122.specs.declared.book.Book.{Book}
@@ -10,12 +10,12 @@ use Rattle.segment_defs.specs.Depths.{block_depths}
 use Rattle.segment_defs.specs.SegmentItems.{segment_items}
 use Rattle.segment_defs.specs.Coded.{chosen_options}
 
--- the sink was given a text of so many octets
+-- the sink was given a text of this number of octets
 pub record GivesText {S : Type 0} (k : SinkOf S) (old new : S) (text : List ℕ) (octets : ℕ) : Type 0 where
   pub gave : k.Gave old new text
   pub count : octets ≡ length text
 
--- a call failed while a front of these octets was given
+-- a call failed while a prefix of these octets was given
 pub record BreaksWithin {S : Type 0} (k : SinkOf S) (old new : S) (octets : List ℕ) : Type 0 where
   pub front : List ℕ
   pub more : List ℕ
@@ -23,6 +23,6 @@ pub record BreaksWithin {S : Type 0} (k : SinkOf S) (old new : S) (octets : List
   pub broke : k.Broke old new front
   pub rose : Rose (k.counts old).faults (k.counts new).faults
 
--- the items of a segment's text were put, with the options that a writer takes
+-- the items of a segment's text were put, with the options that a writer chooses
 pub record EncodesItems {S T : Type 0} (k : SinkOf S) (book : Book) (head : SegmentHead) (blocks : List (List ℤ)) (result : Result T PutFault) (old new : Standing S) : Type 0 where
   pub puts : Puts k result old new (text (segment_items head blocks (block_depths blocks) (chosen_options book head blocks)))

@@ -1,4 +1,4 @@
--- What calls leave that take a segment's text to its end. (This project's own.)
+-- The results of calls that read a segment's text to its end. (This project's own.)
 use Rattle.std.specs.Prelude.{◌≡◌, ◌≢◌, ◌<◌, ◌≤◌, ◌⊎◌, ℕ, ◌+◌, ◌*◌, if◌then◌else◌, List, length, Result, Ok, Err}
 use Rattle.std.specs.Int.{div_ceil}
 use Rattle.item_defs.specs.Bits.{AreOctets}
@@ -11,7 +11,7 @@ use Rattle.segment_defs.specs.declared.head.SegmentHead.{SegmentHead}
 use Rattle.segment_code.specs.declared.decode.SegmentFault.{SegmentFault}
 use Rattle.segment_code.specs.declared.decode.SegmentFault.TheVariants.{ShortSegment, BrokenSegment, ReadFault, LongInput}
 
--- the bits of a whole text of which so many are head and items
+-- the bits of a whole text in which this number of bits are head and items
 abbrev pub wanted_bits : SegmentHead → ℕ → ℕ
 wanted_bits head used = if head.fill then 8 * head.limit else rounded (8 * head.image.word) used
 

@@ -1,4 +1,4 @@
-// A segment's text, read.
+// The reader of a segment's text.
 ghost use Rattle.std.specs.Prelude.{◌≡◌, ◌≤◌, ◌*◌, IsTrue, length};
 ghost use Rattle.plane_defs.specs.Codes.{is_book_sound};
 ghost use Rattle.segment_defs.specs.Head.{IsHead};
@@ -13,26 +13,26 @@ use bit_pipe::{BitIn, InFault, OctetIn, Part, TextFault};
 use segment_head::SegmentHead;
 use word_codes::WordTables;
 
-/// Why a segment's text isn't taken (docs/formats.md, "Reading a segment").
+/// The reason why a segment's text is not accepted (docs/formats.md, "Reading a segment").
 #[derive(Clone, Copy, Debug, PartialEq, Eq)]
 pub enum SegmentFault {
-    /// An identifier names no option.
+    /// An identifier has no option.
     BadOption,
     /// A unary part has too many zeros.
     BadDelta,
     /// A block depth is above that of the head.
     BadDepth,
-    /// A flag tells of a set whose members can't be significant.
+    /// A flag says that a set is significant, but none of its members can be.
     FalseFlag,
     /// The text ends before its items and their padding do.
     ShortSegment,
-    /// Octets stand after the text's end.
+    /// There are octets after the text's end.
     Overlong,
-    /// The packets of the text don't all follow one another.
+    /// The packets of the text do not all follow one another.
     BrokenSegment,
     /// The input failed.
     ReadFault,
-    /// The input is longer than its cap.
+    /// The input is longer than its bound.
     LongInput,
 }
 
@@ -68,7 +68,7 @@ impl From<TextFault> for SegmentFault {
     }
 }
 
-// All numbers become 0.
+// Sets all numbers to 0.
 fn clear(blocks: &mut [i32])
     ensures size { length blocks.new ≡ length blocks.old }
     ensures clear { AreClear blocks.new }
@@ -78,7 +78,7 @@ fn clear(blocks: &mut [i32])
     }
 }
 
-// Takes the items of a text, up to the limit, after a head of `size` octets; and the number of bits of head and items.
+// Reads the items of a text, up to the limit, after a head of `size` octets; returns also the number of bits of head and items.
 fn take_from<I: OctetIn>(
     input: &mut I,
     head: &SegmentHead,
@@ -101,7 +101,7 @@ fn take_from<I: OctetIn>(
     Ok((part, bits.used()))
 }
 
-/// Reads the texts of segments, by tables of their words that are made once.
+/// A reader of the texts of segments, with tables of their words that are made once.
 #[derive(Drop)]
 pub struct SegmentReader {
     /// The tables of the words, as the reader's book has their codes.
@@ -120,13 +120,13 @@ impl SegmentReader {
     }
 
     /// Reads a segment's text from the octets after its head into 64 numbers for each block (docs/formats.md, "Reading a
-    /// segment"). `Whole` says that all items stood in the text, `Ended` that the limit cut them; what isn't given is 0, and
-    /// positive. It asks for the input's end before it answers either. There is a mark for each block, and the call writes
-    /// there.
+    /// segment"). Returns `Whole` if the text has all items, and `Ended` if the limit cut them; what is not given is 0, and
+    /// positive. It asks for the input's end before it returns either. `marks` has one number for each block, its state, and
+    /// the call overwrites it.
     ///
     /// # Errors
     ///
-    /// The name by which the text is refused, or how the input ended. Blocks and marks have no meaning then.
+    /// The name by which the text is refused, or how the input ended. `blocks` and `marks` have no meaning then.
     pub fn decode<I: OctetIn>(
         &self,
         input: &mut I,
@@ -149,12 +149,12 @@ impl SegmentReader {
 
     /// Reads the items of a segment's text, with their padding and fill, from the octets after its head into 64 numbers for
     /// each block (docs/formats.md, "Reading a segment"). The head has `size` octets there, at most 20. `Whole` and `Ended`
-    /// are as in `decode`. The octets that it takes are exactly those of the text after the head: it ends by itself, and asks
-    /// for nothing after them.
+    /// are as in `decode`. The octets that it takes are exactly those of the text after the head: it needs no end from
+    /// outside, and asks for nothing after them.
     ///
     /// # Errors
     ///
-    /// As `decode`, except `Overlong`: what follows the text is not looked at.
+    /// Those of `decode`, except `Overlong`: what follows the text is not read.
     pub fn decode_items<I: OctetIn>(
         &self,
         input: &mut I,
@@ -183,7 +183,7 @@ impl SegmentReader {
 ///
 /// # Errors
 ///
-/// As there.
+/// Those of `decode`.
 pub fn decode_segment<I: OctetIn>(
     input: &mut I,
     head: &SegmentHead,

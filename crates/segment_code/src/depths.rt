@@ -5,12 +5,12 @@ ghost use Rattle.wave_defs.specs.Held.{block_at, blocks_in};
 ghost use Rattle.segment_defs.specs.Depths.{dc_of, block_depth, block_depths, signed_size, depth_dc_of, depth_ac_of};
 ghost use Rattle.segment_code.specs.Numbers.{AreBounded};
 
-// Numbers of a block; its DC is the first.
+// The number of numbers of a block; its DC is the first.
 const BLOCK: usize = 64;
 
-/// Answers BitDepthDC and BitDepthAC of a segment and sets each mark to the depth of its block (docs/formats.md,
-/// "Segments and depths"). A block is 64 weighted numbers, of which the first is its DC; a magnitude is below 2^27,
-/// but a DC may be -2^27.
+/// Returns BitDepthDC and BitDepthAC of a segment, and sets each number of `marks` to the depth of its block
+/// (docs/formats.md, "Segments and depths"). A block is 64 weighted numbers, of which the first is its DC. A
+/// magnitude is below 2^27, except that a DC may be -2^27.
 pub fn segment_depths(blocks: &[i32], marks: &mut [i32]) -> (u8, u8)
     requires count { length blocks.now ≡ 64 * length marks.old }
     requires some { 1 ≤ length marks.old }
@@ -43,7 +43,7 @@ fn block_at(blocks: &[i32], i: usize) -> &[i32]
     &blocks[BLOCK * i..BLOCK * i + BLOCK]
 }
 
-// The least depth of a block.
+// Returns the least depth of a block.
 fn block_depth(block: &[i32]) -> u8
     requires { length block.now ≡ 64 }
     ensures { result ≡ block_depth block.now }
@@ -51,7 +51,7 @@ fn block_depth(block: &[i32]) -> u8
     greatest_size(&block[1..])
 }
 
-// The least depth that holds a block's DC.
+// Returns the least depth that holds a block's DC.
 fn dc_depth(block: &[i32]) -> u8
     requires { length block.now ≡ 64 }
     ensures { result ≡ signed_size (dc_of block.now) }
@@ -59,7 +59,7 @@ fn dc_depth(block: &[i32]) -> u8
     signed_size(block[0])
 }
 
-// The greatest size of a magnitude.
+// Returns the greatest size of a magnitude, in bits.
 fn greatest_size(numbers: &[i32]) -> u8
     ensures { result ≡ greatest (λ z. size_of (unsigned_abs z)) numbers.now }
 {
@@ -70,7 +70,7 @@ fn greatest_size(numbers: &[i32]) -> u8
     size(most)
 }
 
-// The least number of bits that holds a number in two's complement.
+// Returns the least number of bits that holds a number in two's complement.
 fn signed_size(number: i32) -> u8
     ensures { result ≡ signed_size number }
 {
@@ -78,7 +78,7 @@ fn signed_size(number: i32) -> u8
     size(magnitude as u32) + 1
 }
 
-// The least number of bits that holds a number.
+// Returns the least number of bits that holds a number.
 fn size(number: u32) -> u8
     ensures is { result ≡ size_of number }
     ensures most { result ≤ 32 }

@@ -1,4 +1,4 @@
-// A segment's text.
+// The writer of a segment's text.
 ghost use Rattle.std.specs.Prelude.{◌≡◌, ◌≤◌, ◌*◌, IsTrue, length, map, take, pos, MatchResult};
 ghost use Rattle.item_defs.specs.Items.{text};
 ghost use Rattle.bit_pipe.specs.Standing.{stand, Adds, Breaks, Puts, IsReady, Writes};
@@ -47,7 +47,7 @@ pub fn encode_segment<O: OctetOut>(
     bits.end(head.image.word, head.fill)
 }
 
-// Puts as much of the text as fits below the bound: a text that is stopped is cut there.
+// Puts the part of the text that fits below the bound: a text that is stopped is cut there.
 fn put_fitting<O: OctetOut>(
     out: &mut BitOut<O>,
     head: &SegmentHead,
@@ -107,7 +107,7 @@ fn put_text<O: OctetOut>(
 ///
 /// # Errors
 ///
-/// Those of `BitOut`: `Stopped` exactly if the items don't all fit below the bound.
+/// Those of `BitOut`: `Stopped` exactly if the items do not all fit below the bound.
 pub fn encode_items<O: OctetOut>(
     out: &mut BitOut<O>,
     head: &SegmentHead,
@@ -154,7 +154,7 @@ fn put_items<O: OctetOut>(
     put_rest(out, head, blocks, marks, book)
 }
 
-// Puts the block depths and the planes, where the text doesn't stop at the DC numbers.
+// Puts the block depths and the planes, if the text does not stop at the DC numbers.
 fn put_rest<O: OctetOut>(
     out: &mut BitOut<O>,
     head: &SegmentHead,

@@ -21,7 +21,7 @@ fn pass<I: OctetIn>(input: &mut I, count: u64, part: Part) -> Result<Part, Segme
     Ok(part)
 }
 
-// How many octets a text has of which so many bits are head and items.
+// Returns how many octets a text has in which this number of bits are head and items.
 fn expected_octets(head: &SegmentHead, used: u64) -> u64
     requires fits { IsHead head.now }
     requires bound { used ≤ 8 * bound_of head.now.limit }
@@ -34,7 +34,7 @@ fn expected_octets(head: &SegmentHead, used: u64) -> u64
     used.div_ceil(8 * word) * word
 }
 
-// The end of a text whose items are all given: it has the expected length.
+// Reads the end of a text whose items are all given: it has the expected length.
 pub(crate) fn end_whole<I: OctetIn>(
     input: &mut I,
     head: &SegmentHead,
@@ -51,7 +51,7 @@ pub(crate) fn end_whole<I: OctetIn>(
     )
 }
 
-// The end of a text in which an item isn't given: it has the limit's octets.
+// Checks the end of a text in which an item is not given: it has the limit's number of octets.
 pub(crate) fn end_cut(head: &SegmentHead, used: u64) -> Result<Part, SegmentFault>
     ensures { EndsCut head.now used result }
 {

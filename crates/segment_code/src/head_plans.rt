@@ -1,4 +1,4 @@
-// What a head tells the writers of a text's parts.
+// What the writers of a text's parts need of a head.
 ghost use Rattle.std.specs.Prelude.{◌≡◌, length};
 ghost use Rattle.base_122.specs.Weights.{shift_of};
 ghost use Rattle.base_122.specs.declared.weights.Band.TheVariants.{Ll3};
@@ -10,7 +10,7 @@ use base_122::{Band, Select};
 use dc_depths::DcPlan;
 use segment_head::SegmentHead;
 
-// What it tells of the DC part.
+// Returns the plan of the DC part.
 pub(crate) fn plan_of(head: &SegmentHead) -> DcPlan
     ensures dc { result.depth_dc ≡ head.now.depth_dc }
     ensures ac { result.depth_ac ≡ head.now.depth_ac }

@@ -1,5 +1,5 @@
-//! A whole segment: its depths and its text, written and read (docs/formats.md, "Segments and depths", "Stops, cut and fill" and
-//! "Reading a segment").
+//! This crate writes and reads a whole segment: its depths and its text (docs/formats.md, "Segments and depths", "Stops, cut and
+//! fill" and "Reading a segment").
 #![tactic(auto)]
 
 mod decode;
@@ -18,7 +18,7 @@ pub use depths::segment_depths;
 pub use encode::{encode_items, encode_segment};
 use text_defs::{items_give_all, readings_give_one};
 
-/// What was encoded can be decoded: the coded text of values that can be spelled holds something.
+/// What was encoded can be decoded: the coded text of values that can be coded holds values.
 pub const fn coded_holds()
     ensures { CodedHolds }
 {}
@@ -31,13 +31,13 @@ pub const fn coded_holds_exactly()
     items_give_all();
 }
 
-/// Without a limit a text is never cut: head and items of values that can be spelled take fewer than 2^31 octets.
+/// Without a limit a text is never cut: head and items of values that can be coded take fewer than 2^31 octets.
 pub const fn texts_are_short()
     ensures { TextsAreShort }
 {}
 
-/// The octets that `SegmentReader::decode_items` takes of a text that it reads end by themselves: no proper prefix of them holds
-/// items, and they hold one list of blocks.
+/// The octets that `SegmentReader::decode_items` takes of a text that it reads need no end from outside: no proper prefix of
+/// them holds items, and they hold one list of blocks.
 pub const fn items_end_there()
     ensures { ItemsEndThere }
 {

@@ -1,4 +1,4 @@
-// The bit planes of a segment.
+// The writer of the bit planes of a segment.
 ghost use Rattle.std.specs.Prelude.{◌≡◌, ◌<◌, ◌≤◌, ◌*◌, IsTrue, length};
 ghost use Rattle.item_defs.specs.Items.{text};
 ghost use Rattle.bit_pipe.specs.Standing.{IsReady, Writes};
@@ -17,7 +17,7 @@ use bit_pipe::{BitOut, OctetOut, PutFault};
 use plane_coder::{CodeTables, PlaneCoder, PlanePlan};
 use segment_head::SegmentHead;
 
-// How many stages of a plane are sent.
+// Returns how many stages of a plane are sent.
 fn stages_sent(head: &SegmentHead, plane: u8) -> u8
     requires { head.now.stop.stage < 4 }
     ensures is { result ≡ stages_sent head.now plane }
@@ -32,7 +32,7 @@ fn stages_sent(head: &SegmentHead, plane: u8) -> u8
     }
 }
 
-// A plane up to its last stage.
+// Returns the plan of a plane up to its last stage.
 pub(crate) fn plane_plan(head: &SegmentHead, plane: u8, last: u8) -> PlanePlan
     ensures plane { result.plane ≡ plane }
     ensures q { result.q ≡ q_of head.now }
@@ -76,7 +76,7 @@ fn put_nth_plane<O: OctetOut>(
     coder.put(out, blocks, marks, &plan)
 }
 
-// Puts the planes from the top down, as far as they are sent.
+// Puts the planes from the top down, up to the stop.
 pub(crate) fn put_planes<O: OctetOut>(
     out: &mut BitOut<O>,
     head: &SegmentHead,

@@ -1,4 +1,4 @@
-// The bit planes of a segment, read.
+// The reader of the bit planes of a segment.
 ghost use Rattle.std.specs.Prelude.{◌≡◌, ◌<◌, ◌≤◌, ◌+◌, ◌-◌, ◌*◌, false, length, Ok};
 ghost use Rattle.bit_pipe.specs.declared.fault.Part.TheVariants.{Whole};
 ghost use Rattle.bit_pipe.specs.Coming.{coming, IsIn};
@@ -18,7 +18,7 @@ use word_codes::WordTables;
 // The last stage of a plane.
 const LAST: u8 = 4;
 
-// Takes a plane up to its last stage.
+// Reads a plane up to its last stage.
 fn take_stages_sent<I: OctetIn>(
     input: &mut BitIn<I>,
     head: &SegmentHead,
@@ -44,7 +44,7 @@ fn take_stages_sent<I: OctetIn>(
     take_plane_with(input, blocks, marks, &plan, tables, above)
 }
 
-// Takes the planes above the stop's, from the top down.
+// Reads the planes above the stop's, from the top down.
 fn take_whole_planes<I: OctetIn>(
     input: &mut BitIn<I>,
     head: &SegmentHead,
@@ -74,7 +74,7 @@ fn take_whole_planes<I: OctetIn>(
     Ok(Part::Whole)
 }
 
-// Takes the planes from the top down, as far as they are sent.
+// Reads the planes from the top down, up to the stop.
 pub(crate) fn take_planes<I: OctetIn>(
     input: &mut BitIn<I>,
     head: &SegmentHead,

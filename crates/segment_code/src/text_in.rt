@@ -1,4 +1,4 @@
-// The items of a segment's text, read.
+// The reader of the items of a segment's text.
 ghost use Rattle.std.specs.Prelude.{◌≡◌, ◌*◌, length};
 ghost use Rattle.bit_pipe.specs.Coming.{coming, IsIn};
 ghost use Rattle.segment_defs.specs.Head.{IsHead};
@@ -11,7 +11,7 @@ use dc_depths::{take_dc, take_depths};
 use segment_head::SegmentHead;
 use word_codes::WordTables;
 
-// Takes the DC part, the block depths and the planes, as far as they are sent. A part after one that is cut isn't read.
+// Reads the DC part, the block depths and the planes, up to the stop. A part after one that is cut is not read.
 pub(crate) fn take_text<I: OctetIn>(
     input: &mut BitIn<I>,
     head: &SegmentHead,

@@ -1,4 +1,4 @@
--- The depths of blocks hold their numbers, and no lesser ones do.
+-- The depths of blocks hold their numbers, and no lesser depths do.
 use Rattle.std.proofs.Common.{◌≡◌, ◌⊎◌, ℕ, zero, suc, ◌+◌, ◌-◌, ◌*◌, ◌^◌, ◌<◌, ◌≤◌, List, [], ◌∷◌, length, drop, max, get_or, true, refl, ap, ◌∙◌, arith, inl, inr}
 use Rattle.std.specs.Prelude.{ℤ, pos, negsuc, fold, unsigned_abs, All}
 use Rattle.std.proofs.Math.Pow.{pow_mono}
@@ -10,7 +10,7 @@ use Rattle.segment_defs.specs.Depths.{dc_of, block_depth, signed_size, depth_dc_
 use Rattle.segment_defs.specs.Laws.{DepthsAreLeast}
 use Rattle.segment_defs.proofs.Sizes.{size_is, size_of-least}
 
--- ---- the greatest of some numbers is the least bound of them
+-- ---- the greatest of some numbers is their least bound
 
 after_above : {X : Type 0} (f : X → ℕ) (a : ℕ) (xs : List X) → a ≤ fold (λ most x. max most (f x)) a xs
 after_above f a [] = omega arith
@@ -40,7 +40,7 @@ sized a size D e le =
     let mono : 2 ^ size_of a ≤ 2 ^ (D - 1) = pow_mono {i = size_of a} {j = D - 1} (omega (arith, e, le)) in
     omega arith
 
--- a number is in the range of as many bits as its size, or more
+-- a number is in the range of at least as many bits as its size
 pub range_of_size : (z : ℤ) (D : ℕ) → signed_size z ≤ D → IsInRange true D z
 range_of_size (pos a) D le = in_range D (pos a) a (omega arith) (sized a (size_of a) D refl le) (inl refl)
 range_of_size (negsuc a) D le = in_range D (negsuc a) a (omega arith) (sized a (size_of a) D refl le) (inr refl)

@@ -11,7 +11,7 @@ use Rattle.std.proofs.Math.Seq.{take-length}
 use Rattle.segment_defs.specs.Size.{size_of}
 use Rattle.segment_defs.specs.Laws.{SizeIsLeast}
 
--- m bits hold n, and above fewer do
+-- m bits hold n, and no fewer do
 pub record IsSize (n m : ℕ) : Type 0 where
   pub within : m ≤ n
   pub holds : n < 2 ^ m
@@ -55,7 +55,7 @@ section_of_first p m n (suc i) le below above h =
           subst (λ k. count_by p (take k (range_with_len 0 n)) ≡ min k m) (add-one i) (let t : count_by p (take (i + 1) (range_with_len 0 n)) ≡ min (i + 1) m = omega (arith, e, before) in t)
     ]
 
--- a test that holds of the numbers below m alone, counted over the first n numbers
+-- a test that only holds of the numbers below m, counted over the first n numbers
 pub count_by-first : (p : ℕ → Bool) (m n : ℕ) → m ≤ n → ((k : ℕ) → k < m → p k ≡ true) → ((k : ℕ) → m ≤ k → p k ≡ false) →
     count_by p (range_with_len 0 n) ≡ m
 count_by-first p m n le below above =
@@ -73,7 +73,7 @@ size_of-is n m s =
 pub size_is : (n : ℕ) → IsSize n (size_of n)
 size_is n = let p = some_size n in subst (IsSize n) (sym (size_of-is n p.0 p.1)) p.1
 
--- above lesser power is above the number
+-- the size is at most any d with n below 2 ^ d
 pub size_of-least : (n d : ℕ) → n < 2 ^ d → size_of n ≤ d
 size_of-least n d h =
     let s = size_is n in

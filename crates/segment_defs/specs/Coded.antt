@@ -13,7 +13,7 @@ use Rattle.segment_defs.specs.Head.{head_bits}
 use Rattle.segment_defs.specs.SegmentItems.{Options, dc_shift, plane_at, dc_part_items, segment_items}
 use Rattle.segment_defs.specs.Text.{text_octets}
 
--- the choice of options that a flag of the head stands for
+-- the choice of options that a flag of the head represents
 abbrev pub choice_of : Bool → ℕ → List ℕ → ℕ
 choice_of best N values = if best then optimal N values else heuristic N values
 

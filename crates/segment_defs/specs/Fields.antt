@@ -2,7 +2,7 @@
 use Rattle.std.specs.Prelude.{ℕ, ◌==◌, Bool, List, take, drop}
 use Rattle.item_defs.specs.Bits.{value_of, bits_of_octets}
 
--- the number in so many bits from a place on
+-- the number in this number of bits from a place on
 unfoldable pub number_in : List ℕ → (start width : ℕ) → ℕ
 number_in octets start width = value_of (take width (drop start (bits_of_octets octets)))
 

@@ -8,7 +8,7 @@ use Rattle.base_122.specs.Weights.{usual_shifts}
 use Rattle.segment_defs.specs.declared.head.SegmentHead.{SegmentHead}
 use Rattle.segment_defs.specs.declared.head.ImagePart.{ImagePart}
 
--- a field of the head: so many bits of a value
+-- a field of the head: this number of bits of a value
 pub record Field : Type 0 where
   pub width : ℕ
   pub value : ℕ
@@ -29,7 +29,7 @@ part_1a h =
     flag h.first ∷ flag h.last ∷ field 8 h.count ∷ field 5 h.depth_dc ∷ field 5 h.depth_ac ∷ reserved 1
     ∷ flag true ∷ flag true ∷ flag true ∷ []
 
--- Part 1B, in the last segment alone
+-- Part 1B, only in the last segment
 abbrev pub part_1b : SegmentHead → List Field
 part_1b h = if h.last then field 3 h.pad_rows ∷ reserved 5 ∷ [] else []
 
@@ -46,7 +46,7 @@ part_3 h = field 20 h.blocks ∷ flag h.best_dc ∷ flag h.best_ac ∷ reserved 
 abbrev pub word_pattern : ℕ → ℕ
 word_pattern word = 2 * (word - 1)
 
--- the weights' flag, and two bits for each weight where they aren't the usual ones
+-- the weights' flag, and two bits for each weight if they are not the usual ones
 abbrev pub weight_fields : List ℕ → List Field
 weight_fields shifts =
     if bytes_eq shifts usual_shifts then flag false ∷ reserved 20 ∷ [] else flag true ∷ map (field 2) shifts
@@ -71,14 +71,14 @@ head_bits h = flat_map field_bits (head_fields h)
 abbrev pub head_length : SegmentHead → ℕ
 head_length h = if h.last then 20 else 19
 
--- what Part 4 can say
+-- the values that Part 4 can have
 pub record IsImagePart (image : ImagePart) : Type 0 where
   pub depth : (1 ≤ image.depth) × (image.depth ≤ 16)
   pub width : (17 ≤ image.width) × (image.width < 2 ^ 20)
   pub word : (1 ≤ image.word) × (image.word ≤ 4)
   pub weights : All (λ shift. shift ≤ 3) image.weights.shifts
 
--- Each field has a value that a head can say.
+-- Each field has a value that a head can have.
 pub record IsHead (h : SegmentHead) : Type 0 where
   pub depth_dc : (1 ≤ h.depth_dc) × (h.depth_dc ≤ 28)
   pub depth_ac : h.depth_ac ≤ 27
@@ -87,7 +87,7 @@ pub record IsHead (h : SegmentHead) : Type 0 where
   pub limit : (h.limit ≡ 0) ⊎ ((32 ≤ h.limit) × (h.limit < 2 ^ 27) × (h.limit % h.image.word ≡ 0))
   pub plane : h.stop.plane < 32
   pub stage : h.stop.stage < 4
-  -- a stop at the DC numbers is told with plane 0 and stage 3
+  -- a stop at the DC numbers is written with plane 0 and stage 3
   pub stops_at_dc : h.stop.dc ≡ true → (h.stop.plane ≡ 0) × (h.stop.stage ≡ 3)
   pub fill : h.fill ≡ true → h.limit ≢ 0
   pub blocks : (1 ≤ h.blocks) × (h.blocks < 2 ^ 20)

@@ -15,7 +15,7 @@ use Rattle.segment_defs.specs.Fields.{number_in, is_set}
 
 -- ---- the parts
 
--- octets of Part 1: 1A, and 1B in the last segment alone
+-- octets of Part 1: 1A, and 1B only in the last segment
 abbrev pub part_1_length : List ℕ → ℕ
 part_1_length octets = if is_set octets 1 then 4 else 3
 
@@ -34,7 +34,7 @@ part_4 octets = take 8 (drop 8 (after_part_1 octets))
 
 -- ---- what the fields say
 
--- the depth of pixels; 0 stands for 16
+-- the depth of pixels; 0 represents 16
 abbrev pub depth_of : ℕ → ℕ
 depth_of pattern = if pattern == 0 then 16 else pattern
 
@@ -42,14 +42,14 @@ depth_of pattern = if pattern == 0 then 16 else pattern
 abbrev pub word_of : ℕ → ℕ
 word_of pattern = pattern / 2 + 1
 
--- the weights in Part 4: the usual ones without the flag, whatever stands there
+-- the weights in Part 4: without the flag the usual ones, whatever the fields are
 abbrev pub custom_shifts : List ℕ → List ℕ
 custom_shifts fourth = map (λ i. number_in fourth (33 + 2 * i) 2) (range_with_len 0 10)
 
 abbrev pub weights_in : List ℕ → Weights
 weights_in fourth = record { shifts = if is_set fourth 32 then custom_shifts fourth else usual_shifts }
 
--- where the segment stops, in Part 2: a stop at the DC numbers has plane 0 and stage 3, whatever stands there
+-- where the segment stops, in Part 2: a stop at the DC numbers has plane 0 and stage 3, whatever the fields are
 abbrev pub stop_in : List ℕ → Stop
 stop_in second = record {
   dc = is_set second 27;
@@ -66,7 +66,7 @@ image_in fourth = record {
   weights = weights_in fourth;
 }
 
--- what the parts say; Part 1 is the first of these octets, and pad rows stand in Part 1B alone
+-- what the parts say; Part 1 is the first of these octets, and only Part 1B has pad rows
 abbrev pub head_of : (first second third fourth : List ℕ) → SegmentHead
 head_of first second third fourth = record {
   first = is_set first 0;
@@ -89,7 +89,7 @@ head_in octets = head_of octets (part_2 octets) (part_3 octets) (part_4 octets)
 
 -- ---- the tests
 
--- a test that refuses by this name
+-- a test that refuses by this name if it holds
 abbrev pub refused_where : Bool → HeadFault → Option HeadFault
 refused_where test fault = if test then Some fault else None
 
@@ -109,7 +109,7 @@ presence_tests octets =
     ∷ refused_where (nat_lt (length octets) (part_1_length octets + 16)) (HeadShort (length octets))
     ∷ []
 
--- nothing is asked for that isn't read here
+-- nothing is asked for that is not read here
 unfoldable pub support_tests : (third fourth : List ℕ) → List (Option HeadFault)
 support_tests third fourth =
     refused_where (not (is_set fourth 0)) (Unsupported odd.Float)
@@ -125,11 +125,11 @@ unfoldable pub depth_tests : (depth_dc depth_ac : ℕ) → List (Option HeadFaul
 depth_tests depth_dc depth_ac =
     refused_where (nat_lt 28 depth_dc || nat_lt 27 depth_ac) (DepthTooLarge depth_dc depth_ac) ∷ []
 
--- a limit that is none
+-- a limit that is not valid
 abbrev pub is_bad_limit : (limit word : ℕ) → Bool
 is_bad_limit limit word = not (limit == 0) && (nat_lt limit 32 || not (limit % word == 0))
 
--- each value is one that a head can say
+-- each value is one that a head can have
 unfoldable pub value_tests : SegmentHead → List (Option HeadFault)
 value_tests h =
     refused_where (h.depth_dc == 0) (BadValue bad.DepthDc)
@@ -150,6 +150,6 @@ abbrev pub answer : {X : Type 0} → Option HeadFault → X → Result X HeadFau
 answer None x = Ok x
 answer (Some fault) x = Err fault
 
--- what a reader answers: the head, or the first refusal
+-- the result of a reader: the head, or the first refusal
 unfoldable pub head_read : List ℕ → Result SegmentHead HeadFault
 head_read octets = answer (first_refusal (head_tests octets)) (head_in octets)

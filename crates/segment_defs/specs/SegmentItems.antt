@@ -1,4 +1,4 @@
--- The items of a segment's text after its head, made from the values alone: the DC part, the block depths and the bit
+-- The items of a segment's text after its head, made only from the values: the DC part, the block depths and the bit
 -- planes up to the stop. (CCSDS 122.0-B-2, section 4; the exact place of each stop is this project's own.)
 use Rattle.std.specs.Prelude.{ℕ, ◌+◌, ◌-◌, ◌==◌, ℤ, if◌then◌else◌, nat_lt, List, ◌++◌}
 use Rattle.std.specs.List.{flat_map}
@@ -26,7 +26,7 @@ pub record Options : Type 0 where
 abbrev pub dc_shift : SegmentHead → ℕ
 dc_shift head = shift_of head.image.weights.shifts Ll3
 
--- the low bits that the DC numbers leave for the planes
+-- the low bits of the DC numbers that are left for the planes
 abbrev pub q_of : SegmentHead → ℕ
 q_of head = dc_q head.depth_dc head.depth_ac (dc_shift head)
 
@@ -56,7 +56,7 @@ nth_plane_items head blocks depths options n =
 abbrev pub planes_items : SegmentHead → List (List ℤ) → List ℕ → Options → ℕ → List Item
 planes_items head blocks depths options n = flat_map (nth_plane_items head blocks depths options) (span 0 n)
 
--- the block depths and all planes; none of them where the text stops at the DC numbers
+-- the block depths and all planes; none of them if the text stops at the DC numbers
 abbrev pub items_after_dc : SegmentHead → List (List ℤ) → List ℕ → Options → List Item
 items_after_dc head blocks depths options =
     depth_items head.depth_ac depths options.depths ++ planes_items head blocks depths options head.depth_ac

@@ -1,15 +1,15 @@
-// Why octets are no head.
+// Why octets are not a head.
 
-/// What a head asks for that this project doesn't read (docs/formats.md, "The head").
+/// A feature of a head that this project does not read (docs/formats.md, "The head").
 #[derive(Clone, Copy, Debug, PartialEq, Eq)]
 pub enum Odd {
     /// The transform in floating point.
     Float,
     /// Pixels of more than 16 bits.
     Extended,
-    /// An image turned on its side.
+    /// A transposed image.
     Transpose,
-    /// A code word that isn't of 1 to 4 octets.
+    /// A code word that is not of 1 to 4 octets.
     WordLength,
     /// A width of 0.
     Width,
@@ -17,7 +17,7 @@ pub enum Odd {
     Blocks,
 }
 
-/// What a head says wrongly (docs/formats.md, "The head", and "Fates" from `First` on).
+/// A wrong value in a head (docs/formats.md, "The head", and "Fates" from `First` on).
 #[derive(Clone, Copy, Debug, PartialEq, Eq)]
 pub enum HeadField {
     DepthDc,
@@ -32,15 +32,15 @@ pub enum HeadField {
     Image,
 }
 
-/// The first test of a head that refuses (docs/formats.md, "The head").
+/// The first test that refuses a head (docs/formats.md, "The head").
 #[derive(Clone, Copy, Debug, PartialEq, Eq)]
 pub enum HeadFault {
-    /// There are only so many octets.
+    /// There are only this number of octets.
     HeadShort { octets: u32 },
-    /// The least of the Parts 2, 3 and 4 that isn't there.
+    /// The least of the Parts 2, 3 and 4 that is missing.
     MissingPart { part: u8 },
     Unsupported(Odd),
-    /// The depths that the head tells, where one of them is above its bound.
+    /// The depths in the head, if one of them is above its bound.
     DepthTooLarge { dc: u8, ac: u8 },
     BadValue(HeadField),
 }

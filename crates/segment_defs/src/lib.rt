@@ -1,4 +1,4 @@
-//! Definitions of a coded segment: its depths, its head, and its text with padding, cut and fill.
+//! This crate defines a coded segment: its depths, its head, and its text with padding, cut and fill.
 #![tactic(auto)]
 
 ghost use Rattle.segment_defs.specs.Laws.{SizeIsLeast, DepthsAreLeast, StopsAtDc};
@@ -19,7 +19,7 @@ pub const fn depths_are_least()
     ensures { DepthsAreLeast }
 {}
 
-/// A text that stops at the DC numbers has the DC part alone after its head.
+/// A text that stops at the DC numbers has only the DC part after its head.
 pub const fn stops_at_dc()
     ensures { StopsAtDc }
 {}

@@ -1,4 +1,4 @@
--- The number that octets spell, and the fields in its bits.
+-- The number that octets represent, and the fields in its bits.
 use Rattle.std.proofs.Common.{◌≡◌, ℕ, zero, suc, ◌+◌, ◌-◌, ◌*◌, ◌/◌, ◌%◌, ◌^◌, ◌<◌, ◌≤◌, List, [], ◌∷◌, ◌++◌, length, take, drop, get_or, refl, sym, ap, subst, ◌∙◌, arith, inl, inr, length-drop}
 use Rattle.std.proofs.lemmas.Bool.{cases_lt}
 use Rattle.std.proofs.lemmas.Nat.{pow-add, and_mask, one_shl}
@@ -23,7 +23,7 @@ pow-256 (suc n) =
 octet_at : (xs : List ℕ) → AreOctets xs → (k : ℕ) → get_or xs k 0 < 256
 octet_at xs h k = elim (cases_lt k (length xs)) [ inl lt ↦ h k 0 lt | inr ge ↦ omega (arith, get_or_past xs k 0 ge) ]
 
--- the bits of octets are those of the number that they spell
+-- the bits of octets are those of the number that they represent
 pub bits_of_big_number : (n : ℕ) (xs : List ℕ) → length xs ≡ n → AreOctets xs → bits_of_octets xs ≡ bits_of (8 * n) (big_number n xs)
 bits_of_big_number zero [] e h = no_octets ∙ sym (bits_none (big_number 0 []))
 bits_of_big_number zero (x ∷ xs) e h = absurd (omega arith)
@@ -57,12 +57,12 @@ pub number_in-within : (octets : List ℕ) (n start width : ℕ) → n ≤ lengt
 unfolding number_in
 number_in-within octets n start width le fit = ap value_of (bits_within octets n start width le fit)
 
--- the number in so many bits of n octets' number
+-- the number in `w` bits of n octets' number
 field_of_number : (n r w below number : ℕ) → 8 * n ≡ r + (w + below) → value_of (take w (drop r (bits_of (8 * n) number))) ≡ number / 2 ^ below % 2 ^ w
 field_of_number n r w below number e =
     ap (λ k. value_of (take w (drop r (bits_of k number)))) e ∙ ap (λ bits. value_of (take w bits)) (drop-bits_of r (w + below) number) ∙ ap value_of (take-bits_of w below number) ∙ value_of-bits_of w (number / 2 ^ below)
 
--- the number of a field, from the octets in which it stands
+-- the number of a field, from the octets in which it is
 pub number_in-read : (octets : List ℕ) (first n start width below : ℕ) → AreOctets octets → first + n ≤ length octets → 8 * first ≤ start → 8 * (first + n) ≡ start + width + below →
     big_number n (take n (drop first octets)) / 2 ^ below % 2 ^ width ≡ number_in octets start width
 unfolding number_in

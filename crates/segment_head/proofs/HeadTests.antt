@@ -4,7 +4,7 @@ use Rattle.std.specs.Prelude.{Option, None, Some, Ok, Err}
 use Rattle.segment_defs.specs.declared.fault.HeadFault.{HeadFault}
 use Rattle.segment_defs.specs.Reading.{first_refusal, answer, presence_tests, support_tests, depth_tests, value_tests, head_in, head_read, part_3, part_4}
 
--- what an answer tells of the tests
+-- what an answer says of the tests
 pub passed : {X : Type 0} (o : Option HeadFault) (x y : X) → Ok x ≡ answer o y → o ≡ None
 passed None x y e = refl
 passed (Some fault) x y e = absurd cc

@@ -1,4 +1,4 @@
--- A head that has all parts is refused by the later tests alone.
+-- A head that has all parts is only refused by the later tests.
 use Rattle.std.proofs.Common.{◌≡◌, ◌⊎◌, inl, inr, ℕ, ◌+◌, ◌≤◌, List, [], ◌∷◌, ◌++◌, length, Bool, true, false, not, nat_lt, refl, sym, ap, subst, arith}
 use Rattle.std.specs.Prelude.{Option, None, Some, Err}
 use Rattle.std.proofs.lemmas.Bool.Decides.{nat_tests}

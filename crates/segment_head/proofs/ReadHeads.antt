@@ -58,7 +58,7 @@ was_read : (o : Option HeadFault) (x h : SegmentHead) → answer o x ≡ Ok h �
 was_read None x h e = (refl, cc)
 was_read (Some fault) x h e = absurd cc
 
--- what the tests of values tell
+-- what the tests of values say
 pub record HasValues (o : List ℕ) : Type 0 where
   pub blocks : number_in (part_3 o) 0 20 ≢ 0
   pub depths : (nat_lt 28 (number_in o 10 5) || nat_lt 27 (number_in o 15 5)) ≡ false

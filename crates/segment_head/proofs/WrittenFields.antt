@@ -1,4 +1,4 @@
--- Fields that are written one after another, read by their places.
+-- Fields that are written one after another, and read by their places.
 use Rattle.std.proofs.Common.{◌≡◌, ℕ, zero, suc, ◌+◌, ◌*◌, ◌%◌, ◌^◌, ◌<◌, ◌≤◌, List, [], ◌∷◌, ◌++◌, length, take, drop, Bool, refl, sym, ap, ◌∙◌, arith, append_assoc, length-append, length-drop}
 use Rattle.std.specs.List.{flat_map}
 use Rattle.std.proofs.lemmas.List.{drop-drop, drop_at, take_at, take-append-drop, length-take-le}
@@ -17,7 +17,7 @@ abbrev pub width_of : List Field → ℕ
 width_of [] = 0
 width_of (f ∷ fs) = f.width + width_of fs
 
--- where the field of this index begins, and which it is
+-- the place at which the field of this index begins, and the field
 abbrev pub start_of : List Field → ℕ → ℕ
 start_of [] i = 0
 start_of (f ∷ fs) zero = 0
@@ -47,7 +47,7 @@ value_at_place (f ∷ fs) (suc i) more lt =
     sym (drop-drop (start_of fs i) f.width (field_bits f ++ (bits_in fs ++ more))) ∙ ap (drop (start_of fs i)) (drop_at (field_bits f) (bits_in fs ++ more) f.width (length-bits_of f.width f.value)) in
     ap (λ r. value_of (take (field_at fs i).width (drop (f.width + start_of fs i) r))) front ∙ ap (λ r. value_of (take (field_at fs i).width r)) past ∙ value_at_place fs i more (omega arith)
 
--- ---- octets of bits that stand one after another
+-- ---- octets of consecutive bits
 
 pub octets_of-append : (n : ℕ) (xs ys : List Bool) → length xs ≡ 8 * n → octets_of (xs ++ ys) ≡ octets_of xs ++ octets_of ys
 unfolding octets_of
@@ -71,7 +71,7 @@ pub number_in-octets_of : (n : ℕ) (bits : List Bool) (start width : ℕ) → l
 unfolding number_in
 number_in-octets_of n bits start width e = ap (λ r. value_of (take width (drop start r))) (bits_of_octets-octets_of bits n e)
 
--- a number in the first of octets
+-- a number in a prefix of octets
 pub number_in-front : (n : ℕ) (bits : List Bool) (after : List ℕ) (start width : ℕ) → length bits ≡ 8 * n → number_in (octets_of bits ++ after) start width ≡ value_of (take width (drop start (bits ++ bits_of_octets after)))
 unfolding number_in
 number_in-front n bits after start width e = ap (λ r. value_of (take width (drop start r))) (octets_append (octets_of bits) after ∙ ap (λ r. r ++ bits_of_octets after) (bits_of_octets-octets_of bits n e))

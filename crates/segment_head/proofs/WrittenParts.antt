@@ -16,7 +16,7 @@ use Rattle.segment_defs.specs.Fields.{number_in, is_set}
 use Rattle.segment_defs.specs.Reading.{depth_of, word_of, custom_shifts, stop_in, image_in}
 use Rattle.segment_head.proofs.WrittenFields.{bits_in, start_of, field_at, value_at_place}
 
--- the octets have these fields in front
+-- the octets begin with these fields
 pub record Has (octets : List ℕ) (fields : List Field) (rest : List Bool) : Type 0 where
   pub number : (start width : ℕ) → number_in octets start width ≡ value_of (take width (drop start (bits_in fields ++ rest)))
 
@@ -135,7 +135,7 @@ width_read depth low high = grind (arith, nat_tests)
 word_read : (word : ℕ) → 1 ≤ word → word ≤ 4 → word_of (word_pattern word % 8) ≡ word
 word_read word low high = omega arith
 
--- the fields of Part 4, where the weights are the usual ones or not
+-- the fields of Part 4, whether the weights are the usual ones or not
 abbrev fields_4 : Bool → ImagePart → List Field
 fields_4 usual image =
     flag true ∷ reserved 1 ∷ flag false ∷ flag image.signed ∷ field 4 (image.depth % 16) ∷ field 20 image.width
@@ -152,7 +152,7 @@ field_at-pairs [] more k lt = absurd (omega arith)
 field_at-pairs (x ∷ xs) more zero lt = refl
 field_at-pairs (x ∷ xs) more (suc k) lt = field_at-pairs xs more k (omega arith)
 
--- the weight of this index, among those that aren't usual
+-- the weight of this index, if the weights are not the usual ones
 each_weight : (o : List ℕ) (image : ImagePart) (rest : List Bool) → IsImagePart image → length image.weights.shifts ≡ 10 → Has o (fields_4 false image) rest → (k : ℕ) → k < 10 →
     get_or image.weights.shifts k 0 ≡ number_in o (33 + 2 * k) 2
 each_weight o image rest ok ten has k lt =

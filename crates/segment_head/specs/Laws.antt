@@ -1,4 +1,4 @@
--- The laws that heads keep.
+-- The laws of heads.
 use Rattle.std.specs.Prelude.{◌≡◌, ◌<◌, ℕ, List, ◌++◌, length, Bool, Ok}
 use Rattle.item_defs.specs.Bits.{octets_of}
 use Rattle.segment_defs.specs.declared.head.SegmentHead.{SegmentHead}

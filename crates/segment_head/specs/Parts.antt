@@ -15,7 +15,7 @@ part_1a carried h =
     flag h.first ∷ flag h.last ∷ field 8 h.count ∷ field 5 h.depth_dc ∷ field 5 h.depth_ac ∷ reserved 1
     ∷ flag carried.part_2 ∷ flag carried.part_3 ∷ flag carried.part_4 ∷ []
 
--- Part 1: 1A, and 1B in the last segment alone
+-- Part 1: 1A, and 1B only in the last segment
 abbrev pub part_1 : Carried → SegmentHead → List Field
 part_1 carried h = part_1a carried h ++ part_1b h
 

@@ -1,4 +1,4 @@
--- What code says by the fields of a head.
+-- The fields of a head in the form in which code writes them.
 use Rattle.std.specs.Prelude.{◌%◌, true, false, List, [], ◌∷◌, ◌++◌}
 use Rattle.segment_defs.specs.Head.{field, flag, reserved, word_pattern, part_1a, part_1b, part_2, part_3}
 use Rattle.segment_defs.specs.Head as head

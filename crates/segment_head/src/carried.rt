@@ -1,8 +1,8 @@
-// Which parts a head carries.
+// The parts that a head carries.
 ghost use Rattle.std.specs.Prelude.{◌≡◌};
 ghost use Rattle.segment_head.specs.Parts.{all_carried};
 
-/// Which of the Parts 2, 3 and 4 a head carries: the flags of Part 1A (docs/formats.md, "The head").
+/// The flags of Part 1A: which of the Parts 2, 3 and 4 a head carries (docs/formats.md, "The head").
 #[derive(Clone, Copy, Debug, PartialEq, Eq)]
 pub struct Carried {
     pub part_2: bool,
@@ -11,7 +11,7 @@ pub struct Carried {
 }
 
 impl Carried {
-    /// All three, as each head of a packet does.
+    /// Returns all three, as each head of a packet has them.
     pub fn all() -> Carried
         ensures { result ≡ all_carried }
     {

@@ -1,7 +1,7 @@
 // The fields of a head that is written.
 ghost use Rattle.std.specs.Prelude.{◌≤◌};
 
-// So many bits of a value.
+// A number of bits of a value.
 #[derive(Clone, Copy)]
 pub(crate) struct Field {
     pub(crate) width: u8,

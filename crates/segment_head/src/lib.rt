@@ -1,4 +1,4 @@
-//! The head of a segment as octets, both ways (docs/formats.md, "The head").
+//! This crate writes and reads the head of a segment as octets (docs/formats.md, "The head").
 #![tactic(auto)]
 
 ghost use Rattle.segment_head.specs.Laws.{HeadsUndo};

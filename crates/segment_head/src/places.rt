@@ -4,7 +4,7 @@ ghost use Rattle.segment_defs.specs.Fields.{number_in, is_set};
 
 use byteorder::{BigEndian, ByteOrder};
 
-// The number in so many bits from a place on, the highest bit of the first octet at place 0.
+// Returns the number in `width` bits from a place on, the highest bit of the first octet at place 0.
 pub(crate) fn number_in(octets: &[u8], start: u8, width: u8) -> u32
     requires width { (1 ≤ width) × (width ≤ 32) }
     requires within { start + width ≤ 8 * length octets.now }
@@ -18,7 +18,7 @@ pub(crate) fn number_in(octets: &[u8], start: u8, width: u8) -> u32
     ((number >> (8 * past - end)) & ((1 << width) - 1)) as u32
 }
 
-// The flag at a place.
+// Returns the flag at a place.
 pub(crate) fn is_set(octets: &[u8], place: u8) -> bool
     requires { place + 1 ≤ 8 * length octets.now }
     ensures { result ≡ is_set octets.now place }

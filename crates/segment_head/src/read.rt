@@ -1,4 +1,4 @@
-// A head read from octets.
+// The reader of a head.
 ghost use Rattle.std.specs.Prelude.{◌≡◌, ◌≤◌, ◌+◌, length, OnOk, IfOk};
 ghost use Rattle.segment_defs.specs.Head.{IsHead};
 ghost use Rattle.segment_head.specs.Parts.{carried_in};
@@ -9,8 +9,8 @@ use crate::places::{is_set, number_in};
 use base_122::{Stop, Weights};
 use segment_defs::{HeadFault, HeadField, ImagePart, Odd, SegmentHead};
 
-/// Reads the head with which octets begin, or tells the first test that refuses them (docs/formats.md, "The head").
-/// Octets after the head are free.
+/// Reads the head with which octets begin, or returns the first test that refuses them (docs/formats.md, "The
+/// head"). Octets after the head are free.
 pub fn read_head(octets: &[u8]) -> Result<SegmentHead, HeadFault>
     ensures value { result ≡ head_read octets.now }
     ensures fits { IfOk result (λ head. IsHead head) }
@@ -25,7 +25,7 @@ pub fn read_head(octets: &[u8]) -> Result<SegmentHead, HeadFault>
     Ok(head)
 }
 
-/// The number of octets of Part 1 of a head, 3 or 4, which begins with these octets.
+/// Returns the number of octets of Part 1 of a head, 3 or 4, which begins with these octets.
 pub fn part_1_length(octets: &[u8]) -> usize
     requires { 3 ≤ length octets.now }
     ensures { result ≡ part_1_length octets.now }
@@ -33,7 +33,7 @@ pub fn part_1_length(octets: &[u8]) -> usize
     if is_set(octets, 1) { 4 } else { 3 }
 }
 
-/// The flags of Part 1A of a head that begins with these octets (docs/formats.md, "The head").
+/// Returns the flags of Part 1A of a head that begins with these octets (docs/formats.md, "The head").
 pub fn carried_in(octets: &[u8]) -> Carried
     requires { 3 ≤ length octets.now }
     ensures { result ≡ carried_in octets.now }
@@ -45,7 +45,7 @@ pub fn carried_in(octets: &[u8]) -> Carried
     }
 }
 
-// The octets after Part 1.
+// Returns the octets after Part 1.
 fn after_part_1(octets: &[u8]) -> &[u8]
     requires { part_1_length octets.now + 16 ≤ length octets.now }
     ensures rest { result.now ≡ after_part_1 octets.now }
@@ -54,7 +54,7 @@ fn after_part_1(octets: &[u8]) -> &[u8]
     &octets[part_1_length(octets)..]
 }
 
-// All parts are there, and are whole.
+// Tests that all parts are there, and are whole.
 #[tactic(auto, unfolding(segment_defs::specs::Reading::presence_tests))]
 fn check_presence(octets: &[u8]) -> Result<(), HeadFault>
     ensures tests { result ≡ answer (first_refusal (presence_tests octets.now)) tt }
@@ -83,7 +83,7 @@ fn check_presence(octets: &[u8]) -> Result<(), HeadFault>
     Ok(())
 }
 
-// Parts 3 and 4 ask for nothing that isn't read here.
+// Tests that Parts 3 and 4 ask for nothing that is not read here.
 #[tactic(auto, unfolding(segment_defs::specs::Reading::support_tests))]
 fn check_support(third: &[u8], fourth: &[u8]) -> Result<(), HeadFault>
     requires third { length third.now ≡ 3 }
@@ -111,7 +111,7 @@ fn check_support(third: &[u8], fourth: &[u8]) -> Result<(), HeadFault>
     Ok(())
 }
 
-// The depths are within their bounds.
+// Tests that the depths are within their bounds.
 #[tactic(auto, unfolding(segment_defs::specs::Reading::depth_tests))]
 fn check_depths(dc: u8, ac: u8) -> Result<(), HeadFault>
     ensures { result ≡ answer (first_refusal (depth_tests dc ac)) tt }
@@ -122,7 +122,7 @@ fn check_depths(dc: u8, ac: u8) -> Result<(), HeadFault>
     Ok(())
 }
 
-// Each value is one that a head can say.
+// Tests that each value is one that a head can have.
 #[tactic(auto, unfolding(segment_defs::specs::Reading::value_tests))]
 fn check_values(head: &SegmentHead) -> Result<(), HeadFault>
     requires { 1 ≤ head.now.image.word }
@@ -143,7 +143,7 @@ fn check_values(head: &SegmentHead) -> Result<(), HeadFault>
     Ok(())
 }
 
-// What the parts say.
+// Returns the values of the parts.
 fn head_of(octets: &[u8], second: &[u8], third: &[u8], fourth: &[u8]) -> SegmentHead
     requires first { part_1_length octets.now ≤ length octets.now }
     requires second { length second.now ≡ 5 }
@@ -173,7 +173,7 @@ fn head_of(octets: &[u8], second: &[u8], third: &[u8], fourth: &[u8]) -> Segment
     }
 }
 
-// Where Part 2 says that the segment stops.
+// Returns where Part 2 says that the segment stops.
 fn stop_in(second: &[u8]) -> Stop
     requires { length second.now ≡ 5 }
     ensures { result ≡ stop_in second.now }
@@ -192,7 +192,7 @@ fn stop_in(second: &[u8]) -> Stop
     }
 }
 
-// What Part 4 says of the image.
+// Returns what Part 4 says of the image.
 fn image_in(fourth: &[u8]) -> ImagePart
     requires { length fourth.now ≡ 8 }
     ensures { result ≡ image_in fourth.now }
@@ -207,7 +207,7 @@ fn image_in(fourth: &[u8]) -> ImagePart
     }
 }
 
-// The weights in Part 4.
+// Returns the weights in Part 4.
 fn weights_in(fourth: &[u8]) -> Weights
     requires { length fourth.now ≡ 8 }
     ensures { result ≡ weights_in fourth.now }

@@ -1,4 +1,4 @@
-// A head written as bits.
+// The writer of a head.
 ghost use Rattle.std.specs.Prelude.{◌≡◌, ◌≢◌, ◌≤◌, ◌*◌, map, [], ◌∷◌, ◌++◌, length, Err};
 ghost use Rattle.std.specs.List.{flat_map};
 ghost use Rattle.std.specs.Str.{bytes_eq};
@@ -16,8 +16,8 @@ use base_122::Weights;
 use bit_pipe::{BitOut, OctetOut, PutFault};
 use segment_defs::{ImagePart, SegmentHead};
 
-/// Puts the bits of a head that fits (docs/formats.md, "The head"). The bound has room for it, so `Stopped` never
-/// comes.
+/// Puts the bits of a head that fits (docs/formats.md, "The head"). The bound has room for it, so `Stopped` is
+/// never returned.
 pub fn write_head<O: OctetOut>(out: &mut BitOut<O>, head: &SegmentHead) -> Result<(), PutFault>
     requires fits { IsHead head.now }
     requires open { IsReady O.sink out.old }
@@ -29,7 +29,7 @@ pub fn write_head<O: OctetOut>(out: &mut BitOut<O>, head: &SegmentHead) -> Resul
     put_part_4(out, &head.image)
 }
 
-// Parts 1, 2 and 3.
+// Puts Parts 1, 2 and 3.
 fn put_first_parts<O: OctetOut>(out: &mut BitOut<O>, head: &SegmentHead) -> Result<(), PutFault>
     requires { IsReady O.sink out.old }
     ensures { Writes O.sink result out.old out.new (flat_map field_bits (first_parts head.now)) }
@@ -84,7 +84,7 @@ pub fn put_part_3<O: OctetOut>(out: &mut BitOut<O>, head: &SegmentHead) -> Resul
     put_fields(out, &part_3(head))
 }
 
-/// Puts Part 4: what the head says of the image. The bound has room for it, so `Stopped` is never the answer.
+/// Puts Part 4: what the head says of the image. The bound has room for it, so `Stopped` is never returned.
 ///
 /// # Errors
 ///
@@ -101,7 +101,7 @@ pub fn put_part_4<O: OctetOut>(out: &mut BitOut<O>, image: &ImagePart) -> Result
     put_fields(out, &[reserved(11)])
 }
 
-// The usual weights are told by the flag alone.
+// Puts the weights. If they are the usual ones, the flag alone represents them.
 fn put_weights<O: OctetOut>(out: &mut BitOut<O>, weights: &Weights) -> Result<(), PutFault>
     requires { IsReady O.sink out.old }
     ensures puts { Writes O.sink result out.old out.new (flat_map field_bits (weight_fields weights.now.shifts)) }
@@ -201,7 +201,7 @@ fn part_3(head: &SegmentHead) -> [Field; 4]
     ]
 }
 
-// The fields of Part 4 before the weights.
+// Returns the fields of Part 4 before the weights.
 fn plain_fields(image: &ImagePart) -> [Field; 8]
     requires { 1 ≤ image.now.word }
     ensures { map said result ≡ plain_fields image.now }

@@ -9,7 +9,7 @@ use Rattle.space_packets.specs.declared.stage.Stage.TheVariants.{Idle, Begun, Br
 use Rattle.space_packets.specs.declared.stage.Text.{Text}
 use Rattle.space_packets.specs.Stages.{given_in, room_of, parts_of}
 
--- none, where just the room for a header is left
+-- none, if only the room for a header is left
 pub header_alone : (items now : List ℕ) → now ≡ take 30 items → drop 30 now ≡ []
 header_alone items now e = ap (drop 30) e ∙ drop_all 30 (take 30 items) (omega (arith, length-take 30 items))
 
@@ -17,7 +17,7 @@ header_alone items now e = ap (drop 30) e ∙ drop_all 30 (take 30 items) (omega
 pub more_wait : (items now octets : List ℕ) → 30 ≤ length items → now ≡ items ++ octets → drop 30 now ≡ drop 30 items ++ octets
 more_wait items now octets long e = ap (drop 30) e ∙ drop-append-le 30 items octets long
 
--- never more than a part
+-- at most the size of a part
 pub room_least : (s : Stage) (size : ℕ) → room_of s size ≤ size
 room_least Idle size = omega arith
 room_least (Begun t) size = omega arith
@@ -28,7 +28,7 @@ given_count Idle size pending few = absurd (omega (arith, few))
 given_count (Begun t) size pending few = refl
 given_count Broken size pending few = absurd (omega (arith, few))
 
--- and more of them count as more
+-- and further octets are counted
 pub given_more : (s : Stage) (size pending count now : ℕ) → given_in s size pending < 2 ^ 32 → now ≡ pending + count → given_in s size now ≡ given_in s size pending + count
 given_more Idle size pending count now few e = absurd (omega (arith, few))
 given_more (Begun t) size pending count now few e = omega (arith, e)

@@ -1,4 +1,4 @@
--- What octets more, and answers, leave of a reader's state.
+-- The effect of further octets, and of results, on a reader's state.
 use Rattle.std.proofs.Common.{◌≡◌, ◌≢◌, ◌≤◌, ◌<◌, ◌+◌, ◌-◌, ℕ, List, [], ◌∷◌, ◌++◌, length, take, drop, refl, sym, ap, subst, ◌∙◌, arith, append_assoc, add_assoc, add-zero, length-append, length-drop}
 use Rattle.std.specs.Prelude.{Bool, true, false, ◌||◌, ◌==◌, Some, None, Result, Ok, Err, slice_range}
 use Rattle.std.proofs.lemmas.Bool.{false≢true, or_parts}
@@ -23,7 +23,7 @@ use Rattle.packet_defs.specs.Reading.{packet_read, read_as, skip_of, head_in, an
 use Rattle.packet_defs.specs.Streams.{has_bad_version, begins_packet, first_packet, after_packet, framing_at, missing}
 use Rattle.space_packets.specs.Intake.{Intake, place_of, is_decided, end_read, verdict, text_mine, answered, fed}
 
--- two states are the same by their parts
+-- two states are the same if their parts are
 pub same_intake : {v w : Intake} → v.cap ≡ w.cap → v.taken ≡ w.taken → v.pending ≡ w.pending → v.text ≡ w.text → v.ended ≡ w.ended → v ≡ w
 same_intake c t p x e = λ i. record { cap = c i; taken = t i; pending = p i; text = x i; ended = e i }
 
@@ -37,7 +37,7 @@ fed_both v xs ys saw_end = same_intake refl
     or_false true b = refl
     or_false false b = refl
 
--- octets that were read behind those that wait
+-- octets that were read after those that wait
 pub waits_more : (xs piece : List ℕ) (start end count k : ℕ) → start ≤ end → end ≤ length xs → count ≤ length piece →
     slice_range (put_mid end k xs piece) start (end + count) ≡ slice_range xs start end ++ take count piece
 waits_more xs piece start end count k order within few =
@@ -61,11 +61,11 @@ waits_moved v old moved xs start s held was same long is =
     let size : length moved ≡ v.len = long ∙ ap length was ∙ sym v.ok.0 in
     ap (λ zs. take held (drop s zs)) (is ∙ with_items_is v moved size) ∙ same ∙ ap (λ zs. take held (drop start zs)) was
 
--- what waits is as long as its bounds say
+-- the length of what waits is within its bounds
 pub length-waits : (xs : List ℕ) (start end : ℕ) → start ≤ end → end ≤ length xs → length (slice_range xs start end) ≡ end - start
 length-waits xs start end order within = length-take-le (end - start) (drop start xs) (omega (arith, length-drop start xs))
 
--- a piece that was read behind those that wait, which stand from s on, and whether it was the end
+-- a piece that was read after those that wait, which begin at s, and whether it was the end
 pub fed_piece : (v : Intake) (now xs piece : List ℕ) (s held count k : ℕ) (ended saw_end : Bool) → now ≡ put_mid (s + held) k xs piece → take held (drop s xs) ≡ v.pending → s + held ≤ length xs → count ≤ length piece →
     ended ≡ (v.ended || saw_end) →
     record { cap = v.cap; taken = v.taken + count; pending = slice_range now s (s + held + count); text = []; ended = ended } ≡ fed v (take count piece) saw_end
@@ -145,7 +145,7 @@ pub read_mine : (apid : ℕ) (packet : List ℕ) → skip_of apid packet ≡ Non
 unfolding packet_read
 read_mine apid packet e = ap (λ o. read_as o packet) e
 
--- what stands after a packet of the image, and after another
+-- the state after a packet of the image, and after another
 pub passed_mine : (apid : ℕ) (v : Intake) (text : List ℕ) (after : List ℕ) → begins_packet v.pending ≡ true → skip_of apid (first_packet v.pending) ≡ None →
     after ≡ after_packet v.pending → text ≡ text_in (first_packet v.pending) → record v { pending = after; text = text } ≡ answered apid v
 passed_mine apid v text after whole mine rest is =
@@ -164,7 +164,7 @@ drop_of_take n k zs within =
     let parts : k + (n - k) ≡ n = omega arith in
     subst (λ m. drop k (take m zs) ≡ take (n - k) (drop k zs)) parts (drop-take k (n - k) zs)
 
--- the octets that wait, past the first of them
+-- the octets that wait, after the first of them
 pub waits_past : (xs : List ℕ) (start end count : ℕ) → start + count ≤ end → slice_range xs (start + count) end ≡ drop count (slice_range xs start end)
 waits_past xs start end count within =
     let few : end - (start + count) ≡ (end - start) - count = omega arith in
@@ -194,12 +194,12 @@ taken_nothing p v w capped e = record {
   stands = e;
 }
 
--- the read calls so far, where more is taken
+-- the read calls so far, if more is taken
 asked_more : {p now : Outside} {v w : Intake} (more : List ℕ) → (s : TakenSoFar p now v w) → Exchange p now s.took [] [] (AsksUndecided v (s.took ++ more))
 asked_more {v = v} more s = since_weaker s.since
     (λ i j le r. (subst (λ zs. is_decided (fed v zs false) ≡ false) (sym (take-append-le i s.took more le)) r.0, r.1))
 
--- a read call that is entered now
+-- a read call that is made now
 asks_now : {p now : Outside} {v w : Intake} (more : List ℕ) → (s : TakenSoFar p now v w) → s.saw_end ≡ false → is_decided w ≡ false →
     AsksUndecided v (s.took ++ more) (length s.took) 0
 asks_now {v = v} more s unseen undecided =
@@ -207,7 +207,7 @@ asks_now {v = v} more s unseen undecided =
     let here : is_decided (fed v s.took false) ≡ false = subst (λ b. is_decided (fed v s.took b) ≡ false) unseen (subst (λ w. is_decided w ≡ false) s.stands undecided) in
     (subst (λ zs. is_decided (fed v zs false) ≡ false) (sym same) here, refl)
 
--- where nothing is decided, the end wasn't seen
+-- if nothing is decided, the end wasn't reached
 still_open : {p now : Outside} {v w : Intake} → (s : TakenSoFar p now v w) → w.ended ≡ false → s.saw_end ≡ false
 still_open {v = v} s going = (or_parts v.ended s.saw_end (sym (ap (λ w. w.ended) s.stands) ∙ going)).1
 
@@ -262,7 +262,7 @@ never_read_fault apid u e = by_tests (has_bad_version u.pending) (begins_packet 
     by_tests false false false true x y z e = cc
     by_tests false false false false x y z e = cc
 
--- what was decided is answered
+-- what was decided is returned
 ends_with : (apid : ℕ) (p q : Outside) (u w : Intake) (result : Result PacketRead InFault) → verdict apid u ≡ Some result → w ≡ answered apid u → EndsPacket apid p q u w result
 ends_with apid p q u w (Ok read) e stands = (e, stands)
 ends_with apid p q u w (Err ReadFault) e stands = absurd (never_read_fault apid u e)

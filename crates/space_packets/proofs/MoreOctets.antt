@@ -1,4 +1,4 @@
--- A text goes on by octets that its part has room for, or by one past a full part.
+-- A text is continued by octets that its part has room for, or by one after a full part.
 use Rattle.std.proofs.Common.{◌≡◌, ◌≤◌, ◌+◌, ◌*◌, ℕ, List, [], ◌∷◌, ◌++◌, length, take, drop, refl, sym, ◌∙◌, ap, subst, arith, add-zero, length-append}
 use Rattle.std.specs.Prelude.{false}
 use Rattle.std.proofs.Math.Nat.{zero-mul, one-mul}

@@ -1,4 +1,4 @@
--- What octets do that go to a sink whose text was just begun.
+-- The effect of octets that are written to a sink whose text was begun last.
 use Rattle.std.proofs.Common.{◌≡◌, ◌≤◌, ℕ, List, subst, sym}
 use Rattle.port_122.specs.Outside.{Outside}
 use Rattle.space_packets.specs.declared.sink.PacketSink.{PacketSink}
@@ -8,7 +8,7 @@ use Rattle.space_packets.specs.Writes.{Continues, StopsEarly}
 use Rattle.space_packets.specs.Sink.{Gave, Broke}
 use Rattle.space_packets.proofs.WholeCalls.{begun_open}
 
--- they went out
+-- they were written
 pub sink_goes_on : {X : Type 0} (outside : X → Outside) (s u : PacketSink X) (v : Progress) (t : Text) (port : X) (octets : List ℕ) →
     s.packets.now ≡ begun v t → s.port.now ≡ port → 64 ≤ v.packet → Gave outside s u octets →
     Continues t (outside port) (outside u.port.now) (begun v t) u.packets.now octets

@@ -1,4 +1,4 @@
--- What holds of a packetiser's fields goes on to hold.
+-- What holds of a packetiser's fields is preserved.
 use Rattle.std.proofs.Common.{◌≡◌, ◌≤◌, ◌<◌, ◌+◌, ◌-◌, ◌*◌, ◌^◌, ℕ, length, ap, sym, subst, arith}
 use Rattle.std.specs.Prelude.{Bool, true, false, if◌then◌else◌, vec_capacity}
 use Rattle.std.specs.Bool.{OnFalse}
@@ -41,7 +41,7 @@ known a t sound e =
       octets = omega (arith, sound.octets, texts, parts);
     }
 
--- after so many more octets
+-- after this number of further octets
 pub sound_more : (a : Inside) (buffer : Vec ℕ) (count : ℕ) → IsSound a → 0 < count → length a.buffer.items - 30 + count ≤ part_size a.packet →
     given_in a.stage (part_size a.packet) (length a.buffer.items - 30) + count ≤ 2 ^ 32 →
     length buffer.items ≡ length a.buffer.items + count → vec_capacity a.buffer ≤ vec_capacity buffer → IsSound (record a { buffer = buffer })
@@ -64,7 +64,7 @@ sound_more a buffer count sound some room fits long same =
       octets = sound.octets;
     }
 
--- after a part is out
+-- after a part is written
 pub sound_past : (a : Inside) (t : Text) (last : Bool) (s : Stage) (octets : ℕ) (buffer : Vec ℕ) → IsSound a → a.stage ≡ Begun t →
     OnFalse last (length a.buffer.items - 30 ≡ part_size a.packet) → s ≡ (if last then Idle else Begun (text_at t 1)) → octets ≡ length a.buffer.items →
     length buffer.items ≡ 30 → vec_capacity buffer ≡ vec_capacity a.buffer →

@@ -1,11 +1,11 @@
--- A reader goes through a stream packet by packet: what decides its answer is what the stream's definitions say.
+-- A reader reads a stream packet by packet: its result is that of the stream's definitions.
 use Rattle.std.proofs.Common.{◌≡◌, refl, sym}
 use Rattle.std.specs.Prelude.{Bool, true, false, ◌||◌}
 use Rattle.std.proofs.lemmas.Bool.{false≢true}
 use Rattle.packet_defs.specs.Streams.{has_bad_version, begins_packet}
 use Rattle.space_packets.specs.Intake.{Intake, is_decided}
 
--- where nothing is decided, no packet waits: so at each read call all whole packets among the octets taken were answered
+-- if nothing is decided, no packet waits: so at each read call all whole packets among the octets taken were returned
 pub undecided_none : (u : Intake) → is_decided u ≡ false → begins_packet u.pending ≡ false
 unfolding is_decided
 undecided_none u e = by_tests (has_bad_version u.pending) (begins_packet u.pending) _ e

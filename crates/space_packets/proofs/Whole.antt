@@ -1,4 +1,4 @@
--- A whole text: the packets that go out are those of the text.
+-- A whole text: the packets that are written are those of the text.
 use Rattle.std.proofs.Common.{◌≡◌, ◌≤◌, ◌<◌, ◌+◌, ◌-◌, ◌*◌, ◌/◌, ℕ, List, [], ◌∷◌, ◌++◌, length, drop, map, ◌∙◌, ap, arith, length-drop}
 use Rattle.std.specs.Prelude.{Bool, true, false, if◌then◌else◌, ◌==◌}
 use Rattle.std.specs.List.{range_with_len}
@@ -15,7 +15,7 @@ use Rattle.space_packets.specs.Progress.{Progress, begun, full_count, full_packe
 use Rattle.space_packets.specs.PartLists.{map_same}
 use Rattle.space_packets.specs.FullParts.{full_parts_left}
 
--- all parts but one are full and not the last
+-- all parts except one are full and not the last
 pub parts_and_last : (size octets : ℕ) → 0 < size → 0 < octets → part_count size octets ≡ full_parts size octets + 1
 parts_and_last size octets some more =
     let sum : octets + size - 1 ≡ (octets - 1) + 1 * size = omega arith in

@@ -23,7 +23,7 @@ use Rattle.space_packets.proofs.Whole.{whole_text, parts_and_last}
 pub begun_open : (v : Progress) (t : Text) → 64 ≤ v.packet → IsOpen t (begun v t)
 begun_open v t least = record { stage = refl; packet = least; pending = omega arith }
 
--- octets wait where a text isn't empty
+-- octets wait if a text isn't empty
 pub some_wait : {t : Text} {p q : Outside} (v : Progress) {w : Progress} (text : List ℕ) → 0 < length text → Continues t p q (begun v t) w text → 0 < length w.pending
 some_wait {t = t} v {w = w} text some first =
     let size = part_size v.packet in
@@ -31,7 +31,7 @@ some_wait {t = t} v {w = w} text some first =
     let left : length w.pending ≡ length text - n * size = ap (λ (w : Progress). length w.pending) first.stands ∙ length-drop (n * size) text in
     omega (arith, left, full_parts_below size (length text) some)
 
--- what stands at the end
+-- the state at the end
 ended_is : (v : Progress) (t : Text) (text : List ℕ) → 64 ≤ v.packet → t.ancillary.part ≡ 0 → 0 < length text →
     past_packet (after t (begun v t) text) Idle (last_packet (text_at t (full_count (begun v t) text)) (after t (begun v t) text)) ≡ ended v t text
 ended_is v t text least first some =
@@ -43,7 +43,7 @@ ended_is v t text least first some =
     (sym (octets_both v.octets (joined (text_packets t.apid t.ancillary v.packet v.packets text)) (written t b text) (last_packet (text_at t n) (after t b text)) (whole_text v t text least first some)))
     refl
 
--- begin, a text that isn't empty, close: its packets are out
+-- begin, a text that isn't empty, close: its packets are written
 pub text_out : {t : Text} {p q r : Outside} (v : Progress) {w u : Progress} (text : List ℕ) → 64 ≤ v.packet → t.ancillary.part ≡ 0 → 0 < length text →
     Continues t p q (begun v t) w text → PacketOut q r w u Idle (last_packet (text_at t (full_count (begun v t) text)) w) → TextOut t p r v u text
 text_out {t = t} {p = p} {q = q} {r = r} v {w = w} {u = u} text least first some sent closing =
@@ -58,14 +58,14 @@ text_out {t = t} {p = p} {q = q} {r = r} v {w = w} {u = u} text least first some
 
 -- ---- a failure
 
--- the length of a front
+-- a prefix is at most as long as the whole
 front_length : (front rest whole : List ℕ) → whole ≡ front ++ rest → length front ≤ length whole
 front_length front rest whole e = omega (arith, ap length e, length-append front rest)
 
 front_is : (front rest whole : List ℕ) → whole ≡ front ++ rest → take (length front) whole ≡ front
 front_is front rest whole e = ap (take (length front)) e ∙ take-append_seam front rest
 
--- what fails with a front out
+-- a failure with a prefix written
 cut_at : {t : Text} {p q : Outside} {v w : Progress} (text front rest : List ℕ) →
     joined (text_packets t.apid t.ancillary v.packet v.packets text) ≡ front ++ rest → Exchange p q [] front [] NoRead → Rose p.write_faults q.write_faults →
     (u : Progress) → w ≡ stopped u → u.packet ≡ v.packet → TextCut t p q v w text
@@ -135,7 +135,7 @@ text_cut {t = t} {p = p} {q = q} v {w = w} octets more least first some broke =
     ∙ regrouped front (take broke.some packet) (drop broke.some packet) one.0 next last in
     cut_at text (front ++ take broke.some packet) (((drop broke.some packet ++ one.0) ++ next) ++ last) split broke.out broke.rose (broken t b octets k) broke.stands refl
 
--- close, with either answer
+-- close, with either result
 pub text_closed : {T E : Type 0} (r : Result T E) (v w u : Progress) (t : Text) (text : List ℕ) (p q s : Outside) →
     64 ≤ v.packet → t.ancillary.part ≡ 0 → 0 < length text → Continues t p q (begun v t) w text →
     ((x : Text) → w.stage ≡ Begun x → WritesPacket r q s w u Idle (last_packet x w)) →

@@ -4,7 +4,7 @@ use Rattle.std.proofs.Math.Nat.{div-mul-le_self, lt-div-mul-add}
 use Rattle.std.proofs.lemmas.Nat.{div-mul-add}
 use Rattle.space_packets.specs.Parts.{full_parts}
 
--- they have at most these octets, and fewer where there are some
+-- they have at most these octets, and fewer if there are some
 pub full_parts_below : (size octets : ℕ) → 0 < octets → full_parts size octets * size < octets
 full_parts_below size octets some = omega (arith, div-mul-le_self (octets - 1) size)
 

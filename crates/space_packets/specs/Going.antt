@@ -14,7 +14,7 @@ use Rattle.space_packets.specs.Progress.{Progress, IsOpen, full_count, full_pack
 use Rattle.space_packets.specs.PartLists.{map_both}
 use Rattle.space_packets.specs.FullParts.{full_parts_below, full_parts_within, full_parts_left, full_parts_is, full_parts_none}
 
--- two states are the same by their parts
+-- two states are the same if their parts are
 pub same_progress : {v w : Progress} → v.packet ≡ w.packet → v.stage ≡ w.stage → v.texts ≡ w.texts → v.packets ≡ w.packets → v.octets ≡ w.octets → v.pending ≡ w.pending → v ≡ w
 same_progress p s t k o q = λ i. record { packet = p i; stage = s i; texts = t i; packets = k i; octets = o i; pending = q i }
 
@@ -123,7 +123,7 @@ packet_before t v xs ys part few =
 text_on : (t : Text) (m n : ℕ) → text_at t (m + n) ≡ text_at (text_at t m) n
 text_on t m n = rw (add_assoc t.ancillary.part m n)
 
--- the packet of a part past them
+-- the packet of a part after them
 pub packet_past : (t : Text) (v : Progress) (xs ys : List ℕ) (part : ℕ) →
     full_packet t v (xs ++ ys) (full_count v xs + part) ≡ full_packet (text_at t (full_count v xs)) (after t v xs) ys part
 packet_past t v xs ys part =

@@ -1,4 +1,4 @@
--- What a reader's fields show, and what holds of them. This project's own.
+-- The values that a reader's fields represent, and what holds of them. This project's own.
 use Rattle.std.specs.Prelude.{◌≡◌, ◌≤◌, ◌-◌, length, slice_range}
 use Rattle.space_packets.specs.declared.packet_reader.PacketReader.TheInside.{Inside}
 use Rattle.space_packets.specs.Intake.{Intake}

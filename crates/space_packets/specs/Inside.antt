@@ -1,4 +1,4 @@
--- What a packetiser's fields show, and what holds of them. This project's own.
+-- The values that a packetiser's fields represent, and what holds of them. This project's own.
 use Rattle.std.specs.Prelude.{◌+◌, ◌-◌, ◌*◌, ◌^◌, ◌≤◌, ◌<◌, length, drop, vec_capacity}
 use Rattle.packet_defs.specs.Packets.{part_size}
 use Rattle.space_packets.specs.declared.packetiser.Packetiser.TheInside.{Inside}

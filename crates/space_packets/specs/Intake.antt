@@ -10,8 +10,8 @@ use Rattle.packet_defs.specs.Tests.{when, first_of}
 use Rattle.packet_defs.specs.Reading.{text_in, skip_of, packet_read}
 use Rattle.packet_defs.specs.Streams.{has_bad_version, begins_packet, first_packet, after_packet, framing_at}
 
--- The number of octets that may be taken and of those that were; those among them that are in no packet returned yet; the text of
--- the packet returned last, if it is one of the image's; and whether the end was seen.
+-- The number of octets that may be taken and of those that were; those among them that are in no packet returned yet; the text of the
+-- packet returned last, if it is one of the image's; and whether the end was reached.
 pub record Intake : Type 0 where
   pub cap : ℕ
   pub taken : ℕ
@@ -56,7 +56,7 @@ answered apid v =
     if begins_packet v.pending then record v { pending = after_packet v.pending; text = text_mine apid (first_packet v.pending) }
     else record v { text = [] }
 
--- the state after these further octets, and after the end if it was seen; the last text is dropped then
+-- the state after these further octets, and after the end if it was reached; the last text is dropped then
 abbrev pub fed : Intake → List ℕ → (saw_end : Bool) → Intake
 fed v octets saw_end = record {
   cap = v.cap;

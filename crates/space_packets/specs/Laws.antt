@@ -1,4 +1,4 @@
--- What becomes of a whole text. This project's own.
+-- The effect of a whole text. This project's own.
 use Rattle.std.specs.Prelude.{ℕ, ◌≡◌, ◌≤◌, ◌<◌, List, ◌++◌, length}
 use Rattle.port_122.specs.Outside.{Outside}
 use Rattle.space_packets.specs.declared.stage.Stage.TheVariants.{Idle}

@@ -1,4 +1,4 @@
--- A begun text as a place where octets go. This project's own.
+-- A begun text as a sink of octets. This project's own.
 use Rattle.bit_pipe.specs.Sinks.{SinkOf}
 use Rattle.port_122.specs.Outside.{Outside}
 use Rattle.space_packets.specs.declared.sink.PacketSink.{PacketSink}

@@ -1,5 +1,5 @@
--- The parts of a text that is still going on, and the packets that carry them (CCSDS 133.0-B-2, section 4.1.3.4, for the
--- sequence flags; the rest is this project's own).
+-- The parts of a text that isn't ended, and the packets that carry them (CCSDS 133.0-B-2, section 4.1.3.4, for the sequence flags; the rest
+-- is this project's own).
 use Rattle.std.specs.Prelude.{ℕ, ◌+◌, ◌-◌, ◌/◌, ◌==◌, Bool, if◌then◌else◌, List, ◌++◌}
 use Rattle.packet_defs.specs.Packets.{ancillary_octets, packet_with}
 use Rattle.space_packets.specs.declared.stage.Text.{Text}

@@ -9,8 +9,8 @@ use Rattle.space_packets.specs.declared.stage.Text.{Text}
 use Rattle.space_packets.specs.Stages.{given_in}
 use Rattle.space_packets.specs.Parts.{full_parts, text_at, packet_of}
 
--- The most octets of a packet's data field; what is being done; the texts that were begun, the packets that were written and
--- their octets, since the count of packets began; and the octets of the begun text that are in no packet yet.
+-- The most octets of a packet's data field; the stage; the texts that were begun, the packets that were written and their octets, since the
+-- count of packets began; and the octets of the begun text that are in no packet yet.
 pub record Progress : Type 0 where
   pub packet : ℕ
   pub stage : Stage
@@ -19,7 +19,7 @@ pub record Progress : Type 0 where
   pub octets : ℕ
   pub pending : List ℕ
 
--- octets that the begun text was given; none fit if none is begun
+-- the octets that the begun text was given; if no text is begun, no octets fit
 abbrev pub given_octets : Progress → ℕ
 given_octets v = given_in v.stage (part_size v.packet) (length v.pending)
 
@@ -39,7 +39,7 @@ pub record IsOpen (t : Text) (v : Progress) : Type 0 where
 
 -- ---- a text is continued by these octets
 
--- full packets that go out then
+-- the number of full packets that are written then
 abbrev pub full_count : Progress → List ℕ → ℕ
 full_count v octets = full_parts (part_size v.packet) (length (v.pending ++ octets))
 

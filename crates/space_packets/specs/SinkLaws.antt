@@ -1,4 +1,4 @@
--- A begun text is a sink of octets. These laws are here since the meaning of a sink holds them.
+-- A begun text is a sink of octets. These laws are here since the meaning of a sink needs them.
 use Rattle.std.proofs.Common.{ℕ, List, [], ◌++◌, refl, sym, ◌∙◌, subst}
 use Rattle.port_122.specs.Outside.{Outside}
 use Rattle.space_packets.specs.declared.sink.PacketSink.{PacketSink}

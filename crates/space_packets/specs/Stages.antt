@@ -1,4 +1,4 @@
--- What a packetiser's stage says of its text, in numbers. This project's own.
+-- The stage of a packetiser as numbers of its text. This project's own.
 use Rattle.std.specs.Prelude.{ℕ, ◌+◌, ◌*◌, ◌^◌, ⊤}
 use Rattle.space_packets.specs.declared.stage.Stage.{Stage}
 use Rattle.space_packets.specs.declared.stage.Stage.TheVariants.{Idle, Begun, Broken}
@@ -9,7 +9,7 @@ IsBegun Idle = ⊥
 IsBegun (Begun t) = ⊤
 IsBegun Broken = ⊥
 
--- octets that the begun text was given, if a part has this size and this number of octets wait; else the most that are possible
+-- octets that the begun text was given, if a part has this size and this number of octets wait; otherwise the most that are possible
 abbrev pub given_in : Stage → (size pending : ℕ) → ℕ
 given_in Idle size pending = 2 ^ 32
 given_in (Begun t) size pending = t.ancillary.part * size + pending
@@ -21,7 +21,7 @@ apid_of Idle = 0
 apid_of (Begun t) = t.apid
 apid_of Broken = 0
 
--- parts of the begun text that are out
+-- parts of the begun text that are written
 abbrev pub parts_of : Stage → ℕ
 parts_of Idle = 0
 parts_of (Begun t) = t.ancillary.part

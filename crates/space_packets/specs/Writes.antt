@@ -1,4 +1,4 @@
--- What the calls of a packetiser leave. This project's own.
+-- The effect of the calls of a packetiser. This project's own.
 use Rattle.std.specs.Prelude.{ℕ, ◌≡◌, ◌≤◌, ◌<◌, List, [], ◌∷◌, ◌++◌, length, take, Result, MatchResult}
 use Rattle.port_122.specs.Outside.{Outside, Exchange, NoRead, Rose}
 use Rattle.packet_defs.specs.Packets.{text_packets}
@@ -8,7 +8,7 @@ use Rattle.space_packets.specs.declared.stage.Stage.TheVariants.{Broken}
 use Rattle.space_packets.specs.declared.stage.Text.{Text}
 use Rattle.space_packets.specs.Progress.{Progress, IsOpen, full_count, full_packet, first_octets, written, after, broken, past_packet, stopped, ended}
 
--- a text went on by these octets, and its full packets are out
+-- a text was continued by these octets, and its full packets are written
 pub record Continues (t : Text) (p q : Outside) (v w : Progress) (octets : List ℕ) : Type 0 where
   pub out : Exchange p q [] (written t v octets) [] NoRead
   pub stands : w ≡ after t v octets
@@ -22,13 +22,13 @@ pub record StopsEarly (t : Text) (p q : Outside) (v w : Progress) (octets : List
   pub rose : Rose p.write_faults q.write_faults
   pub stands : w ≡ broken t v octets count
 
--- what a call that gives an octet to the begun text leaves
+-- the effect of a call that gives an octet to the begun text
 pub record PutsOctet {T E : Type 0} (result : Result T E) (p q : Outside) (v w : Progress) (octet : ℕ) : Type 0 where
   pub text : Text
   pub was_open : IsOpen text v
   pub ends : MatchResult result (λ _. Continues text p q v w (octet ∷ [])) (λ _. StopsEarly text p q v w (octet ∷ []))
 
--- one packet is out
+-- one packet is written
 pub record PacketOut (p q : Outside) (v w : Progress) (next : Stage) (packet : List ℕ) : Type 0 where
   pub out : Exchange p q [] packet [] NoRead
   pub stands : w ≡ past_packet v next packet
@@ -41,13 +41,13 @@ pub record PacketFailed (p q : Outside) (v w : Progress) (packet : List ℕ) : T
   pub rose : Rose p.write_faults q.write_faults
   pub stands : w ≡ stopped v
 
--- what a call that writes one packet leaves
+-- the effect of a call that writes one packet
 abbrev pub WritesPacket : {T E : Type 0} → Result T E → (p q : Outside) (v w : Progress) → Stage → List ℕ → Type 0
 WritesPacket result p q v w next packet = MatchResult result
     (λ _. PacketOut p q v w next packet)
     (λ _. PacketFailed p q v w packet)
 
--- a whole text, from its begin to its end, went out as its packets
+-- a whole text, from its begin to its end, was written as its packets
 pub record TextOut (t : Text) (p q : Outside) (v w : Progress) (text : List ℕ) : Type 0 where
   pub out : Exchange p q [] (joined (text_packets t.apid t.ancillary v.packet v.packets text)) [] NoRead
   pub stands : w ≡ ended v t text

@@ -1,4 +1,4 @@
--- Octets that go to a begun text, and then more.
+-- Octets that are given to a begun text, and then more.
 use Rattle.std.proofs.Common.{◌≡◌, ◌+◌, ℕ, List, [], ◌++◌, take, sym, ◌∙◌, ap, subst, arith, append_assoc}
 use Rattle.port_122.specs.Outside.{Outside, Exchange, NoRead}
 use Rattle.port_122.proofs.Stretches.{since_start, since_out, rose_since}

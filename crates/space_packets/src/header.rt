@@ -13,13 +13,13 @@ const MARK: u16 = 0x1220;
 
 const MARK_LAST: u16 = 0x1221;
 
-/// Octets of the primary header.
+/// The octets of the primary header.
 pub const PRIMARY: usize = 6;
 
-/// Octets of the ancillary data.
+/// The octets of the ancillary data.
 pub const ANCILLARY: usize = 24;
 
-/// Octets of a packet before its text.
+/// The octets of a packet before its text.
 pub const HEADER: usize = PRIMARY + ANCILLARY;
 
 /// Returns the mark that begins the ancillary data, by whether the height of the image is reported last.
@@ -38,7 +38,7 @@ fn flags_of_part(part: u32, last: bool) -> u16
     u16::from(first) + 2 * u16::from(last)
 }
 
-// The ancillary data.
+// Writes the ancillary data.
 fn write_ancillary(field: &mut [u8], ancillary: &Ancillary)
     requires { 24 ≤ length field.old }
     ensures { field.new ≡ ancillary_octets ancillary.now ++ drop 24 field.old }

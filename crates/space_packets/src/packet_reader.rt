@@ -1,4 +1,4 @@
-// A stream of octets, read as packets.
+// Reads a stream of octets as packets.
 ghost use Rattle.std.specs.Prelude.{◌≡◌, ◌≤◌, ◌<◌, ◌+◌, ◌-◌, ◌^◌, [], length, take, drop, true, false, Some, None, IfOk};
 ghost use Rattle.std.specs.Bool.{OnFalse};
 
@@ -10,13 +10,13 @@ use port_122::{Failed, Port};
 use std::alloc::{AllocError, Global};
 use std::marker::Model;
 
-// Octets of the longest packet.
+// The octets of the longest packet.
 const LONGEST: usize = 65_542;
 
-// Octets of the buffer: what waits can always be copied to its start, or has room behind it.
+// The octets of the buffer: what waits can always be copied to its start, or has room after it.
 const ROOM: usize = 2 * LONGEST;
 
-// Octets that a read asks for at most.
+// The most octets that a read asks for.
 const PIECE: usize = 4_096;
 
 /// Reads a stream of octets as packets (docs/formats.md, "Packets").
@@ -72,7 +72,7 @@ impl PacketReader {
         })
     }
 
-    /// Returns the octets after the ancillary data of the packet that was returned last, if it was `Mine`; else none.
+    /// Returns the octets after the ancillary data of the packet that was returned last, if it was `Mine`, and otherwise none.
     pub fn text(&self) -> &[u8]
         ensures { result.now ≡ self.now.text }
     {
@@ -161,7 +161,7 @@ impl PacketReader {
         self.taken == self.cap
     }
 
-    // Reads one piece behind the octets that wait.
+    // Reads one piece to the place after the octets that wait.
     fn feed<X: Port>(&mut self, port: &mut X) -> Result<(), Failed>
         requires short { length self.old.pending < 65542 }
         requires below { self.old.taken < self.old.cap }
@@ -234,7 +234,7 @@ impl PacketReader {
     }
 }
 
-// Moves octets that wait from a place on to the buffer's start, if the two don't overlap, and returns where they begin then.
+// Moves the octets that wait from a place on to the buffer's start, if the two don't overlap, and returns the place where they begin then.
 fn make_room(buffer: &mut [u8], start: usize, held: usize) -> usize
     requires within { start + held ≤ length buffer.old }
     ensures same { take held (drop result buffer.new) ≡ take held (drop start buffer.old) }

@@ -1,4 +1,4 @@
-// Texts, written as packets.
+// Writes texts as packets.
 ghost use Rattle.std.specs.Prelude.{◌≡◌, ◌≤◌, ◌<◌, ◌+◌, ◌*◌, ◌^◌, ◌++◌, ◌∷◌, [], ℕ, length, drop, true, false, IfOk, MatchResult, vec_capacity, if◌then◌else◌};
 ghost use Rattle.std.specs.Bool.{OnTrue, OnFalse};
 ghost use Rattle.std.specs.Int.{w64, to_be_bytes};
@@ -17,8 +17,8 @@ use std::marker::Model;
 /// Cuts texts into packets and writes them to a port (docs/formats.md, "Packets").
 ///
 /// It holds one packet, which is written only when a further octet of its text arrives, or at the text's end. Each packet is
-/// one `write_all`, which is tested and not proved. Packets are numbered from 0 with each `reset`, their parts from 0 with each text. After a call that
-/// returned `Failed` only `reset` may follow.
+/// one `write_all`, which is tested and not proved. Packets are numbered from 0 with each `reset`, their parts from 0 with each text.
+/// After a call that returned `Failed` only `reset` may follow.
 #[derive(Drop)]
 pub struct Packetiser {
     buffer: Vec<u8>,
@@ -93,8 +93,8 @@ impl Packetiser {
         self.octets
     }
 
-    /// Begins a text, whose packets have this APID, at most 2,046, and say this of it, with part 0. No text is begun, and
-    /// fewer than 2^28 were since the last reset (docs/formats.md, "Packets").
+    /// Begins a text, whose packets have this APID, at most 2,046, and these ancillary data, with part 0. No text is begun, and fewer than
+    /// 2^28 were since the last reset (docs/formats.md, "Packets").
     pub fn begin(&mut self, apid: u16, ancillary: Ancillary)
         requires apid { apid ≤ 2046 }
         requires idle { self.old.stage ≡ Idle }

@@ -1,4 +1,4 @@
-// What a packet says.
+// Reads the fields of a packet.
 ghost use Rattle.std.specs.Prelude.{◌≡◌, ◌≤◌, ◌<◌, ◌-◌, length, false, IfNone};
 ghost use Rattle.packet_defs.specs.Reading.{head_in, ancillary_in, has_mark, skip_of};
 ghost use Rattle.packet_defs.specs.Streams.{has_bad_version, told_length, begins_packet, missing};
@@ -87,7 +87,7 @@ fn has_mark(packet: &[u8]) -> bool
     mark == mark_of(false) || mark == mark_of(true)
 }
 
-/// Returns what a packet of an image says.
+/// Returns the primary header and the ancillary data of a packet of an image.
 pub fn mine_in(packet: &[u8]) -> PacketRead
     requires { 30 ≤ length packet.now }
     ensures { result ≡ Mine (head_in packet.now) (ancillary_in packet.now) }

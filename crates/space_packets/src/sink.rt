@@ -9,7 +9,7 @@ use crate::packetiser::Packetiser;
 use bit_pipe::OctetOut;
 use port_122::Port;
 
-/// The begun text of a packetiser on its way to a port (docs/formats.md, "Packets").
+/// The sink of the begun text of a packetiser, with its port (docs/formats.md, "Packets").
 ///
 /// As a sink it was given the octets of the begun text, and it counts the port's `write_faults`. If no text is begun it
 /// takes no octet.

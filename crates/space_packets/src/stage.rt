@@ -1,18 +1,18 @@
-// What a packetiser is doing.
+// The stage of a packetiser.
 ghost use Rattle.std.specs.Prelude.{◌≡◌, ◌<◌, ◌-◌, ◌^◌, if◌then◌else◌};
 ghost use Rattle.space_packets.specs.Parts.{text_at};
 ghost use Rattle.space_packets.specs.declared.stage.Stage.TheVariants.{Idle, Begun};
 
 use packet_defs::Ancillary;
 
-/// A begun text: the APID of its packets, and what the next of them says of it.
+/// A begun text: the APID of its packets, and the ancillary data of the next of them.
 #[derive(Clone, Copy)]
 pub struct Text {
     pub apid: u16,
     pub ancillary: Ancillary,
 }
 
-/// What a packetiser is doing.
+/// The stage of a packetiser.
 #[derive(Clone, Copy)]
 pub enum Stage {
     /// No text is begun.

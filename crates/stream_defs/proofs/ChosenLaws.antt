@@ -86,7 +86,7 @@ module _ (told_last : Bool) (s : Setting) (all : List (List ℤ)) (coded : AreCo
   packets_of_parts : List ℕ → List (List ℕ)
   packets_of_parts ks = map (packet_at told_last s all index) ks
 
-  -- parts that leave a gap are dropped, and leave all as it was
+  -- parts after a gap are dropped, and change nothing
   gap_drops : (st : FateState) (least : ℕ) (ks : List ℕ) → 1 ≤ least → IsRising least (parts_of s all index) ks →
       ((k : ℕ) → least ≤ k + 1 → LeftBefore told_last s index (k + 1) st × (follows st.last (written_at told_last s index (k + 1)) ≡ false)) →
       (kept s.apid st (map (packet_at told_last s all index) ks) ≡ []) × (after_all s.apid st (map (packet_at told_last s all index) ks) ≡ st)
@@ -106,7 +106,7 @@ module _ (told_last : Bool) (s : Setting) (all : List (List ℤ)) (coded : AreCo
         ap (λ t. after_all s.apid t (map (packet_at told_last s all index) ks)) same ∙ rest.1,
       )
 
-  -- after part k, further parts are kept as far as they go on
+  -- after part k, further parts are kept as long as each follows the one before
   GoesOnTo : ℕ → List ℕ → Type 0
   GoesOnTo k ks = (kept s.apid (after_part k) (map (packet_at told_last s all index) ks) ≡ map (packet_at told_last s all index) (run (k + 1) ks))
       × ((last : ℕ) × (last < parts_of s all index) × (after_all s.apid (after_part k) (map (packet_at told_last s all index) ks) ≡ after_part last))
@@ -161,7 +161,7 @@ module _ (told_last : Bool) (s : Setting) (all : List (List ℤ)) (coded : AreCo
   before_next st (inr (last, is, inl before)) = inr (last, is, inl (omega (arith, before)))
   before_next st (inr (last, is, inr here)) = absurd (let none = here.1 in omega (arith, none))
 
-  -- where a segment begins, a part of it is kept last
+  -- if a segment begins, a part of it is kept last
   pub segment_touched : (st : FateState) (ks : List ℕ) → LeftBefore told_last s index 0 st → IsRising 0 (parts_of s all index) (0 ∷ ks) →
       (last : LastPart) × (last.index ≡ index) × (after_all s.apid st (map (packet_at told_last s all index) (0 ∷ ks)) ≡ state_by told_last s last)
   unfolding GoesOnTo
@@ -169,13 +169,13 @@ module _ (told_last : Bool) (s : Setting) (all : List (List ℤ)) (coded : AreCo
       let rest = goes_on 0 ks rising.1 rising.2 in
       (place_at s all index rest.1.0, refl, ap (λ t. after_all s.apid t (map (packet_at told_last s all index) ks)) (first_leaves told_last s all coded st index lt rising.1 left) ∙ rest.1.2)
 
-  -- where it doesn't, all stays as it was
+  -- if it doesn't, nothing changes
   pub segment_passed : (st : FateState) (k : ℕ) (ks : List ℕ) → LeftBefore told_last s index 0 st → IsRising 0 (parts_of s all index) (suc k ∷ ks) →
       after_all s.apid st (map (packet_at told_last s all index) (suc k ∷ ks)) ≡ st
   segment_passed st k ks left rising =
       (gap_drops st (suc k) (suc k ∷ ks) (omega arith) ((omega arith), rising.1, rising.2) (λ m later. before_parts st (m + 1) left)).1
 
-  -- the parts of a segment that are kept: those from 0 on, as far as they go on
+  -- the parts of a segment that are kept: those from 0 on, as long as each follows the one before
   pub segment_kept : (st : FateState) (ks : List ℕ) → LeftBefore told_last s index 0 st → IsRising 0 (parts_of s all index) ks →
       (kept s.apid st (map (packet_at told_last s all index) ks) ≡ map (packet_at told_last s all index) (run 0 ks)) × LeftBefore told_last s (index + 1) 0 (after_all s.apid st (map (packet_at told_last s all index) ks))
   unfolding GoesOnTo
@@ -217,7 +217,7 @@ module _ (told_last : Bool) (s : Setting) (all : List (List ℤ)) (coded : AreCo
       ap (flat_map f) (range_with_len-more 0 n ∙ ap (λ k. range_with_len 0 n ++ k ∷ []) (let t : 0 + n ≡ n = omega arith in t))
       ∙ flat_map-append f (range_with_len 0 n) (n ∷ []) ∙ ap (λ r. flat_map f (range_with_len 0 n) ++ r) (append-nil (f n))
 
-  -- of the chosen packets just those are kept that go on from part 0 in their segment
+  -- of the chosen packets exactly those are kept that continue from part 0 in their segment
   pub chosen_kept : (n : ℕ) → n ≤ segments_of s →
       (kept s.apid fresh (chosen told_last s all parts n) ≡ chosen told_last s all (λ index. run 0 (parts index)) n) × LeftBefore told_last s n 0 (after_all s.apid fresh (chosen told_last s all parts n))
   chosen_kept zero few = (
@@ -245,7 +245,7 @@ module _ (told_last : Bool) (s : Setting) (all : List (List ℤ)) (coded : AreCo
   NoneBegun : ℕ → Type 0
   NoneBegun n = (index : ℕ) → index < n → (rest : List ℕ) → parts index ≡ 0 ∷ rest → ⊥
 
-  -- what the chosen packets of the first n segments leave
+  -- the state after the chosen packets of the first n segments
   LeftBy : ℕ → FateState → Type 0
   LeftBy n st = ((st ≡ fresh) × NoneBegun n) ⊎ ((last : LastPart) × (st ≡ state_by told_last s last) × LastBegun parts n last)
 
@@ -308,7 +308,7 @@ module _ (told_last : Bool) (s : Setting) (all : List (List ℤ)) (coded : AreCo
       subst (λ m. LeftBy m (after_all s.apid fresh (chosen told_last s all parts m))) e
       (subst (LeftBy (n + 1)) (sym (state_more n)) (by_parts n lt st (chosen_kept n (omega (arith, lt))).1 before (parts n) refl (choice.each n lt)))
 
-  -- where a segment is begun, the geometry that is left is that of the last one begun
+  -- if a segment is begun, the geometry that is left is that of the last one begun
   pub geometry_left : (index : ℕ) (more : List ℕ) → index < segments_of s → parts index ≡ 0 ∷ more →
       (last : ℕ) × (last < segments_of s) × IsLastBegun s parts last × ((after_all s.apid fresh (chosen told_last s all parts (segments_of s))).geometry ≡ Some (geometry_by told_last s last))
   unfolding LeftBy NoneBegun

@@ -1,4 +1,4 @@
--- The ranges of damaged rows cover just these, and lie apart.
+-- The ranges of damaged rows cover exactly these, and have a row between them.
 use Rattle.std.proofs.Common.{◌≡◌, inl, inr, ◌≤◌, ◌<◌, ◌+◌, ◌-◌, ℕ, zero, suc, List, [], ◌∷◌, length, map, take, refl, sym, ap, subst, ◌∙◌, arith}
 use Rattle.std.specs.Prelude.{Bool, true, false, ◌==◌, ◌&&◌, ◌||◌, not, nat_le, nat_lt, filter, take_while}
 use Rattle.std.specs.List.{range_with_len, prefix_len}
@@ -23,7 +23,7 @@ true_or a b e = rw e refl
 false_or : (a b c : Bool) → a ≡ false → b ≡ c → (a || b) ≡ c
 false_or a b c e f = rw e f
 
--- ranges that lie apart from a row on do so from an earlier one
+-- ranges that are separate from a row on are so from an earlier one
 apart_earlier : (m n : ℕ) (rs : List RowRange) → m ≤ n → LieApart n rs → LieApart m rs
 apart_earlier m n [] le a = tt
 apart_earlier m n (r ∷ rs) le a = let low = a.0 in ((omega (arith, low, le)), a.1, a.2)
@@ -74,13 +74,13 @@ module _ (rows : ℕ) (missing : List ℕ) where
   undamaged : (a c : Bool) → a ≡ false → (a && c) ≡ false
   undamaged a c e = rw e refl
 
-  -- Where a range may begin at a: what the ranges from there on cover, and that they lie apart.
+  -- If a range may begin at a: what the ranges from there on cover, and that they are separate.
   record Fresh (a n : ℕ) : Type 0 where
     before : (row : ℕ) → row < a → is_covered (some_ranges a n) row ≡ false
     from : (row : ℕ) → a ≤ row → is_covered (some_ranges a n) row ≡ is_damaged rows missing row
     apart : LieApart a (some_ranges a n)
 
-  -- Where the row before a is damaged: the rows from a on that go on, and what the ranges after them cover.
+  -- If the row before a is damaged: the rows from a on that continue it, and what the ranges after them cover.
   record Within (a n : ℕ) : Type 0 where
     gone : (row : ℕ) → a ≤ row → row < a + going a n → is_damaged rows missing row ≡ true
     before : (row : ℕ) → row < a + going a n → is_covered (some_ranges a n) row ≡ false

@@ -1,4 +1,4 @@
--- The definitions at examples that were worked out by hand.
+-- The definitions at examples that were calculated by hand.
 use Rattle.std.proofs.Common.{◌≡◌, ◌*◌, ℕ, List, [], ◌∷◌, ◌++◌, refl, take, drop}
 use Rattle.std.specs.Prelude.{None, Some, map}
 use Rattle.std.specs.Option.{option_map}
@@ -66,7 +66,7 @@ told_last : (blocks pads : ℕ) → List ℕ
 told_last blocks pads =
     (0x08 ∷ 0x64 ∷ 0xC0 ∷ 0 ∷ 0 ∷ 0x2D ∷ []) ++ (0x12 ∷ 0x21 ∷ drop 2 (ancillary 0 0 0) ++ text 0xC0 0x02 pads blocks)
 
--- The rows that pad are not tested, but the height has to be in range. A packet with this mark has no rows in its ancillary data.
+-- The padding rows are not tested, but the height has to be in range. A packet with this mark has no rows in its ancillary data.
 height_told : (fates 100 fresh (told_last 0x9C 0xE0 ∷ black ∷ []) ≡ Kept ∷ Foreign ∷ [])
     × (map (λ packet. option_map (λ (g : Geometry). g.rows) (after 100 fresh packet).geometry) (told_last 0x9C 0xE0 ∷ told_last 0x9C 0xC0 ∷ []) ≡ Some 17 ∷ Some 18 ∷ [])
     × (alone (told_last 0x8C 0xE0) ≡ BadHead (BadValue fields.Last))
@@ -74,7 +74,7 @@ height_told : (fates 100 fresh (told_last 0x9C 0xE0 ∷ black ∷ []) ≡ Kept �
 unfolding told_last alone fates fate after skip_of head_read presence_tests support_tests depth_tests value_tests number_in disagreement value_of bits_of_octets bits_of
 height_told = (refl, refl, refl, refl)
 
--- the shares of 400 octets that eight texts have of which each has 21
+-- the shares of 400 octets for eight texts of 21 octets each
 evenly : Setting → (i : ℕ) → ℕ
 evenly s i = share s i (21 * i)
 
@@ -83,7 +83,7 @@ shares : (s : Setting) → s.total ≡ 400 → s.word ≡ 1 → segments_of s �
 unfolding share evenly
 shares s total word eight = rw (total, word, eight) refl
 
--- what can't be read on
+-- streams that can't be read on
 faults : (framing black ≡ None) × (framing (black ++ 0xFF ∷ []) ≡ Some (BadVersion 52)) × (framing (black ++ take 51 black) ≡ Some (CutPacket 1)) × (framing (0x08 ∷ []) ≡ Some (CutPacket 5))
 unfolding packets_within begins_packet told_length framing_at
 faults = (refl, refl, refl, refl)

@@ -97,7 +97,7 @@ bytes_same (x ∷ xs) = rw (equal x x refl) (bytes_same xs)
 abbrev pub IsEarlier : LastPart → (index part : ℕ) → Type 0
 IsEarlier last index part = (last.index < index) ⊎ ((last.index ≡ index) × (last.part < part))
 
--- what a part of an image leaves where it is kept
+-- the state after a part of an image that is kept
 abbrev pub state_by : (told_last : Bool) → Setting → LastPart → FateState
 state_by told_last s last = record { geometry = Some (geometry_by told_last s last.index); told_last = told_last; last = Some last }
 
@@ -133,7 +133,7 @@ same_state geometry told last = λ i. record { geometry = geometry i; told_last 
 
 -- ---- the head agrees
 
--- a segment is the last one exactly where its blocks end the image's
+-- a segment is the last one exactly if its blocks end the image's
 last_by_blocks : (total S index : ℕ) → 0 < S → index < segments total S → (index + 1 == segments total S) ≡ (index * S + min S (total - index * S) == total)
 last_by_blocks total S index some lt =
     let before = first_block-lt total S index some lt in
@@ -170,7 +170,7 @@ refusal_at standing packet a head says first read agree =
     let test : ((ancillary_in packet).part == 0) ≡ true = ap (λ a. a.part == 0) says ∙ equal a.part 0 first in
     rw test (ap (λ b. head_refusal standing b (head_read (text_in packet))) says ∙ ap (head_refusal standing a) read ∙ agree)
 
--- and makes the geometry, or leaves it
+-- and it makes the geometry, or leaves it unchanged
 geometry_at : (standing : Option Geometry) (packet : List ℕ) (a : Ancillary) (head : SegmentHead) → ancillary_in packet ≡ a → a.part ≡ 0 → head_read (text_in packet) ≡ Ok head →
     geometry_after standing packet ≡ Some (geometry_past (geometry_for standing a head.image) a head)
 geometry_at standing packet a head says first read =
@@ -185,7 +185,7 @@ more_after m n lt e = grind (arith, nat_tests)
 equal_so : (m n : ℕ) → (m == n) ≡ true → m ≡ n
 equal_so m n e = grind (arith, nat_tests)
 
--- the last segment ends the image's block rows, and what is left without the rows that pad is its height
+-- the last segment ends the image's block rows, and these without the padding rows are its height
 ends_rows : (columns rows : ℕ) → 0 < columns → (columns * block_count rows) % columns ≡ 0 × (8 * ((columns * block_count rows) / columns) - (padded_size rows - rows) ≡ rows)
 ends_rows columns rows some =
     let whole : (columns * block_count rows) / columns ≡ block_count rows = mul-div_cancel_left (block_count rows) some in
@@ -201,7 +201,7 @@ module _ (s : Setting) (all : List (List ℤ)) (coded : AreCoded s all) (index :
   last_is : (index + 1 == segments_of s) ≡ (index * s.segment + (head_for s all index).blocks == total_blocks s.width s.rows)
   last_is = last_by_blocks (total_blocks s.width s.rows) s.segment index (some_blocks s all coded) lt ∙ ap (λ n. index * s.segment + n == total_blocks s.width s.rows) (sym blocks_are)
 
-  -- where the packets tell the height
+  -- if the packets report the height
   agrees_told : disagreement (image_geometry s s.rows) (written_at false s index 0) (head_for s all index) ≡ None
   unfolding disagreement
   agrees_told =
@@ -217,7 +217,7 @@ module _ (s : Setting) (all : List (List ℤ)) (coded : AreCoded s all) (index :
       ∙ none_first (not (pads_as_told g head)) _ _ (ap not (pads_last (index + 1 == segments_of s) (padded_size s.rows - s.rows)))
       ∙ none_first (not (is_of_image g head.image)) (BadValue Image) [] (ap not (image_agrees s s.rows))
 
-  -- where it is told last: by whether this segment is the last one
+  -- if it is reported last: by whether this segment is the last one
   told_blocks : (last : Bool) → (index + 1 == segments_of s) ≡ last → (if last then nat_le 1 (head_for s all index).blocks && nat_le (head_for s all index).blocks s.segment else (head_for s all index).blocks == s.segment) ≡ true
   told_blocks true e =
       let before = block_before s all coded index lt in
@@ -353,7 +353,7 @@ module _ (told_last : Bool) (s : Setting) (all : List (List ℤ)) (coded : AreCo
       (first_placed st.last (flags_in packet) (ancillary_in packet) (ap (λ a. a.part) says) (part_begins told_last s all coded index 0 lt some ∙ equal 0 0 refl))
       head
 
-  -- a further part is kept where it follows
+  -- a further part is kept if it follows
   pub next_kept : (index part : ℕ) → index < segments_of s → part + 1 < parts_of s all index →
       fate s.apid (state_by told_last s (place_at s all index part)) (packet_at told_last s all index (part + 1)) ≡ Kept
   next_kept index part lt few =
@@ -372,7 +372,7 @@ module _ (told_last : Bool) (s : Setting) (all : List (List ℤ)) (coded : AreCo
       (ap (follows st.last) says ∙ follows_so (place_at s all index part) (written_at told_last s index (part + 1)) refl refl unclosed))
       (rw further refl)
 
-  -- and isn't where it doesn't
+  -- and isn't if it doesn't
   pub gap_not_kept : (st : FateState) (index part : ℕ) → index < segments_of s → part + 1 < parts_of s all index → LeftBefore told_last s index (part + 1) st →
       follows st.last (written_at told_last s index (part + 1)) ≡ false → fate s.apid st (packet_at told_last s all index (part + 1)) ≡ OutOfPlace
   gap_not_kept st index part lt few left gap =

@@ -43,7 +43,7 @@ module _ (s : Setting) (range : IsInRange s) (open_rows : s.rows ≡ 0) (k : ℕ
   no_total : s.total ≡ 0
   no_total = elim range.total [ inl none ↦ none | inr has ↦ absurd (has.rows open_rows) ]
 
-  -- a segment that the first k rows settle is so
+  -- a segment that the first k rows settle is such a segment
   settled_near : (rows index : ℕ) → k ≤ rows → index < segments_of (sized s rows) → 8 * last_block_row (sized s rows) index + 28 < k → IsNear s k rows index
   settled_near rows index most lt near =
       let c = block_count s.width in
@@ -62,7 +62,7 @@ module _ (s : Setting) (range : IsInRange s) (open_rows : s.rows ≡ 0) (k : ℕ
         near = subst (λ n. 8 * ((index * S + n - 1) / c) + 28 < k) whole near;
       }
 
-  -- and is there in an image of another height
+  -- and it is one in an image of another height
   near_there : (rows lines index : ℕ) → k ≤ lines → IsNear s k rows index → IsNear s k lines index
   near_there rows lines index most n =
       let c = block_count s.width in
@@ -163,7 +163,7 @@ module _ (s : Setting) (range : IsInRange s) (open_rows : s.rows ≡ 0) (k : ℕ
           ∙ block_same (first + i) (omega (arith, row, near))
           ∙ sym (get_or-take S (drop first ys) i [] inside ∙ get_or-drop first ys i []))
 
-      -- the head of a segment that isn't the last one says nothing of the height
+      -- the head of a segment that isn't the last one doesn't depend on the height
       not_last : (lines index : ℕ) → IsNear s k lines index → (index + 1 == segments_of (sized s lines)) ≡ false
       not_last lines index n = let lt = near_index lines index n in let m = segments_of (sized s lines) in grind (arith, nat_tests)
 

@@ -1,4 +1,4 @@
--- The first rows of a picture, whatever the height, and what the blocks that aren't received change of them.
+-- The first rows of a picture, whatever the height, and how the blocks that aren't received change them.
 use Rattle.std.proofs.Common.{◌≡◌, ◌≤◌, ◌<◌, ◌+◌, ◌-◌, ◌*◌, ℕ, zero, suc, ℤ, List, map, ◌++◌, refl, sym, ap, ◌∙◌, arith}
 use Rattle.std.specs.Prelude.{Option}
 use Rattle.std.specs.List.{range_with_len, flat_map}
@@ -47,7 +47,7 @@ heights_alike g numbers r r' n i j wide least least' low across =
     let p = pyramid_with numbers c g.weights.shifts in
     ap (clamped g.depth g.signed) (rising-reach p p r r' c n i j least least' wide (omega (arith, low)) (column_within g.width j across) (λ t s row column. record { at = λ k small. refl }))
 
--- the height in a geometry doesn't count
+-- the height in a geometry doesn't matter
 pub sized_same : (g : Geometry) (rows : ℕ) (numbers : ℕ → ℕ → ℤ) (r : ℕ) → picture_of (record g { rows = rows }) numbers r ≡ picture_of g numbers r
 unfolding picture_of
 sized_same g rows numbers r = refl

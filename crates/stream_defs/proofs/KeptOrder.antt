@@ -222,7 +222,7 @@ shut index apid s (x ∷ xs) h = elim (does apid s x) [
 abbrev pub IsElsewhere : (index : ℕ) → FateState → Type 0
 IsElsewhere index s = (l : LastPart) → s.last ≡ Some l → l.index ≡ index → ⊥
 
--- so it is after the part of another one
+-- the same after the part of another one
 after_other : (apid : ℕ) (s : FateState) (x : List ℕ) (index : ℕ) → (after apid s x).last ≡ Some (part_in x) → (index_in x ≡ index → ⊥) → IsElsewhere index (after apid s x)
 after_other apid s x index last other l is e = other (ap (λ (l : LastPart). l.index) (some_same (sym last ∙ is)) ∙ e)
 
@@ -281,7 +281,7 @@ pub record HasReached (index : ℕ) (s : FateState) : Type 0 where
   pub last_is : s.last ≡ Some last
   pub least : index ≤ last.index
 
--- and stays so
+-- and this remains true
 pub reached_on : (index apid : ℕ) (s : FateState) (packets : List (List ℕ)) → HasReached index s → HasReached index (after_all apid s packets)
 reached_on index apid s [] h = h
 reached_on index apid s (x ∷ xs) h = reached_on index apid (after apid s x) xs (elim (does apid s x) [

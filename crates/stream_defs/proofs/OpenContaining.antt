@@ -92,7 +92,7 @@ module _ (g : Geometry) (received : ℕ → Option (List (List ℤ))) (numbers :
       below : (b : Bool) → nat_le n t ≡ b → b ≡ false → t < n
       below b is e = let no : nat_le n t ≡ false = is ∙ e in grind (arith, nat_tests)
 
-  -- a row that no range has is reached by no lost block row
+  -- no lost block row reaches a row that no range has
   unreached : (i t : ℕ) → i < height g n → is_covered (damage g received n) i ≡ false → lost t ≡ true → Reaches t i → ⊥
   unfolding missing_below
   unreached i t inside uncovered gone reached = by (is_missing g received t) (nat_le n t) refl refl gone

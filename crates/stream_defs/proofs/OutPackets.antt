@@ -1,4 +1,4 @@
--- What a packet of an image says, by its place.
+-- The fields of a packet of an image, by its place.
 use Rattle.std.proofs.Common.{inl, inr, ◌≡◌, ◌≤◌, ◌<◌, ◌+◌, ◌-◌, ◌*◌, ◌/◌, ◌^◌, ℕ, ℤ, List, length, drop, refl, ap, ◌∙◌, arith, length-take}
 use Rattle.std.specs.Prelude.{Bool, true, false, ◌==◌, if◌then◌else◌}
 use Rattle.std.proofs.lemmas.Bool.{cases_lt}

@@ -53,7 +53,7 @@ pub used_before-more : (s : Setting) (all : List (List ℤ)) (n : ℕ) → used_
 unfolding used_before
 used_before-more s all n = let e : n + 1 ≡ suc n = omega arith in ap (used_before s all) e
 
--- a text has as many packets as parts
+-- a text has one packet for each part
 pub length-segment_packets : (told_last : Bool) (s : Setting) (all : List (List ℤ)) (n : ℕ) →
     length (segment_packets told_last s all n) ≡ part_count (part_size s.packet) (length (segment_text s all n))
 unfolding text_packets

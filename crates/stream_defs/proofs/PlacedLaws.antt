@@ -38,7 +38,7 @@ blocks_open g e = ap (λ n. block_count g.width * block_count n) (placed_open g 
 pub blocks_known : (g : Geometry) → (g.rows ≡ 0 → ⊥) → blocks_of (placed g) ≡ blocks_of g
 blocks_known g e = ap (λ n. block_count g.width * block_count n) (placed_known g e)
 
--- so many block rows are placed at most
+-- the rows by which blocks are placed are in their range
 pub placed_least : (g : Geometry) → (g.rows ≡ 0) ⊎ IsWithin rows_range g.rows → IsWithin rows_range (placed_rows g)
 placed_least g (inl untold) = rw (is_open g.rows untold) (omega arith, omega arith)
 placed_least g (inr known) = rw (is_not_open g.rows (within_not g.rows known)) known
@@ -61,14 +61,14 @@ ceil_rises m n columns some le =
     let turned : columns * div_ceil n columns ≡ div_ceil n columns * columns = grind arith in
     ceil_most m columns (div_ceil n columns) some (omega (arith, up, turned, le))
 
--- of a height that is known they are all
+-- if the height is known they are all
 pub reached_known : (g : Geometry) (n : ℕ) → (g.rows ≡ 0 → ⊥) → rows_reached g n ≡ g.rows
 reached_known g n some = rw (is_not_open g.rows some) refl
 
 reached_open : (g : Geometry) (n : ℕ) → g.rows ≡ 0 → rows_reached g n ≡ max rows_range.least (8 * div_ceil n (block_count g.width) - 7)
 reached_open g n untold = rw (is_open g.rows untold) refl
 
--- more blocks reach no fewer
+-- more blocks reach at least the same rows
 pub reached_rises : (g : Geometry) (m n : ℕ) → 0 < block_count g.width → m ≤ n → rows_reached g m ≤ rows_reached g n
 reached_rises g m n some le = by (g.rows == 0)
   where

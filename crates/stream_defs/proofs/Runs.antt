@@ -1,4 +1,4 @@
--- Rising numbers, and those that go on one after the other.
+-- Rising numbers, and runs of consecutive ones.
 use Rattle.std.proofs.Common.{◌≡◌, ◌+◌, ℕ, zero, suc, List, [], ◌∷◌, refl, ap, subst, ◌∙◌, arith}
 use Rattle.std.specs.Prelude.{Bool, true, false, ◌==◌, if◌then◌else◌}
 use Rattle.std.specs.List.{range_with_len}
@@ -15,12 +15,12 @@ range_rises least (suc n) =
     let e : least + 1 + n ≡ least + suc n = omega arith in
     ((omega arith), (omega arith), subst (λ m. IsRising (least + 1) m (range_with_len (least + 1) n)) e (range_rises (least + 1) n))
 
--- and goes on one after the other
+-- and its numbers are consecutive
 pub run-range : (next n : ℕ) → run next (range_with_len next n) ≡ range_with_len next n
 run-range next zero = refl
 run-range next (suc n) = rw (equal next next refl) (ap (λ ks. next ∷ ks) (run-range (next + 1) n))
 
--- what goes on rises
+-- a run rises
 pub run_rises : (least next below : ℕ) (ks : List ℕ) → IsRising least below ks → IsRising least below (run next ks)
 run_rises least next below [] rising = tt
 run_rises least next below (k ∷ ks) rising = by_test (k == next) (run_rises (k + 1) (next + 1) below ks rising.2)
@@ -29,7 +29,7 @@ run_rises least next below (k ∷ ks) rising = by_test (k == next) (run_rises (k
     by_test true rest = (rising.0, rising.1, rest)
     by_test false rest = tt
 
--- where all of a range goes on, the rising numbers are that range
+-- if a run has all numbers of a range, the rising numbers are that range
 pub run_whole : (next n : ℕ) (ks : List ℕ) → IsRising next (next + n) ks → run next ks ≡ range_with_len next n → ks ≡ range_with_len next n
 run_whole next zero [] rising e = refl
 run_whole next zero (k ∷ ks) rising e = absurd (let low = rising.0 in let high = rising.1 in omega (arith, low, high))

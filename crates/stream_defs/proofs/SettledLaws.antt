@@ -18,7 +18,7 @@ use Rattle.stream_defs.proofs.WholeStreams.{same_packets}
 
 -- ---- the settled segments are the first ones
 
--- where a test fails from one number on, at most as many are counted as stand before it
+-- if a test fails from one number on, at most the numbers before it are counted
 count_few : (p : ℕ → Bool) (n a m : ℕ) → ((j : ℕ) → a + m ≤ j → j < a + n → p j ≡ false) → count_by p (range_with_len a n) ≤ m
 count_few p zero a m none = omega arith
 count_few p (suc n) a zero none =
@@ -37,7 +37,7 @@ count_few p (suc n) a (suc m) none =
     by_test true rest = omega (arith, rest)
     by_test false rest = omega (arith, rest)
 
--- where a test is met by the first numbers, at least as many are counted
+-- if the first m numbers pass a test, at least m are counted
 pub count_many : (p : ℕ → Bool) (n a m : ℕ) → m ≤ n → ((j : ℕ) → a ≤ j → j < a + m → p j ≡ true) → m ≤ count_by p (range_with_len a n)
 count_many p n a zero few each = omega arith
 count_many p zero a (suc m) few each = absurd (omega (arith, few))
@@ -47,7 +47,7 @@ count_many p (suc n) a (suc m) few each =
     let one : cond {A = ℕ} (p a) 1 0 ≡ 1 = ap (λ b. cond b 1 0) here in
     omega (arith, sym (sum_by-cons (λ x. cond (p x) 1 0) a (range_with_len (a + 1) n)), one, rest)
 
--- no more are counted than there are
+-- the count is at most the number of elements
 pub count_most : (p : ℕ → Bool) (n a : ℕ) → count_by p (range_with_len a n) ≤ n
 count_most p n a = count_few p n a n (λ j low high. absurd (omega (arith, low, high)))
 
@@ -85,7 +85,7 @@ module _ (told_last : Bool) (s : Setting) (range : IsInRange s) where
       ] in
       rows_rise (i * S + segment_blocks total S i - 1) (j * S + segment_blocks total S j - 1) (block_count s.width) some_columns ends
 
-  -- what isn't settled is followed by none that is
+  -- a segment that isn't settled is followed by none that is
   none_later : (k i j : ℕ) → is_settled told_last s k i ≡ false → i ≤ j → j < segments_of s → is_settled told_last s k j ≡ false
   none_later k i j e le lt =
       let not = not_settled told_last s k i e in

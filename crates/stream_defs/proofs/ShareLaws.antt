@@ -36,7 +36,7 @@ module _ (s : Setting) (range : IsInRange s) (some : s.total ≢ 0) where
   has : HasTotal s
   has = elim range.total [ inl none ↦ absurd (some none) | inr here ↦ here ]
 
-  -- the share is what is left, parted among the segments that are left
+  -- the share is what is left, divided among the segments that are left
   pub parted : (index used : ℕ) → ℕ
   parted index used = (s.total - used) / (segments_of s - index)
 
@@ -58,12 +58,12 @@ module _ (s : Setting) (range : IsInRange s) (some : s.total ≢ 0) where
       let f = words_hold (min (parted index used) limit_range.most) s.word word.0 word.1 (omega (arith, enough)) in
       omega (arith, e, f)
 
-  -- what is left parts into 36 octets and more
+  -- each of the parts of what is left has at least 36 octets
   enough : (index used : ℕ) → index < segments_of s → used + 36 * (segments_of s - index) ≤ s.total → 36 ≤ parted index used
   unfolding parted
   enough index used lt left = le-div 36 (s.total - used) (segments_of s - index) (omega (arith, lt)) (omega (arith, left))
 
-  -- so a share can be said
+  -- so a head can have a share as its limit
   pub said_by : (index used : ℕ) → index < segments_of s → used + 36 * (segments_of s - index) ≤ s.total → CanBeSaid s (share s index used)
   said_by index used lt left =
       let least = share_least index used (enough index used lt left) in
@@ -83,7 +83,7 @@ module _ (s : Setting) (range : IsInRange s) (some : s.total ≢ 0) where
   spread q zero one = absurd (omega (arith, one))
   spread q (suc m) one = let e : suc m - 1 ≡ m = omega arith in rw e (let f : q * suc m ≡ q + m * q = grind arith in f)
 
-  -- after a text that keeps to its share enough is left for those that come
+  -- after a text within its share enough is left for those that follow
   pub left_next : (index used octets : ℕ) → index < segments_of s → used + 36 * (segments_of s - index) ≤ s.total → octets ≤ share s index used →
       used + octets + 36 * (segments_of s - (index + 1)) ≤ s.total
   left_next index used octets lt left few =
@@ -96,7 +96,7 @@ module _ (s : Setting) (range : IsInRange s) (some : s.total ≢ 0) where
       let part : q * m ≡ q + (m - 1) * q = spread q m (omega (arith, lt)) in
       omega (arith, lt, left, most, few, whole, more, part)
 
-  -- a text, of whatever blocks, keeps to its share
+  -- a text, of whatever blocks, is within its share
   pub segment_within : (segment : List (List ℤ)) (index used : ℕ) → index < segments_of s → used + 36 * (segments_of s - index) ≤ s.total →
       length (coded profile (head_of s index used segment) segment) ≤ share s index used
   segment_within segment index used lt left =

@@ -1,4 +1,4 @@
--- How large pixels and weighted coefficients are.
+-- The bounds on pixels and weighted coefficients.
 use Rattle.std.proofs.Common.{◌≤◌, ◌<◌, ◌-◌, ◌^◌, ℕ, ℤ, pos, negsuc, Bool, true, false, arith}
 use Rattle.std.specs.Prelude.{unsigned_abs}
 use Rattle.std.proofs.Math.Pow.{pow_mono}

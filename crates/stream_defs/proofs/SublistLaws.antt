@@ -1,4 +1,4 @@
--- The segments that a sub-list of an image's packets brings.
+-- The segments that a sub-list of an image's packets carries.
 use Rattle.std.proofs.Common.{◌≡◌, inl, inr, ◌≤◌, ◌<◌, ◌+◌, ◌-◌, ◌*◌, ◌/◌, ℕ, zero, suc, ℤ, List, [], ◌∷◌, ◌++◌, length, take, map, refl, sym, ap, subst, ◌∙◌, arith}
 use Rattle.std.specs.Prelude.{Bool, true, false, ◌==◌, if◌then◌else◌, slice_index_or, Ok}
 use Rattle.std.specs.List.{range_with_len, flat_map, filter}
@@ -134,7 +134,7 @@ module _ (told_last : Bool) (s : Setting) (all : List (List ℤ)) (coded : AreCo
       let e : n + 1 ≡ parts_of s all index = equal_so (n + 1) (parts_of s all index) closed in
       omega (arith, e)
 
-  -- rising parts are complete where they are all parts alone
+  -- rising parts are complete only if they are all parts
   complete_only : (index : ℕ) (ks : List ℕ) → index < segments_of s → IsRising 0 (parts_of s all index) ks → IsComplete (map (packet_at told_last s all index) ks) → ks ≡ all_parts s all index
   complete_only index ks lt rising c =
       let range : ks ≡ range_with_len 0 (length ks) = sym (numbers index 0 ks lt rising) ∙ c.numbers ∙ ap (range_with_len 0) (length-map ks (packet_at told_last s all index)) in
@@ -228,7 +228,7 @@ module _ (told_last : Bool) (s : Setting) (all : List (List ℤ)) (coded : AreCo
       let e : 0 + parts_of s all index ≡ parts_of s all index = omega arith in
       run_whole 0 (parts_of s all index) (parts index) (subst (λ m. IsRising 0 m (parts index)) (sym e) (choice.each index lt)) run_all
 
-  -- where all parts are there, they are kept
+  -- if all parts are there, they are kept
   pub all_there : (index : ℕ) → index < segments_of s → parts index ≡ all_parts s all index →
       packets_at index (kept s.apid fresh (chosen told_last s all parts (segments_of s))) ≡ map (packet_at told_last s all index) (all_parts s all index)
   all_there index lt whole = kept_at index lt ∙ ap (λ ks. map (packet_at told_last s all index) (run 0 ks)) whole ∙ ap (map (packet_at told_last s all index)) (run-range 0 (parts_of s all index))
@@ -243,7 +243,7 @@ module _ (told_last : Bool) (s : Setting) (all : List (List ℤ)) (coded : AreCo
       head_read (text_in (slice_index_or (packets_at index (kept s.apid fresh (chosen told_last s all parts (segments_of s)))) 0 [])) ≡ Ok (head_for s all index)
   head_there index lt whole = ap (λ ps. head_read (text_in (slice_index_or ps 0 []))) (all_there index lt whole) ∙ head_at index lt
 
-  -- a segment is received exactly where all its packets are there and its text is accepted
+  -- a segment is received exactly if all its packets are there and its text is accepted
   pub received_only : (holds : Acceptance) (index : ℕ) (numbers : List (List ℤ)) → index < segments_of s →
       IsReceived holds (kept s.apid fresh (chosen told_last s all parts (segments_of s))) index numbers →
       (parts index ≡ all_parts s all index) × holds (head_for s all index) (segment_text s all index) numbers

@@ -41,7 +41,7 @@ sublist_kept told_last s all parts are choice = record {
 
 -- ---- packets by blocks
 
--- the texts of the first segments are as long
+-- the texts of the first segments have the same lengths
 used_same : (s : Setting) (xs ys : List (List ℤ)) (n : ℕ) → ((index : ℕ) → index < n → segment_of s xs index ≡ segment_of s ys index) → used_before s xs n ≡ used_before s ys n
 unfolding used_before
 used_same s xs ys zero same = refl

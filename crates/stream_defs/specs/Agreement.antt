@@ -1,4 +1,4 @@
--- Whether a segment's head agrees with the image that its packet tells of. This project's own.
+-- Whether a segment's head agrees with the image of its packet. This project's own.
 use Rattle.std.specs.Prelude.{ℕ, ◌+◌, ◌-◌, ◌*◌, ◌/◌, ◌%◌, ◌==◌, ◌&&◌, ◌||◌, Bool, true, false, not, nat_le, nat_lt, if◌then◌else◌, min, [], ◌∷◌, Option, None, Some, Result, Ok, Err}
 use Rattle.std.specs.Str.{bytes_eq}
 use Rattle.base_122.specs.Sizes.{block_count, padded_size, total_blocks}
@@ -12,7 +12,7 @@ use Rattle.segment_defs.specs.declared.fault.HeadField.TheVariants.{First, Block
 use Rattle.packet_defs.specs.declared.ancillary.Ancillary.{Ancillary}
 use Rattle.packet_defs.specs.Tests.{when, first_of}
 
--- the geometry that a segment's packet and head tell; its rows are 0 where the height is told last
+-- the geometry in a segment's packet and head; its rows are 0 if the height is reported last
 abbrev pub geometry_told : Ancillary → ImagePart → Geometry
 geometry_told a image = record {
   width = image.width;
@@ -25,7 +25,7 @@ geometry_told a image = record {
   weights = image.weights;
 }
 
--- the geometry that stands, or is made of what they tell
+-- the geometry that is known, or else the one in the packet and head
 abbrev pub geometry_for : Option Geometry → Ancillary → ImagePart → Geometry
 geometry_for None a image = geometry_told a image
 geometry_for (Some g) a image = g
@@ -37,7 +37,7 @@ abbrev pub same_flag : Bool → Bool → Bool
 same_flag true b = b
 same_flag false b = not b
 
--- what a head says of the image is what this geometry says; weights are compared as they are read
+-- the image part of a head is that of this geometry; weights are compared as they are read
 abbrev pub is_of_image : Geometry → ImagePart → Bool
 is_of_image g image =
     same_flag image.signed g.signed && ((image.depth == g.depth) && ((image.width == g.width) && ((image.word == g.word)
@@ -49,11 +49,11 @@ is_of_image g image =
 abbrev pub has_blocks : Geometry → Ancillary → SegmentHead → Bool
 has_blocks g a head = nat_lt a.first (blocks_of g) && (head.blocks == min g.segment (blocks_of g - a.first))
 
--- it is the last one just where it ends the image
+-- it is the last one exactly if it ends the image
 abbrev pub ends_where_told : Geometry → Ancillary → SegmentHead → Bool
 ends_where_told g a head = same_flag head.last (a.first + head.blocks == blocks_of g)
 
--- the rows that pad are those of the image
+-- the padding rows are those of the image
 abbrev pub pads_as_told : Geometry → SegmentHead → Bool
 pads_as_told g head = not head.last || (head.pad_rows == padded_size g.rows - g.rows)
 
@@ -63,7 +63,7 @@ pads_as_told g head = not head.last || (head.pad_rows == padded_size g.rows - g.
 abbrev pub may_have_blocks : Geometry → SegmentHead → Bool
 may_have_blocks g head = if head.last then nat_le 1 head.blocks && nat_le head.blocks g.segment else head.blocks == g.segment
 
--- the height that a last head tells: that of the block rows that it ends, without the rows that pad
+-- the height that a last head reports: that of the block rows that it ends, without the padding rows
 abbrev pub told_height : Geometry → Ancillary → SegmentHead → ℕ
 told_height g a head = 8 * ((a.first + head.blocks) / block_count g.width) - head.pad_rows
 
@@ -76,7 +76,7 @@ may_end g a head =
 
 -- ---- all tests
 
--- the first of these by which a head doesn't agree with what its packet tells, in an image of this geometry
+-- the first of these by which a head doesn't agree with its packet, in an image of this geometry
 unfoldable pub disagreement : Geometry → Ancillary → SegmentHead → Option HeadFault
 disagreement g a head = first_of (
     when (not (same_flag head.first (a.index == 0))) (BadValue First)
@@ -88,11 +88,11 @@ disagreement g a head = first_of (
     ∷ []
     )
 
--- the geometry once this head is kept: where the height is told last, a last head tells it
+-- the geometry once this head is kept: if the height is reported last, a last head reports it
 abbrev pub geometry_past : Geometry → Ancillary → SegmentHead → Geometry
 geometry_past g a head = if a.told_last && head.last then record g { rows = told_height g a head } else g
 
--- why a head that was read, or the refusal of one, is refused in a packet that tells this
+-- why a head that was read is refused, or why it couldn't be read, in a packet with these ancillary data
 abbrev pub head_refusal : Option Geometry → Ancillary → Result SegmentHead HeadFault → Option HeadFault
 head_refusal standing a (Err fault) = Some fault
 head_refusal standing a (Ok head) = disagreement (geometry_for standing a head.image) a head

@@ -1,4 +1,4 @@
--- How far an image goes as the kept packets tell: its height, or what their heads reach while it isn't told. This project's own.
+-- The rows of an image as the kept packets report it: its height, or what their heads reach while it isn't known. This project's own.
 use Rattle.std.specs.Prelude.{◌≡◌, ◌≤◌, ℕ, ◌+◌, ◌-◌, ◌*◌, ◌/◌, ◌==◌, max, if◌then◌else◌, List, fold, Option, None, Some, Result, Ok, Err}
 use Rattle.std.specs.Int.{div_ceil}
 use Rattle.base_122.specs.Sizes.{block_count}
@@ -13,12 +13,12 @@ use Rattle.stream_defs.specs.Fates.{geometry_in, kept_in}
 
 -- ---- what the kept heads reach
 
--- the first block after a segment whose head was read in a packet that tells this
+-- the first block after a segment whose head was read in a packet with these ancillary data
 abbrev pub end_told : Ancillary → Result SegmentHead HeadFault → ℕ
 end_told a (Ok head) = a.first + head.blocks
 end_told a (Err fault) = 0
 
--- the first block after the segment that a packet begins; 0 where it begins none
+-- the first block after the segment that a packet begins; 0 if it begins none
 abbrev pub end_in : List ℕ → ℕ
 end_in packet = if (ancillary_in packet).part == 0 then end_told (ancillary_in packet) (head_read (text_in packet)) else 0
 
@@ -40,7 +40,7 @@ begun_in apid octets = by_geometry (geometry_in apid octets)
 
 -- ---- rows
 
--- rows that are given where the kept heads reach n block rows: all, or those that these determine while the height isn't told
+-- rows that are given if the kept heads reach n block rows: all, or those that these determine while the height isn't known
 abbrev pub height : Geometry → (n : ℕ) → ℕ
 height g n = if g.rows == 0 then 8 * n - 21 else g.rows
 
@@ -48,7 +48,7 @@ height g n = if g.rows == 0 then 8 * n - 21 else g.rows
 abbrev pub block_rows : Geometry → (n : ℕ) → ℕ
 block_rows g n = if g.rows == 0 then n else block_count g.rows
 
--- block rows of the bands: while the height isn't told, as many as an image has at least of which the first n don't end it
+-- block rows of the bands: while the height isn't known, the least number that an image has of which the first n don't end it
 abbrev pub band_rows : Geometry → (n : ℕ) → ℕ
 band_rows g n = if g.rows == 0 then n + 3 else block_count g.rows
 
@@ -66,6 +66,6 @@ placed g = record g { rows = placed_rows g }
 abbrev pub rows_reached : Geometry → (ended : ℕ) → ℕ
 rows_reached g ended = if g.rows == 0 then max rows_range.least (8 * div_ceil ended (block_count g.width) - 7) else g.rows
 
--- the kept heads of a stream of octets reach at most so many pixels
+-- the kept heads of a stream of octets reach at most this number of pixels
 abbrev pub HasFewPixels : (pixels apid : ℕ) → List ℕ → Type 0
 HasFewPixels pixels apid octets = (g : Geometry) → geometry_in apid octets ≡ Some g → g.width * rows_reached g (end_of (kept_in apid octets)) ≤ pixels

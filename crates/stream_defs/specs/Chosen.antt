@@ -18,7 +18,7 @@ pub record IsChoice (s : Setting) (all : List (List ℤ)) (parts : ℕ → List 
 unfoldable pub chosen : (told_last : Bool) → Setting → List (List ℤ) → (parts : ℕ → List ℕ) → (n : ℕ) → List (List ℕ)
 chosen told_last s all parts n = flat_map (λ index. map (packet_at told_last s all index) (parts index)) (range_with_len 0 n)
 
--- the numbers from one on, one after the other, as far as they go on
+-- the longest prefix of consecutive numbers that begins with `next`
 abbrev pub run : (next : ℕ) → List ℕ → List ℕ
 run next [] = []
 run next (k ∷ ks) = if k == next then k ∷ run (next + 1) ks else []

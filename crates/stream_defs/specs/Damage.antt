@@ -19,7 +19,7 @@ is_missing g received r =
 unfoldable pub missing_below : Geometry → (ℕ → Option (List (List ℤ))) → (rows : ℕ) → List ℕ
 missing_below g received rows = filter (is_missing g received) (range_with_len 0 rows)
 
--- the missing block rows where the kept heads reach n block rows, and those of an image whose height is known
+-- the missing block rows if the kept heads reach n block rows, and those of an image whose height is known
 abbrev pub missing_rows : Geometry → (ℕ → Option (List (List ℤ))) → (n : ℕ) → List ℕ
 missing_rows g received n = missing_below g received (block_rows g n)
 
@@ -28,7 +28,7 @@ whole_missing g received = missing_below g received (block_count g.rows)
 
 -- ---- their reach
 
--- a row of an image of so many rows that one of these block rows reaches
+-- in an image with this number of rows, one of these block rows reaches this row
 abbrev pub is_damaged : (rows : ℕ) → List ℕ → (row : ℕ) → Bool
 is_damaged rows missing row = nat_lt row rows && list_any (λ r. reaches r row) missing
 
@@ -48,7 +48,7 @@ range_from rows missing row = record { first = row; last = row + run_length rows
 unfoldable pub ranges : (rows : ℕ) → List ℕ → List RowRange
 ranges rows missing = map (range_from rows missing) (filter (begins_range rows missing) (range_with_len 0 rows))
 
--- where the kept heads reach n block rows, and of an image whose height is known
+-- if the kept heads reach n block rows, and for an image whose height is known
 abbrev pub damage : Geometry → (ℕ → Option (List (List ℤ))) → (n : ℕ) → List RowRange
 damage g received n = ranges (height g n) (missing_rows g received n)
 
@@ -61,16 +61,16 @@ whole_damage g received = ranges g.rows (whole_missing g received)
 abbrev pub is_covered : List RowRange → (row : ℕ) → Bool
 is_covered ranges row = list_any (λ range. nat_le range.first row && nat_le row range.last) ranges
 
--- just these rows are in a range
+-- exactly these rows are in a range
 pub record Covers (ranges : List RowRange) (rows : ℕ) (missing : List ℕ) : Type 0 where
   pub each : (row : ℕ) → is_covered ranges row ≡ is_damaged rows missing row
 
--- each range is one, and begins at least at a row, after a row that is in none
+-- each range is one, and begins at this row or later, after a row that is in none
 abbrev pub LieApart : (least : ℕ) → List RowRange → Type 0
 LieApart least [] = Unit {0}
 LieApart least (range ∷ ranges) = (least ≤ range.first) × (range.first ≤ range.last) × LieApart (range.last + 2) ranges
 
--- The ranges cover just the damaged rows, and any two have a row between them; so no list of fewer ranges does.
+-- The ranges cover exactly the damaged rows, and any two have a row between them; so no list of fewer ranges does.
 pub record DamageIsLeast : Type 0 where
   pub covers : (rows : ℕ) (missing : List ℕ) → Covers (ranges rows missing) rows missing
   pub lie_apart : (rows : ℕ) (missing : List ℕ) → LieApart 0 (ranges rows missing)

@@ -1,4 +1,4 @@
--- What becomes of each packet, and what it leaves for the next one's fate. This project's own.
+-- The fate of each packet, and the state that it leaves for the next one's fate. This project's own.
 use Rattle.std.specs.Prelude.{ℕ, ◌+◌, ◌*◌, ◌%◌, ◌==◌, ◌&&◌, ◌||◌, Bool, true, false, not, nat_le, nat_lt, if◌then◌else◌, List, [], ◌∷◌, fold, Option, None, Some, Result, Ok, Err, unwrap_or}
 use Rattle.std.specs.Option.{option_map}
 use Rattle.base_122.specs.Ranges.{is_within, rows_range, segment_range}
@@ -26,11 +26,11 @@ fresh = record { geometry = None; told_last = false; last = None }
 abbrev pub tells_rows : Ancillary → Bool
 tells_rows a = if a.told_last then a.rows == 0 else is_within rows_range a.rows
 
--- a block past the last one, where the height is told
+-- a block after the last one, if the height is reported
 abbrev pub is_past : Geometry → Ancillary → Bool
 is_past g a = not (g.rows == 0) && nat_le (blocks_of g) a.first
 
--- another image than that of the geometry, whose packets tell its rows or leave them to be told last
+-- another image than that of the geometry, whose packets report its rows or leave them to be reported last
 abbrev pub differs : Option Geometry → (told_last : Bool) → Ancillary → Bool
 differs None told_last a = false
 differs (Some g) told_last a =
@@ -62,12 +62,12 @@ follows (Some last) a = (a.index == last.index) && ((a.part == last.part + 1) &&
 abbrev pub is_out_of_place : Option LastPart → (flags : ℕ) → Ancillary → Bool
 is_out_of_place last flags a = if a.part == 0 then not (begins flags) else begins flags || not (follows last a)
 
--- why a packet's head is refused, which stands in part 0 alone
+-- why a packet's head is refused, which only part 0 has
 abbrev pub refusal_in : Option Geometry → List ℕ → Option HeadFault
 refusal_in standing packet =
     if (ancillary_in packet).part == 0 then head_refusal standing (ancillary_in packet) (head_read (text_in packet)) else None
 
--- what becomes of a packet: the first of these, else it is kept
+-- the fate of a packet: the first of these, otherwise it is kept
 unfoldable pub fate : (apid : ℕ) → FateState → List ℕ → Fate
 fate apid s packet = unwrap_or (first_of (
     option_map Skipped (skip_of apid packet)
@@ -84,7 +84,7 @@ abbrev pub is_kept : Fate → Bool
 is_kept Kept = true
 is_kept other = false
 
--- the geometry after a head that was read in a kept packet that tells this
+-- the geometry after a head that was read in a kept packet with these ancillary data
 abbrev pub geometry_with : Option Geometry → Ancillary → Result SegmentHead HeadFault → Option Geometry
 geometry_with standing a (Ok head) = Some (geometry_past (geometry_for standing a head.image) a head)
 geometry_with standing a (Err fault) = standing
@@ -100,7 +100,7 @@ part_in packet = record {
   closed = closes (flags_in packet);
 }
 
--- what a kept packet leaves
+-- the state after a kept packet
 abbrev pub after_kept : FateState → List ℕ → FateState
 after_kept s packet = record {
   geometry = geometry_after s.geometry packet;
@@ -108,13 +108,13 @@ after_kept s packet = record {
   last = Some (part_in packet);
 }
 
--- a packet that isn't kept leaves all as it was
+-- a packet that isn't kept changes nothing
 unfoldable pub after : (apid : ℕ) → FateState → List ℕ → FateState
 after apid s packet = if is_kept (fate apid s packet) then after_kept s packet else s
 
 -- ---- all packets
 
--- what packets leave, one after another
+-- the state after packets, one after another
 abbrev pub after_all : (apid : ℕ) → FateState → List (List ℕ) → FateState
 after_all apid s packets = fold (after apid) s packets
 

@@ -23,7 +23,7 @@ and_missing missing r = filter (λ i. list_any (λ k. k == i) missing || (i == r
 abbrev pub marked : Marks → (block_row : ℕ) → Marks
 marked m r = record m { missing = and_missing m.missing r }
 
--- the image has so many rows; what is missing stays
+-- the image has this number of rows; the missing block rows are unchanged
 abbrev pub ended_at : Marks → (rows : ℕ) → Marks
 ended_at m rows = record m { rows = rows }
 

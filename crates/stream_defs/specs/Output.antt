@@ -1,6 +1,6 @@
--- All packets of an image: the whole-image definition of what an encoder writes. Nothing in it knows of rows that come one
--- after another. A setting here has the height of the image; whether the packets tell that height or leave it to the last head
--- is said beside it.
+-- All packets of an image: the definition, over the whole image, of what an encoder writes. Nothing in it depends on the order in which
+-- rows arrive. A setting here has the height of the image; whether the packets report that height or leave it to the last head is a
+-- separate argument.
 use Rattle.std.specs.Prelude.{ℕ, zero, suc, ◌+◌, ◌-◌, ◌*◌, ◌/◌, ◌%◌, ◌==◌, ℤ, Bool, true, false, if◌then◌else◌, min, List, length, take, drop}
 use Rattle.std.specs.List.{range_with_len, flat_map, sum_by}
 use Rattle.plane_defs.specs.Profile.{profile}
@@ -38,11 +38,11 @@ abbrev pub is_optimal : Select → Bool
 is_optimal Heuristic = false
 is_optimal Optimal = true
 
--- what each head says of the image
+-- the image part of each head
 abbrev pub image_part : Setting → ImagePart
 image_part s = record { signed = s.signed; depth = s.depth; width = s.width; word = s.word; weights = s.weights }
 
--- the stop as each head says it: one at the DC numbers has plane 0 and stage 3 there
+-- the stop as each head has it: one at the DC numbers has plane 0 and stage 3 there
 abbrev pub written_stop : Stop → Stop
 written_stop stop = record {
   dc = stop.dc;
@@ -50,13 +50,13 @@ written_stop stop = record {
   stage = if stop.dc then 3 else stop.stage;
 }
 
--- Octets that the text of a segment has at most, after texts of so many octets; 0 is no bound. Where there is a total, it is an even
+-- The greatest number of octets of the text of a segment, after texts of `used` octets; 0 is no bound. If there is a total, it is an even
 -- share of what is left of it, in whole code words.
 unfoldable pub share : Setting → (index used : ℕ) → ℕ
 share s index used =
     if s.total == 0 then s.limit else min ((s.total - used) / (segments_of s - index)) limit_range.most / s.word * s.word
 
--- the head of the segment of this index, with this limit and so many blocks of these depths
+-- the head of the segment of this index, with this limit, this number of blocks and these depths
 abbrev pub head_with : Setting → (index limit count depth_dc depth_ac : ℕ) → SegmentHead
 head_with s index limit count depth_dc depth_ac = record {
   first = index == 0;
@@ -74,11 +74,11 @@ head_with s index limit count depth_dc depth_ac = record {
   image = image_part s;
 }
 
--- the head of the segment of this index, with these blocks, after texts of so many octets
+-- the head of the segment of this index, with these blocks, after texts of `used` octets
 abbrev pub head_of : Setting → (index used : ℕ) → List (List ℤ) → SegmentHead
 head_of s index used segment = head_with s index (share s index used) (length segment) (depth_dc_of segment) (depth_ac_of segment)
 
--- the text of the segment of this index, after texts of so many octets
+-- the text of the segment of this index, after texts of `used` octets
 abbrev pub text_with : Setting → List (List ℤ) → (index used : ℕ) → List ℕ
 text_with s all index used = let segment = segment_of s all index in coded profile (head_of s index used segment) segment
 
@@ -94,7 +94,7 @@ head_for s all index = head_of s index (used_before s all index) (segment_of s a
 abbrev pub segment_text : Setting → List (List ℤ) → (index : ℕ) → List ℕ
 segment_text s all index = text_with s all index (used_before s all index)
 
--- what the packets of a segment say of it, with part 0
+-- the ancillary data of a segment's packets, with part 0
 abbrev pub ancillary_of : (told_last : Bool) → Setting → (index : ℕ) → Ancillary
 ancillary_of told_last s index = record {
   told_last = told_last;
@@ -124,10 +124,10 @@ packets_of told_last s all n = flat_map (segment_packets told_last s all) (range
 abbrev pub image_packets : (told_last : Bool) → Setting → (ℕ → ℕ → ℤ) → List (List ℕ)
 image_packets told_last s x = packets_of told_last s (image_blocks s x) (segments_of s)
 
--- a setting that leaves the rows open has the height told last
+-- a setting with open rows has the height reported last
 abbrev pub tells_last : Setting → Bool
 tells_last s = s.rows == 0
 
--- the octets of all packets of an image of so many rows
+-- the octets of all packets of an image with this number of rows
 abbrev pub output : Setting → (rows : ℕ) → (ℕ → ℕ → ℤ) → List ℕ
 output s rows x = joined (image_packets (tells_last s) (sized s rows) x)

@@ -10,7 +10,7 @@ use Rattle.wave_defs.specs.Blocks.{Place, place_of, block_side}
 use Rattle.raster_rows.specs.Pixels.{clamped, raster_octets}
 use Rattle.stream_defs.specs.Begun.{height, band_rows}
 
--- the number at a position of a block, where blocks are counted in raster order; 0 where its segment isn't received
+-- the number at a position of a block, with blocks counted in raster order; 0 if its segment isn't received
 unfoldable pub number_at : Geometry → (ℕ → Option (List (List ℤ))) → (block position : ℕ) → ℤ
 number_at g received block i =
     slice_index_or (slice_index_or (unwrap_or (received (block / g.segment)) []) (block % g.segment) []) i (pos 0)
@@ -18,7 +18,7 @@ number_at g received block i =
 abbrev pub is_place : Place → Place → Bool
 is_place p q = (p.band == q.band) && ((p.row == q.row) && (p.column == q.column))
 
--- the position of the number that stands at a place of a block
+-- the position in a block of the number at this place
 unfoldable pub position_of : Place → ℕ
 position_of p = unwrap_or (position (λ i. is_place (place_of i) p) (range_with_len 0 64)) 0
 

@@ -17,12 +17,12 @@ abbrev pub packet_at : (told_last : Bool) → Setting → List (List ℤ) → (i
 packet_at told_last s all index part =
     part_packet s.apid (ancillary_of told_last s index) s.packet (packets_before s all index) (parts_of s all index) part (segment_text s all index)
 
--- what it leaves where it is kept
+-- the last part after it was kept
 abbrev pub place_at : Setting → List (List ℤ) → (index part : ℕ) → LastPart
 place_at s all index part = record { index = index; part = part; closed = part + 1 == parts_of s all index }
 
--- What is taken of the segments' texts: each begins with its head, which is whole in part 0 and is read as it was written, and has some and
--- fewer than 2 ^ 32 octets; and each segment has its blocks.
+-- What is assumed of the segments' texts: each begins with its head, which is whole in part 0 and is read as it was written, and has some
+-- and fewer than 2 ^ 32 octets; and each segment has its blocks.
 pub record AreCoded (s : Setting) (all : List (List ℤ)) : Type 0 where
   pub setting : IsInRange s
   pub rows : IsWithin rows_range s.rows

@@ -32,7 +32,7 @@ text_of_parts parts = flat_map text_in parts
 abbrev pub Acceptance : Type 1
 Acceptance = SegmentHead → List ℕ → List (List ℤ) → Type 0
 
--- The segment of this index is received with these numbers. Its head stands in the packet of part 0.
+-- The segment of this index is received with these numbers. Its head is in the packet of part 0.
 pub record IsReceived (holds : Acceptance) (packets : List (List ℕ)) (index : ℕ) (numbers : List (List ℤ)) : Type 0 where
   pub whole : IsComplete (packets_at index packets)
   pub head : SegmentHead

@@ -1,4 +1,4 @@
--- How far octets and rows that came determine what goes out. This project's own.
+-- What the octets and rows so far determine of the output. This project's own.
 use Rattle.std.specs.Prelude.{◌≡◌, ◌<◌, ℕ, ◌+◌, ◌-◌, ◌*◌, ◌/◌, ◌==◌, ◌&&◌, ◌||◌, Bool, not, nat_lt, if◌then◌else◌, List, [], length, slice_index_or, ℤ, is_some, Option, None, Some}
 use Rattle.std.specs.List.{count_by, range_with_len}
 use Rattle.base_122.specs.Sizes.{block_count, total_blocks, first_block, segment_blocks}
@@ -17,7 +17,7 @@ abbrev pub last_block_row : Setting → (index : ℕ) → ℕ
 last_block_row s index =
     (first_block s.segment index + segment_blocks (total_blocks s.width s.rows) s.segment index - 1) / block_count s.width
 
--- the first k rows determine the segment's numbers: by their reach, or where they are known to be all
+-- the first k rows determine the segment's numbers: by their reach, or if they are known to be all
 abbrev pub is_settled : (told_last : Bool) → Setting → (k index : ℕ) → Bool
 is_settled told_last s k index = (not told_last && (k == s.rows)) || nat_lt (8 * last_block_row s index + 28) k
 
@@ -31,24 +31,24 @@ settled told_last s k = count_by (is_settled told_last s k) (range_with_len 0 (s
 abbrev pub block_rows_before : Geometry → (block : ℕ) → ℕ
 block_rows_before g block = block / block_count g.width
 
--- blocks of a segment; while the height isn't told, none is known to be the last one
+-- blocks of a segment; while the height isn't known, none is known to be the last one
 abbrev pub blocks_in : Geometry → (index : ℕ) → ℕ
 blocks_in g index = if g.rows == 0 then g.segment else segment_blocks (blocks_of g) g.segment index
 
--- the first block after a segment where it is received, else its own first block
+-- the first block after a segment if it is received, otherwise its own first block
 abbrev pub blocks_through : Geometry → (ℕ → Option (List (List ℤ))) → (index : ℕ) → ℕ
 blocks_through g received index = first_block g.segment index + (if is_some (received index) then blocks_in g index else 0)
 
--- rows that n whole block rows determine; while the height isn't told, none are all of them
+-- rows that n whole block rows determine; while the height isn't known, none are all of them
 abbrev pub rows_through : Geometry → (n : ℕ) → ℕ
 rows_through g n = if n == block_count g.rows then g.rows else 8 * n - 21
 
--- rows that may go out with this last part
+-- rows that may be written with this last part
 abbrev pub rows_after : Geometry → (ℕ → Option (List (List ℤ))) → Option LastPart → ℕ
 rows_after g received None = 0
 rows_after g received (Some last) = rows_through g (block_rows_before g (blocks_through g received last.index))
 
--- rows that may go out where octets left this state; none without a geometry
+-- rows that may be written if octets left this state; none without a geometry
 abbrev pub ready : FateState → (ℕ → Option (List (List ℤ))) → ℕ
 ready s received = ready_in s.geometry s.last
   where

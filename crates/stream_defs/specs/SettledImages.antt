@@ -7,7 +7,7 @@ use Rattle.base_122.specs.declared.setting.Setting.{Setting}
 use Rattle.stream_defs.specs.Output.{image_blocks, packets_of, segments_of, tells_last}
 use Rattle.stream_defs.specs.Settled.{settled}
 
--- an image of so many rows for a setting, and the packets of its first n segments
+-- the packets of the first n segments of an image with this number of rows for a setting
 abbrev pub front_packets : Setting → (rows : ℕ) → (ℕ → ℕ → ℤ) → (n : ℕ) → List (List ℕ)
 front_packets s rows x n = let whole = sized s rows in packets_of (tells_last s) whole (image_blocks whole x) n
 
@@ -15,8 +15,8 @@ front_packets s rows x n = let whole = sized s rows in packets_of (tells_last s)
 abbrev pub settled_in : Setting → (rows k : ℕ) → ℕ
 settled_in s rows k = settled (tells_last s) (sized s rows) k
 
--- The packets of the settled segments are the same for two images for a setting whose first k rows agree, whatever their heights. More
--- rows settle no fewer segments, and all rows, where it is known that they are all, settle all of them.
+-- The packets of the settled segments are the same for two images for a setting whose first k rows agree, whatever their heights. More rows
+-- settle at least the same segments, and all rows, if it is known that they are all, settle all of them.
 pub record ImagesSettle : Type 0 where
   pub same : (s : Setting) (rows lines k : ℕ) (x y : ℕ → ℕ → ℤ) → IsInRange s → IsHeight s rows → IsHeight s lines → k ≤ rows → k ≤ lines →
       SameWithin k s.width x y → front_packets s rows x (settled_in s rows k) ≡ front_packets s lines y (settled_in s lines k)

@@ -1,4 +1,4 @@
--- The laws of an image's packets where they are read. This project's own.
+-- The laws on reading an image's packets. This project's own.
 use Rattle.std.specs.Prelude.{◌≡◌, ℕ, ◌<◌, ◌+◌, ◌==◌, ◌&&◌, not, Bool, if◌then◌else◌, ℤ, List, [], ◌∷◌, slice_index_or, Some, Ok}
 use Rattle.base_122.specs.Setting.{image_geometry}
 use Rattle.base_122.specs.declared.geometry.Geometry.{Geometry}
@@ -20,7 +20,7 @@ pub record ImagesKept : Type 0 where
 abbrev pub kept_of : (told_last : Bool) → Setting → List (List ℤ) → (parts : ℕ → List ℕ) → List (List ℕ)
 kept_of told_last s all parts = kept s.apid fresh (chosen told_last s all parts (segments_of s))
 
--- The geometry that stands after a part of this segment: where the height is told last, it is there from the last segment on.
+-- The geometry after a part of this segment: if the height is reported last, it is known from the last segment on.
 abbrev pub geometry_by : (told_last : Bool) → Setting → (index : ℕ) → Geometry
 geometry_by told_last s index = image_geometry s (if told_last && not (index + 1 == segments_of s) then 0 else s.rows)
 
@@ -30,8 +30,8 @@ pub record IsLastBegun (s : Setting) (parts : ℕ → List ℕ) (index : ℕ) : 
   pub begun : parts index ≡ 0 ∷ more
   pub none_after : (later : ℕ) → index < later → later < segments_of s → (rest : List ℕ) → parts later ≡ 0 ∷ rest → ⊥
 
--- Of some packets of an image just those are kept that go on from part 0 of their segment, one after the other. So a segment is
--- complete exactly where all its packets are there; then its text and its head are those that were written.
+-- Of some packets of an image exactly those are kept that continue from part 0 of their segment, one after the other. So a segment is
+-- complete exactly if all its packets are there; then its text and its head are those that were written.
 pub record SublistsKept (told_last : Bool) (s : Setting) (all : List (List ℤ)) (parts : ℕ → List ℕ) : Type 0 where
   pub those_kept : kept_of told_last s all parts ≡ chosen told_last s all (λ index. run 0 (parts index)) (segments_of s)
   pub geometry : (index : ℕ) (more : List ℕ) → index < segments_of s → parts index ≡ 0 ∷ more →

@@ -1,4 +1,4 @@
-// Laws of an image's packets where they are read.
+// The laws on reading an image's packets.
 ghost use Rattle.stream_defs.specs.Damage.{DamageIsLeast};
 ghost use Rattle.stream_defs.specs.KnownHeights.{KnownHeights};
 ghost use Rattle.stream_defs.specs.Settled.{SettledSame};
@@ -11,8 +11,8 @@ pub const fn images_are_kept()
     ensures { ImagesKept }
 {}
 
-/// Of some of them just those are kept that go on from part 0 of their segment, so a segment is complete exactly where all its
-/// packets are there.
+/// Of some of them exactly those are kept that continue from part 0 of their segment, so a segment is complete exactly if all its packets
+/// are there.
 pub const fn sublists_are_kept()
     ensures { SublistsAreKept }
 {}
@@ -22,7 +22,7 @@ pub const fn packets_of_blocks()
     ensures { PacketsOfBlocks }
 {}
 
-/// The ranges of damaged rows cover just these, and any two have a row between them.
+/// The ranges of damaged rows cover exactly these, and any two have a row between them.
 pub const fn damage_is_least()
     ensures { DamageIsLeast }
 {}
@@ -32,12 +32,12 @@ pub const fn settled_is_same()
     ensures { SettledSame }
 {}
 
-/// Each share of a total can be said, and all texts together keep to the total.
+/// A segment header can have each share of a total as its limit, and all texts together have at most the octets of the total.
 pub const fn shares_fit()
     ensures { SharesFit }
 {}
 
-/// The packets of settled segments are determined by the rows so far, whatever the height, and more rows settle no fewer.
+/// The packets of settled segments are determined by the rows so far, whatever the height, and more rows settle at least the same segments.
 pub const fn images_settle()
     ensures { ImagesSettle }
 {}

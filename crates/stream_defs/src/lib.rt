@@ -1,4 +1,4 @@
-//! Definitions of the stream of packets: all packets of an image, and what a reader makes of any packets.
+//! The definitions of the stream of packets: all packets of an image, and what a reader takes from any packets.
 #![tactic(auto)]
 
 mod fate;

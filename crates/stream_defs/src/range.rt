@@ -1,6 +1,6 @@
 // Rows of a picture.
 
-/// The rows from one to another, both among them.
+/// The rows from `first` to `last`, both included.
 #[derive(Clone, Copy, Debug, PartialEq, Eq)]
 pub struct RowRange {
     pub first: u32,

@@ -1,4 +1,4 @@
--- What the raster that is there makes of a run of an encoder.
+-- The effect of the given raster on a run of an encoder.
 use Rattle.std.proofs.Common.{◌≡◌, ◌≤◌, ◌+◌, ◌*◌, ◌%◌, ℕ, ℤ, Bool, true, false, List, ◌++◌, length, sym, ◌∙◌, ap, subst, inl, inr, arith, length-append, refl}
 use Rattle.std.specs.Prelude.{◌==◌, if◌then◌else◌}
 use Rattle.std.proofs.lemmas.Bool.{false≢true, eq-eqb, ne_eqb}
@@ -21,7 +21,7 @@ not_in_range depth signed took rest place value bad all =
     let same : pixel_at depth signed (took ++ rest) place ≡ value = pixel_at-append_left depth signed took rest place whole ∙ sym bad.value_is in
     bad.bad (subst (IsPixel depth signed) same (all.each place (whole_pixels-above depth (took ++ rest) place more)))
 
--- the raster of an image lacks no rows
+-- no rows of the raster of an image are missing
 pub none_lacking : (s : Setting) (rows octets : ℕ) → IsHeight s rows → octets ≡ rows * row_length s → LacksRows s octets → ⊥
 none_lacking s rows octets height whole lacks = elim height.1 [
   | inl none ↦ elim (lacks.left_open none) [

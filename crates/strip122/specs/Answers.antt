@@ -1,4 +1,4 @@
--- What the program answers by itself. This project's own.
+-- What the program returns by itself. This project's own.
 use Rattle.std.specs.Prelude.{◌≡◌, ◌⊎◌, ℕ, List, [], ◌∷◌, codes}
 use Rattle.std.specs.declared.io.ErrorKind.{ErrorKind}
 use Rattle.std.specs.declared.io.ErrorKind.TheVariants.{OutOfMemory}
@@ -14,7 +14,7 @@ abbrev pub IsAnswer : List (List ℕ) → Answer → Type 0
 IsAnswer words Help = IsOne words (codes "--help") ⊎ (IsOne words (codes "-h") ⊎ IsOne words (codes "help"))
 IsAnswer words Version = IsOne words (codes "--version") ⊎ (IsOne words (codes "-V") ⊎ IsOne words (codes "version"))
 
--- the status where the words can't be had: for want of memory, or since they are no text
+-- the status if the words can't be read: because there is no memory, or since they are no text
 abbrev pub words_fault : ErrorKind → ℕ
 words_fault OutOfMemory = 6
 words_fault kind = 2

@@ -1,4 +1,4 @@
--- A port that tells nothing and never fails. This project's own.
+-- The outside of a port that reports nothing and never fails. This project's own.
 use Rattle.std.specs.Prelude.{None}
 use Rattle.port_122.specs.Outside.{Outside}
 

@@ -9,6 +9,6 @@ use Rattle.raster_rows.specs.Made.{made_value}
 abbrev pub made_raster : MadeImage → List ℕ
 made_raster made = raster_octets made.depth made.rows made.width (made_value made)
 
--- the octets of so many pixels of a row, from a column on
+-- the octets of a number of pixels of a row, from a column on
 abbrev pub made_part : MadeImage → ℕ → ℕ → ℕ → List ℕ
 made_part made row first count = pixel_octets made.depth (map (made_value made row) (range_with_len first count))

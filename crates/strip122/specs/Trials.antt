@@ -1,4 +1,4 @@
--- What a trial of a setting answers. This project's own.
+-- The result of a trial of a setting. This project's own.
 use Rattle.std.specs.Prelude.{◌≡◌, ◌*◌, ◌/◌, ◌%◌, ◌^◌, ◌++◌, ℕ, ℤ, List, length, count_by, decimal, codes, Ok}
 use Rattle.std.specs.Ordering.{int_eq}
 use Rattle.std.specs.List.{range_with_len}
@@ -28,22 +28,22 @@ raster_length s = s.rows * row_length s
 abbrev pub equal_places : (rows width : ℕ) → (x y : ℕ → ℕ → ℤ) → ℕ
 equal_places rows width x y = count_by (λ place. int_eq (x (place / width) (place % width)) (y (place / width) (place % width))) (range_with_len 0 (rows * width))
 
--- what is asked of a decoder: an image with no more pixels than a setting's, in fewer than 2 ^ 40 octets
+-- what a decoder is asked for: an image with at most the pixels of a setting, in fewer than 2 ^ 40 octets
 abbrev pub wish_for : Setting → DecodeWish
 wish_for s = record { apid = s.apid; pixels = s.width * s.rows; octets = 2 ^ 40 }
 
--- a decoder has answered that question with a picture
+-- a decoder has given a picture for this wish
 pub record HasDecoded (s : Setting) (old new : Outside) : Type 0 where
   pub done : DecodeDone
   pub decodes : Decodes (wish_for s) old new (Ok done)
 
--- so many pixels of an image are the same in the picture that these packets show
+-- this number of pixels of an image are the same in the picture of these packets
 pub record AreEqualIn (s : Setting) (x : ℕ → ℕ → ℤ) (packets : List ℕ) (equal : ℕ) : Type 0 where
   pub received : Numbers
   pub received_are : ReceivedIn holds_after s.apid packets received
   pub equal_is : equal ≡ equal_places s.rows s.width x (whole_picture (geometry_of s) received)
 
--- What was encoded of an image, and how many of its pixels are the same in the picture of its packets.
+-- What was encoded of an image, and the number of its pixels that are the same in the picture of its packets.
 pub record IsTried (s : Setting) (x : ℕ → ℕ → ℤ) (done : TrialDone) : Type 0 where
   pub segments : done.segments ≡ segments_of s
   pub packets : done.packets ≡ length (image_packets (tells_last s) s x)

@@ -78,7 +78,7 @@ fn range_line(range: RowRange) -> Line
     line
 }
 
-// What follows the ranges.
+// Returns the line after the ranges.
 fn end_line(known: bool, framing: Option<Framing>) -> Line
     ensures { result.bytes ≡ rest_text known framing ++ codes "\n" }
 {
@@ -88,7 +88,7 @@ fn end_line(known: bool, framing: Option<Framing>) -> Line
     line
 }
 
-// That the height isn't known.
+// Returns the text that the height isn't known, if it isn't.
 fn height_line(known: bool) -> Line
     ensures text { result.bytes ≡ height_text known }
     ensures short { length result.bytes ≤ 16 }
@@ -100,7 +100,7 @@ fn height_line(known: bool) -> Line
     line
 }
 
-// Why the packets can't be read on.
+// Returns the text of the reason why the packets can't be read on.
 fn framing_line(framing: Option<Framing>) -> Line
     ensures text { result.bytes ≡ framing_text framing }
     ensures short { length result.bytes ≤ 60 }

@@ -39,7 +39,7 @@ fn mux_fault_status(fault: MuxFault) -> u8
     }
 }
 
-/// The command `encode`. The memory is taken first, so if there is none nothing was read.
+/// Runs the command `encode`. The memory is taken first, so if there is none nothing was read.
 pub fn encode<X: Port>(alloc: Global, setting: &Setting, port: &mut X) -> u8
     requires { IsInRange setting.now }
     ensures { Encodes setting.now (X.outside port.old) (X.outside port.new) result }
@@ -77,7 +77,7 @@ pub fn bare_encode<X: Port>(alloc: Global, setting: &Setting, port: &mut X) -> u
     }
 }
 
-/// The command `mux`, for cameras of one setting whose APIDs follow one another. The memory is taken first.
+/// Runs the command `mux`, for cameras of one setting with consecutive APIDs. The memory is taken first.
 pub fn mux<X: Port>(alloc: Global, setting: &Setting, cameras: u8, port: &mut X) -> u8
     requires range { IsInRange setting.now }
     requires height { IsWithin rows_range setting.now.rows }
@@ -102,7 +102,7 @@ pub fn mux<X: Port>(alloc: Global, setting: &Setting, cameras: u8, port: &mut X)
     }
 }
 
-// The settings of all cameras.
+// Returns the settings of all cameras.
 fn settings_of(alloc: Global, setting: &Setting, cameras: u8) -> Result<Vec<Setting>, AllocError>
     requires apids { setting.now.apid + cameras ≤ 2047 }
     ensures { IfOk result (λ settings. settings.items ≡ camera_settings setting.now cameras) }
@@ -115,7 +115,7 @@ fn settings_of(alloc: Global, setting: &Setting, cameras: u8) -> Result<Vec<Sett
     Ok(settings)
 }
 
-// A work for each camera.
+// Returns a work for each camera.
 fn works_for(alloc: Global, settings: &[Setting]) -> Result<Vec<Work>, AllocError>
     requires { AreSettings settings.now }
     ensures { IfOk result (λ works. CanMux settings.now works.items) }

@@ -35,10 +35,10 @@ use std::process::ExitCode;
 // The status for words that are no text.
 const REFUSED: u8 = 2;
 
-// The status where standard output fails.
+// The status if standard output fails.
 const WRITE_FAULT: u8 = 5;
 
-// The status where there is no memory for the words.
+// The status if there is no memory for the words.
 const NO_MEMORY: u8 = 6;
 
 // The usage text before the commands.
@@ -77,7 +77,7 @@ enum Answer {
     Version,
 }
 
-// What the program itself answers to these words, if it does: to one word alone.
+// Returns what the program itself answers to these words, if it does: to one word alone.
 fn answer_to(words: &[String]) -> Option<Answer>
     ensures { MatchOption result
         ((own : Answer) → IsAnswer (texts words.now) own → ⊥)
@@ -93,7 +93,7 @@ fn answer_to(words: &[String]) -> Option<Answer>
     }
 }
 
-// The text of an answer. The usage text has a line for each command and each key, made from their tables.
+// Returns the text of an answer. The usage text has a line for each command and each key, made from their tables.
 fn answer_text(alloc: Global, answer: Answer) -> Result<String, AllocError> {
     match answer {
         Answer::Help => usage(alloc),
@@ -110,7 +110,7 @@ fn usage(alloc: Global) -> Result<String, AllocError> {
     Ok(text)
 }
 
-// The status for what a write answered.
+// Returns the status for the result of a write.
 fn write_status(written: Result<(), io::Error>) -> u8
     ensures { MatchResult written (λ _. result ≡ 0) (λ _. result ≡ 5) }
 {
@@ -120,7 +120,7 @@ fn write_status(written: Result<(), io::Error>) -> u8
     }
 }
 
-// The status where the words can't be had.
+// Returns the status if the words can't be read.
 fn words_status(kind: ErrorKind) -> u8
     ensures { result ≡ words_fault kind }
 {
@@ -130,7 +130,7 @@ fn words_status(kind: ErrorKind) -> u8
     }
 }
 
-// Prints an answer of the program itself, and ends with the status of that.
+// Prints an answer of the program itself, and returns the status of that.
 fn print(rt: &(impl Print + AllocGlobal), answer: Answer) -> u8 {
     match answer_text(rt.alloc(), answer) {
         Ok(text) => write_status(rt.print(text.as_str())),
@@ -138,7 +138,7 @@ fn print(rt: &(impl Print + AllocGlobal), answer: Answer) -> u8 {
     }
 }
 
-// Does what the words say, and ends with the status that `run` answers.
+// Does what the words ask for, and returns the status that `run` returns.
 fn run_words<X: Port>(alloc: Global, words: &[String], port: &mut X) -> ExitCode
     ensures { (said : Result Command WordFault) × Says (texts words.now) said
         × Runs (texts words.now) said (X.outside port.old) (X.outside port.new) (exit_status result) }

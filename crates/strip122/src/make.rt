@@ -1,4 +1,4 @@
-// The made image, out.
+// Writes the made image.
 ghost use Rattle.std.specs.Prelude.{◌≡◌, ◌<◌, ◌≤◌, ◌+◌, ◌^◌, length, take, map};
 ghost use Rattle.std.specs.List.{range_with_len};
 ghost use Rattle.port_122.specs.Outside.{WritesAll};
@@ -9,7 +9,7 @@ ghost use Rattle.strip122.specs.MadeRasters.{made_raster, made_part};
 use port_122::{Failed, Port};
 use raster_rows::{MadeImage, made_pixel, write_row};
 
-// Pixels of a piece, which has at most 4,096 octets.
+// The pixels of a piece, which has at most 4,096 octets.
 const PIECE: usize = 2048;
 
 /// Gives the raster of a made image (docs/formats.md, "Raster and made image"), by pieces. It takes no memory and
@@ -48,7 +48,7 @@ fn write_made_row<X: Port>(
     Ok(())
 }
 
-// Puts so many pixels of a row, from a column on, at the front.
+// Puts `count` pixels of a row, from a column on, into the first places.
 fn make_pixels(made: &MadeImage, row: u32, first: u32, count: u32, into: &mut [i64])
     requires depth { IsDepth made.now.depth }
     requires within { first + count < 2 ^ 32 }

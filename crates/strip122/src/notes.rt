@@ -58,7 +58,7 @@ fn field_name(field: Field) -> &'static str
     }
 }
 
-// The word at a place.
+// Returns the word at a place.
 fn word(words: &[String], place: usize) -> &str
     requires { place < length words.now }
     ensures { result.now ≡ word_at (texts words.now) place }

@@ -41,7 +41,7 @@ fn list_fault_status(fault: ListFault) -> u8
     }
 }
 
-// Answers 0 if no row is damaged, the height is known and the packets could be read to their end; else it notes what is wrong. The
+// Returns 0 if no row is damaged, the height is known and the packets could be read to their end; otherwise it notes what is wrong. The
 // damage is that of the rows that were written.
 fn tell_done<X: Port>(port: &mut X, done: &DecodeDone) -> u8
     requires { done.now.damage.rows ≡ done.now.written }
@@ -56,7 +56,7 @@ fn tell_done<X: Port>(port: &mut X, done: &DecodeDone) -> u8
     1
 }
 
-// Answers 0 where the packets could be read to their end; else it notes why not.
+// Returns 0 if the packets could be read to their end; otherwise it notes why not.
 fn tell_framing<X: Port>(port: &mut X, framing: Option<Framing>) -> u8
     ensures { TellsDone [] true framing (X.outside port.old) (X.outside port.new) result }
 {
@@ -67,7 +67,7 @@ fn tell_framing<X: Port>(port: &mut X, framing: Option<Framing>) -> u8
     1
 }
 
-// The command `decode`: packets in, the picture out. Where there is no memory nothing is given.
+// Runs the command `decode`: it takes packets and gives the picture. If there is no memory nothing is given.
 fn decode<X: Port>(alloc: Global, wish: &DecodeWish, port: &mut X) -> u8
     ensures { Decodes wish.now (X.outside port.old) (X.outside port.new) result }
 {
@@ -80,7 +80,7 @@ fn decode<X: Port>(alloc: Global, wish: &DecodeWish, port: &mut X) -> u8
     }
 }
 
-// The command `damage`: packets in, a line for each range of damaged rows out. Where there is no memory nothing is given.
+// Runs the command `damage`: it takes packets and gives a line for each range of damaged rows. If there is no memory nothing is given.
 fn damage<X: Port>(alloc: Global, wish: &DecodeWish, port: &mut X) -> u8
     ensures { FindsDamage wish.now (X.outside port.old) (X.outside port.new) result }
 {
@@ -93,7 +93,8 @@ fn damage<X: Port>(alloc: Global, wish: &DecodeWish, port: &mut X) -> u8
     }
 }
 
-// The command `look`: packets in, a small picture with one value for each block out. If there is no memory nothing is given.
+// Runs the command `look`: it takes packets and gives a small picture with one value for each block. If there is no memory nothing is
+// given.
 fn look<X: Port>(alloc: Global, wish: &DecodeWish, port: &mut X) -> u8
     ensures { LooksAt wish.now (X.outside port.old) (X.outside port.new) result }
 {
@@ -106,7 +107,7 @@ fn look<X: Port>(alloc: Global, wish: &DecodeWish, port: &mut X) -> u8
     }
 }
 
-// The command `rects`: packets in, a line for each rectangle of damaged pixels out. If there is no memory nothing is given.
+// Runs the command `rects`: it takes packets and gives a line for each rectangle of damaged pixels. If there is no memory nothing is given.
 fn rects<X: Port>(alloc: Global, wish: &DecodeWish, port: &mut X) -> u8
     ensures { FindsRects wish.now (X.outside port.old) (X.outside port.new) result }
 {
@@ -119,7 +120,7 @@ fn rects<X: Port>(alloc: Global, wish: &DecodeWish, port: &mut X) -> u8
     }
 }
 
-// The command `list`: packets in, a line for each out. Where there is no memory nothing is read.
+// Runs the command `list`: it takes packets and gives a line for each. If there is no memory nothing is read.
 fn list<X: Port>(alloc: Global, wish: &DecodeWish, port: &mut X) -> u8
     ensures { Reads (lister wish.now) (X.outside port.old) (X.outside port.new) result }
 {
@@ -132,7 +133,8 @@ fn list<X: Port>(alloc: Global, wish: &DecodeWish, port: &mut X) -> u8
     }
 }
 
-/// The command `pick`: packets in, those of one APID out, or those of one image of it. If there is no memory nothing is read.
+/// Runs the command `pick`: it takes packets and gives those of one APID, or those of one image of it. If there is no memory nothing is
+/// read.
 pub fn pick<X: Port>(alloc: Global, wish: &DecodeWish, image: Option<u16>, port: &mut X) -> u8
     ensures { Reads (picker wish.now image) (X.outside port.old) (X.outside port.new) result }
 {
@@ -145,7 +147,8 @@ pub fn pick<X: Port>(alloc: Global, wish: &DecodeWish, image: Option<u16>, port:
     }
 }
 
-/// The command `info`: packets in, a line for each image of an APID, or of all APIDs, out. If there is no memory nothing is read.
+/// Runs the command `info`: it takes packets and gives a line for each image of an APID, or of all APIDs. If there is no memory nothing is
+/// read.
 pub fn info<X: Port>(alloc: Global, apid: Option<u16>, octets: u64, port: &mut X) -> u8
     ensures { Reads (informer (record { apid = apid; octets = octets })) (X.outside port.old) (X.outside port.new) result }
 {
@@ -159,7 +162,7 @@ pub fn info<X: Port>(alloc: Global, apid: Option<u16>, octets: u64, port: &mut X
     }
 }
 
-// What is noted of a fault of `info`: more images than there are lines for are too long an input.
+// Returns the fault that is noted for a fault of `info`: if there are more images than lines, the input is too long.
 fn list_fault_of(fault: InfoFault) -> ListFault
     ensures { result ≡ info_fault_of fault }
 {
@@ -171,7 +174,7 @@ fn list_fault_of(fault: InfoFault) -> ListFault
     }
 }
 
-/// A command that reads packets.
+/// Runs a command that reads packets.
 pub fn read<X: Port>(alloc: Global, reading: Reading, wish: &DecodeWish, port: &mut X) -> u8
     ensures { (reads reading wish.now).performs (X.outside port.old) (X.outside port.new) result }
 {

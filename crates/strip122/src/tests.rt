@@ -1,8 +1,8 @@
-// What the program answers by itself.
+// Tests of what the program answers by itself.
 use crate::{Answer, answer_text, answer_to};
 use std::test::Fail;
 
-// All that is said of the commands and the keys.
+// The usage text of the commands and the keys.
 const HELP: &str = "\
 usage: strip122 COMMAND [KEY=VALUE ..]
        strip122 help | version
@@ -62,7 +62,7 @@ status  0 done, 1 rows are damaged, the height is unknown or the packets can't
         6 no memory
 ";
 
-// What the program answers to the words of a text, with a space between each two.
+// Returns what the program answers to the words of a text, with a space between each two.
 fn answer_to_text(rt: &impl AllocGlobal, text: &str) -> Result<Option<Answer>, Fail> {
     let mut words = Vec::new(rt.alloc());
     for word in text.split(' ') {

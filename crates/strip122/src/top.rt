@@ -1,4 +1,4 @@
-// The top call.
+// The entry point of the program.
 ghost use Rattle.std.specs.Prelude.{◌≡◌, ◌≤◌, ◌*◌, ◌⊎◌, ◌↔◌, length, Result, Ok, Err};
 ghost use Rattle.port_122.specs.Outside.{Rose};
 ghost use Rattle.base_122.specs.Ranges.{IsInRange as IsSettingInRange, IsWithin, rows_range};
@@ -41,7 +41,7 @@ fn refuse<X: Port>(words: &[String], fault: WordFault, port: &mut X) -> u8
     2
 }
 
-// The command `make`.
+// Runs the command `make`.
 fn make<X: Port>(made: &MadeImage, port: &mut X) -> u8
     requires { IsDepth made.now.depth }
     ensures { Makes made.now (X.outside port.old) (X.outside port.new) result }
@@ -55,7 +55,7 @@ fn make<X: Port>(made: &MadeImage, port: &mut X) -> u8
     }
 }
 
-// The command `trial`. It is done in memory, so nothing is read.
+// Runs the command `trial`. It is done in memory, so nothing is read.
 fn trial<X: Port>(alloc: Global, setting: &Setting, seed: u32, port: &mut X) -> u8
     requires range { IsSettingInRange setting.now }
     requires height { IsWithin rows_range setting.now.rows }
@@ -75,7 +75,7 @@ fn trial<X: Port>(alloc: Global, setting: &Setting, seed: u32, port: &mut X) -> 
     }
 }
 
-// One command.
+// Runs one command.
 fn perform<X: Port>(alloc: Global, command: &Command, port: &mut X) -> u8
     requires { IsInRange command.now }
     ensures { (behaviour command.now).performs (X.outside port.old) (X.outside port.new) result }
@@ -93,12 +93,12 @@ fn perform<X: Port>(alloc: Global, command: &Command, port: &mut X) -> u8
     }
 }
 
-/// Does all that the program does for these words, without the program's own name, and answers its status
-/// (docs/architecture.md, "Where the meaning of a run is proved"): 0 done, 1 the picture lacks rows, its height isn't known or its
-/// packets can't be read on, 2 the words are refused, 3 the input is refused, 4 read fault, 5 write fault, 6 no memory. Each
-/// status but 0 has its line among the notes, and is decided before it is noted.
+/// Does all that the program does for these words, without the program's own name, and returns its status (docs/architecture.md, "Where the
+/// meaning of a run is proved"): 0 done, 1 rows of the picture are missing, its height isn't known or its packets can't be read on, 2 the
+/// words are refused, 3 the input is refused, 4 read fault, 5 write fault, 6 no memory. Each status except 0 has its line among the notes,
+/// and is decided before it is noted.
 pub fn run<X: Port>(alloc: Global, words: &[String], port: &mut X) -> u8
-    // What the words say decides what is done, and each answer has its cause there.
+    // What the words ask for decides what is done, and each status has its cause there.
     ensures runs { (said : Result Command WordFault) × Says (texts words.now) said
         × Runs (texts words.now) said (X.outside port.old) (X.outside port.new) result }
 
@@ -121,8 +121,8 @@ pub fn run<X: Port>(alloc: Global, words: &[String], port: &mut X) -> u8
     ensures wrong_input { (command : Command) → Says (texts words.now) (Ok command) → (behaviour command).wrong (X.outside port.old) →
         IsSteady (X.outside port.old) (X.outside port.new) → (result ≡ 3) ⊎ (result ≡ 6) }
 
-    // No pixel of a picture outside the damaged rows, or outside the damaged rectangles, depends on what was lost, packets of other
-    // APIDs change nothing, and all packets of an image give it back.
+    // No pixel of a picture outside the damaged rows, or outside the damaged rectangles, depends on what was lost, packets of other APIDs
+    // change nothing, and all packets of an image give it whole.
     ensures picture { (wish : DecodeWish) → Says (texts words.now) (Ok (Command.Read Reading.Decode wish)) → (result ≡ 0) ⊎ (result ≡ 1) →
         GavePicture wish (X.outside port.old) (X.outside port.new) result }
 

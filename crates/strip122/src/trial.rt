@@ -25,22 +25,22 @@ use stream_defs::heights_are_known;
 use strip_coder::{EncodeDone, Work, encode_rows};
 use strip_decoder::decode_packets;
 
-/// What was encoded of a made image, and how many of its pixels came back as they were.
+/// What was encoded of a made image, and the number of its pixels that were decoded unchanged.
 #[derive(Clone, Copy, Debug, PartialEq, Eq)]
 pub struct TrialDone {
     pub segments: u32,
     pub packets: u64,
     pub octets: u64,
-    /// Pixels that are decoded as they were made.
+    /// The number of pixels that are decoded as they were made.
     pub equal: u64,
 }
 
-// Octets that a call of a port moves at most.
+// The most octets that a call of a port moves.
 const PIECE: usize = 65_536;
 
-/// Makes the image of a setting and a seed, encodes it, decodes its packets, and counts the pixels that come back as they were
-/// (docs/formats.md, "Raster and made image", "Packets" and "Picture and damage"). All is done in memory. The one error is want
-/// of memory, or 2^40 octets of packets or more.
+/// Makes the image of a setting and a seed, encodes it, decodes its packets, and counts the pixels that are decoded unchanged
+/// (docs/formats.md, "Raster and made image", "Packets" and "Picture and damage"). All is done in memory. It fails only if there is too
+/// little memory, or if there are 2^40 octets of packets or more.
 pub fn run_trial(alloc: Global, setting: &Setting, seed: u32) -> Result<TrialDone, AllocError>
     requires range { IsInRange setting.now }
     requires height { IsWithin rows_range setting.now.rows }
@@ -51,7 +51,7 @@ pub fn run_trial(alloc: Global, setting: &Setting, seed: u32) -> Result<TrialDon
     try_raster(alloc, setting, port.given())
 }
 
-// Encodes a raster, decodes its packets, and counts the pixels that come back as they were.
+// Encodes a raster, decodes its packets, and counts the pixels that are decoded unchanged.
 fn try_raster(alloc: Global, setting: &Setting, raster: &[u8]) -> Result<TrialDone, AllocError>
     requires range { IsInRange setting.now }
     requires height { IsWithin rows_range setting.now.rows }
@@ -68,7 +68,7 @@ fn try_raster(alloc: Global, setting: &Setting, raster: &[u8]) -> Result<TrialDo
     })
 }
 
-// Decodes the packets of a raster, and counts the pixels that come back as they were.
+// Decodes the packets of a raster, and counts the pixels that are decoded unchanged.
 fn count_decoded(
     alloc: Global,
     setting: &Setting,
@@ -89,14 +89,14 @@ fn count_decoded(
     Ok(count_equal(setting, raster, port.given()))
 }
 
-// There are ten weights, which is known once they are read.
+// The number of weights is ten, which is known once they are read.
 fn ten_weights(shifts: &[u8; 10])
     ensures { length shifts.now ≡ 10 }
 {
     let _first = shifts[0];
 }
 
-// The made image of a setting.
+// Returns the made image of a setting.
 fn made_with(setting: &Setting, seed: u32) -> MadeImage
     ensures { result ≡ made_with setting.now seed }
 {
@@ -109,14 +109,14 @@ fn made_with(setting: &Setting, seed: u32) -> MadeImage
     }
 }
 
-// A port with this input, whose calls don't fail while there is memory.
+// Returns a port with this input, whose calls don't fail while there is memory.
 fn port_with(alloc: Global, input: &[u8]) -> Result<MemoryPort, AllocError>
     ensures { IfOk result (λ port. IsFresh port input.now [] 65536) }
 {
     MemoryPort::new(alloc, input.to_vec(alloc)?, Vec::new(alloc), PIECE)
 }
 
-// A port to which the raster of a made image is given.
+// Returns a port to which the raster of a made image is given.
 fn make_raster(alloc: Global, made: &MadeImage) -> Result<MemoryPort, AllocError>
     requires { IsDepth made.now.depth }
     ensures { IfOk result (λ port. (outside_of port).given ≡ Some (made_raster made.now)) }
@@ -158,7 +158,7 @@ fn decode(alloc: Global, setting: &Setting, port: &mut MemoryPort) -> Result<(),
     }
 }
 
-// How many pixels of two rasters are the same.
+// Returns the number of pixels of two rasters that are the same.
 fn count_equal(setting: &Setting, made: &[u8], given: &[u8]) -> u64
     requires range { IsInRange setting.now }
     requires made { length made.now ≡ raster_length setting.now }
@@ -174,7 +174,7 @@ fn count_equal(setting: &Setting, made: &[u8], given: &[u8]) -> u64
     equal
 }
 
-// Whether the pixels at a place of two rasters are the same, which is so where their octets are.
+// Returns whether the pixels at a place of two rasters are the same, which is so if their octets are.
 fn is_same(setting: &Setting, made: &[u8], given: &[u8], place: usize) -> bool
     requires made { (place + 1) * pixel_size setting.now.depth ≤ length made.now }
     requires given { (place + 1) * pixel_size setting.now.depth ≤ length given.now }

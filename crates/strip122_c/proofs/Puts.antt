@@ -29,7 +29,7 @@ put_beyond (y ∷ xs) x (p ∷ ps) le = ap (λ zs. y ∷ zs) (put_beyond xs x ps
 length-put_over : {A : Type 0} (xs ps : List A) → length (put_over xs ps) ≡ length ps
 length-put_over xs ps = omega (arith, length-append (take (length ps) xs) (drop (length xs) ps), length-take (length ps) xs, length-drop (length xs) ps)
 
--- one more is set at the next place, where there is one
+-- one more is set at the next place, if there is one
 pub put_more : {A : Type 0} (xs : List A) (x : A) (ps : List A) →
     put_over (xs ++ x ∷ []) ps ≡ (if nat_lt (length xs) (length (put_over xs ps)) then slice_set (put_over xs ps) (length xs) x else put_over xs ps)
 put_more xs x ps = elim (cases_lt (length xs) (length ps)) [

@@ -29,7 +29,7 @@ nothing = record {
   weights = 0 ∷ 0 ∷ 0 ∷ 0 ∷ 0 ∷ 0 ∷ 0 ∷ 0 ∷ 0 ∷ 0 ∷ [];
 }
 
--- the report on a geometry, whose rows are 0 if no header reports the height, and on a picture of so many rows
+-- the report on a geometry, whose rows are 0 if no header reports the height, and on a picture with this number of rows
 abbrev pub geometry_report : Geometry → (written : ℕ) → Strip122Decoded
 geometry_report g written = record {
   octets = picture_length g written;

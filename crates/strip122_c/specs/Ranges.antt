@@ -14,7 +14,7 @@ range_of range = record { first = range.first; last = range.last }
 abbrev pub ranges_in : Marks → List Strip122Range
 ranges_in m = map range_of (ranges m.rows m.missing)
 
--- those of a picture that was decoded, and none where there is no picture
+-- those of a picture that was decoded, and none if there is no picture
 abbrev pub ranges_of : Result DecodeDone DecodeRefusal → List Strip122Range
 ranges_of (Ok done) = ranges_in done.damage
 ranges_of (Err refusal) = []

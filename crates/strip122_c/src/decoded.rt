@@ -12,16 +12,16 @@ use strip_decoder::DecodeDone;
 #[repr(C)]
 #[derive(Clone, Copy, Debug, PartialEq, Eq)]
 pub struct Strip122Decoded {
-    /// Octets of the picture, which the room needs.
+    /// The number of octets of the picture, which the room needs.
     pub octets: u64,
-    /// Ranges of damaged rows, including those for which there was no place.
+    /// The number of ranges of damaged rows, including those for which there was no place.
     pub ranges: u64,
     /// The octet at which a packet has another version, or the octets that are missing from the last packet.
     pub fault_octets: u64,
     pub width: u32,
     /// The height of the image; 0 if no header reports it.
     pub rows: u32,
-    /// Rows of the picture: the height if it is known, otherwise those that the received headers determine.
+    /// The number of rows of the picture: the height if it is known, otherwise those that the received headers determine.
     pub written: u32,
     pub segment: u32,
     pub image: u16,
@@ -33,7 +33,7 @@ pub struct Strip122Decoded {
     pub weights: [u8; 10],
 }
 
-// Nothing is reported.
+// Returns a report of nothing.
 const NOTHING: Strip122Decoded = Strip122Decoded {
     octets: 0,
     ranges: 0,
@@ -50,7 +50,7 @@ const NOTHING: Strip122Decoded = Strip122Decoded {
     weights: [0; 10],
 };
 
-/// The report on a decoding that ended so, with this number of ranges of damaged rows.
+/// Returns the report on a decoding that ended so, with this number of ranges of damaged rows.
 pub fn report_of(ended: &Result<DecodeDone, DecodeRefusal>, ranges: u64) -> Strip122Decoded
     requires { HasSizeInRange ended.now }
     ensures { result ≡ report_with ended.now ranges }
@@ -62,7 +62,7 @@ pub fn report_of(ended: &Result<DecodeDone, DecodeRefusal>, ranges: u64) -> Stri
     }
 }
 
-// The report on a picture.
+// Returns the report on a picture.
 fn picture_report(done: &DecodeDone, ranges: u64) -> Strip122Decoded
     requires range { IsGeometryInRange done.now.geometry }
     requires rows { done.now.written ≤ rows_range.most }
@@ -84,7 +84,7 @@ fn picture_report(done: &DecodeDone, ranges: u64) -> Strip122Decoded
     report
 }
 
-// The report on a geometry and a number of rows: its fields, and the octets of a picture of these rows.
+// Returns the report on a geometry and a number of rows: its fields, and the octets of a picture of these rows.
 fn geometry_report(geometry: &Geometry, written: u32) -> Strip122Decoded
     requires range { IsGeometryInRange geometry.now }
     requires rows { written ≤ rows_range.most }
@@ -107,7 +107,7 @@ fn geometry_report(geometry: &Geometry, written: u32) -> Strip122Decoded
     }
 }
 
-/// The answer to a decoding that ended so, with this number of ranges of damaged rows.
+/// Returns the answer to a decoding that ended so, with this number of ranges of damaged rows.
 pub fn answer_of(ended: &Result<DecodeDone, DecodeRefusal>, ranges: u64) -> u32
     ensures { result ≡ answer_with ended.now ranges }
 {

@@ -10,19 +10,19 @@ use strip_coder::EncodeDone;
 #[repr(C)]
 #[derive(Clone, Copy, Debug, PartialEq, Eq)]
 pub struct Strip122Encoded {
-    /// Octets of the packets, which the room needs.
+    /// The number of octets of the packets, which the room needs.
     pub octets: u64,
     pub packets: u64,
     pub segments: u32,
     /// The number of the first field out of range, from 1 on in the order of `Field`.
     pub field: u32,
-    /// Place and value of the first pixel out of range.
+    /// The place and the value of the first pixel out of range.
     pub row: u32,
     pub column: u32,
     pub value: i32,
 }
 
-// Nothing is reported.
+// Returns a report of nothing.
 const NOTHING: Strip122Encoded = Strip122Encoded {
     octets: 0,
     packets: 0,
@@ -33,7 +33,7 @@ const NOTHING: Strip122Encoded = Strip122Encoded {
     value: 0,
 };
 
-/// The report on an encoding that ended so.
+/// Returns the report on an encoding that ended so.
 pub fn report_of(ended: &Result<EncodeDone, EncodeRefusal>) -> Strip122Encoded
     ensures { result ≡ report_of ended.now }
 {
@@ -62,7 +62,7 @@ fn field_number(field: Field) -> u32
     field as u32 + 1
 }
 
-/// The answer to an encoding that ended so.
+/// Returns the answer to an encoding that ended so.
 pub fn answer_of(ended: &Result<EncodeDone, EncodeRefusal>) -> u32
     ensures { result ≡ answer_of ended.now }
 {

@@ -21,7 +21,7 @@ pub use ranges::Strip122Range;
 pub use setting::Strip122Setting;
 use std::alloc::Global;
 
-// The sizes that c/strip122.h and python/strip122.py count on.
+// The sizes that c/strip122.h and python/strip122.py assume.
 const _: () = prove!(size_of::<Strip122Setting>() == 44);
 
 const _: () = prove!(size_of::<Strip122Encoded>() == 40);

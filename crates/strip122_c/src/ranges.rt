@@ -6,7 +6,7 @@ use damage_rows::{Damage, RowRange};
 use lent_122::DecodeRefusal;
 use strip_decoder::DecodeDone;
 
-/// The rows from one to another, both among them.
+/// The rows from `first` to `last`, both included.
 #[repr(C)]
 #[derive(Clone, Copy, Debug, PartialEq, Eq)]
 pub struct Strip122Range {
@@ -14,7 +14,7 @@ pub struct Strip122Range {
     pub last: u32,
 }
 
-/// Puts the ranges of a picture's damaged rows into as many places as there are, and answers how many ranges it has.
+/// Puts the ranges of a picture's damaged rows into the places, at most one into each, and returns the number of its ranges.
 pub fn put_damage(ended: &Result<DecodeDone, DecodeRefusal>, places: &mut [Strip122Range]) -> u64
     requires { IfOk ended.now (λ done. done.damage.rows ≤ 262144) }
     ensures places { places.new ≡ put_over (ranges_of ended.now) places.old }
@@ -42,7 +42,7 @@ fn put_ranges(damage: &Damage, places: &mut [Strip122Range]) -> u64
     count as u64
 }
 
-// Puts a range into the place of an index, where there is one.
+// Puts a range into the place of an index, if there is one.
 fn put_range(places: &mut [Strip122Range], index: usize, range: RowRange)
     ensures { places.new ≡ (if nat_lt index (length places.old) then slice_set places.old index (range_of range) else places.old) }
 {

@@ -26,7 +26,7 @@ pub struct Strip122Setting {
     pub weights: [u8; 10],
 }
 
-/// The setting of an encoder, without a total.
+/// Returns the setting of an encoder, without a total.
 pub fn setting_of(setting: &Strip122Setting) -> Setting
     ensures { result ≡ setting_of setting.now }
 {

@@ -6,7 +6,7 @@ use std::alloc::Global;
 use std::process::Abort;
 use std::test::Fail;
 
-// A setting for an image of 24 columns, in segments of 16 blocks.
+// Returns a setting for an image of 24 columns, in segments of 16 blocks.
 fn setting(rows: u32, depth: u8) -> Strip122Setting {
     Strip122Setting {
         width: 24,
@@ -28,7 +28,7 @@ fn setting(rows: u32, depth: u8) -> Strip122Setting {
     }
 }
 
-// The answer and the report.
+// Returns the answer and the report.
 fn encode(
     alloc: Global,
     setting: &Strip122Setting,
@@ -48,7 +48,7 @@ fn encode(
     (answer, report)
 }
 
-// A flat raster gets this answer, and the report has what belongs to it.
+// Expects this answer for a flat raster, and a report with the fields that apply to it.
 fn expect(rt: &impl Abort, alloc: Global, depth: u8, raster: &[u8], room: &mut [u8], answer: u32) {
     let (got, report) = encode(alloc, &setting(17, depth), raster, room);
     assert_eq!(rt; got, answer);
@@ -75,7 +75,7 @@ fn rasters(rt: HostRuntime) {
 
 const NO_RANGE: Strip122Range = Strip122Range { first: 9, last: 9 };
 
-// The answer, the report, and two places for ranges.
+// Returns the answer, the report, and two places for ranges.
 fn decode(
     alloc: Global,
     packets: &[u8],
@@ -101,7 +101,7 @@ fn decode(
     (answer, report, ranges)
 }
 
-// The packets of a flat image of 64 rows, in two segments, which end at block 16 of 24 and at the last one.
+// Returns the packets of a flat image of 64 rows, in two segments, which end at block 16 of 24 and at the last one.
 fn two_segments(rt: &impl Abort, alloc: Global) -> Result<Vec<u8>, Fail> {
     let raster = vec![in alloc; 77; 24 * 64]?;
     let mut packets = vec![in alloc; 0; 3000]?;
@@ -150,7 +150,7 @@ fn losses(rt: HostRuntime) -> Result<(), Fail> {
     Ok(())
 }
 
-// Lets two packets report the height last, and answers where the second one begins.
+// Lets two packets report the height last, and returns where the second one begins.
 fn report_last(rt: &impl Abort, packets: &mut [u8]) -> usize {
     assert!(rt; packets.len() >= 6);
     let second = 7 + 256 * usize::from(packets[4]) + usize::from(packets[5]);

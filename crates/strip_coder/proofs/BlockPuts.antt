@@ -46,7 +46,7 @@ length-gathered number weights column = length-map-range_with_len (λ i. number 
 gathered_at : (number : Place → ℤ) (weights : List ℕ) (column i : ℕ) → i < 64 → get_or (gathered number weights column) i (pos 0) ≡ number (place_in column i) *ℤ weight_at weights i
 gathered_at number weights column i lt = get_or-map-range_with_len (λ i. number (place_in column i) *ℤ weight_at weights i) 0 64 i i (pos 0) lt (omega arith)
 
--- a number of a block that stands in a slice
+-- a number of a block in a slice
 pub block_cell : (cells : List ℤ) (k i : ℕ) → i < 64 → get_or (block_at cells k) i (pos 0) ≡ get_or cells (64 * k + i) (pos 0)
 block_cell cells k i lt = get_or-take 64 (drop (64 * k) cells) i (pos 0) lt ∙ get_or-drop (64 * k) cells i (pos 0)
 
@@ -64,7 +64,7 @@ same_block xs ys k e same le =
     ∙ block_cell xs k i lt ∙ same i lt ∙ sym (block_cell ys k i lt)
     ∙ sym (get_or_default (block_at ys k) i d (pos 0) (omega (arith, lt, long'))))
 
--- what a write of 64 numbers to the block at a place leaves
+-- the effect of a write of 64 numbers to the block at a place
 pub puts_block : (strip : StripWave) (weights : List ℕ) (column place m : ℕ) (cells made : List ℤ) → All IsShift weights → column < columns_of strip → m ≡ 64 →
     64 * place + 64 ≤ length cells → AreSmall place cells → made ≡ gathered (number_in strip) weights column → length (put_mid (64 * place) m cells made) ≡ length cells →
     PutsBlock place cells (put_mid (64 * place) m cells made) (gathered (number_in strip) weights column)

@@ -1,4 +1,4 @@
--- What an encoder counts.
+-- The counts of an encoder.
 use Rattle.std.proofs.Common.{◌≡◌, ℕ, ℤ, List, length, sym, ap, ◌∙◌}
 use Rattle.std.specs.List.{flat_map}
 use Rattle.strip_coder.specs.declared.plan.Plan.{Plan}

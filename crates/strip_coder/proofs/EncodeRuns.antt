@@ -48,14 +48,14 @@ module _ (s : Setting) (range : IsInRange s) (p q : Outside) (w : Work) (all : H
   itself : SameWithin w.at.rows s.width (image_of s come.took) (image_of s come.took)
   itself = record { at = λ i j hi hj. refl }
 
-  -- the last row of each image with these rows stands
+  -- the row is the last row of each image with these rows
   row_is : (y : ℕ → ℕ → ℤ) → SameWithin w.at.rows s.width (image_of s come.took) y → RowIs s y (w.at.rows - 1) w
   row_is y same = record { at = λ j lt. last.same.at j lt ∙ same.at (w.at.rows - 1) j (omega (arith, some)) lt }
 
   most : w.at.rows ≤ tallest s
   most = tall_most s w.at.rows range all.height
 
-  -- what is given is that of the image of just these rows
+  -- what is given is that of the image of exactly these rows
   gave_is : joined (front_packets s (tallest s) (image_of s come.took) w.at.index) ≡ joined (front_packets s w.at.rows (image_of s come.took) w.at.index)
   gave_is = elim (tall_or_open s w.at.rows range all.height) [
     | inl tall ↦ ap (λ n. joined (front_packets s n (image_of s come.took) w.at.index)) (sym tall)
@@ -159,7 +159,7 @@ module _ (s : Setting) (range : IsInRange s) (p q : Outside) (w : Work) (all : H
           let same = known_height s w.at.rows known all.height in
           given_all s come.took more range known (come.whole ∙ ap (λ n. n * row_length s) (sym same)) ∙ ap (λ n. output s n (image_of s come.took)) same
 
-      -- the end is asked for
+      -- the end is read
       asked_end : {d : Outside} {more : List ℕ} → Exchange r d more [] [] AtStart →
           Exchange p d (come.took ++ more) (output s w.at.rows (image_of s come.took)) [] (GivenBy (given_for s) (come.took ++ more))
       asked_end {more = more} read =

@@ -1,4 +1,4 @@
--- Octets that broke off and are a front of the packets of each image that begins with some rows.
+-- Octets that broke off and are a prefix of the packets of each image that begins with some rows.
 use Rattle.std.proofs.Common.{◌≡◌, ◌≢◌, inl, inr, min, ℕ, ◌+◌, ◌-◌, ◌*◌, ◌<◌, ◌≤◌, Bool, true, ℤ, List, [], ◌++◌, length, take, refl, sym, ap, ◌∙◌, subst, arith}
 use Rattle.std.specs.Prelude.{Option, None, Some}
 use Rattle.std.proofs.Math.Seq.{take-append_seam}
@@ -31,13 +31,13 @@ use Rattle.strip_coder.proofs.PlanLaws.{tall_height, tall_or_open, open_last, kn
 use Rattle.strip_coder.proofs.SettledCounts.{settled_so}
 use Rattle.strip_coder.proofs.SegmentRuns.{front_of}
 
--- where the octets given are told, they are known
+-- if the port reports what it was given, the octets that were added are determined
 one_gave : (before now : Option (List ℕ)) (octets a b : List ℕ) → now ≡ Some octets → Grows before now a → Grows before now b → a ≡ b
 one_gave before None octets a b e p q = absurd cc
 one_gave None (Some now) octets a b e p q = absurd p
 one_gave (Some before) (Some now) octets a b e p q = append_cancel_left before a b (sym p ∙ q)
 
--- where they aren't, none may be said to be
+-- if it doesn't report them, the exchange also holds with none given
 untold : {p q : Outside} {gave : List ℕ} → q.given ≡ None → Exchange p q [] gave [] NoRead → Exchange p q [] [] [] NoRead
 untold {p = p} {q = q} {gave = gave} e since = record {
   rest = since.rest;
@@ -48,7 +48,7 @@ untold {p = p} {q = q} {gave = gave} e since = record {
   faults = since.faults;
 }
 
--- what is out behind the first segments, and with them a front of the packets of each image that begins with k rows of this one
+-- what is written after the first segments, and with them a prefix of the packets of each image that begins with k rows of this one
 pub record FrontOut (s : Setting) (k : ℕ) (x : ℕ → ℕ → ℤ) (from : ℕ) (p q : Outside) : Type 0 where
   pub gave : List ℕ
   pub out : Exchange p q [] gave [] NoRead
@@ -65,7 +65,7 @@ module _ (s : Setting) (rows : ℕ) where
   abbrev here : Plan
   here = plan_of s rows
 
-  -- the packets of the first segments are a front of all
+  -- the packets of the first segments are a prefix of all
   some_segments : (y : ℕ → ℕ → ℤ) (n : ℕ) → n ≤ segments_of (sized s rows) → (rest : List ℕ) × (output s rows y ≡ joined (front_packets s rows y n) ++ rest)
   some_segments y n le =
       let all = image_blocks (sized s rows) y in
@@ -79,7 +79,7 @@ module _ (s : Setting) (rows : ℕ) where
       let rest = some_segments y n le in
       append-nil done ∙ sym (ap (take (length done)) rest.1 ∙ take-append_seam done rest.0)
 
-  -- and so is what broke off in one of them
+  -- and so is what was written when a write failed in one of them
   pub broken_front : {p q : Outside} (y : ℕ → ℕ → ℤ) (from count : ℕ) (broke : StopsEarly here (image_blocks (sized s rows) y) from count p q) →
       (n : ℕ) × (joined (front_packets s rows y from) ++ broke.gave ≡ take n (output s rows y))
   broken_front y from count broke =

@@ -1,4 +1,4 @@
--- Blocks gathered one after another, and segments written as they become full.
+-- Blocks are gathered one after another, and segments are written as they become full.
 use Rattle.std.proofs.Common.{◌≡◌, ℕ, ◌+◌, ◌*◌, ◌<◌, ◌≤◌, ℤ, List, [], refl, sym, ap, ◌∙◌, subst, arith, get_or, inl, inr, Result, Ok, Err}
 use Rattle.std.specs.Result.{IsErr}
 use Rattle.std.proofs.lemmas.Bool.{cases_lt}
@@ -23,7 +23,7 @@ use Rattle.strip_coder.specs.Steps.{PutsBlock, Continues, StopsEarly, NextAre, H
 use Rattle.strip_coder.proofs.PacketStretches.{goes_then, breaks_then, breaks_more}
 use Rattle.strip_coder.proofs.SegmentSteps.{Rewritten, still_made, share_kept}
 
--- one block more stands in a work
+-- one block more is in a work
 pub record HasPut (old mid : Work) (numbers : List ℤ) : Type 0 where
   pub same : Rewritten old mid
   pub packets : mid.packets ≡ old.packets
@@ -53,7 +53,7 @@ module _ (s : Plan) (range : IsPlan s) where
   pub place_is : (w : Work) → w.at.index < segments_of (whole s) → gathered_in s w.at ≡ first_block s.setting.segment w.at.index + w.at.filled
   place_is w lt = let before = first_block-lt (total_blocks s.setting.width s.rows) s.setting.segment w.at.index some_blocks lt in omega (arith, before)
 
-  -- a place below all blocks lies in a segment
+  -- a place below all blocks is in a segment
   pub more_segments : (w : Work) → HasGathered s w → gathered_in s w.at < total_blocks s.setting.width s.rows → w.at.index < segments_of (whole s)
   more_segments w has lt = elim (cases_lt w.at.index (segments_of (whole s))) [
     | inl below ↦ below
@@ -238,7 +238,7 @@ pub failed_gathers : {T E : Type 0} (p q : Outside) (r : Result T E) (s : Plan) 
 failed_gathers p q (Ok x) s numbers n old new h b = absurd cc
 failed_gathers p q (Err x) s numbers n old new h b = b
 
--- the numbers of the next block are those of the strip as it stood at first
+-- the numbers of the next block are those of the strip at the beginning
 pub as_at_first : {p q : Outside} (s : Plan) (column : ℕ) (old mid new : Work) → mid.strip ≡ old.strip →
     HasGone s (λ _. gathered (number_in mid.strip) s.setting.weights.shifts column) 1 p q mid new → HasGone s (λ _. gathered (number_in old.strip) s.setting.weights.shifts column) 1 p q mid new
 as_at_first {p = p} {q = q} s column old mid new e h = subst (λ strip. HasGone s (λ _. gathered (number_in strip) s.setting.weights.shifts column) 1 p q mid new) e h

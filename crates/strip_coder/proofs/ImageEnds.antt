@@ -44,7 +44,7 @@ then_finished s old mid new so_far here = record {
   goes = λ x f. goes_then s (image_blocks (whole s) x) old.at.index mid.at.index new.at.index (so_far.goes x f) (here.goes x (so_far.follows x f));
 }
 
--- where all blocks were gathered, all segments were written
+-- if all blocks were gathered, all segments were written
 all_segments : (s : Plan) (w : Work) → IsPlan s → IsEnding s w → answered_of w.strip ≡ block_count s.rows → w.at.index ≡ segments_of (whole s)
 all_segments s w range ending all = elim (cases_lt w.at.index (segments_of (whole s))) [
   | inl below ↦
@@ -74,7 +74,7 @@ then_unfinished p q r (Err x) s old mid new h so_far here = record {
   breaks = λ x f. breaks_then s (image_blocks (whole s) x) old.at.index mid.at.index (total_blocks s.setting.width s.rows) (so_far.goes x f) (here.breaks x (so_far.follows x f));
 }
 
--- once the rows that pad the image were pushed, the others come at the end
+-- once the padding rows of the image were pushed, the other block rows follow at the end
 pub all_pushed : {p q : Outside} (s : Plan) (old new : Work) → rows_of old.strip ≡ s.rows → HasPushedOn s (padded_size s.rows - s.rows) p q old new → IsEnding s new
 all_pushed s old new rows pushed =
     let more = pushed.strip_rows in

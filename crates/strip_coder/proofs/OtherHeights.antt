@@ -1,4 +1,4 @@
--- What a work gathered for the tallest image is that of an image of fewer rows too, if its height is reported last.
+-- What a work gathered for the tallest image is also that of an image of fewer rows, if its height is reported last.
 use Rattle.std.proofs.Common.{◌≡◌, inl, inr, ℕ, ◌+◌, ◌*◌, ◌/◌, ◌<◌, ◌≤◌, ℤ, List, length, refl, sym, ap, ◌∙◌, subst, arith}
 use Rattle.std.specs.Prelude.{true}
 use Rattle.std.proofs.lemmas.Bool.{cases_lt}

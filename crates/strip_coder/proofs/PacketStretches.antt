@@ -40,7 +40,7 @@ breaks_more s all a n m le x = record {
   front = x.front;
 }
 
--- all segments have no more blocks than the image
+-- all segments have at most the blocks of the image
 pub breaks_whole : {p q : Outside} (s : Plan) (all : List (List ℤ)) (a n : ℕ) → IsPlan s → StopsEarly s all a n p q → StopsEarly s all a (total_blocks s.setting.width s.rows) p q
 breaks_whole s all a n range x = record {
   gave = x.gave;

@@ -1,4 +1,4 @@
--- The padded row as it stands in its room.
+-- The padded row in its room.
 use Rattle.std.proofs.Common.{◌≡◌, ◌∙◌, sym, ap, subst, ℕ, List, ℤ, length}
 use Rattle.std.specs.Prelude.{Vec, vec_len}
 use Rattle.std.specs.Vec.{with_items}

@@ -1,4 +1,4 @@
--- A row of a raster more.
+-- One more row of a raster.
 use Rattle.std.proofs.Common.{◌≡◌, ◌≢◌, ◌⊎◌, inl, inr, ◌/◌, ◌%◌, ◌==◌, Bool, true, false, ℕ, ◌+◌, ◌-◌, ◌*◌, ◌<◌, ◌≤◌, ℤ, List, [], ◌++◌, length, take, refl, sym, ap, ◌∙◌, subst, arith, length-append}
 use Rattle.std.specs.Prelude.{Err, Vec, ◌&&◌, nat_le}
 use Rattle.std.proofs.lemmas.Bool.{cases_lt}

@@ -1,4 +1,4 @@
--- A block row that came at the end of an image.
+-- A block row that is added at the end of an image.
 use Rattle.std.proofs.Common.{◌≡◌, ℕ, ◌+◌, ◌*◌, ◌/◌, ◌<◌, ◌≤◌, ℤ, sym, ap, ◌∙◌, subst, arith, Option, Some, None, Result, Ok, Err, Bool, true, false}
 use Rattle.std.specs.Prelude.{MatchOption, is_some}
 use Rattle.std.specs.Result.{IsErr}
@@ -19,7 +19,7 @@ use Rattle.strip_coder.proofs.RowGathers.{next_are}
 use Rattle.strip_coder.proofs.RowPushes.{OnlyStrip, only_holds}
 use Rattle.strip_coder.proofs.PacketStretches.{breaks_whole}
 
--- the next block row of so many stands
+-- the strip holds the next of its block rows
 pub record StripFinished (old new : StripWave) : Type 0 where
   pub columns : columns_of new ≡ columns_of old
   pub rows : rows_of new ≡ rows_of old

@@ -1,4 +1,4 @@
--- The block row that stands in a strip is that of each image that the work follows.
+-- The block row in a strip is that of each image that the work follows.
 use Rattle.std.proofs.Common.{◌≡◌, ℕ, ◌+◌, ◌-◌, ◌*◌, ◌/◌, ◌%◌, ◌<◌, ◌≤◌, ℤ, ◌*ℤ◌, List, [], refl, sym, ap, ◌∙◌, arith, get_or}
 use Rattle.std.proofs.lemmas.List.{same_lists}
 use Rattle.std.proofs.lemmas.List.FromFn.{get_or-map-range_with_len, length-map-range_with_len}
@@ -25,7 +25,7 @@ coefficient_is : (p : Pyramid) (row column i : ℕ) → coefficient p row column
 unfolding coefficient
 coefficient_is p row column i = refl
 
--- what is gathered from the block row that stands
+-- what is gathered from the block row in the strip
 shown_block : (image : ℕ → ℕ → ℤ) (strip : StripWave) (weights : List ℕ) (r row column : ℕ) → ShowsBlockRow image r strip → answered_of strip ≡ row + 1 → column < columns_of strip →
     gathered (number_in strip) weights column ≡ block (pyramid image r (columns_of strip)) weights row column
 shown_block image strip weights r row column shows answered inside =

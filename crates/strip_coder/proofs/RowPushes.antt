@@ -23,7 +23,7 @@ use Rattle.strip_coder.specs.Steps.{NextAre, NextRowIs, HasGone, HasBroken, Gath
 use Rattle.strip_coder.proofs.RowGathers.{next_are}
 use Rattle.strip_coder.proofs.PacketStretches.{breaks_more}
 
--- what push_row says of a strip
+-- the effect of push_row on a strip
 pub record StripPushed (old new : StripWave) (row : List ℤ) : Type 0 where
   pub columns : columns_of new ≡ columns_of old
   pub rows : rows_of new ≡ rows_of old + 1
@@ -32,7 +32,7 @@ pub record StripPushed (old new : StripWave) (row : List ℤ) : Type 0 where
   pub follows : (image : ℕ → ℕ → ℤ) (r : ℕ) → 3 ≤ r → rows_of old < 8 * r → Follows image r old → Agrees (8 * columns_of old) (signal row) (image (rows_of old)) → Follows image r new
   pub shows : (image : ℕ → ℕ → ℤ) (r : ℕ) → is_standing new ≡ true → 3 ≤ r → rows_of new ≤ 8 * r → Follows image r new → ShowsBlockRow image r new
 
--- nothing but the strip of a work was changed
+-- only the strip of a work was changed
 pub record OnlyStrip (old mid : Work) : Type 0 where
   pub row : mid.row ≡ old.row
   pub blocks : mid.blocks ≡ old.blocks
@@ -48,7 +48,7 @@ only_holds s old mid only all holds = record {
   used = rw only.at holds.used;
 }
 
--- the block row that came: its rows, its number, and that it stands
+-- the block row that was completed: its rows, its number, and that the strip holds it
 pub record Came (strip : StripWave) : Type 0 where
   pub block_row : ℕ
   pub rows : rows_of strip ≡ 8 * block_row + 29
@@ -110,7 +110,7 @@ module _ (s : Plan) (range : IsPlan s) (old mid : Work) (running : IsRunning s o
   same_index : mid.at.index ≡ old.at.index
   same_index = ap (λ a. a.index) only.at
 
-  -- no block row came
+  -- no block row was completed
   pub pushed_none : {p : Outside} → ((r : ℕ) → rows_of mid.strip ≢ 8 * r + 29) → HasPushed s p p old mid
   pushed_none {p = p} none =
       let rows = pushed.rows in

@@ -52,14 +52,14 @@ module _ (s : Plan) (range : IsPlan s) (row after : List ℤ) (pad : IsPadded s.
 
 -- ---- a work before and after
 
--- nothing but the row's numbers was changed
+-- only the row's numbers were changed
 pub record OnlyRow (old mid : Work) : Type 0 where
   pub strip : mid.strip ≡ old.strip
   pub blocks : mid.blocks ≡ old.blocks
   pub packets : mid.packets ≡ old.packets
   pub at : mid.at ≡ old.at
 
--- nothing but the count of rows was changed
+-- only the count of rows was changed
 pub record OnlyCount (mid new : Work) : Type 0 where
   pub strip : new.strip ≡ mid.strip
   pub row : new.row ≡ mid.row

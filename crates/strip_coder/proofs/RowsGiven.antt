@@ -18,7 +18,7 @@ use Rattle.strip_coder.specs.Plans.{tallest}
 use Rattle.strip_coder.specs.Rasters.{row_length, most_length, image_of, settled_octets, whole_rows, given_for}
 use Rattle.strip_coder.proofs.PlanLaws.{tall_height, known_first, known_tallest}
 
--- the octets of whole rows show the same image, whatever comes after them
+-- the octets of whole rows represent the same image, whatever follows them
 pub same_rows : (s : Setting) (k : ℕ) (took more : List ℕ) → length took ≡ k * row_length s → SameWithin k s.width (image_of s (took ++ more)) (image_of s took)
 same_rows s k took more whole = record {
   at = λ i j hi hj.
@@ -41,7 +41,7 @@ unfolding settled_octets
 same_octets s k took more range le whole =
     ap joined (images_settle s (tallest s) (tallest s) k range (tall_height s range) (tall_height s range) le le (image_of s (took ++ more)) (image_of s took) (same_rows s k took more whole))
 
--- all rows, where it is known that they are all, settle all packets
+-- all rows, if it is known that they are all, settle all packets
 pub rows_whole : (s : Setting) (taken : List ℕ) → s.rows ≢ 0 → settled_octets s taken (tallest s) ≡ output s (tallest s) (image_of s taken)
 unfolding settled_octets
 rows_whole s taken known =
@@ -54,7 +54,7 @@ least_of t n k e le = omega arith
 most_of : (t n : ℕ) → t ≤ n → min t n ≡ t
 most_of t n le = omega arith
 
--- within a row that isn't whole, what the rows before it settle stands given
+-- within a row that isn't whole, the packets that the rows before it settle are given
 pub given_within : (s : Setting) (k : ℕ) (took part : List ℕ) → IsInRange s → k ≤ tallest s → length took ≡ k * row_length s → length part < row_length s →
     given_for s (took ++ part) ≡ settled_octets s took k
 unfolding given_for
@@ -64,7 +64,7 @@ given_within s k took part range le whole short =
     let rows : whole_rows s (took ++ part) ≡ k = least_of (tallest s) (length (took ++ part) / row_length s) k count le in
     ap (settled_octets s (took ++ part)) rows ∙ same_octets s k took part range le whole
 
--- once the tallest raster was taken, what it settles stands given
+-- once the tallest raster was taken, the packets that it settles are given
 pub given_whole : (s : Setting) (took more : List ℕ) → IsInRange s → length took ≡ most_length s → given_for s (took ++ more) ≡ settled_octets s took (tallest s)
 unfolding given_for
 given_whole s took more range whole =

@@ -20,7 +20,7 @@ all_whole s r took whole here =
     let count : whole_pixels s.depth took ≡ r * s.width = ap (λ n. n / pixel_size s.depth) (row_pixels s r took whole) ∙ mul-div_left (r * s.width) {n = pixel_size s.depth} some in
     subst (AreInRange s took) (sym count) here
 
--- so many more pixels are in range
+-- this number of further pixels is in range
 pub in_range-more : (s : Setting) (r n : ℕ) (took got : List ℕ) → length took ≡ r * row_length s → AreInRange s took (r * s.width) →
     FirstInRange s.depth s.signed got n → AreInRange s (took ++ got) (r * s.width + n)
 in_range-more s r n took got whole before here = FirstInRange-append s.depth s.signed took got (r * s.width) n (row_pixels s r took whole) before here

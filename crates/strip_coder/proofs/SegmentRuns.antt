@@ -10,7 +10,7 @@ use Rattle.stream_defs.proofs.Outputs.{packets_of-more}
 use Rattle.space_packets.specs.declared.stage.Stage.TheVariants.{Idle}
 use Rattle.space_packets.specs.Progress.{Progress}
 
--- two that are alike, field by field
+-- two packetisers are the same if their fields are
 pub same_progress : (packet texts texts' packets packets' octets octets' : ℕ) → texts ≡ texts' → packets ≡ packets' → octets ≡ octets' →
     (let a : Progress = record { packet = packet; stage = Idle; texts = texts; packets = packets; octets = octets; pending = [] } in a)
     ≡ record { packet = packet; stage = Idle; texts = texts'; packets = packets'; octets = octets'; pending = [] }
@@ -20,7 +20,7 @@ same_progress packet texts texts' packets packets' octets octets' e f g = cc
 pub octets-more : (s : Plan) (all : List (List ℤ)) (n : ℕ) → joined (packets_of (tells_last s.setting) (whole s) all (n + 1)) ≡ joined (packets_of (tells_last s.setting) (whole s) all n) ++ joined (segment_packets (tells_last s.setting) (whole s) all n)
 octets-more s all n = ap joined (packets_of-more (tells_last s.setting) (whole s) all n) ∙ joined-append (packets_of (tells_last s.setting) (whole s) all n) (segment_packets (tells_last s.setting) (whole s) all n)
 
--- the octets of the first segments stand first in those of more
+-- the octets of the first segments are a prefix of those of more
 pub front_of : (s : Plan) (all : List (List ℤ)) (n more : ℕ) → (rest : List ℕ) × (joined (packets_of (tells_last s.setting) (whole s) all (n + more)) ≡ joined (packets_of (tells_last s.setting) (whole s) all n) ++ rest)
 front_of s all n zero = ([], let e : n + 0 ≡ n = omega arith in ap (λ k. joined (packets_of (tells_last s.setting) (whole s) all k)) e ∙ sym (append-nil (joined (packets_of (tells_last s.setting) (whole s) all n))))
 front_of s all n (suc more) =

@@ -1,4 +1,4 @@
--- One segment of an image, written from the work that gathered it.
+-- One segment of an image is written from the work that gathered it.
 use Rattle.std.proofs.Common.{◌≡◌, ◌≢◌, ℕ, ◌+◌, ◌-◌, ◌*◌, ◌/◌, ◌^◌, ◌<◌, ◌≤◌, ◌==◌, Bool, true, false, ℤ, pos, List, [], ◌++◌, length, take, drop, refl, sym, ap, ◌∙◌, subst, arith, get_or, min, inl, inr, vec_len, length-append, length-take, length-drop}
 use Rattle.std.specs.Prelude.{unsigned_abs}
 use Rattle.std.proofs.lemmas.Bool.{cases_lt}
@@ -85,7 +85,7 @@ progress_more s all n w at =
     (length (joined (packets_of (tells_last s.setting) (whole s) all n)) + length (joined (segment_packets (tells_last s.setting) (whole s) all n))) (length (joined (packets_of (tells_last s.setting) (whole s) all (n + 1))))
     refl (sym (packets_before-more (whole s) all n)) (sym (ap length (octets-more s all n) ∙ length-append (joined (packets_of (tells_last s.setting) (whole s) all n)) (joined (segment_packets (tells_last s.setting) (whole s) all n))))
 
--- a front of the packets of one segment is a front of all up to it
+-- a prefix of the packets of one segment, after those of the segments before it, is a prefix of all up to it
 front_is : (s : Plan) (all : List (List ℤ)) (n some : ℕ) →
     joined (packets_of (tells_last s.setting) (whole s) all n) ++ take some (joined (segment_packets (tells_last s.setting) (whole s) all n))
     ≡ take (length (joined (packets_of (tells_last s.setting) (whole s) all n)) + some) (joined (packets_of (tells_last s.setting) (whole s) all (n + 1)))
@@ -106,7 +106,7 @@ share_same s index a b same = elim (cases_lt 0 s.total) [
 pub share_kept : (s : Setting) (a b : ImageAt) → b.index ≡ a.index → b.used ≡ a.used → KeepsShare s a → KeepsShare s b
 share_kept s a b index used keeps = record { left = rw (index, used) keeps.left }
 
--- a count that goes on below its bound
+-- a count that stays below its bound
 counted : (a n m c total : ℕ) → total ≤ 2 ^ 40 → c ≡ min (a + n) (2 ^ 64 - 1) → a + n + m ≤ total → c ≡ a + n
 counted a n m c total most is le = omega arith
 

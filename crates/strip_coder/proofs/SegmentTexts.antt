@@ -32,7 +32,7 @@ pub length-blocks_in : (cells : List ℤ) → length (blocks_in cells) ≡ lengt
 unfolding blocks_in
 length-blocks_in cells = length-map-range_with_len (block_at cells) 0 (length cells / 64)
 
--- a head of a setting in range can be said
+-- a head of a setting in range can be written
 pub head_is : (s : Plan) (index limit count depth_dc depth_ac : ℕ) → IsPlan s → CanBeSaid (whole s) limit → 1 ≤ count → count ≤ 1048575 →
     1 ≤ depth_dc → depth_dc ≤ 28 → depth_ac ≤ 27 → IsHead (head_with (whole s) index limit count depth_dc depth_ac)
 head_is s index limit count depth_dc depth_ac range said some most least_dc most_dc most_ac = record {
@@ -99,12 +99,12 @@ coded_some h blocks word =
     one_word : (unit n : ℕ) → 8 ≤ unit → 1 ≤ n → 1 ≤ (n + (unit - 1)) / unit
     one_word unit n some more = (le-div_iff_mul-le {k = unit} {x = 1} {y = n + (unit - 1)} (omega arith)).1 (omega arith)
 
--- the head is the segment's own where its depths are those of the blocks
+-- the head is the segment's own if its depths are those of the blocks
 pub text_same : (s : Plan) (index used count depth_dc depth_ac : ℕ) (segment : List (List ℤ)) → count ≡ length segment →
     depth_dc ≡ depth_dc_of segment → depth_ac ≡ depth_ac_of segment → coded profile (head_with (whole s) index (share (whole s) index used) count depth_dc depth_ac) segment ≡ text_for s index used segment
 text_same s index used count depth_dc depth_ac segment e f g = rw (e, f, g) refl
 
--- the share of what is left can be said
+-- a head can have the share of what is left as its limit
 pub share_said : (s : Plan) (at : ImageAt) → IsPlan s → KeepsShare (whole s) at → at.index < segments_of (whole s) → CanBeSaid (whole s) (share (whole s) at.index at.used)
 share_said s at range keeps lt = elim (cases_lt 0 s.setting.total) [
   | inl some ↦

@@ -39,7 +39,7 @@ module _ (s : Setting) (range : IsInRange s) (p q : Outside) (w : Work) (come : 
     so_far : Exchange p q come.took (settled_octets s come.took (tallest s)) [] (GivenBy (given_for s) come.took)
     so_far = subst (λ g. Exchange p q come.took g [] (GivenBy (given_for s) come.took)) gave_is come.since
 
-    -- the end is asked for
+    -- the end is read
     asked_end : {d : Outside} {more : List ℕ} → Exchange q d more [] [] AtStart →
         Exchange p d (come.took ++ more) (settled_octets s come.took (tallest s)) [] (GivenBy (given_for s) (come.took ++ more))
     asked_end {more = more} read =

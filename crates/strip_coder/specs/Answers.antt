@@ -22,7 +22,7 @@ pub record FirstBad (s : Setting) (taken : List ℕ) (row column : ℕ) (value :
   pub in_row : column < s.width
   pub first : IsFirstBad s.depth s.signed taken (row * s.width + column) value
 
--- the whole raster of an image of so many rows was taken, and the image is in range
+-- the whole raster of an image with this number of rows was taken, and the image is in range
 pub record TookRaster (s : Setting) (rows : ℕ) (taken : List ℕ) : Type 0 where
   pub height : IsHeight s rows
   pub whole : length taken ≡ rows * row_length s
@@ -32,24 +32,24 @@ pub record TookRaster (s : Setting) (rows : ℕ) (taken : List ℕ) : Type 0 whe
 abbrev pub coded_octets : Setting → (rows : ℕ) → (ℕ → ℕ → ℤ) → ℕ
 coded_octets s rows x = used_before (sized s rows) (image_blocks (sized s rows) x) (segments_of (sized s rows))
 
--- what was done for an image; its coded segments keep to a total
+-- what was done for an image; its coded segments have at most the octets of a total
 pub record DoneFor (s : Setting) (rows : ℕ) (x : ℕ → ℕ → ℤ) (done : EncodeDone) : Type 0 where
   pub segments : done.segments ≡ segments_of (sized s rows)
   pub packets : done.packets ≡ length (image_packets (tells_last s) (sized s rows) x)
   pub octets : done.octets ≡ length (output s rows x)
   pub total : s.total ≢ 0 → coded_octets s rows x ≤ s.total
 
--- just the first k rows of the raster were taken, and each value is in range
+-- exactly the first k rows of the raster were taken, and each value is in range
 pub record TookRows (s : Setting) (taken : List ℕ) (k : ℕ) : Type 0 where
   pub whole : length taken ≡ k * row_length s
   pub most : k ≤ tallest s
   pub in_range : AllInRange s taken
 
--- these octets are a front of all packets of each image that begins with the first k rows of the raster
+-- these octets are a prefix of all packets of each image that begins with the first k rows of the raster
 pub record IsFrontOfEach (s : Setting) (taken : List ℕ) (k : ℕ) (gave : List ℕ) : Type 0 where
   pub each : (rows : ℕ) (x : ℕ → ℕ → ℤ) → IsHeight s rows → k ≤ rows → SameWithin k s.width (image_of s taken) x → (n : ℕ) × (gave ≡ take n (output s rows x))
 
--- or, where the rows were open and the end came, of the image of just these rows
+-- or, if the rows were open and the end was read, of the image of exactly these rows
 pub record IsFrontOfWhole (s : Setting) (new : Outside) (taken : List ℕ) (k : ℕ) (gave : List ℕ) : Type 0 where
   pub left_open : s.rows ≡ 0
   pub at_end : AtEnd new
@@ -57,8 +57,8 @@ pub record IsFrontOfWhole (s : Setting) (new : Outside) (taken : List ℕ) (k : 
   pub some : ℕ
   pub front : gave ≡ take some (output s k (image_of s taken))
 
--- Why it was answered so. The answers exclude each other by what was taken, the end and the counts, so each comes exactly
--- where its case holds, but for faults of the port. The row of a bad pixel is the number of whole rows in range before it.
+-- Why the call ended so. The answers exclude each other by what was taken, the end and the counts, so each is given exactly if its case
+-- holds, except for faults of the port. The row of a bad pixel is the number of whole rows in range before it.
 abbrev pub Answers : Setting → Outside → Outside → List ℕ → List ℕ → Result EncodeDone EncodeFault → Type 0
 Answers s old new took gave (Ok done) =
     (rows : ℕ) × TookRaster s rows took × AtEnd new × (gave ≡ output s rows (image_of s took)) × DoneFor s rows (image_of s took) done

@@ -5,7 +5,7 @@ use Rattle.base_122.specs.Setting.{IsHeight, sized}
 use Rattle.base_122.specs.declared.setting.Setting.{Setting}
 use Rattle.strip_coder.specs.declared.plan.Plan.{Plan}
 
--- an image of so many rows for a setting
+-- the plan of an image with this number of rows for a setting
 abbrev pub plan_of : Setting → (rows : ℕ) → Plan
 plan_of s rows = record { setting = s; rows = rows }
 

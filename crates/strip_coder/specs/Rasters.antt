@@ -15,13 +15,13 @@ row_length s = s.width * pixel_size s.depth
 abbrev pub most_length : Setting → ℕ
 most_length s = tallest s * row_length s
 
--- A raster of so many octets is no whole one, and may go on: it has fewer than the longest. If the rows are reported last, it ends inside a
--- row, or has fewer rows than an image.
+-- A raster of this number of octets isn't whole, and may continue: it has fewer than the longest. If the rows are reported last, it ends
+-- inside a row, or has fewer rows than an image.
 pub record LacksRows (s : Setting) (octets : ℕ) : Type 0 where
   pub fewer : octets < most_length s
   pub left_open : s.rows ≡ 0 → (octets < rows_range.least * row_length s) ⊎ (octets % row_length s ≢ 0)
 
--- the image that the octets of a raster show
+-- the image of the octets of a raster
 abbrev pub image_of : Setting → List ℕ → ℕ → ℕ → ℤ
 image_of s octets = raster_pixel s.depth s.signed s.width octets
 
@@ -29,7 +29,7 @@ image_of s octets = raster_pixel s.depth s.signed s.width octets
 abbrev pub AreInRange : Setting → List ℕ → ℕ → Type 0
 AreInRange s octets n = FirstInRange s.depth s.signed octets n
 
--- the packets of the segments that the first k rows of a raster settle, however many rows more come
+-- the packets of the segments that the first k rows of a raster settle, whatever rows follow
 unfoldable pub settled_octets : Setting → (taken : List ℕ) → (k : ℕ) → List ℕ
 settled_octets s taken k = joined (front_packets s (tallest s) (image_of s taken) (settled_in s (tallest s) k))
 

@@ -17,7 +17,7 @@ use Rattle.strip_coder.specs.Rasters.{row_length, image_of, AreInRange, given_fo
 use Rattle.strip_coder.specs.Works.{Represents}
 use Rattle.strip_coder.specs.Steps.{IsRowInRange}
 
--- what a fault of a row is to a raster of which so many octets were taken before
+-- the fault of the raster if a row has this fault and this number of octets was taken before
 abbrev pub fault_after : ℕ → RowFault → EncodeFault
 fault_after before row_faults.ReadFault = ReadFault
 fault_after before (row_faults.Short octets) = Short (before + octets)
@@ -34,12 +34,12 @@ abbrev pub ShortOf : RowFault → ℕ → Type 0
 ShortOf (row_faults.Short octets) size = octets < size
 ShortOf fault size = Unit {0}
 
--- the last of the first k rows of a raster stands in the row
+-- the row is the last of the first k rows of a raster
 pub record LastStands (s : Setting) (k : ℕ) (taken : List ℕ) (row : List ℤ) : Type 0 where
   pub in_range : IsRowInRange s row
   pub same : Agrees s.width (signal row) (image_of s taken (k - 1))
 
--- Since a start just the first k rows of a raster were taken, each value in range. The work stands for them, and the packets of the
+-- Since a start exactly the first k rows of a raster were taken, each value in range. The work represents them, and the packets of the
 -- segments before the present one are given.
 pub record HasCome (s : Setting) (k : ℕ) (p q : Outside) (w : Work) : Type 0 where
   pub took : List ℕ

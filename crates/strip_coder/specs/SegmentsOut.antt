@@ -10,15 +10,15 @@ use Rattle.space_packets.specs.declared.stage.Text.{Text}
 use Rattle.space_packets.specs.declared.stage.Stage.TheVariants.{Idle}
 use Rattle.space_packets.specs.Progress.{Progress}
 
--- the text of the segment of this index, as a packetiser knows it
+-- the text of the segment of this index, as a packetiser has it
 abbrev pub text_of : Plan → ℕ → Text
 text_of s index = record { apid = s.setting.apid; ancillary = ancillary_of (tells_last s.setting) (whole s) index }
 
--- the text of the segment of this index, with these blocks, after texts of so many octets
+-- the text of the segment of this index, with these blocks, after texts of `used` octets
 abbrev pub text_for : Plan → (index used : ℕ) → List (List ℤ) → List ℕ
 text_for s index used segment = coded profile (head_of (whole s) index used segment) segment
 
--- a packetiser has written the packets of so many segments of an image with these blocks, and nothing else
+-- a packetiser has written the packets of this number of segments of an image with these blocks, and nothing else
 abbrev pub progress_at : Plan → List (List ℤ) → ℕ → Progress
 progress_at s all n = record {
   packet = s.setting.packet;

@@ -1,4 +1,4 @@
--- What the steps of the encoder leave.
+-- The effect of the steps of the encoder.
 use Rattle.std.specs.Prelude.{◌≡◌, ◌<◌, ◌≤◌, ◌+◌, ◌-◌, ◌*◌, ◌^◌, ℕ, ℤ, List, [], ◌++◌, length, take, Result, Ok, Err, MatchResult, slice_index_or, Bool, true, false}
 use Rattle.port_122.specs.Outside.{Outside, Exchange, NoRead, Rose}
 use Rattle.base_122.specs.Sizes.{block_count, padded_size, total_blocks, first_block, segment_blocks}
@@ -21,7 +21,7 @@ use Rattle.strip_coder.specs.declared.encode.EncodeDone.{EncodeDone}
 use Rattle.strip_coder.specs.Answers.{DoneFor}
 use Rattle.strip_coder.specs.SegmentsOut.{progress_at}
 
--- one block was put at a place, and those before it stay
+-- one block was put at a place, and those before it are unchanged
 pub record PutsBlock (place : ℕ) (old new numbers : List ℤ) : Type 0 where
   pub before : (i : ℕ) → i < place → block_at new i ≡ block_at old i
   pub here : block_at new place ≡ numbers
@@ -34,18 +34,18 @@ pub record Stays (old new : Work) : Type 0 where
   pub row : new.row ≡ old.row
   pub rows : new.at.rows ≡ old.at.rows
 
--- an image has room for so many blocks more
+-- an image has room for this number of further blocks
 abbrev pub HasRoom : Plan → ℕ → Work → Type 0
 HasRoom s n w = gathered_in s w.at + n ≤ total_blocks s.setting.width s.rows
 
--- The packets of these blocks went on from the first segments before this index to those before that one.
+-- The packets of these blocks are written, after the segments before the first index, up to those before the second.
 pub record Continues (s : Plan) (all : List (List ℤ)) (from to : ℕ) (p q : Outside) : Type 0 where
   pub gave : List ℕ
   pub out : Exchange p q [] gave [] NoRead
   pub then_are : joined (packets_of (tells_last s.setting) (whole s) all from) ++ gave ≡ joined (packets_of (tells_last s.setting) (whole s) all to)
 
--- A write failed in the packets of one segment, where those of the segments before an index were out: a front of them is out. Of the blocks of
--- the image so many were gathered, those of that segment among them.
+-- A write failed in the packets of one segment, with those of the segments before an index written: a prefix of them is written. This
+-- number of blocks of the image were gathered, those of that segment among them.
 pub record StopsEarly (s : Plan) (all : List (List ℤ)) (from gathered : ℕ) (p q : Outside) : Type 0 where
   pub gave : List ℕ
   pub out : Exchange p q [] gave [] NoRead
@@ -108,7 +108,7 @@ IsRowSmall s w = AllWithin (2 ^ 16) (padded_size s.setting.width) (signal w.row.
 abbrev pub NextRowIs : Plan → (ℕ → ℕ → ℤ) → Work → Type 0
 NextRowIs s x w = Agrees (padded_size s.setting.width) (signal w.row.items) (padded x s.rows s.setting.width (rows_of w.strip))
 
--- the row was pushed, and the block row that came with it was gathered
+-- the row was pushed, and the block row that it completes was gathered
 pub record HasPushed (s : Plan) (p q : Outside) (old new : Work) : Type 0 where
   pub running : IsRunning s new
   pub strip_rows : rows_of new.strip ≡ rows_of old.strip + 1
@@ -157,7 +157,7 @@ pub record BreaksAt (s : Setting) (k : ℕ) (p q : Outside) (old new : Work) : T
   pub rose : Rose p.write_faults q.write_faults
   pub breaks : (x : ℕ → ℕ → ℤ) → FollowsRows s x old → RowIs s x k old → StopsEarly (plan_of s (tallest s)) (tall_blocks s x) old.at.index (block_count s.width * settled (k + 1)) p q
 
--- all packets of an image of so many rows are out
+-- all packets of an image with this number of rows are written
 pub record EndsImage (s : Setting) (rows : ℕ) (p q : Outside) (old new : Work) (result : EncodeDone) : Type 0 where
   pub made : IsMadeFor s new
   pub faults : p.write_faults ≤ q.write_faults
@@ -237,7 +237,7 @@ pub record HasFinishedOn (s : Plan) (p q : Outside) (old new : Work) : Type 0 wh
   pub follows : (x : ℕ → ℕ → ℤ) → FollowsImage s x old → FollowsImage s x new
   pub goes : (x : ℕ → ℕ → ℤ) → FollowsImage s x old → Continues s (image_blocks (whole s) x) old.at.index new.at.index p q
 
--- all of them were, and all packets are out
+-- all of them were, and all packets are written
 pub record AllOut (s : Plan) (p q : Outside) (old new : Work) : Type 0 where
   pub made : IsMadeFor s.setting new
   pub faults : p.write_faults ≤ q.write_faults

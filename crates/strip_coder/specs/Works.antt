@@ -1,4 +1,4 @@
--- What a work holds, and for which images.
+-- What a work holds, and which images it follows.
 use Rattle.std.specs.Prelude.{◌≡◌, ◌≢◌, ◌<◌, ◌≤◌, ◌+◌, ◌-◌, ◌*◌, ◌^◌, ◌==◌, if◌then◌else◌, ℕ, ℤ, pos, min, List, [], false, vec_len, slice_index_or, unsigned_abs}
 use Rattle.base_122.specs.Sizes.{block_count, padded_size, total_blocks, first_block, segment_blocks, sample_need}
 use Rattle.base_122.specs.declared.setting.Setting.{Setting}
@@ -34,7 +34,7 @@ pub record IsMadeFor (s : Setting) (w : Work) : Type 0 where
   pub packet : w.packets.packet ≡ s.packet
   pub room : w.room ≡ sample_need s.width s.segment
 
--- what the coded segments so far leave of a bound on all: 36 octets at least for each of those that follow
+-- what the coded segments so far leave of a bound on all: at least 36 octets for each of those that follow
 pub record KeepsShare (s : Setting) (at : ImageAt) : Type 0 where
   pub left : s.total ≢ 0 → at.used + 36 * (segments_of s - at.index) ≤ s.total
 
@@ -69,14 +69,14 @@ pub record IsFull (s : Plan) (w : Work) : Type 0 where
   pub idle : w.packets.stage ≡ Idle
   pub texts : w.packets.texts ≡ w.at.index
 
--- The block rows that come with the rows pushed so far were gathered, and the strip takes more.
+-- The block rows that the rows pushed so far complete were gathered, and the strip takes more.
 pub record IsRunning (s : Plan) (w : Work) : Type 0 where
   pub gathered : HasGathered s w
   pub count : gathered_in s w.at ≡ block_count s.setting.width * settled (rows_of w.strip)
   pub answered : answered_of w.strip ≡ settled (rows_of w.strip)
   pub running : has_ended w.strip ≡ false
 
--- So many rows were taken. While more may come, the segments before the present one are exactly those that these rows settle.
+-- This number of rows was taken. While more may follow, the segments before the present one are exactly those that these rows settle.
 pub record HasTaken (s : Plan) (k : ℕ) (w : Work) : Type 0 where
   pub running : IsRunning s w
   pub rows : w.at.rows ≡ k
@@ -92,7 +92,7 @@ pub record HoldsBlocks (s : Plan) (all : List (List ℤ)) (w : Work) : Type 0 wh
   pub packets : w.packets ≡ progress_at s all w.at.index
   pub used : s.setting.total ≢ 0 → w.at.used ≡ used_before (whole s) all w.at.index
 
--- the strip stands as after the first rows of this image
+-- the strip is as after the first rows of this image
 abbrev pub StripFollows : Plan → (ℕ → ℕ → ℤ) → Work → Type 0
 StripFollows s x w = Follows (padded x s.rows s.setting.width) (block_count s.rows) w.strip
 
@@ -101,18 +101,18 @@ pub record FollowsImage (s : Plan) (x : ℕ → ℕ → ℤ) (w : Work) : Type 0
   pub strip : StripFollows s x w
   pub holds : HoldsBlocks s (image_blocks (whole s) x) w
 
--- A work follows an image of which more rows may come: while it has the plan of the tallest one, its strip stands as after the first rows of
+-- A work follows an image of which more rows may follow: while it has the plan of the tallest one, its strip is as after the first rows of
 -- the image of any height that it may still have.
 pub record FollowsRows (s : Setting) (x : ℕ → ℕ → ℤ) (w : Work) : Type 0 where
   pub tall : FollowsImage (plan_of s (tallest s)) x w
   pub any : (rows : ℕ) → IsHeight s rows → rows_of w.strip ≤ rows → StripFollows (plan_of s rows) x w
 
--- A work stands for the first k rows of an image: it follows each image that has these.
+-- A work represents the first k rows of an image: it follows each image that has these.
 pub record Represents (s : Setting) (k : ℕ) (x : ℕ → ℕ → ℤ) (w : Work) : Type 0 where
   pub taken : HasTaken (plan_of s (tallest s)) k w
   pub follows : (y : ℕ → ℕ → ℤ) → SameWithin k s.width x y → FollowsRows s y w
 
--- for no rows, so it follows each image
+-- it represents no rows, so it follows each image
 pub record RepresentsNone (s : Setting) (w : Work) : Type 0 where
   pub taken : HasTaken (plan_of s (tallest s)) 0 w
   pub follows : (x : ℕ → ℕ → ℤ) → FollowsRows s x w

@@ -1,4 +1,4 @@
-// The encoder's answers.
+// The results of the encoder.
 
 use thiserror::Error;
 
@@ -10,7 +10,7 @@ pub struct EncodeDone {
     pub octets: u64,
 }
 
-/// Why an image was not encoded, or not as a whole.
+/// The reason why an image was not encoded, or only a part of it.
 #[derive(Clone, Copy, Debug, PartialEq, Eq, Error)]
 pub enum EncodeFault {
     /// A read failed.
@@ -19,7 +19,7 @@ pub enum EncodeFault {
     /// A write failed.
     #[error("write fault")]
     WriteFault,
-    /// The input ended before the raster was whole; so many octets were taken.
+    /// The input ended before the raster was whole, after this number of octets.
     #[error("input short, {octets} octets taken")]
     Short { octets: u64 },
     /// The input has more than the raster.

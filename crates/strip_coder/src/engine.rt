@@ -1,4 +1,4 @@
-// The encoder row by row.
+// Encodes an image row by row.
 ghost use Rattle.std.specs.Prelude.{◌≡◌, ◌<◌, ◌-◌, ◌*◌, MatchResult};
 ghost use Rattle.base_122.specs.Ranges.{IsInRange};
 ghost use Rattle.base_122.specs.Setting.{IsHeight};
@@ -35,7 +35,7 @@ pub fn start_image(setting: &Setting, work: &mut Work)
     };
 }
 
-// Pushes the row into the strip, and gathers the block row that comes with it.
+// Pushes the row into the strip, and gathers the block row that it completes.
 fn push<X: Port>(port: &mut X, plan: &Plan, work: &mut Work) -> Result<(), Failed>
     requires in_range { IsPlan plan.now }
     requires running { IsRunning plan.now work.old }
@@ -65,7 +65,7 @@ fn push_tail<X: Port>(port: &mut X, plan: &Plan, work: &mut Work) -> Result<(), 
     Ok(())
 }
 
-// Gathers the next of the block rows that come at the end, where there is one.
+// Gathers the next of the block rows that are left at the end. Returns whether there was one.
 fn finish_one<X: Port>(port: &mut X, plan: &Plan, work: &mut Work) -> Result<bool, Failed>
     requires in_range { IsPlan plan.now }
     requires ending { IsEnding plan.now work.old }
@@ -79,7 +79,7 @@ fn finish_one<X: Port>(port: &mut X, plan: &Plan, work: &mut Work) -> Result<boo
     Ok(true)
 }
 
-// Gathers all block rows that come at the end.
+// Gathers all block rows that are left at the end.
 fn finish<X: Port>(port: &mut X, plan: &Plan, work: &mut Work) -> Result<(), Failed>
     requires in_range { IsPlan plan.now }
     requires ending { IsEnding plan.now work.old }
@@ -112,9 +112,9 @@ pub fn row_in<X: Port>(port: &mut X, setting: &Setting, work: &mut Work) -> Resu
     Ok(())
 }
 
-/// Writes the rest of the packets of an image of which all rows were taken. The first `width` places of `row` are still the last of
-/// these. There are as many as the setting has or, if it leaves their number open, 17 to 262,144. After either answer only
-/// `start_image` may follow.
+/// Writes the rest of the packets of an image of which all rows were taken. The first `width` places of `row` are still the last of these.
+/// Their number is that of the setting or, if it leaves their number open, 17 to 262,144. After either result only `start_image` may
+/// follow.
 pub fn image_end<X: Port>(
     port: &mut X,
     setting: &Setting,
@@ -139,7 +139,7 @@ pub fn image_end<X: Port>(
     Ok(done_so_far(&plan, &work.packets))
 }
 
-/// What a packetiser that wrote all segments has done.
+/// Returns what a packetiser has done that wrote all segments.
 pub fn done_so_far(plan: &Plan, packets: &Packetiser) -> EncodeDone
     requires { IsPlan plan.now }
     ensures { result ≡ record { segments = segments_of (whole plan.now); packets = packets.now.packets; octets = packets.now.octets } }

@@ -64,7 +64,7 @@ fn limit_at(rt: &impl Abort, octets: &[u8], place: usize) -> u32 {
         + (u32::from(part[3]) >> 5)
 }
 
-// An image of 64 by 128 pixels in eight segments, each of one packet.
+// Returns the setting of an image of 64 by 128 pixels in eight segments, each of one packet.
 fn eight_segments() -> Setting {
     let mut setting = Setting::usual(64, 128);
     setting.segment = 16;
@@ -80,7 +80,7 @@ fn a_share_is_an_even_part_of_what_is_left(rt: HostRuntime) -> Result<(), Fail> 
     let packets = black_packets(&rt, &setting, 8192, None)?;
     assert_eq!(rt; packets.len(), 409);
     for (i, share) in shares.iter().enumerate() {
-        // Before Part 2 a packet has 30 octets of headers and 3 of Part 1, and the last one the pad rows besides.
+        // Before Part 2 a packet has 30 octets of headers and 3 of Part 1; the last packet also has the pad rows there.
         let place = if i == 7 { 34 } else { 33 };
         assert_eq!(rt; limit_at(&rt, &packets, 51 * i + place), *share);
     }

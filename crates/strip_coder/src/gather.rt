@@ -1,4 +1,4 @@
-// The blocks of a block row, into segments that are written as they become full.
+// Gathers the blocks of a block row into segments, which are written as they become full.
 ghost use Rattle.std.specs.Prelude.{◌≡◌, ◌≤◌, ◌<◌, ◌+◌, ◌*◌, ◌^◌, All, length, take, true, MatchResult};
 ghost use Rattle.strip_coder.specs.Plans.{IsPlan, whole};
 ghost use Rattle.base_122.specs.Sizes.{block_count};
@@ -45,7 +45,7 @@ pub fn gather_block(
     );
 }
 
-// Writes the packets of the segment of which so many blocks stand first.
+// Writes the packets of the segment that has the first `count` blocks.
 fn write_front<X: Port>(
     port: &mut X,
     plan: &Plan,
@@ -81,7 +81,7 @@ fn write_front<X: Port>(
     )
 }
 
-// Writes the present segment, which is full, and goes on to the next.
+// Writes the present segment, which is full, and advances to the next.
 fn write_present<X: Port>(port: &mut X, plan: &Plan, work: &mut Work) -> Result<(), Failed>
     requires in_range { IsPlan plan.now }
     requires full { IsFull plan.now work.old }
@@ -106,7 +106,7 @@ fn write_present<X: Port>(port: &mut X, plan: &Plan, work: &mut Work) -> Result<
     Ok(())
 }
 
-// Gathers the block of this column of the block row that stands, and writes the present segment where that makes it full.
+// Gathers the block of this column of the block row in the strip, and writes the present segment if that makes it full.
 fn gather_column<X: Port>(
     port: &mut X,
     plan: &Plan,
@@ -140,7 +140,7 @@ fn gather_column<X: Port>(
     write_present(port, plan, work)
 }
 
-/// Gathers the block row that stands, block by block, and writes each segment that becomes full.
+/// Gathers the block row in the strip, block by block, and writes each segment that becomes full.
 pub fn gather_row<X: Port>(port: &mut X, plan: &Plan, work: &mut Work) -> Result<(), Failed>
     requires in_range { IsPlan plan.now }
     requires gathered { HasGathered plan.now work.old }

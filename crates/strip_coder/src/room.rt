@@ -5,7 +5,7 @@ ghost use Rattle.strip_coder.specs.Works.{most_blocks};
 
 use base_122::Setting;
 
-/// Returns the blocks that a segment has at most: while the rows are open, no segment is known to be the last.
+/// Returns the greatest number of blocks of a segment: while the rows are open, no segment is known to be the last.
 pub fn most_blocks(setting: &Setting) -> u32
     requires { IsInRange setting.now }
     ensures { result ≡ most_blocks setting.now }

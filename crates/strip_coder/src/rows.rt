@@ -1,4 +1,4 @@
-// The rows of a raster in, and its packets out.
+// Takes the rows of a raster, and writes its packets.
 ghost use Rattle.std.specs.Prelude.{◌≡◌, ◌<◌, ◌+◌, ◌*◌, MatchResult};
 ghost use Rattle.port_122.specs.Outside.{Outside};
 ghost use Rattle.base_122.specs.Ranges.{IsInRange};
@@ -107,7 +107,7 @@ fn take_row<X: Port>(port: &mut X, setting: &Setting, work: &mut Work) -> Result
     Ok(true)
 }
 
-// Whether a fault of a row is the end of a raster whose rows are reported last.
+// Returns whether a fault of a row is the end of a raster whose rows are reported last.
 fn ends_here(setting: &Setting, row: u32, fault: RowFault) -> bool
     ensures { result ≡ ends_here setting.now row fault }
 {
@@ -119,7 +119,7 @@ fn ends_here(setting: &Setting, row: u32, fault: RowFault) -> bool
     }
 }
 
-/// Returns what a fault at this row is to the whole raster: the octets of a short one count from its start.
+/// Returns the fault of the whole raster if this row has a fault: the octets of a short one count from its start.
 pub fn row_fault(setting: &Setting, row: u32, fault: RowFault) -> EncodeFault
     requires in_range { IsInRange setting.now }
     requires row { row < 262144 }
@@ -135,7 +135,7 @@ pub fn row_fault(setting: &Setting, row: u32, fault: RowFault) -> EncodeFault
     }
 }
 
-// Octets of a row of the raster.
+// Returns the number of octets of a row of the raster.
 fn row_octets(setting: &Setting) -> u64
     ensures { result ≡ row_length setting.now }
 {

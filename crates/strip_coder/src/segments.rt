@@ -1,4 +1,4 @@
-// One segment of an image, as packets.
+// Writes one segment of an image as packets.
 ghost use Rattle.std.specs.Prelude.{◌≡◌, ◌≤◌, ◌<◌, ◌-◌, ◌*◌, ◌/◌, ◌^◌, length, MatchResult};
 ghost use Rattle.wave_defs.specs.Held.{blocks_in};
 ghost use Rattle.space_packets.specs.Writes.{TextOut, TextCut};
@@ -64,7 +64,7 @@ pub fn write_segment<X: Port>(
     Ok(octets)
 }
 
-// Returns the octets that the text of the present segment has at most; 0 is no bound. Of a bound on all texts it is an even share of
+// Returns the greatest number of octets of the text of the present segment; 0 is no bound. Of a bound on all texts it is an even share of
 // what is left, in whole code words.
 fn share(plan: &Plan, at: &ImageAt) -> u32
     requires in_range { IsPlan plan.now }
@@ -83,7 +83,7 @@ fn share(plan: &Plan, at: &ImageAt) -> u32
     octets as u32
 }
 
-// What each head says of the image.
+// Returns the image part of each head.
 fn image_part(setting: &Setting) -> ImagePart
     ensures { result ≡ image_part setting.now }
 {
@@ -96,7 +96,7 @@ fn image_part(setting: &Setting) -> ImagePart
     }
 }
 
-// Rows that pad the image.
+// Returns the number of padding rows of the image.
 fn pad_rows(plan: &Plan) -> u8
     requires { IsPlan plan.now }
     ensures { result ≡ padded_size plan.now.rows - plan.now.rows }
@@ -104,7 +104,7 @@ fn pad_rows(plan: &Plan) -> u8
     (plan.setting.geometry_for(plan.rows).padded_rows() - plan.rows) as u8
 }
 
-// The stop as a head says it.
+// Returns the stop as a head has it.
 fn written_stop(stop: Stop) -> Stop
     ensures { result ≡ written_stop stop }
 {
@@ -153,7 +153,7 @@ pub fn make_head(
     }
 }
 
-// What the packets of a segment say of it.
+// Returns the ancillary data of a segment's packets.
 fn ancillary(plan: &Plan, index: u32) -> Ancillary
     requires in_range { IsPlan plan.now }
     requires index { index < segments_of (whole plan.now) }

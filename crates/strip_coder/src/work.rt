@@ -1,4 +1,4 @@
-// What the encoder holds.
+// The state of the encoder.
 ghost use Rattle.std.specs.Prelude.{◌≡◌, ◌+◌, ◌*◌, ◌≤◌, vec_len};
 ghost use Rattle.wave_strip.specs.Strip.{columns_of};
 
@@ -9,8 +9,8 @@ use space_packets::Packetiser;
 use std::alloc::{AllocError, Global};
 use wave_strip::StripWave;
 
-/// How far an image is encoded: rows taken, blocks gathered of the present segment, its index, and the octets of the coded segments
-/// before it (`used`), which count against a bound on all of them.
+/// The progress of the encoding of an image: rows taken, blocks gathered of the present segment, its index, and the octets of the coded
+/// segments before it (`used`), which count against a bound on all of them.
 #[derive(Clone, Copy, Debug, PartialEq, Eq)]
 pub struct ImageAt {
     pub rows: u32,
@@ -19,8 +19,8 @@ pub struct ImageAt {
     pub used: u64,
 }
 
-/// The transform, one padded row, the blocks of one segment with their marks, one packet, and how far the image has come.
-/// All of its samples are at most `room`.
+/// The transform, one padded row, the blocks of one segment with their states, one packet, and the progress of the image. All of its
+/// samples are at most `room`.
 #[derive(Drop)]
 pub struct Work {
     pub strip: StripWave,
@@ -38,7 +38,7 @@ impl Work {
     ghost use Rattle.base_122.specs.Ranges.{IsInRange};
     ghost use Rattle.strip_coder.specs.Works.{IsMadeFor, most_blocks, samples_of, RepresentsNone};
 
-    /// Takes all memory that images of this setting need (docs/architecture.md, "The encoder"). The one error is want of
+    /// Takes all memory that images of this setting need (docs/architecture.md, "The encoder"). It fails only if there is too little
     /// memory.
     pub fn new(alloc: Global, setting: &Setting) -> Result<Work, AllocError>
         requires { IsInRange setting.now }
@@ -71,7 +71,7 @@ impl Work {
         })
     }
 
-    /// The samples that it holds.
+    /// Returns the number of samples that it holds.
     pub fn samples(&self) -> u64
         ensures value { result ≡ samples_of self.now }
         ensures most { result ≤ self.now.room }

@@ -36,7 +36,7 @@ use Rattle.strip_decoder.proofs.Showing.{block_by}
 
 -- ---- packets of more octets
 
--- octets and more of them have the same first packets
+-- octets, and these octets with more after them, have the same first packets
 pub front_packets : (xs ys : List ℕ) → (beyond : List (List ℕ)) × (whole_packets (xs ++ ys) ≡ whole_packets xs ++ beyond)
 front_packets xs ys =
     let s = whole_splits xs in
@@ -46,7 +46,7 @@ front_packets xs ys =
       ap (λ zs. whole_packets (zs ++ ys)) s.octets_are ∙ ap whole_packets (append_assoc (joined whole) left ys) ∙ whole_after whole (left ++ ys) s.packets_are,
     )
 
--- the packets of the octets that an assembly took, and of some more
+-- the packets of the octets that an assembly took, and of more octets after these
 pub packets_then : (w : Run) (a : Assembling) (took octets : List ℕ) (passed : List (List ℕ)) → HasRead w.apid w.cap a took passed → whole_packets (took ++ octets) ≡ passed ++ whole_packets (a.intake.pending ++ octets)
 packets_then w a took octets passed read =
     ap (λ zs. whole_packets (zs ++ octets)) read.octets_are ∙ ap whole_packets (append_assoc (joined passed) a.intake.pending octets) ∙ whole_after passed (a.intake.pending ++ octets) read.packets_are
@@ -57,11 +57,11 @@ state_then w a took octets passed read =
     ap (after_all w.apid fresh) (packets_then w a took octets passed read) ∙ after_all-append w.apid fresh passed more
     ∙ ap (λ s. after_all w.apid s more) (sym read.state) ∙ ap (λ n. after_all n a.state more) (sym read.apid)
 
--- what was passed is the first of what was to come
+-- the packets that were passed are the first of those that followed
 pub future_past : {P : FateState → Type 0} {old new : Outside} {a b : Assembling} {went : List (List ℕ)} → (q : Passes P old new a b went) → (rest : List ℕ) → new.rest ≡ Some rest → future a (q.took ++ rest) ≡ went ++ future b rest
 future_past {b = b} {went = went} q rest told = ap whole_packets (q.comes rest told) ∙ whole_after went (coming b.intake rest) q.packets_are
 
--- and so are the packets of some of the octets that were taken meanwhile
+-- and so are the packets of a part of the octets that were taken meanwhile
 pub future_part : {P : FateState → Type 0} {old new : Outside} {a b : Assembling} {went : List (List ℕ)} → (q : Passes P old new a b went) → (rest octets more : List ℕ) → new.rest ≡ Some rest → q.took ≡ octets ++ more →
     (beyond : List (List ℕ)) × (future a (q.took ++ rest) ≡ whole_packets (a.intake.pending ++ octets) ++ beyond)
 future_part {a = a} {b = b} {went = went} q rest octets more told parts =
@@ -94,16 +94,16 @@ asks_more k w took t gave g i j le asks =
       λ all told. subst (λ zs. PassedBy k w.apid zs (take j (gave ++ g))) early (subst (PassedBy k w.apid (take i took)) (sym (take-append-le j gave g asks.0)) (asks.2 all told)),
     )
 
--- by what was given
+-- the exchange with a port is extended by what was given
 pub wrote_on : {S : Type 0} {old new : Outside} (k : SinkOf S) (w : Run) (took gave g : List ℕ) → Exchange w.start old took gave [] (AsksPassed k w took gave) → Exchange old new [] g [] NoRead → Exchange w.start new took (gave ++ g) [] (AsksPassed k w took (gave ++ g))
 wrote_on k w took gave g since out =
     since_out (since_weaker since (λ i j le asks. subst (λ zs. AsksPassed k w zs (gave ++ g) i j) (append-nil took) (asks_more k w took [] gave g i j le asks))) out
 
--- what is right of these octets, if the port tells what is left
+-- the condition on these octets, if the port reports what is left
 abbrev pub IsRight : {S : Type 0} → SinkOf S → Run → (taken given : List ℕ) → Type 0
 IsRight k w taken given = HasFewPixels w.pixels w.apid taken × ((all : List ℕ) → w.start.rest ≡ Some all → PassedBy k w.apid taken given)
 
--- by what was taken, where at each read call what is given is right
+-- the run is extended by what was taken, if at each read call what was given is right
 pub took_on : {S : Type 0} {P : FateState → Type 0} {old new : Outside} {a b : Assembling} {went : List (List ℕ)} (k : SinkOf S) (w : Run) (took gave : List ℕ) → Exchange w.start old took gave [] (AsksPassed k w took gave) → (q : Passes P old new a b went) →
     ((octets more : List ℕ) → q.took ≡ octets ++ more → P (state_with a octets) → IsRight k w (took ++ octets) gave) →
     Exchange w.start new (took ++ q.took) gave [] (AsksPassed k w (took ++ q.took) gave)
@@ -127,7 +127,7 @@ took_on {P = P} {new = new} {a = a} k w took gave since q right =
     take_whole [] = refl
     take_whole (x ∷ xs) = ap (λ zs. x ∷ zs) (take_whole xs)
 
--- an image stays the one that it was, whatever packets are at hand
+-- an image stays the one that it was, with the packets that are whole by now
 pub stays_with : (w : Run) (a : Assembling) (took octets : List ℕ) (passed : List (List ℕ)) → HasRead w.apid w.cap a took passed → (g : Geometry) (n : ℕ) → StaysIn a.state g n → StaysIn (state_with a octets) g n
 stays_with w a took octets passed read g n stays =
     let next = whole_packets (a.intake.pending ++ octets) in
@@ -159,7 +159,7 @@ few_known pixels apid passed next g geometry few known h there = elim (known_or_
 
 -- ---- the segments that are received
 
--- two that tell of the same segment agree
+-- two results for the same segment agree
 pub both_tell : (packets : List (List ℕ)) (index : ℕ) (r s : Option (List (List ℤ))) → MatchOption r ((w : List (List ℤ)) → IsReceived holds_after packets index w → ⊥) (IsReceived holds_after packets index) →
     MatchOption s ((w : List (List ℤ)) → IsReceived holds_after packets index w → ⊥) (IsReceived holds_after packets index) → r ≡ s
 both_tell packets index None None x y = refl
@@ -180,7 +180,7 @@ settled_is s received g l geometry last =
     let same : s ≡ known = λ i. record { geometry = geometry i; told_last = s.told_last; last = last i } in
     ap (λ s. settled_blocks s received) same
 
--- blocks that were passed are no more than are passed in the end
+-- the blocks that were passed are no more than those that are passed in the end
 pub within_passed : (g h : Geometry) (n ended : ℕ) → MayEnd g (placed h) n → n ≤ blocks_of g → (h.rows ≡ 0 → n ≤ ended) → n ≤ blocks_passed h ended
 within_passed g h n ended ends few begun = elim (known_or_not h.rows) [
   | inl none ↦ subst (λ b. n ≤ (if b then ended else blocks_of h)) (sym (is_open h.rows none)) (begun none)
@@ -210,7 +210,7 @@ module _ {S : Type 0} (k : SinkOf S) (w : Run) (a : Assembling) (p : Walking S) 
   kept_are : kept_in w.apid (took ++ octets) ≡ kept w.apid fresh (passed ++ next)
   kept_are = ap (kept w.apid fresh) (packets_then w a took octets passed read)
 
-  -- the kept heads reach no less than before
+  -- the kept heads reach at least as far as before
   reach_more : (n : ℕ) → n ≤ end_of (kept w.apid fresh passed) → n ≤ end_of (kept_in w.apid (took ++ octets))
   reach_more n le = let more = end_more w.apid passed next in omega (arith, le, more, ap end_of kept_are)
 
@@ -251,7 +251,7 @@ module _ {S : Type 0} (k : SinkOf S) (w : Run) (a : Assembling) (p : Walking S) 
   is_part stays shows = part_at gave (passed_in p) stays standing.few (λ none. begun)
       (λ received are. (passed_in p, omega arith, k.part_of p.geometry (blocks_with p.geometry received) (passed_in p) gave (given_then shows received are)))
 
-  -- and at least past the blocks that are settled
+  -- and it is at least what is given after the settled blocks
   pub is_prompt : (image : Geometry) → (state_with a octets).geometry ≡ Some image → p.geometry ≡ placed image → Shows k p sofar gave → ((index : ℕ) → bound ≤ index → sofar index ≡ None) →
       ((index : ℕ) (v : List (List ℤ)) → bound ≤ index → IsReceived holds_after (kept w.apid fresh (passed ++ next)) index v → ⊥) →
       (l : LastPart) → (state_with a octets).last ≡ Some l → blocks_through p.geometry sofar l.index ≤ passed_in p → PassedBy k w.apid (took ++ octets) gave

@@ -30,7 +30,7 @@ fewer_blocks g h same fewer =
     let most : block_count g.width * block_count h.rows ≤ block_count g.width * block_count g.rows = mul-le-mul_left (block_count g.width) rows in
     omega (arith, ap (λ n. n * block_count h.rows) width, most)
 
--- a segment that is followed by one in an image that ends earlier is one of that
+-- a segment is one of the image that ends earlier if a segment of that image follows it
 pub fits_ended : (g h : Geometry) (n : ℕ) (start next : SegmentStart) → MayEnd g h n → FitsImage g start → FitsImage h next → start.ancillary.index < next.ancillary.index → FitsImage h start
 fits_ended g h n start next ends fits after lt = elim ends [
   | inl same ↦ subst (λ g. FitsImage g start) (sym same) fits
@@ -51,11 +51,11 @@ fits_ended g h n start next ends fits after lt = elim ends [
 
 -- ---- states
 
--- packets and then one more
+-- the state after some packets and then one more
 pub after_more : (apid : ℕ) (s : FateState) (front : List (List ℕ)) (packet : List ℕ) → after_all apid s (front ++ packet ∷ []) ≡ after apid (after_all apid s front) packet
 after_more apid s front packet = after_all-append apid s front (packet ∷ [])
 
--- what an assembly has passed, and some packets more
+-- the state after what an assembly has passed and some more packets
 pub state_past : (a : Assembling) (image : Geometry) (packets : List (List ℕ)) → (has : HasImage a image) → after_all a.apid a.state packets ≡ after_all a.apid fresh (has.passed ++ packets)
 state_past a image packets has = ap (λ s. after_all a.apid s packets) has.state ∙ sym (after_all-append a.apid fresh has.passed packets)
 
@@ -128,7 +128,7 @@ follow_next p g index s start same le next =
 
 -- ---- from one segment to the next
 
--- the segment of the walk was gone through, and one was begun after it
+-- the segment of the walk was read, accepted or not, and one was begun after it
 pub held_next : {old new : Outside} (a b : Assembling) (g : Geometry) (index : ℕ) (next : SegmentStart) → HasImage a g → a.held ≡ None → last_index a.state.last ≡ Some index → (goes : Continues old new a b) → b.held ≡ Some next →
     (c : ComesNext g index b.state next) × HasImage b c.image
 held_next a b g index next has unheld last goes held =
@@ -174,7 +174,7 @@ segment_low p start fits there =
     let more : (start.ancillary.index + 1) * p.geometry.segment ≡ start.ancillary.index * p.geometry.segment + p.geometry.segment = grind arith in
     omega (arith, there, fits.first, more)
 
--- a segment was answered
+-- a segment was returned
 pub found_at : {S : Type 0} {old new : Outside} (a b : Assembling) (p : Walking S) (start : SegmentStart) → IsBetween a p → FindsSegment old new a b (Ok (Some start)) → IsFound b p start
 found_at {old = old} {new = new} a b p start between finds = elim finds.ends [
   | inl held ↦
@@ -199,7 +199,7 @@ found_at {old = old} {new = new} a b p start between finds = elim finds.ends [
       }
 ]
 
--- it begins in the image that the walk goes by
+-- it begins in the image whose geometry the walk has
 pub found_within : {S : Type 0} {a : Assembling} (p : Walking S) (start : SegmentStart) → IsFound a p start → start.ancillary.first ≤ total_in p
 found_within p start found = elim found.next.ends [
   | inl same ↦ let total : blocks_of (placed found.image) ≡ total_in p = ap blocks_of same in omega (arith, total, found.next.fits.within)
@@ -219,7 +219,7 @@ finds_faults {old = old} {new = new} a b (Some start) finds = elim finds.ends [
 some_geometry : {x y : Geometry} → Some x ≡ Some y → x ≡ y
 some_geometry e = cc
 
--- the first segment was answered
+-- the first segment was returned
 pub found_first : {S : Type 0} {old new : Outside} (k : SinkOf S) (apid cap : ℕ) (a b : Assembling) (p : Walking S) (start : SegmentStart) (g : Geometry) → a ≡ unread_assembly apid cap → FindsSegment old new a b (Ok (Some start)) → b.state.geometry ≡ Some g → IsGeometryInRange g →
     IsFresh k (placed g) p → IsAt b p start
 found_first {old = old} {new = new} k apid cap a b p start g unread finds geometry range fresh_walk =

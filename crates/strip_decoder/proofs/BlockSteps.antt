@@ -52,7 +52,7 @@ marked_listed m r =
     turned : (i j : ℕ) → (i == j) ≡ (j == i)
     turned i j = grind (arith, nat_tests)
 
--- the marks past a block, which may be missing
+-- the marks after a block, which may be missing
 abbrev pub marks_past : Option (List ℤ) → Marks → (row : ℕ) → Marks
 marks_past None m row = marked m row
 marks_past (Some xs) m row = m

@@ -56,7 +56,7 @@ head_least : (last : Bool) → 19 ≤ (if last then 20 else 19)
 head_least true = omega arith
 head_least false = omega arith
 
--- the octets of a front of a front
+-- a prefix of a prefix is a prefix
 take_less : (m n : ℕ) (xs : List ℕ) → take m (take n xs) ≡ take (min m n) xs
 take_less m n xs = elim (cases_lt n m) [
   | inl more ↦ take_all m (take n xs) (omega (arith, more, length-take n xs)) ∙ ap (λ k. take k xs) (omega (arith, more))
@@ -76,7 +76,7 @@ module _ (h : SegmentHead) (blocks : List (List ℤ)) (ok : IsHead h) (ten : len
   abbrev all : List ℕ
   all = octets_of (padded h.image.word h.limit h.fill bits)
 
-  -- the first of its octets tell the head, where they are enough
+  -- its first octets determine the head, if there are at least 20
   told : (m : ℕ) → 20 ≤ m → head_read (take m all) ≡ Ok h
   told m some =
       let n = head_length h in

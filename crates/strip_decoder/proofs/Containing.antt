@@ -1,4 +1,4 @@
--- No pixel outside the damaged rows hangs on what was lost.
+-- No pixel outside the damaged rows depends on what was lost.
 use Rattle.std.proofs.Common.{◌≡◌, ◌≤◌, ◌<◌, ◌+◌, ◌*◌, ◌/◌, ◌^◌, ℕ, ℤ, get_or, refl, sym, ap, subst, ◌∙◌, inl, inr, arith}
 use Rattle.std.specs.Prelude.{Bool, true, false, ◌&&◌, not, nat_lt, is_some}
 use Rattle.std.specs.List.{list_any}
@@ -65,7 +65,7 @@ module _ (g : Geometry) (received : Numbers) (numbers : ℕ → ℕ → ℤ) (n 
         ∙ sym (coefficient_with (number_at g received) c g.weights.shifts t k i small);
   }
 
-  -- a row that no range has is reached by no missing block row
+  -- no missing block row reaches a row that no range has
   unreached : (i t : ℕ) → i < g.rows → is_covered (whole_damage g received) i ≡ false → t < r → missing t ≡ true → Reaches t i → ⊥
   unfolding missing_below
   unreached i t inside uncovered low lost reached =

@@ -1,4 +1,4 @@
--- Of each stream it is told which segments are received.
+-- For each stream it is decided which segments are received.
 use Rattle.std.proofs.Common.{◌≡◌, ◌⊎◌, ◌==◌, ℕ, ℤ, List, [], ◌∷◌, ◌++◌, length, drop, map, refl, sym, ap, subst, ◌∙◌, inl, inr, arith, length-append}
 use Rattle.std.specs.Prelude.{Bool, true, false, ◌&&◌, Option, None, Some, Result, Ok, Err, MatchOption, slice_index_or}
 use Rattle.std.specs.List.{range_with_len}

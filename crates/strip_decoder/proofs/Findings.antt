@@ -38,7 +38,7 @@ find_fails wish old new fault x = record { took = x.took; gave = []; since = sil
     by LongInput a = (a.0, a.1, a.2, refl)
     by Memory a = refl
 
--- what was found stands after the lines
+-- what was found remains true after the lines
 found_later : {g : List ℕ} (wish : DecodeWish) (old mid new : Outside) (took gave : List ℕ) (walked : Walked NoPicture) → IsWalked no_picture wish old mid took gave walked → Exchange mid new [] g [] NoRead → PictureBy false wish old new took [] walked.done
 found_later wish old mid new took gave walked found out = record {
   geometry = found.geometry;
@@ -62,7 +62,7 @@ find_done wish old mid new walked (Ok y) is x out = record {
   answer = record { found = found_later wish old mid new x.took x.gave walked x.answer out; lines = refl };
 }
 
--- or some
+-- or some of them
 pub find_cut : {T E : Type 0} (wish : DecodeWish) (old mid new : Outside) (walked : Walked NoPicture) (r : Result T E) → IsErr r → Walks no_picture wish old mid (Ok walked) → WritesAll r mid new (damage_lines walked.done.damage) → Finds wish old new (Err WriteFault)
 find_cut wish old mid new walked (Ok y) is x out = absurd (false≢true is)
 find_cut wish old mid new walked (Err e) is x out =

@@ -209,7 +209,7 @@ module _ (apid : ℕ) (taken : List ℕ) (g : Geometry) (geometry : geometry_in 
         omega (arith, most, height_known some, placed_known g some)
   ]
 
-  -- past all blocks they are all rows
+  -- after all blocks they are all rows
   pub all_through : rows_through (placed g) (block_rows_before (placed g) (blocks_passed g ended)) ≡ height g b
   all_through = elim (known_or_not g.rows) [
     | inl none ↦
@@ -279,7 +279,7 @@ asks_by wish old took gave i j asks = (asks.0, asks.1, λ all told. prompt_by wi
 
 -- ---- the answers
 
--- past all blocks all rows are given
+-- after all blocks all rows are given
 whole_rows : (apid : ℕ) (taken : List ℕ) (g : Geometry) (received : Numbers) (gave : List ℕ) → geometry_in apid taken ≡ Some g → GivesRows (placed g) (blocks_with g received) (blocks_passed g (end_of (kept_in apid taken))) gave → gave ≡ picture_octets g received (begun_in apid taken)
 whole_rows apid taken g received gave there given =
     let k : ℕ = rows_through (placed g) (block_rows_before (placed g) (blocks_passed g (end_of (kept_in apid taken)))) in
@@ -303,7 +303,7 @@ is_picture wish old new took gave walked x = record {
       (t.0, t.1, whole_rows wish.apid took g t.0 gave x.geometry (rows_given walked.sink (placed g) (blocks_with g t.0) n gave x.stands t.2), t.3);
 }
 
--- a picture was walked through
+-- a walk with a picture ended without a fault
 pub decodes : (wish : DecodeWish) (old new : Outside) (walked : Walked Picture) → Walks picture_sink wish old new (Ok walked) → Decodes wish old new (Ok walked.done)
 decodes wish old new walked x = record {
   took = x.took;

@@ -1,4 +1,4 @@
--- Which segments are received, as a decoder comes past them.
+-- Which segments are received, when a decoder has passed them.
 use Rattle.std.proofs.Common.{◌≡◌, ◌≤◌, ◌<◌, ℕ, ℤ, List, [], ◌∷◌, ◌++◌, length, drop, sym, ap, subst, ◌∙◌, inl, inr, arith, append_assoc, length-append}
 use Rattle.std.specs.Prelude.{true, false, None, Some, Result, Ok, MatchOption, slice_index_or}
 use Rattle.std.proofs.lemmas.Bool.{cases_lt}
@@ -119,7 +119,7 @@ module _ (apid : ℕ) (passed : List (List ℕ)) (a : Assembling) (start : Segme
   index_is : index_in b.packet ≡ index
   index_is = begun_index apid passed a.text start bound b
 
-  -- what comes of its text where these packets follow
+  -- what the packets report of its text if these packets follow
   tells : (next : List (List ℕ)) → TellsParts apid b.before b.packet next InPieces (packets_at index (kept apid fresh (passed ++ next)))
   tells next =
       subst (λ n. TellsParts apid b.before b.packet next InPieces (packets_at n (kept apid fresh (passed ++ next)))) index_is
@@ -139,14 +139,14 @@ module _ (apid : ℕ) (passed : List (List ℕ)) (a : Assembling) (start : Segme
   head_there : (next : List (List ℕ)) → head_read (text_in (slice_index_or (packets_at index (kept apid fresh (passed ++ next))) 0 [])) ≡ Ok start.head
   head_there next = ap (λ x. head_read (text_in x)) (tells next).first ∙ b.starts.head_is
 
-  -- what comes of it in all, where these octets are left
+  -- what they report in all, if these octets are left
   whole_tail : (rest : List ℕ) → text_tail a rest ≡ in_front a.text (tail_from apid there (future a rest) (stop_of a.intake rest))
   whole_tail rest =
       unheld_tail a rest unheld
       ∙ ap (λ s. in_front a.text (tail_from a.apid s (future a rest) (stop_of a.intake rest))) there_is
       ∙ ap (λ n. in_front a.text (tail_from n there (future a rest) (stop_of a.intake rest))) apid_is
 
-  -- where the first of the packets to come complete it, they bring all of it
+  -- if the first of the next packets complete it, they carry all of it
   all_there : (rest : List ℕ) (next more : List (List ℕ)) → future a rest ≡ next ++ more → (tail_past apid b.before b.packet next InPieces).ends ≡ Plainly →
       text_tail a rest ≡ in_front a.text (tail_past apid b.before b.packet next InPieces)
   all_there rest next more are plain =
@@ -169,7 +169,7 @@ module _ (apid : ℕ) (passed : List (List ℕ)) (a : Assembling) (start : Segme
         accepted = subst (λ zs. Holds profile start.head zs w) (sym octets) holds;
       }
 
-  -- it was refused, or it breaks off: so it isn't received, however many of the packets to come follow
+  -- it was refused, or it breaks off: so it isn't received, however many of the next packets follow
   pub not_received : (rest : List ℕ) (next more : List (List ℕ)) (w : List (List ℤ)) → future a rest ≡ next ++ more →
       ((text_tail a rest).ends ≡ Plainly → (w : List (List ℤ)) → Holds profile start.head (text_tail a rest).octets w → ⊥) → IsReceived holds_after (kept apid fresh (passed ++ next)) index w → ⊥
   not_received rest next more w are refused x =

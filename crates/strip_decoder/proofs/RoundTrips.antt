@@ -1,4 +1,4 @@
--- What comes back of an image is the image.
+-- The picture that is decoded from all packets of an image is the image.
 use Rattle.std.proofs.Common.{◌≡◌, ◌≤◌, ◌<◌, ◌+◌, ◌-◌, ◌*◌, ◌/◌, ◌%◌, ◌*ℤ◌, ℕ, zero, suc, ℤ, pos, List, [], ◌∷◌, ◌++◌, drop, map, get_or, min, refl, sym, ap, subst, ◌∙◌, arith}
 use Rattle.std.specs.Prelude.{true, if◌then◌else◌, Option, None, Some, is_some}
 use Rattle.std.specs.List.{range_with_len, flat_map}

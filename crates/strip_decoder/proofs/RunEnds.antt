@@ -1,4 +1,4 @@
--- A run that has come to the end of its packets.
+-- A run that is at the end of its packets.
 use Rattle.std.proofs.Common.{◌≡◌, ◌≤◌, ◌<◌, ◌+◌, ◌-◌, ◌*◌, ◌/◌, ◌%◌, ◌==◌, ℕ, ℤ, zero, suc, Bool, true, false, List, [], ◌∷◌, refl, sym, ap, subst, ◌∙◌, inl, inr, arith, get_or}
 use Rattle.std.specs.Prelude.{◌||◌, ◌&&◌, not, filter, Option, None, Some, is_some, MatchOption}
 use Rattle.std.specs.Option.{option_map}
@@ -128,7 +128,7 @@ module _ (g : Geometry) (blocks : Blocks) (row : ℕ) (wide : 0 < block_count g.
       other_test : (m n : ℕ) → (m ≡ n → ⊥) → (m == n) ≡ false
       other_test m n e = grind (arith, nat_tests)
 
--- a block row is missing of received segments where some block of it is
+-- a block row is missing from received segments if some block of it is
 missing_is : (g : Geometry) (sofar : Numbers) (row : ℕ) (wide : 0 < block_count g.width) → is_missing g sofar row ≡ misses g (blocks_with g sofar) row wide
 missing_is g sofar row wide = any_same (range_with_len 0 (block_count g.width))
   where
@@ -178,7 +178,7 @@ all_missing k p sofar gave standing follows all =
     other_test : (m n : ℕ) → (m ≡ n → ⊥) → (m == n) ≡ false
     other_test m n e = grind (arith, nat_tests)
 
--- a list of missing block rows holds just these
+-- a list of missing block rows holds exactly these
 missing_there : (g : Geometry) (sofar : Numbers) (n row : ℕ) → row < n → is_marked (missing_below g sofar n) row ≡ is_missing g sofar row
 unfolding missing_below
 missing_there g sofar n row lt = by (is_missing g sofar row) refl
@@ -205,7 +205,7 @@ open_damage k p image sofar gave n standing goes_by follows le few =
     row_missing k p sofar gave row standing follows (omega (arith, lt, few)) (omega (arith, next, le))
     ∙ ap (λ (g : Geometry). is_missing g sofar row) goes_by ∙ sym (missing_there image sofar n row lt))
 
--- where no packet waits, the segments that are received are those that are known
+-- if no packet is left, the segments that are received are those that are known
 pub all_received : (w : Run) (now : Outside) (a : Assembling) (index : ℕ) (took : List ℕ) → (known : HasKnown w now a (index + 1) took) → last_index a.state.last ≡ Some index → (rest : List ℕ) → now.rest ≡ Some rest → whole_packets took ≡ known.passed →
     ReceivedIn holds_after w.apid took known.sofar
 all_received w now a index took known last rest told whole = record {

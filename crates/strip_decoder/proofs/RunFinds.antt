@@ -1,4 +1,4 @@
--- A run goes on to the next segment.
+-- A run advances to the next segment.
 use Rattle.std.proofs.Common.{◌≡◌, ◌≤◌, ◌+◌, ◌*◌, ◌/◌, ℕ, ℤ, List, [], ◌∷◌, ◌++◌, refl, sym, ap, subst, ◌∙◌, inl, inr, arith, append_assoc}
 use Rattle.std.specs.Prelude.{Bool, true, false, if◌then◌else◌, Option, None, Some, is_some, Ok}
 use Rattle.std.proofs.lemmas.Bool.{cases_lt}
@@ -41,7 +41,7 @@ last_of o n l e is = let same : Some l.index ≡ Some n = sym (ap last_index is)
 
 -- ---- by what was read
 
--- The segments are as they were, so are the packets that were passed.
+-- The segments are unchanged, and so are the packets that were passed.
 unfoldable pub known_on : {P : FateState → Type 0} (w : Run) (now new : Outside) (a b : Assembling) (bound : ℕ) (took : List ℕ) (went : List (List ℕ)) → HasKnown w now a bound took → (q : Passes P now new a b went) → HasKnown w new b bound (took ++ q.took)
 known_on w now new a b bound took went known q = record {
   passed = known.passed ++ went;
@@ -54,7 +54,7 @@ known_on w now new a b bound took went known q = record {
   at_end = end_on q known.at_end;
 }
 
--- and so they are after something was written
+-- and they are unchanged after a write
 unfoldable pub known_later : {Q : ℕ → ℕ → Type 0} {g : List ℕ} (w : Run) (now new : Outside) (a : Assembling) (bound : ℕ) (took : List ℕ) → HasKnown w now a bound took → Exchange now new [] g [] Q → HasKnown w new a bound took
 known_later w now new a bound took known out = record {
   passed = known.passed;
@@ -78,7 +78,7 @@ read_come k w now new a b p bound went come q right = record {
   begun = let more = end_more w.apid come.known.passed went in omega (arith, come.begun, more);
 }
 
--- At a read call the packets so far are some of those to come, and no later segment was begun; so nothing that they report is new.
+-- At a read call the packets so far are a prefix of all packets, and no later segment was begun; so nothing that they report is new.
 pub right_at : {S : Type 0} {P : FateState → Type 0} (k : SinkOf S) (w : Run) (now new : Outside) (a b : Assembling) (p : Walking S) (bound index : ℕ) (went : List (List ℕ)) → (come : HasWalkedTo k w now a p bound) → (q : Passes P now new a b went) → IsCurrent k p →
     (image : Geometry) → a.state.geometry ≡ Some image → p.geometry ≡ placed image → HasFew w.pixels w.apid come.known.passed → last_index a.state.last ≡ Some index →
     (octets more : List ℕ) → q.took ≡ octets ++ more → last_index (state_with a octets).last ≡ Some index → blocks_through p.geometry come.known.sofar index ≤ passed_in p →

@@ -280,7 +280,7 @@ module _ {S : Type 0} (k : SinkOf S) (w : Run) (now new : Outside) (a : Assembli
     small = λ known. small_took;
   }
 
--- so it is of the image of its state
+-- the same for the image of its state
 pub rest_passed_of : {S : Type 0} (k : SinkOf S) (w : Run) (now new : Outside) (a : Assembling) (p q : Walking S) → IsCurrent k p → (end : ComesToEnd k w now a p) → HasPassed k missing (left_in (is_height_known a.state.geometry) p) now new p q →
     (image : Geometry) → a.state.geometry ≡ Some image → HasPassedAll k w new image q a.framing
 rest_passed_of k w now new a p q standing end passed image geometry =

@@ -38,7 +38,7 @@ use Rattle.strip_decoder.proofs.RunTakes.{AfterText, value_of, went_come, begun_
 
 -- ---- a fault
 
--- the packets at hand are the first of those to come
+-- the packets that are whole by now are the first of those that are left
 pub at_hand : (a : Assembling) (rest : List ℕ) → (beyond : List (List ℕ)) × (future a rest ≡ whole_packets (a.intake.pending ++ []) ++ beyond)
 at_hand a rest =
     let parted = front_packets a.intake.pending (if a.intake.ended then [] else take (a.intake.cap - a.intake.taken) rest) in
@@ -68,7 +68,7 @@ module _ {S : Type 0} (k : SinkOf S) (w : Run) (now : Outside) (a : Assembling) 
         };
   }
 
-  -- the packets so far and those at hand
+  -- the packets so far and those that are whole by now
   whole_took : whole_packets come.took ≡ come.known.passed ++ whole_packets (a.intake.pending ++ [])
   whole_took = ap whole_packets (sym (append-nil come.took)) ∙ packets_then w a come.took [] come.known.passed come.known.read
 
@@ -130,7 +130,7 @@ few_begun pixels apid passed text start bound image b geometry few g there =
     let same : image ≡ g = (let both : Some image ≡ Some g = sym geometry ∙ there in cc) in
     subst (λ (g : Geometry). g.width * rows_reached g (end_of (kept apid fresh passed)) ≤ pixels) same (subst (λ n. image.width * rows_reached image n ≤ pixels) (sym (begun_end apid passed text start bound b)) few)
 
--- Where a head reports more pixels than the heads before it, the height is reported last.
+-- If a head reports more pixels than the heads before it, the height is reported last.
 told_many : (pixels apid : ℕ) (before : List (List ℕ)) (packet : List ℕ) (g image : Geometry) → (after_all apid fresh before).geometry ≡ Some g → HasFew pixels apid before → (after_all apid fresh (before ++ packet ∷ [])).geometry ≡ Some image →
     pixels < image.width * rows_reached image (end_of (kept apid fresh (before ++ packet ∷ []))) → (after_all apid fresh (before ++ packet ∷ [])).told_last ≡ true
 told_many pixels apid before packet g image geometry few after_is many = elim (known_or_not g.rows) [
@@ -219,7 +219,7 @@ values_are g sofar start false cells fits long is i lt =
     let at : (start.ancillary.first + i) / g.segment ≡ index = ap (λ n. (n + i) / g.segment) fits.first ∙ div-mul-add index g.segment i (omega (arith, lt, fits.blocks)) in
     block_lost g sofar (start.ancillary.first + i) (ap sofar at ∙ is)
 
--- the walk goes by the geometry that is known since
+-- the walk takes the geometry that is known by now
 pub come_followed : {S : Type 0} (k : SinkOf S) (w : Run) (new : Outside) (b : Assembling) (p q : Walking S) (start : SegmentStart) (pixels bound : ℕ) → HasFollowed k pixels b p q start → HasWalkedTo k w new b p bound → HasWalkedTo k w new b q bound
 come_followed k w new b p q start pixels bound followed come =
     let segment : q.geometry.segment ≡ p.geometry.segment = ap (λ (g : Geometry). g.segment) followed.shorter.same in

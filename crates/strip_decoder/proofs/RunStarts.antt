@@ -47,14 +47,14 @@ none_kept apid (x ∷ xs) none = elim (does apid fresh x) [
 pub first_read : {P : FateState → Type 0} (w : Run) (new : Outside) (a b : Assembling) (went : List (List ℕ)) → a ≡ unread_assembly w.apid w.cap → (q : Passes P w.start new a b went) → HasRead w.apid w.cap b q.took went
 first_read w new a b went unread q = read_on w.apid w.cap (subst (λ a. HasRead w.apid w.cap a [] []) (sym unread) (none_read w.apid w.cap)) q
 
--- there is no geometry where the last place stays as it was
+-- there is no geometry if the last place is unchanged
 none_yet : (w : Run) (a : Assembling) (octets : List ℕ) → a ≡ unread_assembly w.apid w.cap → StaysAt a (state_with a octets) → geometry_in w.apid octets ≡ None
 none_yet w a octets unread stays =
     let last : last_index (state_with a octets).last ≡ None = stays ∙ ap (λ (a : Assembling). last_index a.state.last) unread in
     let state : state_with a octets ≡ state_after w.apid octets = ap (λ (a : Assembling). state_with a octets) unread in
     none_kept w.apid (whole_packets octets) (sym (ap (λ (s : FateState). last_index s.last) state) ∙ last)
 
--- no image was told of, so it has few pixels
+-- no image was reported, so it has few pixels
 pub none_few : (pixels apid : ℕ) (octets : List ℕ) → geometry_in apid octets ≡ None → HasFewPixels pixels apid octets
 none_few pixels apid octets none g there = absurd (let both : None ≡ Some g = sym none ∙ there in cc)
 
@@ -76,11 +76,11 @@ first_asks k w new a b went unread q =
     nothing zero = refl
     nothing (suc j) = refl
 
--- nothing is a part
+-- no octets are a part of what is given
 pub first_part : {S : Type 0} (k : SinkOf S) (apid : ℕ) (took : List ℕ) → PartBy k apid took []
 first_part k apid took = record { none = λ e. refl; some = λ g received there are. (0, omega arith, k.part_none (placed g) (blocks_with g received)) }
 
--- where the end was seen, nothing is left
+-- if the end was reached, nothing is left
 pub first_end : {P : FateState → Type 0} (w : Run) (new : Outside) (a b : Assembling) (went : List (List ℕ)) → a ≡ unread_assembly w.apid w.cap → Passes P w.start new a b went → SawEnd new b
 first_end w new a b went unread q =
     end_on q (λ rest told ended. absurd (let both : false ≡ true = sym (ap (λ (a : Assembling). a.intake.ended) unread) ∙ ended in false≢true both))

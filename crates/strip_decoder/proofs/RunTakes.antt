@@ -39,7 +39,7 @@ abbrev pub value_of : Bool → SegmentHead → List ℤ → Option (List (List �
 value_of true head cells = Some (blocks_in (cells_of head cells))
 value_of false head cells = None
 
--- Its text was gone through, and it is known with these numbers or none.
+-- Its text was read, accepted or not, and it is known with these numbers or none.
 pub record AfterText {S : Type 0} (k : SinkOf S) (w : Run) (now : Outside) (b : Assembling) (p : Walking S) (index : ℕ) (value : Option (List (List ℤ))) (ended : ℕ) : Type 0 where
   pub come : HasWalkedTo k w now b p (index + 1)
   pub value_is : come.known.sofar index ≡ value
@@ -96,7 +96,7 @@ module _ {S : Type 0} (k : SinkOf S) (w : Run) (now new : Outside) (a b : Assemb
   unfoldable pub went_come : HasWalkedTo k w new b p index
   went_come = read_come k w now new a b p index goes.passed come goes.passes right
 
-  -- how the segment stands with these numbers, or none
+  -- it is decided whether the segment is received, with these numbers or none
   abbrev Decides : Option (List (List ℤ)) → Type 0
   Decides value = (rest : List ℕ) → new.rest ≡ Some rest → (next more : List (List ℕ)) → future b rest ≡ next ++ more → MatchOption value
       ((v : List (List ℤ)) → IsReceived holds_after (kept w.apid fresh ((passed ++ goes.passed) ++ next)) index v → ⊥)

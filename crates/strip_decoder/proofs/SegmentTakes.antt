@@ -66,7 +66,7 @@ accepted_blocks g start cells old new a b false fits long reads e = absurd cc
 
 -- ---- the blocks that were passed
 
--- the text was gone through
+-- the text was read, accepted or not
 pub text_goes : (old new : Outside) (a b : Assembling) (head : SegmentHead) (cells : List ℤ) (accepted : Bool) → ReadsText old new a b head cells (Ok accepted) → Continues old new a b
 text_goes old new a b head cells true reads = reads.goes
 text_goes old new a b head cells false reads = reads.goes
@@ -74,7 +74,7 @@ text_goes old new a b head cells false reads = reads.goes
 pub faults_then : {p q r : Outside} → NoFewerFaults p q → NoFewerFaults q r → NoFewerFaults p r
 faults_then a b = record { reads = omega (arith, a.reads, b.reads); writes = omega (arith, a.writes, b.writes); notes = omega (arith, a.notes, b.notes) }
 
--- a segment's blocks end where the next one's begin, or with the image
+-- a segment's blocks end at the first block of the next one, or with the image
 pub segment_end : (g : Geometry) (start : SegmentStart) → FitsImage g start → start.ancillary.first + start.head.blocks ≤ first_block g.segment (start.ancillary.index + 1)
 segment_end g start fits =
     let more : (start.ancillary.index + 1) * g.segment ≡ start.ancillary.index * g.segment + g.segment = grind arith in
@@ -103,7 +103,7 @@ reached_at k (Ok x) w0 w1 a p q start n at n_is passed =
     }
 reached_at k (Err e) w0 w1 a p q start n at n_is broken = broken.rose
 
--- The walk goes by the geometry that is known once the text was gone through.
+-- The walk has the geometry that is known once the text was read, accepted or not.
 pub record HasFollowed {S : Type 0} (k : SinkOf S) (pixels : ℕ) (b : Assembling) (old new : Walking S) (start : SegmentStart) : Type 0 where
   pub standing : IsCurrent k new
   pub shorter : IsShorter old.geometry new.geometry
@@ -192,7 +192,7 @@ head_takes k pixels w0 w2 a b p0 p q image next Memory x = absurd x
 abbrev is_failed : DecodeFault → Result (Unit {0}) DecodeFault
 is_failed fault = Err fault
 
--- it says nothing of the walk
+-- it states nothing of the walk
 head_only : {S : Type 0} (k : SinkOf S) (pixels : ℕ) (image : Geometry) (next : SegmentStart) (p q : Walking S) (fault : DecodeFault) → FollowsHead k pixels image next p q (Err fault) → FollowsHead k pixels image next q q (Err fault)
 head_only k pixels image next p q (TooManyPixels found) x = x
 head_only k pixels image next p q ReadFault x = absurd x
@@ -251,7 +251,7 @@ segment_taken k pixels (Ok x) w0 w1 w2 w3 a b start p0 p1 p2 p3 cells accepted v
 
 -- ---- the segment after it
 
--- the walk goes by the image of a segment that was answered
+-- the walk has the geometry of the image of a segment that was returned
 pub record HasFollowedFound {S : Type 0} (k : SinkOf S) (a : Assembling) (p q : Walking S) (start : SegmentStart) : Type 0 where
   pub standing : IsCurrent k q
   pub shorter : IsShorter p.geometry q.geometry

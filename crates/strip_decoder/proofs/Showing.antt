@@ -69,11 +69,11 @@ of_same g n a b blocks same of = record { at = λ block lt. of.at block lt ∙ b
 pub of_fewer : (g : Geometry) (m n : ℕ) (a : Numbers) (blocks : Blocks) → m ≤ n → AreOf g a n blocks → AreOf g a m blocks
 of_fewer g m n a blocks le of = record { at = λ block lt. of.at block (omega (arith, lt, le)) }
 
--- for other segments, where those of the blocks so far are the same
+-- for other segments, if those of the blocks so far are the same
 pub shows_same : {S : Type 0} (k : SinkOf S) (p : Walking S) (a b : Numbers) (gave : List ℕ) → ((block : ℕ) → block < passed_in p → a (block / p.geometry.segment) ≡ b (block / p.geometry.segment)) → Shows k p a gave → Shows k p b gave
 shows_same k p a b gave same shows blocks of = shows blocks (of_same p.geometry (passed_in p) b a blocks (λ block lt. sym (same block lt)) of)
 
--- past n blocks more
+-- after n more blocks
 pub shows_passed : {S : Type 0} {w x : Outside} (k : SinkOf S) (p q : Walking S) (values : ℕ → Option (List ℤ)) (n : ℕ) (sofar : Numbers) (gave : List ℕ) → Shows k p sofar gave →
     ((i : ℕ) → i < n → blocks_with p.geometry sofar (passed_in p + i) ≡ values i) → (passed : HasPassed k values n w x p q) → Shows k q sofar (gave ++ passed.gave)
 shows_passed k p q values n sofar gave shows are passed blocks of =

@@ -1,4 +1,4 @@
--- The image that a walk goes by, whatever packets follow.
+-- The image of a walk, whatever packets follow.
 use Rattle.std.proofs.Common.{◌≡◌, ◌⊎◌, ◌≤◌, ◌<◌, ◌+◌, ◌*◌, ◌==◌, ℕ, List, [], ◌∷◌, ◌++◌, refl, sym, ap, subst, ◌∙◌, inl, inr, arith, append_assoc}
 use Rattle.std.specs.Prelude.{Bool, true, false, Option, None, Some}
 use Rattle.std.proofs.lemmas.Bool.{false≢true}
@@ -79,11 +79,11 @@ pub record StaysIn (s : FateState) (g : Geometry) (n : ℕ) : Type 0 where
   pub last : last_index s.last ≡ Some index
   pub before : n ≤ first_block g.segment (index + 1)
 
--- its segments are those of the geometry that the walk goes by
+-- its segments are those of the walk's geometry
 pub ends_segment : (g h : Geometry) (n : ℕ) → MayEnd g h n → h.segment ≡ g.segment
 ends_segment g h n ends = elim ends [ inl same ↦ ap (λ (g : Geometry). g.segment) same | inr e ↦ ap (λ (g : Geometry). g.segment) e.same ]
 
--- where its height becomes known
+-- if its height becomes known
 told_ends : (g image told : Geometry) (n first : ℕ) → MayEnd g (placed image) n → image.rows ≡ 0 → told ≡ record image { rows = told.rows } → IsGeometryInRange told → (told.rows ≡ 0 → ⊥) → n ≤ first → first < blocks_of (placed told) → EndsAt g (placed told) n
 told_ends g image told n first ends none same range some le within =
     let most = (placed_within told range).1 in
@@ -164,7 +164,7 @@ stays_on apid before (x ∷ xs) g n stays =
     let one : StaysIn (after_all apid fresh (before ++ x ∷ [])) g n = subst (λ s. StaysIn s g n) (sym (after_all-append apid fresh before (x ∷ []))) (stays_one apid before g n stays x) in
     subst (λ ys. StaysIn (after_all apid fresh ys) g n) (append_assoc before (x ∷ []) xs) (stays_on apid (before ++ x ∷ []) xs g n one)
 
--- a walk goes by the geometry of its state
+-- a walk has the geometry of its state
 pub stays_here : (s : FateState) (g image : Geometry) (n index : ℕ) → s.geometry ≡ Some image → IsGeometryInRange image → placed image ≡ g → last_index s.last ≡ Some index → n ≤ first_block g.segment (index + 1) → StaysIn s g n
 stays_here s g image n index geometry range same last before = record { image = image; geometry = geometry; range = range; ends = inl same; index = index; last = last; before = before }
 

@@ -152,11 +152,11 @@ reported_is s rows parts = by (tells_last s) refl (is_begun (parts (segments_of 
     by true e true = inl refl
     by true e false = inr (grind (arith, nat_tests), refl)
 
--- where the height is reported first
+-- if the height is reported first
 pub reported_known : (s : Setting) (rows : ℕ) (parts : ℕ → List ℕ) → (s.rows ≡ 0 → ⊥) → reported_rows s rows parts ≡ rows
 reported_known s rows parts some = rw (is_not_open s.rows some) refl
 
--- where the last segment is begun
+-- if the last segment is begun
 pub reported_begun : (s : Setting) (rows : ℕ) (parts : ℕ → List ℕ) → is_begun (parts (segments_of (sized s rows) - 1)) ≡ true → reported_rows s rows parts ≡ rows
 reported_begun s rows parts begun = by (tells_last s) (is_begun (parts (segments_of (sized s rows) - 1))) begun
   where

@@ -1,4 +1,4 @@
--- Where the packets of a text close it.
+-- When the packets of a text close it.
 use Rattle.std.proofs.Common.{◌≡◌, ◌+◌, ℕ, List, [], ◌∷◌, ◌++◌, refl, sym, ap, ◌∙◌, inl, inr, arith}
 use Rattle.std.specs.Prelude.{Bool, true, false, ◌==◌, Option, Some}
 use Rattle.std.proofs.lemmas.Bool.{false≢true}
@@ -28,7 +28,7 @@ over_kept : (apid : ℕ) (s : FateState) (x : List ℕ) (xs : List (List ℕ)) (
 unfolding tail_over
 over_kept apid s x xs stop e = rw e refl
 
--- what a kept packet brings doesn't depend on what comes later, where it closes the text
+-- what a kept packet brings doesn't depend on later packets, if it closes the text
 kept_same : (x : List ℕ) (a b : Tail) → ((kept_tail x a).ends ≡ Plainly) → (a.ends ≡ Plainly → b ≡ a) → kept_tail x b ≡ kept_tail x a
 kept_same x a b e same = by ((ancillary_in x).part == 0) (closes (flags_in x)) refl refl
   where
@@ -73,7 +73,7 @@ not_back apid n s xs reached last =
     let e = some_index (after_all apid s xs).last r.last n r.last_is last in
     absurd (omega (arith, e, r.least))
 
--- what a packet of another segment leaves
+-- the state after a packet of another segment
 reached_by : (apid n : ℕ) (s : FateState) (x : List ℕ) (l : LastPart) → s.last ≡ Some l → l.index ≡ n → Begins apid s x → HasReached (n + 1) (after apid s x)
 reached_by apid n s x l is e b = record { last = part_in x; last_is = b.last; least = omega (arith, b.later l is, e) }
 
@@ -93,7 +93,7 @@ zero_test n m e = grind (arith, nat_tests)
 
 -- ---- closing
 
--- where the text ends plainly, the packets have closed it
+-- if the text ends plainly, the packets have closed it
 pub over_closes : (apid n : ℕ) (s : FateState) (xs : List (List ℕ)) (l : LastPart) → s.last ≡ Some l → l.index ≡ n → (tail_over apid s xs InPieces).ends ≡ Plainly → last_index (after_all apid s xs).last ≡ Some n →
     is_closed (after_all apid s xs).last ≡ true
 over_closes apid n s [] l is e plain last = absurd (in_pieces (sym (ap (λ (t : Tail). t.ends) (over_none apid s InPieces)) ∙ plain))
@@ -114,7 +114,7 @@ over_closes apid n s (x ∷ xs) l is e plain last = elim (does apid s x) [
         let later : (tail_over apid (after apid s x) xs InPieces).ends ≡ Plainly = rw (zero_test (number_of_part x) next.before.part next.part, f) at here in
         more later last
 
--- and where they have closed it, it ends plainly
+-- and if they have closed it, it ends plainly
 pub over_closed : (apid n : ℕ) (s : FateState) (xs : List (List ℕ)) (l : LastPart) → s.last ≡ Some l → l.index ≡ n → l.closed ≡ false → last_index (after_all apid s xs).last ≡ Some n →
     is_closed (after_all apid s xs).last ≡ true → (tail_over apid s xs InPieces).ends ≡ Plainly
 over_closed apid n s [] l is e going last closed = absurd (false≢true (sym going ∙ sym (ap is_closed is) ∙ closed))

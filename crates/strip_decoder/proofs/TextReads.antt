@@ -38,7 +38,7 @@ left_after (Some xs) (Some now) took before loses told = let same : xs ≡ befor
 left_after None (Some now) took before loses told = absurd loses
 left_after (Some xs) None took before loses told = absurd loses
 
--- what came of a text, where it is told
+-- what was read of a text, if the port reports what is left
 pub record HasCome (a b : Assembling) (before : List ℕ) (now : Option (List ℕ)) (octets : List ℕ) : Type 0 where
   pub rest : List ℕ
   pub told : now ≡ Some rest
@@ -78,7 +78,7 @@ module _ {X : Type 0} (outside : X → Outside) (s t : SegmentText X) where
     cells_are : cells ≡ cells_of head (cells ++ more)
     cells_are = sym (ap (λ n. take n (cells ++ more)) (sym long) ∙ take-append-le (length cells) cells more (omega arith) ∙ take_all cells)
 
-    -- all of it came
+    -- all of it was read
     whole : (before : List ℕ) → old.rest ≡ Some before → ((text_tail s.assembly.now before).ends ≡ Plainly) × ((text_tail s.assembly.now before).octets ≡ d.octets)
     whole before told =
         let x = come d.octets before goes d.came told in

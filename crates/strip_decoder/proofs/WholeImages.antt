@@ -34,7 +34,7 @@ filter_miss p a (suc n) none =
     ap (λ b. cond b (a ∷ filter p (range_with_len (a + 1) n)) (filter p (range_with_len (a + 1) n))) (none a (omega arith) (omega arith))
     ∙ filter_miss p (a + 1) n (λ i low high. none i (omega (arith, low)) (omega (arith, high)))
 
--- where each block is received, no block row is missing
+-- if each block is received, no block row is missing
 none_missing : (g : Geometry) (received : Numbers) → ((block : ℕ) → block < block_count g.rows * block_count g.width → is_some (received (block / g.segment)) ≡ true) → whole_missing g received ≡ []
 unfolding missing_below
 none_missing g received all =

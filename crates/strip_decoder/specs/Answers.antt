@@ -32,7 +32,7 @@ pub record FrontBy (apid : ℕ) (taken given : List ℕ) : Type 0 where
   pub some : (g : Geometry) (received : Numbers) → geometry_in apid taken ≡ Some g → ReceivedIn holds_after apid taken received →
       (n : ℕ) × (given ≡ take n (picture_octets g received (begun_in apid taken)))
 
--- what is given of a whole picture, where the kept heads reach n block rows
+-- what is given of a whole picture, if the kept heads reach n block rows
 abbrev pub octets_of : (gives : Bool) → Geometry → Numbers → (n : ℕ) → List ℕ
 octets_of true g received n = picture_octets g received n
 octets_of false g received n = []
@@ -55,11 +55,11 @@ pub record PictureBy (gives : Bool) (wish : DecodeWish) (start new : Outside) (t
 abbrev pub IsPicture : (wish : DecodeWish) (start new : Outside) (took gave : List ℕ) (done : DecodeDone) → Type 0
 IsPicture = PictureBy true
 
--- a prefix of the picture for the octets that were taken, where the port tells what is left
+-- a prefix of the picture for the octets that were taken, if the port reports what is left
 abbrev pub GivesFront : DecodeWish → Outside → (took gave : List ℕ) → Type 0
 GivesFront wish start took gave = (all : List ℕ) → start.rest ≡ Some all → FrontBy wish.apid took gave
 
--- Why it was answered so. The answers exclude each other by what was taken, the end and the counts, except for faults of the port.
+-- Why the call ended so. The answers exclude each other by what was taken, the end and the counts, except for faults of the port.
 abbrev pub Answers : DecodeWish → (old new : Outside) (took gave : List ℕ) → Result DecodeDone DecodeFault → Type 0
 Answers wish old new took gave (Ok done) = IsPicture wish old new took gave done
 Answers wish old new took gave (Err NoSegment) = (geometry_in wish.apid took ≡ None) × IsReadOut wish.octets new took × (gave ≡ [])
@@ -69,14 +69,14 @@ Answers wish old new took gave (Err ReadFault) = Rose old.read_faults new.read_f
 Answers wish old new took gave (Err WriteFault) = Rose old.write_faults new.write_faults × HasFewKnown wish.pixels wish.apid took × GivesFront wish old took gave
 Answers wish old new took gave (Err Memory) = gave ≡ []
 
--- A read call with i octets taken and j given, where the port tells what is left. If the octets report too many pixels, no more is read.
+-- A read call with i octets taken and j given, if the port reports what is left. If the octets report too many pixels, no more is read.
 abbrev pub Asks : DecodeWish → Outside → (took gave : List ℕ) → ℕ → ℕ → Type 0
 Asks wish start took gave i j =
     (j ≤ length gave) × HasFewPixels wish.pixels wish.apid (take i took) × ((all : List ℕ) → start.rest ≡ Some all → PromptBy wish.apid (take i took) (take j gave))
 
--- One run over a port: what it took and gave, when, and why it ended so. However it ends, it takes at most as many octets as are
--- wished. What is given at each read call is a prefix of the picture for the octets that were taken by then, with at least the rows
--- that may be given.
+-- One run over a port: what it took and gave, when, and why it ended so. However it ends, it takes at most the number of octets in the
+-- wish. What is given at each read call is a prefix of the picture for the octets that were taken by then, with at least the rows that may
+-- be given.
 pub record Decodes (wish : DecodeWish) (old new : Outside) (result : Result DecodeDone DecodeFault) : Type 0 where
   pub took : List ℕ
   pub gave : List ℕ

@@ -1,4 +1,4 @@
--- Losses are contained: no pixel outside the damaged rows hangs on what was lost. This project's own.
+-- Losses are contained: no pixel outside the damaged rows depends on what was lost. This project's own.
 use Rattle.std.specs.Prelude.{◌≡◌, ◌≤◌, ◌<◌, ◌-◌, ◌*◌, ◌↔◌, ◌/◌, ◌&&◌, ℕ, zero, suc, ℤ, Bool, true, false, not, if◌then◌else◌, List, [], ◌∷◌, length, Some, is_some}
 use Rattle.port_122.specs.Outside.{Outside}
 use Rattle.base_122.specs.Ranges.{IsInRange, IsGeometryInRange}
@@ -21,16 +21,16 @@ use Rattle.strip_decoder.specs.declared.decode.DecodeDone.{DecodeDone}
 use Rattle.strip_decoder.specs.Answers.{IsPicture}
 use Rattle.strip_decoder.specs.Runs.{Numbers, holds_after}
 
--- Two images of so many rows and columns have the same pixels in each row that is in none of these ranges.
+-- Two images with this number of rows and columns have the same pixels in each row that is in none of these ranges.
 pub record SameOutside (rows width : ℕ) (ranges : List RowRange) (a b : ℕ → ℕ → ℤ) : Type 0 where
   pub at : (i j : ℕ) → i < rows → j < width → is_covered ranges i ≡ false → a i j ≡ b i j
 
--- The blocks of received segments have the numbers that were received, and all other blocks have any numbers. If the height isn't known
--- and the kept heads reach n block rows, so have those of later block rows.
+-- The blocks of received segments have the numbers that were received, and all other blocks have any numbers. If the height isn't known and
+-- the kept heads reach n block rows, the blocks of later block rows also have any numbers.
 pub record AreWith (g : Geometry) (received : Numbers) (numbers : ℕ → ℕ → ℤ) (n : ℕ) : Type 0 where
   pub at : (block i : ℕ) → block < block_rows g n * block_count g.width → i < 64 → is_some (received (block / g.segment)) ≡ true → numbers block i ≡ number_at g received block i
 
--- the octets of some packets of an image of so many rows, in order
+-- the octets of some packets, in order, of an image with this number of rows
 abbrev pub some_output : Setting → (rows : ℕ) → (ℕ → ℕ → ℤ) → (parts : ℕ → List ℕ) → List ℕ
 some_output s rows x parts = joined (chosen (tells_last s) (sized s rows) (image_blocks (sized s rows) x) parts (segments_of (sized s rows)))
 
@@ -55,7 +55,7 @@ reported_rows s rows parts = if tells_last s && not (is_begun (parts (segments_o
 abbrev pub reported : Setting → (rows : ℕ) → (parts : ℕ → List ℕ) → Geometry
 reported s rows parts = image_geometry s (reported_rows s rows parts)
 
--- the pixels of an image of this setting and so many rows are in their range
+-- the pixels of an image of this setting, with this number of rows, are in their range
 pub record ArePixels (s : Setting) (rows : ℕ) (x : ℕ → ℕ → ℤ) : Type 0 where
   pub at : (i j : ℕ) → i < rows → j < s.width → IsPixel s.depth s.signed (x i j)
 
@@ -76,9 +76,9 @@ pub record ReceivesThose (s : Setting) (rows : ℕ) (x : ℕ → ℕ → ℤ) (p
   pub at : (index : ℕ) → index < segments_of (sized s rows) →
       (is_some (received index) ≡ true) ↔ (parts index ≡ all_parts (sized s rows) (image_blocks (sized s rows) x) index)
 
--- Whatever numbers stand in the blocks that are lost, no pixel outside the damage changes. So if some packets of an image are read, each
--- pixel outside their damage is that of the picture for all of them, whether they report the height or not, and the kept heads reach
--- no block row past the image; and the damage is that of the segments which lack a packet.
+-- Whatever numbers the lost blocks have, no pixel outside the damage changes. So if some packets of an image are read, each pixel outside
+-- their damage is that of the picture for all of them, whether they report the height or not, and the kept heads reach no block row past
+-- the image; and the damage is that of the segments with a missing packet.
 pub record LossesContained : Type 0 where
   pub whatever : (g : Geometry) (received : Numbers) (numbers : ℕ → ℕ → ℤ) (n : ℕ) → IsGeometryInRange g → AreWith g received numbers n →
       SameOutside (height g n) g.width (damage g received n) (picture_with g numbers n) (picture g received n)
@@ -93,11 +93,11 @@ pub record LossesContained : Type 0 where
       SameOutside (height (reported s rows parts) n) s.width (damage (reported s rows parts) received n)
       (picture (reported s rows parts) received n) (whole_picture (image_geometry s rows) whole)
 
--- the ranges of rows that a decoder's answer tells as damaged
+-- the ranges of rows that a decoder's answer reports as damaged
 abbrev pub told_damage : DecodeDone → List RowRange
 told_damage done = ranges done.damage.rows done.damage.missing
 
--- What is given is the picture of these segments, and whatever stands in the blocks of others, no pixel outside the damage changes.
+-- What is given is the picture of these segments, and whatever numbers the blocks of others have, no pixel outside the damage changes.
 pub record GivesContained (wish : DecodeWish) (took gave : List ℕ) (done : DecodeDone) : Type 0 where
   pub received : Numbers
   pub received_is : ReceivedIn holds_after wish.apid took received
@@ -116,7 +116,7 @@ pub record GivesAlike (s : Setting) (rows : ℕ) (x : ℕ → ℕ → ℤ) (part
       SameOutside done.written s.width (told_damage done) (picture done.geometry received (begun_in s.apid (some_output s rows x parts)))
       (whole_picture (image_geometry s rows) whole)
 
--- So it is if a decoder gave a whole picture; and if it took some packets of an image, of which one begins a segment.
+-- The same holds if a decoder gave a whole picture, and if it took some packets of an image, of which one begins a segment.
 pub record DecodedContained : Type 0 where
   pub decoded : (wish : DecodeWish) (start new : Outside) (took gave all : List ℕ) (done : DecodeDone) → IsPicture wish start new took gave done → start.rest ≡ Some all → GivesContained wish took gave done
   pub sublists : (wish : DecodeWish) (start new : Outside) (took gave all : List ℕ) (done : DecodeDone) (s : Setting) (rows : ℕ) (x : ℕ → ℕ → ℤ) (parts : ℕ → List ℕ) →

@@ -14,7 +14,7 @@ use Rattle.strip_decoder.specs.Walks.{HasTooMany}
 use Rattle.strip_decoder.specs.Answers.{PictureBy}
 use Rattle.strip_decoder.specs.Lines.{damage_lines}
 
--- Of the octets that were taken all is as a decoder answers it, and what is given are the lines of the damage.
+-- For the octets that were taken the answer is a decoder's, and what is given is the lines of the damage.
 pub record IsDamage (wish : DecodeWish) (start new : Outside) (took gave : List ℕ) (done : DecodeDone) : Type 0 where
   pub found : PictureBy false wish start new took [] done
   pub lines : gave ≡ damage_lines done.damage
@@ -30,7 +30,7 @@ pub record IsPart (wish : DecodeWish) (start new : Outside) (took gave : List �
 abbrev pub GivesSome : DecodeWish → (start new : Outside) (took gave : List ℕ) → Type 0
 GivesSome wish start new took gave = (gave ≡ []) ⊎ IsPart wish start new took gave
 
--- Why it was answered so. The answers exclude each other by what was taken, the end and the counts, but for faults of the port.
+-- Why the call ended so. The answers exclude each other by what was taken, the end and the counts, except for faults of the port.
 abbrev pub FindAnswers : DecodeWish → (old new : Outside) (took gave : List ℕ) → Result DecodeDone DecodeFault → Type 0
 FindAnswers wish old new took gave (Ok done) = IsDamage wish old new took gave done
 FindAnswers wish old new took gave (Err NoSegment) = (geometry_in wish.apid took ≡ None) × IsReadOut wish.octets new took × (gave ≡ [])
@@ -41,12 +41,12 @@ FindAnswers wish old new took gave (Err ReadFault) = Rose old.read_faults new.re
 FindAnswers wish old new took gave (Err WriteFault) = Rose old.write_faults new.write_faults × HasFewKnown wish.pixels wish.apid took × GivesSome wish old new took gave
 FindAnswers wish old new took gave (Err Memory) = gave ≡ []
 
--- A read call with i octets taken, and none given. Where the octets tell of too many pixels, nothing more is read.
+-- A read call with i octets taken, and none given. If the octets report too many pixels, no more is read.
 abbrev pub AsksSilent : DecodeWish → (took : List ℕ) → ℕ → ℕ → Type 0
 AsksSilent wish took i j = (j ≡ 0) × HasFewPixels wish.pixels wish.apid (take i took)
 
--- One run over a port: what it took and gave, when, and why it ended so. However it ends, it takes at most as many octets as are
--- wished. At each read call nothing is given.
+-- One run over a port: what it took and gave, when, and why it ended so. However it ends, it takes at most the number of octets in the
+-- wish. At each read call nothing is given.
 pub record Finds (wish : DecodeWish) (old new : Outside) (result : Result DecodeDone DecodeFault) : Type 0 where
   pub took : List ℕ
   pub gave : List ℕ

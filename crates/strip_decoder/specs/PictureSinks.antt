@@ -1,4 +1,4 @@
--- What the sinks show that a decoder and a search for damage walk with. This project's own.
+-- The meaning of the sinks with which a decoder and a search for damage walk. This project's own.
 use Rattle.std.specs.Prelude.{◌≡◌, ℕ, ℤ, pos, List, [], ◌∷◌, length, take, unwrap_or, slice_index_or, refl}
 use Rattle.std.proofs.Common.{sym, ap, ◌∙◌}
 use Rattle.base_122.specs.declared.geometry.Geometry.{Geometry}
@@ -63,7 +63,7 @@ picture_sink = record { Stands = StandsAt; Follows = ShowsBlocks; Given = GivesR
 
 -- ---- no picture
 
--- of no block anything is given
+-- for no block anything is given
 abbrev pub no_picture : SinkOf NoPicture
 no_picture = record {
   Stands = λ s g n. Unit {0};

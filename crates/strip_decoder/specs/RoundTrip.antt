@@ -1,4 +1,4 @@
--- The round trip: what comes back where all packets of an image are decoded. This project's own.
+-- The round trip: what is given if all packets of an image are decoded. This project's own.
 use Rattle.std.specs.Prelude.{◌≡◌, ◌<◌, ℕ, ℤ, false, List, [], None, Some}
 use Rattle.port_122.specs.Outside.{Outside}
 use Rattle.base_122.specs.Setting.{image_geometry}
@@ -16,7 +16,7 @@ use Rattle.strip_decoder.specs.Answers.{IsPicture}
 use Rattle.strip_decoder.specs.Containment.{IsImageFor}
 use Rattle.strip_decoder.specs.Runs.{Numbers, holds_after}
 
--- nothing is left out: the stop is the last stage of plane 0, and there is neither a limit nor a total
+-- nothing is omitted: the stop is the last stage of plane 0, and there is neither a limit nor a total
 pub record SendsAll (s : Setting) : Type 0 where
   pub goes_on : s.stop.dc ≡ false
   pub plane : s.stop.plane ≡ 0
@@ -35,8 +35,8 @@ pub record ComesSame (s : Setting) (rows : ℕ) (x : ℕ → ℕ → ℤ) (recei
   pub at : (i j : ℕ) → i < rows → j < s.width → whole_picture (image_geometry s rows) received i j ≡ x i j
   pub octets : whole_octets (image_geometry s rows) received ≡ raster_octets s.depth rows s.width x
 
--- A decoder found the size of the image and nothing missing, wrote all its rows, and read the packets to their end; if nothing was left
--- out, it gave the image's raster.
+-- A decoder found the size of the image and nothing missing, wrote all its rows, and read the packets to their end; if nothing was omitted,
+-- it gave the image's raster.
 pub record GivesBack (s : Setting) (rows : ℕ) (x : ℕ → ℕ → ℤ) (gave : List ℕ) (done : DecodeDone) : Type 0 where
   pub geometry : done.geometry ≡ image_geometry s rows
   pub written : done.written ≡ rows
@@ -44,8 +44,8 @@ pub record GivesBack (s : Setting) (rows : ℕ) (x : ℕ → ℕ → ℤ) (gave 
   pub framing_is : done.framing ≡ None
   pub same : SendsAll s → gave ≡ raster_octets s.depth rows s.width x
 
--- All packets of an image, in order, give it whole, whether they report its height first or last, and if nothing was left out they give
--- exactly its pixels. So it is if a decoder took them and gave a whole picture.
+-- All packets of an image, in order, give it whole, whether they report its height first or last, and if nothing was omitted they give
+-- exactly its pixels. The same holds if a decoder took them and gave a whole picture.
 pub record RoundTrip : Type 0 where
   pub whole : (s : Setting) (rows : ℕ) (x : ℕ → ℕ → ℤ) (received : Numbers) → IsImageFor s rows x → ReceivedIn holds_after s.apid (output s rows x) received → ComesWhole s rows x received
   pub same : (s : Setting) (rows : ℕ) (x : ℕ → ℕ → ℤ) (received : Numbers) → IsImageFor s rows x → SendsAll s → ReceivedIn holds_after s.apid (output s rows x) received →

@@ -1,5 +1,4 @@
--- How far a walk has come since it began: what it took, what it knows of the segments, and which blocks it has passed.
--- This project's own.
+-- The progress of a walk since it began: what it took, what it knows of the segments, and which blocks it has passed. This project's own.
 use Rattle.std.specs.Prelude.{◌≡◌, ◌≤◌, ◌<◌, ◌+◌, ◌*◌, ◌/◌, ◌==◌, ℕ, ℤ, Bool, if◌then◌else◌, List, [], ◌∷◌, ◌++◌, length, take, drop, Option, None, Some, Result, Ok, Err, true, false, MatchOption, MatchResult}
 use Rattle.port_122.specs.Outside.{Outside, Exchange}
 use Rattle.base_122.specs.Sizes.{first_block, segment_blocks}
@@ -36,7 +35,7 @@ holds_after head text numbers = Holds profile head (drop (head_length head) text
 abbrev pub Numbers : Type 0
 Numbers = sinks.Numbers
 
--- the blocks that octets settle which left this state: those before the last place, and those of its segment where that is received
+-- the blocks that octets settle which left this state: those before the last place, and those of its segment if that is received
 abbrev pub settled_blocks : FateState → Numbers → ℕ
 settled_blocks s received = settled_in s.geometry s.last
   where
@@ -45,13 +44,13 @@ settled_blocks s received = settled_in s.geometry s.last
     settled_in (Some g) None = 0
     settled_in (Some g) (Some last) = blocks_through g received last.index
 
--- Blocks that are passed in the end: all of an image, or if the height isn't known those of the segments that were begun, the last of
--- which ends here.
+-- The number of blocks that are passed in the end: all of an image, or if the height isn't known those of the segments that were begun, the
+-- last of which ends here.
 abbrev pub blocks_passed : Geometry → (ended : ℕ) → ℕ
 blocks_passed g ended = if g.rows == 0 then ended else blocks_of g
 
--- What is given once these octets are taken: nothing without a geometry, else what the sink gives past the first blocks of the segments
--- that are received, at least past those that are settled.
+-- What is given once these octets are taken: nothing without a geometry, otherwise what the sink gives after the first blocks of the
+-- segments that are received, at least after those that are settled.
 pub record PassedBy {S : Type 0} (k : SinkOf S) (apid : ℕ) (taken given : List ℕ) : Type 0 where
   pub none : geometry_in apid taken ≡ None → given ≡ []
   pub some : (g : Geometry) (received : Numbers) → geometry_in apid taken ≡ Some g → ReceivedIn holds_after apid taken received →
@@ -63,7 +62,7 @@ pub record PartBy {S : Type 0} (k : SinkOf S) (apid : ℕ) (taken given : List �
   pub some : (g : Geometry) (received : Numbers) → geometry_in apid taken ≡ Some g → ReceivedIn holds_after apid taken received →
       (n : ℕ) × (n ≤ blocks_passed g (end_of (kept_in apid taken))) × k.Part (placed g) (blocks_with g received) n given
 
--- Whatever the port tells, it is a part of what the sink gives of some blocks.
+-- Whatever the port reports, it is a part of what the sink gives of some blocks.
 pub record IsPartOfSome {S : Type 0} (k : SinkOf S) (given : List ℕ) : Type 0 where
   pub geometry : Geometry
   pub blocks : Blocks
@@ -72,7 +71,7 @@ pub record IsPartOfSome {S : Type 0} (k : SinkOf S) (given : List ℕ) : Type 0 
 
 -- ---- a run
 
--- for which packets, how many octets and pixels at most, and where it began
+-- for which packets, the greatest numbers of octets and of pixels, and the outside at its beginning
 pub record Run : Type 0 where
   pub apid : ℕ
   pub cap : ℕ
@@ -83,7 +82,7 @@ pub record Run : Type 0 where
 abbrev pub HasFew : (pixels apid : ℕ) → (packets : List (List ℕ)) → Type 0
 HasFew pixels apid packets = (g : Geometry) → (after_all apid fresh packets).geometry ≡ Some g → g.width * rows_reached g (end_of (kept apid fresh packets)) ≤ pixels
 
--- so it is of the octets that were taken if the height is reported from the first head on
+-- the same for the octets that were taken, if the height is reported from the first head on
 abbrev pub HasFewKnown : (pixels apid : ℕ) → List ℕ → Type 0
 HasFewKnown pixels apid taken = (state_after apid taken).told_last ≡ false → HasFewPixels pixels apid taken
 
@@ -103,17 +102,17 @@ pub record ReportsMany (most apid pixels : ℕ) (taken : List ℕ) : Type 0 wher
 abbrev pub tells_last : {most apid pixels : ℕ} {taken : List ℕ} → ReportsMany most apid pixels taken → Bool
 tells_last {apid = apid} many = (after_all apid fresh (many.before ++ many.packet ∷ [])).told_last
 
--- A read call with i octets taken and j given, where the port tells what is left. If the octets report an image of too many pixels,
--- no more is read.
+-- A read call with i octets taken and j given, if the port reports what is left. If the octets report an image of too many pixels, no more
+-- is read.
 abbrev pub AsksPassed : {S : Type 0} → SinkOf S → Run → (took gave : List ℕ) → ℕ → ℕ → Type 0
 AsksPassed k w took gave i j =
     (j ≤ length gave) × HasFewPixels w.pixels w.apid (take i took) × ((all : List ℕ) → w.start.rest ≡ Some all → PassedBy k w.apid (take i took) (take j gave))
 
--- the whole packets that are still to come, where these octets are left
+-- the whole packets that are left, if these octets are left
 abbrev pub future : Assembling → List ℕ → List (List ℕ)
 future a rest = whole_packets (coming a.intake rest)
 
--- The segments before a bound: each is received with these numbers, or it isn't, however many of the packets to come follow.
+-- The segments before a bound: each is received with these numbers, or it isn't, however many of the next packets follow.
 pub record Knows (apid : ℕ) (passed later : List (List ℕ)) (bound : ℕ) (sofar : Numbers) : Type 0 where
   pub at : (next more : List (List ℕ)) → later ≡ next ++ more → (index : ℕ) → index < bound → MatchOption (sofar index)
       ((numbers : List (List ℤ)) → IsReceived holds_after (kept apid fresh (passed ++ next)) index numbers → ⊥)
@@ -140,7 +139,7 @@ pub record HasKnown (w : Run) (now : Outside) (a : Assembling) (bound : ℕ) (to
   pub above : (index : ℕ) → bound ≤ index → sofar index ≡ None
   pub at_end : SawEnd now a
 
--- so far the walk has come, with the segments before this bound
+-- the progress of the walk: the segments before this bound are known, and at most their blocks were passed
 pub record HasWalkedTo {S : Type 0} (k : SinkOf S) (w : Run) (now : Outside) (a : Assembling) (p : Walking S) (bound : ℕ) : Type 0 where
   pub took : List ℕ
   pub gave : List ℕ
@@ -160,14 +159,14 @@ pub record IsBegun (apid : ℕ) (passed : List (List ℕ)) (text : List ℕ) (st
   pub below : (l : LastPart) → (after_all apid fresh before).last ≡ Some l → l.index < bound
   pub later : bound ≤ start.ancillary.index
 
--- so it is of a segment of an image that was begun before, and no head before reported too many pixels
+-- the same for a segment of an image that was begun before, and no head before reported too many pixels
 pub record IsNextBegun (w : Run) (passed : List (List ℕ)) (text : List ℕ) (start : SegmentStart) (bound : ℕ) : Type 0 where
   pub begun : IsBegun w.apid passed text start bound
   pub few : HasFew w.pixels w.apid begun.before
   pub image : Geometry
   pub geometry : (after_all w.apid fresh begun.before).geometry ≡ Some image
 
--- it has come to a segment, all segments before it being known, and no head before reported too many pixels
+-- it is at a segment, all segments before it are known, and no head before reported too many pixels
 pub record WalksTo {S : Type 0} (k : SinkOf S) (w : Run) (now : Outside) (a : Assembling) (p : Walking S) (start : SegmentStart) : Type 0 where
   pub come : HasWalkedTo k w now a p start.ancillary.index
   pub begun : IsBegun w.apid come.known.passed a.text start start.ancillary.index
@@ -185,7 +184,7 @@ pub record WalksIn {S : Type 0} (k : SinkOf S) (w : Run) (now : Outside) (a : As
   pub to : WalksTo k w now a p start
   pub small : HasFew w.pixels w.apid to.come.known.passed
 
--- it has come past a segment, which is the last one unless the next was begun
+-- it has passed a segment, which is the last one unless the next was begun
 pub record WalksPast {S : Type 0} (k : SinkOf S) (w : Run) (now : Outside) (a : Assembling) (p : Walking S) : Type 0 where
   pub index : ℕ
   pub come : HasWalkedTo k w now a p (index + 1)
@@ -227,16 +226,16 @@ BreaksRun k w now LongInput = HasLong k w now
 BreaksRun k w now (TooManyPixels pixels) = HasMany k w now pixels
 BreaksRun k w now fault = HasBroken k w now
 
--- it goes on to the first block of a segment, or a fault ends it
+-- it advances to the first block of a segment, or a fault ends it
 abbrev pub RunsReach : {S T E : Type 0} → SinkOf S → Run → Outside → Assembling → Walking S → SegmentStart → Result T E → Type 0
 RunsReach k w now a p start result = MatchResult result (λ _. WalksIn k w now a p start) (λ _. HasFailedWrite k w now)
 
--- it goes on past a segment, or a fault ends it
+-- it advances past a segment, or a fault ends it
 abbrev pub RunsSegment : {S : Type 0} → SinkOf S → Run → Outside → Assembling → Walking S → Result (Unit {0}) DecodeFault → Type 0
 RunsSegment k w now a p (Ok done) = WalksPast k w now a p
 RunsSegment k w now a p (Err fault) = BreaksRun k w now fault
 
--- it has come to the end of the packets
+-- it is at the end of the packets
 pub record ComesToEnd {S : Type 0} (k : SinkOf S) (w : Run) (now : Outside) (a : Assembling) (p : Walking S) : Type 0 where
   pub index : ℕ
   pub come : HasWalkedTo k w now a p (index + 1)
@@ -248,7 +247,7 @@ pub record ComesToEnd {S : Type 0} (k : SinkOf S) (w : Run) (now : Outside) (a :
   pub ended : StandsEnded a
   pub reached : first_block p.geometry.segment index + segment_blocks (total_in p) p.geometry.segment index ≤ passed_in p
 
--- it goes on to the end, or a fault ends it
+-- it advances to the end, or a fault ends it
 abbrev pub RunsAll : {S : Type 0} → SinkOf S → Run → Outside → Assembling → Walking S → Result (Unit {0}) DecodeFault → Type 0
 RunsAll k w now a p (Ok done) = ComesToEnd k w now a p
 RunsAll k w now a p (Err fault) = BreaksRun k w now fault

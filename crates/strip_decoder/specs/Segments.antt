@@ -1,4 +1,4 @@
--- What the steps from segment to segment leave. This project's own.
+-- The effect of the steps from segment to segment. This project's own.
 use Rattle.std.specs.Prelude.{◌≡◌, ◌≤◌, ◌<◌, ◌+◌, ◌-◌, ◌*◌, ℕ, ℤ, List, [], take, min, Bool, true, false, Option, None, Some, Result, Ok, Err, IsOk, MatchOption, MatchResult}
 use Rattle.port_122.specs.Outside.{Outside, Rose, NoFewerFaults}
 use Rattle.base_122.specs.Sizes.{first_block}
@@ -25,7 +25,7 @@ use Rattle.strip_decoder.specs.Steps.{Walking, IsCurrent, HasGeometry, passed_in
 
 -- ---- where a segment is
 
--- what is told of a segment is so in an image of this geometry
+-- what is reported of a segment is valid in an image of this geometry
 pub record FitsImage (g : Geometry) (start : SegmentStart) : Type 0 where
   pub first : start.ancillary.first ≡ first_block g.segment start.ancillary.index
   pub within : start.ancillary.first < blocks_of g
@@ -33,7 +33,7 @@ pub record FitsImage (g : Geometry) (start : SegmentStart) : Type 0 where
   pub head : IsHead start.head
   pub weights : start.head.image.weights.shifts ≡ g.weights.shifts
 
--- and the walk hasn't come past its first block
+-- and the walk hasn't passed its first block
 pub record FitsNext {S : Type 0} (p : Walking S) (start : SegmentStart) : Type 0 where
   pub fits : FitsImage p.geometry start
   pub reached : passed_in p ≤ start.ancillary.first
@@ -45,7 +45,7 @@ pub record HasImage (a : Assembling) (g : Geometry) : Type 0 where
   pub geometry : a.state.geometry ≡ Some g
   pub range : IsGeometryInRange g
 
--- an assembly answered this segment last, and the walk goes by the geometry of its image
+-- an assembly returned this segment last, and the walk has the geometry of its image
 pub record IsAt {S : Type 0} (a : Assembling) (p : Walking S) (start : SegmentStart) : Type 0 where
   pub image : Geometry
   pub has : HasImage a image
@@ -54,7 +54,7 @@ pub record IsAt {S : Type 0} (a : Assembling) (p : Walking S) (start : SegmentSt
   pub last : last_index a.state.last ≡ Some start.ancillary.index
   pub next : FitsNext p start
 
--- The last place is in a segment that was passed; or the segment that comes next was begun.
+-- The last place is in a segment that was passed, or the next segment was begun.
 pub record IsBetween {S : Type 0} (a : Assembling) (p : Walking S) : Type 0 where
   pub image : Geometry
   pub has : HasImage a image
@@ -62,15 +62,15 @@ pub record IsBetween {S : Type 0} (a : Assembling) (p : Walking S) : Type 0 wher
   pub unheld : a.held ≡ None → (index : ℕ) × (last_index a.state.last ≡ Some index) × (passed_in p ≤ first_block p.geometry.segment (index + 1))
   pub held : (start : SegmentStart) → a.held ≡ Some start → (last_index a.state.last ≡ Some start.ancillary.index) × FitsNext p start
 
--- A segment was begun in an image of this geometry, and the walk hasn't come past its first block. Its head may have reported the
--- height, which the walk doesn't know yet.
+-- A segment was begun in an image of this geometry, and the walk hasn't passed its first block. Its head may have reported the height,
+-- which the walk doesn't know yet.
 pub record MayFollow {S : Type 0} (g : Geometry) (p : Walking S) (start : SegmentStart) : Type 0 where
   pub range : IsGeometryInRange g
   pub ends : MayEnd p.geometry (placed g) (passed_in p)
   pub fits : FitsImage (placed g) start
   pub reached : passed_in p ≤ start.ancillary.first
 
--- an assembly answered this segment last
+-- an assembly returned this segment last
 pub record IsFound {S : Type 0} (a : Assembling) (p : Walking S) (start : SegmentStart) : Type 0 where
   pub image : Geometry
   pub has : HasImage a image
@@ -90,13 +90,13 @@ pub record MayFollowHeld {S : Type 0} (a : Assembling) (p : Walking S) : Type 0 
 abbrev pub pixels_reached : Geometry → SegmentStart → ℕ
 pixels_reached g start = g.width * rows_reached g (start.ancillary.first + start.head.blocks)
 
--- the walk goes by the geometry of the image in which this segment was begun, unless that has too many pixels
+-- the walk takes the geometry of the image in which this segment was begun, unless that has too many pixels
 abbrev pub FollowsHead : {S : Type 0} → SinkOf S → (pixels : ℕ) → Geometry → SegmentStart → (old new : Walking S) → Result (Unit {0}) DecodeFault → Type 0
 FollowsHead k pixels g start old new (Ok done) = HasGeometry k (placed g) old new × (pixels_reached g start ≤ pixels)
 FollowsHead k pixels g start old new (Err (TooManyPixels found)) = (found ≡ pixels_reached g start) × (pixels < found)
 FollowsHead k pixels g start old new (Err other) = ⊥
 
--- so it is of the segment that an assembly answered last, and of the one that it holds
+-- the same for the segment that an assembly returned last, and for the one that it holds
 abbrev pub FollowsFound : {S : Type 0} → SinkOf S → (pixels : ℕ) → Assembling → SegmentStart → (old new : Walking S) → Result (Unit {0}) DecodeFault → Type 0
 FollowsFound k pixels a start old new result = (image : Geometry) → a.state.geometry ≡ Some image → FollowsHead k pixels image start old new result
 
@@ -112,7 +112,7 @@ FindsNext old new a b (Err LongInput) = assembling.FindsSegment old new a b (Err
 FindsNext old new a b (Err ReadFault) = assembling.FindsSegment old new a b (Err in_faults.ReadFault)
 FindsNext old new a b (Err other) = ⊥
 
--- A text was asked for its end, where the port tells what is left: it is over, and its closing part was passed; or it has more
+-- The end of a text was requested, and the port reports what is left: the text is over, and its closing part was passed; or it has more
 -- octets, or ends otherwise.
 pub record HasEnded (old new : Outside) (a b : Assembling) : Type 0 where
   pub goes : assembling.Continues old new a b
@@ -133,7 +133,7 @@ EndsText old new a b (Ok false) = HasNotEnded old new a b
 EndsText old new a b (Err ReadFault) = HasFailed old new a b
 EndsText old new a b (Err other) = ⊥
 
--- the numbers of a segment with this head, which stand first
+-- the numbers of a segment with this head, which are the first ones
 abbrev pub cells_of : SegmentHead → List ℤ → List ℤ
 cells_of head cells = take (64 * head.blocks) cells
 
@@ -157,7 +157,7 @@ ReadsText old new a b head cells (Ok false) = Refuses old new a b head
 ReadsText old new a b head cells (Err ReadFault) = HasFailed old new a b
 ReadsText old new a b head cells (Err other) = ⊥
 
--- the n blocks of a segment were passed: put where it was accepted, else lost
+-- the n blocks of a segment were passed: put if it was accepted, otherwise lost
 abbrev pub segment_values : Bool → List ℤ → ℕ → Option (List ℤ)
 segment_values true cells = held cells
 segment_values false cells = missing

@@ -1,4 +1,4 @@
--- What a sink of blocks shows of those that it has taken. This project's own.
+-- The meaning of a sink of blocks, by those that it has taken. This project's own.
 use Rattle.std.specs.Prelude.{◌≡◌, ◌⊎◌, ◌≤◌, ◌<◌, ◌+◌, ◌/◌, ◌%◌, ℕ, ℤ, List, [], ◌++◌, length, Option, None, Some, Result, MatchResult, slice_index_or}
 use Rattle.std.specs.Option.{option_map}
 use Rattle.port_122.specs.Outside.{Outside, Exchange, NoRead, Rose}
@@ -11,7 +11,7 @@ use Rattle.stream_defs.specs.Agreement.{blocks_of}
 abbrev pub Numbers : Type 0
 Numbers = ℕ → Option (List (List ℤ))
 
--- the blocks of an image in raster order: the 64 numbers of each, or none where it is missing
+-- the blocks of an image in raster order: the 64 numbers of each, or none if it is missing
 abbrev pub Blocks : Type 0
 Blocks = ℕ → Option (List ℤ)
 
@@ -57,7 +57,7 @@ abbrev pub IsBlock : Geometry → Option (List ℤ) → Type 0
 IsBlock g None = Unit {0}
 IsBlock g (Some numbers) = (length numbers ≡ 64) × AreWeighted numbers g.weights.shifts
 
--- a block is still to come, and it may be this one
+-- a block is left, and it may be this one
 pub record IsNext {S : Type 0} (k : SinkOf S) (block : Option (List ℤ)) (s : S) : Type 0 where
   pub geometry : Geometry
   pub place : ℕ
@@ -79,13 +79,13 @@ pub record Fails {S : Type 0} (k : SinkOf S) (g : Geometry) (n : ℕ) (block : O
   pub rose : Rose p.write_faults q.write_faults
   pub part : (blocks : Blocks) (before : List ℕ) → k.Follows old g blocks n before → blocks n ≡ block → k.Part g blocks (n + 1) (before ++ gave)
 
--- the call for a block, wherever the sink stands
+-- the call for a block, whatever the state of the sink
 abbrev pub TakesBlock : {S T E : Type 0} → SinkOf S → Result T E → Option (List ℤ) → (p q : Outside) (old new : S) → Type 0
 TakesBlock k result block p q old new = (g : Geometry) (n : ℕ) → k.Stands old g n → n < blocks_of g → MatchResult result (λ _. Takes k g n block p q old new) (λ _. Fails k g n block p q old)
 
 -- ---- the height
 
--- its image may end as this geometry says
+-- its image may end with the height of this geometry
 pub record IsEndable {S : Type 0} (k : SinkOf S) (h : Geometry) (s : S) : Type 0 where
   pub geometry : Geometry
   pub place : ℕ

@@ -1,4 +1,4 @@
--- What the steps of a walk leave. This project's own.
+-- The effect of the steps of a walk. This project's own.
 use Rattle.std.specs.Prelude.{◌≡◌, ◌≤◌, ◌<◌, ◌+◌, ◌*◌, ◌/◌, ◌==◌, ◌&&◌, ℕ, ℤ, List, [], ◌++◌, Bool, not, is_some, Option, None, Some, Result, MatchResult, filter}
 use Rattle.std.specs.List.{list_any, range_with_len}
 use Rattle.port_122.specs.Outside.{Outside, Exchange, NoRead, Rose}
@@ -29,11 +29,11 @@ total_in p = blocks_of p.geometry
 abbrev pub passed_in : {S : Type 0} → Walking S → ℕ
 passed_in p = p.at.row * block_count p.geometry.width + p.at.column
 
--- so many blocks are still to come
+-- at least this number of blocks is left
 abbrev pub HasRoom : {S : Type 0} → ℕ → Walking S → Type 0
 HasRoom n p = passed_in p + n ≤ total_in p
 
--- its parts are those of its geometry, and stand at the place that it has come to
+-- its parts are those of its geometry, and are at its place
 pub record IsCurrent {S : Type 0} (k : SinkOf S) (p : Walking S) : Type 0 where
   pub range : IsGeometryInRange p.geometry
   pub height : IsWithin rows_range p.geometry.rows
@@ -56,7 +56,7 @@ pub record IsFresh {S : Type 0} (k : SinkOf S) (g : Geometry) (p : Walking S) : 
 abbrev pub is_marked : List ℕ → (row : ℕ) → Bool
 is_marked missing row = list_any (λ k. k == row) missing
 
--- they are told in rising order
+-- they are in rising order
 abbrev pub IsListed : Marks → Type 0
 IsListed m = m.missing ≡ filter (is_marked m.missing) (range_with_len 0 most_block_rows)
 
@@ -64,8 +64,8 @@ IsListed m = m.missing ≡ filter (is_marked m.missing) (range_with_len 0 most_b
 abbrev pub is_lost : Geometry → Blocks → (n row : ℕ) → Bool
 is_lost g blocks n row = list_any (λ block. not (is_some (blocks block)) && (block / block_count g.width == row)) (range_with_len 0 n)
 
--- It has passed the first of these blocks: the sink has taken them and given these octets for them, and the block rows with a missing
--- one are marked.
+-- It has passed the first of these blocks: the sink has taken them and given these octets for them, and the block rows with a missing block
+-- are marked.
 pub record Follows {S : Type 0} (k : SinkOf S) (p : Walking S) (blocks : Blocks) (gave : List ℕ) : Type 0 where
   pub sink : k.Follows p.sink p.geometry blocks (passed_in p) gave
   pub marked : (row : ℕ) → row < most_block_rows → is_marked p.damage.missing row ≡ is_lost p.geometry blocks (passed_in p) row
@@ -107,7 +107,7 @@ PassesBlocks k result values n p q old new = MatchResult result (λ _. HasPassed
 pub record AreBlocks (n : ℕ) (g : Geometry) (cells : List ℤ) : Type 0 where
   pub at : (i : ℕ) → i < n → IsBlock g (Some (block_at cells i))
 
--- it stands at the next block, and nothing else has changed
+-- it is at the next block, and nothing else has changed
 pub record HasAdvanced {S : Type 0} (old new : Walking S) : Type 0 where
   pub same : new ≡ record old { at = new.at }
   pub column : new.at.column < block_count old.geometry.width

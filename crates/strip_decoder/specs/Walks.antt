@@ -1,4 +1,4 @@
--- How a walk over the segments of a stream ends, by what it took and gave, whatever its sink makes of the blocks. This project's own.
+-- How a walk over the segments of a stream ends, by what it took and gave, whatever its sink does with the blocks. This project's own.
 use Rattle.std.specs.Prelude.{◌≡◌, ◌≢◌, ◌⊎◌, ◌≤◌, ◌-◌, ◌==◌, if◌then◌else◌, ℕ, Bool, not, List, [], length, false, Option, None, Some, Result, Ok, Err}
 use Rattle.port_122.specs.Outside.{Outside, Exchange, Rose, NoFewerFaults}
 use Rattle.base_122.specs.Ranges.{IsGeometryInRange}
@@ -57,7 +57,7 @@ PassesAll old new (Err NoSegment) = ⊥
 PassesAll old new (Err Memory) = ⊥
 PassesAll old new other = Unit {0}
 
--- The damage of an image where these segments are received: its ranges of rows, and if the height is known its missing block rows.
+-- The damage of an image if these segments are received: its ranges of rows, and if the height is known its missing block rows.
 pub record IsDamageOf (g : Geometry) (received : Numbers) (n : ℕ) (marks : Marks) : Type 0 where
   pub ranges_are : ranges marks.rows marks.missing ≡ damage g received n
   pub missing : g.rows ≢ 0 → marks.missing ≡ whole_missing g received
@@ -107,7 +107,7 @@ pub record IsWalked {S : Type 0} (k : SinkOf S) (wish : DecodeWish) (start new :
       × k.Follows walked.sink (placed walked.done.geometry) (blocks_with walked.done.geometry received) (blocks_passed walked.done.geometry (end_of (kept_in wish.apid took))) gave
       × IsDamageOf walked.done.geometry received (begun_in wish.apid took) walked.done.damage
 
--- a part of what the sink gives for the octets that were taken, where the port tells what is left
+-- a part of what the sink gives for the octets that were taken, if the port reports what is left
 abbrev pub GivesPart : {S : Type 0} → SinkOf S → DecodeWish → Outside → (took gave : List ℕ) → Type 0
 GivesPart k wish start took gave = (all : List ℕ) → start.rest ≡ Some all → PartBy k wish.apid took gave
 
@@ -117,7 +117,7 @@ pub record HasTooMany (wish : DecodeWish) (took gave : List ℕ) (pixels : ℕ) 
   pub many : ReportsMany wish.pixels wish.apid pixels took
   pub nothing : tells_last many ≡ false → gave ≡ []
 
--- Why it was answered so. The answers exclude each other by what was taken, the end and the counts, but for faults of the port.
+-- Why the walk ended so. The answers exclude each other by what was taken, the end and the counts, except for faults of the port.
 abbrev pub WalkAnswers : {S : Type 0} → SinkOf S → DecodeWish → (old new : Outside) (took gave : List ℕ) → Result (Walked S) DecodeFault → Type 0
 WalkAnswers k wish old new took gave (Ok walked) = IsWalked k wish old new took gave walked
 WalkAnswers k wish old new took gave (Err NoSegment) = (geometry_in wish.apid took ≡ None) × IsReadOut wish.octets new took × (gave ≡ [])
@@ -127,13 +127,13 @@ WalkAnswers k wish old new took gave (Err ReadFault) = Rose old.read_faults new.
 WalkAnswers k wish old new took gave (Err WriteFault) = Rose old.write_faults new.write_faults × HasFewKnown wish.pixels wish.apid took × GivesPart k wish old took gave
 WalkAnswers k wish old new took gave (Err Memory) = gave ≡ []
 
--- what a wish asks of a run that begins here
+-- the run that a wish asks for, if it begins here
 abbrev pub run_of : DecodeWish → Outside → Run
 run_of wish start = record { apid = wish.apid; cap = wish.octets; pixels = wish.pixels; start = start }
 
--- One run over a port: what it took and gave, when, and why it ended so. However it ends, it takes at most as many octets as are
--- wished. At each read call the sink has taken at least the blocks that the octets settle which were taken by then. Whatever the port
--- tells, what is given is nothing, or a part of what the sink gives of some blocks.
+-- One run over a port: what it took and gave, when, and why it ended so. However it ends, it takes at most the number of octets in the
+-- wish. At each read call the sink has taken at least the blocks that are settled by the octets that were taken by then. Whatever the port
+-- reports, what is given is nothing, or a part of what the sink gives of some blocks.
 pub record Walks {S : Type 0} (k : SinkOf S) (wish : DecodeWish) (old new : Outside) (result : Result (Walked S) DecodeFault) : Type 0 where
   pub took : List ℕ
   pub gave : List ℕ

@@ -1,4 +1,4 @@
-// The blocks of an image, passed to a sink one after another in raster order.
+// The blocks of an image are passed to a sink, one after another in raster order.
 ghost use Rattle.std.specs.Prelude.{◌≡◌, ◌≤◌, ◌<◌, ◌*◌, Some, length};
 ghost use Rattle.base_122.specs.Sizes.{block_count};
 ghost use Rattle.base_122.specs.Ranges.{IsGeometryInRange};
@@ -9,7 +9,7 @@ use crate::sink::BlockSink;
 use crate::walk::Walk;
 use port_122::{Failed, Port};
 
-// The place of the next block.
+// Moves the walk to the place of the next block.
 fn advance<S: BlockSink>(walk: &mut Walk<S>)
     requires range { IsGeometryInRange walk.old.geometry }
     requires column { walk.old.at.column < block_count walk.old.geometry.width }
@@ -23,7 +23,7 @@ fn advance<S: BlockSink>(walk: &mut Walk<S>)
     }
 }
 
-// The next block is missing, and so is its block row.
+// Passes the next block as missing, and marks its block row as missing.
 fn put_missing<S: BlockSink, X: Port>(walk: &mut Walk<S>, port: &mut X) -> Result<(), Failed>
     requires standing { IsCurrent S.sink (walking walk.old) }
     requires room { HasRoom 1 (walking walk.old) }
@@ -35,7 +35,7 @@ fn put_missing<S: BlockSink, X: Port>(walk: &mut Walk<S>, port: &mut X) -> Resul
     Ok(())
 }
 
-/// The next blocks are missing.
+/// Passes the next blocks as missing.
 pub fn put_missing_blocks<S: BlockSink, X: Port>(
     walk: &mut Walk<S>,
     port: &mut X,
@@ -51,7 +51,7 @@ pub fn put_missing_blocks<S: BlockSink, X: Port>(
     Ok(())
 }
 
-// The next block has these numbers.
+// Passes the next block with these 64 numbers.
 fn put_block<S: BlockSink, X: Port>(
     walk: &mut Walk<S>,
     port: &mut X,
@@ -67,7 +67,7 @@ fn put_block<S: BlockSink, X: Port>(
     Ok(())
 }
 
-/// The next blocks have these numbers, 64 each.
+/// Passes the next blocks with these numbers, 64 for each.
 pub fn put_blocks<S: BlockSink, X: Port>(
     walk: &mut Walk<S>,
     port: &mut X,

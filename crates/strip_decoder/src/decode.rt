@@ -1,4 +1,4 @@
-// Packets in, a picture out.
+// Decodes packets to a picture.
 ghost use Rattle.strip_decoder.specs.Answers.{Decodes};
 
 use crate::engine::walk_segments;
@@ -10,8 +10,8 @@ use port_122::Port;
 use std::alloc::Global;
 use thiserror::Error;
 
-/// What was read: the geometry of the image, whose rows are 0 if no header reported its height; the damage of the rows that were
-/// written; their number, which is the height if it is known; and why the stream can't be read on, if that was found.
+/// What was read: the geometry of the image, whose rows are 0 if no header reported its height; the damage of the rows that were written;
+/// their number, which is the height if it is known; and why the stream can't be read on, if that was found.
 #[derive(Drop)]
 pub struct DecodeDone {
     pub geometry: Geometry,
@@ -20,7 +20,7 @@ pub struct DecodeDone {
     pub framing: Option<Framing>,
 }
 
-/// Why no picture was given, or not as a whole.
+/// The reason why no picture was given, or only a part of it.
 #[derive(Clone, Copy, Debug, PartialEq, Eq, Error)]
 pub enum DecodeFault {
     /// A read failed.

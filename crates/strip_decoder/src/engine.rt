@@ -1,4 +1,4 @@
-// Packets in, the blocks of their image to a sink.
+// Passes the blocks of an image from its packets to a sink.
 ghost use Rattle.std.specs.Prelude.{◌≡◌, ◌≤◌, true, is_some, IfOk, vec_len};
 ghost use Rattle.base_122.specs.Ranges.{IsGeometryInRange};
 ghost use Rattle.stream_defs.specs.Begun.{height};
@@ -26,11 +26,11 @@ pub struct Walked<S> {
     pub sink: S,
 }
 
-/// Takes the packets of an APID and passes all blocks of their image to a sink that it makes, in raster order: those of the segments
-/// that are received, and for each other block that it is missing (docs/formats.md, "Packets", "Fates" and "Picture and damage";
-/// docs/architecture.md, "The decoder"). At each read call the blocks that the octets so far settle were passed. It reads to the end,
-/// or to what can't be read on, at most the octets that are wished, and no more once a header reports too many pixels.
-/// While the height isn't known, the sink takes the blocks of the tallest image; once a header reports it, the sink ends there.
+/// Takes the packets of an APID and passes all blocks of their image to a sink that it makes, in raster order: those of the segments that
+/// are received, and each other block as missing (docs/formats.md, "Packets", "Fates" and "Picture and damage"; docs/architecture.md, "The
+/// decoder"). At each read call the blocks that the octets so far settle were passed. It reads to the end, or to what can't be read on, at
+/// most the octets that are wished, and no more once a header reports too many pixels. While the height isn't known, the sink takes the
+/// blocks of the tallest image; once a header reports it, the sink ends there.
 ///
 /// # Errors
 ///
@@ -75,7 +75,7 @@ pub fn walk_segments<S: BlockSink + Drop, X: Port>(
     Ok(finish(walk, &geometry, assembly.framing()))
 }
 
-// What was read, once all blocks were passed.
+// Returns what was read, once all blocks were passed.
 fn finish<S: BlockSink + Drop>(
     mut walk: Walk<S>,
     geometry: &Geometry,
@@ -98,7 +98,7 @@ fn finish<S: BlockSink + Drop>(
     }
 }
 
-// The rows of the picture: all, or those that the block rows so far determine if the height isn't known.
+// Returns the number of rows of the picture: all, or those that the block rows so far determine if the height isn't known.
 fn rows_written(geometry: &Geometry, block_rows: u32) -> u32
     requires { block_rows ≤ 32768 }
     ensures { result ≡ height geometry.now block_rows }
@@ -109,7 +109,7 @@ fn rows_written(geometry: &Geometry, block_rows: u32) -> u32
     (8 * block_rows).saturating_sub(21)
 }
 
-// Takes all segments, from this one on, and loses the blocks after them.
+// Takes all segments, from this one on, and passes the blocks after them as missing.
 fn pass_all<S: BlockSink, X: Port>(
     walk: &mut Walk<S>,
     port: &mut X,
@@ -135,7 +135,7 @@ fn pass_all<S: BlockSink, X: Port>(
     }
 }
 
-// The height of the image is known.
+// Returns whether the height of the image is known.
 fn is_height_known(assembly: &Assembly) -> bool
     ensures { result ≡ is_height_known assembly.now.state.geometry }
 {
@@ -177,7 +177,7 @@ fn take_segments<S: BlockSink, X: Port>(
     }
 }
 
-// All blocks that are left are lost. If the height isn't known, none is known to be left.
+// Passes all blocks that are left as missing. If the height isn't known, none is known to be left.
 fn lose_rest<S: BlockSink, X: Port>(
     walk: &mut Walk<S>,
     port: &mut X,

@@ -1,4 +1,4 @@
-// The rows that losses damage, without the picture.
+// Finds the rows that losses damage, without the picture.
 ghost use Rattle.std.specs.Prelude.{◌≡◌, ◌≤◌};
 ghost use Rattle.port_122.specs.Outside.{WritesAll};
 ghost use Rattle.strip_decoder.specs.Lines.{range_line, damage_lines};
@@ -15,7 +15,7 @@ use port_122::{Failed, Port, write_all};
 use std::alloc::{AllocError, Global};
 use stream_defs::RowRange;
 
-/// A sink that makes nothing of the blocks: what it is asked for are the missing block rows, which each walk marks.
+/// A sink that ignores the blocks: its user needs only the missing block rows, which each walk marks.
 #[derive(Clone, Copy, Debug, Drop, PartialEq, Eq)]
 pub struct NoPicture;
 
@@ -39,9 +39,9 @@ impl BlockSink for NoPicture {
     fn end_at(&mut self, _geometry: &Geometry) {}
 }
 
-/// Takes the packets of an APID as `decode_packets` does, and answers as it does, but gives no row: after all is read it gives a line
-/// `first-last` for each range of damaged rows (docs/formats.md, "Picture and damage"). A front of the lines is given after
-/// `WriteFault`, and nothing after the other faults.
+/// Takes the packets of an APID as `decode_packets` does and returns what it returns, but gives no row: after all is read it gives a line
+/// `first-last` for each range of damaged rows (docs/formats.md, "Picture and damage"). After `WriteFault` a prefix of the lines is given,
+/// and nothing after the other faults.
 pub fn find_damage<X: Port>(
     alloc: Global,
     port: &mut X,
@@ -79,7 +79,7 @@ fn give_line<X: Port>(port: &mut X, range: RowRange) -> Result<(), Failed>
     write_all(port, line_of(range).as_bytes())
 }
 
-// A range and the end of its line.
+// The characters of a range and the end of its line.
 type Line = ArrayString<32>;
 
 fn line_of(range: RowRange) -> Line

@@ -1,19 +1,19 @@
-// What a decoder's clauses rest on.
+// The laws on which a decoder's clauses rest.
 ghost use Rattle.strip_decoder.specs.Containment.{DecodedContained, LossesContained};
 ghost use Rattle.strip_decoder.specs.Laws.{ReceivedIsTold};
 ghost use Rattle.strip_decoder.specs.RoundTrip.{RoundTrip};
 
 use segment_code::{coded_holds, coded_holds_exactly, texts_are_short};
 
-/// The octets of a stream tell which segments are received, and with which numbers, in just one way.
+/// The octets of a stream determine which segments are received, and with which numbers, in exactly one way.
 pub const fn received_is_told()
     ensures { ReceivedIsTold }
 {}
 
 /// Whatever numbers the lost blocks have, no pixel outside the damaged rows changes. So if some packets of an image are read, in order,
-/// each pixel outside their damage is that of the picture for all of them, and exactly the segments with all their packets are
-/// received. So it is for each height that the setting admits: if the height is reported last and the last segment isn't begun, the
-/// rows are those that the kept heads determine.
+/// each pixel outside their damage is that of the picture for all of them, and exactly the segments with all their packets are received.
+/// This holds for each height that the setting admits: if the height is reported last and the last segment isn't begun, the rows are those
+/// that the kept heads determine.
 pub const fn losses_are_contained()
     ensures { LossesContained }
 {
@@ -21,7 +21,7 @@ pub const fn losses_are_contained()
     coded_holds();
 }
 
-/// So it is of a picture that a decoder gave whole; and each pixel outside its damage is that of the picture for all packets, if it
+/// The same holds for a picture that a decoder gave whole; and each pixel outside its damage is that of the picture for all packets, if it
 /// took some packets of an image, of which one begins a segment, whether they report the height or not.
 pub const fn decoding_contains()
     ensures { DecodedContained }
@@ -30,9 +30,9 @@ pub const fn decoding_contains()
     coded_holds();
 }
 
-/// All packets of an image, in order, give it whole, whether its height is reported first or last: its size, each of its block rows,
-/// and no fault of framing. If there is neither a stop nor a limit they give exactly its pixels. So it is of what a decoder gave that
-/// took them.
+/// All packets of an image, in order, give it whole, whether its height is reported first or last: its size, each of its block rows, and no
+/// fault of framing. If there is neither a stop nor a limit they give exactly its pixels. The same holds for what a decoder gave that took
+/// them.
 pub const fn round_trip()
     ensures { RoundTrip }
 {

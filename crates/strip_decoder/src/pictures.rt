@@ -1,4 +1,4 @@
-// A picture takes the blocks.
+// A picture is a sink of blocks.
 use crate::sink::BlockSink;
 use base_122::Geometry;
 use picture_rows::{Picture, put_block, put_missing};

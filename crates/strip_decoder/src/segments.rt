@@ -1,4 +1,4 @@
-// The segments of an image, one after another.
+// Takes the segments of an image, one after another.
 ghost use Rattle.std.specs.Prelude.{◌≡◌, ◌≤◌, ◌*◌, true, length, vec_len};
 ghost use Rattle.base_122.specs.Ranges.{IsGeometryInRange};
 ghost use Rattle.plane_defs.specs.Profile.{profile};
@@ -21,7 +21,7 @@ use port_122::{Failed, Port};
 use segment_code::{SegmentFault, SegmentReader};
 use segment_head::SegmentHead;
 
-/// Goes on to the next segment, or to the end of the stream.
+/// Advances to the next segment, or to the end of the stream.
 pub fn find_next<X: Port>(
     port: &mut X,
     assembly: &mut Assembly,
@@ -35,7 +35,7 @@ pub fn find_next<X: Port>(
     }
 }
 
-// Asks for the end of a text that has none of its octets left: the packets that were passed then have closed it.
+// Requests the end of a text that has none of its octets left: the packets that were passed then have closed it.
 fn end_text<X: Port>(port: &mut X, assembly: &mut Assembly) -> Result<bool, DecodeFault>
     ensures { EndsText (X.outside port.old) (X.outside port.new) assembly.old assembly.new result }
 {
@@ -46,7 +46,7 @@ fn end_text<X: Port>(port: &mut X, assembly: &mut Assembly) -> Result<bool, Deco
     }
 }
 
-// Reads the text of a segment into the first of these blocks; answers false where it is refused or breaks off.
+// Reads the text of a segment into the first of these blocks. Returns false if it is refused or breaks off.
 fn read_text<X: Port>(
     port: &mut X,
     assembly: &mut Assembly,
@@ -78,7 +78,7 @@ fn read_text<X: Port>(
     }
 }
 
-/// The least number of pixels of an image in which this segment is, or that of the image if its height is known.
+/// Returns the least number of pixels of an image in which this segment is, or that of the image if its height is known.
 pub fn pixels_reached(geometry: &Geometry, start: &SegmentStart) -> u64
     requires range { IsGeometryInRange geometry.now }
     requires fits { FitsImage (placed geometry.now) start.now }
@@ -93,7 +93,7 @@ pub fn pixels_reached(geometry: &Geometry, start: &SegmentStart) -> u64
     width * FieldRange::ROWS.least.max(8 * block_rows - 7)
 }
 
-// Goes by the geometry of an image in which this segment was begun, unless that has too many pixels.
+// Takes the geometry of an image in which this segment was begun, unless that has too many pixels.
 fn follow_head<S: BlockSink>(
     walk: &mut Walk<S>,
     geometry: &Geometry,
@@ -112,7 +112,7 @@ fn follow_head<S: BlockSink>(
     Ok(())
 }
 
-/// Goes by the geometry of the image in which the segment that the assembly answered last was begun, unless that has too many pixels.
+/// Takes the geometry of the image in which the segment that the assembly returned last was begun, unless that has too many pixels.
 pub fn follow_found<S: BlockSink>(
     walk: &mut Walk<S>,
     assembly: &Assembly,
@@ -129,7 +129,7 @@ pub fn follow_found<S: BlockSink>(
     follow_head(walk, &geometry, start, most)
 }
 
-// If the next segment was begun while the text of this one was read, goes by the geometry that is known since.
+// Takes the geometry that is known by now, if the next segment was begun while the text of this one was read.
 fn follow_held<S: BlockSink>(
     walk: &mut Walk<S>,
     assembly: &Assembly,
@@ -148,7 +148,7 @@ fn follow_held<S: BlockSink>(
     follow_head(walk, &geometry, &next, most)
 }
 
-// Passes the blocks of a segment, which are lost where its text wasn't accepted.
+// Passes the blocks of a segment, as missing if its text wasn't accepted.
 fn pass_segment<S: BlockSink, X: Port>(
     walk: &mut Walk<S>,
     port: &mut X,
@@ -168,7 +168,7 @@ fn pass_segment<S: BlockSink, X: Port>(
     put_missing_blocks(walk, port, u64::from(count))
 }
 
-/// Goes on to the first block of a segment whose head was read: the blocks before it are lost.
+/// Advances to the first block of a segment whose head was read: the blocks before it are lost.
 pub fn reach_segment<S: BlockSink, X: Port>(
     walk: &mut Walk<S>,
     port: &mut X,
@@ -183,7 +183,7 @@ pub fn reach_segment<S: BlockSink, X: Port>(
     put_missing_blocks(walk, port, lost)
 }
 
-/// Takes the segment that the assembly answered last: the blocks before it are lost, and its own if its text isn't accepted.
+/// Takes the segment that the assembly returned last: the blocks before it are lost, and its own if its text isn't accepted.
 pub fn take_segment<S: BlockSink, X: Port>(
     walk: &mut Walk<S>,
     port: &mut X,

@@ -1,4 +1,4 @@
-// What takes the blocks of an image.
+// The trait of a sink of an image's blocks.
 ghost use Rattle.std.specs.Prelude.{None, Some, IfOk};
 ghost use Rattle.base_122.specs.Ranges.{IsGeometryInRange, IsWithin, rows_range};
 ghost use Rattle.strip_decoder.specs.Sinks.{SinkOf, Begins, IsNext, TakesBlock, IsEndable, EndsImage};
@@ -9,12 +9,12 @@ use std::alloc::{AllocError, Global};
 
 /// A sink of the blocks of one image, which follow in raster order: those of received segments, and the missing ones.
 ///
-/// What it makes of them it may write to a port. A call answers `Failed` only if a write failed.
+/// It may write to a port what it makes of them. A call returns `Failed` only if a write failed.
 pub trait BlockSink {
     /// What is known of the blocks so far, and of what was given for them.
     ghost sink: { SinkOf Self };
 
-    /// A sink for an image of this geometry. It takes all of its memory, the want of which is the one error.
+    /// Returns a sink for an image of this geometry. It takes all of its memory, and fails only if there is too little.
     fn begin(alloc: Global, geometry: &Geometry) -> Result<Self, AllocError>
         requires range { IsGeometryInRange geometry.now }
         requires height { IsWithin rows_range geometry.now.rows }
@@ -30,7 +30,7 @@ pub trait BlockSink {
         requires { IsNext sink None self.old }
         ensures { TakesBlock sink result None (X.outside port.old) (X.outside port.new) self.old self.new };
 
-    /// The image has the height of this geometry, which is the geometry of before in all else. The next block is in it.
+    /// Sets the height of the image to that of this geometry, which equals the earlier geometry in all else. The next block is in it.
     fn end_at(&mut self, geometry: &Geometry)
         requires { IsEndable sink geometry.now self.old }
         ensures { EndsImage sink geometry.now self.old self.new };

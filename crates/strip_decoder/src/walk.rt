@@ -1,4 +1,4 @@
-// What a walk over segments holds.
+// The state of a walk over segments.
 ghost use Rattle.std.specs.Prelude.{◌≡◌, ◌≤◌, ◌+◌, ◌*◌, IfOk, vec_len};
 ghost use Rattle.base_122.specs.Ranges.{IsGeometryInRange, IsWithin, rows_range};
 ghost use Rattle.plane_defs.specs.Profile.{profile};
@@ -21,7 +21,7 @@ pub struct BlockAt {
     pub column: u32,
 }
 
-/// How far a walk has come in its image, the missing block rows, and the sink of its blocks.
+/// The place of a walk in its image, the missing block rows, and the sink of its blocks.
 #[derive(Drop)]
 pub struct Walk<S> {
     pub geometry: Geometry,
@@ -30,7 +30,7 @@ pub struct Walk<S> {
     pub sink: S,
 }
 
-/// The geometry by which the blocks of an image are placed: that of the tallest image while the height isn't known.
+/// Returns the geometry by which the blocks of an image are placed: that of the tallest image while the height isn't known.
 pub fn placed(geometry: &Geometry) -> Geometry
     ensures { result ≡ placed geometry.now }
 {
@@ -41,7 +41,7 @@ pub fn placed(geometry: &Geometry) -> Geometry
     Geometry { rows, ..*geometry }
 }
 
-/// A walk that begins. The one error is want of memory for the sink.
+/// Returns a walk at the first block. It fails only if there is no memory for the sink.
 pub fn begin_walk<S: BlockSink>(alloc: Global, geometry: &Geometry) -> Result<Walk<S>, AllocError>
     requires range { IsGeometryInRange geometry.now }
     requires height { IsWithin rows_range geometry.now.rows }
@@ -56,7 +56,7 @@ pub fn begin_walk<S: BlockSink>(alloc: Global, geometry: &Geometry) -> Result<Wa
     })
 }
 
-/// The blocks before the next one.
+/// Returns the number of blocks before the next one.
 pub fn passed<S: BlockSink>(walk: &Walk<S>) -> u64
     requires { IsCurrent S.sink (walking walk.now) }
     ensures { result ≡ passed_in (walking walk.now) }
@@ -65,7 +65,7 @@ pub fn passed<S: BlockSink>(walk: &Walk<S>) -> u64
     u64::from(walk.at.row) * u64::from(columns) + u64::from(walk.at.column)
 }
 
-/// The image has this geometry from now on, if its height became known.
+/// Sets the geometry of the image from now on, if its height became known.
 pub fn end_image<S: BlockSink>(walk: &mut Walk<S>, geometry: &Geometry)
     requires standing { IsCurrent S.sink (walking walk.old) }
     requires ends { MayEnd walk.old.geometry geometry.now (passed_in (walking walk.old)) }
@@ -79,8 +79,8 @@ pub fn end_image<S: BlockSink>(walk: &mut Walk<S>, geometry: &Geometry)
     walk.geometry = *geometry;
 }
 
-/// What the segments of an image are read with: the blocks of one segment, a state for each, and the most pixels that the image may have.
-/// It holds at most 65 samples for each block of a segment.
+/// The room in which the segments of an image are read: the blocks of one segment, a state for each, and the most pixels that the image may
+/// have. It holds at most 65 samples for each block of a segment.
 #[derive(Drop)]
 pub struct SegmentRoom {
     pub reader: SegmentReader,
@@ -95,7 +95,7 @@ impl SegmentRoom {
     ghost use Rattle.base_122.specs.Ranges.{IsGeometryInRange, IsWithin, rows_range};
     ghost use Rattle.strip_decoder.specs.Rooms.{IsRoom};
 
-    /// Takes the memory for the segments of an image. The one error is want of memory.
+    /// Takes the memory for the segments of an image. It fails only if there is too little memory.
     pub fn new(alloc: Global, geometry: &Geometry, pixels: u64) -> Result<SegmentRoom, AllocError>
         requires range { IsGeometryInRange geometry.now }
         requires height { IsWithin rows_range geometry.now.rows }

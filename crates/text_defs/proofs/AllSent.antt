@@ -1,4 +1,4 @@
--- All stages of a plane tell each bit and sign of a block that the plane has.
+-- All stages of a plane report each bit and sign of a block that the plane has.
 use Rattle.std.proofs.Common.{◌≡◌, ℕ, ◌+◌, ◌^◌, ◌<◌, ◌≤◌, inl, inr, Bool, true, false, cond, List, [], ◌∷◌, refl, ap, sym, ◌∙◌, arith, ℤ, pos, get_or}
 use Rattle.std.specs.Prelude.{filter, nat_lt, nat_le, not, ◌&&◌}
 use Rattle.std.specs.List.{flat_map, list_any}

@@ -1,4 +1,4 @@
--- Whatever the next item of some numbers may say, numbers can be chosen that say it.
+-- Numbers can be chosen that have any value that the next item of some numbers may have.
 use Rattle.std.proofs.Common.{◌≡◌, ℕ, zero, suc, ◌+◌, ◌*◌, ◌-◌, ◌%◌, ◌^◌, ◌<◌, ◌≤◌, min, List, ◌∷◌, length, get_or, Bool, true, false, eqb, cond, refl, sym, ap, subst, ◌∙◌, arith, inl, inr, length-append}
 use Rattle.std.proofs.lemmas.Bool.{cases_lt}
 use Rattle.std.proofs.lemmas.Bool.Decides.{nat_tests}
@@ -138,7 +138,7 @@ module _ (kind : Kind) (some : 1 ≤ kind.bits) (xs : List ℕ) (few : (i : ℕ)
     pub long : length ys ≡ length xs
     pub chosen : Chooses m said (items_before kind xs o count) (items_before kind ys u count)
 
-  -- of the first gaggles, where the options that were read are some
+  -- of the first gaggles, if the options that were read exist
   pub any_numbers : (count m said : ℕ) → 0 < length xs → ((g : ℕ) → g < count → length (items_before kind xs o g) < m → is_option kind.bits (o g) ≡ true) → m < length (items_before kind xs o count) →
       MaySay (item_at (items_before kind xs o count) m) said → NumbersChosen count m said
   unfolding items_before

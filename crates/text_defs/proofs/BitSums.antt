@@ -38,7 +38,7 @@ sum_bits n (suc w) =
     by_bit (suc zero) p lt = omega arith
     by_bit (suc (suc d)) p lt = absurd (omega arith)
 
--- what a number's two's complement form has there
+-- bit b of a number's two's complement form, with its weight
 abbrev pub low_bit : ℤ → ℕ → ℕ
 low_bit z b = cond (complement 1 (int_shr z b) == 1) (2 ^ b) 0
 

@@ -9,7 +9,7 @@ use Rattle.item_defs.proofs.Texts.{text-cons, text_front}
 use Rattle.item_defs.proofs.Spellings.{one_spelling}
 use Rattle.text_defs.specs.Fronts.{Front, NothingFollows}
 
--- a spelling that is cut has no other one in front
+-- a code that is cut has no other code as a prefix
 cut_lacks : (i : Item) (n : ℕ) → IsItem i → n < length (item_bits i) → Lacks i.form.shape (take n (item_bits i))
 cut_lacks i n item lt s more said e =
     let bits = item_bits i in
@@ -58,7 +58,7 @@ cut_front (i ∷ is) all n lt =
           }
     ]
 
--- and one that isn't cut is read whole
+-- a text that is not cut is read whole
 pub whole_front : (items : List Item) (more : List Bool) → AreItems items → Front items (length items) (text items ++ more) more
 whole_front items more all =
     let same = take-length items in

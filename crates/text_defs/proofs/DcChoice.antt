@@ -1,4 +1,4 @@
--- DC numbers may be chosen so that the next item of the DC part says any number that it doesn't refuse.
+-- DC numbers may be chosen so that the next item of the DC part says any number that it does not refuse.
 use Rattle.std.proofs.Common.{◌≡◌, ℕ, zero, suc, ◌-◌, ◌^◌, ◌<◌, ◌≤◌, Bool, true, false, cond, eqb, List, [], ◌∷◌, ◌++◌, length, take, map, set, refl, ap, sym, ◌∙◌, subst, arith, ℤ, pos, negsuc, get_or, inl, inr, length-append, length-set}
 use Rattle.std.specs.Int.{int_shr}
 use Rattle.std.proofs.lemmas.Bool.{cases_lt}
@@ -60,7 +60,7 @@ planes_said q (suc n) vs ws long same le =
     (planes_said q n vs ws long (λ i c low high. same i c (omega (arith, low)) high) (omega (arith, le)))
     (bits_said (dc_bit (q - suc n)) vs ws long (λ i lt. same i (q - suc n) (omega arith) (omega (arith, le))))
 
--- bit b of the number at this place is another, and of it and all others those above stay
+-- bit b of the number at this place is changed, and in all numbers the bits above it stay
 record PlanesChosen (q n : ℕ) (vs : List ℤ) (k said : ℕ) : Type 0 where
   pub place : ℕ
   pub b : ℕ
@@ -73,7 +73,7 @@ record PlanesChosen (q n : ℕ) (vs : List ℤ) (k said : ℕ) : Type 0 where
 one_other : (vs : List ℤ) (place i : ℕ) (z : ℤ) (P : ℤ → Type 0) → place < length vs → P z → P (At vs i) → P (At (set vs place z) i)
 one_other vs place i z P inside here there = set_at vs place i z (pos 0) P inside (λ e. here) there
 
--- and what the others keep of theirs, this one keeps
+-- what all other numbers keep, this number keeps too
 keeps_all : (f : ℤ → ℕ) (vs : List ℤ) (place i : ℕ) (z : ℤ) → place < length vs → f (At vs place) ≡ f z → f (At vs i) ≡ f (At (set vs place z) i)
 keeps_all f vs place i z inside e = set_at vs place i z (pos 0) (λ x. f (At vs i) ≡ f x) inside (λ s. ap (λ j. f (At vs j)) s ∙ e) refl
 

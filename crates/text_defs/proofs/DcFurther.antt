@@ -1,4 +1,4 @@
--- A reading that stops within the DC part goes one item further.
+-- A reading that stops within the DC part continues by one item.
 use Rattle.std.proofs.Common.{◌≡◌, ℕ, zero, suc, ◌*◌, ◌^◌, ◌<◌, ◌≤◌, Bool, true, false, cond, List, [], ◌∷◌, ◌++◌, length, take, map, refl, ap, sym, ◌∙◌, subst, arith, ℤ, pos, get_or, length-append}
 use Rattle.std.specs.Prelude.{unsigned_abs}
 use Rattle.std.proofs.lemmas.List.{length-map, get_or-map, append-nil}
@@ -30,7 +30,7 @@ pub dc_band : (head : SegmentHead) → shift head.image.weights.shifts 0 ≡ dc_
 unfolding blocks.place_of
 dc_band head = refl
 
--- ---- blocks of a DC alone
+-- ---- blocks in which only the DC is not 0
 
 lone : ℤ → List ℤ
 lone z = z ∷ map (λ i. pos 0) (span 0 63)

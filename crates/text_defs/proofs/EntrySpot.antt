@@ -1,4 +1,4 @@
--- The next item of an entry says any number that it doesn't refuse, by another entry or by another option.
+-- The next item of an entry says any number that it does not refuse, by another entry or by another option.
 use Rattle.std.proofs.Common.{◌≡◌, ◌⊎◌, ℕ, zero, suc, ◌+◌, ◌^◌, ◌<◌, ◌≤◌, inl, inr, Bool, true, false, cond, eqb, List, [], ◌∷◌, ◌++◌, length, refl, ap, sym, ◌∙◌, subst, arith, zero-add}
 use Rattle.std.specs.Prelude.{◌==◌, ◌||◌, None, Some, nat_lt}
 use Rattle.std.specs.List.{list_any, list_all}
@@ -58,7 +58,7 @@ symbol-word n s low high lt = equal_from (symbol n (word_of n s)) s (list_all-sp
 word-small : (n s : ℕ) → 2 ≤ n → n ≤ 4 → s < 2 ^ n → word_of n s < 2 ^ n
 word-small n s low high lt = below_from (word_of n s) (2 ^ n) (list_all-span-zero (λ s. below (2 ^ n) (word_of n s)) (2 ^ n) s (words_below n low high) lt)
 
--- all options but that of this length are the same
+-- all options are the same except that of this length
 abbrev pub Elsewhere : ℕ → List ℕ → List ℕ → Type 0
 Elsewhere n o u = (l : ℕ) → 2 ≤ l → l ≤ 4 → (l ≡ n → ⊥) → option_of o l ≡ option_of u l
 

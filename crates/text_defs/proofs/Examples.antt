@@ -1,4 +1,4 @@
--- Small segments, spelled out.
+-- Small segments, with all of their octets.
 use Rattle.std.proofs.Common.{◌≡◌, ℕ, ℤ, pos, negsuc, List, [], ◌∷◌, ◌++◌, replicate, refl, true, false, length, get_or, ◌-◌}
 use Rattle.std.specs.Prelude.{Some, take}
 use Rattle.item_defs.specs.Bits.{bits_of, copies, value_of, bits_of_octets, octets_of}
@@ -66,19 +66,19 @@ first_given : given_blocks first_head first_blocks (block_depths first_blocks) (
 unfolding size_of bits_of copies value_of bits_of_octets octets_of mapped unmapped value_items gaggle_items items_before coded_bits optimal heuristic greatest_suiting planes_before dc_items depth_items span symbol cost is_cheapest cheapest profile significant coded set_significant live enclosing_significant type_due flag_due newly_significant refined block_entries is_new is_forced block_steps word_of entry_reading segment_items blocks.place_of lib.Count.ones given_blocks
 first_given = refl
 
--- after the flag of all descendants, families of zeros alone: B8 35 90
+-- after the flag of all descendants, families of only zeros: B8 35 90
 false_flag_here : ((item_at (items_of first_head first_blocks) 14).form.refusal 0 ≡ Some false_flag) ×
     (text (take 14 (items_of first_head first_blocks)) ++ true ∷ [] ≡ take 20 (bits_of_octets (0xB8 ∷ 0x35 ∷ 0x90 ∷ [])))
 unfolding size_of bits_of copies value_of bits_of_octets octets_of mapped unmapped value_items gaggle_items items_before coded_bits optimal heuristic greatest_suiting planes_before dc_items depth_items span symbol cost is_cheapest cheapest profile significant coded set_significant live enclosing_significant type_due flag_due newly_significant refined block_entries is_new is_forced block_steps word_of entry_reading segment_items blocks.place_of lib.Count.ones
 false_flag_here = (refl, refl)
 
--- an identifier that names no option: B9 00
+-- an identifier that has no option: B9 00
 bad_option_here : ((item_at (items_of first_head first_blocks) 5).form.refusal 2 ≡ Some bad_option) ×
     (text (take 5 (items_of first_head first_blocks)) ++ true ∷ false ∷ [] ≡ take 9 (bits_of_octets (0xB9 ∷ 0x00 ∷ [])))
 unfolding size_of bits_of copies value_of bits_of_octets octets_of mapped unmapped value_items gaggle_items items_before coded_bits optimal heuristic greatest_suiting planes_before dc_items depth_items span symbol cost is_cheapest cheapest profile significant coded set_significant live enclosing_significant type_due flag_due newly_significant refined block_entries is_new is_forced block_steps word_of entry_reading segment_items blocks.place_of lib.Count.ones
 bad_option_here = (refl, refl)
 
--- weights of their usual kind, where only HH1 has a bit in plane 0
+-- the usual weights, with which only HH1 has a bit in plane 0
 abbrev usual : List ℕ
 usual = 0 ∷ 1 ∷ 1 ∷ 1 ∷ 2 ∷ 2 ∷ 2 ∷ 3 ∷ 3 ∷ 3 ∷ []
 
@@ -97,13 +97,13 @@ stopped_text : octets_of (padded 1 0 false (text (items_of (head_with usual 5 1 
 unfolding size_of bits_of copies value_of bits_of_octets octets_of mapped unmapped value_items gaggle_items items_before coded_bits optimal heuristic greatest_suiting planes_before dc_items depth_items span symbol cost is_cheapest cheapest profile significant coded set_significant live enclosing_significant type_due flag_due newly_significant refined block_entries is_new is_forced block_steps word_of entry_reading segment_items blocks.place_of lib.Count.ones
 stopped_text = refl
 
--- where the stop leaves the grandchildren out, they aren't given
+-- if the stop leaves the grandchildren out, they are not given
 stopped_given : given_blocks (head_with usual 5 1 0 1) second_blocks (block_depths second_blocks) (chosen_options profile (head_with usual 5 1 0 1) second_blocks)
     (length (items_of (head_with usual 5 1 0 1) second_blocks)) ≡ (pos 8 ∷ replicate 63 (pos 0)) ∷ []
 unfolding size_of bits_of copies value_of bits_of_octets octets_of mapped unmapped value_items gaggle_items items_before coded_bits optimal heuristic greatest_suiting planes_before dc_items depth_items span symbol cost is_cheapest cheapest profile significant coded set_significant live enclosing_significant type_due flag_due newly_significant refined block_entries is_new is_forced block_steps word_of entry_reading segment_items blocks.place_of lib.Count.ones given_blocks
 stopped_given = refl
 
--- what the first items give: the DC's high bits, a number before its sign and after it, the DC's last bit, and all but a last bit
+-- what the first items give: the DC's high bits, a number before its sign and after it, the DC's last bit, and all except a last bit
 abbrev given_of : ℕ → List (List ℤ)
 given_of m = given_blocks first_head first_blocks (block_depths first_blocks) (chosen_options profile first_head first_blocks) m
 
@@ -124,7 +124,7 @@ all_but_one : given_of (length (items_of first_head first_blocks) - 1) ≡ (pos 
 unfolding size_of bits_of copies value_of bits_of_octets octets_of mapped unmapped value_items gaggle_items items_before coded_bits optimal heuristic greatest_suiting planes_before dc_items depth_items span symbol cost is_cheapest cheapest profile significant coded set_significant live enclosing_significant type_due flag_due newly_significant refined block_entries is_new is_forced block_steps word_of entry_reading segment_items blocks.place_of lib.Count.ones given_blocks
 all_but_one = refl
 
--- a reference is given with its item; nothing of the DC before
+-- a reference is given with its item, and nothing of the DC before it
 first_none : given_of 1 ≡ replicate 64 (pos 0) ∷ []
 unfolding size_of bits_of copies value_of bits_of_octets octets_of mapped unmapped value_items gaggle_items items_before coded_bits optimal heuristic greatest_suiting planes_before dc_items depth_items span symbol cost is_cheapest cheapest profile significant coded set_significant live enclosing_significant type_due flag_due newly_significant refined block_entries is_new is_forced block_steps word_of entry_reading segment_items blocks.place_of lib.Count.ones given_blocks
 first_none = refl
@@ -159,7 +159,7 @@ many_text : take 96 (text (segment_items many_head many_blocks (replicate 100 0)
 unfolding size_of bits_of copies value_of bits_of_octets octets_of mapped unmapped value_items gaggle_items items_before coded_bits optimal heuristic greatest_suiting planes_before dc_items depth_items span symbol cost is_cheapest cheapest profile significant coded set_significant live enclosing_significant type_due flag_due newly_significant refined block_entries is_new is_forced block_steps word_of entry_reading segment_items blocks.place_of lib.Count.ones
 many_text = refl
 
--- 73 items stand in these octets, and give the numbers of blocks 0 to 67
+-- 73 items are in these octets, and give the numbers of blocks 0 to 67
 many_given : (length (text (take 73 (segment_items many_head many_blocks (replicate 100 0) many_options))) ≡ 96) ×
     (get_or (given_blocks many_head many_blocks (replicate 100 0) many_options 73) 67 [] ≡ pos 1600 ∷ replicate 63 (pos 0)) ×
     (get_or (given_blocks many_head many_blocks (replicate 100 0) many_options 73) 68 [] ≡ replicate 64 (pos 0))

@@ -1,4 +1,4 @@
--- Two readings of the same bits agree as far as both go, and stop in one way.
+-- Two readings of the same bits agree as far as both extend, and stop in the same way.
 use Rattle.std.proofs.Common.{◌≡◌, ℕ, zero, suc, ◌<◌, ◌≤◌, List, [], ◌∷◌, ◌++◌, length, take, Bool, refl, sym, ap, subst, ◌∙◌, arith}
 use Rattle.std.specs.Prelude.{Some}
 use Rattle.item_defs.proofs.ReadingLaws.{not_refused, some_of}
@@ -38,7 +38,7 @@ fronts_agree (i ∷ is) (j ∷ js) (suc m) xs ys same a b p q e =
     let r = fronts_agree is js m xs ys (same.1 first.0 p.0) (omega arith) (omega arith) p.1 q.1 first.1 in
     (ap (λ n. n ∷ said_of (take m is)) first.0 ∙ ap (λ l. j.said ∷ l) r.0, r.1)
 
--- the next items have one form, or there is none in both
+-- the next items have one form, or neither has a next item
 pub next_alike : (is js : List Item) (m : ℕ) → ItemsAlike is js → m ≤ length is → m ≤ length js → AreItems (take m is) → said_of (take m is) ≡ said_of (take m js) →
     (m < length is → (m < length js) × ((item_at is m).form ≡ (item_at js m).form)) × (m ≡ length is → m ≡ length js)
 next_alike [] [] zero same a b p e = (λ lt. absurd (omega arith), λ f. refl)
@@ -53,7 +53,7 @@ next_alike (i ∷ is) (j ∷ js) (suc m) same a b p e =
     let r = next_alike is js m (same.1 first p.0) (omega arith) (omega arith) p.1 others in
     (λ lt. let s = r.0 (omega arith) in (omega (arith, s.0), s.1), λ f. omega (arith, r.1 (omega arith)))
 
--- a front of more items begins with one of fewer, and goes on with the next item
+-- a prefix of more items begins with one of fewer, and continues with the next item
 pub shorter_front : (js : List Item) (m n : ℕ) (ys : List Bool) → m < n → n ≤ length js → AreItems (take n js) →
     AreItems (take m js) × IsItem (item_at js m) × ((more : List Bool) × (text (take n js) ++ ys ≡ text (take m js) ++ (item_bits (item_at js m) ++ more)))
 shorter_front js m zero ys lt within all = absurd (omega arith)
@@ -66,7 +66,7 @@ shorter_front (j ∷ js) (suc m) (suc n) ys lt within all =
       (r.2.0, text_front j (take n js) ys ∙ ap (λ l. item_bits j ++ l) r.2.1 ∙ sym (text_front j (take m js) (item_bits (item_at js m) ++ r.2.0))),
     )
 
--- ---- how a front ends
+-- ---- how a prefix ends
 
 pub data End : Type 0 where
   all_given : End
@@ -79,7 +79,7 @@ EndsSo items m more nothing_follows = NothingFollows items m more
 EndsSo items m more (refusal_follows name) = RefusalFollows items m more name
 
 module _ (is js : List Item) (bits : List Bool) (same : ItemsAlike is js) where
-  -- where one goes on, the other doesn't end
+  -- if one continues, the other does not end
   pub no_earlier_end : (m n : ℕ) (xs ys : List Bool) (end : End) → m < n → Front is m bits xs → Front js n bits ys → EndsSo is m xs end → ⊥
   no_earlier_end m n xs ys end lt a b ends =
       let s = shorter_front js m n ys lt b.within b.taken in

@@ -1,4 +1,4 @@
--- An item that follows and isn't refused is the next one of some reading, so each text has an outcome.
+-- An item that is next and is not refused is the next item of some reading, so each text has an outcome.
 use Rattle.std.proofs.Common.{◌≡◌, ℕ, suc, ◌+◌, ◌≤◌, inl, inr, Bool, true, false, cond, List, ◌++◌, length, ap, refl, arith, ℤ}
 use Rattle.std.proofs.lemmas.Bool.{cases_lt}
 use Rattle.number_defs.specs.Depths.{depth_items}

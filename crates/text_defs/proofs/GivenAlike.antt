@@ -1,4 +1,4 @@
--- Two readings of as many items give the same numbers.
+-- Two readings of the same number of items give the same numbers.
 use Rattle.std.proofs.Common.{◌≡◌, ◌⊎◌, ℕ, zero, suc, ◌+◌, ◌-◌, ◌*◌, ◌^◌, ◌<◌, ◌≤◌, inl, inr, Bool, true, false, cond, List, [], ◌∷◌, ◌++◌, length, take, map, refl, ap, sym, ◌∙◌, subst, arith, ℤ, pos, get_or}
 use Rattle.std.specs.Prelude.{nat_le, nat_lt, ◌&&◌, ◌||◌, ◌==◌, sum_by, neg_ℤ, ◌+ℤ◌, ◌*ℤ◌}
 use Rattle.std.specs.Int.{int_shr}
@@ -36,7 +36,7 @@ use Rattle.text_defs.proofs.OutcomeLaws.{step_law}
 use Rattle.plane_texts.proofs.LowBits.{none_below, twos, left_over}
 use Rattle.text_defs.proofs.DcTold.{through_told, bits_told, dc_long}
 
--- ---- tests that come out alike
+-- ---- tests that have the same result
 
 or_and : (a a' b b' c c' : Bool) → a ≡ a' → b ≡ b' → (a ≡ true → c ≡ c') → (b ≡ true → c ≡ c') → ((a || b) && c) ≡ ((a' || b') && c')
 or_and a a' b b' c c' p q f g = ap (λ x. (x || b) && c) p ∙ ap (λ x. (a' || x) && c) q ∙ by_tests a' b' (λ e. f (p ∙ e)) (λ e. g (q ∙ e))
@@ -176,7 +176,7 @@ module _ (head : SegmentHead) (fits : IsHead head) (xs ys : List (List ℤ)) (ds
       let t = bits_told head xs ys ds es o u p q m dc_said r inside b lt in
       (t.0, λ e. ap (λ z. complement 1 (int_shr z b) == 1) (sym dc_x) ∙ ap (λ c. c == 1) (t.1 e) ∙ ap (λ z. complement 1 (int_shr z b) == 1) dc_y)
 
-  -- where the DC part has a bit that isn't given, no step is
+  -- if the DC part has a bit that is not given, no step is given
   none_yet : (blocks : List (List ℤ)) (depths : List ℕ) (options : Options) → length blocks ≡ head.blocks → (b : ℕ) → b < q_of head → head.depth_ac ≤ b → shift ≤ b →
       is_dc_bit_given head blocks options m r b ≡ false → has_bit head blocks depths options m r 0 b ≡ false
   none_yet blocks depths options counted b lt deep low none =

@@ -65,7 +65,7 @@ sum_from : (s : ℕ) (f : ℕ → ℕ) → ((b : ℕ) → IsBitFrom s b (f b)) �
 sum_from s f each zero = record { part = 0; whole = omega (arith, sum_none f); few = omega (arith, sum_none f, pow_pos 0) }
 sum_from s f each (suc w) = subst (BitsFrom s (suc w)) (sym (sum_span f w)) (one_more s w (sum_by f (span 0 w)) (f w) (sum_from s f each w) (each w))
 
--- a bit where two tests hold, of which the second fails below the place
+-- a bit if two tests hold, of which the second fails below the place
 tested : (s b : ℕ) (t c : Bool) → (b < s → c ≡ false) → IsBitFrom s b (cond (t && c) (2 ^ b) 0)
 tested s b false c none = inl refl
 tested s b true false none = inl refl

@@ -51,7 +51,7 @@ less_test a b lt = grind (arith, nat_tests)
 past_test : (a b : ℕ) → b < a → nat_le a b ≡ false
 past_test a b lt = grind (arith, nat_tests)
 
--- what holds wherever a bit is 1 makes no difference to it
+-- a condition that holds whenever a bit is 1 does not change the bit
 absorbs : (h c : Bool) → (c ≡ true → h ≡ true) → (h && c) ≡ c
 absorbs true c f = refl
 absorbs false true f = f refl
@@ -214,7 +214,7 @@ module _ (head : SegmentHead) (blocks : List (List ℤ)) (depths : List ℕ) (op
   unfolding coded wave_blocks.place_of
   dc_coded b le = within_test shift b le
 
-  -- a low bit that isn't 0 is given
+  -- a low bit that is not 0 is given
   bit_given : (b : ℕ) → b < q_of head → (complement 1 (int_shr (dc_of B) b) == 1) ≡ true → (is_dc_bit_given head blocks options m r b || has_bit head blocks depths options m r 0 b) ≡ true
   bit_given b lt e = by_shift (cases_lt b shift) (cases_lt b head.depth_ac)
     where

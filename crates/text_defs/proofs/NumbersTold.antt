@@ -53,7 +53,7 @@ map_long f a n = length-map (range_with_len a n) f ∙ length-range_with_len a n
 
 -- ---- a gaggle
 
--- the unary parts that stand before the rests
+-- the unary parts that are before the rests
 abbrev unary_of : Kind → ℕ → ℕ → ℕ
 unary_of kind option n = cond (eqb option (uncoded kind.bits) || eqb option 0) 0 n
 

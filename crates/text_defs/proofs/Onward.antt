@@ -1,4 +1,4 @@
--- Where each item that isn't refused is the next one of some reading, each text has an outcome.
+-- If each item that is not refused is the next item of some reading, each text has an outcome.
 use Rattle.std.proofs.Common.{◌≡◌, ◌⊎◌, ℕ, zero, suc, ◌-◌, ◌^◌, ◌<◌, ◌≤◌, inl, inr, Bool, true, false, List, [], ◌∷◌, ◌++◌, length, map, refl, ap, sym, ◌∙◌, subst, arith, ℤ, pos, get_or, length-append}
 use Rattle.std.specs.Prelude.{◌≢◌, Option, None, Some, unsigned_abs}
 use Rattle.std.proofs.lemmas.Bool.{cases_lt}
@@ -26,7 +26,7 @@ use Rattle.text_defs.specs.Outcomes.{Reading, Holds, Refused, SegmentRefusal, at
 use Rattle.text_defs.specs.Laws.{GoesFurther, HasOutcome}
 use Rattle.text_defs.proofs.LongItems.{long_at, segment_items_long}
 
--- ---- a spelling stands next, or none does
+-- ---- a code is next, or no code is
 
 pub record Follows (s : Shape) (bits : List Bool) : Type 0 where
   pub spelt : ℕ
@@ -185,7 +185,7 @@ module _ (head : SegmentHead) (rest : List ℕ) (xs : List (List ℤ)) (ds : Lis
         ]
       ]
 
-  -- no spelling stands next
+  -- no code is next
   cut_there : m < length items → Lacks (item_at items m).form.shape more → Outcome book head rest
   cut_there within lacks = by_limit (cases_lt 0 head.limit)
     where
@@ -205,7 +205,7 @@ module _ (head : SegmentHead) (rest : List ℕ) (xs : List (List ℤ)) (ds : Lis
             ]
           ]
 
-  -- a reading stops here, or goes on
+  -- a reading stops here, or continues
   one_step : GoesFurther → IsHead head → ((ys : List (List ℤ)) (es : List ℕ) (u : Options) (after : List Bool) → length after < length more → u.book ≡ book → Reading head rest ys es u (suc m) after → Outcome book head rest) → Outcome book head rest
   one_step goes fits then =
       elim (cases_lt m (length items)) [

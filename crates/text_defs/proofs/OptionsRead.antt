@@ -1,4 +1,4 @@
--- Options of numbers whose identifiers were read are some; so numbers go one item further.
+-- Options of numbers whose identifiers were read exist; so numbers continue by one item.
 use Rattle.std.proofs.Common.{◌≡◌, ℕ, zero, suc, ◌-◌, ◌^◌, ◌<◌, ◌≤◌, Bool, true, false, not, cond, List, [], ◌∷◌, ◌++◌, length, take, get_or, refl, ap, sym, ◌∙◌, subst, arith, length-append}
 use Rattle.std.specs.Prelude.{None, Some}
 use Rattle.item_defs.specs.Items.{Item, bad_option, identifier}
@@ -41,7 +41,7 @@ module _ (kind : Kind) (xs : List ℕ) (o : ℕ → ℕ) where
       let item : IsItem (identifier (identifier_bits kind.bits) (is_option kind.bits) (o g)) = subst IsItem at (are_at m k (number_items kind xs o) all read within) in
       named (is_option kind.bits (o g)) item.2
 
-  -- all numbers, with the items before not refused
+  -- all numbers, if the items before are not refused
   pub numbers_further : (few : (i : ℕ) → get_or xs i 0 < 2 ^ kind.bits) (some : 1 ≤ kind.bits) (m said : ℕ) → 0 < length xs → AreItems (take m (number_items kind xs o)) →
       m < length (number_items kind xs o) → MaySay (item_at (number_items kind xs o) m) said → NumbersChosen kind some xs few o (gaggle_count (length xs)) m said
   numbers_further few some m said inside all lt may =

@@ -65,7 +65,7 @@ module _ (head : SegmentHead) (rest : List ℕ) (fits : IsHead head) (xs ys : Li
       let same : m ≡ n = omega arith in
       (same, at_one n (subst (λ k. Reading head rest xs ds o k more) same a) b s t (subst (λ k. EndsSo (segment_items head xs ds o) k more s) same p) q)
 
-  -- where all items are given, the text's length should be one
+  -- if all items are given, the text has one expected length
   pub one_length : (m n : ℕ) → Reading head rest xs ds o m more → Reading head rest ys es u n other → m ≡ length (segment_items head xs ds o) → n ≡ length (segment_items head ys es u) → m ≡ n →
       expected_length head (segment_items head xs ds o) ≡ expected_length head (segment_items head ys es u)
   one_length m n a b p q same =
@@ -82,7 +82,7 @@ module _ (head : SegmentHead) (rest : List ℕ) (fits : IsHead head) (xs ys : Li
 
 -- ---- outcomes
 
--- how a reading of what is held ends, and how one of what is refused does
+-- how a reading of what is held ends, and how a reading of what is refused ends
 end_of_taken : (head : SegmentHead) (rest : List ℕ) (is : List Item) (m : ℕ) (more : List Bool) → IsTaken head rest is m more → (s : End) × EndsSo is m more s
 end_of_taken head rest is m more (inl whole) = (all_given, whole.0)
 end_of_taken head rest is m more (inr cut) = (nothing_follows, cut.0)
@@ -91,7 +91,7 @@ abbrev Cause : SegmentHead → List ℕ → List Item → ℕ → List Bool → 
 Cause head rest is m more name =
     IsRefusedItem is m more name ⊎ (((m ≡ length is) × IsOff (length_of head rest) (expected_length head is) name) ⊎ (NothingFollows is m more × IsOffLimit head rest name))
 
--- two causes that end alike have one name
+-- two causes that end in the same way have one name
 off_once : (octets wanted : ℕ) (a b : SegmentRefusal) → IsOff octets wanted a → IsOff octets wanted b → a ≡ b
 off_once octets wanted (at_item name) b p q = absurd p
 off_once octets wanted short_segment (at_item name) p q = absurd q
@@ -123,7 +123,7 @@ not_off_limit head rest short_segment cut (inl none) = cut.limited none
 not_off_limit head rest short_segment cut (inr short) = omega (arith, cut.full, short)
 not_off_limit head rest overlong cut p = omega (arith, cut.full, p.1)
 
--- the ends apart
+-- the ends are different
 is_given : End → Type 0
 is_given all_given = Unit {0}
 is_given nothing_follows = ⊥

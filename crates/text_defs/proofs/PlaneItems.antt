@@ -1,4 +1,4 @@
--- The items of a plane of spellable values are none of them refused.
+-- No item of a plane of values that can be coded is refused.
 use Rattle.std.proofs.Common.{◌≡◌, ℕ, zero, suc, ◌*◌, ◌^◌, ◌<◌, ◌≤◌, Bool, true, false, cond, eqb, List, [], ◌∷◌, ◌++◌, refl, ap, ◌∙◌, subst, arith, get_or}
 use Rattle.std.specs.Prelude.{◌==◌, None, Some, nat_lt}
 use Rattle.std.specs.List.{flat_map, list_any, list_all, AllByRecursion}

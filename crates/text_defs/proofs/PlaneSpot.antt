@@ -1,4 +1,4 @@
--- The next item of a plane says any number that it doesn't refuse, by another entry of one block or by another option.
+-- The next item of a plane says any number that it does not refuse, by another entry of one block or by another option.
 use Rattle.std.proofs.Common.{◌≡◌, ◌⊎◌, ℕ, zero, suc, ◌+◌, ◌*◌, ◌<◌, ◌≤◌, inl, inr, Bool, false, List, [], ◌∷◌, ◌++◌, length, refl, ap, sym, ◌∙◌, subst, arith, ℤ, get_or}
 use Rattle.std.specs.Prelude.{◌||◌}
 use Rattle.std.specs.List.{flat_map, list_any}
@@ -53,7 +53,7 @@ read_same book o before (s ∷ ss) (t ∷ ts) same e =
     ∙ ap (λ l. step_reading book o before t ++ l)
     (read_same book o (before ++ s.entry ∷ []) ss ts (same.3 first) (tail_same s.entry t.entry (entries_of ss) (entries_of ts) e) ∙ ap (λ x. read_after book o (before ++ x ∷ []) ts) first)
 
--- no part of a list has what the whole lacks
+-- no part of a list has what is missing in the whole
 none_in : (t : Entry → Bool) (f : ℕ → List Entry) (k i : ℕ) → list_any t (flat_map f (span 0 k)) ≡ false → i < k → list_any t (f i) ≡ false
 unfolding span
 none_in t f zero i none lt = absurd (omega arith)
@@ -71,7 +71,7 @@ module _ (book : Book) (xs : List (List ℤ)) (depths weights : List ℕ) (numbe
   abbrev Steps : List (List ℤ) → (k r : ℕ) → List Step
   Steps blocks k r = steps_of_block (plane_with blocks) (stage_number k) r
 
-  -- blocks of which one alone is another, and sends another entry in stage k
+  -- blocks of which exactly one is changed, and sends another entry in stage k
   pub record Differs (ys : List (List ℤ)) (k r j : ℕ) (e : Entry) : Type 0 where
     pub acs : (i : ℕ) → AcsAlike (get_or xs i []) (get_or ys i []) weights number
     pub early : (i : ℕ) → i < k → (s : ℕ) → of_block (plane_with xs) (stage_number i) s ≡ of_block (plane_with ys) (stage_number i) s

@@ -1,4 +1,4 @@
--- The steps of a block that the first items of two readings of a plane give tell the same.
+-- The steps of a block that the first items of two readings of a plane give report the same.
 use Rattle.std.proofs.Common.{◌≡◌, ℕ, suc, ◌+◌, ◌-◌, ◌*◌, ◌/◌, ◌<◌, ◌≤◌, inl, inr, min, List, [], ◌++◌, length, ap, sym, ◌∙◌, subst, arith, ℤ, get_or, append_assoc}
 use Rattle.std.specs.List.{flat_map, AllByRecursion}
 use Rattle.item_defs.specs.Items.{Item}
@@ -87,7 +87,7 @@ module _ (book : Book) (o u : ℕ → List ℕ) (known : (g : ℕ) → AreOption
   fits_before : (blocks : List (List ℤ)) (k r : ℕ) → Fits (before_block blocks k r)
   fits_before blocks k r = steps.flat_fits (steps_of_block (plane_with blocks) (stage_number k)) (fits_there blocks k) (span (16 * (r / 16)) (r - 16 * (r / 16)))
 
-  -- the items of the block's gaggle stand next
+  -- the items of the block's gaggle are next
   block_told : (k r m : ℕ) → k < 5 → r < length depths → Known k (r / 16) → (rest other : List Item) →
       SaySame m (gaggle_reading book o (plane_with xs) k (r / 16) ++ rest) (gaggle_reading book u (plane_with ys) k (r / 16) ++ other) →
       Told k (m - length (read_before o xs k r)) (m - length (read_before u ys k r)) r

@@ -1,4 +1,4 @@
--- A reading that stops within the planes goes one item further, where each step of a block may have any entry that isn't refused.
+-- A reading that stops within the planes continues by one item, if each step of a block may have any entry that is not refused.
 use Rattle.std.proofs.Common.{◌≡◌, ℕ, zero, suc, ◌+◌, ◌-◌, ◌^◌, ◌<◌, ◌≤◌, inl, inr, min, Bool, true, false, cond, eqb, List, [], ◌∷◌, ◌++◌, length, map, set, refl, ap, sym, ◌∙◌, subst, arith, ℤ, pos, get_or, length-append, length-set}
 use Rattle.std.specs.Int.{int_shr}
 use Rattle.std.proofs.lemmas.Bool.Decides.{nat_tests}
@@ -37,7 +37,7 @@ use Rattle.text_defs.proofs.EntrySpot.{Elsewhere}
 use Rattle.text_defs.proofs.PlaneSpot as spots
 use Rattle.plane_texts.proofs.BlockChoice.{acs_above, seen_above}
 
--- ---- the DC part sees the high bits alone
+-- ---- the DC part depends only on the high bits
 
 map_at : {A : Type 0} (f : ℤ → A) (vs ws : List ℤ) → length ws ≡ length vs → ((i : ℕ) → f (get_or vs i (pos 0)) ≡ f (get_or ws i (pos 0))) → map f vs ≡ map f ws
 map_at f [] [] long same = refl
@@ -124,7 +124,7 @@ pub record PlanesChosen (head : SegmentHead) (xs : List (List ℤ)) (ds : List �
   pub chosen : Chooses c said (planes_items head xs ds o head.depth_ac) (planes_items head ys ds u head.depth_ac)
 
 module _ (head : SegmentHead) (xs : List (List ℤ)) (ds : List ℕ) (p : IsSpellable head xs ds) where
-  -- one block is another
+  -- one block is changed
   module _ (b k r j : ℕ) (e : Entry) (deep : b < head.depth_ac) (inside : r < length ds)
       (a : BlockChosen (get_or xs r []) (get_or ds r 0) head.image.weights.shifts b (q_of head) k j e) where
     ys : List (List ℤ)
@@ -201,7 +201,7 @@ module _ (head : SegmentHead) (xs : List (List ℤ)) (ds : List ℕ) (p : IsSpel
           (sym (get_or-set_same xs r a.v [] within)) a.here;
     }
 
-  -- one option is another
+  -- one option is changed
   other_option : (o : Options) → AreWordOptions o → (b g n option : ℕ) → 2 ≤ n → n ≤ 4 → option < n → Options
   other_option o known b g n option two four lt = record { book = o.book; dcs = o.dcs; depths = o.depths; words = in_plane o.words b g (with_option (o.words b g) n option) }
 

@@ -9,12 +9,12 @@ use Rattle.plane_defs.proofs.Settled.{head_same, tail_same}
 abbrev pub SaySame : (m : ℕ) → List Item → List Item → Type 0
 SaySame m is js = said_of (take m is) ≡ said_of (take m js)
 
--- they don't reach the end of either list
+-- they do not reach the end of either list
 pub record Inside (m : ℕ) (is js : List Item) : Type 0 where
   pub first : m < length is
   pub second : m < length js
 
--- they reach past both, which say the same, into what follows
+-- they reach past both lists, which say the same, into what follows
 pub record Past (m : ℕ) (is js is' js' : List Item) : Type 0 where
   pub within : length is ≤ m
   pub long : length is ≡ length js
@@ -40,7 +40,7 @@ split (suc m) (i ∷ is) (j ∷ js) is' js' alike e =
           })
     ]
 
--- so their first parts do
+-- then their first parts say the same
 pub first_part : (m : ℕ) (is js is' js' : List Item) → StepsAlike is js → SaySame m (is ++ is') (js ++ js') → SaySame m is js
 first_part m [] [] is' js' alike e = refl
 first_part m [] (j ∷ js) is' js' alike e = absurd alike

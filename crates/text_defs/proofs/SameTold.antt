@@ -1,4 +1,4 @@
--- Two lists of steps that tell the same of two blocks.
+-- Two lists of steps that report the same of two blocks.
 use Rattle.std.proofs.Common.{◌≡◌, ℕ, zero, suc, ◌+◌, ◌-◌, ◌*◌, ◌/◌, ◌%◌, ◌^◌, ◌<◌, ◌≤◌, inl, inr, Bool, true, false, cond, List, [], ◌∷◌, ◌++◌, length, map, refl, ap, sym, ◌∙◌, subst, arith, ℤ, pos, get_or}
 use Rattle.std.specs.Prelude.{nat_le, ◌||◌, ◌==◌}
 use Rattle.std.specs.List.{flat_map, list_any, AllByRecursion}
@@ -55,7 +55,7 @@ told_flat u v plane f g (x ∷ xs) all = told_both u v plane (f x) (g x) (flat_m
 
 -- ---- one step
 
--- a number below two to a plane and one more has the plane's bit where it reaches the plane
+-- a number below two to a plane and one more has the plane's bit if it reaches the plane
 pub bit_reached : (u : List ℤ) (plane p : ℕ) → significant u (plane + 1) p ≡ false → bit (magnitude u p) plane ≡ significant u plane p
 unfolding significant
 bit_reached u plane p e = by_size (magnitude u p) (2 ^ plane) (2 ^ (plane + 1)) (omega (arith, pow-add 2 plane 1)) e
@@ -142,7 +142,7 @@ whole_say u plane book o before m (s ∷ ss) a = by_test (nat_le (length (step_r
     by_test true rest = (a.0, rest)
     by_test false rest = tt
 
--- ---- steps that tell nothing
+-- ---- steps that report nothing
 
 pub from_none : (u v : List ℤ) (plane : ℕ) (ss ts : List Step) → TellsNone ss → TellsNone ts → SameTold u v plane ss ts
 from_none u v plane ss ts a b = record {

@@ -1,4 +1,4 @@
--- The items of a segment of spellable values, with options that there are and depths within the head's, are none of them refused.
+-- No item of a segment is refused if its values can be coded, its options exist and its depths are within the head's.
 use Rattle.std.proofs.Common.{◌≡◌, ℕ, ◌<◌, ◌≤◌, Bool, true, false, cond, List, ◌++◌, length, refl, ◌∙◌, subst, arith, ℤ, get_or}
 use Rattle.std.specs.Prelude.{nat_le}
 use Rattle.std.specs.List.{list_all}

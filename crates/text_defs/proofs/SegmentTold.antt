@@ -1,4 +1,4 @@
--- The steps of a block that the first items of two readings of a segment give tell the same.
+-- The steps of a block that the first items of two readings of a segment give report the same.
 use Rattle.std.proofs.Common.{◌≡◌, ℕ, ◌+◌, ◌-◌, ◌/◌, ◌<◌, ◌≤◌, inl, inr, Bool, true, false, cond, List, [], ◌++◌, length, take, ap, sym, ◌∙◌, subst, arith, ℤ, get_or}
 use Rattle.std.proofs.lemmas.Bool.{cases_lt}
 use Rattle.std.proofs.lemmas.List.{get_or_past, length-map}
@@ -46,7 +46,7 @@ module _ (head : SegmentHead) (fits : IsHead head) (xs ys : List (List ℤ)) (o 
       from_none (block_of xs r) (block_of ys r) b _ _ (plane_none o.book (o.words b) (plane_at head xs ds b) (stages_sent head b) m r e) (plane_none u.book (u.words b) (plane_at head ys es b) (stages_sent head b) c r f)
 
   module _ (ds : List ℕ) (p : IsSpellable head xs ds) (q : IsSpellable head ys ds) (deep : (r : ℕ) → get_or ds r 0 ≤ head.depth_ac) where
-    -- the items of the planes stand next
+    -- the items of the planes are next
     nth_told : (m r n : ℕ) → n < head.depth_ac → r < length ds → SaySame m (planes_items head xs ds o head.depth_ac) (planes_items head ys ds u head.depth_ac) →
         ToldAt ds ds (m - length (planes_items head xs ds o n)) (m - length (planes_items head ys ds u n)) r n (nth_plane head n)
     nth_told m r n within inside e =

@@ -1,4 +1,4 @@
--- A number's bits and its sign are told by the steps of its block.
+-- The steps of a number's block report its bits and its sign.
 use Rattle.std.proofs.Common.{◌≡◌, ℕ, zero, suc, ◌+◌, ◌-◌, ◌*◌, ◌/◌, ◌%◌, ◌^◌, ◌<◌, ◌≤◌, inl, inr, Bool, true, false, cond, List, [], ◌∷◌, ◌++◌, map, ap, ◌∙◌, arith, ℤ, pos, get_or}
 use Rattle.std.specs.Prelude.{filter, nat_le, ◌==◌}
 use Rattle.std.specs.List.{flat_map, list_any}
@@ -74,7 +74,7 @@ any_map t f x (y ∷ xs) h e =
       | inr later ↦ or_right (t (f y)) _ (any_map t f x xs later e)
     ]
 
--- one of the members is
+-- one of the members passes a test
 pub some_member : (t : ℕ → Bool) (x : ℕ) (xs : List ℕ) → Has x xs → t x ≡ true → list_any t xs ≡ true
 some_member t x [] h e = absurd cc
 some_member t x (y ∷ xs) h e =
@@ -85,7 +85,7 @@ some_member t x (y ∷ xs) h e =
 
 -- ---- a block
 
--- where a number has a bit, the plane can have one
+-- if a number has a bit, the plane can have one
 pub bit_coded : (block : List ℤ) (weights : List ℕ) (plane p : ℕ) → IsMultiple block weights → bit (magnitude block p) plane ≡ true → coded weights plane p ≡ true
 unfolding coded
 bit_coded block weights plane p whole e =
@@ -102,7 +102,7 @@ bit_coded block weights plane p whole e =
     within a b le = grind (arith, nat_tests)
 
 module _ (block : List ℤ) (weights : List ℕ) (plane : ℕ) where
-  -- a word of types tells those that are due, and is followed by their signs
+  -- a word of types reports those that are due, and their signs follow it
   pub typed_tells : (check : Check) (start count p : ℕ) → start ≤ p → p < start + count → type_due block weights plane p ≡ true → any_bit p (typed_steps block weights plane check (span start count)) ≡ true
   typed_tells check start count p low high due = or_left _ _ (has_filter (type_due block weights plane) p (span start count) (has_span start count p low high) due)
 

@@ -1,4 +1,4 @@
--- The shapes of a text's items; in none of them a spelling begins another.
+-- The shapes of a text's items: in none of them a code begins another one.
 use Rattle.std.proofs.Common.{◌≡◌, ℕ, zero, suc, ◌+◌, ◌-◌, ◌*◌, ◌^◌, ◌<◌, ◌≤◌, Bool, true, false, cond, eqb, List, [], ◌∷◌, ◌++◌, length, refl, arith, get_or, ℤ, map}
 use Rattle.std.specs.Prelude.{◌==◌}
 use Rattle.std.specs.List.{flat_map, list_any, AllByRecursion}
@@ -161,7 +161,7 @@ module _ (book : Book) (P : Shape → Type 0) (most : ℕ) (fixed_is : (w : ℕ)
       (λ n. plane_is (options.words (nth_plane head n)) (λ g. record { at = λ k low high. known.at (nth_plane head n) g k low high }) (plane_at head blocks depths (nth_plane head n)) (stages_sent head (nth_plane head n)))
       (span 0 head.depth_ac))))
 
--- ---- no code stands first in another
+-- ---- no code is a prefix of another
 
 abbrev pub HasSound : Item → Type 0
 HasSound i = IsSound i.form.shape

@@ -1,4 +1,4 @@
--- The next item of some steps says any number that it doesn't refuse, by another entry of one step or by another option.
+-- The next item of some steps says any number that it does not refuse, by another entry of one step or by another option.
 use Rattle.std.proofs.Common.{◌≡◌, ◌⊎◌, ℕ, suc, ◌-◌, ◌<◌, ◌≤◌, inl, inr, Bool, true, false, cond, eqb, List, [], ◌∷◌, ◌++◌, length, refl, ap, sym, ◌∙◌, subst, arith, length-append}
 use Rattle.std.specs.Prelude.{◌||◌}
 use Rattle.std.specs.List.{list_any, AllByRecursion}

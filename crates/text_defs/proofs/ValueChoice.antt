@@ -1,4 +1,4 @@
--- The next item of a gaggle's mapped values says any number that it doesn't refuse, where one value is chosen so.
+-- The next item of a gaggle's mapped values says any number that it does not refuse, if one value is chosen for it.
 use Rattle.std.proofs.Common.{◌≡◌, ◌⊎◌, ℕ, ◌+◌, ◌*◌, ◌-◌, ◌/◌, ◌%◌, ◌^◌, ◌<◌, ◌≤◌, List, [], ◌++◌, length, map, get_or, Bool, true, false, eqb, cond, refl, sym, ap, subst, ◌∙◌, arith, inl, inr, length-append}
 use Rattle.std.specs.Prelude.{None, Some, Option}
 use Rattle.std.specs.List.{range_with_len}
@@ -13,7 +13,7 @@ use Rattle.text_defs.proofs.NumbersTold.{map_long}
 use Rattle.text_defs.proofs.NumbersChoice.{left_at, right_at, range_at, map_said}
 use Rattle.text_defs.proofs.Choices.{Chooses, choose_left, choose_right, choose_place}
 
--- an item says this number where its form doesn't refuse it
+-- an item says this number if its form does not refuse it
 abbrev pub MaySay : Item → ℕ → Type 0
 MaySay i n = IsSaid i.form.shape n × (i.form.refusal n ≡ None)
 
@@ -24,7 +24,7 @@ module _ (kind : Kind) (xs : List ℕ) (few : (i : ℕ) → get_or xs i 0 < 2 ^ 
   abbrev Same : ℕ → List ℕ → Type 0
   Same place ys = (j : ℕ) → a ≤ j → j < a + n → (j ≡ place → ⊥) → value_at kind.bits xs j ≡ value_at kind.bits ys j
 
-  -- the value that serves, and its place
+  -- the value that is chosen, and its place
   pub record Picked (k said : ℕ) : Type 0 where
     pub place : ℕ
     pub value : ℕ

@@ -1,4 +1,4 @@
--- What the first m items of a segment's text give of its numbers; what they don't give is 0, and positive.
+-- What the first m items of a segment's text give of its numbers; what they do not give is 0, and positive.
 -- (this project's own)
 use Rattle.std.specs.Prelude.{ℕ, ◌+◌, ◌-◌, ◌*◌, ◌^◌, ◌==◌, ◌&&◌, ◌||◌, ℤ, pos, neg_ℤ, ◌+ℤ◌, ◌*ℤ◌, Bool, true, if◌then◌else◌, nat_le, nat_lt, List, [], ◌∷◌, length, map, sum_by}
 use Rattle.std.specs.List.{list_any}
@@ -19,7 +19,7 @@ use Rattle.segment_defs.specs.SegmentItems.{Options, dc_shift, q_of, plane_at, s
 use Rattle.plane_texts.specs.Given.{steps_given, has_bit_in, has_sign_in}
 use Rattle.text_defs.specs.Spellable.{block_of}
 
--- ---- the DC part: its numbers, and then plane by plane a bit of each
+-- ---- the DC part: its numbers, and then plane by plane one bit of each
 
 abbrev pub dc_through : SegmentHead → List (List ℤ) → Options → ℕ → ℕ
 dc_through head blocks options r =

@@ -1,5 +1,5 @@
--- What a segment's text holds, or by which name it is refused. The text is given by the octets after its head: the head's own
--- are any that are read as this head. (this project's own)
+-- What a segment's text holds, or the name by which it is refused. The text is given by the octets after its head: the head's
+-- own octets are any that are read as this head. (this project's own)
 use Rattle.std.specs.Prelude.{◌≡◌, ◌≢◌, ◌<◌, ◌⊎◌, ℕ, ◌+◌, ◌-◌, ◌*◌, ◌/◌, ◌==◌, ℤ, Bool, if◌then◌else◌, List, length, take}
 use Rattle.item_defs.specs.Bits.{bits_of_octets}
 use Rattle.item_defs.specs.Items.{Item, Refusal, text}
@@ -40,7 +40,7 @@ pub record IsCut (head : SegmentHead) (rest : List ℕ) : Type 0 where
   pub limited : head.limit ≢ 0
   pub full : length_of head rest ≡ head.limit
 
--- all items are given, and the text has the length that it should have; or the limit cuts them
+-- all items are given, and the text has its expected length; or the limit cuts the items
 abbrev pub IsTaken : SegmentHead → List ℕ → List Item → ℕ → List Bool → Type 0
 IsTaken head rest items m more =
     ((m ≡ length items) × (length_of head rest ≡ expected_length head items)) ⊎ (NothingFollows items m more × IsCut head rest)
@@ -70,7 +70,7 @@ IsOff octets wanted (at_item name) = ⊥
 IsOff octets wanted short_segment = octets < wanted
 IsOff octets wanted overlong = wanted < octets
 
--- an item isn't given: without a limit the text is short
+-- an item is not given: without a limit the text is short
 abbrev pub IsOffLimit : SegmentHead → List ℕ → SegmentRefusal → Type 0
 IsOffLimit head rest (at_item name) = ⊥
 IsOffLimit head rest short_segment = (head.limit ≡ 0) ⊎ (length_of head rest < head.limit)

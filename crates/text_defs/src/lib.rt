@@ -1,5 +1,5 @@
-//! Definitions of what a segment's text holds: the values that it may spell, its readings, and the name by which it is
-//! refused; with the laws that a text is read in one way and has exactly one outcome.
+//! This crate defines what a segment's text holds: the values that it may have, its readings, and the name by which it
+//! is refused. Its laws say that a text is read in one way and has exactly one outcome.
 #![tactic(auto)]
 
 ghost use Rattle.text_defs.specs.Laws.{StepLaw, OutcomesExclude, SameGiven, AllGiven, GoesFurther, HasOutcome};
@@ -9,17 +9,17 @@ pub const fn readings_agree()
     ensures { StepLaw }
 {}
 
-/// A text that holds something isn't refused, and one that is refused has one name.
+/// A text that holds values is not refused, and one that is refused has one name.
 pub const fn outcomes_exclude()
     ensures { OutcomesExclude }
 {}
 
-/// An item that follows and isn't refused is the next one of some reading.
+/// An item that is next and is not refused is the next item of some reading.
 pub const fn readings_go_further()
     ensures { GoesFurther }
 {}
 
-/// Each text that begins with a head's octets holds something or is refused.
+/// Each text that begins with a head's octets holds values or is refused.
 pub const fn texts_have_outcomes()
     ensures { HasOutcome }
 {}

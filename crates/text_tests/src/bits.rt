@@ -1,4 +1,4 @@
-// Bits at concrete sources and sinks, with octets worked out by hand.
+// Bits at concrete sources and sinks, with octets calculated by hand.
 ghost use Rattle.std.specs.Prelude.{◌≡◌, ◌≤◌, ◌∷◌, [], IfOk};
 
 use bit_pipe::{BitIn, BitOut, InFault, OctetIn, OctetOut, PutFault, SliceIn, SliceOut};
@@ -20,7 +20,7 @@ fn put_text<O: OctetOut>(out: &mut O, limit: u64, fill: bool) -> Result<u64, Put
     Ok(bits.end(2, fill)?)
 }
 
-// The octets that were written are the first of the room, and the rest of it is as it was.
+// Expects that the octets that were written are the first of the room, and the rest of it is unchanged.
 fn expect_written(rt: &impl Abort, room: &[u8], octets: &[u8]) {
     assert!(rt; room.starts_with(octets), "{room:?} for {octets:?}");
     assert!(rt;
@@ -29,7 +29,7 @@ fn expect_written(rt: &impl Abort, room: &[u8], octets: &[u8]) {
     );
 }
 
-// The text is written with this answer, and exactly these octets are written.
+// Expects that the text is written with this result, and that exactly these octets are written.
 fn expect_text(
     rt: &impl Abort,
     fill: bool,
@@ -85,7 +85,7 @@ fn put_words<O: OctetOut>(out: &mut O) -> Result<u64, PutFault>
     Ok(bits.end(1, false)?)
 }
 
-// The words are written with this answer, and exactly these octets are written.
+// Expects that the words are written with this result, and that exactly these octets are written.
 fn expect_words(rt: &impl Abort, room: &mut [u8], answer: Result<u64, PutFault>, octets: &[u8]) {
     assert_eq!(rt; put_words(&mut SliceOut::new(room)), answer);
     expect_written(rt, room, octets);
@@ -98,7 +98,7 @@ fn fills_words(rt: HostRuntime) {
         0xfe,
     ];
     expect_words(&rt, &mut [0xaa; 17], Ok(16), &octets);
-    // It fails within a word.
+    // The write fails within a word.
     let full = Err(PutFault::WriteFault);
     expect_words(&rt, &mut [0xaa; 3], full, &octets[..3]);
 }
@@ -121,7 +121,7 @@ fn take_text<I: OctetIn>(rt: &impl Abort, input: &mut I) -> Result<u64, InFault>
     Ok(bits.used())
 }
 
-// A number of bits of the octets is taken, and this octet follows them.
+// Expects that a number of bits of the octets is taken, and that this octet follows them.
 fn expect_taken(rt: &impl Abort, octets: &[u8], used: u64, after: Option<u8>) {
     let mut input = SliceIn::new(octets);
     assert_eq!(rt; take_text(rt, &mut input), Ok(used));

@@ -28,7 +28,7 @@ fn four_numbers(bits: u64, count: usize) -> Result<((Part, u32), [i32; 4]), Text
     Ok((given, cells))
 }
 
-// The first of some numbers, and 0 for the others.
+// Returns the first of some numbers, and 0 for the others.
 fn first_of(numbers: &[i32; 4], given: usize) -> [i32; 4] {
     let mut first = [0; 4];
     for place in 0..given.min(4) {
@@ -97,7 +97,7 @@ const SIXTEEN: [u8; 54] = [
     0xeb, 0xae, 0xba, 0xeb, 0xae, 0xb0,
 ];
 
-// How many children and grandchildren are given at the limits from 32 octets on.
+// The numbers of children and grandchildren that are given at the limits from 32 octets on.
 const GIVEN: [(usize, usize); 23] = [
     (3, 0),
     (4, 0),
@@ -124,7 +124,7 @@ const GIVEN: [(usize, usize); 23] = [
     (16, 16),
 ];
 
-// These sixteen blocks, with a number of children and grandchildren.
+// Returns these sixteen blocks, with a number of children and grandchildren.
 fn sixteen(given: (usize, usize)) -> [i32; 1024] {
     let mut blocks = [0; 1024];
     for block in 0..16 {

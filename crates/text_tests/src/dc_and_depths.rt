@@ -1,4 +1,4 @@
-// Texts that were worked out by hand.
+// Texts that were calculated by hand.
 ghost use Rattle.std.specs.Prelude.{◌≡◌};
 
 use base_122::Select;
@@ -22,7 +22,7 @@ fn bits_of_plans(rt: HostRuntime) {
     assert_eq!(rt; (plan(12, 8).q(), plan(12, 8).bits()), (5, 7));
 }
 
-// Nine blocks of 1,600.
+// Puts nine blocks of 1,600.
 #[tactic(auto, using(bit_pipe::proofs::Putting::open_after))]
 fn put_nine<O: OctetOut>(out: &mut O, select: Select) -> Result<u64, PutFault>
     requires { (O.sink.counts out.old).given ≡ 0 }
@@ -45,7 +45,7 @@ fn nine_dcs(rt: HostRuntime) {
     assert_eq!(rt; (put, octets), (Ok(3), [0x06, 0x47, 0xf8]));
 }
 
-// The block depths 0, 2, 3 and 1 of at most 3.
+// Puts the block depths 0, 2, 3 and 1 of at most 3.
 #[tactic(auto, using(bit_pipe::proofs::Putting::open_after))]
 fn put_four<O: OctetOut>(out: &mut O) -> Result<u64, PutFault>
     requires { (O.sink.counts out.old).given ≡ 0 }

@@ -1,4 +1,4 @@
-// Each single bit of a segment's text flipped, the header's bits too, and the reader's answer.
+// The reader's result for each single flipped bit of a segment's text, with those of its header.
 ghost use Rattle.std.specs.Prelude.{◌≡◌, ◌≤◌, ◌*◌, length};
 
 use crate::segment_planes::{DIAGONAL, THREE_NUMBERS};
@@ -9,7 +9,7 @@ use segment_head::read_head;
 use std::process::Abort;
 use word_codes::profile_book;
 
-// A letter for each answer.
+// Returns a letter for each result.
 fn letter_of(answer: Result<Part, SegmentFault>) -> u8 {
     match answer {
         Ok(Part::Whole) => b'W',
@@ -24,7 +24,7 @@ fn letter_of(answer: Result<Part, SegmentFault>) -> u8 {
     }
 }
 
-// The letter of the answer to a text; H if its header is refused, and B if the header has another number of blocks.
+// Returns the letter of the result for a text; H if its header is refused, and B if the header has another number of blocks.
 fn letter(text: &[u8], blocks: &mut [i32], marks: &mut [i32]) -> u8
     requires count { length blocks.old ≡ 64 * length marks.old }
     requires most { length marks.old ≤ 100 }

@@ -1,4 +1,4 @@
-// Small gaggles for each number of bits and each option, and what is refused of them.
+// Small gaggles for each number of bits and each option, and which of them are refused.
 ghost use Rattle.std.specs.Prelude.{◌≤◌};
 
 use bit_pipe::{BitIn, Part, SliceIn, TextFault};
@@ -6,10 +6,10 @@ use dc_depths::{DcPlan, take_dc, take_depths};
 use gaggle_codes::{NumberRange, take_values};
 use std::process::Abort;
 
-// The bits of an identifier for 2 to 10 bits.
+// The number of bits of an identifier, for numbers of 2 to 10 bits.
 const WIDTHS: [u8; 9] = [1, 2, 2, 3, 3, 3, 3, 4, 4];
 
-// Two numbers from 0 up.
+// Reads two numbers from 0 up.
 fn two(octets: &[u8], bits: u8) -> (Result<(Part, u32), TextFault>, [i32; 2])
     requires low { 2 ≤ bits }
     requires high { bits ≤ 10 }
@@ -25,7 +25,7 @@ fn two(octets: &[u8], bits: u8) -> (Result<(Part, u32), TextFault>, [i32; 2])
     (result, cells)
 }
 
-// An identifier, the reference 0, a number of zeros and a one, and zeros.
+// Returns an identifier, the reference 0, a number of zeros and a one, and zeros.
 fn unary(rt: &impl Abort, bits: u8, identifier: u8, zeros: usize) -> [u8; 131]
     requires low { 2 ≤ bits }
     requires high { bits ≤ 10 }
@@ -77,7 +77,7 @@ fn identifiers_of_each_width(rt: HostRuntime) {
     }
 }
 
-// Four block depths of at most this one.
+// Reads four block depths of at most this one.
 fn depths(octets: &[u8], depth_ac: u8) -> (Result<Part, TextFault>, [i32; 4])
     requires { depth_ac ≤ 27 }
 {
@@ -115,7 +115,7 @@ fn refused_depths(rt: HostRuntime) {
     }
 }
 
-// The DCs of two blocks, without any AC number and with no shift.
+// Reads the DCs of two blocks, without any AC number and with no shift.
 fn dcs(octets: &[u8], depth_dc: u8) -> (Result<Part, TextFault>, [i32; 2])
     requires { depth_dc ≤ 28 }
 {

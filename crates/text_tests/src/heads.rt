@@ -1,4 +1,4 @@
-// Heads whose octets were worked out by hand.
+// Heads whose octets were calculated by hand.
 use base_122::{Stop, Weights};
 use bit_pipe::{BitOut, SliceOut};
 use segment_head::{HeadFault, HeadField, ImagePart, Odd, SegmentHead, read_head, write_head};
@@ -16,7 +16,7 @@ const BETWEEN: [u8; 19] = [
     0x72, 0x70, 0x00,
 ];
 
-// The octets are read as this head, and written for it.
+// Expects that the octets are read as this head, and written for it.
 fn expect_head(rt: &impl Abort, octets: &[u8], said: &SegmentHead, room: &mut [u8]) {
     let head = read_head(octets).expect(rt, "a head");
     assert_eq!(rt; head, *said);

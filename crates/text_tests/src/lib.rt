@@ -1,4 +1,4 @@
-//! Tests of bits, heads, numbers, words and segments, by texts that were worked out by hand.
+//! Tests of bits, heads, numbers, words and segments, by texts that were calculated by hand.
 #![tactic(auto)]
 
 #[cfg(test)]

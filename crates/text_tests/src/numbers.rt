@@ -1,4 +1,4 @@
-// Options and texts that were worked out by hand.
+// Options and texts that were calculated by hand.
 ghost use Rattle.std.specs.Prelude.{◌≡◌, ◌<◌, ◌^◌, ◌↔◌, ℕ, length, slice_index, IsTrue};
 
 use base_122::Select;
@@ -13,7 +13,7 @@ fn fit(values: &[u16], bits: u8) -> bool
     values.iter().all(|value| *value < 1 << bits)
 }
 
-// The heuristic option and the optimal one.
+// Returns the heuristic option and the optimal one.
 fn options(rt: &impl Abort, values: &[u16], bits: u8) -> (u8, u8) {
     assert!(rt; 2 <= bits && bits <= 10 && values.len() <= 16);
     assert!(rt; fit(values, bits));
@@ -29,14 +29,14 @@ fn options_of_small_gaggles(rt: HostRuntime) {
         (&[], 4, 15, 15),
         // Both choices agree on the values of 0, 1, 1, -2.
         (&[2, 0, 5], 4, 1, 1),
-        // On each side of the heuristic's thresholds for one value of 4 bits.
+        // The values are on each side of the heuristic's thresholds for one value of 4 bits.
         (&[1], 4, 0, 0),
         (&[2], 4, 1, 0),
         (&[3], 4, 1, 1),
         (&[6], 4, 15, 15),
-        // Two values for k take 4 bits, the number that uncoded ones take.
+        // For k two values have 4 bits, the same number as uncoded ones.
         (&[5], 4, 2, 15),
-        // 2 bits know no k but 0, which ties at 1.
+        // For 2 bits k is 0 only, which ties at 1.
         (&[0], 2, 0, 0),
         (&[1], 2, 0, 15),
         (&[2], 2, 15, 15),
@@ -56,7 +56,7 @@ const RANGE: NumberRange = NumberRange {
     bits: 4,
 };
 
-// The four numbers with no limit.
+// Puts the four numbers without a limit.
 #[tactic(auto, using(bit_pipe::proofs::Putting::open_after))]
 fn put_four<O: OctetOut>(out: &mut O, select: Select) -> Result<u64, PutFault>
     requires { (O.sink.counts out.old).given ≡ 0 }
@@ -66,7 +66,7 @@ fn put_four<O: OctetOut>(out: &mut O, select: Select) -> Result<u64, PutFault>
     Ok(bits.end(1, false)?)
 }
 
-// The bits of them that one octet takes.
+// Puts the bits of them that one octet takes.
 #[tactic(auto, using(bit_pipe::proofs::Putting::open_later))]
 fn put_front<O: OctetOut>(out: &mut O, select: Select) -> Result<u64, PutFault>
     requires { (O.sink.counts out.old).given ≡ 0 }

@@ -5,7 +5,7 @@ use bit_pipe::{BitIn, Part, SliceIn, TextFault};
 use dc_depths::{DcPlan, take_dc, take_depths};
 use gaggle_codes::{NumberRange, take_values};
 
-// Four signed numbers of `bits` bits.
+// Reads four signed numbers of `bits` bits.
 fn four(octets: &[u8], bits: u8) -> (Result<(Part, u32), TextFault>, [i32; 4])
     requires low { 2 ≤ bits }
     requires high { bits ≤ 10 }
@@ -36,7 +36,7 @@ fn four_numbers(rt: HostRuntime) {
     }
 }
 
-// Nine block depths of at most this one.
+// Reads nine block depths of at most this one.
 fn nine(octets: &[u8], depth_ac: u8) -> (Result<Part, TextFault>, [i32; 9])
     requires { depth_ac ≤ 27 }
 {
@@ -50,7 +50,7 @@ fn nine(octets: &[u8], depth_ac: u8) -> (Result<Part, TextFault>, [i32; 9])
 #[test]
 fn nine_depths(rt: HostRuntime) {
     let cases: [(&[u8], u8, Result<Part, TextFault>, [i32; 9]); 3] = [
-        // The second unary part leaves the depths 6 and 7 alone, but its rest isn't given.
+        // After the second unary part only the depths 6 and 7 are possible, but its rest isn't given.
         (
             &[0x58, 0xff],
             5,
@@ -63,7 +63,7 @@ fn nine_depths(rt: HostRuntime) {
             Err(TextFault::BadDepth),
             [3, 0, 0, 0, 0, 0, 0, 0, 0],
         ),
-        // One bit each, of which the last isn't given.
+        // Each depth has one bit, of which the last isn't given.
         (
             &[0b1011_0000],
             1,
@@ -77,7 +77,7 @@ fn nine_depths(rt: HostRuntime) {
     }
 }
 
-// The DCs of nine blocks that were 9 everywhere.
+// Reads the DCs of nine blocks that were 9 everywhere.
 fn nine_dcs(octets: &[u8], depth_dc: u8) -> (Result<Part, TextFault>, [i32; 9])
     requires { depth_dc ≤ 28 }
 {

@@ -1,4 +1,4 @@
-// Planes of one block by hand.
+// Planes of one block, calculated by hand.
 
 use base_122::Weights;
 use bit_pipe::{BitOut, PutFault, SliceOut};

@@ -10,7 +10,7 @@ use plane_reader::take_plane;
 use std::process::Abort;
 use word_codes::profile_book;
 
-// Returns the plane of one block with this mark; the octets begin with a number of bits without meaning.
+// Returns the plane of one block with this state; the octets begin with a number of bits without meaning.
 #[tactic(auto, using(bit_pipe::proofs::Taking::in_after_item))]
 fn take(
     octets: &[u8],
@@ -41,7 +41,7 @@ pub(crate) fn aligned(bits: u64, count: usize) -> ([u8; 8], usize, u8)
     (bits.to_be_bytes(), 8 - octets, (8 * octets - count) as u8)
 }
 
-// Plane 0 of a block whose planes above gave the DC 4 and the first parent -2.
+// Reads plane 0 of a block whose planes above gave the DC 4 and the first parent -2.
 fn lowest(bits: u64, count: usize) -> (Result<Part, TextFault>, [i32; 64])
     requires { count ≤ 64 }
 {
@@ -81,7 +81,7 @@ fn a_plane_cut_after_each_bit(rt: HostRuntime) {
     }
 }
 
-// Plane 0 of a block of depth 1.
+// Reads plane 0 of a block of depth 1.
 fn only(bits: u64, count: usize, weights: Weights) -> (Result<Part, TextFault>, [i32; 64])
     requires { count ≤ 64 }
 {
@@ -97,7 +97,7 @@ fn only(bits: u64, count: usize, weights: Weights) -> (Result<Part, TextFault>, 
     (result, block)
 }
 
-// The last of these bits shows that a flag is false; what was read before is in the block.
+// Expects that the last of these bits shows that a flag is false, and that what was read before is in the block.
 fn assert_false(rt: &impl Abort, bits: u64, count: usize, weights: Weights, expected: &[i32; 64])
     requires { (1 ≤ count) × (count ≤ 64) }
 {

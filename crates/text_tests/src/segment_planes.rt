@@ -1,4 +1,4 @@
-// Texts with bit planes that were worked out by hand, and their stops.
+// Texts with bit planes that were calculated by hand, and their stops.
 ghost use Rattle.std.specs.Prelude.{◌≤◌, ◌<◌};
 
 use crate::segments::assert_coded;
@@ -99,8 +99,8 @@ fn padded_length(word: u8, octets: u8) -> usize
 
 #[test]
 fn each_stop_with_each_code_word(rt: HostRuntime) {
-    // 6 bits for the DC number and the depth. In plane 1 the DC's bit, 00 01 1 for the parents and 0 for all
-    // descendants. In plane 0 the DC's bit and 0 1; 1, 00 01 and 00 1; 1, 001 and 0001 0; and 1 that refines.
+    // The DC number and the depth have 6 bits. In plane 1 the DC's bit, 00 01 1 for the parents and 0 for all descendants. In plane 0 the
+    // DC's bit and 0 1; 1, 00 01 and 00 1; 1, 001 and 0001 0; and 1 that refines.
     for (plane, stage, octets, items) in [
         (31, 3, 1, [0xb8, 0, 0, 0, 0]),
         (2, 0, 1, [0xb8, 0, 0, 0, 0]),
@@ -122,7 +122,7 @@ fn each_stop_with_each_code_word(rt: HostRuntime) {
     }
 }
 
-// The text of one block whose head says these depths, with a limit of 32 octets and code words of four.
+// Returns the text of one block whose head has these depths, with a limit of 32 octets and code words of four.
 fn limited_text(depths: [u8; 2], items: &[u8; 13]) -> [u8; 32] {
     let mut text = [0; 32];
     text[..19].copy_from_slice(&THREE_NUMBERS[..19]);
@@ -149,7 +149,7 @@ fn cut_between_two_items(rt: HostRuntime) {
 
 #[test]
 fn cut_within_an_item(rt: HostRuntime) {
-    // Besides, the second parent from plane 25 on, and a child in plane 5: there 0, 1 and half of the identifier 00.
+    // There is also the second parent from plane 25 on, and a child in plane 5: there 0, 1 and half of the identifier 00.
     let mut block = [0; 64];
     block[0] = 5;
     block[1] = -67_108_864;

@@ -1,4 +1,4 @@
-// Segments whose texts were worked out by hand.
+// Segments whose texts were calculated by hand.
 ghost use Rattle.std.specs.Prelude.{◌≡◌, ◌≤◌, ◌*◌, length, map, pos};
 ghost use Rattle.wave_defs.specs.Held.{blocks_in};
 ghost use Rattle.segment_defs.specs.Depths.{block_depths, depth_dc_of, depth_ac_of};
@@ -130,7 +130,7 @@ fn depths_of_two_blocks(rt: HostRuntime) {
     assert_eq!(rt; marks, [0, 3]);
 }
 
-// The text is that of its own header and these blocks, and nothing follows it.
+// Expects that the text is that of its own header and these blocks, and that nothing follows it.
 pub(crate) fn assert_coded(rt: &impl Abort, text: &[u8], blocks: &[i32], marks: &mut [i32])
     requires short { length text.now ≤ 63 }
     requires count { length blocks.now ≡ 64 * length marks.old }

@@ -1,4 +1,4 @@
-// Segments read from texts that were worked out by hand.
+// Segments read from texts that were calculated by hand.
 ghost use Rattle.std.specs.Prelude.{◌≡◌, ◌≤◌, ◌*◌, length};
 
 use crate::segment_planes::{DIAGONAL, THREE_NUMBERS, diagonal, three_numbers};
@@ -33,7 +33,7 @@ fn decode(
     )
 }
 
-// The answer to the head of one block that has three numbers, with other octets after it.
+// Returns the result for the head of one block that has three numbers, with other octets after it.
 fn answer_to(rt: &impl Abort, rest: &[u8]) -> Result<Part, SegmentFault>
     requires short { length rest.now ≤ 20 }
 {
@@ -43,7 +43,7 @@ fn answer_to(rt: &impl Abort, rest: &[u8]) -> Result<Part, SegmentFault>
     decode(rt, &text[..19 + rest.len()], &mut [7; 64], &mut [7])
 }
 
-// The text gives this answer and these numbers, in place of those that were there.
+// Expects that the text gives this result and these numbers, in place of those that were there.
 fn expect(
     rt: &impl Abort,
     text: &[u8],
@@ -59,7 +59,7 @@ fn expect(
     assert!(rt; *blocks == *numbers, "{text:?}");
 }
 
-// The text of one block gives these numbers.
+// Expects that the text of one block gives these numbers.
 fn expect_block(rt: &impl Abort, text: &[u8], numbers: &[i32]) {
     expect(rt, text, &mut [7; 64], &mut [7], Part::Whole, numbers);
 }
@@ -75,7 +75,7 @@ fn flat_image(rt: HostRuntime) {
         Part::Whole,
         &flat_blocks(),
     );
-    // Bits after the last item are free.
+    // The bits after the last item may have any value.
     let mut text = FLAT;
     text[22] |= 0x07;
     let (mut blocks, mut marks) = ([7; 576], [7; 9]);

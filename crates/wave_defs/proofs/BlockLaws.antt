@@ -65,7 +65,7 @@ place_holds p e = record { band = grind (arith, nat_tests); row = grind (arith, 
 pub place_of-is_place : (i : ℕ) → i < 64 → IsPlace (place_of i)
 place_of-is_place i h = place_holds (place_of i) (passes (λ i. is_place (place_of i)) 64 i all_places h)
 
--- ---- how large the weighted numbers are
+-- ---- bounds on the weighted numbers
 
 weighted-within : (w b : ℕ) (z : ℤ) → w ≤ 3 → IsWithin b z → IsWithin (8 * b) (z *ℤ pos (2 ^ w))
 weighted-within zero b z h k = record { above = omega (arith, ints); below = omega (arith, ints) }
@@ -74,7 +74,7 @@ weighted-within (suc (suc zero)) b z h k = record { above = omega (arith, ints);
 weighted-within (suc (suc (suc zero))) b z h k = record { above = omega (arith, ints); below = omega (arith, ints) }
 weighted-within (suc (suc (suc (suc w)))) b z h k = absurd (omega arith)
 
--- a band by its number, where the bound of the last level serves for all
+-- a band by its number, if the bound of the last level is right for all
 pub band_of-within : (a b m r c : ℕ) (p : Pyramid) → a ≤ m → b ≤ m → PyramidWithin a b m r c p → (band : ℕ) → band < 10 → EachWithin m (block_side band * r) (block_side band * c) (band_of p band)
 band_of-within a b m r c p ha hb w zero h = EachWithin-more _ m _ _ _ _ _ (omega arith) (omega arith) (omega arith) w.hh1
 band_of-within a b m r c p ha hb w (suc zero) h = EachWithin-more _ m _ _ _ _ _ (omega arith) (omega arith) (omega arith) w.hl1

@@ -86,7 +86,7 @@ third-same p q b k l lb hb same =
     let side : block_side b ≡ 1 = grind (arith, nat_tests) in
     band-same p q k l k l b 0 0 same (record { band = omega arith; row = rw side (omega arith); column = rw side (omega arith) }) (rw side (omega arith)) (rw side (omega arith))
 
--- ---- the other way round: bands that are the same have the same blocks
+-- ---- the reverse: bands that are the same have the same blocks
 
 pub band_of-same : (p q : Pyramid) (r c : ℕ) → SamePyramid r c p q → (band : ℕ) → band < 10 → SameWithin (block_side band * r) (block_side band * c) (band_of p band) (band_of q band)
 band_of-same p q r c s zero h = s.hh1

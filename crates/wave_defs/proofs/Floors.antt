@@ -12,7 +12,7 @@ pub floor_4 : (z : ℤ) → ((pos 4 *ℤ floor_div z 4) ≤ℤ z) × (z <ℤ ((p
 floor_4 (pos a) = (omega (arith, ints), omega (arith, ints))
 floor_4 (negsuc a) = (omega (arith, ints), omega (arith, ints))
 
--- ---- how large the values are: two passes of the line multiply a bound by at most 5 / 2 each
+-- ---- bounds on the values: two passes of the line multiply a bound by at most 5 / 2 each
 
 pub predicted-within : (m : ℕ) (a b c d : ℤ) → 2 ≤ m → IsWithin (2 * m) a → IsWithin (2 * m) b → IsWithin (2 * m) c → IsWithin (2 * m) d → IsWithin (3 * m) (predicted a b c d)
 unfolding predicted
@@ -50,7 +50,7 @@ even_of-within m n j c d one h wc wd =
     let k = correction-within m _ _ one (wd.at (j - 1) (omega arith)) (wd.at j h) in
     record { above = omega (arith, ints); below = omega (arith, ints) }
 
--- ---- the same to the point, for the inverse: even samples of at most half as much again, odd ones of at most three times
+-- ---- exact bounds for the inverse: even samples are at most half as much again, odd ones at most three times
 
 abbrev pub half_more : ℕ → ℕ
 half_more m = m + (m + 1) / 2

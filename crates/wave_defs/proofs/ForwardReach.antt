@@ -1,4 +1,4 @@
--- Which rows of an image a block row is made from.
+-- The rows of an image that a block row is made from.
 use Rattle.std.proofs.Common.{◌≡◌, ℕ, ◌+◌, ◌-◌, ◌*◌, ◌<◌, ◌≤◌, ℤ, min, arith}
 use Rattle.wave_defs.specs.Line.{prediction, high_of, low_of, even_before, even_within}
 use Rattle.wave_defs.specs.Level.{level, columns_low, columns_high}
@@ -9,7 +9,7 @@ use Rattle.wave_defs.proofs.LevelSame.{rows_low-same, rows_high-same}
 use Rattle.wave_defs.proofs.PyramidLaws.{SameWithin-part}
 use Rattle.wave_defs.proofs.BlockPlaces.{SamePyramid-block}
 
--- a line of which the first m samples are known, where high sample j needs sample 2 * j + 4
+-- a line of which the first m samples are known; high sample j needs sample 2 * j + 4
 pub high_of-known : (m n n' j : ℕ) (x y : ℕ → ℤ) → m ≤ 2 * n → m ≤ 2 * n' → 2 * j + 4 < m → ((k : ℕ) → k < m → x k ≡ y k) → high_of x n j ≡ high_of y n' j
 unfolding high_of prediction
 high_of-known m n n' j x y hn hn' h same =
@@ -58,7 +58,7 @@ level-known m v n n' w a b hn hn' h two s =
       hh = columns_high-known m v n n' w _ _ hn hn' h high;
     }
 
--- three levels, where the first 8 * t + 29 rows are known
+-- three levels, if the first 8 * t + 29 rows are known
 pub pyramid-known : (t r r' c : ℕ) (a b : ℕ → ℕ → ℤ) → 8 * t + 28 < 8 * r → 8 * t + 28 < 8 * r' → 2 ≤ c → SameWithin (8 * t + 29) (8 * c) a b → SamePyramid (t + 1) c (pyramid a r c) (pyramid b r' c)
 unfolding pyramid pyramid_of
 pyramid-known t r r' c a b hr hr' hc s =

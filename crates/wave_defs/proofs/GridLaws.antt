@@ -48,7 +48,7 @@ row_kept w i k j xs ys room long ne hj =
     part_above (i * w) w (k * w + j) xs ys (pos 0) long (omega arith) (omega arith) in
     ⊎_elim before after (cases_lt k i)
 
--- the same as the code leaves it after a write to `s[i * w..i * w + w]`, where m is the difference of the two bounds
+-- the same as the code leaves it after a write to `s[i * w..i * w + w]`; m is the difference of the two bounds
 pub SameWithin-write_row : (w i m : ℕ) (xs ys : List ℤ) (f : ℕ → ℕ → ℤ) → m ≡ w → i * w + w ≤ length xs → length ys ≡ w → SameWithin i w (grid w xs) f → Agrees w (signal ys) (f i) → SameWithin (i + 1) w (grid w (put_mid (i * w) m xs ys)) f
 SameWithin-write_row w i m xs ys f e room long above here =
     subst (λ (k : ℕ). SameWithin (i + 1) w (grid w (put_mid (i * w) k xs ys)) f) (sym e) (SameWithin-put_row w i xs ys f room long above here)

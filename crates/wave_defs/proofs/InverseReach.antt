@@ -1,4 +1,4 @@
--- Which blocks a sample of the inverse of three levels depends on.
+-- The blocks that a sample of the inverse of three levels depends on.
 use Rattle.std.proofs.Common.{◌≡◌, ℕ, ◌+◌, ◌*◌, ◌/◌, ◌<◌, ◌≤◌, ◌⊎◌, inl, inr, ⊎_elim, ap, arith}
 use Rattle.std.proofs.lemmas.Bool.Decides.{nat_tests}
 use Rattle.wave_defs.specs.Level.{joined}

@@ -1,4 +1,4 @@
--- One level and its inverse undo each other both ways.
+-- One level and its inverse undo each other in both orders.
 use mathlib.Core.Path.{fun_ext}
 use Rattle.std.proofs.Common.{◌≡◌, ℕ, ℤ, ap}
 use Rattle.wave_defs.specs.Level.{Quarters, rows_low, rows_high, columns_low, columns_high, rows_merged, columns_merged, level, joined}
@@ -16,7 +16,7 @@ pub joined-level : (a : ℕ → ℕ → ℤ) (n m : ℕ) → joined (level a n m
 unfolding joined level
 joined-level a n m = rw (columns_merged-forward (rows_low a m) n, columns_merged-forward (rows_high a m) n) (rows_merged-forward a m)
 
--- the other way round
+-- the same in the other order
 rows_low-merged : (x y : ℕ → ℕ → ℤ) (n : ℕ) → rows_low (rows_merged x y n) n ≡ x
 unfolding rows_low rows_merged
 rows_low-merged x y n = fun_ext (λ i. low_of-of_merged (x i) (y i) n)

@@ -1,4 +1,4 @@
--- Which samples of the four bands a sample of a level's inverse depends on.
+-- The samples of the four bands that a sample of a level's inverse depends on.
 use Rattle.std.proofs.Common.{◌≡◌, ℕ, ◌+◌, ◌*◌, ◌/◌, ◌<◌, ◌≤◌, ℤ, refl, arith}
 use Rattle.wave_defs.specs.Level.{Quarters, joined, rows_merged, columns_merged}
 use Rattle.wave_defs.proofs.LineReach.{SameMirror, SameMirror-same, SameLow, SameHigh, merged-reach}
@@ -7,7 +7,7 @@ use Rattle.wave_defs.proofs.LineReach.{SameMirror, SameMirror-same, SameLow, Sam
 pub record SameNearLow (n m i j : ℕ) (a b : ℕ → ℕ → ℤ) : Type 0 where
   pub at : (k l : ℕ) → k < n → l < m → 2 * k ≤ i + 3 → i ≤ 2 * k + 3 → 2 * l ≤ j + 3 → j ≤ 2 * l + 3 → a k l ≡ b k l
 
--- and those of a band that is high in some direction
+-- the samples of a band that is high in some direction are the same
 pub record SameNearHigh (n m i j : ℕ) (a b : ℕ → ℕ → ℤ) : Type 0 where
   pub at : (k l : ℕ) → k < n → l < m → 2 * k ≤ i + 3 → i ≤ 2 * k + 5 → 2 * l ≤ j + 3 → j ≤ 2 * l + 5 → a k l ≡ b k l
 

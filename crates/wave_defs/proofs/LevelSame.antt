@@ -43,7 +43,7 @@ level-same n m x y hn hm s =
       hh = columns_high-same n m _ _ hn high;
     }
 
--- back
+-- the inverse
 pub rows_merged-same : (r n : ℕ) (c c' d d' : ℕ → ℕ → ℤ) → 2 ≤ n → SameWithin r n c c' → SameWithin r n d d' → SameWithin r (2 * n) (rows_merged c d n) (rows_merged c' d' n)
 unfolding rows_merged
 rows_merged-same r n c c' d d' two s t = record {

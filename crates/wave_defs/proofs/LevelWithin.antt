@@ -1,4 +1,4 @@
--- How large the samples are after a pass, and after a level.
+-- Bounds on the samples after a pass, and after a level.
 use Rattle.std.proofs.Common.{ℕ, ◌*◌, ◌/◌, ◌%◌, ◌≤◌, ℤ, true, false, if◌then◌else◌, ◌==◌, arith}
 use Rattle.std.proofs.lemmas.Int.{ints}
 use Rattle.wave_defs.specs.Line.{even_of, odd_of, high_of, low_of, merged}
@@ -67,7 +67,7 @@ level-within k n m a one hn hm b =
       hh = EachWithin-more _ (25 * k) _ n _ m _ (omega arith) (omega arith) (omega arith) (columns_high-within (5 * k) n m _ (omega arith) hn high);
     }
 
--- ---- back: a pass multiplies a bound by at most 3
+-- ---- the inverse: a pass multiplies a bound by at most 3
 
 pub merged-within : (m n : ℕ) (c d : ℕ → ℤ) → 9 ≤ m → 2 ≤ n → AllWithin m n c → AllWithin m n d → AllWithin (3 * m) (2 * n) (merged c d n)
 unfolding merged

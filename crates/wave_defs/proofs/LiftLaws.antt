@@ -36,7 +36,7 @@ Agrees-columns_low a w m n i p y e b c em ep f he hb hc = record {
       cc;
 }
 
--- ---- back: y is a row that the code computed, c and d are the low and high images
+-- ---- the inverse: y is a row that the code computed, c and d are the low and high images
 
 pub Agrees-columns_even : (c d : ℕ → ℕ → ℤ) (w m i p : ℕ) (y l b a : ℕ → ℤ) → m ≡ w → p ≡ i - 1 → Agrees m y (plus_correction l b a) → Agrees w l (c i) → Agrees w b (d p) → Agrees w a (d i) → Agrees w y (columns_even c d i)
 unfolding plus_correction columns_even even_of

@@ -1,4 +1,4 @@
--- Taking a line apart and putting it together undo each other.
+-- A line that is split and joined again, or joined and split again, is the same.
 use mathlib.Core.Path.{fun_ext}
 use Rattle.std.proofs.Common.{◌≡◌, ℕ, true, false, if◌then◌else◌, ◌==◌, ◌+◌, ◌*◌, ◌-◌, ◌<◌, ◌≤◌, ◌/◌, ◌%◌, ℤ, ◌+ℤ◌, ◌-ℤ◌, ap, ◌∙◌, ⊎_elim, subst, arith}
 use Rattle.std.proofs.lemmas.Int.{ints}
@@ -22,7 +22,7 @@ unfolding odd_of high_of
 odd_of-forward x n j =
     ap (λ (e : ℕ → ℤ). high_of x n j +ℤ prediction e n j) (fun_ext (even_of-forward x n)) ∙ put_back (x (2 * j + 1)) (prediction (λ k. x (2 * k)) n j)
 
--- and the other way round
+-- the same in the other order
 pub even_of-merged : (c d : ℕ → ℤ) (n j : ℕ) → merged c d n (2 * j) ≡ even_of c d j
 unfolding merged
 even_of-merged c d n j = grind (arith, nat_tests)
@@ -112,7 +112,7 @@ low_of-of_merged c d n = fun_ext (low_of-merged c d n)
 pub high_of-of_merged : (c d : ℕ → ℤ) (n : ℕ) → high_of (merged c d n) n ≡ d
 high_of-of_merged c d n = fun_ext (high_of-merged c d n)
 
--- what a call made of a line x, as a fact about the line that x is a copy of
+-- what a call makes of a line x, as a fact about the line that x is a copy of
 pub Agrees-low : (m n : ℕ) (y x z : ℕ → ℤ) → m ≡ n → 2 ≤ n → Agrees m y (low_of x m) → Agrees (2 * n) x z → Agrees n y (low_of z n)
 Agrees-low m n y x z e two a b =
     let c = subst (λ (k : ℕ). Agrees k y (low_of x k)) e a in

@@ -1,10 +1,10 @@
--- Which samples a sample of a line depends on, back and forward.
+-- The samples that a sample of a line depends on, in the inverse and forward.
 use Rattle.std.proofs.Common.{◌≡◌, ℕ, ◌+◌, ◌-◌, ◌*◌, ◌/◌, ◌%◌, ◌<◌, ◌≤◌, ℤ, ⊎_elim, arith}
 use Rattle.std.proofs.lemmas.Bool.Decides.{nat_tests}
 use Rattle.std.proofs.lemmas.Bool.{cases_eq}
 use Rattle.wave_defs.specs.Line.{prediction, even_of, odd_of, merged, even_before, even_within}
 
--- round even sample k two lines of 2 * n and 2 * n' samples have the same mirror
+-- two lines of 2 * n and 2 * n' samples have the same mirror round even sample k
 pub record SameMirror (n n' k : ℕ) : Type 0 where
   pub next : even_within n (k + 1) ≡ even_within n' (k + 1)
   pub second : even_within n (k + 2) ≡ even_within n' (k + 2)

@@ -1,4 +1,4 @@
--- Three levels and their inverse: they undo each other, they depend only on the samples within, and how large these are.
+-- Three levels and their inverse: they undo each other, they depend only on the samples within, and these have bounds.
 use Rattle.std.proofs.Common.{◌≡◌, ℕ, ◌*◌, ◌^◌, ◌≤◌, ℤ, ap, ◌∙◌, arith}
 use Rattle.wave_defs.specs.Level.{Quarters, level, joined}
 use Rattle.wave_defs.specs.Pyramid.{Pyramid, pyramid, pyramid_of, rebuilt, first_of, second_of, third_of}
@@ -51,7 +51,7 @@ pyramid-within a r c hr hc b =
       ll3 = three.ll;
     }
 
--- the four bands of each level on the way back
+-- the four bands of each level in the inverse
 pub third_of-within : (m : ℕ) (p : Pyramid) (r c : ℕ) → PyramidWithin m m m r c p → QuartersWithin m r c (third_of p)
 unfolding third_of
 third_of-within m p r c b = record { ll = b.ll3; hl = b.hl3; lh = b.lh3; hh = b.hh3 }
@@ -85,7 +85,7 @@ rebuilt-within m p r c nine hr hc b =
     let image = joined-within (81 * m) (4 * r) (4 * c) (first_of p r c) (omega arith) (omega arith) (omega arith) (first_of-within m p r c nine hr hc b) in
     EachWithin-more _ (3 ^ 6 * m) _ (8 * r) _ (8 * c) _ (omega arith) (omega arith) (omega arith) image
 
--- ---- only the samples within count
+-- ---- only the samples within matter
 
 pub SameWithin-part : (r s v w : ℕ) (x y : ℕ → ℕ → ℤ) → s ≤ r → w ≤ v → SameWithin r v x y → SameWithin s w x y
 SameWithin-part r s v w x y hr hv same = record { at = λ i j hi hj. same.at i j (omega arith) (omega arith) }

@@ -1,4 +1,4 @@
--- What stands in missing blocks changes only the samples that they reach.
+-- The values in missing blocks change only the samples that these blocks reach.
 use Rattle.std.proofs.Common.{◌≡◌, ℕ, Bool, true, false, ◌+◌, ◌*◌, ◌<◌, ◌≤◌, ℤ, ◌⊎◌, inl, inr, ⊎_elim, refl, arith}
 use Rattle.std.proofs.lemmas.Bool.Decides.{nat_tests}
 use Rattle.wave_defs.specs.Line.{merged}

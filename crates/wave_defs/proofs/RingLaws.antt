@@ -46,7 +46,7 @@ AreNewest-turn f w n rows row one s new =
           (λ e. let k : n ≡ n + 1 + t - length rows = omega arith in subst (λ (q : ℕ). Agrees w (signal row) (f q)) k new));
     }
 
--- the row at a place, where its number is known
+-- the row at a place, if its number is known
 pub newest_at : (f : ℕ → ℕ → ℤ) (w n t i : ℕ) (rows : List (List ℤ)) → AreNewest f w n rows → t < length rows → n + t ≡ i + length rows → Agrees w (signal (get_or rows t [])) (f i)
 newest_at f w n t i rows s h e =
     let k : n + t - length rows ≡ i = omega arith in

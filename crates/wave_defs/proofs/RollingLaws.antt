@@ -1,4 +1,4 @@
--- What the open rows and rows that stand beside each other have to do with a level.
+-- How the open rows, and rows that are beside each other, are related to a level.
 use mathlib.Core.Path.{fun_ext}
 use Rattle.std.proofs.Common.{◌≡◌, ℕ, ◌+◌, ◌-◌, ◌*◌, ◌<◌, ◌≤◌, min, ℤ, refl, sym, ap, ◌∙◌, ⊎_elim, subst, arith}
 use Rattle.std.specs.Prelude.{nat_lt, if◌then◌else◌}

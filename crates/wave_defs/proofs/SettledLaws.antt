@@ -1,4 +1,4 @@
--- The first rows of an image settle the first rows of its bands.
+-- The first rows of an image determine the first rows of its bands.
 use Rattle.std.proofs.Common.{◌≡◌, ℕ, ◌+◌, ◌-◌, ◌*◌, ◌<◌, ◌≤◌, ℤ, arith}
 use Rattle.wave_defs.specs.Line.{high_of, low_of, prediction, even_before, even_within}
 use Rattle.wave_defs.specs.Level.{level, columns_low, columns_high}

@@ -11,7 +11,7 @@ use Rattle.wave_defs.specs.Within.{IsWithin}
 pub SFits-floor_div : (w : Width) (z : ℤ) (k : ℕ) → SFits w z → SFits w (floor_div z k)
 SFits-floor_div w z k f = record { sfits = lt_of_le_of_lt (mag_shr z k) f.sfits }
 
--- `z >> n` at a number that the code has computed without overflow, where k is 2 ^ n
+-- `z >> n` at a number that the code has computed without overflow; k is 2 ^ n
 pub shifted : (w : Width) (k : ℕ) (z y : ℤ) → z ≡ y → SFits w y → to_z w (of_z w (shr_z z k)) ≡ floor_div y k
 shifted w k z y e f = ap (λ (v : ℤ). to_z w (of_z w (shr_z v k))) e ∙ to_z-of_z w (floor_div y k) (SFits-floor_div w y k f)
 

@@ -19,7 +19,7 @@ pub record LineMirrors : Type 0 where
   pub high : (x y : ℕ → ℤ) (n j : ℕ) → 3 ≤ n → j < n → IsMirrored n x y
       → high_of x n j ≡ x (2 * j + 1) -ℤ predicted (y (2 * j)) (y (2 * j + 2)) (y (2 * j + 4)) (y (2 * j + 6))
 
--- a line taken apart and put together is the line, and the other way round
+-- a line that is split and joined again is the line, and the same in the other order
 pub record LineUndoes : Type 0 where
   pub back : (x : ℕ → ℤ) (n : ℕ) → merged (low_of x n) (high_of x n) n ≡ x
   pub low_again : (c d : ℕ → ℤ) (n : ℕ) → low_of (merged c d n) n ≡ c

@@ -17,7 +17,7 @@ columns_low a n i j = low_of (λ r. a r j) n i
 unfoldable pub columns_high : (ℕ → ℕ → ℤ) → ℕ → ℕ → ℕ → ℤ
 columns_high a n i j = high_of (λ r. a r j) n i
 
--- back
+-- the inverse
 unfoldable pub rows_merged : (ℕ → ℕ → ℤ) → (ℕ → ℕ → ℤ) → ℕ → ℕ → ℕ → ℤ
 rows_merged c d n i j = merged (c i) (d i) n j
 

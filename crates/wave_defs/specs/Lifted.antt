@@ -10,7 +10,7 @@ less_predicted odd a b c d j = odd j -ℤ predicted (a j) (b j) (c j) (d j)
 unfoldable pub less_correction : (ℕ → ℤ) → (ℕ → ℤ) → (ℕ → ℤ) → ℕ → ℤ
 less_correction even before after j = even j -ℤ correction (before j) (after j)
 
--- back
+-- the inverse
 unfoldable pub plus_predicted : (ℕ → ℤ) → (ℕ → ℤ) → (ℕ → ℤ) → (ℕ → ℤ) → (ℕ → ℤ) → ℕ → ℤ
 plus_predicted high a b c d j = high j +ℤ predicted (a j) (b j) (c j) (d j)
 

@@ -33,11 +33,11 @@ prediction e n j =
 unfoldable pub high_of : (ℕ → ℤ) → ℕ → ℕ → ℤ
 high_of x n j = x (2 * j + 1) -ℤ prediction (λ k. x (2 * k)) n j
 
--- low sample j: high sample 0 serves as the one before the first too, since 0 - 1 is 0
+-- low sample j: high sample 0 is also used as the one before the first, since 0 - 1 is 0
 unfoldable pub low_of : (ℕ → ℤ) → ℕ → ℕ → ℤ
 low_of x n j = x (2 * j) -ℤ correction (high_of x n (j - 1)) (high_of x n j)
 
--- back from low samples c and high samples d: even sample j, then odd sample j by the even ones
+-- the inverse, from low samples c and high samples d: even sample j, then odd sample j from the even ones
 unfoldable pub even_of : (ℕ → ℤ) → (ℕ → ℤ) → ℕ → ℤ
 even_of c d j = c j +ℤ correction (d (j - 1)) (d j)
 

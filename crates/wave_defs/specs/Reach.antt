@@ -1,4 +1,4 @@
--- The reach of a block: which samples of the inverse it has a part in, and which rows of an image it is made from.
+-- The reach of a block: the samples of the inverse that depend on it, and the rows of an image that it is made from.
 use Rattle.std.specs.Prelude.{◌≡◌, ℕ, ◌+◌, ◌*◌, ◌≤◌, ◌<◌, ℤ, Bool, true, false, ◌&&◌, nat_le, IsTrue, ◌⊎◌, List}
 use Rattle.wave_defs.specs.Line.{merged, low_of, high_of}
 use Rattle.wave_defs.specs.Pyramid.{Pyramid, padded, pyramid, rebuilt}
@@ -16,21 +16,21 @@ Reaches b i = IsTrue (reaches b i)
 pub record SameBlock (p q : Pyramid) (t s : ℕ) : Type 0 where
   pub at : (k : ℕ) → k < 64 → coefficient p t s k ≡ coefficient q t s k
 
--- the blocks that aren't missing are the same, of r block rows of c blocks
+-- the blocks that are not missing are the same, of r block rows of c blocks
 pub record SameReceived (missing : ℕ → ℕ → Bool) (r c : ℕ) (p q : Pyramid) : Type 0 where
   pub block : (t s : ℕ) → t < r → s < c → missing t s ≡ false → SameBlock p q t s
 
--- Back: a sample of a line depends on the low samples j with 2 * j - 3 <= i <= 2 * j + 3 and on the high samples j with
--- 2 * j - 3 <= i <= 2 * j + 5, mirrored ones among them.
+-- In the inverse, a sample of a line depends on the low samples j with 2 * j - 3 <= i <= 2 * j + 3 and on the high
+-- samples j with 2 * j - 3 <= i <= 2 * j + 5, mirrored ones among them.
 pub record LineReach : Type 0 where
   pub sample : (n i : ℕ) (c c' d d' : ℕ → ℤ) → 2 ≤ n → i < 2 * n
       → ((j : ℕ) → j < n → 2 * j ≤ i + 3 → i ≤ 2 * j + 3 → c j ≡ c' j)
       → ((j : ℕ) → j < n → 2 * j ≤ i + 3 → i ≤ 2 * j + 5 → d j ≡ d' j)
       → merged c d n i ≡ merged c' d' n i
 
--- Three levels back: a sample depends on the blocks alone that reach it by its row and by its column. So what is in
--- missing blocks changes only samples that one of them reaches, and what is in a block row, or a block column, only
--- the rows, or columns, that it reaches.
+-- In the inverse of three levels, a sample only depends on the blocks that reach it by its row and by its column.
+-- So what is in missing blocks changes only samples that one of them reaches, and what is in a block row, or a
+-- block column, only the rows, or columns, that it reaches.
 pub record InverseReach : Type 0 where
   pub sample : (p q : Pyramid) (r c i j : ℕ) → 2 ≤ r → 2 ≤ c → i < 8 * r → j < 8 * c
       → ((t s : ℕ) → t < r → s < c → Reaches t i → Reaches s j → SameBlock p q t s)

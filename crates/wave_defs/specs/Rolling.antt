@@ -18,6 +18,6 @@ mirrored a n i = a (min i (4 * n - 2 - i))
 unfoldable pub parted : (ℕ → ℤ) → ℕ → ℕ → ℤ
 parted x m c = if nat_lt c m then low_of x m c else high_of x m (c - m)
 
--- each row of an image so
+-- each row of an image in this form
 abbrev pub beside : (ℕ → ℕ → ℤ) → ℕ → ℕ → ℕ → ℤ
 beside a m i = parted (a i) m

@@ -1,4 +1,4 @@
--- Which rows of the bands the first rows of an image settle, however many rows follow.
+-- The rows of the bands that the first rows of an image determine, whatever rows follow.
 use Rattle.std.specs.Prelude.{ℕ, ◌+◌, ◌*◌, ◌≤◌, ◌<◌, ℤ}
 use Rattle.wave_defs.specs.Level.{level}
 use Rattle.wave_defs.specs.Pyramid.{Pyramid, pyramid}
@@ -18,7 +18,7 @@ pub record SameUpTo (b c : ℕ) (p q : Pyramid) : Type 0 where
   pub lh3 : SameWithin (b + 1) c p.lh3 q.lh3
   pub ll3 : SameWithin (b + 1) c p.ll3 q.ll3
 
--- Row j of a level is settled by row 2 * j + 4 of its image, and block row b by row 8 * b + 28.
+-- Row 2 * j + 4 of its image determines row j of a level, and row 8 * b + 28 determines block row b.
 pub record RowsSettle : Type 0 where
   pub of_level : (x y : ℕ → ℕ → ℤ) (n k m j : ℕ) → 2 ≤ m → j + 2 < n → j + 2 < k
       → SameWithin (2 * j + 5) (2 * m) x y → SameQuarters (j + 1) m (level x n m) (level y k m)

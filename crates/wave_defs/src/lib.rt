@@ -1,5 +1,5 @@
-//! Definitions of the wavelet transform, with their laws: a line, a level, the ten bands of three
-//! levels, padding, and the numbers of a block.
+//! This crate defines the wavelet transform, with its laws: a line, a level, the ten bands of three levels,
+//! padding, and the numbers of a block.
 #![tactic(auto)]
 
 ghost use Rattle.wave_defs.specs.Settled.{RowsSettle};
@@ -11,23 +11,23 @@ pub const fn mirrors()
     ensures { LineMirrors }
 {}
 
-/// The definitions and their inverses undo each other both ways (docs/formats.md, "A line", "Levels
-/// and padding").
+/// The definitions and their inverses undo each other in both orders (docs/formats.md, "A line", "Levels and
+/// padding").
 pub const fn undoes()
     ensures line { LineUndoes }
     ensures level { LevelUndoes }
     ensures pyramid { PyramidUndoes }
 {}
 
-/// The values of both directions have these bounds (docs/formats.md, "Bounds").
+/// The values of both directions have bounds (docs/formats.md, "Bounds").
 pub const fn stays_bounded()
     ensures forward { ForwardBounds }
     ensures blocks { BlockBounds }
     ensures inverse { InverseBounds }
 {}
 
-/// Which numbers a sample of the inverse is made from, and so how far a block reaches (docs/formats.md, "Picture
-/// and damage").
+/// A sample of the inverse is made from certain numbers only, and so a block has a reach (docs/formats.md,
+/// "Picture and damage").
 pub const fn reaches()
     ensures line { LineReach }
     ensures blocks { InverseReach }
@@ -35,7 +35,7 @@ pub const fn reaches()
     ensures rising { RisingInverse }
 {}
 
-/// The first rows of an image settle the first rows of its bands, and so a block row (docs/formats.md,
+/// The first rows of an image determine the first rows of its bands, and so a block row (docs/formats.md,
 /// "Levels and padding", "Picture and damage").
 pub const fn settles()
     ensures rows { RowsSettle }

@@ -34,7 +34,7 @@ plane_shows : (b : Bands) (band : ℕ) (p : Plane) → slice_get b.planes.items 
 plane_shows b band p e =
     get_or_from_slice_get (map image_of b.planes.items) band (image_of p) zeros (slice_get-map image_of b.planes.items band ∙ ap (option_map image_of) e)
 
--- a place of a block row stands in its band
+-- a place of a block row is in its band
 place_row : (b : Bands) (row : ℕ) (p : Place) → IsBlockRow b row → places.IsWithin (b.width / 8) p → block_side p.band * row + p.row < block_side p.band * (b.rows / 8)
 place_row b row p is in_row =
     let stands = is.stands in

@@ -49,7 +49,7 @@ four_within b n m q ll hl lh hh le f within =
     EachWithin-more b (2 ^ 34) n ll.rows m ll.width (image_of p) le (omega arith) (omega arith) (EachWithin-same b n m (image_of p) x s.cells h) in
     record { ll = bounded q.ll ll f.low within.ll; hl = bounded q.hl hl f.across within.hl; lh = bounded q.lh lh f.down within.lh; hh = bounded q.hh hh f.both within.hh }
 
--- what was joined of them
+-- the joined image of four planes
 pub four_joined : (n m : ℕ) (q : Quarters) (ll hl lh hh p : Plane) → 2 ≤ n → 2 ≤ m → Four n m q ll hl lh hh → Shows (2 * ll.rows) (2 * ll.width) (joined (quarters_in ll hl lh hh) ll.rows ll.width) p → Shows (2 * n) (2 * m) (joined q n m) p
 four_joined n m q ll hl lh hh p hn hm f made =
     let c = subst (λ (k : ℕ). Shows (2 * k) (2 * ll.width) (joined (quarters_in ll hl lh hh) k ll.width) p) f.low.size.rows_are made in

@@ -1,4 +1,4 @@
--- What contracts see of planes and of the ten bands.
+-- What contracts say of planes and of the ten bands.
 use Rattle.std.specs.Prelude.{◌≡◌, ℕ, ◌*◌, ℤ, pos, Some, map, vec_len, slice_get, slice_index_or}
 use Rattle.wave_plain.specs.declared.Plane.{Plane}
 use Rattle.wave_plain.specs.declared.Bands.{Bands}
@@ -25,7 +25,7 @@ pub record Shows (rows columns : ℕ) (a : ℕ → ℕ → ℤ) (p : Plane) : Ty
 abbrev pub zeros : ℕ → ℕ → ℤ
 zeros i j = pos 0
 
--- the image of the plane of a band by its number, and zeros where there is no such plane
+-- the image of the plane of a band by its number, and zeros if there is no such plane
 abbrev pub band_in : Bands → ℕ → ℕ → ℕ → ℤ
 band_in b band = slice_index_or (map image_of b.planes.items) band zeros
 

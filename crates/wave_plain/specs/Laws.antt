@@ -1,4 +1,4 @@
--- The transform and its inverse undo each other, for planes that show what the two calls answer.
+-- The transform and its inverse undo each other, for planes that show the results of the two calls.
 use Rattle.std.specs.Prelude.{ℕ, ◌*◌, ◌≤◌, ℤ}
 use Rattle.wave_plain.specs.declared.Plane.{Plane}
 use Rattle.wave_plain.specs.declared.Bands.{Bands}

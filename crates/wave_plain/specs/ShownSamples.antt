@@ -1,4 +1,4 @@
--- What the contracts of the passes see of arrays of samples.
+-- What the contracts of the passes say of arrays of samples.
 use Rattle.std.specs.Prelude.{◌≡◌, ℕ, ℤ}
 use Rattle.wave_plain.specs.declared.samples.Samples.{Samples}
 use Rattle.wave_plain.specs.declared.level.PlainLevel.{PlainLevel}

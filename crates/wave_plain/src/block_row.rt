@@ -18,7 +18,7 @@ pub struct BlockRow<'a> {
     ghost holds: { IsBlockRow bands.now row },
 }
 
-// Rows, and columns, of a band in one block.
+// Returns the number of rows, and of columns, of a band in one block.
 fn side_of(band: Band) -> u32
     ensures { result ≡ block_side (band_place band) }
 {
@@ -29,7 +29,7 @@ fn side_of(band: Band) -> u32
     }
 }
 
-// The plane of a band.
+// Returns the plane of a band.
 fn plane_of<'a>(bands: &'a Bands, band: Band) -> &'a Plane
     requires { vec_len bands.now.planes ≡ 10 }
     ensures { slice_get bands.now.planes.items (band_place band) ≡ Some result.now }
@@ -37,7 +37,7 @@ fn plane_of<'a>(bands: &'a Bands, band: Band) -> &'a Plane
     &bands.planes[band as usize]
 }
 
-// The number at a row and a column of a plane.
+// Returns the number at a row and a column of a plane.
 fn cell_of(plane: &Plane, row: u32, column: u32) -> i32
     requires cell { row * plane.now.width + column < vec_len plane.now.cells }
     requires small { IsWithin (2 ^ 30) (image_of plane.now row column) }

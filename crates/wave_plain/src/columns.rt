@@ -11,7 +11,7 @@ use lift_rows::{
     mirrored_after, mirrored_before, predict_add, predict_sub, update_add, update_sub,
 };
 
-/// Row i of rows of w cells.
+/// Returns row i of rows of w cells.
 pub fn row_of<T>(cells: &[T], w: usize, i: usize) -> &[T]
     requires { i * w + w ≤ length cells.now }
     ensures whole { length result.now ≡ w }
@@ -20,7 +20,7 @@ pub fn row_of<T>(cells: &[T], w: usize, i: usize) -> &[T]
     &cells[i * w..i * w + w]
 }
 
-/// The high row of an odd row and the four even rows round it.
+/// Computes the high row of an odd row and the four even rows round it.
 fn high_row(odd: &[i32], a: &[i32], b: &[i32], c: &[i32], d: &[i32], into: &mut [i32])
     requires long_a { length a.now ≡ length odd.now }
     requires long_b { length b.now ≡ length odd.now }
@@ -39,7 +39,7 @@ fn high_row(odd: &[i32], a: &[i32], b: &[i32], c: &[i32], d: &[i32], into: &mut 
     predict_sub(into, a, b, c, d);
 }
 
-/// The low row of an even row and the high rows on both sides.
+/// Computes the low row of an even row and the high rows on both sides.
 fn low_row(even: &[i32], before: &[i32], after: &[i32], into: &mut [i32])
     requires long_before { length before.now ≡ length even.now }
     requires long_after { length after.now ≡ length even.now }
@@ -88,7 +88,7 @@ pub fn split_columns(cells: &[i32], w: usize, n: usize, low: &mut [i32], high: &
     }
 }
 
-/// The even row of a low row and the high rows on both sides.
+/// Computes the even row of a low row and the high rows on both sides.
 fn even_row(low: &[i64], before: &[i64], after: &[i64], into: &mut [i64])
     requires long_before { length before.now ≡ length low.now }
     requires long_after { length after.now ≡ length low.now }
@@ -103,7 +103,7 @@ fn even_row(low: &[i64], before: &[i64], after: &[i64], into: &mut [i64])
     update_add(into, before, after);
 }
 
-/// The odd row of a high row and the four even rows round it.
+/// Computes the odd row of a high row and the four even rows round it.
 fn odd_row(high: &[i64], a: &[i64], b: &[i64], c: &[i64], d: &[i64], into: &mut [i64])
     requires long_a { length a.now ≡ length high.now }
     requires long_b { length b.now ≡ length high.now }
@@ -142,7 +142,7 @@ fn join_even_rows(low: &[i64], high: &[i64], w: usize, n: usize, into: &mut [i64
 }
 
 /// Makes the odd rows of an image from its n high rows of w cells and its even rows, which are in their
-/// places. A row of room is kept for the row at hand.
+/// places. `row` is room for the row that is computed.
 fn join_odd_rows(high: &[i64], w: usize, n: usize, row: &mut [i64], into: &mut [i64])
     requires high_half { length high.now ≡ n * w }
     requires row_room { length row.old ≡ w }
@@ -166,8 +166,8 @@ fn join_odd_rows(high: &[i64], w: usize, n: usize, row: &mut [i64], into: &mut [
     }
 }
 
-/// Joins each column of 2 * n cells from its n low and n high ones; a row has w cells. `row` is
-/// room for the row at hand.
+/// Joins each column of 2 * n cells from its n low and n high ones; a row has w cells. `row` is room for the
+/// row that is computed.
 pub fn join_columns(
     low: &[i64],
     high: &[i64],

@@ -1,4 +1,4 @@
-//! The wavelet transform of three levels over whole arrays, and its inverse.
+//! This crate has the wavelet transform of three levels over whole arrays, and its inverse.
 #![tactic(auto)]
 
 ghost use Rattle.std.specs.Prelude.{◌≡◌, ℕ, ◌+◌, ◌*◌, ◌-◌, ◌/◌, ◌^◌, ◌<◌, ◌≤◌, IfOk, vec_len};
@@ -39,9 +39,8 @@ pub struct Bands {
 
 /// Returns the ten bands of an image (docs/formats.md, "Levels and padding").
 ///
-/// Width and rows are multiples of 8 from 24, and the cells are at most 2^16 in magnitude. The
-/// values of the bands are at most 16,000,000 in magnitude (docs/formats.md, "Bounds"). The one
-/// error is want of memory.
+/// Width and rows are multiples of 8 from 24, and the cells are at most 2^16 in magnitude. The values of the
+/// bands are at most 16,000,000 in magnitude (docs/formats.md, "Bounds"). The only error is a lack of memory.
 pub fn forward3(alloc: Global, image: &Plane) -> Result<Bands, AllocError>
     requires width { (image.now.width ≡ 8 * (image.now.width / 8)) × (24 ≤ image.now.width) }
     requires rows { (image.now.rows ≡ 8 * (image.now.rows / 8)) × (24 ≤ image.now.rows) }
@@ -81,8 +80,8 @@ fn plane_of(bands: &Bands, band: usize) -> &Plane
 
 /// Returns the image that has these ten bands (docs/formats.md, "Levels and padding").
 ///
-/// Width and rows are multiples of 8 from 24, the ten planes have the sizes of their bands, and
-/// their values are at most 2^27 in magnitude. The one error is want of memory.
+/// Width and rows are multiples of 8 from 24, the ten planes have the sizes of their bands, and their values
+/// are at most 2^27 in magnitude. The only error is a lack of memory.
 pub fn inverse3(alloc: Global, bands: &Bands) -> Result<Plane, AllocError>
     requires long { (24 ≤ bands.now.width) × (24 ≤ bands.now.rows) }
     requires whole { IsWhole (bands.now.rows / 8) (bands.now.width / 8) bands.now }

@@ -43,7 +43,7 @@ impl Samples {
     ghost use Rattle.wave_plain.specs.Images.{image_of, zeros, Shows};
     ghost use Rattle.wave_plain.specs.ShownSamples.{samples_of, ShowsSamples};
 
-    /// Returns zeros.
+    /// Returns samples of zeros.
     pub fn zeros(alloc: Global, width: u32, rows: u32) -> Result<Samples, AllocError>
         ensures { IfOk result (ShowsSamples rows width zeros) }
     {

@@ -1,4 +1,4 @@
--- A low row that goes from a level to the one below.
+-- A low row that is passed from a level to the one below.
 use Rattle.std.proofs.Common.{◌≡◌, ℕ, ◌*◌, ◌<◌, ◌≤◌, ℤ, pos, List, take, sym, ◌∙◌, subst, arith}
 use Rattle.std.proofs.lemmas.List.{get_or-take}
 use Rattle.wave_defs.specs.Level.{level}
@@ -23,7 +23,7 @@ passed_row_here x n m h k w row em hh hn hk ew low =
     } in
     subst (λ (y : ℕ → ℤ). Agrees (2 * h) (parted (signal (take m row)) h) y) (sym (mirrored-inside (beside ll h) n k hk)) (parted-same h _ _ hh line)
 
--- the same where the sizes are known by other names
+-- the same if the sizes are known by other names
 pub passed_row : (x : ℕ → ℕ → ℤ) (p n m h k w m' h' : ℕ) (row : List ℤ) → m ≡ 2 * h → 2 ≤ h → 2 ≤ n → p ≡ 2 * n → k < p → w ≡ 2 * m → m' ≡ m → h' ≡ h → Agrees w (signal row) (open_low (mirrored (beside x m) p) k) → Agrees (2 * h') (parted (signal (take m' row)) h') (mirrored (beside (level x p m).ll h) n k)
 passed_row x p n m h k w m' h' row em hh hn ep hk ew em' eh' low =
     let here = passed_row_here x n m h k w row em hh hn (omega arith) ew (subst (λ (q : ℕ). Agrees w (signal row) (open_low (mirrored (beside x m) q) k)) ep low) in

@@ -1,9 +1,9 @@
--- The counts of a strip as rows come, and at the end.
+-- The counts of a strip as rows arrive, and at the end.
 use Rattle.std.proofs.Common.{◌≡◌, ℕ, ◌+◌, ◌*◌, ◌<◌, ◌≤◌, Bool, true, false, arith, refl}
 use Rattle.wave_strip.specs.Kept.{pairs_in}
 use Rattle.wave_strip.specs.Counts.{AreCounts, AreRunning, HaveEnded, AreReached, settled}
 
--- a row comes
+-- a row arrives
 module _ (rows answered a b c a' b' c' now : ℕ) (e s : Bool) (run : AreRunning rows answered a b c) (few : rows < 262144) (off : e ≡ false) (ea : a' ≡ a + 1) (eb : b' ≡ pairs_in a') (ec : c' ≡ pairs_in (pairs_in a')) (en : now ≡ settled (rows + 1)) where
   pub no_block_row : s ≡ false → now ≤ answered → AreCounts (rows + 1) answered e s a' b' c'
   no_block_row es le =
@@ -31,7 +31,7 @@ module _ (rows answered a b c a' b' c' now : ℕ) (e s : Bool) (run : AreRunning
         next = λ z y. let wrong : true ≡ false = cc in cc;
       }
 
--- a block row that stands is among the rows kept
+-- the rows of the available block row are among those kept
 reached_running : (rows answered a b c : ℕ) → AreRunning rows answered a b c → 1 ≤ answered → rows ≡ 8 * answered + 21 → AreReached answered a b c
 reached_running rows answered a b c run one just =
     let ea = run.first in
@@ -52,7 +52,7 @@ pub reached : (rows answered a b c : ℕ) (e s : Bool) → s ≡ true → AreCou
 reached rows answered a b c false s es k = reached_running rows answered a b c (k.running refl) (k.some es) (k.just es refl)
 reached rows answered a b c true s es k = reached_ended rows answered a b c (k.after refl) (k.some es) (k.next es refl)
 
--- and it is a block row of each image that begins with the rows taken
+-- the available block row is a block row of each image that begins with the rows taken
 pub answered_within : (rows answered a b c r : ℕ) (e s : Bool) → s ≡ true → AreCounts rows answered e s a b c → rows ≤ 8 * r → answered ≤ r
 answered_within rows answered a b c r false s es k h = let just = k.just es refl in omega arith
 answered_within rows answered a b c r true s es k h = let to = (k.after refl).to in omega arith

@@ -10,7 +10,7 @@ use Rattle.wave_defs.proofs.LevelWithin.{IsWithin-more}
 use Rattle.wave_defs.proofs.RingLaws.{AreRows-turn, RowsWithin-turn, AreNewest-turn}
 use Rattle.wave_strip.specs.Kept.{AreRings, HoldPairs, AreSmall}
 
--- what a `Vec` holds after its whole slice was lent and came back as out
+-- what a `Vec` holds after its whole slice was lent and was returned as out
 pub written_whole : (n : ℕ) (out old : List ℤ) → length out ≡ n → length old ≡ n → take n (out ++ drop (length out) old) ≡ out
 written_whole n out old lo ln =
     take-append-le n out (drop (length out) old) (omega arith) ∙ take_all n out (omega arith)
@@ -89,6 +89,6 @@ RowsWithin-zeros b count w =
       };
     }
 
--- of no rows there is nothing to hold
+-- no rows are the newest of no rows
 pub AreNewest-none : (f : ℕ → ℕ → ℤ) (w : ℕ) (rows : List (List ℤ)) → AreNewest f w 0 rows
 AreNewest-none f w rows = record { at = λ t h le. absurd (omega arith) }

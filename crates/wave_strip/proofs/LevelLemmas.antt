@@ -20,7 +20,7 @@ Agrees-parted m k x low high e long al ah =
           (λ c h. ap (λ (i : ℕ). signal (low ++ high) (i + c)) (sym (long ∙ e)) ∙ get_or-append-add low high c (pos 0) ∙ bh.at c h);
     }
 
--- how large the samples of a row in parts are
+-- bounds on the samples of a row that is split in parts
 pub part_within : (k c half w n : ℕ) (x : ℕ → ℤ) (out old : List ℤ) → 2 ≤ k → 2 ≤ half → 5 * k ≤ c → w ≡ 2 * half → length out ≡ n → length old ≡ n → AllWithin (2 * k) (2 * half) x → Agrees (2 * half) (signal out) (parted x half) → AllWithin c w (signal (take n (out ++ drop (length out) old)))
 part_within k c half w n x out old hk hh hc ew lo ln b a =
     let within = parted-within k half x hk hh b in

@@ -1,4 +1,4 @@
--- How large the numbers of a block row are, whatever the image is.
+-- Bounds on the numbers of a block row, whatever the image is.
 use Rattle.std.proofs.Common.{◌≡◌, ℕ, zero, suc, ◌+◌, ◌-◌, ◌*◌, ◌<◌, ◌≤◌, ℤ, pos, List, [], length, get_or, sym, subst, arith, inl, inr}
 use Rattle.std.proofs.lemmas.Bool.{cases_lt}
 use Rattle.std.proofs.lemmas.Int.{ints}
@@ -49,6 +49,6 @@ band_small s (suc (suc (suc (suc (suc (suc (suc (suc zero)))))))) row i h lt = h
 band_small s (suc (suc (suc (suc (suc (suc (suc (suc (suc zero))))))))) row i h lt = low_within 3200000 _ _ s.third.columns s.levels.third_small (omega (arith, lt, s.third.wide))
 band_small s (suc (suc (suc (suc (suc (suc (suc (suc (suc (suc band)))))))))) row i h lt = absurd (omega arith)
 
--- the numbers of the block row that stands
+-- the numbers of the available block row
 pub number_small : (s : StripWave) (p : Place) → IsInRow s.third.half p → IsWithin 16000000 (number_in s p)
 number_small s p inside = band_small s p.band p.row p.column inside.band inside.column

@@ -33,7 +33,7 @@ Agrees-open_high a w j f evens odds y four two hf ef lifted e o =
           cc;
     }
 
--- and how large it is
+-- and its bound
 pub less_predicted-within : (m w f : ℕ) (evens odds : List (List ℤ)) (y : ℕ → ℤ) → length evens ≡ 4 → length odds ≡ 2 → f < 4 → 2 ≤ m
     → Agrees w y (less_predicted (signal (get_or odds 0 [])) (signal (get_or evens f [])) (signal (get_or evens 1 [])) (signal (get_or evens 2 [])) (signal (get_or evens 3 [])))
     → RowsWithin (2 * m) w evens → RowsWithin (2 * m) w odds → AllWithin (5 * m) w y

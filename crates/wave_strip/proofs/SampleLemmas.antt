@@ -1,4 +1,4 @@
--- How many samples rings of rows of one width hold.
+-- The number of samples that rings of rows of one width hold.
 use Rattle.std.proofs.Common.{◌≡◌, ℕ, suc, ◌+◌, ◌*◌, ◌<◌, ℤ, List, [], ◌∷◌, length, get_or, sym, ap, ◌∙◌, arith}
 use Rattle.std.specs.Prelude.{Option, Some, None, Vec, vec_len, IsSomeAnd}
 use Rattle.std.proofs.Math.Nat.{suc-mul}

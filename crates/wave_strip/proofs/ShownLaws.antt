@@ -23,7 +23,7 @@ at_band p q b m row column s (suc (suc (suc (suc (suc (suc (suc (suc zero)))))))
 at_band p q b m row column s (suc (suc (suc (suc (suc (suc (suc (suc (suc zero))))))))) h hr hc = s.ll3.at (1 * b + row) column (omega arith) (omega arith) (omega arith)
 at_band p q b m row column s (suc (suc (suc (suc (suc (suc (suc (suc (suc (suc band)))))))))) h hr hc = absurd (omega arith)
 
--- once a block row stands, its numbers are those of each image that the strip follows
+-- if a block row is available, its numbers are those of each image that the strip follows
 pub shows : (image : ℕ → ℕ → ℤ) (r : ℕ) (s : StripWave) → s.standing ≡ true → 3 ≤ r → s.rows ≤ 8 * r → Follows image r s → ShowsBlockRow image r s
 unfolding pyramid pyramid_of
 shows image r s stands three most f =

@@ -3,14 +3,14 @@ use Rattle.std.specs.Prelude.{ℕ, ◌+◌, ◌-◌, ℤ, pos, List, [], slice_i
 use Rattle.wave_strip.specs.declared.columns.Columns.{Columns}
 use Rattle.wave_strip.specs.Kept.{HoldPairs, AreSmall, evens_in, odds_in, pairs_in}
 
--- the columns stand as after the first rows of this image
+-- the columns are as after the first rows of this image
 abbrev pub Follow : (ℕ → ℕ → ℤ) → Columns → Type 0
 Follow a c = HoldPairs a c.width (evens_in c.taken) (odds_in c.taken) (pairs_in c.taken) c.evens c.odds c.lows c.highs
 
 abbrev pub IsSmall : ℕ → Columns → Type 0
 IsSmall m c = AreSmall m c.width c.evens c.odds c.lows c.highs
 
--- row j of the newest of so many rows
+-- row j of the newest of this number of rows
 abbrev pub kept_sample : List (List ℤ) → ℕ → ℕ → ℕ → ℕ → ℤ
 kept_sample rows kept made j column = slice_index_or (slice_index_or rows (j + kept - made) []) column (pos 0)
 

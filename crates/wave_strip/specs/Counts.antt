@@ -1,19 +1,19 @@
--- How many rows the levels of a strip took, and which block row stands.
+-- How many rows the levels of a strip took, and which block row is available.
 use Rattle.std.specs.Prelude.{◌≡◌, ℕ, ◌+◌, ◌-◌, ◌*◌, ◌/◌, ◌%◌, ◌<◌, ◌≤◌, Bool, true, false}
 use Rattle.wave_strip.specs.Kept.{pairs_in}
 
--- block row r comes with row 8 * r + 28, so of so many rows come these block rows
+-- the number of block rows that are complete after this number of rows: block row r is complete with row 8 * r + 28
 abbrev pub settled : ℕ → ℕ
 settled rows = (rows - 21) / 8
 
--- before the end each level has taken what came down to it
+-- before the end each level has taken the rows that were passed down to it
 pub record AreRunning (rows answered a b c : ℕ) : Type 0 where
   pub first : a ≡ rows
   pub second : b ≡ pairs_in a
   pub third : c ≡ pairs_in b
   pub block_rows : answered ≡ settled rows
 
--- and after it three mirrored rows besides
+-- after the end each level has also taken three mirrored rows
 pub record HaveEnded (rows answered a b c : ℕ) : Type 0 where
   pub whole : rows % 8 ≡ 0
   pub long : 24 ≤ rows
@@ -23,8 +23,8 @@ pub record HaveEnded (rows answered a b c : ℕ) : Type 0 where
   pub from : settled rows ≤ answered
   pub to : answered ≤ rows / 8
 
--- The block row that stands is the one answered last: before the end it has just come, and after the
--- end it is one of those that came at the end.
+-- The available block row is the one answered last: before the end it is complete with the last row, and
+-- after the end it is one of those that the end completes.
 pub record AreCounts (rows answered : ℕ) (ended standing : Bool) (a b c : ℕ) : Type 0 where
   pub most : rows ≤ 262144
   pub running : ended ≡ false → AreRunning rows answered a b c

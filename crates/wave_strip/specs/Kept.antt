@@ -3,18 +3,18 @@ use Rattle.std.specs.Prelude.{ℕ, ◌+◌, ◌-◌, ◌*◌, ◌/◌, ◌≤◌
 use Rattle.wave_defs.specs.Rolling.{open_high, open_low}
 use Rattle.wave_defs.specs.Rings.{AreRows, RowsWithin, AreNewest, even_rows, odd_rows}
 
--- of k rows
+-- the number of even rows among k rows
 abbrev pub evens_in : ℕ → ℕ
 evens_in k = (k + 1) / 2
 
 abbrev pub odds_in : ℕ → ℕ
 odds_in k = k / 2
 
--- pair j of a low and a high row stands once row 2 * j + 4 was taken
+-- the number of pairs of a low and a high row: pair j exists after row 2 * j + 4 was taken
 abbrev pub pairs_in : ℕ → ℕ
 pairs_in k = (k + 1) / 2 - 2
 
--- four even rows, two odd ones, and as many low and high ones as are kept, each of w samples
+-- four even rows, two odd rows, and `kept` low and high rows, each of w samples
 pub record AreRings (w kept : ℕ) (es os ls hs : List (List ℤ)) : Type 0 where
   pub evens : AreRows 4 w es
   pub odds : AreRows 2 w os

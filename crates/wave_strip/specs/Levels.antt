@@ -12,13 +12,13 @@ first_low x n m = (level x (4 * n) (4 * m)).ll
 abbrev pub second_low : (ℕ → ℕ → ℤ) → ℕ → ℕ → ℕ → ℕ → ℤ
 second_low x n m = (level (first_low x n m) (2 * n) (2 * m)).ll
 
--- each level stands as after the first rows of the image that it transforms
+-- each level is as after the first rows of the image that it transforms
 pub record FollowLevels (x : ℕ → ℕ → ℤ) (n m : ℕ) (a b c : Columns) : Type 0 where
   pub first : Follow (mirrored (beside x (4 * m)) (4 * n)) a
   pub second : Follow (mirrored (beside (first_low x n m) (2 * m)) (2 * n)) b
   pub third : Follow (mirrored (beside (second_low x n m) m) n) c
 
--- the second and the third level alone, where x is the image of the second
+-- the second and the third level alone; x is the image of the second
 pub record FollowTwo (x : ℕ → ℕ → ℤ) (n m : ℕ) (b c : Columns) : Type 0 where
   pub second : Follow (mirrored (beside x (2 * m)) (2 * n)) b
   pub third : Follow (mirrored (beside (level x (2 * n) (2 * m)).ll m) n) c

@@ -1,4 +1,4 @@
--- How many samples a strip holds: the lengths of all lists of numbers inside it.
+-- The number of samples that a strip holds: the lengths of all lists of numbers inside it.
 use Rattle.std.specs.Prelude.{ℕ, ◌+◌, ℤ, List, length, Option, None, Some, Vec, vec_len}
 use Rattle.std.specs.List.{sum_by}
 use Rattle.wave_strip.specs.declared.columns.Columns.{Columns}

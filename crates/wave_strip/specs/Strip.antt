@@ -23,11 +23,11 @@ has_ended s = s.ended
 abbrev pub is_standing : StripWave → Bool
 is_standing s = s.standing
 
--- the strip stands as after the first rows of this image of r block rows
+-- the strip is as after the first rows of this image of r block rows
 abbrev pub Follows : (ℕ → ℕ → ℤ) → ℕ → StripWave → Type 0
 Follows image r s = FollowLevels image r s.third.half s.first.columns s.second.columns s.third.columns
 
--- no row was taken, so it follows each image
+-- no row was taken, so the strip follows each image
 pub record IsAtStart (s : StripWave) : Type 0 where
   pub rows : s.rows ≡ 0
   pub answered : s.answered ≡ 0

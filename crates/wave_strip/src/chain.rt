@@ -9,7 +9,7 @@ ghost use Rattle.wave_strip.specs.Levels.{FollowLevels};
 
 use crate::level::Level;
 
-/// Gives the low row that came with the last row to the level below, where one came.
+/// Passes the low row that the last row gave to the level below, if it gave one. Returns whether it did.
 pub fn pass_on(upper: &Level, lower: &mut Level) -> bool
     requires half { upper.now.half ≡ 2 * lower.old.half }
     requires next { lower.old.columns.taken ≡ pairs_in (upper.now.columns.taken - 1) }
@@ -36,7 +36,7 @@ pub fn pass_on(upper: &Level, lower: &mut Level) -> bool
     true
 }
 
-/// Gives the low row that came with the last row of the first level to the second, and so on.
+/// Passes the low row that the last row of the first level gave to the second, and that of the second to the third.
 pub fn hand_down(first: &Level, second: &mut Level, third: &mut Level)
     requires halves { first.now.half ≡ 2 * second.old.half }
     requires quarters { second.old.half ≡ 2 * third.old.half }

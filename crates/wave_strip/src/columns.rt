@@ -7,8 +7,8 @@ use crate::pairs::{high_row, low_row};
 use line_rings::RowRing;
 use std::alloc::{AllocError, Global};
 
-/// What is kept of an image of which some rows were taken. A low and a high row come with each even
-/// row from the third on, and as many of each are kept as is said at first.
+/// The rows that are kept of an image of which some rows were taken. Each even row from the third on gives a
+/// low and a high row, and `kept` of each are kept.
 #[derive(Drop)]
 pub struct Columns {
     pub width: usize,
@@ -21,7 +21,7 @@ pub struct Columns {
     ghost stand: { AreRings width kept evens odds lows highs },
 }
 
-/// Pair j, once even row j + 2 was taken. `row` is room, and room is handed back.
+/// Makes pair j, after even row j + 2 was taken. `row` is room, and room is returned.
 fn lift_pair(
     evens: &RowRing<i32>,
     odds: &RowRing<i32>,
@@ -49,7 +49,7 @@ fn lift_pair(
     lows.turn(low)
 }
 
-/// How many pairs came with so many rows.
+/// Returns how many pairs this number of rows gives.
 fn pairs_of(taken: usize) -> usize
     requires { taken < 2 ^ 32 }
     ensures { result ≡ pairs_in taken }
@@ -65,7 +65,7 @@ impl Columns {
     ghost use Rattle.wave_strip.specs.Samples.{column_samples};
     ghost use Rattle.wave_strip.specs.Columns.{Follow, IsSmall, low_sample, high_sample};
 
-    /// Columns of rows of zeros, at the start of an image. The one error is want of memory.
+    /// Returns columns of rows of zeros, at the start of an image. The only error is a lack of memory.
     pub fn new(alloc: Global, width: usize, kept: usize) -> Result<Columns, AllocError>
         requires { 2 ≤ kept }
         ensures width { IfOk result (λ c. c.width ≡ width) }
@@ -85,7 +85,7 @@ impl Columns {
         })
     }
 
-    /// Takes the next row, and hands back room for another one.
+    /// Takes the next row, and returns room for another one.
     pub fn push(&mut self, row: Vec<i32>) -> Vec<i32>
         requires wide { vec_len row ≡ self.old.width }
         requires few { self.old.taken < 2 ^ 32 }
@@ -119,8 +119,8 @@ impl Columns {
         )
     }
 
-    /// The row of which the next one after the last is the mirror: the last even row, the last odd
-    /// row but one and the last even row but one, in this order.
+    /// Returns the row whose mirror is the next one after the last: the last even row, the last odd row
+    /// except one and the last even row except one, in this order.
     pub fn mirror(&self, after: usize) -> &[i32]
         requires three { after < 3 }
         ensures wide { length result.now ≡ self.now.width }
@@ -137,7 +137,7 @@ impl Columns {
         }
     }
 
-    /// The newest low row.
+    /// Returns the newest low row.
     pub fn newest_low(&self) -> &[i32]
         requires { 1 ≤ pairs_in self.now.taken }
         ensures wide { length result.now ≡ self.now.width }
@@ -149,7 +149,7 @@ impl Columns {
         self.lows.at(self.kept - 1)
     }
 
-    /// Low row j, which is among those kept.
+    /// Returns low row j, which is among those kept.
     pub fn low(&self, j: usize) -> &[i32]
         requires made { j < pairs_in self.now.taken }
         requires kept { pairs_in self.now.taken ≤ j + self.now.kept }
@@ -160,7 +160,7 @@ impl Columns {
         self.lows.at(self.kept - (pairs_of(self.taken) - j))
     }
 
-    /// High row j, which is among those kept.
+    /// Returns high row j, which is among those kept.
     pub fn high(&self, j: usize) -> &[i32]
         requires made { j < pairs_in self.now.taken }
         requires kept { pairs_in self.now.taken ≤ j + self.now.kept }
@@ -171,7 +171,7 @@ impl Columns {
         self.highs.at(self.kept - (pairs_of(self.taken) - j))
     }
 
-    /// Puts the columns at the start of an image.
+    /// Resets the columns to the start of an image.
     pub fn reset(&mut self)
         ensures width { self.new.width ≡ self.old.width }
         ensures kept { self.new.kept ≡ self.old.kept }
@@ -182,7 +182,7 @@ impl Columns {
         self.taken = 0;
     }
 
-    /// How many samples the rings hold.
+    /// Returns how many samples the rings hold.
     pub fn samples(&self) -> u64
         requires kept { self.now.kept ≤ 13 }
         requires wide { self.now.width ≤ 2 ^ 20 }

@@ -10,7 +10,7 @@ use crate::columns::Columns;
 use lift_rows::forward_row;
 use std::alloc::{AllocError, Global};
 
-/// The low and then the high samples of a row (docs/formats.md, "A line").
+/// Splits a row into its low samples, followed by its high samples (docs/formats.md, "A line").
 fn part(row: &[i32], half: usize, into: &mut [i32])
     requires line { length row.now ≡ 2 * half }
     requires room { length into.old ≡ 2 * half }
@@ -41,8 +41,8 @@ impl Level {
     ghost use Rattle.wave_strip.specs.Samples.{level_samples};
     ghost use Rattle.wave_strip.specs.Columns.{Follow, IsSmall};
 
-    /// A level of rows of 2 * half samples at the start of an image, which keeps so many pairs. The
-    /// one error is want of memory.
+    /// Returns a level of rows of 2 * half samples at the start of an image, which keeps `kept` pairs. The
+    /// only error is a lack of memory.
     pub fn new(alloc: Global, half: usize, kept: usize) -> Result<Level, AllocError>
         requires kept { 2 ≤ kept }
         requires long { 3 ≤ half }
@@ -62,7 +62,7 @@ impl Level {
         })
     }
 
-    /// Puts the level at the start of an image.
+    /// Resets the level to the start of an image.
     pub fn reset(&mut self)
         ensures half { self.new.half ≡ self.old.half }
         ensures kept { self.new.columns.kept ≡ self.old.columns.kept }
@@ -95,8 +95,8 @@ impl Level {
         self.spare = Some(self.columns.push(next));
     }
 
-    /// Takes the mirror of a row after the last one: of the last even row, the last odd row but one
-    /// and the last even row but one, in this order (docs/formats.md, "A line").
+    /// Takes the mirror of a row after the last one: of the last even row, the last odd row except one and
+    /// the last even row except one, in this order (docs/formats.md, "A line").
     pub fn take_mirrored(&mut self, after: usize)
         requires three { after < 3 }
         requires few { self.old.columns.taken < 2 ^ 32 }
@@ -115,7 +115,7 @@ impl Level {
         self.spare = Some(self.columns.push(next));
     }
 
-    /// How many samples the level holds.
+    /// Returns how many samples the level holds.
     pub fn samples(&self) -> u64
         requires kept { self.now.columns.kept ≤ 13 }
         requires wide { 2 * self.now.half ≤ 2 ^ 20 }

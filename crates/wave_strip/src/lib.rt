@@ -1,5 +1,5 @@
-//! The forward transform of an image whose rows arrive one after the other, in the memory of some
-//! rows.
+//! This crate has the forward transform of an image whose rows arrive one after the other, in the memory of
+//! some rows.
 #![tactic(auto)]
 
 mod chain;

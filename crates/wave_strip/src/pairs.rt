@@ -9,8 +9,8 @@ ghost use Rattle.wave_defs.specs.Rings.{AreRows, RowsWithin, AreNewest, even_row
 use lift_rows::{predict_sub_onto, update_sub_onto};
 use line_rings::RowRing;
 
-/// High row j, once even row j + 2 and odd row j + 1 are the newest (docs/formats.md, "A line").
-/// Before the first even row the second serves.
+/// Computes high row j, if even row j + 2 and odd row j + 1 are the newest (docs/formats.md, "A line"). The
+/// second even row is used in place of the one before the first.
 pub fn high_row(evens: &RowRing<i32>, odds: &RowRing<i32>, j: usize, into: &mut [i32])
     requires evens { AreRows 4 (length into.old) evens.now }
     requires odds { AreRows 2 (length into.old) odds.now }
@@ -34,8 +34,8 @@ pub fn high_row(evens: &RowRing<i32>, odds: &RowRing<i32>, j: usize, into: &mut 
     );
 }
 
-/// Low row j, once high row j is the newest of `kept` (docs/formats.md, "A line"). Before the first
-/// high row that one itself serves.
+/// Computes low row j, if high row j is the newest of `kept` (docs/formats.md, "A line"). The first high row
+/// is used in place of the one before it.
 pub fn low_row(evens: &RowRing<i32>, highs: &RowRing<i32>, kept: usize, j: usize, into: &mut [i32])
     requires evens { AreRows 4 (length into.old) evens.now }
     requires highs { AreRows kept (length into.old) highs.now }

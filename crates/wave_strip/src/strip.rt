@@ -11,8 +11,8 @@ use base_122::Band;
 use block_families::{BandRows, BandSource, Place};
 use std::alloc::{AllocError, Global};
 
-/// The transform of an image of which some rows were taken. Its block rows come as soon as their last
-/// row did, and the last three at the end.
+/// The transform of an image of which some rows were taken. A block row is available with its last row, and
+/// the last three at the end.
 #[derive(Drop)]
 pub struct StripWave {
     rows: u32,
@@ -26,7 +26,7 @@ pub struct StripWave {
     ghost counts: { AreCounts rows answered ended standing first.columns.taken second.columns.taken third.columns.taken },
 }
 
-/// How many block rows come of so many rows.
+/// Returns how many block rows are complete after this number of rows.
 fn settled_in(rows: u32) -> u32
     ensures { result ≡ settled rows }
 {
@@ -41,8 +41,8 @@ impl StripWave {
     ghost use Rattle.wave_defs.specs.Held.{Agrees, signal};
     ghost use Rattle.wave_strip.specs.Strip.{rows_of, answered_of, columns_of, has_ended, is_standing, Follows, IsAtStart, ShowsBlockRow};
 
-    /// The transform of images of rows of so many samples, at the start of an image. The width is a
-    /// multiple of 8 from 24 to 2^20. The one error is want of memory.
+    /// Returns the transform of images of rows of `width` samples, at the start of an image. The width is a
+    /// multiple of 8 from 24 to 2^20. The only error is a lack of memory.
     pub fn new(alloc: Global, width: u32) -> Result<StripWave, AllocError>
         requires whole { width % 8 ≡ 0 }
         requires long { 24 ≤ width }
@@ -65,7 +65,7 @@ impl StripWave {
         })
     }
 
-    /// How many samples it holds.
+    /// Returns how many samples it holds.
     pub fn samples(&self) -> u64
         ensures value { result ≡ samples_of self.now }
         ensures most { result + 64 ≤ 62 * (8 * columns_of self.now) }
@@ -73,7 +73,7 @@ impl StripWave {
         self.first.samples() + self.second.samples() + self.third.samples()
     }
 
-    /// Puts it at the start of an image.
+    /// Resets it to the start of an image.
     pub fn reset(&mut self)
         ensures columns { columns_of self.new ≡ columns_of self.old }
         ensures start { IsAtStart self.new }
@@ -87,7 +87,7 @@ impl StripWave {
         self.standing = false;
     }
 
-    // The block row that stands.
+    // Returns the available block row.
     fn block(&self) -> usize
         requires { is_standing self.now ≡ true }
         ensures value { result ≡ answered_of self.now - 1 }
@@ -97,7 +97,7 @@ impl StripWave {
         self.answered as usize - 1
     }
 
-    /// Takes the next row, and answers the block row that comes with it.
+    /// Takes the next row, and returns the block row that it completes, if any.
     pub fn push_row(&mut self, row: &[i32]) -> Option<u32>
         requires wide { length row.now ≡ 8 * columns_of self.old }
         requires bounded { AllWithin (2 ^ 16) (8 * columns_of self.old) (signal row.now) }
@@ -126,7 +126,7 @@ impl StripWave {
         Some(now - 1)
     }
 
-    /// Answers the next block row, where the image has as many rows as were taken.
+    /// Returns the next block row, if the image has exactly the rows that were taken.
     pub fn finish_row(&mut self) -> Option<u32>
         requires whole { rows_of self.old % 8 ≡ 0 }
         requires long { 24 ≤ rows_of self.old }

@@ -1,4 +1,4 @@
-//! After the last row: each level takes the mirrors of its last rows, the upper ones first.
+//! The end of an image: each level takes the mirrors of its last rows, the upper levels first.
 
 ghost use Rattle.std.specs.Prelude.{◌≡◌, ℕ, ◌+◌, ◌*◌, ◌-◌, ◌/◌, ◌%◌, ◌^◌, ◌<◌, ◌≤◌, ℤ};
 ghost use Rattle.wave_defs.specs.Level.{level};
@@ -10,7 +10,7 @@ ghost use Rattle.wave_strip.specs.Levels.{FollowLevels, FollowTwo};
 use crate::chain::{hand_down, pass_on};
 use crate::level::Level;
 
-/// The end of the first level.
+/// Ends the first level.
 fn end_first(first: &mut Level, second: &mut Level, third: &mut Level)
     requires halves { first.old.half ≡ 2 * second.old.half }
     requires quarters { second.old.half ≡ 2 * third.old.half }
@@ -42,7 +42,7 @@ fn end_first(first: &mut Level, second: &mut Level, third: &mut Level)
     }
 }
 
-/// The end of the second level.
+/// Ends the second level.
 fn end_second(second: &mut Level, third: &mut Level)
     requires quarters { second.old.half ≡ 2 * third.old.half }
     requires next { third.old.columns.taken ≡ pairs_in second.old.columns.taken }
@@ -67,7 +67,7 @@ fn end_second(second: &mut Level, third: &mut Level)
     }
 }
 
-/// The end of the third level.
+/// Ends the third level.
 fn end_third(third: &mut Level)
     requires few { third.old.columns.taken < 2 ^ 31 }
     requires small { IsSmall 3200000 third.old.columns }
@@ -83,7 +83,7 @@ fn end_third(third: &mut Level)
     }
 }
 
-/// Brings all block rows of an image that has as many rows as the first level took, a multiple of 8.
+/// Completes all block rows of an image that has exactly the rows that the first level took, a multiple of 8.
 pub fn end_levels(first: &mut Level, second: &mut Level, third: &mut Level)
     requires halves { first.old.half ≡ 2 * second.old.half }
     requires quarters { second.old.half ≡ 2 * third.old.half }

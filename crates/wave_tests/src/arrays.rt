@@ -1,4 +1,4 @@
-//! The transform of small images, there and back.
+//! The transform of small images, and its inverse.
 
 ghost use Rattle.std.specs.Prelude.{◌≡◌, ℕ, ◌^◌, ◌<◌, IfOk};
 ghost use Rattle.wave_defs.specs.Within.{IsWithin, EachWithin};
@@ -8,7 +8,7 @@ use std::alloc::{AllocError, Global};
 use std::test::Fail;
 use wave_plain::{Plane, forward3, inverse3};
 
-/// Rows of 200 alone.
+/// Returns a plane in which all values are 200.
 fn flat(alloc: Global) -> Result<Plane, AllocError>
     ensures size { IfOk result (HasSize 24 24) }
     ensures small { IfOk result (λ p. EachWithin (2 ^ 16) 24 24 (image_of p)) }
@@ -28,7 +28,7 @@ fn field(row: usize, column: usize) -> i64
     if (row + column) % 2 == 0 { 0 } else { 65_535 }
 }
 
-/// Fields of 0 and 65,535 in turn.
+/// Returns a plane whose values are 0 and 65,535 in turn.
 fn chessboard(alloc: Global) -> Result<Plane, AllocError>
     ensures size { IfOk result (HasSize 32 32) }
     ensures small { IfOk result (λ p. EachWithin (2 ^ 16) 32 32 (image_of p)) }

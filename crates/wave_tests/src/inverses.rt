@@ -33,7 +33,7 @@ fn cell(place: u32) -> i64
     i64::from(made_pixel(&MADE, place / COLUMNS, place % COLUMNS))
 }
 
-/// The made image's first block rows.
+/// Returns the made image's first block rows.
 fn made_plane(alloc: Global, block_rows: u32) -> Result<Plane, AllocError>
     requires { block_rows ≤ 12 }
     ensures size { IfOk result (HasSize (8 * block_rows) 24) }
@@ -50,7 +50,7 @@ fn made_plane(alloc: Global, block_rows: u32) -> Result<Plane, AllocError>
     })
 }
 
-/// A number that the inverse takes, and 0 in place of others.
+/// Returns a number that the inverse accepts, and 0 in place of others.
 fn bounded(number: i32) -> i64
     ensures { unsigned_abs result ≤ 2 ^ 27 }
 {
@@ -89,7 +89,7 @@ fn put_block_row(strip: &mut StripInverse, bands: &Bands, row: u32)
     }
 }
 
-/// Puts the numbers of a block row that isn't lost.
+/// Puts the numbers of a block row, if it is not lost.
 fn put_received(strip: &mut StripInverse, bands: &Bands, row: u32, lost: u32)
     requires columns { columns_of strip.old ≡ 3 }
     requires whole_columns { bands.now.width ≡ 24 }
@@ -116,7 +116,7 @@ fn take_rows(strip: &mut StripInverse, rows: &mut Vec<i64>) -> Result<(), AllocE
     Ok(())
 }
 
-/// Pushes block rows, one of them without its numbers, and takes the rows that they bring.
+/// Pushes block rows, one of them without its numbers, and takes the rows that they complete.
 fn push_rows(
     strip: &mut StripInverse,
     bands: &Bands,
@@ -147,7 +147,7 @@ fn push_rows(
 
 const NONE: u32 = u32::MAX;
 
-/// All rows are returned if the image's end is reported after four of its five block rows.
+/// Tests that all rows are returned if the image's end is reported after four of its five block rows.
 fn end_is_told_late(
     rt: &impl Abort,
     strip: &mut StripInverse,
@@ -169,7 +169,7 @@ fn end_is_told_late(
     assert_eq!(rt; *rows, image.cells);
 }
 
-/// Whether two lists of rows are the same from one row to another.
+/// Returns whether two lists of rows are the same from one row to another.
 fn are_same(a: &[i64], b: &[i64], from: usize, to: usize) -> bool
     requires order { from ≤ to }
     requires within { (24 * to ≤ length a.now) × (24 * to ≤ length b.now) }
@@ -178,7 +178,7 @@ fn are_same(a: &[i64], b: &[i64], from: usize, to: usize) -> bool
     a[24 * from..24 * to] == b[24 * from..24 * to]
 }
 
-/// If block row 5 is lost, rows 19 to 69 may differ.
+/// Tests that only rows 19 to 69 differ if block row 5 is lost.
 fn one_is_lost(
     rt: &impl Abort,
     strip: &mut StripInverse,
@@ -209,7 +209,7 @@ fn rows_come_back_where_the_end_is_told_late(rt: HostRuntime) -> Result<(), Fail
     let mut rows = Vec::new(alloc);
     let mut strip = StripInverse::new(alloc, COLUMNS, 262_144)?;
     end_is_told_late(&rt, &mut strip, &bands, &image, &mut rows);
-    // Its drop would be dear to prove.
+    // Its drop would be costly to prove.
     mem::forget(strip);
     Ok(())
 }
@@ -222,7 +222,7 @@ fn a_lost_block_row_changes_only_rows_in_its_reach(rt: HostRuntime) -> Result<()
     let mut rows = Vec::new(alloc);
     let mut strip = StripInverse::new(alloc, COLUMNS, 96)?;
     one_is_lost(&rt, &mut strip, &bands, &image, &mut rows);
-    // Its drop would be dear to prove.
+    // Its drop would be costly to prove.
     mem::forget(strip);
     Ok(())
 }

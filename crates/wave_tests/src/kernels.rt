@@ -11,7 +11,7 @@ use std::test::Fail;
 
 const LENGTHS: [usize; 10] = [0, 1, 3, 4, 5, 7, 8, 9, 16, 17];
 
-/// Values of both signs, up to the bound of 32 bits, which differ from place to place.
+/// Returns values of both signs, up to the bound of 32 bits, which differ from place to place.
 fn value(list: usize, place: usize) -> i32
     requires list { list < 8 }
     requires place { place < 32 }
@@ -42,7 +42,7 @@ fn values(alloc: Global, list: usize, count: usize) -> Result<Vec<i32>, AllocErr
     Ok(values)
 }
 
-/// The same values, up to the bound of 64 bits.
+/// Returns such values up to the bound of 64 bits.
 fn wide_value(list: usize, place: usize) -> i64
     requires list { list < 8 }
     requires place { place < 32 }
@@ -64,7 +64,7 @@ fn wide_values(alloc: Global, list: usize, count: usize) -> Result<Vec<i64>, All
     Ok(values)
 }
 
-/// A number less what the four even samples round an odd one predict, rounded down.
+/// Returns a number minus what the four even samples round an odd one predict, rounded down.
 fn less_predicted(odd: i64, a: i64, b: i64, c: i64, d: i64) -> i64
     requires a { IsWithin (2 ^ 40) a }
     requires b { IsWithin (2 ^ 40) b }
@@ -74,7 +74,7 @@ fn less_predicted(odd: i64, a: i64, b: i64, c: i64, d: i64) -> i64
     odd.wrapping_sub((9 * (b + c) - (a + d) + 8).div_euclid(16))
 }
 
-/// A number less what the two high samples round an even one correct it by, rounded down.
+/// Returns a number minus the correction of an even one by the two high samples round it, rounded down.
 fn less_correction(even: i64, before: i64, after: i64) -> i64
     requires before { IsWithin (2 ^ 40) before }
     requires after { IsWithin (2 ^ 40) after }
@@ -107,7 +107,7 @@ fn single_steps_round_down(rt: HostRuntime) -> Result<(), Fail> {
     Ok(())
 }
 
-/// Five lists through both kernels forward.
+/// Runs five lists through both forward kernels.
 fn forward_kernels_at(rt: &impl Abort, alloc: Global, count: usize) -> Result<(), AllocError>
     requires { count < 32 }
 {
@@ -135,7 +135,7 @@ fn forward_kernels_meet_their_formulas(rt: HostRuntime) -> Result<(), Fail> {
     Ok(())
 }
 
-/// Five lists through both kernels back.
+/// Runs five lists through both kernels of the inverse.
 fn inverse_kernels_at(rt: &impl Abort, alloc: Global, count: usize) -> Result<(), AllocError>
     requires { count < 32 }
 {

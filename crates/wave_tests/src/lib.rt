@@ -1,4 +1,4 @@
-//! Tests of the transform: the kernels, rows, whole arrays and strips.
+//! This crate tests the transform: the kernels, rows, whole arrays and strips.
 #![tactic(auto)]
 
 #[cfg(test)]

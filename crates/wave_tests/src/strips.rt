@@ -1,4 +1,4 @@
-//! When block rows are ready, and what they show.
+//! Tests of when block rows are ready, and of their numbers.
 
 ghost use Rattle.std.specs.Prelude.{◌≡◌, ◌<◌, ◌^◌, ℕ, IfOk, false, true, vec_len};
 ghost use Rattle.wave_defs.specs.Within.{AllWithin, EachWithin, IsWithin};
@@ -17,7 +17,7 @@ use std::test::Fail;
 use wave_plain::{Bands, BlockRow, Plane, forward3};
 use wave_strip::StripWave;
 
-/// Three block rows are ready at the end of 24 rows, and none before.
+/// Tests that three block rows are ready at the end of 24 rows, and none before.
 fn end_after_24_rows(rt: &impl Abort, strip: &mut StripWave)
     requires columns { columns_of strip.old ≡ 3 }
     requires start { IsAtStart strip.old }
@@ -40,7 +40,7 @@ fn end_after_24_rows(rt: &impl Abort, strip: &mut StripWave)
     assert_eq!(rt; strip.finish_row(), None);
 }
 
-/// Of 32 rows the first block row is ready with row 29, and the others at the end.
+/// Tests that the first block row of 32 rows is ready with row 29, and the others at the end.
 fn push_32_rows(rt: &impl Abort, strip: &mut StripWave)
     requires columns { columns_of strip.old ≡ 3 }
     requires start { IsAtStart strip.old }
@@ -60,7 +60,7 @@ fn push_32_rows(rt: &impl Abort, strip: &mut StripWave)
 fn three_block_rows_come_at_the_end(rt: HostRuntime) -> Result<(), Fail> {
     let mut strip = StripWave::new(rt.alloc(), 24)?;
     end_after_24_rows(&rt, &mut strip);
-    // Its drop would be dear to prove.
+    // Its drop would be costly to prove.
     mem::forget(strip);
     Ok(())
 }
@@ -69,7 +69,7 @@ fn three_block_rows_come_at_the_end(rt: HostRuntime) -> Result<(), Fail> {
 fn the_first_block_row_comes_with_row_29(rt: HostRuntime) -> Result<(), Fail> {
     let mut strip = StripWave::new(rt.alloc(), 24)?;
     push_32_rows(&rt, &mut strip);
-    // Its drop would be dear to prove.
+    // Its drop would be costly to prove.
     mem::forget(strip);
     Ok(())
 }
@@ -92,7 +92,7 @@ fn pixel(row: u32, column: u32) -> i32
     made_pixel(&MADE, row, column)
 }
 
-/// A row of the made image.
+/// Returns a row of the made image.
 fn made_row(row: u32) -> [i32; 48]
     ensures { AllWithin (2 ^ 16) 48 (signal result) }
 {
@@ -109,7 +109,7 @@ fn cell(place: u32) -> i64
     i64::from(pixel(place / COLUMNS, place % COLUMNS))
 }
 
-/// The whole made image.
+/// Returns the whole made image.
 fn made_plane(alloc: Global) -> Result<Plane, AllocError>
     ensures size { IfOk result (HasSize 40 48) }
     ensures small { IfOk result (λ p. EachWithin (2 ^ 16) 40 48 (image_of p)) }
@@ -189,7 +189,7 @@ fn rows_give_the_bands_of_the_whole_image(rt: HostRuntime) -> Result<(), Fail> {
     let mut strip = StripWave::new(alloc, COLUMNS)?;
     push_rows(&rt, &mut strip, &bands);
     finish_rows(&rt, &mut strip, &bands);
-    // Its drop would be dear to prove.
+    // Its drop would be costly to prove.
     mem::forget(strip);
     Ok(())
 }

@@ -1,4 +1,4 @@
--- The first option that no other goes below is the cheapest.
+-- The first option with the least cost is the cheapest.
 use Rattle.std.proofs.Common.{◌≡◌, ℕ, zero, suc, ◌+◌, ◌<◌, ◌≤◌, ◌⊎◌, inl, inr, Bool, true, false, cond, List, [], ◌∷◌, ◌++◌, refl, sym, ap, ◌∙◌, arith, get_or, add-one, zero-add}
 use Rattle.std.specs.Prelude.{filter, nat_le}
 use Rattle.std.specs.List.{list_all}
@@ -62,7 +62,7 @@ fails_at : (p : ℕ → Bool) (count k : ℕ) (b : Bool) → k < count → p k �
 fails_at p count k true below fails all = let passes = list_all-span-zero p count k all below in cc
 fails_at p count k false below fails all = refl
 
--- what no option goes below, and each lesser option lies above, is the choice
+-- an option is the choice if no option costs less and each option before it costs more
 pub cheapest_is : (book : Book) (length : ℕ) (counts : List ℕ) (best : ℕ) → best < length →
     ((other : ℕ) → other < length → cost book length counts best ≤ cost book length counts other) →
     ((other : ℕ) → other < best → cost book length counts best < cost book length counts other) →

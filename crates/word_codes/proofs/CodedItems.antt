@@ -1,4 +1,4 @@
--- The bits that stand for a word in a coded option.
+-- The bits that represent a word in a coded option.
 use Rattle.std.proofs.Common.{◌≡◌, ℕ, ◌+◌, ◌<◌, ◌^◌, Bool, false, ◌∙◌, sym, ap, arith}
 use Rattle.std.specs.Prelude.{◌==◌, if◌then◌else◌}
 use Rattle.item_defs.specs.Items.{item_bits, plain, code}

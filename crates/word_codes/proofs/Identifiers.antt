@@ -1,4 +1,4 @@
--- Identifiers of options, and those that name none.
+-- Identifiers of options, and identifiers that have no option.
 use Rattle.std.proofs.Common.{◌≡◌, ◌<◌, ◌^◌, ℕ, refl, sym, subst, Bool, false, cond}
 use Rattle.std.specs.Prelude.{Some, None, not}
 use Rattle.item_defs.specs.Bits.{bits_of}
@@ -28,7 +28,7 @@ names_one {I} {k} length number option {a} {b} known e p = record {
   answer = refl;
 }
 
--- a number that names no option was read; one of the options would have been next
+-- a number that has no option was read; one of the options would have been next
 pub names_none : {I : Type 0} {k : SourceOf I} (length number : ℕ) {a b : Coming I} → 0 < length → number < 2 ^ identifier_width length → names_option length number ≡ false →
     Takes k a b (bits_of (identifier_width length) number) → TakesOne k (IsBelow length) (option_item length) (Err BadOption) a b
 names_none length number some fits none p = record {
@@ -43,6 +43,6 @@ none_of_three : names_option 3 2 ≡ false
 unfolding span
 none_of_three = refl
 
--- identifier 10 of length 3 names no option
+-- identifier 10 of length 3 has no option
 pub names_no_option : (length number : ℕ) → length ≡ 3 → number ≡ 2 → names_option length number ≡ false
 names_no_option length number e f = rw (e, f) none_of_three

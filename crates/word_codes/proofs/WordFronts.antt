@@ -1,4 +1,4 @@
--- The codes of an option, by the octets that they begin.
+-- The codes of an option, by the octets that begin with them.
 use Rattle.std.proofs.Common.{◌≡◌, ℕ, zero, suc, ◌+◌, ◌-◌, ◌*◌, ◌/◌, ◌%◌, ◌^◌, ◌<◌, ◌≤◌, Bool, true, List, [], ◌∷◌, ◌++◌, length, take, get_or, refl, sym, ap, ◌∙◌, arith, append_assoc, length-append, inl, inr, subst}
 use Rattle.std.proofs.lemmas.Bool.{cases_lt}
 use Rattle.std.proofs.lemmas.List.{take_at}
@@ -60,7 +60,7 @@ begun_bits code whole octet small fits few same bits e =
 pub bits_begun : (code whole : Code) (octet : ℕ) → code.len ≡ whole.len → code_bits code ≡ code_bits whole → octet / 2 ^ (8 - code.len) ≡ code.bits → Begins whole octet
 bits_begun code whole octet same bits e = sym bits ∙ ap (bits_of code.len) (sym e) ∙ ap (λ n. first_bits n octet) same
 
--- what stands first in an octet begins its eight bits
+-- what is first in an octet is a prefix of its eight bits
 eight : (count octet : ℕ) → count ≤ 8 → bits_of 8 octet ≡ first_bits count octet ++ bits_of (8 - count) octet
 eight count octet le =
     let whole : count + (8 - count) ≡ 8 = omega arith in
@@ -80,14 +80,14 @@ module _ (book : Book) (n option : ℕ) (sound : is_book_sound book ≡ true) (l
       let few = (code_length book n option sound low high known s below).1 in
       (bits_of (8 - c.len) octet, eight c.len octet few ∙ ap (λ r. r ++ bits_of (8 - c.len) octet) (sym (code_there book n option s below ∙ e)))
 
-  -- one code at most stands first in an octet
+  -- an octet begins with at most one code
   pub one_begins : (octet s r : ℕ) → s < 2 ^ n → r < 2 ^ n → Begins (code_at book n option s) octet → Begins (code_at book n option r) octet → s ≡ r
   one_begins octet s r ls lr ps pr =
       let a = first_code octet s ls ps in
       let b = first_code octet r lr pr in
       (words book n option sound low high known s r a.0 b.0 (below_said book n option sound low high known s ls) (below_said book n option sound low high known r lr) (sym a.1 ∙ b.1)).0
 
-  -- and one does
+  -- an octet begins with a code
   some_begins : (octet : ℕ) → octet < 256 → (s : ℕ) × (s < 2 ^ n) × Begins (code_at book n option s) octet
   some_begins octet small =
       let r = begins (table book (table_place n option)) (2 ^ n) octet (sound_table book n option sound low high known) small in
@@ -203,7 +203,7 @@ module _ (book : Book) (a b c d e f g h i : List Front) where
       each (suc (suc (suc (suc zero)))) low high = ti
       each (suc (suc (suc (suc (suc n))))) low high = absurd (omega arith)
 
--- the table of an option tells its words
+-- the table of an option has its words
 pub row_tells : (t : WordTables) (n option : ℕ) → 2 ≤ n → n ≤ 4 → option < n → Tells (2 ^ n) (word_item t.book n option) (get_or t.rows (row_place n option) [])
 row_tells t n option low high known = elim (cases_lt (option + 1) n) [
   | inl coded_one ↦ tells_words t.book n option t.sound low high coded_one _ (t.told n option low high coded_one)

@@ -1,4 +1,4 @@
--- What a call for a word's code leaves.
+-- The result of a call for a word's code.
 use Rattle.std.proofs.Common.{◌≡◌, ℕ, ◌+◌, ◌/◌, ◌^◌, ◌<◌, List, true, false, sym, ◌∙◌, arith}
 use Rattle.std.specs.Prelude.{◌==◌}
 use Rattle.item_defs.specs.Items.{Item, item_bits}
@@ -14,7 +14,7 @@ is_plain n option e = grind arith
 pub is_coded : (n option : ℕ) → option + 1 < n → (option == uncoded n) ≡ false
 is_coded n option lt = grind arith
 
--- what a table tells
+-- what a table has
 pub front_first : {most : ℕ} {item : ℕ → Item} {fronts : List Front} → Tells most item fronts → (window : ℕ) → window < 2 ^ 64 →
     item_bits (item (front_at fronts (window / 2 ^ 56)).number) ≡ first_of (front_at fronts (window / 2 ^ 56)).len window
 front_first {fronts = fronts} t window fits =

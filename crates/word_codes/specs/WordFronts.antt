@@ -1,4 +1,4 @@
--- Which word's code stands first in an octet. (This project's own.)
+-- The word whose code is first in an octet. (This project's own.)
 use Rattle.std.specs.Prelude.{◌≡◌, ◌<◌, ℕ, ◌+◌, ◌-◌, ◌*◌, ◌/◌, ◌^◌, List}
 use Rattle.bit_pipe.specs.declared.front.Front.{Front}
 use Rattle.bit_pipe.specs.Fronts.{front_at, first_bits}
@@ -6,24 +6,24 @@ use Rattle.base_122.specs.declared.book.Code.{Code}
 use Rattle.base_122.specs.declared.book.Book.{Book}
 use Rattle.plane_defs.specs.Codes.{symbol, code_at, code_bits}
 
--- a code stands first in an octet
+-- a code is first in an octet
 abbrev pub Begins : Code → ℕ → Type 0
 Begins code octet = code_bits code ≡ first_bits code.len octet
 
--- a front has a symbol's word, and the length of its code
+-- the entry of an octet has a symbol's word, and the length of its code
 pub record FrontOf (book : Book) (n option s : ℕ) (front : Front) : Type 0 where
   pub word : symbol n front.number ≡ s
   pub known : front.number < 2 ^ n
   pub len : front.len ≡ (code_at book n option s).len
 
--- each octet has the front of the symbol whose code stands first in it
+-- each octet has the entry of the symbol whose code is first in it
 pub record AreFronts (book : Book) (n option : ℕ) (fronts : List Front) : Type 0 where
   pub at : (octet s : ℕ) → octet < 256 → s < 2 ^ n → Begins (code_at book n option s) octet → FrontOf book n option s (front_at fronts octet)
 
--- each octet has its first bits in front, as they are
+-- the entry of each octet has the octet's first bits, as they are
 abbrev pub ArePlain : (n : ℕ) → List Front → Type 0
 ArePlain n fronts = (octet : ℕ) → octet < 256 → front_at fronts octet ≡ record { number = octet / 2 ^ (8 - n); len = n }
 
--- where the table of an option stands, those of two bits first
+-- the index of an option's table; the tables of words of two bits are first
 abbrev pub row_place : (n option : ℕ) → ℕ
 row_place n option = n * (n - 1) / 2 - 1 + option

@@ -36,9 +36,9 @@ const PROFILE: [[Code; 16]; 6] = [
     ),
 ];
 
-/// The tables of this project's profile (docs/formats.md, "Words and codes").
+/// Returns the tables of this project's profile (docs/formats.md, "Words and codes").
 ///
-/// Entries that a table doesn't use have length 0. The book is sound: each table is free of prefixes and
+/// Entries that a table does not use have length 0. The book is sound: each table is free of prefixes and
 /// complete over its 4, 8 or 16 codes, each of 1 to 8 bits.
 pub fn profile_book() -> Book
     ensures profile { result ≡ profile }

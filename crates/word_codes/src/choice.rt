@@ -6,7 +6,7 @@ ghost use Rattle.plane_defs.specs.Choice.{code_length, cost, cheapest};
 
 use base_122::Book;
 
-// Where the table of a coded option stands.
+// Returns the index of the table of a coded option.
 pub(crate) fn table_at(length: u8, option: u8) -> usize
     requires short { 2 ≤ length }
     requires long { length ≤ 4 }
@@ -50,8 +50,8 @@ fn cost_of(book: &Book, counts: &[u32; 16], length: u8, option: u8) -> u32
     total
 }
 
-/// The option under which words with these counts of each symbol take the fewest bits; on a tie the
-/// least option, so uncoded comes last (docs/formats.md, "Words and codes").
+/// Returns the option under which words with these counts of each symbol take the fewest bits; on a tie the
+/// least option, so uncoded is last (docs/formats.md, "Words and codes").
 ///
 /// `length` is the words' length, 2 to 4; the counts sum to less than 2^20.
 pub fn best_option(book: &Book, counts: &[u32; 16], length: u8) -> u8

@@ -1,4 +1,4 @@
-//! Words of up to four bits as codes, and the choice of the codes' tables.
+//! This crate codes words of up to four bits, and chooses the codes' tables.
 #![tactic(auto)]
 
 mod book;

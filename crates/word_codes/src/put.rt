@@ -1,4 +1,4 @@
-// Words and options as bits.
+// The writer of words and options.
 
 ghost use Rattle.std.specs.Prelude.{◌≡◌, ◌+◌, ◌≤◌, ◌<◌, ◌^◌, IsTrue};
 ghost use Rattle.item_defs.specs.Items.{item_bits};
@@ -40,7 +40,7 @@ fn code_of(book: &Book, length: u8, option: u8, word: u8) -> Code
     book.codes[table_at(length, option)][symbol_of(word, length) as usize]
 }
 
-// The same code, with no bits set above it.
+// Returns the same code, with no bits set above it.
 pub(crate) fn trimmed(code: Code) -> Code
     requires { code.len ≤ 8 }
     ensures same { code_bits result ≡ code_bits code }
@@ -54,8 +54,8 @@ pub(crate) fn trimmed(code: Code) -> Code
     }
 }
 
-/// The code of a word of 2 to 4 bits, highest bit first, by an option of its length: the word itself where it is
-/// uncoded.
+/// Returns the code of a word of 2 to 4 bits, highest bit first, by an option of its length: the word itself if
+/// the option is uncoded.
 ///
 /// The book is sound, `option` is one of the length's options, and `word` fits the length. The code has at most 8 bits, and no bits set above them.
 pub fn code_of_word(book: &Book, option: u8, word: u8, length: u8) -> Code

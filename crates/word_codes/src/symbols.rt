@@ -12,8 +12,8 @@ const SYMBOLS_OF_THREE: [u8; 8] = [0, 3, 2, 6, 1, 5, 4, 7];
 // The symbol of each word of four bits.
 const SYMBOLS_OF_FOUR: [u8; 16] = [0, 4, 3, 10, 2, 9, 8, 14, 1, 7, 6, 13, 5, 12, 11, 15];
 
-/// The symbol of a word of 2 to 4 bits, highest bit first: words go by their number of ones, then by
-/// falling value (docs/formats.md, "Words and codes").
+/// Returns the symbol of a word of 2 to 4 bits, highest bit first: words are ordered by their number of ones,
+/// then by falling value (docs/formats.md, "Words and codes").
 pub fn symbol_of(word: u8, length: u8) -> u8
     requires short { 2 ≤ length }
     requires long { length ≤ 4 }
@@ -41,7 +41,7 @@ const WORDS_OF_FOUR: [u8; 16] = [
     0b1101, 0b1011, 0b0111, 0b1111,
 ];
 
-// The word of the symbol at this place of a table.
+// Returns the word of the symbol at this place of a table.
 pub(crate) fn word_of(place: u8, length: u8) -> u8
     requires short { 2 ≤ length }
     requires long { length ≤ 4 }

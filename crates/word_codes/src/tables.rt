@@ -1,4 +1,4 @@
-// Which word stands first in an octet.
+// The word whose code is first in an octet.
 
 ghost use Rattle.std.specs.Prelude.{◌≡◌, ◌≤◌, ◌<◌, ◌+◌, ◌-◌, ◌/◌, ◌^◌, ℕ, IsTrue, [], slice_index_or};
 ghost use Rattle.bit_pipe.specs.Fronts.{front_at};
@@ -13,8 +13,8 @@ use bit_pipe::Front;
 
 const NOTHING: Front = Front { number: 0, len: 0 };
 
-/// For each option of words of 2 to 4 bits, which word stands first in an octet, as a sound book has the codes (docs/formats.md,
-/// "Words and codes"). Made once, it serves all words that are read.
+/// Tables, for each option of words of 2 to 4 bits, of the word that is first in an octet, with the codes of a sound book
+/// (docs/formats.md, "Words and codes"). They are made once, and are used for all words that are read.
 #[derive(Drop)]
 pub struct WordTables {
     /// The book that the tables are of.
@@ -25,7 +25,7 @@ pub struct WordTables {
     ghost plain: { (n : ℕ) → 2 ≤ n → n ≤ 4 → ArePlain n (slice_index_or rows (row_place n (n - 1)) []) },
 }
 
-// The octets that begin with a code have it in front.
+// Sets the entries of the octets that begin with a code.
 fn put_front(fronts: &mut [Front; 256], code: Code, number: u8)
     requires few { code.len ≤ 8 }
     requires fits { code.bits < 2 ^ code.len }
@@ -43,7 +43,7 @@ fn put_front(fronts: &mut [Front; 256], code: Code, number: u8)
     }
 }
 
-// The table of a coded option.
+// Returns the table of a coded option.
 fn fronts_of(book: &Book, length: u8, option: u8) -> [Front; 256]
     requires sound { IsTrue (is_book_sound book.now) }
     requires short { 2 ≤ length }
@@ -63,7 +63,7 @@ fn fronts_of(book: &Book, length: u8, option: u8) -> [Front; 256]
     fronts
 }
 
-// The table of the option that sends the words as they are.
+// Returns the table of the option that sends the words as they are.
 fn plain_fronts(length: u8) -> [Front; 256]
     requires long { length ≤ 4 }
     ensures { ArePlain length result }
@@ -78,10 +78,10 @@ fn plain_fronts(length: u8) -> [Front; 256]
     fronts
 }
 
-// Where the tables of the options of words of so many bits begin.
+// The index at which the tables of the options of words of this number of bits begin.
 const FIRST_ROWS: [usize; 5] = [0, 0, 0, 2, 5];
 
-// Where the table of an option stands.
+// Returns the index of an option's table.
 #[inline(always)]
 pub(crate) fn row_at(length: u8, option: u8) -> usize
     requires short { 2 ≤ length }
@@ -94,7 +94,7 @@ pub(crate) fn row_at(length: u8, option: u8) -> usize
 }
 
 impl WordTables {
-    /// What a sound book gives.
+    /// Returns the tables of a sound book.
     pub fn new(book: &Book) -> WordTables
         requires { IsTrue (is_book_sound book.now) }
         ensures { result.book ≡ book.now }

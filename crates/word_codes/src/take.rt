@@ -1,4 +1,4 @@
-// Words and options from bits.
+// The reader of words and options.
 
 ghost use Rattle.std.specs.Prelude.{◌≡◌, ◌≤◌, ◌<◌, ◌^◌, IsTrue, MatchOption, false};
 ghost use Rattle.bit_pipe.specs.Coming.{coming, IsIn};
@@ -11,7 +11,7 @@ use crate::tables::{WordTables, row_at};
 use base_122::Book;
 use bit_pipe::{BitIn, Front, OctetIn, TextFault};
 
-// The bits of an identifier.
+// Returns the number of bits of an identifier.
 fn identifier_bits(length: u8) -> u8
     ensures is { result ≡ identifier_width length }
     ensures few { result ≤ 2 }
@@ -19,7 +19,7 @@ fn identifier_bits(length: u8) -> u8
     if length < 3 { 1 } else { 2 }
 }
 
-// The option of an identifier. Identifier 10 of length 3 names none.
+// Returns the option of an identifier. Identifier 10 of length 3 has none.
 fn option_named(length: u8, number: u32) -> Option<u8>
     requires short { 2 ≤ length }
     requires long { length ≤ 4 }
@@ -36,7 +36,7 @@ fn option_named(length: u8, number: u32) -> Option<u8>
     Some(2)
 }
 
-/// Takes the identifier of an option (docs/formats.md, "Words and codes"). None comes where the input or the
+/// Reads the identifier of an option (docs/formats.md, "Words and codes"). Returns none if the input or the
 /// bound ends before the identifier is whole.
 ///
 /// `length` is 2 to 4.
@@ -59,9 +59,9 @@ pub fn take_option<I: OctetIn>(input: &mut BitIn<I>, length: u8) -> Result<Optio
     }
 }
 
-/// Takes the code of a word of 2 to 4 bits by an option of its length, and answers the word, highest bit first
-/// (docs/formats.md, "Words and codes"). No bits are refused. None comes where the input or the bound ends before
-/// the code is whole.
+/// Reads the code of a word of 2 to 4 bits by an option of its length, and returns the word, highest bit first
+/// (docs/formats.md, "Words and codes"). No bits are refused. Returns none if the input or the bound ends
+/// before the code is whole.
 ///
 /// `option` is one of the length's options.
 ///
@@ -83,8 +83,8 @@ pub fn take_word_by<I: OctetIn>(
     input.take_front(&tables.rows[row_at(length, option)])
 }
 
-/// The word of 2 to 4 bits whose code stands first in a window of bits to come, the first highest, and how many bits the code has
-/// (docs/formats.md, "Words and codes"). One always does.
+/// Returns the word of 2 to 4 bits whose code is first in a window of the next bits, the first highest, and how many bits the
+/// code has (docs/formats.md, "Words and codes"). There is always one.
 ///
 /// `option` is one of the length's options.
 #[inline(always)]
@@ -99,7 +99,7 @@ pub fn word_in(tables: &WordTables, option: u8, length: u8, window: u64) -> Fron
     tables.rows[row_at(length, option)][(window >> 56) as usize]
 }
 
-/// `take_word_by` for one word, by a sound book.
+/// Reads the code of one word, by a sound book, as `take_word_by` does.
 ///
 /// # Errors
 ///

@@ -1,5 +1,5 @@
-// The DC part of a segment, written by each way to choose the options, and read. Its depths are 11 and 0, so that a number
-// has 10 bits, the most that there are, and one DC plane follows.
+// The DC part of a segment, written with each way to choose the options, and read. Its depths are 11 and 0, so that a
+// number has 10 bits, the greatest width, and one DC plane follows.
 ghost use Rattle.std.specs.Prelude.{◌≡◌, ◌<◌, ◌^◌, true, length};
 ghost use Rattle.std.specs.Int.{div_ceil};
 ghost use Rattle.number_defs.specs.Cells.{AreInRange};
@@ -39,7 +39,7 @@ fn take_dcs(octets: &[u8], blocks: &mut [i32]) -> Result<Part, TextFault>
     take_dc(&mut bits, blocks, &DC_PLAN)
 }
 
-// Whether the blocks have the same DCs.
+// Returns whether the blocks have the same DCs.
 fn have_same_dcs(blocks: &[i32], read: &[i32]) -> bool
     requires { length blocks.now ≡ length read.now }
 {
@@ -50,7 +50,7 @@ fn have_same_dcs(blocks: &[i32], read: &[i32]) -> bool
     all
 }
 
-// Times the DC part of so many blocks.
+// Times the DC part of this number of blocks.
 pub(crate) fn measure(rt: &HostRuntime, count: usize) -> io::Result<bool>
     requires { count < 2 ^ 20 }
 {

@@ -28,7 +28,7 @@ fn put_dense_plane(into: &mut [u8], blocks: &[i32], marks: &mut [i32]) -> Result
     Ok(bits.end(1, false)?)
 }
 
-// Times the plane of so many blocks.
+// Times the plane of this number of blocks.
 pub(crate) fn measure(rt: &HostRuntime, count: usize) -> io::Result<bool>
     requires { count < 2 ^ 20 }
 {

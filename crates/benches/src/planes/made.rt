@@ -6,7 +6,7 @@ ghost use Rattle.number_defs.specs.Ranges.{IsInRange};
 
 use crate::pictures::BLOCK;
 
-// The DC of a block: 0 to 1,023. Its range is narrower in some gaggles than in others, so that their options differ.
+// Returns the DC of a block: 0 to 1,023. Its range is narrower in some gaggles than in others, so that their options differ.
 fn made_dc(block: usize) -> i32
     ensures { IsInRange true 11 result }
 {
@@ -14,7 +14,7 @@ fn made_dc(block: usize) -> i32
     ((root * root % 1999 % 1024) >> (block / 16 % 10)) as i32
 }
 
-// The AC number at a place: -999 to 999.
+// Returns the AC number at a place: -999 to 999.
 fn made_ac(place: usize) -> i32
     ensures { IsInRange true 11 result }
 {

@@ -1,4 +1,4 @@
-// All planes of segments, put.
+// All planes of segments, written.
 ghost use Rattle.std.specs.Prelude.{◌≡◌, ◌≤◌, ◌*◌, length, OnOk};
 ghost use Rattle.bit_pipe.specs.Standing.{IsReady};
 
@@ -51,7 +51,7 @@ fn put_segment(
     Ok(bits.end(1, false)?)
 }
 
-// Puts the planes of all segments, and answers how many octets they have.
+// Puts the planes of all segments, and returns how many octets they have.
 pub(crate) fn put_segments(
     into: &mut [u8],
     blocks: &[i32],

@@ -8,7 +8,7 @@ use crate::watch::{Watch, tell};
 use base_122::Weights;
 use std::io;
 
-// Planes of a segment.
+// The number of planes of a segment.
 pub(crate) const PLANES: u8 = 9;
 
 fn time_put(
@@ -32,7 +32,7 @@ fn time_put(
     Ok(true)
 }
 
-// Times the reading of what was put last, and answers whether the blocks come back.
+// Times the reading of what was put last, and returns whether the blocks are the same as before.
 fn time_take(
     rt: &HostRuntime,
     octets: &[u8],
@@ -56,7 +56,7 @@ fn time_take(
     Ok(&*read == blocks)
 }
 
-// Times so many segments. With weights of 1 all bits of the numbers are sent, so that they can be read again.
+// Times this number of segments. With weights of 1 all bits of the numbers are sent, so that they can be read again.
 pub(crate) fn measure(rt: &HostRuntime, segments: usize) -> io::Result<bool>
     requires { segments < 2 ^ 14 }
 {

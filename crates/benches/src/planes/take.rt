@@ -1,4 +1,4 @@
-// All planes of segments, taken.
+// All planes of segments, read.
 ghost use Rattle.std.specs.Prelude.{◌≡◌, ◌≤◌, ◌+◌, ◌*◌, ◌%◌, replicate, length};
 ghost use Rattle.std.specs.Bool.{OnTrue};
 ghost use Rattle.bit_pipe.specs.Coming.{coming, IsIn};
@@ -19,7 +19,7 @@ use std::io;
 use std::time::Duration;
 use word_codes::{WordTables, profile_book};
 
-// What a number has above a plane, within a depth.
+// Returns the part of a number above a plane, within a depth.
 fn above(number: i32, plane: u8, depth: u8) -> i32
     requires plane { plane ≤ 8 }
     requires depth { depth ≤ 8 }
@@ -34,7 +34,7 @@ fn above(number: i32, plane: u8, depth: u8) -> i32
     }
 }
 
-// The same for the number at a place, but a DC is left as it is.
+// Returns this part of the number at a place; a DC stays as it is.
 fn settled(number: i32, place: usize, plane: u8, depth: u8) -> i32
     requires plane { plane ≤ 8 }
     requires depth { depth ≤ 8 }
@@ -47,7 +47,7 @@ fn settled(number: i32, place: usize, plane: u8, depth: u8) -> i32
     }
 }
 
-// No mark tells a depth above 8.
+// Bounds the depth of each state by 8.
 fn bound_depths(marks: &mut [i32])
     ensures { AreShallow marks.new }
 {
@@ -56,8 +56,8 @@ fn bound_depths(marks: &mut [i32])
     }
 }
 
-// Takes out of the numbers, but for DCs, what they have at a plane, below it and beyond their depth, so that the plane can
-// be taken. Numbers that were read down to it have nothing there.
+// Clears in the numbers, except DCs, the bits at a plane, below it and above their depth, so that the plane can be read.
+// Numbers that were read down to the plane have no such bits.
 fn clear_below(blocks: &mut [i32], marks: &[i32], plane: u8)
     requires count { length blocks.old ≡ 64 * length marks.now }
     requires depths { AreShallow marks.now }
@@ -69,7 +69,7 @@ fn clear_below(blocks: &mut [i32], marks: &[i32], plane: u8)
     }
 }
 
-// Takes a plane, and answers whether all of it stood there.
+// Reads a plane, and returns whether all of it was there.
 fn take_plane<I: OctetIn>(
     input: &mut BitIn<I>,
     blocks: &mut [i32],
@@ -97,7 +97,7 @@ fn take_plane<I: OctetIn>(
     )
 }
 
-// Takes the planes of a segment from the top down. Answers how long that took, or none where they don't stand there.
+// Reads the planes of a segment from the top down. Returns how long that took, or none if some of them are missing.
 fn take_planes(
     rt: &HostRuntime,
     octets: &[u8],
@@ -125,8 +125,8 @@ fn take_planes(
     Ok(Some(time))
 }
 
-// Takes the planes of all segments into blocks that have their DCs. Answers how long that took, or none where some don't
-// stand there.
+// Reads the planes of all segments into blocks that have their DCs. Returns how long that took, or none if some of
+// them are missing.
 pub(crate) fn take_segments(
     rt: &HostRuntime,
     octets: &[u8],

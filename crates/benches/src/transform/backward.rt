@@ -81,7 +81,7 @@ fn time_image(
     )
 }
 
-// Times an image of so many block rows.
+// Times an image of this number of block rows.
 pub(crate) fn measure(rt: &HostRuntime, width: u32, block_rows: u32) -> io::Result<()>
     requires whole { width ≡ 8 * (width / 8) }
     requires wide { 24 ≤ width }
@@ -91,7 +91,7 @@ pub(crate) fn measure(rt: &HostRuntime, width: u32, block_rows: u32) -> io::Resu
 {
     let mut inverse = StripInverse::new(rt.alloc(), width, 8 * block_rows)?;
     let timed = time_image(rt, &mut inverse, width, block_rows);
-    // Its drop would be dear to prove.
+    // Its drop would be costly to prove.
     mem::forget(inverse);
     timed
 }

@@ -13,7 +13,7 @@ use block_families::gather;
 use std::{io, mem};
 use wave_strip::StripWave;
 
-// Pushes so many rows, and answers the last block row that came.
+// Pushes this number of rows, and returns the last block row that was completed.
 fn push_rows(strip: &mut StripWave, row: &[i32], rows: u32) -> u32
     requires wide { length row.now ≡ 8 * columns_of strip.old }
     requires bounded { AllWithin (2 ^ 16) (8 * columns_of strip.old) (signal row.now) }
@@ -32,7 +32,7 @@ fn push_rows(strip: &mut StripWave, row: &[i32], rows: u32) -> u32
     came
 }
 
-// Pushes rows until a block row stands, and tells whether one does.
+// Pushes rows until a block row is available, and returns whether one is.
 fn push_more(strip: &mut StripWave, row: &[i32]) -> bool
     requires wide { length row.now ≡ 8 * columns_of strip.old }
     requires bounded { AllWithin (2 ^ 16) (8 * columns_of strip.old) (signal row.now) }
@@ -49,7 +49,7 @@ fn push_more(strip: &mut StripWave, row: &[i32]) -> bool
     false
 }
 
-// Gathers the blocks of the block row that stands.
+// Gathers the blocks of the available block row.
 fn gather_row(strip: &StripWave, columns: u32, weights: &Weights, blocks: &mut [i32])
     requires columns { columns_of strip.now ≡ columns }
     requires stands { is_standing strip.now ≡ true }
@@ -73,7 +73,7 @@ fn gather_rows(strip: &StripWave, columns: u32, weights: &Weights, blocks: &mut 
     }
 }
 
-// Times the rows pushed, and the blocks of the block row that stands then.
+// Times the rows that are pushed, and the blocks of the block row that is available then.
 fn time_push(
     rt: &HostRuntime,
     row: &[i32],
@@ -109,7 +109,7 @@ fn time_gather(rt: &HostRuntime, strip: &StripWave, rows: u32, width: u32) -> io
     watch.tell(rt, "gather", pixels(rows, width), "pixel")
 }
 
-// Times so many rows.
+// Times this number of rows.
 pub(crate) fn measure(rt: &HostRuntime, width: u32, rows: u32) -> io::Result<()>
     requires whole { width ≡ 8 * (width / 8) }
     requires wide { 24 ≤ width }
@@ -119,7 +119,7 @@ pub(crate) fn measure(rt: &HostRuntime, width: u32, rows: u32) -> io::Result<()>
     let row = vec![in rt.alloc(); 200i32; width as usize]?;
     let mut strip = StripWave::new(rt.alloc(), width)?;
     let timed = time_push(rt, &row, &mut strip, rows, width);
-    // Its drop would be dear to prove.
+    // Its drop would be costly to prove.
     mem::forget(strip);
     timed
 }

@@ -36,7 +36,7 @@ fn predict_lanes(into: &mut [i32], row: &[i32], times: u32)
     }
 }
 
-// Splits a row so many times.
+// Splits a row this number of times.
 fn split_rows(row: &[i32], low: &mut [i32], high: &mut [i32], times: u32)
     requires halves { length row.now ≡ 2 * length low.old }
     requires same { length high.old ≡ length low.old }
@@ -67,7 +67,7 @@ fn time_predict(rt: &HostRuntime, row: &[i32], whole: &mut [i32], rows: u32) -> 
     watch.tell(rt, "copy and predict_sub on lanes", samples, "sample")
 }
 
-// Times so many rows of one width.
+// Times this number of rows of one width.
 pub(crate) fn measure(rt: &HostRuntime, rows: u32) -> io::Result<()> {
     let row = vec![in rt.alloc(); 200i32; WIDTH]?;
     let mut whole = vec![in rt.alloc(); 0i32; WIDTH]?;

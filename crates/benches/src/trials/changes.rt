@@ -1,12 +1,12 @@
-// Changes of a text, which is the first so many octets of a slice.
+// Changes of a text, which is the first `len` octets of a slice.
 ghost use Rattle.std.specs.Prelude.{◌≡◌, ◌≤◌, ◌<◌, ◌^◌, length};
 
 use crate::random::Random;
 
-// Octets of its head.
+// The number of octets of its head.
 const HEAD: usize = 19;
 
-// A place below another, mostly after the head.
+// Returns a place below another, mostly after the head.
 fn place(random: &mut Random, len: usize) -> usize
     requires some { 1 ≤ len }
     requires most { len < 2 ^ 32 }
@@ -19,7 +19,7 @@ fn place(random: &mut Random, len: usize) -> usize
     }
 }
 
-// Changes it once, a bit, an octet or its end, or adds an octet; answers how many octets it has then.
+// Changes the text once, in a bit, an octet or its end, or adds an octet; returns how many octets it has then.
 fn change_once(random: &mut Random, octets: &mut [u8], len: usize) -> usize
     requires within { len ≤ length octets.old }
     requires most { len < 2 ^ 32 }
@@ -43,7 +43,7 @@ fn change_once(random: &mut Random, octets: &mut [u8], len: usize) -> usize
     len
 }
 
-// Changes it one to three times, and answers how many octets it has then.
+// Changes the text one to three times, and returns how many octets it has then.
 pub(crate) fn change(random: &mut Random, octets: &mut [u8], len: usize) -> usize
     requires within { len ≤ length octets.old }
     requires most { length octets.old < 2 ^ 32 }

@@ -8,7 +8,7 @@ use crate::texts::{HeadFields, put_text};
 // The usual weights of the ten bands, two bits each.
 const USUAL: u32 = 0b00_01_01_01_10_10_10_11_11_11;
 
-// The band of each position's number, in the order of the weights.
+// Returns the band of each position's number, in the order of the weights.
 fn band_of(position: usize) -> u32
     ensures { result ≤ 9 }
 {
@@ -26,14 +26,14 @@ fn band_of(position: usize) -> u32
     }
 }
 
-// The weight's shift at a position.
+// Returns the weight's shift at a position.
 fn shift_at(weights: u32, position: usize) -> u32
     ensures { result ≤ 3 }
 {
     (weights >> (18 - 2 * band_of(position))) & 3
 }
 
-// A number of at most so many bits, as often small as great.
+// Returns a number of at most this number of bits, small as often as great.
 fn made_number(random: &mut Random, depth: u32) -> i32
     requires { depth ≤ 24 }
 {
@@ -45,7 +45,7 @@ fn made_number(random: &mut Random, depth: u32) -> i32
     }
 }
 
-// Fills blocks. A number is 0 but for one in so many.
+// Fills blocks. A number is other than 0 once in this number of times.
 fn fill(random: &mut Random, blocks: &mut [i32], weights: u32, depth: u32, rare: u32)
     requires depth { depth ≤ 24 }
     requires rare { 1 ≤ rare }
@@ -59,7 +59,7 @@ fn fill(random: &mut Random, blocks: &mut [i32], weights: u32, depth: u32, rare:
     }
 }
 
-// Fields of a head that the text may have: blocks of this depth may be sent whole, up to a stop or up to a limit.
+// Returns fields of a head that the text may have: blocks of this depth may be sent whole, up to a stop or up to a limit.
 fn made_fields(random: &mut Random, depth: u32) -> HeadFields
     requires { depth ≤ 24 }
 {
@@ -87,7 +87,7 @@ fn made_fields(random: &mut Random, depth: u32) -> HeadFields
     }
 }
 
-// Makes a segment of one to four blocks and puts its text there; answers how many octets it has, 0 where it made none.
+// Makes a segment of one to four blocks and puts its text into `text`; returns how many octets it has, 0 if it made none.
 pub(crate) fn make_text(random: &mut Random, text: &mut [u8]) -> usize
     ensures within { result ≤ length text.new }
     ensures size { length text.new ≡ length text.old }

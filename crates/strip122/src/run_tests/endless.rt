@@ -6,8 +6,7 @@ use crate::top::run;
 use port_122::{Failed, Port};
 use std::test::Fail;
 
-// A port that reads these octets again and again, counts the octets given and keeps the first 64 octets noted. It tells
-// nothing of them.
+// A port that reads these octets again and again, counts the octets given and keeps the first 64 octets noted. It reports nothing of them.
 #[derive(Drop)]
 struct EndlessPort {
     octets: [u8; 52],

@@ -6,15 +6,15 @@ use std::test::Fail;
 // More calls than a run here makes.
 const CALLS: u64 = 2000;
 
-// How many reads and writes of a run have failed, one in each run.
+// The numbers of reads and writes of a run that have failed, one in each run.
 #[derive(Drop)]
 struct Failures {
     reads: usize,
     writes: usize,
 }
 
-// Counts what failed in a run: a read gives status 4, a write 5, and a note changes none. What is given begins what the
-// undisturbed run gives.
+// Counts what failed in a run: a read gives status 4, a write 5, and a note changes none. What is given is a prefix of what the undisturbed
+// run gives.
 fn count(rt: &impl Abort, failures: &mut Failures, whole: &Outcome, ran: &Outcome, text: &str) {
     assert!(rt; whole.port.given().starts_with(ran.port.given()), "{text}");
     match ran.status {
@@ -26,12 +26,12 @@ fn count(rt: &impl Abort, failures: &mut Failures, whole: &Outcome, ran: &Outcom
     }
 }
 
-// Whether a run was the undisturbed one again.
+// Returns whether the run was the same as the undisturbed one.
 fn is_same(ran: &Outcome, whole: &Outcome) -> bool {
     ran.status == whole.status && ran.port.noted() == whole.port.noted()
 }
 
-// Each read call of the undisturbed run has failed once, and with pieces of one octet each write.
+// Expects that each read call of the undisturbed run has failed once, and with pieces of one octet each write.
 fn have_all_failed(
     rt: &impl Abort,
     failures: &Failures,
@@ -44,7 +44,7 @@ fn have_all_failed(
     assert!(rt; piece > 1 || failures.writes == written, "{text}");
 }
 
-// Lets one call of a run fail, and answers whether the run has so many.
+// Lets one call of a run fail, and returns whether the run has a call of this number.
 fn fail_at(
     rt: &(impl Abort + AllocGlobal),
     text: &str,
@@ -133,7 +133,7 @@ fn lists_of_a_cut_stream(rt: HostRuntime) -> Result<(), Fail> {
 
 #[test]
 fn a_note_that_fails_leaves_the_status(rt: HostRuntime) -> Result<(), Fail> {
-    // Sixteen rows, a part of the last, the end, and the note.
+    // The calls read sixteen rows, a part of the last, and the end, and then write the note.
     ended(
         &rt,
         "encode width=17 rows=17",

@@ -1,9 +1,9 @@
-// Whole runs over images whose height is reported last, worked out by hand.
+// Whole runs over images whose height is reported last, calculated by hand.
 use crate::run_tests::runs::{WHOLE, black, done, ended, expect, part, run_words};
 use std::process::Abort;
 use std::test::Fail;
 
-// The one packet of 17 rows and columns of 0: that of an image whose height is known, with the other mark and no rows.
+// Returns the one packet of 17 rows and columns of 0: that of an image whose height is known, with the other mark and no rows.
 fn black_told_last(rt: &(impl Abort + AllocGlobal)) -> Result<Vec<u8>, Fail> {
     let mut packet = black(rt)?;
     assert_eq!(rt; packet.len(), 52);
@@ -71,14 +71,14 @@ fn only_encode_has_no_rows(rt: HostRuntime) -> Result<(), Fail> {
     Ok(())
 }
 
-// The eight packets of 128 rows of 64 pixels of 0, whose height the last one reports: seven of 51 octets and one of 52.
+// Returns the eight packets of 128 rows of 64 pixels of 0, whose height the last one reports: seven of 51 octets and one of 52.
 fn eight(rt: &(impl Abort + AllocGlobal)) -> Result<Vec<u8>, Fail> {
     let given = done(rt, "encode width=64 rows=0 segment=16", &[0; 8192])?;
     assert_eq!(rt; given.len(), 409);
     Ok(given)
 }
 
-// At each read call exactly the segments are given that the rows settle, whatever follows: segment i is settled by 37 + 16i rows.
+// Expects at each read call exactly the segments that the rows settle, whatever follows: segment i is settled by 37 + 16i rows.
 fn expect_settled(rt: &impl Abort, asked: &[(u64, u64)]) {
     for (taken, given) in asked {
         let settled = 51 * ((taken / 64 + 11) / 16).saturating_sub(2);
@@ -115,7 +115,7 @@ fn without_the_last_segment_the_height_is_unknown(rt: HostRuntime) -> Result<(),
     expect(&rt, "decode", &broken, 1, &[], note)
 }
 
-// The packets of these segments of the eight, one after another.
+// Returns the packets of these segments of the eight, one after another.
 fn some(
     rt: &(impl Abort + AllocGlobal),
     whole: &[u8],
@@ -191,7 +191,7 @@ fn packets_of_the_other_mark_are_foreign(rt: HostRuntime) -> Result<(), Fail> {
 #[test]
 fn each_head_may_report_too_many_pixels(rt: HostRuntime) -> Result<(), Fail> {
     let whole = eight(&rt)?;
-    // The heads reach 2, 4, .., 14 block rows, of which all but one whole row are in the image; and the last reports 128 rows.
+    // The heads reach n = 2, 4, .., 14 block rows, of which the image has at least 17 rows or 8n - 7; and the last reports 128 rows.
     for (words, most, note) in [
         ("decode pixels=1087", 0, "strip122: too many pixels, 1088\n"),
         (

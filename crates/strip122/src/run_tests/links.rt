@@ -1,11 +1,11 @@
-// Whole runs over several cameras and several images, worked out by hand.
+// Whole runs over several cameras and several images, calculated by hand.
 use crate::run_tests::runs::{TWO_HUNDRED, black, done, expect, packet, part};
 use std::process::Abort;
 use std::test::Fail;
 
 const TWO: &str = "mux cameras=2 width=17 rows=17";
 
-// The records of two black images, the cameras in turn.
+// Returns the records of two black images, the cameras in turn.
 fn black_records(rt: &(impl Abort + AllocGlobal)) -> Result<Vec<u8>, Fail> {
     let mut records = Vec::new(rt.alloc());
     for _ in 0..17 {
@@ -16,7 +16,7 @@ fn black_records(rt: &(impl Abort + AllocGlobal)) -> Result<Vec<u8>, Fail> {
     Ok(records)
 }
 
-// The packet of a black image of this APID, below 256, and of this number, below 256.
+// Returns the packet of a black image of this APID, below 256, and of this number, below 256.
 fn black_of(rt: &(impl Abort + AllocGlobal), apid: u8, image: u8) -> Result<Vec<u8>, Fail> {
     let mut packet = black(rt)?;
     assert_eq!(rt; packet.len(), 52);
@@ -25,7 +25,7 @@ fn black_of(rt: &(impl Abort + AllocGlobal), apid: u8, image: u8) -> Result<Vec<
     Ok(packet)
 }
 
-// Some packets, one after another.
+// Returns some packets, one after another.
 fn joined(rt: &impl AllocGlobal, packets: &[Vec<u8>]) -> Result<Vec<u8>, Fail> {
     let mut octets = Vec::new(rt.alloc());
     for packet in packets {

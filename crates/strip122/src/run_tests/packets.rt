@@ -1,16 +1,16 @@
-// Whole runs over packets: pictures, damaged rows and lists, worked out by hand.
+// Whole runs over packets: pictures, damaged rows and lists, calculated by hand.
 use crate::run_tests::runs::{
     TWO_HUNDRED, WHOLE, black, done, ended, expect, packet, part, run_words,
 };
 use std::process::Abort;
 use std::test::Fail;
 
-// The eight packets of 128 rows of 64 pixels of 0: seven of 51 octets and one of 52.
+// Returns the eight packets of 128 rows of 64 pixels of 0: seven of 51 octets and one of 52.
 fn eight(rt: &(impl Abort + AllocGlobal)) -> Result<Vec<u8>, Fail> {
     done(rt, "encode width=64 rows=128 segment=16", &[0; 8192])
 }
 
-// These octets without those of some places.
+// Returns these octets without those of some places.
 fn without(
     rt: &(impl Abort + AllocGlobal),
     octets: &[u8],
@@ -59,7 +59,7 @@ fn ranges_are_apart(rt: HostRuntime) -> Result<(), Fail> {
     expect(&rt, "damage", &left, 1, b"0-37\n91-127\n", note)
 }
 
-// The three packets of 48 rows of 64 pixels of 0: two of 51 octets and one of 52.
+// Returns the three packets of 48 rows of 64 pixels of 0: two of 51 octets and one of 52.
 fn three(rt: &(impl Abort + AllocGlobal)) -> Result<Vec<u8>, Fail> {
     let given = done(rt, "encode width=64 rows=48 segment=16", &[0; 3072])?;
     assert_eq!(rt; given.len(), 154);
@@ -161,7 +161,7 @@ fn caps_are_kept(rt: HostRuntime) -> Result<(), Fail> {
     Ok(())
 }
 
-// At each read call all rows are given that the segments so far determine.
+// Expects at each read call all rows that the segments so far determine.
 fn expect_ready(rt: &impl Abort, asked: &[(u64, u64)]) {
     for (taken, given) in asked {
         let ready = match *taken {

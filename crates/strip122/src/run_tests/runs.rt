@@ -1,14 +1,14 @@
-// Whole runs over ports of memory, whose octets were worked out by hand.
+// Whole runs over ports of memory, whose octets were calculated by hand.
 use crate::top::run;
 use port_122::{MemoryPort, SteadyPort};
 use std::alloc::AllocError;
 use std::process::Abort;
 use std::test::Fail;
 
-// One piece for each call.
+// The size of pieces with which each call moves all of its octets.
 pub(crate) const WHOLE: usize = 65_536;
 
-// The words of a text, with a space between each two.
+// Returns the words of a text, with a space between each two.
 pub(crate) fn words(rt: &impl AllocGlobal, text: &str) -> Result<Vec<String>, Fail> {
     let mut words = Vec::new(rt.alloc());
     for word in text.split(' ') {
@@ -17,15 +17,15 @@ pub(crate) fn words(rt: &impl AllocGlobal, text: &str) -> Result<Vec<String>, Fa
     Ok(words)
 }
 
-// What a run left.
+// The status of a run, and its port.
 #[derive(Drop)]
 pub(crate) struct Outcome {
     pub status: u8,
     pub port: MemoryPort,
 }
 
-// Runs these words over an input, with pieces of this size, and lets the calls of these numbers fail. Where there is no memory,
-// which is so only while allocations are refused, nothing was given or the port itself had none: then the test ends.
+// Runs these words over an input, with pieces of this size, and lets the calls of these numbers fail. If there is no memory, which is so
+// only while allocations are refused, nothing was given or the port itself had none: then the test ends.
 pub(crate) fn run_words(
     rt: &(impl Abort + AllocGlobal),
     text: &str,
@@ -45,7 +45,7 @@ pub(crate) fn run_words(
     Ok(Outcome { status, port })
 }
 
-// The run ended with this status and this note, and read nothing where its words are refused.
+// Expects that the run ended with this status and this note, and read nothing if its words are refused.
 fn compare(rt: &impl Abort, text: &str, piece: usize, ran: &Outcome, status: u8, note: &str) {
     assert_eq!(rt; ran.status, status, "{text} with pieces of {piece}");
     assert_eq!(rt;
@@ -56,7 +56,7 @@ fn compare(rt: &impl Abort, text: &str, piece: usize, ran: &Outcome, status: u8,
     assert!(rt; status != 2 || ran.port.asked().is_empty(), "{text}");
 }
 
-// What a run gives that ends with this status and this note, where the calls of these numbers fail.
+// Returns what a run gives that ends with this status and this note, if the calls of these numbers fail.
 pub(crate) fn ended(
     rt: &(impl Abort + AllocGlobal),
     text: &str,
@@ -71,7 +71,7 @@ pub(crate) fn ended(
     Ok(ran.port.given().to_vec(rt.alloc())?)
 }
 
-// What a run gives that ends with status 0.
+// Returns what a run gives that ends with status 0.
 pub(crate) fn done(
     rt: &(impl Abort + AllocGlobal),
     text: &str,
@@ -96,12 +96,12 @@ pub(crate) fn expect(
     Ok(())
 }
 
-// The octets of these places.
+// Returns the octets of these places.
 pub(crate) fn part(octets: &[u8], first: usize, end: usize) -> &[u8] {
     octets.get(first..end).unwrap_or(octets)
 }
 
-// The packet of an image of 17 rows that is one segment with this text, in segments of 64 blocks.
+// Returns the packet of an image of 17 rows that is one segment with this text, in segments of 64 blocks.
 pub(crate) fn packet(rt: &(impl Abort + AllocGlobal), text: &[u8]) -> Result<Vec<u8>, Fail> {
     assert!(rt; text.len() < 200);
     let length = 23 + text.len() as u8;
@@ -112,13 +112,13 @@ pub(crate) fn packet(rt: &(impl Abort + AllocGlobal), text: &[u8]) -> Result<Vec
     Ok(packet)
 }
 
-// The text of 17 rows and columns of 0.
+// Returns the text of 17 rows and columns of 0.
 pub(crate) const ZEROS: [u8; 22] = [
     0xC0, 0x02, 0x07, 0xE0, 0x00, 0x00, 0x00, 0x10, 0x60, 0x00, 0x00, 0x9C, 0x88, 0x00, 0x01, 0x10,
     0x00, 0x00, 0x00, 0x00, 0x00, 0x00,
 ];
 
-// The one packet of 17 rows and columns of 0, with all bit planes.
+// Returns the one packet of 17 rows and columns of 0, with all bit planes.
 pub(crate) fn black(rt: &(impl Abort + AllocGlobal)) -> Result<Vec<u8>, Fail> {
     let mut text = ZEROS;
     text[7] = 0x00;
@@ -127,7 +127,7 @@ pub(crate) fn black(rt: &(impl Abort + AllocGlobal)) -> Result<Vec<u8>, Fail> {
 
 const SQUARE: &str = "encode width=17 rows=17 stop=dc";
 
-// The text of 17 rows and columns of 200, with all bit planes.
+// Returns the text of 17 rows and columns of 200, with all bit planes.
 pub(crate) const TWO_HUNDRED: [u8; 23] = [
     0xC0, 0x18, 0x07, 0xE0, 0x00, 0x00, 0x00, 0x00, 0x60, 0x00, 0x00, 0x9C, 0x88, 0x00, 0x01, 0x10,
     0x00, 0x00, 0x00, 0x00, 0x06, 0x47, 0xF8,
@@ -203,7 +203,7 @@ fn a_million_made_pixels(rt: HostRuntime) -> Result<(), Fail> {
     Ok(())
 }
 
-// A limit of 32 octets cuts a segment of 100 blocks.
+// Expects that a limit of 32 octets cuts a segment of 100 blocks.
 fn limit_cuts(rt: &(impl Abort + AllocGlobal)) -> Result<(), Fail> {
     let words = "encode width=80 rows=80 segment=100 limit=32";
     let given = done(rt, words, &[200; 6400])?;
@@ -231,7 +231,7 @@ fn a_limit_fills_and_cuts(rt: HostRuntime) -> Result<(), Fail> {
     limit_cuts(&rt)
 }
 
-// Of 400 octets for eight coded segments of 21 octets each has an even share of what the ones before it leave.
+// Expects that of 400 octets for eight coded segments of 21 octets each has an even share of what those before it leave.
 fn expect_shares(rt: &impl Abort, given: &[u8]) {
     let limits: [u32; 8] = [50, 54, 59, 67, 79, 98, 137, 253];
     for (index, limit) in limits.iter().enumerate() {
@@ -279,7 +279,7 @@ fn code_words_of_four_octets(rt: HostRuntime) -> Result<(), Fail> {
     expect(&rt, words, &[200; 289], 0, &packet(&rt, &text)?, "")
 }
 
-// A square of this one pixel goes out with this text, with and without its bit planes, and the whole packet gives it back.
+// Expects that a square of this one pixel is written with this text, with and without its bit planes, and is decoded from the whole packet.
 fn expect_flat(
     rt: &(impl Abort + AllocGlobal),
     fields: &str,
@@ -338,7 +338,7 @@ fn a_pixel_out_of_range_is_refused(rt: HostRuntime) -> Result<(), Fail> {
     expect(&rt, words, &[0xFE; 289], 3, &[], note)
 }
 
-// At each read call just the segments are given that the rows settle.
+// Expects that at each read call exactly the segments are given that the rows settle.
 fn expect_settled(rt: &impl Abort, asked: &[(u64, u64)]) {
     for (taken, given) in asked {
         // Two block rows make a segment, and segment i is settled by 37 + 16i rows.
@@ -443,7 +443,7 @@ fn no_word_is_a_missing_command(rt: HostRuntime) -> Result<(), Fail> {
     Ok(())
 }
 
-// Nothing is read for a made image, and these octets stand in it.
+// Expects that nothing is read for a made image, and that it has these octets.
 fn expect_made(rt: &impl Abort, ran: &Outcome) {
     let given = ran.port.given();
     assert_eq!(rt; given.len(), 289);
@@ -465,7 +465,7 @@ fn a_made_image(rt: HostRuntime) -> Result<(), Fail> {
 
 #[test]
 fn a_failed_call_has_its_status(rt: HostRuntime) -> Result<(), Fail> {
-    // A read for each row, the write of the packet and the read at the end.
+    // The calls are a read for each row, the write of the packet and the read at the end.
     let packet = black(&rt)?;
     let words = "encode width=17 rows=17";
     for (number, status, count, note) in [

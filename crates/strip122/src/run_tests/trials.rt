@@ -1,10 +1,10 @@
-// Whole trials, compared with the commands that they stand for.
+// Whole trials, compared with the commands that they represent.
 use crate::run_tests::runs::{Outcome, WHOLE, done, ended, run_words};
 use std::process::Abort;
 use std::str;
 use std::test::Fail;
 
-// The numbers in the line of a trial: segments, packets, octets, equal pixels, and pixels.
+// Returns the numbers in the line of a trial: segments, packets, octets, equal pixels, and pixels.
 fn numbers(rt: &(impl Abort + AllocGlobal), line: &[u8]) -> Result<Vec<usize>, Fail> {
     let mut numbers = Vec::new(rt.alloc());
     for word in str::from_utf8(line)?.trim_end().split(' ') {
@@ -15,18 +15,18 @@ fn numbers(rt: &(impl Abort + AllocGlobal), line: &[u8]) -> Result<Vec<usize>, F
     Ok(numbers)
 }
 
-// How many octets at the same place are the same.
+// Returns the number of octets that are the same at the same place.
 fn equal_octets(made: &[u8], back: &[u8]) -> usize {
     made.iter().zip(back).filter(|(a, b)| a == b).count()
 }
 
-// Nothing is read for a trial.
+// Expects that nothing is read for a trial.
 fn expect_unread(rt: &impl Abort, ran: &Outcome) {
     assert_eq!(rt; ran.status, 0);
     assert!(rt; ran.port.asked().is_empty() && ran.port.noted().is_empty());
 }
 
-// What a trial gives.
+// Returns what a trial gives.
 fn trial(rt: &(impl Abort + AllocGlobal), text: &str) -> Result<Vec<u8>, Fail> {
     let ran = run_words(rt, text, &[1], &[], WHOLE)?;
     expect_unread(rt, &ran);

@@ -31,7 +31,7 @@ loop-octet-preserved g c =
       given = c.in-Ok.ensures.given ∙ ap (λ n. n + 1) c.loop-octet.invariant.given;
     }
 
--- what is behind a loan is the last value under its name
+-- after a loan the place holds the last value under its name
 sent_to : {X : Type 0} (outside : X → Outside) (x y : X) (w u : Progress) {t : Text} {p : Outside} {v : Progress} {text : List ℕ} → x ≡ y → w ≡ u →
     Continues t p (outside y) v u text → Continues t p (outside x) v w text
 sent_to outside x y w u {t = t} {p = p} {v = v} {text = text} e f sent =
@@ -42,7 +42,7 @@ cut_to : {X : Type 0} (outside : X → Outside) (x y : X) (w u : Progress) {t : 
 cut_to outside x y w u {t = t} {p = p} {v = v} {text = text} e f cut =
     subst (λ x. TextCut t p (outside x) v w text) (sym e) (subst (λ w. TextCut t p (outside y) v w text) (sym f) cut)
 
--- a text goes on after one more octet
+-- a text is continued after one more octet
 rejoined : (text : List ℕ) (i : ℕ) → i < length text → (take i text ++ get_or text i 0 ∷ []) ++ drop (i + 1) text ≡ text
 rejoined text i here = ap (λ xs. xs ++ drop (i + 1) text) (sym (take_more text i 0 here)) ∙ take-append-drop (i + 1) text
 

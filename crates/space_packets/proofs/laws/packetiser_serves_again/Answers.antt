@@ -3,7 +3,7 @@ use Rattle.space_packets.specs.Progress.{Progress, fresh}
 use Rattle.space_packets.specs.Serving.{ServesAs}
 use Rattle.space_packets.proofs.laws.packetiser_serves_again.Goals as goal
 
--- the same length leaves the same after a reset
+-- with the same length, a reset leaves the same state
 serves : {v w : Progress} → w.packet ≡ v.packet → ServesAs v w
 serves e = record { packet = e; again = ap fresh e }
 

@@ -7,7 +7,7 @@ use Rattle.strip122.proofs.DamageParts.{none_there}
 use Rattle.strip122.proofs.packets.tell_done.Goals as goal
 use Rattle.strip122.proofs.packets.tell_done.Goals.{else-is_none-via-then-is_none+then-known+else-is_none-2, else-is_none-via-then-is_none+else-known, else-is_none-via-else-is_none}
 
--- what isn't found to be none isn't
+-- a value that isn't known to be none isn't none
 some_found : {T : Type 0} (o : Option T) (none : Bool) → is_some o ≡ not none → none ≡ false → o ≡ None → ⊥
 some_found o none says is same = false≢true (sym (ap is_some same) ∙ says ∙ ap not is)
 

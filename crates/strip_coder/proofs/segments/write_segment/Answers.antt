@@ -23,7 +23,7 @@ use Rattle.strip_coder.specs.SegmentsOut.{text_of, text_for}
 use Rattle.strip_coder.proofs.SegmentTexts.{length-blocks_in, head_is, coded_some, text_same, share_said}
 use Rattle.strip_coder.proofs.segments.write_segment.Goals as goal
 
--- what is behind a loan is the last value under its name
+-- after a loan the place holds the last value under its name
 sent_to : {X : Type 0} (outside : X → Outside) (x y : X) (w u : Progress) {t : Text} {p : Outside} {v : Progress} {text : List ℕ} → x ≡ y → w ≡ u →
     Continues t p (outside y) v u text → Continues t p (outside x) v w text
 sent_to outside x y w u {t = t} {p = p} {v = v} {text = text} e f sent =
@@ -58,7 +58,7 @@ some_text : (s : Plan) (index used : ℕ) (cells : List ℤ) → IsPlan s → 0 
 some_text s index used cells range =
     coded_some (head_with (whole s) index (share (whole s) index used) (length (blocks_in cells)) (depth_dc_of (blocks_in cells)) (depth_ac_of (blocks_in cells))) (blocks_in cells) range.in_range.word.0
 
--- it can be said
+-- it can be written
 pub encode_segment-requires-clause-fits : goal.encode_segment-requires-clause-fits
 encode_segment-requires-clause-fits g c =
     let s = c.args.plan.now in

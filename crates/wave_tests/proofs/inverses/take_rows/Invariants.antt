@@ -9,6 +9,6 @@ invariant-loop-rows l = record {
   taken : taken_of l.strip ≡ taken_of l.initial.strip;
 }
 
--- rows that may still be made
+-- the number of rows that may still be made
 abbrev pub decreases-loop-rows : goal.decreases-loop-rows
 decreases-loop-rows l = 8 * taken_of l.strip - next_of l.strip

@@ -9,6 +9,6 @@ invariant-loop l = record {
   taken : taken_of l.inverse ≡ taken_of l.initial.inverse;
 }
 
--- rows that may still be made
+-- the number of rows that may still be made
 abbrev pub decreases-loop : goal.decreases-loop
 decreases-loop l = 8 * taken_of l.inverse - next_of l.inverse

@@ -14,6 +14,6 @@ invariant-loop-self l = record {
   follows : (p : Pyramid) (r : ℕ) → IsCompletion l.initial.self.third.left.taken l.initial.self.height r → FollowStrip p r l.initial.self → FollowStrip p r l.self;
 }
 
--- rows that the third and the second level have still to give
+-- the number of rows that the third and the second level can still give
 abbrev pub decreases-loop-self : goal.decreases-loop-self
 decreases-loop-self l = 6 * l.self.third.left.taken - (l.self.third.given + l.self.second.level.given)

@@ -24,7 +24,7 @@ skip_of-requires c =
     let told = c.told_length-length.ensures.value ∙ ap told_length c.pending.ensures.waiting in
     rw (c.pending-2.ensures.waiting, told) (first_is_packet (begins_so _ c.requires.whole)).whole
 
--- the packet, and how long it is
+-- the packet, and its length
 packet_is : (pending was octets : List ℕ) (told : ℕ) → octets ≡ pending → told ≡ told_length was → was ≡ pending → take told octets ≡ first_packet pending
 packet_is pending was octets told now is before = ap (take told) now ∙ ap (λ n. take n pending) (is ∙ ap told_length before)
 

@@ -33,7 +33,7 @@ returns-then-self-lt5-clause-small c = λ m hm b br.
     let s = c.args.self.now in
     rw c.turn-room.ensures.rows (AreSmall-even s.width s.kept s.evens s.odds s.lows s.highs c.args.row.items s.stand m b br)
 
--- ---- and the pair that comes with it
+-- ---- and the pair that it gives
 
 pub lift_pair-requires-clause-stand : goal.lift_pair-requires-clause-stand
 lift_pair-requires-clause-stand c =
