@@ -1,4 +1,17 @@
 //! This crate has the settings of the coder, the wishes of a decoder, code books, the geometry of an image and the weights of its subbands.
+//!
+//! A setting is made, checked and measured so (`a_setting_is_checked` of `crate_examples`):
+//!
+//! ```rust
+//! let setting = Setting {
+//!     depth: 12,
+//!     segment: 128,
+//!     ..Setting::usual(1024, 768)
+//! };
+//! assert_eq!(rt; setting.check(), Ok(()));
+//! let geometry = setting.geometry_for(setting.rows);
+//! assert_eq!(rt; geometry.segments(), 96);
+//! ```
 #![tactic(auto)]
 
 ghost use Rattle.std.specs.Prelude.{◌≡◌};

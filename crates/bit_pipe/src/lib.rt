@@ -1,4 +1,14 @@
 //! This crate writes and reads bits over octets, for texts up to a bound (docs/formats.md, "Stops, cut and fill").
+//!
+//! Bits are taken from octets so (`bits_are_taken_from_octets` of `crate_examples`):
+//!
+//! ```rust
+//! let mut input = SliceIn::new(&[0xa5, 0x80]);
+//! let mut bits = BitIn::new(&mut input, 0, 0);
+//! assert_eq!(rt; bits.take(), Ok(Some(true)));
+//! assert_eq!(rt; bits.take_bits(7), Ok(Some(0x25)));
+//! assert_eq!(rt; bits.used(), 8);
+//! ```
 #![tactic(auto)]
 
 mod bit_in;

@@ -1,4 +1,17 @@
 //! The fate of each packet of a stream, and the texts of the segments that the kept ones carry. The rules are in docs/formats.md, "Fates".
+//!
+//! A segment is found, and its text is taken after its header, so (`the_text_of_a_segment_is_assembled` of `crate_examples`):
+//!
+//! ```rust
+//! let mut assembly = Assembly::new(rt.alloc(), 100, 1 << 20)?;
+//! let start = assembly.next_segment(&mut port);
+//! assert_eq!(rt;
+//!     start.map(|start| start.map(|start| start.head.blocks)),
+//!     Ok(Some(9))
+//! );
+//! let mut text = assembly.text(&mut port);
+//! assert_eq!(rt; text.take(), Ok(Some(0x06)));
+//! ```
 #![tactic(auto)]
 
 mod agreement;

@@ -1,5 +1,32 @@
 //! This crate writes and reads a whole segment: its depths and its text (docs/formats.md, "Segments and depths", "Stops, cut and
 //! fill" and "Reading a segment").
+//!
+//! A segment's blocks are decoded from the octets after its header so (`read_text` of `crate_examples`):
+//!
+//! ```rust
+//! let rest = &text[usize::from(head.octets())..];
+//! let count = head.blocks as usize;
+//! let Ok(mut numbers) = vec![in alloc; 0; 64 * count] else {
+//!     return Err(NotRead::NoMemory);
+//! };
+//! let Ok(mut marks) = vec![in alloc; 0; count] else {
+//!     return Err(NotRead::NoMemory);
+//! };
+//! match decode_segment(
+//!     &mut SliceIn::new(rest),
+//!     &head,
+//!     &mut numbers,
+//!     &mut marks,
+//!     &profile_book(),
+//! ) {
+//!     Ok(part) => Ok(SegmentBlocks {
+//!         head,
+//!         part,
+//!         numbers,
+//!     }),
+//!     Err(fault) => Err(NotRead::BadText(fault)),
+//! }
+//! ```
 #![tactic(auto)]
 
 mod decode;

@@ -1,4 +1,18 @@
 //! The encoder: from a raster's octets to space packets, row by row and in the memory of a strip.
+//!
+//! A frame in memory is encoded so (`encode_frame` of `crate_examples`, whose `hand_in` puts a row into `work.row` and calls `row_in`):
+//!
+//! ```rust
+//! start_image(setting, work);
+//! let width = setting.width as usize;
+//! for row in 0..setting.rows as usize {
+//!     let start = row * width;
+//!     let Ok(()) = hand_in(port, setting, work, &frame[start..start + width]) else {
+//!         return Err(Failed);
+//!     };
+//! }
+//! image_end(port, setting, work)
+//! ```
 #![tactic(auto)]
 
 mod encode;
