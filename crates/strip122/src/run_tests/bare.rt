@@ -1,5 +1,6 @@
 // Whole runs over bare streams, worked out by hand.
-use crate::run_tests::runs::{WHOLE, ZEROS, ended, expect, part};
+use crate::run_tests::runs::{WHOLE, ZEROS, done, ended, expect, part};
+use std::alloc::{AllocError, Global};
 use std::test::Fail;
 
 const SQUARE: &str = "bare-encode width=17 rows=17";
@@ -78,4 +79,30 @@ fn eight_segments_have_one_header(rt: HostRuntime) -> Result<(), Fail> {
     let note = "strip122: segment 7 refused\n";
     let cut = part(&EIGHT, 0, 56);
     expect(&rt, "bare-decode", cut, 3, &[0; 5824], note)
+}
+
+// The stream of 300 such segments. The count in a header is the index modulo 256, and the last header alone has the last flag and an
+// octet for the rows that pad.
+fn three_hundred(alloc: Global) -> Result<Vec<u8>, AllocError> {
+    let mut stream = part(&EIGHT, 0, 21).to_vec(alloc)?;
+    for index in 1..300u16 {
+        let count = (index % 256) as u8;
+        let last = if index == 299 { 0x40 } else { 0 };
+        stream.extend_from_slice(&[last | count / 4, count % 4 * 64 + 2, 0, 0, 0])?;
+    }
+    stream.push(0)?;
+    Ok(stream)
+}
+
+#[test]
+fn the_count_of_300_segments_begins_again(rt: HostRuntime) -> Result<(), Fail> {
+    let stream = three_hundred(rt.alloc())?;
+    let raster = vec![in rt.alloc(); 0; 307_200]?;
+    let encode = "bare-encode width=64 rows=4800 segment=16";
+    assert_eq!(rt; done(&rt, encode, &raster)?.as_slice(), stream.as_slice());
+    assert_eq!(rt;
+        done(&rt, "bare-decode", &stream)?.as_slice(),
+        raster.as_slice()
+    );
+    Ok(())
 }
