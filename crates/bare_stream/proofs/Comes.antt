@@ -19,7 +19,7 @@ use Rattle.raster_rows.specs.Padding.{IsPadded}
 use Rattle.raster_rows.specs.declared.reading.RowFault.{RowFault}
 use Rattle.raster_rows.specs.declared.reading.RowFault.TheVariants.{ReadFault, Short, BadPixel}
 use Rattle.raster_rows.proofs.PixelPlaces.{pixel_at-append_right}
-use Rattle.space_packets.specs.declared.stage.Stage.TheVariants.{Idle}
+use Rattle.space_packets.specs.declared.stage.PacketiserState.TheVariants.{Idle}
 use Rattle.stream_defs.specs.Output.{image_blocks, segments_of}
 use Rattle.stream_defs.specs.SettledImages.{settled_in}
 use Rattle.strip_coder.specs.declared.work.Work.{Work}

@@ -1,7 +1,7 @@
 // Texts as packets, octet by octet.
 ghost use Rattle.std.specs.Prelude.{◌≡◌, ◌<◌, ◌≤◌, ◌+◌, ◌^◌, length, MatchResult};
 ghost use Rattle.space_packets.specs.Writes.{TextOut, TextCut};
-ghost use Rattle.space_packets.specs.declared.stage.Stage.TheVariants.{Idle};
+ghost use Rattle.space_packets.specs.declared.stage.PacketiserState.TheVariants.{Idle};
 
 use crate::examples::FIRST_SEGMENT;
 use bit_pipe::OctetOut;

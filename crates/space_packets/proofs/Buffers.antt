@@ -4,8 +4,8 @@ use Rattle.std.specs.Prelude.{nat_lt, nat_le, Bool, true, false, Result, Ok, is_
 use Rattle.std.proofs.lemmas.Bool.Decides.{nat_tests}
 use Rattle.std.specs.Bool.{OnTrue, OnFalse}
 use Rattle.std.proofs.lemmas.List.{drop_all, drop-append-le}
-use Rattle.space_packets.specs.declared.stage.Stage.{Stage}
-use Rattle.space_packets.specs.declared.stage.Stage.TheVariants.{Idle, Begun, Broken}
+use Rattle.space_packets.specs.declared.stage.PacketiserState.{PacketiserState}
+use Rattle.space_packets.specs.declared.stage.PacketiserState.TheVariants.{Idle, Begun, Broken}
 use Rattle.space_packets.specs.declared.stage.Text.{Text}
 use Rattle.space_packets.specs.Stages.{given_in, room_of, parts_of}
 
@@ -18,29 +18,29 @@ pub more_wait : (items now octets : List ℕ) → 30 ≤ length items → now �
 more_wait items now octets long e = ap (drop 30) e ∙ drop-append-le 30 items octets long
 
 -- at most the size of a part
-pub room_least : (s : Stage) (size : ℕ) → room_of s size ≤ size
+pub room_least : (s : PacketiserState) (size : ℕ) → room_of s size ≤ size
 room_least Idle size = omega arith
 room_least (Begun t) size = omega arith
 room_least Broken size = omega arith
 
-pub given_count : (s : Stage) (size pending : ℕ) → given_in s size pending < 2 ^ 32 → given_in s size pending ≡ parts_of s * size + pending
+pub given_count : (s : PacketiserState) (size pending : ℕ) → given_in s size pending < 2 ^ 32 → given_in s size pending ≡ parts_of s * size + pending
 given_count Idle size pending few = absurd (omega (arith, few))
 given_count (Begun t) size pending few = refl
 given_count Broken size pending few = absurd (omega (arith, few))
 
 -- and further octets are counted
-pub given_more : (s : Stage) (size pending count now : ℕ) → given_in s size pending < 2 ^ 32 → now ≡ pending + count → given_in s size now ≡ given_in s size pending + count
+pub given_more : (s : PacketiserState) (size pending count now : ℕ) → given_in s size pending < 2 ^ 32 → now ≡ pending + count → given_in s size now ≡ given_in s size pending + count
 given_more Idle size pending count now few e = absurd (omega (arith, few))
 given_more (Begun t) size pending count now few e = omega (arith, e)
 given_more Broken size pending count now few e = absurd (omega (arith, few))
 
-pub given_room : (s : Stage) (size pending : ℕ) → given_in s size pending < 2 ^ 32 → room_of s size ≡ size
+pub given_room : (s : PacketiserState) (size pending : ℕ) → given_in s size pending < 2 ^ 32 → room_of s size ≡ size
 given_room Idle size pending few = absurd (omega (arith, few))
 given_room (Begun t) size pending few = refl
 given_room Broken size pending few = absurd (omega (arith, few))
 
 -- the text that is begun
-pub given_text : (s : Stage) (size pending : ℕ) → given_in s size pending < 2 ^ 32 → (t : Text) × (s ≡ Begun t)
+pub given_text : (s : PacketiserState) (size pending : ℕ) → given_in s size pending < 2 ^ 32 → (t : Text) × (s ≡ Begun t)
 given_text Idle size pending few = absurd (omega (arith, few))
 given_text (Begun t) size pending few = (t, refl)
 given_text Broken size pending few = absurd (omega (arith, few))

@@ -6,7 +6,7 @@ use Rattle.std.proofs.lemmas.List.{append-nil, drop_at, take_at}
 use Rattle.port_122.specs.Outside.{Outside, Exchange, NoRead}
 use Rattle.port_122.proofs.Stretches.{since_start}
 use Rattle.packet_defs.specs.Packets.{part_of, part_size}
-use Rattle.space_packets.specs.declared.stage.Stage.TheVariants.{Begun, Broken}
+use Rattle.space_packets.specs.declared.stage.PacketiserState.TheVariants.{Begun, Broken}
 use Rattle.space_packets.specs.declared.stage.Text.{Text}
 use Rattle.space_packets.specs.Parts.{text_at, packet_of}
 use Rattle.space_packets.specs.Progress.{Progress, IsOpen, full_count, full_packet, first_packets, first_octets, written, after, broken}

@@ -6,8 +6,8 @@ use Rattle.std.specs.Global.{Vec}
 use Rattle.std.proofs.Math.Nat.{mul-le-mul_left}
 use Rattle.packet_defs.specs.Packets.{part_size}
 use Rattle.space_packets.specs.declared.packetiser.Packetiser.TheInside.{Inside}
-use Rattle.space_packets.specs.declared.stage.Stage.{Stage}
-use Rattle.space_packets.specs.declared.stage.Stage.TheVariants.{Idle, Begun}
+use Rattle.space_packets.specs.declared.stage.PacketiserState.{PacketiserState}
+use Rattle.space_packets.specs.declared.stage.PacketiserState.TheVariants.{Idle, Begun}
 use Rattle.space_packets.specs.declared.stage.Text.{Text}
 use Rattle.space_packets.specs.Parts.{text_at}
 use Rattle.space_packets.specs.Stages.{apid_of, parts_of, open_texts, room_of, given_in}
@@ -65,7 +65,7 @@ sound_more a buffer count sound some room fits long same =
     }
 
 -- after a part is written
-pub sound_past : (a : Inside) (t : Text) (last : Bool) (s : Stage) (octets : ℕ) (buffer : Vec ℕ) → IsSound a → a.stage ≡ Begun t →
+pub sound_past : (a : Inside) (t : Text) (last : Bool) (s : PacketiserState) (octets : ℕ) (buffer : Vec ℕ) → IsSound a → a.stage ≡ Begun t →
     OnFalse last (length a.buffer.items - 30 ≡ part_size a.packet) → s ≡ (if last then Idle else Begun (text_at t 1)) → octets ≡ length a.buffer.items →
     length buffer.items ≡ 30 → vec_capacity buffer ≡ vec_capacity a.buffer →
     IsSound (record a { buffer = buffer; stage = s; packets = a.packets + 1; octets = a.octets + octets })

@@ -9,7 +9,7 @@ use Rattle.port_122.proofs.Stretches.{since_out, rose_since}
 use Rattle.packet_defs.specs.Packets.{part_size, part_count, text_packets}
 use Rattle.packet_defs.specs.Packets.{joined}
 use Rattle.packet_defs.proofs.Joins.{joined-append}
-use Rattle.space_packets.specs.declared.stage.Stage.TheVariants.{Idle, Begun}
+use Rattle.space_packets.specs.declared.stage.PacketiserState.TheVariants.{Idle, Begun}
 use Rattle.space_packets.specs.declared.stage.Text.{Text}
 use Rattle.space_packets.specs.Parts.{full_parts, text_at}
 use Rattle.space_packets.specs.Progress.{Progress, IsOpen, begun, full_count, full_packet, first_packets, first_octets, written, after, last_packet, past_packet, broken, stopped, ended}

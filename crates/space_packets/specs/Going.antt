@@ -7,7 +7,7 @@ use Rattle.std.proofs.lemmas.List.{append-nil, drop-append-le, take-append-le, d
 use Rattle.std.proofs.lemmas.Grind.{flat_map-append}
 use Rattle.packet_defs.specs.Packets.{part_of, part_size}
 use Rattle.packet_defs.specs.Packets.{joined}
-use Rattle.space_packets.specs.declared.stage.Stage.TheVariants.{Begun}
+use Rattle.space_packets.specs.declared.stage.PacketiserState.TheVariants.{Begun}
 use Rattle.space_packets.specs.declared.stage.Text.{Text}
 use Rattle.space_packets.specs.Parts.{full_parts, text_at, packet_of}
 use Rattle.space_packets.specs.Progress.{Progress, IsOpen, full_count, full_packet, first_packets, first_octets, written, after, broken}

@@ -1,7 +1,7 @@
 -- The effect of a whole text. This project's own.
 use Rattle.std.specs.Prelude.{ℕ, ◌≡◌, ◌≤◌, ◌<◌, List, ◌++◌, length}
 use Rattle.port_122.specs.Outside.{Outside}
-use Rattle.space_packets.specs.declared.stage.Stage.TheVariants.{Idle}
+use Rattle.space_packets.specs.declared.stage.PacketiserState.TheVariants.{Idle}
 use Rattle.space_packets.specs.declared.stage.Text.{Text}
 use Rattle.space_packets.specs.Parts.{text_at}
 use Rattle.space_packets.specs.Progress.{Progress, begun, full_count, last_packet}

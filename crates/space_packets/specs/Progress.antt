@@ -3,8 +3,8 @@ use Rattle.std.specs.Prelude.{ℕ, ◌≡◌, ◌≤◌, ◌+◌, ◌*◌, true,
 use Rattle.std.specs.List.{range_with_len}
 use Rattle.packet_defs.specs.Packets.{part_of, part_size, part_count, text_packets}
 use Rattle.packet_defs.specs.Packets.{joined}
-use Rattle.space_packets.specs.declared.stage.Stage.{Stage}
-use Rattle.space_packets.specs.declared.stage.Stage.TheVariants.{Idle, Begun, Broken}
+use Rattle.space_packets.specs.declared.stage.PacketiserState.{PacketiserState}
+use Rattle.space_packets.specs.declared.stage.PacketiserState.TheVariants.{Idle, Begun, Broken}
 use Rattle.space_packets.specs.declared.stage.Text.{Text}
 use Rattle.space_packets.specs.Stages.{given_in}
 use Rattle.space_packets.specs.Parts.{full_parts, text_at, packet_of}
@@ -13,7 +13,7 @@ use Rattle.space_packets.specs.Parts.{full_parts, text_at, packet_of}
 -- count of packets began; and the octets of the begun text that are in no packet yet.
 pub record Progress : Type 0 where
   pub packet : ℕ
-  pub stage : Stage
+  pub stage : PacketiserState
   pub texts : ℕ
   pub packets : ℕ
   pub octets : ℕ
@@ -85,7 +85,7 @@ abbrev pub last_packet : Text → Progress → List ℕ
 last_packet t v = packet_of t v.packets true v.pending
 
 -- the state after a packet of all octets that wait
-abbrev pub past_packet : Progress → Stage → (packet : List ℕ) → Progress
+abbrev pub past_packet : Progress → PacketiserState → (packet : List ℕ) → Progress
 past_packet v next packet = record v { stage = next; packets = v.packets + 1; octets = v.octets + length packet; pending = [] }
 
 -- the state after its write failed

@@ -3,8 +3,8 @@ use Rattle.std.specs.Prelude.{ℕ, ◌≡◌, ◌≤◌, ◌<◌, List, [], ◌�
 use Rattle.port_122.specs.Outside.{Outside, Exchange, NoRead, Rose}
 use Rattle.packet_defs.specs.Packets.{text_packets}
 use Rattle.packet_defs.specs.Packets.{joined}
-use Rattle.space_packets.specs.declared.stage.Stage.{Stage}
-use Rattle.space_packets.specs.declared.stage.Stage.TheVariants.{Broken}
+use Rattle.space_packets.specs.declared.stage.PacketiserState.{PacketiserState}
+use Rattle.space_packets.specs.declared.stage.PacketiserState.TheVariants.{Broken}
 use Rattle.space_packets.specs.declared.stage.Text.{Text}
 use Rattle.space_packets.specs.Progress.{Progress, IsOpen, full_count, full_packet, first_octets, written, after, broken, past_packet, stopped, ended}
 
@@ -29,7 +29,7 @@ pub record PutsOctet {T E : Type 0} (result : Result T E) (p q : Outside) (v w :
   pub ends : MatchResult result (λ _. Continues text p q v w (octet ∷ [])) (λ _. StopsEarly text p q v w (octet ∷ []))
 
 -- one packet is written
-pub record PacketOut (p q : Outside) (v w : Progress) (next : Stage) (packet : List ℕ) : Type 0 where
+pub record PacketOut (p q : Outside) (v w : Progress) (next : PacketiserState) (packet : List ℕ) : Type 0 where
   pub out : Exchange p q [] packet [] NoRead
   pub stands : w ≡ past_packet v next packet
 
@@ -42,7 +42,7 @@ pub record PacketFailed (p q : Outside) (v w : Progress) (packet : List ℕ) : T
   pub stands : w ≡ stopped v
 
 -- the effect of a call that writes one packet
-abbrev pub WritesPacket : {T E : Type 0} → Result T E → (p q : Outside) (v w : Progress) → Stage → List ℕ → Type 0
+abbrev pub WritesPacket : {T E : Type 0} → Result T E → (p q : Outside) (v w : Progress) → PacketiserState → List ℕ → Type 0
 WritesPacket result p q v w next packet = MatchResult result
     (λ _. PacketOut p q v w next packet)
     (λ _. PacketFailed p q v w packet)

@@ -8,7 +8,7 @@ ghost use Rattle.space_packets.specs.Parts.{packet_of, text_at};
 
 use crate::header::{HEADER, PRIMARY, write_header};
 use crate::sink::PacketSink;
-use crate::stage::{Stage, Text};
+use crate::stage::{PacketiserState, Text};
 use packet_defs::Ancillary;
 use port_122::{Failed, Port, write_all};
 use std::alloc::{AllocError, Global};
@@ -23,7 +23,7 @@ use std::marker::Model;
 pub struct Packetiser {
     buffer: Vec<u8>,
     packet: usize,
-    stage: Stage,
+    stage: PacketiserState,
     texts: u32,
     packets: u64,
     octets: u64,
@@ -46,7 +46,7 @@ impl Packetiser {
     ghost use Rattle.space_packets.specs.Stages.{IsBegun};
     ghost use Rattle.space_packets.specs.Writes.{PutsOctet, WritesPacket};
     ghost use Rattle.space_packets.specs.declared.stage.Text.{Text};
-    ghost use Rattle.space_packets.specs.declared.stage.Stage.TheVariants.{Idle, Begun};
+    ghost use Rattle.space_packets.specs.declared.stage.PacketiserState.TheVariants.{Idle, Begun};
 
     /// Returns a packetiser whose packets have at most this number of octets in their packet data fields: 64 to 65,536
     /// (docs/formats.md, "Packets"). It takes the memory of one packet, and no call takes more.
@@ -61,7 +61,7 @@ impl Packetiser {
         Ok(Packetiser {
             buffer,
             packet,
-            stage: Stage::Idle,
+            stage: PacketiserState::Idle,
             texts: 0,
             packets: 0,
             octets: 0,
@@ -73,7 +73,7 @@ impl Packetiser {
         ensures { self.new ≡ fresh self.old.packet }
     {
         self.buffer.truncate(HEADER);
-        self.stage = Stage::Idle;
+        self.stage = PacketiserState::Idle;
         self.texts = 0;
         self.packets = 0;
         self.octets = 0;
@@ -103,7 +103,7 @@ impl Packetiser {
         ensures begun { self.new ≡ begun self.old (record { apid = apid; ancillary = ancillary }) }
         ensures is_open { IsOpen (record { apid = apid; ancillary = ancillary }) self.new }
     {
-        self.stage = Stage::Begun(Text { apid, ancillary });
+        self.stage = PacketiserState::Begun(Text { apid, ancillary });
         self.texts += 1;
     }
 
@@ -158,8 +158,8 @@ impl Packetiser {
         ensures is_open { IsOpen result self.now }
     {
         match self.stage {
-            Stage::Begun(text) => text,
-            Stage::Idle | Stage::Broken => unreachable!(),
+            PacketiserState::Begun(text) => text,
+            PacketiserState::Idle | PacketiserState::Broken => unreachable!(),
         }
     }
 
@@ -209,7 +209,7 @@ impl Packetiser {
         let octets = self.buffer.len() as u64;
         self.buffer.truncate(HEADER);
         let Ok(()) = sent else {
-            self.stage = Stage::Broken;
+            self.stage = PacketiserState::Broken;
             return Err(Failed);
         };
         self.packets += 1;

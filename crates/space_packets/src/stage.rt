@@ -1,7 +1,7 @@
 // The stage of a packetiser.
 ghost use Rattle.std.specs.Prelude.{◌≡◌, ◌<◌, ◌-◌, ◌^◌, if◌then◌else◌};
 ghost use Rattle.space_packets.specs.Parts.{text_at};
-ghost use Rattle.space_packets.specs.declared.stage.Stage.TheVariants.{Idle, Begun};
+ghost use Rattle.space_packets.specs.declared.stage.PacketiserState.TheVariants.{Idle, Begun};
 
 use packet_defs::Ancillary;
 
@@ -14,7 +14,7 @@ pub struct Text {
 
 /// The stage of a packetiser.
 #[derive(Clone, Copy)]
-pub enum Stage {
+pub enum PacketiserState {
     /// No text is begun.
     Idle,
     /// A text is begun.
@@ -25,17 +25,17 @@ pub enum Stage {
 
 impl Text {
     /// Returns the stage after a part was written, the last or not: the text is at its next part, or is over.
-    pub fn after_part(self, last: bool) -> Stage
+    pub fn after_part(self, last: bool) -> PacketiserState
         requires { self.ancillary.part < 2 ^ 32 - 1 }
         ensures { result ≡ (if last then Idle else Begun (text_at self 1)) }
     {
         if last {
-            return Stage::Idle;
+            return PacketiserState::Idle;
         }
         let ancillary = Ancillary {
             part: self.ancillary.part + 1,
             ..self.ancillary
         };
-        Stage::Begun(Text { ancillary, ..self })
+        PacketiserState::Begun(Text { ancillary, ..self })
     }
 }

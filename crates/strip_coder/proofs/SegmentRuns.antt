@@ -7,7 +7,7 @@ use Rattle.packet_defs.specs.Packets.{joined}
 use Rattle.stream_defs.specs.Output.{packets_of, segment_packets, tells_last}
 use Rattle.packet_defs.proofs.Joins.{joined-append}
 use Rattle.stream_defs.proofs.Outputs.{packets_of-more}
-use Rattle.space_packets.specs.declared.stage.Stage.TheVariants.{Idle}
+use Rattle.space_packets.specs.declared.stage.PacketiserState.TheVariants.{Idle}
 use Rattle.space_packets.specs.Progress.{Progress}
 
 -- two packetisers are the same if their fields are

@@ -7,7 +7,7 @@ use Rattle.segment_defs.specs.Coded.{coded}
 use Rattle.packet_defs.specs.Packets.{joined}
 use Rattle.stream_defs.specs.Output.{ancillary_of, head_of, packets_before, packets_of, tells_last}
 use Rattle.space_packets.specs.declared.stage.Text.{Text}
-use Rattle.space_packets.specs.declared.stage.Stage.TheVariants.{Idle}
+use Rattle.space_packets.specs.declared.stage.PacketiserState.TheVariants.{Idle}
 use Rattle.space_packets.specs.Progress.{Progress}
 
 -- the text of the segment of this index, as a packetiser has it

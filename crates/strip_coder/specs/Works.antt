@@ -8,7 +8,7 @@ use Rattle.wave_defs.specs.Held.{SameWithin, block_at}
 use Rattle.wave_strip.specs.Strip.{rows_of, answered_of, columns_of, has_ended, Follows}
 use Rattle.wave_strip.specs.Counts.{settled}
 use Rattle.wave_strip.specs.Samples.{samples_of as strip_samples}
-use Rattle.space_packets.specs.declared.stage.Stage.TheVariants.{Idle}
+use Rattle.space_packets.specs.declared.stage.PacketiserState.TheVariants.{Idle}
 use Rattle.stream_defs.specs.Output.{image_blocks, segments_of, used_before, tells_last}
 use Rattle.stream_defs.specs.Settled.{settled as settled_segments}
 use Rattle.strip_coder.specs.declared.work.Work.{Work}

@@ -7,7 +7,7 @@ ghost use Rattle.block_families.specs.Places.{gathered};
 ghost use Rattle.wave_strip.specs.Strip.{columns_of, is_standing, number_in};
 ghost use Rattle.wave_defs.specs.Held.{blocks_in};
 ghost use Rattle.space_packets.specs.Writes.{TextOut, TextCut};
-ghost use Rattle.space_packets.specs.declared.stage.Stage.TheVariants.{Idle};
+ghost use Rattle.space_packets.specs.declared.stage.PacketiserState.TheVariants.{Idle};
 ghost use Rattle.stream_defs.specs.Output.{segments_of};
 ghost use Rattle.strip_coder.specs.SegmentsOut.{text_of, text_for};
 ghost use Rattle.strip_coder.specs.Works.{AreSmall, KeepsShare, HasGathered, IsFull};

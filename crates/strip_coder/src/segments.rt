@@ -2,7 +2,7 @@
 ghost use Rattle.std.specs.Prelude.{◌≡◌, ◌≤◌, ◌<◌, ◌-◌, ◌*◌, ◌/◌, ◌^◌, length, MatchResult};
 ghost use Rattle.wave_defs.specs.Held.{blocks_in};
 ghost use Rattle.space_packets.specs.Writes.{TextOut, TextCut};
-ghost use Rattle.space_packets.specs.declared.stage.Stage.TheVariants.{Idle};
+ghost use Rattle.space_packets.specs.declared.stage.PacketiserState.TheVariants.{Idle};
 ghost use Rattle.segment_code.specs.Numbers.{AreBounded};
 ghost use Rattle.strip_coder.specs.SegmentsOut.{text_of, text_for};
 ghost use Rattle.base_122.specs.Sizes.{padded_size};

@@ -52,7 +52,7 @@ pub fn put_missing_blocks<S: BlockSink, X: Port>(
 }
 
 // Passes the next block with these 64 numbers.
-fn put_block<S: BlockSink, X: Port>(
+fn give_block<S: BlockSink, X: Port>(
     walk: &mut Walk<S>,
     port: &mut X,
     numbers: &[i32],
@@ -81,7 +81,7 @@ pub fn put_blocks<S: BlockSink, X: Port>(
     ensures { PassesBlocks S.sink result (held blocks.now) count (X.outside port.old) (X.outside port.new) (walking walk.old) (walking walk.new) }
 {
     for place in 0..count {
-        put_block(walk, port, &blocks[64 * place..64 * place + 64])?;
+        give_block(walk, port, &blocks[64 * place..64 * place + 64])?;
     }
     Ok(())
 }

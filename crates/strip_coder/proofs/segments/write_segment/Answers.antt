@@ -12,8 +12,8 @@ use Rattle.packet_defs.specs.declared.ancillary.Ancillary.{Ancillary}
 use Rattle.stream_defs.specs.Output.{ancillary_of, head_with, share, tells_last}
 use Rattle.stream_defs.specs.Shares.{CanBeSaid}
 use Rattle.space_packets.specs.declared.stage.Text.{Text}
-use Rattle.space_packets.specs.declared.stage.Stage.{Stage}
-use Rattle.space_packets.specs.declared.stage.Stage.TheVariants.{Begun}
+use Rattle.space_packets.specs.declared.stage.PacketiserState.{PacketiserState}
+use Rattle.space_packets.specs.declared.stage.PacketiserState.TheVariants.{Begun}
 use Rattle.space_packets.specs.Stages.{IsBegun}
 use Rattle.space_packets.specs.Progress.{Progress, begun}
 use Rattle.space_packets.specs.Writes.{Continues, TextCut}
@@ -34,14 +34,14 @@ cut_to : {X : Type 0} (outside : X → Outside) (x y : X) (w u : Progress) {t : 
 cut_to outside x y w u {t = t} {p = p} {v = v} {text = text} e f cut =
     subst (λ x. TextCut t p (outside x) v w text) (sym e) (subst (λ w. TextCut t p (outside y) v w text) (sym f) cut)
 
-begun_stands : (stage : Stage) (t : Text) → stage ≡ Begun t → IsBegun stage
+begun_stands : (stage : PacketiserState) (t : Text) → stage ≡ Begun t → IsBegun stage
 begun_stands stage t e = subst IsBegun (sym e) tt
 
 begun_with : (s : Plan) (index : ℕ) (v : Progress) (a : Ancillary) → a ≡ ancillary_of (tells_last s.setting) (whole s) index →
     begun v (record { apid = s.setting.apid; ancillary = a }) ≡ begun v (text_of s index)
 begun_with s index v a e = ap (λ a. begun v (record { apid = s.setting.apid; ancillary = a })) e
 
-begun_to : (a b : Stage) → a ≡ b → IsBegun b → IsBegun a
+begun_to : (a b : PacketiserState) → a ≡ b → IsBegun b → IsBegun a
 begun_to a b e begun = subst IsBegun (sym e) begun
 
 -- the text of the head that was made

@@ -2,7 +2,7 @@ use Rattle.std.proofs.Common.{arith}
 use Rattle.std.specs.Prelude.{Some}
 use Rattle.strip_decoder.specs.Steps.{walking, passed_in}
 use Rattle.strip_decoder.proofs.BlockSteps.{one_passed, one_failed, passes_failed}
-use Rattle.strip_decoder.proofs.blocks.put_block.Goals as goal
+use Rattle.strip_decoder.proofs.blocks.give_block.Goals as goal
 
 pub returns-in_err-put : goal.returns-in_err-put
 returns-in_err-put g c =
