@@ -12,7 +12,7 @@ mod ReadsOn
 mod SegmentMore
 mod RowsShown
 mod SegmentShown
-mod HeadsRefused
+pub mod HeadsRefused
 mod Agrees
 mod NextHeads
 mod TextsRead

@@ -29,6 +29,7 @@ use Rattle.bare_stream.specs.Decoded.{DecidesHead, Refuses, first_of, ReadThen, 
 use Rattle.bare_stream.specs.Bare.{bare}
 use Rattle.bare_stream.specs.Images.{IsBareImage}
 use Rattle.bare_stream.specs.RoundTrip.{ReadsWhole, StreamsAreRead, GivesImage, BareRoundTrip}
+use Rattle.bare_stream.proofs.HeadsRefused.{are_so}
 use Rattle.strip122.specs.Notes.{IsNoted, Notes, fault_status, fault_line, memory_line, bare_fault_status, bare_fault_line}
 use Rattle.strip122.specs.Ran.{CausedWithin}
 use Rattle.strip122.specs.BareStreams.{EncodesBare, EncodedBare, encodes_bare, bare_status, bare_line, BareCauses, AsksBare, DecodesStream, IsStreamOf, GivesPicture, BareRefuses, decodes_bare, GaveBare}
@@ -80,16 +81,7 @@ bare_encode_failed s a b c fault status run n is =
 
 -- ---- `bare-decode`: after the note
 
--- the same of the parts in force after these texts
-texts_so : {P Q : PartsInForce → Type 0} (first : SegmentHead) (before : PartsInForce) (index : ℕ) (texts : List (List ℕ)) (blocks : List (List (List ℤ))) → ((b : PartsInForce) → P b → Q b) →
-    AreTexts first before index texts blocks P → AreTexts first before index texts blocks Q
-texts_so first before index [] [] f are = f before are
-texts_so first before index [] (b ∷ blocks) f are = absurd are
-texts_so first before index (t ∷ texts) [] f are = absurd are
-texts_so {P = P} {Q = Q} first before index (t ∷ texts) (b ∷ blocks) f are =
-    record { head = are.head; after = are.after; is = are.is; agrees = are.agrees; goes_on = (are.goes_on.0, texts_so {P = P} {Q = Q} first are.after (index + 1) texts blocks f are.goes_on.1) }
-
--- the same of what follows the segments that were read
+-- what holds of what follows the segments that were read, if something stronger does
 read_so : {P Q : Option SegmentHead → (index : ℕ) → PartsInForce → List ℕ → Type 0} (took : List ℕ) (read : Option SegmentsRead) →
     ((first : Option SegmentHead) (index : ℕ) (before : PartsInForce) (rest : List ℕ) → P first index before rest → Q first index before rest) → ReadThen took read P → ReadThen took read Q
 read_so took None f k = f None 0 none_in_force took k
@@ -99,7 +91,7 @@ read_so {P} {Q} took (Some r) f k = (
     k.1.0,
     k.1.1,
     k.1.2,
-    texts_so {P = λ before. P (first_of r.first r.texts) (length r.texts) before k.1.0} {Q = λ before. Q (first_of r.first r.texts) (length r.texts) before k.1.0} r.first none_in_force 0 r.texts r.blocks
+    are_so {P = λ before. P (first_of r.first r.texts) (length r.texts) before k.1.0} {Q = λ before. Q (first_of r.first r.texts) (length r.texts) before k.1.0} r.first none_in_force 0 r.texts r.blocks
         (λ before. f (first_of r.first r.texts) (length r.texts) before k.1.0) k.1.3,
   ),
 )
