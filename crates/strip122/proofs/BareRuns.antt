@@ -24,7 +24,7 @@ use Rattle.bare_stream.specs.declared.fault.BareFault.TheVariants.{ReadFault as 
 use Rattle.bare_stream.specs.Rasters.{texts_for}
 use Rattle.bare_stream.specs.Answers.{BareAnswers, EncodesBare as EncodesOver}
 use Rattle.bare_stream.specs.BareStream.{BareStream}
-use Rattle.bare_stream.specs.SegmentsRead.{SegmentsRead, AreTexts, Told, rows_with}
+use Rattle.bare_stream.specs.SegmentsRead.{SegmentsRead, Told, rows_with}
 use Rattle.bare_stream.specs.Decoded.{DecidesHead, Refuses, first_of, ReadThen, StreamThen, BareReasons, GivesRead, EndsSo, AsksRead, DecodesBare}
 use Rattle.bare_stream.specs.Bare.{bare}
 use Rattle.bare_stream.specs.Images.{IsBareImage}
