@@ -1,4 +1,4 @@
--- What a head says that agrees with the first one.
+-- What holds of a head that agrees with the first one.
 use Rattle.std.proofs.Common.{◌≡◌, ◌≤◌, ◌<◌, ◌+◌, ◌-◌, ◌*◌, ◌%◌, ◌==◌, ℕ, List, ◌∷◌, refl, sym, ap, ◌∙◌, arith}
 use Rattle.std.specs.Prelude.{Bool, true, false, not, nat_le, nat_lt, ◌&&◌, ◌||◌, if◌then◌else◌, Option, None}
 use Rattle.std.proofs.lemmas.Bool.Decides.{nat_tests}
@@ -23,7 +23,7 @@ passes : (b : Bool) (fault : HeadFault) (tests : List (Option HeadFault)) → fi
 passes true fault tests e = (refl, e)
 passes false fault tests e = absurd cc
 
--- each point is so
+-- each test passes
 pub record Agrees (first : SegmentHead) (index : ℕ) (head : SegmentHead) : Type 0 where
   pub flag : first_agrees index head ≡ true
   pub blocks : blocks_agree first head ≡ true
@@ -65,7 +65,7 @@ same_weights first index head e =
     let word = both (a.word == b.word) (bytes_eq a.weights.shifts b.weights.shifts) width.1 in
     (bytes_eq-Decides a.weights.shifts b.weights.shifts).0 word.1
 
--- of segments of which the first isn't the last, each but the last has at least 16 blocks
+-- if the first segment isn't the last, each segment except the last has at least 16 blocks
 pub least_blocks : (first : SegmentHead) (index : ℕ) (head : SegmentHead) → AgreesWith first index head → first.last ≡ false → 16 ≤ first.blocks
 least_blocks first index head e more =
     let b = both (if head.last then nat_le 1 head.blocks && nat_le head.blocks first.blocks else head.blocks == first.blocks) (nat_le 16 first.blocks || first.last) (agrees first index head e).blocks in
@@ -163,7 +163,7 @@ passed : (b : Bool) (fault : HeadFault) (tests : List (Option HeadFault)) → b 
 passed true fault tests e f = f
 passed false fault tests e f = absurd cc
 
--- a head agrees for which each point is so
+-- a head agrees if each test passes
 pub all_agree : (first : SegmentHead) (index : ℕ) (head : SegmentHead) → Agrees first index head → AgreesWith first index head
 unfolding agreement_tests
 all_agree first index head a =

@@ -228,7 +228,7 @@ module _ (s : Setting) (bare : IsBare s) (before : Option SegmentHead) (p q : Ou
 
 -- ---- the row was read
 
--- nothing but the row's numbers was changed
+-- only the row's numbers were changed
 pub record OnlyRow (old mid : Work) : Type 0 where
   pub strip : mid.strip ≡ old.strip
   pub blocks : mid.blocks ≡ old.blocks

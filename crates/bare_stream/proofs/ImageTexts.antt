@@ -24,7 +24,7 @@ use Rattle.bare_stream.specs.Images.{IsBareImage, SaysImage, ImagesAreBareStream
 use Rattle.bare_stream.proofs.Counts.{rows_in}
 use Rattle.bare_stream.proofs.ImageHeads.{heads_agree, geometry_is}
 
--- lists over a range, where the functions are the same
+-- two lists over a range are equal if their functions are equal there
 map_alike : {A : Type 0} (f g : ℕ → A) (a n : ℕ) → ((k : ℕ) → a ≤ k → k < a + n → f k ≡ g k) → map f (range_with_len a n) ≡ map g (range_with_len a n)
 map_alike f g a zero same = refl
 map_alike f g a (suc n) same =
@@ -180,7 +180,7 @@ module _ (hold : BareTextsHold) (undo : BareHeadsUndo) (s : Setting) (x : ℕ �
   pub blocks_there : (v : List (List (List ℤ))) × SaysImage s x v
   blocks_there = (w, says_image)
 
--- ---- nothing else is said
+-- ---- the stream reports nothing else
 
 pub images_are_streams : BareTextsHold → BareHeadsUndo → BareStreamsEndThere → ImagesAreBareStreams
 images_are_streams hold undo ends = record {

@@ -87,7 +87,7 @@ module _ {X : Type 0} (outside : X → Outside) (s t : PortIn X) (none : waiting
       subst (λ l. Comes (tail_with (outside s.port.now).rest l s.left) (tail_of outside t) []) (sym none)
       (filled_with (outside s.port.now).rest (outside t.port.now).rest (waiting t) s.left t.left fills.since.rest fills.left)
 
--- ---- what was given is what came
+-- ---- the octets that were given are those that arrived
 
 module _ {X : Type 0} (outside : X → Outside) (s t : PortIn X) (went : Went outside s t) where
   came_with : (o o' : Option (List ℕ)) (octets : List ℕ) → Loses o o' went.took → (all : List ℕ) → o ≡ Some all → Comes (tail_with o (waiting s) s.left) (tail_with o' (waiting t) t.left) octets → octets ≡ went.gave

@@ -1,4 +1,4 @@
--- Octets that hold the items of a text are not refused, and lack nothing.
+-- Octets that hold the items of a text are not refused, and no item is missing.
 use Rattle.plane_defs.specs.Profile.{profile}
 use Rattle.std.proofs.Common.{◌≡◌, ◌⊎◌, ℕ, ◌+◌, ◌*◌, ◌/◌, ◌<◌, inl, inr, Bool, cond, List, [], ◌∷◌, ◌++◌, length, take, refl, sym, ap, ◌∙◌, subst, arith, ℤ, append_assoc, length-append}
 use Rattle.std.proofs.lemmas.Bool.{cases_lt}
@@ -121,7 +121,7 @@ module _ (head : SegmentHead) (size : ℕ) (fits : IsHead head) (rest : List ℕ
     alike_back : ItemsAlike others is
     alike_back = segment_alike head b.blocks a.blocks b.depths a.depths b.options a.options fits b.items.spellable a.items.spellable b.items.known a.items.known (b.of_book ∙ sym a.of_book)
 
-    -- the octets that are cut go on at least as far
+    -- the octets that are cut reach at least as far
     cut_at : (left : List ℕ) → NothingFollows is a.count a.more → rest ≡ items ++ left → ⊥
     cut_at left follows parts =
         cut_not_refused is others alike alike_back (bits_of_octets rest) a.count b.count a.more (b.more ++ bits_of_octets left) a.items.front
@@ -146,7 +146,7 @@ module _ (head : SegmentHead) (size : ℕ) (fits : IsHead head) (rest : List ℕ
     pub held_not_refused : ⊥
     held_not_refused = by_end a.all
 
-  -- and they lack nothing, whatever follows
+  -- and no item is missing, whatever follows
   module _ (more : List ℕ) (b : LacksItems profile head size (rest ++ more)) where
     abbrev those : List Item
     those = segment_items head b.blocks b.depths b.options

@@ -34,7 +34,7 @@ module _ {X : Type 0} (outside : X → Outside) (wish : DecodeWish) (start : Out
   abbrev now : Outside
   now = outside t.port.now
 
-  -- it ends where no row is given after those of the segments
+  -- it ends, and no row is given after those of the segments
   pub ended_at : (result : Result Geometry BareFault) → GivesRead result read.gave (Some r) → EndsSo result start now → Told start (BareReasons wish now read.took (Some r) result) → DecodesBare wish start now result
   ended_at result gives ends reason = record {
     took = read.took;

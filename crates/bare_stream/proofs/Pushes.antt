@@ -171,7 +171,7 @@ module _ (s : Setting) (bare : IsBare s) (old new : Work) (only : OnlyStrip old 
   row_pushed (Some r) rows stands = some_pushed (record { block_row = r; rows = rows; stands = stands.0 })
   row_pushed None rows stands = none_pushed rows
 
--- ---- a block row that came at the end
+-- ---- a block row that was completed at the end
 
 -- since one is missing, it was completed
 pub it_finished : (o : Option ℕ) (old new : StripWave) → answered_of old < rows_of old / 8 → columns_of new ≡ columns_of old → rows_of new ≡ rows_of old →

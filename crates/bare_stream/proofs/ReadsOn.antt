@@ -20,7 +20,7 @@ still_told None b took all loses told = absurd cc
 still_told (Some before) None took all loses told = absurd loses
 still_told (Some before) (Some now) took all loses told = (now, refl)
 
--- all of them
+-- if n is the number of the texts, the first n are all of them
 pub all_texts : (n : ℕ) (texts : List (List ℕ)) → n ≡ length texts → concat (take n texts) ≡ concat texts
 all_texts n texts e = ap concat (ap (λ m. take m texts) e ∙ take-length texts)
 

@@ -64,7 +64,7 @@ carries before octets head e =
     let start = then_ok (first_refusal (start_tests octets)) (then_read (first_refusal (carry_tests before octets)) (then_read (first_refusal (whole_tests octets)) (head_read (completed before octets)))) head e in
     (then_ok (first_refusal (carry_tests before octets)) (then_read (first_refusal (whole_tests octets)) (head_read (completed before octets))) head start.1).0
 
--- where no part is missing and one is named, the octets are a whole head
+-- if the tests for missing parts pass and the reader names a missing part, the octets are a whole head
 missing_whole : (before : PartsInForce) (octets : List ℕ) (part : ℕ) → 3 ≤ length octets → first_refusal (carry_tests before octets) ≡ None → bare_head_read before octets ≡ Err (MissingPart part) → bare_length octets ≤ length octets
 unfolding bare_head_read
 missing_whole before octets part three carried e = by (nat_lt (length octets) (bare_length octets)) refl

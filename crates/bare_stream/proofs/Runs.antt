@@ -121,7 +121,7 @@ module _ (s : Setting) (is_bare : IsBare s) (column : ℕ) (before : Option Segm
 -- ---- all texts
 
 module _ (s : Setting) (is_bare : IsBare s) (column : ℕ) (before : Option SegmentHead) (p q : Outside) (w : Work) (come : HasCome s column before p q w) (last : w.at.index ≡ segments_of s) where
-  -- all block rows came
+  -- all block rows were completed
   all_answered : block_count s.rows ≤ answered_of w.strip
   all_answered = elim (cases_lt (answered_of w.strip) (block_count s.rows)) [
     | inl lt ↦
@@ -168,7 +168,7 @@ module _ (s : Setting) (is_bare : IsBare s) (column : ℕ) (before : Option Segm
         since = subst (λ g. Exchange p q come.took g [] (GivenBy (texts_for s) come.took)) gave_all come.since;
       }
 
--- ---- the end is asked for
+-- ---- the end of the input is read
 
 most_of : (t n : ℕ) → t ≤ n → min t n ≡ t
 most_of t n le = omega arith

@@ -84,7 +84,7 @@ module _ (total S : ℕ) (some : 16 ≤ S) (any : 9 ≤ total) where
 
   -- ---- a block's segment
 
-  -- with as many blocks as the first segment has
+  -- segments with the number of blocks of the first one
   abbrev first : ℕ
   first = min S total
 

@@ -105,7 +105,7 @@ module _ (g : Geometry) (r : SegmentsRead) (text : List ℕ) (w : List (List ℤ
       given = given_now;
     }
 
-    -- the rows that are given past so many blocks
+    -- the rows that are given once n blocks are passed
     pub rows_now : (numbers : ℕ → ℕ → ℤ) (n : ℕ) → passed_in p + count ≡ n → AreNumbersOf (with_more r text w ended) numbers → gave ++ put.goes.gave ≡ rows_of g numbers (rows_through g (block_rows_before g n))
     rows_now numbers n at are = rows_out q g n numbers (gave ++ put.goes.gave) put.standing (put.geometry ∙ shows.geometry) (put.count ∙ at) (given_now numbers are ∙ ap (λ g. rows_of g numbers q.at.next) (put.geometry ∙ shows.geometry))
 

@@ -16,7 +16,7 @@ use Rattle.bare_text.specs.Reading.{bare_head_read}
 use Rattle.bare_text.specs.Laws.{BareHeadsEndThere}
 use Rattle.bare_stream.specs.BareStream.{IsText, TextThen, TextsFrom, StartsWith, BareStream, BareStreamsEndThere, geometry_at}
 
--- of two lists that begin another one, one begins the other
+-- of two prefixes of a list, one is a prefix of the other
 pub two_fronts : (a b x y : List ℕ) → a ++ x ≡ b ++ y → ((more : List ℕ) × (b ≡ a ++ more)) ⊎ ((more : List ℕ) × (a ≡ b ++ more))
 two_fronts [] b x y e = inl (b, refl)
 two_fronts (p ∷ a) [] x y e = inr (p ∷ a, refl)
@@ -73,7 +73,7 @@ module _ (heads : BareHeadsEndThere) (items : ItemsEndThere) where
         after = first.force ∙ ap (parts_after before) front ∙ sym second.force;
       }
 
-  -- what two streams that octets begin with have alike
+  -- what two streams that the octets begin with have in common
   pub record SameStream (more : List ℕ) (g h : Geometry) (v w : List (List (List ℤ))) : Type 0 where
     pub none : more ≡ []
     pub geometry : g ≡ h

@@ -1,4 +1,4 @@
--- A reader that has read some texts of a bare stream goes on with the next.
+-- A reader that has read some texts of a bare stream continues with the next one.
 use Rattle.std.proofs.Common.{◌≡◌, ◌≤◌, ◌<◌, ◌+◌, ◌-◌, ◌*◌, ◌/◌, ◌%◌, ℕ, ℤ, List, [], ◌∷◌, ◌++◌, length, sym, ap, ◌∙◌, subst, arith, append_assoc}
 use Rattle.std.specs.Prelude.{max, if◌then◌else◌}
 use Rattle.std.specs.Int.{div_ceil}
@@ -50,7 +50,7 @@ module _ (first : SegmentHead) (g : Geometry) where
     pub agrees : AgreesWith first index head
     pub few : pixels_at first index head ≤ g.width * g.rows
 
--- ---- how it goes on
+-- ---- how the reader continues
 
 module _ (heads : BareHeadsEndThere) (items : ItemsEndThere) (first : SegmentHead) (g : Geometry) (broad : 17 ≤ first.image.width) where
   abbrev columns : ℕ
@@ -80,7 +80,7 @@ module _ (heads : BareHeadsEndThere) (items : ItemsEndThere) (first : SegmentHea
 
   -- ---- the next text
 
-  -- rows of an image that has so many blocks at least
+  -- a lower bound of the rows of an image that has more than n blocks
   reached : (n all c rows : ℕ) → 0 < c → n < all → all % c ≡ 0 → 8 * (all / c) ≤ rows + 7 → 17 ≤ rows → max 17 (8 * div_ceil n c - 7) ≤ rows
   reached n all c rows some lt whole tall least =
       let times = (div_ceil_times n c some).1 in

@@ -22,7 +22,7 @@ pub record DoneBare (s : Setting) (x : ℕ → ℕ → ℤ) (done : EncodeDone) 
 pub record IsPrefixOfEach (s : Setting) (taken : List ℕ) (k : ℕ) (gave : List ℕ) : Type 0 where
   pub each : (x : ℕ → ℕ → ℤ) → SameWithin k s.width (image_of s taken) x → (n : ℕ) × (gave ≡ take n (bare s x))
 
--- Why it was answered so: the cases are those of the encoder of packets, with texts in place of packets. They exclude each other by
+-- The reason for each answer: the cases are those of the encoder of packets, with texts in place of packets. They exclude each other by
 -- what was taken, the end and the counts, except for faults of the port.
 abbrev pub BareAnswers : Setting → Outside → Outside → List ℕ → List ℕ → Result EncodeDone EncodeFault → Type 0
 BareAnswers s old new took gave (Ok done) =

@@ -1,4 +1,4 @@
--- Which octets are a bare stream, and what they say. (This project's own.)
+-- Which octets are a bare stream, and what they report. (This project's own.)
 use Rattle.std.specs.Prelude.{◌≡◌, ◌+◌, ℕ, ℤ, true, false, List, [], ◌∷◌, ◌++◌, length, None, Ok}
 use Rattle.base_122.specs.declared.geometry.Geometry.{Geometry}
 use Rattle.bit_pipe.specs.declared.fault.Part.{Part}
@@ -11,7 +11,7 @@ use Rattle.bare_text.specs.InForce.{none_in_force, bare_length, parts_after}
 use Rattle.bare_text.specs.Reading.{bare_head_read}
 use Rattle.bare_text.specs.Agreement.{agreement_tests, height_at}
 
--- the octets are a text with this head, where these parts are in force: the head, and after it exactly the octets that hold these blocks
+-- the octets are a text with this head, if these parts are in force: the head, and after it exactly the octets that hold these blocks
 pub record IsText (before : PartsInForce) (octets : List ℕ) (head : SegmentHead) (blocks : List (List ℤ)) (after : PartsInForce) : Type 0 where
   pub front : List ℕ
   pub rest : List ℕ
@@ -39,8 +39,8 @@ geometry_at first index last = record {
   weights = first.image.weights;
 }
 
--- octets begin with a text whose head agrees with the first one, and with its head, the parts in force after it and the octets after it
--- it goes on so
+-- the octets begin with a text whose head agrees with the first one, and `Continues` holds of its head, the parts in force after it and
+-- the octets after it
 pub record TextThen (first : SegmentHead) (before : PartsInForce) (index : ℕ) (octets : List ℕ) (blocks : List (List ℤ)) (Continues : SegmentHead → PartsInForce → List ℕ → Type 0) : Type 0 where
   pub text : List ℕ
   pub rest : List ℕ

@@ -1,4 +1,4 @@
--- What a call leaves that gives the blocks of a segment to a picture. (This project's own.)
+-- The effect of a call that gives the blocks of a segment to a picture. (This project's own.)
 use Rattle.std.specs.Prelude.{◌≡◌, ◌<◌, ◌+◌, ℕ, ℤ, pos, List, slice_index_or, Result, MatchResult}
 use Rattle.port_122.specs.Outside.{Outside}
 use Rattle.wave_defs.specs.Held.{block_at}
@@ -16,7 +16,7 @@ pub record HasNextBlocks (cells : List ℤ) (n : ℕ) (p : PictureState) (number
 pub record AreParts (cells : List ℤ) (n : ℕ) (weights : List ℕ) : Type 0 where
   pub at : (k : ℕ) → k < n → AreWeighted (block_at cells k) weights
 
--- the next n blocks were passed, and the rows that come with them given
+-- the next n blocks were passed, and the rows that they complete are given
 pub record HasPutBlocks (cells : List ℤ) (n : ℕ) (p q : Outside) (old new : PictureState) : Type 0 where
   pub standing : IsCurrent new
   pub geometry : new.geometry ≡ old.geometry

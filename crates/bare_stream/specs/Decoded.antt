@@ -22,9 +22,9 @@ use Rattle.bare_stream.specs.declared.fault.BareFault.TheVariants.{ReadFault, Wr
 use Rattle.bare_stream.specs.BareStream.{AgreesWith, BareStream}
 use Rattle.bare_stream.specs.SegmentsRead.{SegmentsRead, AreTexts, BeginsSo, IsPrompt, Told, rows_read, pixels_at}
 
--- ---- why a segment is none
+-- ---- why a segment is refused
 
--- the octets begin with a head that is read by itself, and it goes on so with the head, its octets and those after it
+-- the octets begin with a head that is read by itself, and `Continues` holds of the head, its length and the octets after it
 pub record HeadThen (before : PartsInForce) (octets : List ℕ) (Continues : SegmentHead → (size : ℕ) → List ℕ → Type 0) : Type 0 where
   pub front : List ℕ
   pub rest : List ℕ
@@ -58,7 +58,8 @@ abbrev pub ItemRefused : (pixels : ℕ) → (first : Option SegmentHead) → Par
 ItemRefused pixels first before index octets name = HeadThen before octets (λ head size rest.
     MayFollow pixels (unwrap_or first head) index head × ((items more : List ℕ) × (rest ≡ items ++ more) × RefusesItem profile head size items name))
 
--- The segment of this index, whose octets are the first of these, is none, with this cause. If it is the first one, its head is the first head.
+-- The segment of this index, whose octets are the first of these, is refused with this cause. If it is the first one, its head is the
+-- first head.
 abbrev pub Refuses : (pixels : ℕ) → (first : Option SegmentHead) → PartsInForce → (index : ℕ) → List ℕ → (now : Outside) → BareCause → Type 0
 Refuses pixels first before index octets now (Head fault) =
     HeadRefused before octets now fault
@@ -78,8 +79,8 @@ abbrev pub first_of : SegmentHead → (texts : List (List ℕ)) → Option Segme
 first_of first [] = None
 first_of first (t ∷ texts) = Some first
 
--- The octets that were taken are those of the segments that were read, and others; and it is so of the number of these segments, the parts
--- in force after them and the other octets. Without a first head none was read.
+-- The octets that were taken are those of the segments that were read, and others; and `Next` holds of the number of these segments, the
+-- parts in force after them and the other octets. Without a first head none was read.
 abbrev pub ReadThen : (took : List ℕ) → Option SegmentsRead → (Option SegmentHead → (index : ℕ) → PartsInForce → List ℕ → Type 0) → Type 0
 ReadThen took None Next = Next None 0 none_in_force took
 ReadThen took (Some r) Next =
@@ -100,8 +101,8 @@ abbrev pub BeginsWith : (took : List ℕ) → Option SegmentsRead → Type 0
 BeginsWith took None = Unit {0}
 BeginsWith took (Some r) = BeginsBy r.ended took r
 
--- Why it was answered so, if the port reports what is left. The answers exclude each other by what was taken, the end and the counts, except
--- for faults of the port.
+-- The reason for each answer, if the port reports what is left. The answers exclude each other by what was taken, the end and the counts,
+-- except for faults of the port.
 abbrev pub BareReasons : DecodeWish → (now : Outside) → (took : List ℕ) → Option SegmentsRead → Result Geometry BareFault → Type 0
 BareReasons wish now took read (Ok g) = (index : ℕ) × StreamThen took read [] index g × (g.width * g.rows ≤ wish.pixels) × (length took < wish.octets)
 BareReasons wish now took read (Err (Refused index Trailing)) = (octet : ℕ) × (more : List ℕ) × (g : Geometry) × StreamThen took read (octet ∷ more) index g
@@ -117,7 +118,7 @@ abbrev pub rows_of_read : Option SegmentsRead → List ℕ
 rows_of_read None = []
 rows_of_read (Some r) = rows_read r
 
--- What is given: these rows. A prefix of them, if a write failed; and nothing without memory.
+-- What is given: these rows, or a prefix of them if a write failed, or nothing if there is too little memory.
 abbrev pub GivesRead : Result Geometry BareFault → (gave : List ℕ) → Option SegmentsRead → Type 0
 GivesRead (Err WriteFault) gave read = (n : ℕ) × (gave ≡ take n (rows_of_read read))
 GivesRead (Err Memory) gave read = gave ≡ []

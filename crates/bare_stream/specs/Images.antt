@@ -1,4 +1,4 @@
--- What the bare stream of an image says, and what a decoder gives of it. (This project's own.)
+-- What the bare stream of an image reports, and what a decoder gives for it. (This project's own.)
 use Rattle.std.specs.Prelude.{◌≡◌, ◌<◌, ℕ, ℤ, min, List, [], length, map, slice_index_or, Some}
 use Rattle.std.specs.List.{range_with_len}
 use Rattle.base_122.specs.Setting.{geometry_of}
@@ -19,7 +19,7 @@ pub record IsBareImage (s : Setting) (x : ℕ → ℕ → ℤ) : Type 0 where
   pub weights : length s.weights.shifts ≡ 10
   pub pixels : ArePixels s s.rows x
 
--- the geometry of its stream: the image is 0, and each segment but the last has as many blocks as the first
+-- the geometry of its stream: the image is 0, and each segment except the last has the number of blocks of the first
 abbrev pub bare_geometry : Setting → Geometry
 bare_geometry s = record (geometry_of s) { segment = min s.segment (total_blocks s.width s.rows); image = 0 }
 
@@ -32,14 +32,14 @@ abbrev pub IsSegmentText : Setting → List (List ℤ) → (index : ℕ) → Lis
 IsSegmentText s all index blocks =
     IsText (in_force (head_before s all index)) (segment_octets s all index) (head_for s all index) blocks (in_force (Some (head_for s all index)))
 
--- The stream of an image says its geometry and holds these blocks, text by text. If nothing is left out, they are those of the image.
+-- The stream of an image reports its geometry and holds these blocks, text by text. If nothing is missing, they are those of the image.
 pub record SaysImage (s : Setting) (x : ℕ → ℕ → ℤ) (w : List (List (List ℤ))) : Type 0 where
   pub stream : BareStream (bare s x) (bare_geometry s) w
   pub count : length w ≡ segments_of s
   pub texts : (index : ℕ) → index < segments_of s → IsSegmentText s (image_blocks s x) index (slice_index_or w index [])
   pub exact : SendsAll s → w ≡ image_segments s x
 
--- The octets that are written for an image are a bare stream, which says this and nothing else.
+-- The octets that are written for an image are a bare stream, which reports this and nothing else.
 pub record ImagesAreBareStreams : Type 0 where
   pub says : (s : Setting) (x : ℕ → ℕ → ℤ) → IsBareImage s x → (w : List (List (List ℤ))) × SaysImage s x w
   pub only : (s : Setting) (x : ℕ → ℕ → ℤ) (g : Geometry) (w : List (List (List ℤ))) → IsBareImage s x → BareStream (bare s x) g w → (g ≡ bare_geometry s) × SaysImage s x w

@@ -11,7 +11,7 @@ use Rattle.bare_stream.specs.declared.input.PortIn.{PortIn}
 abbrev pub waiting : {X : Type 0} → PortIn X → List ℕ
 waiting s = take (s.end - s.next) (drop s.next s.piece)
 
--- the octets that are still to come, if the port reports what is left: those that wait, and of the others as many as may be taken
+-- the octets that still follow, if the port reports what is left: those that wait, and then at most `left` of the others
 abbrev pub tail_with : Option (List ℕ) → (waiting : List ℕ) → (left : ℕ) → Option Tail
 tail_with None waiting left = None
 tail_with (Some rest) waiting left = Some (record { octets = waiting ++ take left rest; ends = if nat_lt (length rest) left then Plainly else TooLong })
@@ -32,7 +32,7 @@ pub record Went {X : Type 0} (outside : X → Outside) (old new : PortIn X) : Ty
   pub left : length took + new.left ≡ old.left
   pub since : Exchange (outside old.port.now) (outside new.port.now) took [] [] (AsksWithin (length (waiting old)) (length gave))
 
--- why a read of a piece ended so
+-- the reason for each result of a read of a piece
 abbrev pub EndsFill : Result Bool InFault → (old new : Outside) → (left : ℕ) → List ℕ → Type 0
 EndsFill (Ok true) old new left took = 0 < length took
 EndsFill (Ok false) old new left took = (took ≡ []) × AtEnd new × (0 < left)
@@ -40,14 +40,14 @@ EndsFill (Err ReadFault) old new left took = (took ≡ []) × Rose old.read_faul
 EndsFill (Err LongInput) old new left took = (took ≡ []) × (left ≡ 0)
 EndsFill (Err Broken) old new left took = ⊥
 
--- a piece was read where no octet waited
+-- a piece was read while no octet waited
 pub record FillsPiece {X : Type 0} (outside : X → Outside) (result : Result Bool InFault) (old new : PortIn X) : Type 0 where
   pub port : new.port.ghost_name ≡ old.port.ghost_name
   pub left : length (waiting new) + new.left ≡ old.left
   pub since : Exchange (outside old.port.now) (outside new.port.now) (waiting new) [] [] AtStart
   pub ends : EndsFill result (outside old.port.now) (outside new.port.now) old.left (waiting new)
 
--- an octet waits, or none comes
+-- an octet waits, or the reason why none follows
 abbrev pub EndsReady : {X : Type 0} → (X → Outside) → Result Bool InFault → (old new : PortIn X) → Type 0
 EndsReady outside (Ok true) old new = new.next < new.end
 EndsReady outside (Ok false) old new = IsOver (tail_of outside new) Plainly

@@ -1,4 +1,4 @@
--- Octets that are taken from a port go on. These laws are here since the meaning of a source holds them.
+-- Octets that are taken from a port can be continued. These laws are here since the meaning of a source needs them.
 use Rattle.std.proofs.Common.{ℕ, ◌≡◌, ◌+◌, List, [], ◌++◌, length, refl, sym, ap, ◌∙◌, arith, append_assoc, length-append}
 use Rattle.std.proofs.lemmas.List.{append-nil}
 use Rattle.port_122.specs.Outside.{Outside, Exchange}

@@ -1,4 +1,4 @@
--- The round trip: what a decoder gives of a bare stream, and of that of an image. (This project's own.)
+-- The round trip: what a decoder gives for a bare stream, and for that of an image. (This project's own.)
 use Rattle.std.specs.Prelude.{◌≡◌, ◌≤◌, ◌<◌, ◌*◌, ℕ, ℤ, List, length, Some, Result, Ok, Err}
 use Rattle.port_122.specs.Outside.{Outside}
 use Rattle.base_122.specs.declared.geometry.Geometry.{Geometry}
@@ -36,7 +36,7 @@ pub record StreamsAreRead : Type 0 where
 
 -- ---- that of an image
 
--- A decoder found the size of the image; if nothing was left out, it gave the image's raster.
+-- A decoder found the size of the image; if nothing is missing from the stream, it gave the image's raster.
 pub record GivesImage (s : Setting) (x : ℕ → ℕ → ℤ) (gave : List ℕ) (g : Geometry) : Type 0 where
   pub geometry : g ≡ bare_geometry s
   pub same : SendsAll s → gave ≡ raster_octets s.depth s.rows s.width x
@@ -50,7 +50,8 @@ AnswersImage s x gave (Err Memory) = Unit {0}
 AnswersImage s x gave (Err other) = ⊥
 
 -- The picture of an image's segments is the image. So a decoder that took the octets that are written for an image, and nothing else, gives
--- its raster, if nothing was left out; and if an input is these octets, within the caps, it is so unless the port or the memory fails.
+-- its raster, if nothing is missing from them; and if an input is these octets, within the caps, this holds unless the port or the memory
+-- fails.
 pub record BareRoundTrip : Type 0 where
   pub picture : (s : Setting) (x : ℕ → ℕ → ℤ) → IsBareImage s x → all_rows (bare_geometry s) (image_segments s x) ≡ raster_octets s.depth s.rows s.width x
   pub decoded : (wish : DecodeWish) (old new : Outside) (g : Geometry) (left : List ℕ) (s : Setting) (x : ℕ → ℕ → ℤ) (run : DecodesBare wish old new (Ok g)) →

@@ -37,7 +37,7 @@ pub record HasCome (s : Setting) (column : ℕ) (before : Option SegmentHead) (p
   pub used : w.at.used ≡ length gave
   pub since : Exchange p q took gave [] (GivenBy (texts_for s) took)
 
--- what a step leaves that may take a row: a block row came, or none, or the run is over
+-- the effect of a step that may take a row: a block row was completed, or none, or the run is over
 abbrev pub StepsOn : Result Bool EncodeFault → Setting → Option SegmentHead → Outside → Outside → Work → Type 0
 StepsOn (Ok came) s before p q w = HasCome s (column_after s came) before p q w
 StepsOn (Err fault) s before p q w = EncodesBare s p q (Err fault)

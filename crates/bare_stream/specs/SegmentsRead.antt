@@ -16,7 +16,7 @@ use Rattle.bare_stream.specs.BareStream.{IsText, AgreesWith, StartsWith, geometr
 abbrev pub open_geometry : (first : SegmentHead) → Geometry
 open_geometry first = record (geometry_at first 0 first) { rows = 0 }
 
--- the geometry by which a picture with this first head is made: its segments don't count there, and have the least number of blocks
+-- the geometry by which a picture with this first head is made: its segment size has no effect there, and is the least number of blocks
 abbrev pub shape_with : (first : SegmentHead) → (rows : ℕ) → Geometry
 shape_with first rows = record (geometry_at first 0 first) { rows = rows; segment = 16 }
 
@@ -24,7 +24,7 @@ shape_with first rows = record (geometry_at first 0 first) { rows = rows; segmen
 abbrev pub segments_in : List (List (List ℤ)) → ℕ → Option (List (List ℤ))
 segments_in blocks index = slice_get blocks index
 
--- the whole block rows of this number of segments, each of as many blocks as the first
+-- the whole block rows of this number of segments, each with the number of blocks of the first
 abbrev pub block_rows_in : (first : SegmentHead) → (segments : ℕ) → ℕ
 block_rows_in first segments = block_rows_before (open_geometry first) (first_block first.blocks segments)
 
@@ -61,8 +61,8 @@ rows_after r k = if nat_lt k (length r.blocks) then open_rows r.first (take k r.
 abbrev pub octets_before : SegmentsRead → (k : ℕ) → ℕ
 octets_before r k = length (concat (take k r.texts))
 
--- A read call with i octets taken and j given, where segments were read: the octets of the first k of them are taken, but not more than
--- those of the next, and exactly the rows are given that these k determine.
+-- A read call with i octets taken and j given, if these segments were read: the octets of the first k of them are taken, and at most those
+-- of the next one too, and exactly the rows are given that these k determine.
 pub record IsPrompt (r : SegmentsRead) (gave : List ℕ) (i j : ℕ) : Type 0 where
   pub k : ℕ
   pub most : k ≤ length r.texts
@@ -70,7 +70,7 @@ pub record IsPrompt (r : SegmentsRead) (gave : List ℕ) (i j : ℕ) : Type 0 wh
   pub next : k < length r.texts → i ≤ octets_before r (k + 1)
   pub given : take j gave ≡ rows_after r k
 
--- ---- what they are
+-- ---- the texts
 
 -- the octets are the text of the segment of this index with these blocks, and its head agrees with the first one
 pub record AgreeingText (first : SegmentHead) (before : PartsInForce) (index : ℕ) (octets : List ℕ) (blocks : List (List ℤ)) (Continues : SegmentHead → PartsInForce → Type 0) : Type 0 where
@@ -80,7 +80,8 @@ pub record AgreeingText (first : SegmentHead) (before : PartsInForce) (index : �
   pub agrees : AgreesWith first index head
   pub goes_on : Continues head after
 
--- the octets of segments from this index on, none of which is the last, and their blocks; and what is so of the parts in force after them
+-- the octets of segments from this index on, none of which is the last, and their blocks; and `Continues` holds of the parts in force after
+-- them
 abbrev pub AreTexts : (first : SegmentHead) → PartsInForce → (index : ℕ) → List (List ℕ) → List (List (List ℤ)) → (PartsInForce → Type 0) → Type 0
 AreTexts first before index [] [] Continues = Continues before
 AreTexts first before index [] (b ∷ blocks) Continues = ⊥
@@ -93,7 +94,7 @@ abbrev pub BeginsSo : (first : SegmentHead) → List (List ℕ) → Type 0
 BeginsSo first [] = Unit {0}
 BeginsSo first (t ∷ texts) = StartsWith first t
 
--- it is so if the port reports what is left
+-- this holds if the port reports what is left
 abbrev pub Told : Outside → Type 0 → Type 0
 Told start P = (all : List ℕ) → start.rest ≡ Some all → P
 

@@ -1,4 +1,4 @@
--- What octets of a text do that go to a port in pieces. (This project's own.)
+-- The effect of octets of a text that are written to a port in pieces. (This project's own.)
 use Rattle.std.specs.Prelude.{◌≡◌, ◌≤◌, ◌+◌, ◌^◌, ℕ, List, [], ◌++◌, length, take, Result, MatchResult}
 use Rattle.port_122.specs.Outside.{Outside, Exchange, NoRead, Rose}
 use Rattle.bare_stream.specs.declared.sink.TextSink.{TextSink}

@@ -1,4 +1,4 @@
--- What the steps of the encoder leave. (This project's own.)
+-- The effect of the steps of the encoder. (This project's own.)
 use Rattle.std.specs.Prelude.{◌≡◌, ◌≤◌, ◌+◌, ◌*◌, ◌^◌, ℕ, ℤ, List, [], length, take, Bool, false, if◌then◌else◌, Result, MatchResult, Option}
 use Rattle.port_122.specs.Outside.{Outside, Exchange, NoRead, Rose}
 use Rattle.base_122.specs.Sizes.{block_count}
@@ -19,7 +19,7 @@ pub record SamePlace (old new : Work) : Type 0 where
   pub index : new.at.index ≡ old.at.index
   pub used : new.at.used ≡ old.at.used
 
--- the column that is next after a step that brought a block row, or none
+-- the next column after a step that completed a block row, or none
 abbrev pub column_after : Setting → (came : Bool) → ℕ
 column_after s came = if came then 0 else block_count s.width
 
@@ -31,7 +31,7 @@ pub record HasPushed (s : Setting) (came : Bool) (old new : Work) : Type 0 where
   pub rows : new.at.rows ≡ old.at.rows + 1
   pub follows : (x : ℕ → ℕ → ℤ) → FollowsTo s x (block_count s.width) old → NextRowIs (plan s) x old → FollowsTo s x (column_after s came) new
 
--- the next block row of those that come at the end is in the strip
+-- the next block row of those that are completed at the end is in the strip
 pub record HasFinished (s : Setting) (old new : Work) : Type 0 where
   pub at : IsAt s 0 new
   pub same : SamePlace old new
@@ -56,14 +56,14 @@ pub record StartsAt (s : Setting) (w : Work) : Type 0 where
   pub used : w.at.used ≡ 0
   pub follows : (x : ℕ → ℕ → ℤ) → FollowsTo s x (block_count s.width) w
 
--- a step that may take a row of the raster; without a block row it put a row into the strip
+-- a step that may take a row of the raster; if it completed no block row, it put a row into the strip
 pub record HasStepped (s : Setting) (came : Bool) (old new : Work) : Type 0 where
   pub at : IsAt s (column_after s came) new
   pub same : SamePlace old new
   pub filled : new.at.filled ≡ old.at.filled
   pub rows : came ≡ false → new.at.rows ≡ old.at.rows + 1
 
--- a block row came, or some blocks were gathered, without a text
+-- a block row was completed, or some blocks were gathered, and no text was written
 pub record HasBrought (s : Setting) (column count : ℕ) (old new : Work) : Type 0 where
   pub at : IsAt s column new
   pub same : SamePlace old new
@@ -78,7 +78,7 @@ present_blocks w = blocks_in (take (64 * w.at.filled) w.blocks.items)
 abbrev pub head_now : Setting → (index : ℕ) → List (List ℤ) → SegmentHead
 head_now s index segment = head_with s index s.limit (length segment) (depth_dc_of segment) (depth_ac_of segment)
 
--- this text is written, and has so many octets
+-- this text is written, and has this number of octets
 pub record TextOut (p q : Outside) (text : List ℕ) (octets : ℕ) : Type 0 where
   pub out : Exchange p q [] text [] NoRead
   pub count : octets ≡ length text

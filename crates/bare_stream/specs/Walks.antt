@@ -1,4 +1,4 @@
--- What the steps of a decoder leave that go from segment to segment of a bare stream. (This project's own.)
+-- The effect of the steps of a decoder that advance from segment to segment of a bare stream. (This project's own.)
 use Rattle.std.specs.Prelude.{◌≡◌, ◌≤◌, ◌<◌, ◌+◌, ◌*◌, ℕ, List, [], ◌++◌, length, take, vec_len, Some, Ok}
 use Rattle.std.specs.List.{concat}
 use Rattle.port_122.specs.Outside.{Outside, Exchange}
@@ -39,7 +39,7 @@ pub record IsNext (w : Walk) (read : BareHead) : Type 0 where
 
 -- ---- which segments
 
--- a walk has come past these segments, and this part of the next one was given
+-- a walk has passed these segments, and this part of the next one was given
 pub record IsAt {X : Type 0} (outside : X → Outside) (wish : DecodeWish) (start : Outside) (r : SegmentsRead) (part : List ℕ) (input : PortIn X) (w : Walk) : Type 0 where
   pub read : HasRead outside wish.octets start r part input
   pub first : r.first ≡ w.first

@@ -1,4 +1,4 @@
-// The blocks of a segment, to a picture.
+// Puts the blocks of a segment into a picture.
 ghost use Rattle.std.specs.Prelude.{◌≤◌, ◌+◌, ◌*◌, length};
 ghost use Rattle.picture_rows.specs.Pictures.{picture_state, passed_in, total_in, IsCurrent};
 ghost use Rattle.bare_stream.specs.Blocks.{AreParts, PutsBlocks};
@@ -6,7 +6,7 @@ ghost use Rattle.bare_stream.specs.Blocks.{AreParts, PutsBlocks};
 use picture_rows::{Picture, put_block};
 use port_122::{Failed, Port};
 
-/// The next blocks of a picture have these numbers, 64 each.
+/// Puts `count` blocks of these numbers, 64 each, into a picture as its next blocks.
 pub fn put_blocks<X: Port>(
     port: &mut X,
     picture: &mut Picture,

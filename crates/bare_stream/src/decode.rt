@@ -14,13 +14,13 @@ use std::alloc::Global;
 
 /// Takes a bare stream and gives the picture of its segments, each row as soon as the segments so far determine it (docs/formats.md,
 /// "Bare texts" and "Picture and damage"). It reads to the end, at most the octets that are wished, and no more once a segment is refused
-/// or a head reports too many pixels. Returns the geometry of the image, in which `image` is 0. It takes memory after the first head
-/// alone. Of the wish, `apid` isn't used.
+/// or a head reports too many pixels. Returns the geometry of the image, in which `image` is 0. It takes memory only after the first head.
+/// The field `apid` of the wish isn't used.
 ///
 /// # Errors
 ///
-/// - `Refused`: the first segment that is none, and why. The rows are given that the segments before it determine; of `Trailing` these
-///   are all rows.
+/// - `Refused`: the index of the first segment that is refused, and the cause. The rows are given that the segments before it determine;
+///   if the cause is `Trailing`, these are all rows.
 /// - `ReadFault`, `LongInput`, `TooManyPixels`: the rows are given that the segments before it determine. `ReadFault` occurs only if the
 ///   port's count rose.
 /// - `WriteFault`: a prefix of the rows is given that the segments so far determine. The port's count rose.
@@ -36,7 +36,7 @@ pub fn decode_bare<X: Port>(
     decode_input(alloc, &mut input, wish)
 }
 
-// Takes a bare stream from an input that gave nothing yet.
+// Takes a bare stream from an input that has given no octet yet.
 fn decode_input<X: Port>(
     alloc: Global,
     input: &mut PortIn<X>,

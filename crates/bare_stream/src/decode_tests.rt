@@ -1,4 +1,4 @@
-// Bare streams of black images, decoded.
+// Tests of bare streams of black images that are decoded.
 use crate::decode::decode_bare;
 use crate::fault::{BareCause, BareFault};
 use base_122::{DecodeWish, Geometry, Setting};

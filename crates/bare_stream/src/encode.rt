@@ -1,4 +1,4 @@
-// The bare stream of a raster.
+// Encodes a raster as a bare stream.
 ghost use Rattle.std.specs.Prelude.{◌≡◌, ◌≢◌, MatchResult};
 ghost use Rattle.base_122.specs.Ranges.{IsInRange};
 ghost use Rattle.strip_coder.specs.Works.{IsMadeFor};
@@ -17,13 +17,13 @@ use strip_coder::{EncodeDone, EncodeFault, ImageAt, Work};
 
 /// Takes an image's raster and writes its bare stream, each text as soon as the rows so far settle its segment (docs/formats.md, "Raster
 /// and made image" and "Bare texts"). It reads a row only after all texts that the whole rows before settle are written, and reads the end
-/// of the input after all texts are written. It takes no memory; the work was made for an equal setting, and serves again after any return.
-/// In the result `packets` is 0.
+/// of the input after all texts are written. It takes no memory. The work was made for an equal setting, and can be used again after any
+/// return. In the result, `packets` is 0.
 ///
 /// # Errors
 ///
-/// - `Short`: the input ended before the last row of the setting was whole; `Long`: it has more than the raster. The texts of the
-///   settled segments are written, which after the last row are all.
+/// - `Short`: the input ended before the last row of the setting was whole; `Long`: it has more octets than the raster. The texts of the
+///   settled segments are written; after the last row these are all texts.
 /// - `BadPixel`: the first pixel out of range; its row is the number of rows before it. The texts of the segments that these settle are
 ///   written.
 /// - `ReadFault`, `WriteFault`: the port's count rose. After the first the texts of the settled segments are written, after the second a

@@ -33,13 +33,13 @@ pub enum BareFault {
     /// The input has more octets than are read.
     #[error("input too long")]
     LongInput,
-    /// There is no memory for a segment's blocks, or for a strip of the picture.
+    /// There is too little memory for a segment's blocks, or for a strip of the picture.
     #[error("out of memory")]
     Memory,
     /// A head reports an image of more pixels than are wished, or of at least this number while its height isn't known.
     #[error("too many pixels: {pixels}")]
     TooManyPixels { pixels: u64 },
-    /// The segment of this index is the first that is none.
+    /// The segment of this index is the first that is refused.
     #[error("segment {index} refused")]
     Refused { index: u32, cause: BareCause },
 }

@@ -14,7 +14,7 @@ const PIECE: usize = 1024;
 #[derive(Drop)]
 pub struct PortIn<'a, X> {
     pub(crate) port: &'a mut X,
-    // the number of octets that the port may still give
+    // The number of octets that may still be taken from the port.
     pub(crate) left: u64,
     piece: [u8; PIECE],
     next: usize,

@@ -1,4 +1,4 @@
-//! The encoder and the decoder of bare streams: the texts of an image's segments, one after another without packets (docs/formats.md,
+//! This crate encodes and decodes bare streams: the texts of an image's segments, one after another without packets (docs/formats.md,
 //! "Bare texts").
 #![tactic(auto)]
 
@@ -45,7 +45,7 @@ pub const fn last_row_settles_texts()
 {}
 
 /// The octets that are written for an image are a bare stream: it reports the image's size, and holds the image's blocks if nothing is
-/// left out.
+/// missing from the stream.
 pub const fn images_are_bare_streams()
     ensures { ImagesAreBareStreams }
 {
@@ -63,7 +63,7 @@ pub const fn bare_streams_are_read()
     bare_streams_end_there();
 }
 
-/// The bare stream of an image gives the image back: a decoder that takes it gives the raster, if nothing is left out.
+/// The bare stream of an image gives the image back: a decoder that takes it gives the raster, if nothing is missing from the stream.
 pub const fn bare_round_trip()
     ensures { BareRoundTrip }
 {

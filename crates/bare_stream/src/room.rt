@@ -1,4 +1,4 @@
-// The memory for the blocks of one segment, and the items of its text.
+// Takes the memory for the blocks of one segment, and reads the items of its text.
 ghost use Rattle.std.specs.Prelude.{◌≡◌, ◌≤◌, ◌*◌, take, length};
 ghost use Rattle.plane_defs.specs.Profile.{profile};
 ghost use Rattle.segment_defs.specs.Head.{IsHead};

@@ -57,7 +57,7 @@ fn write_segment<X: Port>(
     Ok((head, octets))
 }
 
-// Writes the text of a segment of which the blocks are the first ones.
+// Writes the text of a segment whose blocks are the first ones.
 fn write_front<X: Port>(
     port: &mut X,
     setting: &Setting,

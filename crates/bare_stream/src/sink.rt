@@ -18,7 +18,7 @@ pub struct TextSink<'a, X> {
 }
 
 impl<'a, X: Port> TextSink<'a, X> {
-    /// Returns the sink of a port, which was given nothing yet.
+    /// Returns the sink of a port, to which no octet was given yet.
     pub fn new(port: &'a mut X) -> TextSink<'a, X>
         ensures same { result.port.ghost_name ≡ port.entry.ghost_name }
         ensures port { result.port.now ≡ port.old }
@@ -32,7 +32,7 @@ impl<'a, X: Port> TextSink<'a, X> {
         }
     }
 
-    /// Writes the octets that wait. After `Failed` a prefix of them is written.
+    /// Writes the octets that wait. After `Failed`, a prefix of them is written.
     pub fn flush(&mut self) -> Result<(), Failed>
         ensures { Flushes X.outside result self.old self.new }
     {

@@ -1,4 +1,4 @@
-// The blocks of an image, segment by segment, from the rows of its raster.
+// Takes the blocks of an image, segment by segment, from the rows of its raster.
 ghost use Rattle.std.specs.Prelude.{◌≡◌, ◌<◌, MatchResult, Option};
 ghost use Rattle.port_122.specs.Outside.{Outside};
 ghost use Rattle.base_122.specs.Sizes.{block_count, padded_size};
@@ -18,7 +18,7 @@ use port_122::Port;
 use raster_rows::{pad_row, read_row};
 use strip_coder::{EncodeFault, Work, gather_block, row_fault};
 
-// Puts the row into the strip, and returns whether a block row came with it.
+// Puts the row into the strip, and returns whether the row completed a block row.
 fn push(setting: &Setting, work: &mut Work) -> bool
     requires bare { IsBare setting.now }
     requires at { IsAt setting.now (block_count setting.now.width) work.old }
@@ -32,7 +32,7 @@ fn push(setting: &Setting, work: &mut Work) -> bool
     came.is_some()
 }
 
-// Brings the next block row of those that come at the end.
+// Brings the next block row of those that are completed at the end.
 fn finish(setting: &Setting, work: &mut Work)
     requires bare { IsBare setting.now }
     requires at { IsAt setting.now (block_count setting.now.width) work.old }
@@ -44,7 +44,7 @@ fn finish(setting: &Setting, work: &mut Work)
     let _ = work.strip.finish_row();
 }
 
-// Takes the next row of the raster, and returns whether a block row came with it.
+// Takes the next row of the raster, and returns whether the row completed a block row.
 fn take_row<X: Port>(port: &mut X, setting: &Setting, work: &mut Work) -> Result<bool, EncodeFault>
     requires bare { IsBare setting.now }
     requires at { IsAt setting.now (block_count setting.now.width) work.old }
@@ -63,7 +63,7 @@ fn take_row<X: Port>(port: &mut X, setting: &Setting, work: &mut Work) -> Result
     Ok(push(setting, work))
 }
 
-// Puts the next row of the padded image into the strip, or ends it after the last; returns whether a block row came.
+// Puts the next row of the padded image into the strip, or ends the strip after the last; returns whether a block row was completed.
 fn next_row<X: Port>(port: &mut X, setting: &Setting, work: &mut Work) -> Result<bool, EncodeFault>
     requires bare { IsBare setting.now }
     requires at { IsAt setting.now (block_count setting.now.width) work.old }
@@ -145,8 +145,8 @@ fn put_next(setting: &Setting, work: &mut Work, column: u32)
     work.at.filled += 1;
 }
 
-/// Takes rows until the present segment is full, and returns the next column of the block row that is in the strip. `column` is that
-/// column before: those from it on were not gathered yet.
+/// Takes rows until the present segment is full, and returns the next column of the block row that is in the strip. `column` is the
+/// next column before the call: the blocks from it on were not gathered yet.
 pub fn fill_segment<X: Port>(
     port: &mut X,
     setting: &Setting,

@@ -1,4 +1,4 @@
-// Black images as bare streams, calculated by hand.
+// Tests of black images as bare streams, which were calculated by hand.
 ghost use Rattle.std.specs.Prelude.{◌≡◌, ◌≢◌};
 ghost use Rattle.base_122.specs.Ranges.{IsInRange};
 
@@ -84,7 +84,7 @@ fn parts_in_force_are_absent(rt: HostRuntime) -> Result<(), Fail> {
     };
     let port = black_port(&rt, &eight_segments(), 8192, &[], Ok(done))?;
     assert_eq!(rt; port.given(), STREAM.as_slice());
-    // Block row 1 is settled by row 37, and each other block row after it by 8 rows more; before the last read all is given.
+    // Row 37 settles block row 1, and each further block row is settled by 8 more rows; before the last read all texts are given.
     let asked = port.asked();
     assert!(rt; asked.contains(&(64 * 36, 0)));
     assert!(rt; asked.contains(&(64 * 37, 21)));

@@ -12,7 +12,7 @@ use port_122::{Failed, Port};
 use segment_head::SegmentHead;
 
 /// Writes the text of a segment as it is in a bare stream to a port, and returns its length in octets (docs/formats.md, "Bare texts").
-/// Heads, blocks and `marks` are as for `encode_bare_text`. After `Failed` a prefix of the text is written.
+/// Heads, blocks and `marks` are as for `encode_bare_text`. After `Failed`, a prefix of the text is written.
 pub fn write_text<X: Port>(
     port: &mut X,
     before: Option<SegmentHead>,

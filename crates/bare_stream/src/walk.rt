@@ -27,8 +27,8 @@ use port_122::Port;
 use segment_head::SegmentHead;
 use std::alloc::{AllocError, Global};
 
-/// How far a bare stream was read: the first head, the parts in force, and the number of segments that were read; the most pixels of its
-/// image, and its picture.
+/// The progress of the reading of a bare stream: the first head, the parts in force, the number of segments that were read, the most pixels
+/// that its image may have, and its picture.
 #[derive(Drop)]
 pub struct Walk {
     pub first: SegmentHead,
@@ -40,7 +40,7 @@ pub struct Walk {
 }
 
 impl Walk {
-    /// Takes the memory for a stream with this first head, which agrees with itself. The one error is want of memory.
+    /// Takes the memory for a stream with this first head, which agrees with itself. The only error is a lack of memory.
     pub fn new(
         alloc: Global,
         first: &SegmentHead,
@@ -78,7 +78,7 @@ impl Walk {
     }
 }
 
-// The geometry of an image with this first head and this number of rows.
+// Returns the geometry of an image with this first head and this number of rows.
 fn geometry_with(first: &SegmentHead, rows: u32) -> Geometry
     ensures { result ≡ record (geometry_at first.now 0 first.now) { rows = rows } }
 {

@@ -93,7 +93,7 @@ pub(crate) fn put_text(
     .unwrap_or(0)
 }
 
-// The answers to a text. `ManyBlocks` is for more blocks than there is room for, `Other` for an answer that is not possible.
+// The results for a text. `ManyBlocks` is for more blocks than there is room for, `Other` for a result that is not possible.
 #[derive(Clone, Copy, PartialEq)]
 pub(crate) enum Answer {
     Whole,

@@ -13,7 +13,7 @@ use std::io;
 // A number of octets that is greater than that of a text of four blocks.
 const ROOM: usize = 2048;
 
-// The answers' names, in their order.
+// The names of the results, in their order.
 const ANSWERS: [&str; 11] = [
     "Whole",
     "Ended",

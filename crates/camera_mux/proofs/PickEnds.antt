@@ -30,7 +30,7 @@ use Rattle.camera_mux.specs.PickSteps.{framing_in, FailsToGive, EndsPick, StopsP
 use Rattle.camera_mux.specs.PickAnswers.{Picks}
 use Rattle.camera_mux.proofs.PickRuns.{picked_both, picked_more, gave_on, filled, past_one}
 
--- ---- what is read where there is no next packet
+-- ---- what is read if there is no next packet
 
 pub over_so : (apid : ℕ) (u : Intake) (read : PacketRead) → begins_packet u.pending ≡ false → verdict apid u ≡ Some (Ok read) → verdict apid u ≡ Some (Ok (end_read (framing_in read)))
 over_so apid u (Mine head tells) none e = absurd (false≢true (sym none ∙ (mine_read apid u head tells e).whole))

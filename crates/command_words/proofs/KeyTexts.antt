@@ -1,4 +1,4 @@
--- A word has at most one key, and one text after it.
+-- An argument has at most one key, and one text after it.
 use Rattle.std.proofs.Common.{◌≡◌, ◌≢◌, ◌<◌, ℕ, zero, suc, List, [], ◌∷◌, ◌++◌, length, get_or, refl, sym, ◌∙◌, ap, append_assoc, arith, true, false, lit<}
 use Rattle.std.specs.Prelude.{codes, Bool, not, cond, find, Option, Some, None, is_some, ◌==◌, MatchOption}
 use Rattle.std.specs.Borrow.{Bor}
@@ -46,7 +46,7 @@ found_passes p (other ∷ keys) key e = passes_here p key other (find p keys) (p
 pub text_of_named : (text : List ℕ) (key : Key) → key_named text ≡ Some key → key_text key ≡ text
 text_of_named text key e = (bytes_eq-Decides (key_text key) text).0 (found_passes (λ own. bytes_eq (key_text own) text) ALL key e)
 
--- the parts before and after the first equals sign of a word with a key
+-- the parts before and after the first equals sign of an argument with a key
 pub keyed_parts : (word text : List ℕ) (key : Key) (r : Option (Bor (List ℕ) × Bor (List ℕ))) → IsSplitOnceResult 61 word r → IsKeyed word key text →
     MatchOption r ⊥ (λ x. (x.0.now ≡ key_text key) × (x.1.now ≡ text))
 keyed_parts word text key r split keyed =
@@ -56,7 +56,7 @@ pub keyed_from_parts : (word before text : List ℕ) (key : Key) → word ≡ be
 keyed_from_parts word before text key e named =
     e ∙ ap (λ front. front ++ (61 ∷ text)) (sym (text_of_named before key named)) ∙ sym (append_assoc (key_text key) (codes "=") text)
 
--- two readings of one word have the same key and the same text
+-- two readings of one argument have the same key and the same text
 pub keyed_one : (word text text' : List ℕ) (key key' : Key) → IsKeyed word key text → IsKeyed word key' text' → (key ≡ key') × (text ≡ text')
 keyed_one word text text' key key' is is' =
     let parts = split_one 61 (key_text key) (key_text key') text text' (plain_at (key_text key) (plain_key key)) (plain_at (key_text key') (plain_key key'))

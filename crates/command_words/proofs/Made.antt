@@ -104,7 +104,7 @@ all_in_range task finds e =
 cameras_in_range : (finds : Finds) (apid cameras : ℕ) → cameras_test apid cameras ≡ true → (1 ≤ cameras) × (cameras ≤ 16) × (apid + cameras ≤ 2047)
 cameras_in_range finds apid cameras test = grind (arith, nat_tests, test)
 
--- a number that the words have is in range, since the key's value is
+-- a number that the arguments have is in range, since the key's value is
 given_in_range : (finds : Finds) (key : Key) (range : FieldRange) → IsWithin range (number_at finds key) → IfSome (given_number finds key) (IsWithin range)
 given_in_range finds key range within = by (finds key) refl
   where

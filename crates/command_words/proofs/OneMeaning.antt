@@ -1,4 +1,4 @@
--- Words have at most one meaning.
+-- Arguments have at most one meaning.
 use Rattle.std.proofs.Common.{◌≡◌, ◌<◌, ◌≤◌, ◌+◌, ◌^◌, ℕ, List, [], ◌∷◌, ◌++◌, map, decimal, get_or, refl, sym, ◌∙◌, ap, subst, inl, inr, arith, append_assoc, true, false}
 use Rattle.std.specs.Prelude.{codes, Some, None, Result, Ok, Err}
 use Rattle.std.proofs.lemmas.Fmt.{decimal_injective, decimal_nonempty}

@@ -1,4 +1,4 @@
--- The words have no other keys than those of the command.
+-- The arguments have no other keys than those of the command.
 use Rattle.std.proofs.Common.{◌≡◌, ◌+◌, ℕ, List, [], ◌∷◌, refl, sym, ◌∙◌, ap, subst, T, inl, inr, true, false}
 use Rattle.std.specs.Prelude.{◌==◌, Bool, cond, if◌then◌else◌, find, map, Option, Some, None, Result, Ok, Err}
 use Rattle.std.specs.List.{list_any}
@@ -53,7 +53,7 @@ named_none : (text : List ℕ) (task : Task) (keys : List Key) → command_named
 unfolding RowsHaveNone HasNoTotal
 named_none text task keys e = found_none text (map (λ row. (row.0.now, row.1, row.2.now)) COMMANDS) task keys (tt, (tt, (tt, (tt, (tt, (tt, (tt, (tt, (tt, (refl, (tt, (tt, (tt, tt))))))))))))) e
 
--- the words of `bare-encode` have no total
+-- the arguments of `bare-encode` have no total
 pub lacks_total : (text : List ℕ) (task : Task) (keys : List Key) (words : List (List ℕ)) (found : Finds) → command_named text ≡ Some (task, keys) → EntriesSay keys nothing 1 words (Ok found) →
     LacksTotal task found
 unfolding HasNoTotal

@@ -1,4 +1,4 @@
--- A fault's place is that of a word.
+-- A fault's place is that of an argument.
 use Rattle.std.proofs.Common.{◌≡◌, ◌<◌, ◌+◌, ℕ, List, [], ◌∷◌, length, sym, subst, inl, inr, arith}
 use Rattle.std.specs.Prelude.{Result, Ok, Err, Option, Some, None, IfErr, String, string_bytes}
 use Rattle.std.specs.declared.alloc.Global.{Global}

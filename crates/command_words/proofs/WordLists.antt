@@ -1,4 +1,4 @@
--- The words, one by one.
+-- The arguments, one by one.
 use Rattle.std.proofs.Common.{◌≡◌, ◌≤◌, ◌-◌, ◌+◌, ℕ, List, [], ◌∷◌, length, sym, ◌∙◌, ap, arith, take, drop, get_or, refl, inl, inr}
 use Rattle.std.specs.Prelude.{String, string_bytes, Result, Err}
 use Rattle.std.specs.declared.alloc.Global.{Global}
@@ -10,7 +10,7 @@ use Rattle.command_words.specs.declared.command.WordFault.{WordFault}
 use Rattle.command_words.specs.Words.{texts}
 use Rattle.command_words.specs.Entries.{IsEntry, WordSays, EntriesSay, with_entry}
 
--- the first word and those after it
+-- the first argument and those after it
 pub first_word : (words : List (String Global)) (word : String Global) → 1 ≤ length words → word ≡ get_or words 0 word →
     texts words ≡ string_bytes word ∷ texts (take (length words - 1) (drop 1 words))
 first_word [] word some is = absurd (omega arith)

@@ -1,4 +1,4 @@
--- The words after the command, one by one. This project's own.
+-- The arguments after the command, one by one. This project's own.
 use Rattle.std.specs.Prelude.{◌≡◌, ◌⊎◌, ◌+◌, ◌==◌, ℕ, List, [], ◌∷◌, ◌++◌, codes, true, if◌then◌else◌, Some, None, Result, Ok, Err}
 use Rattle.command_words.specs.declared.tables.Key.{Key}
 use Rattle.command_words.specs.declared.entries.Entry.{Entry}
@@ -15,18 +15,18 @@ nothing key = None
 abbrev pub with_entry : Finds → Entry → Finds
 with_entry finds entry key = if key_place entry.key == key_place key then Some entry.value else finds key
 
--- a word of this key and this text: the key, an equals sign and the text
+-- an argument of this key and this text: the key, an equals sign and the text
 abbrev pub IsKeyed : List ℕ → Key → List ℕ → Type 0
 IsKeyed word key text = word ≡ key_text key ++ codes "=" ++ text
 
--- A word gives one of the command's keys, which wasn't there before, its value.
+-- An argument gives one of the command's keys, which wasn't there before, its value.
 pub record IsEntry (keys : List Key) (finds : Finds) (word : List ℕ) (entry : Entry) : Type 0 where
   pub keyed : IsKeyed word entry.key (value_text entry.value)
   pub known : contains_key keys entry.key ≡ true
   pub fresh : finds entry.key ≡ None
   pub form : HasForm (form_of (row_of entry.key).default) entry.value
 
--- the meaning of the word at a place after those before it: an entry, or none
+-- the meaning of the argument at a place after those before it: an entry, or none
 abbrev pub WordSays : List Key → Finds → ℕ → List ℕ → Result Entry WordFault → Type 0
 WordSays keys finds place word (Ok entry) = IsEntry keys finds word entry
 WordSays keys finds place word (Err (BadWord faulty)) = (faulty ≡ place) × ((entry : Entry) → IsEntry keys finds word entry → ⊥)
@@ -34,7 +34,7 @@ WordSays keys finds place word (Err MissingCommand) = ⊥
 WordSays keys finds place word (Err (MissingKey field)) = ⊥
 WordSays keys finds place word (Err (OutOfRange field)) = ⊥
 
--- the meaning of the words from a place on: the fault of the first that has one, or what was found at all keys
+-- the meaning of the arguments from a place on: the fault of the first that has one, or what was found at all keys
 abbrev pub EntriesSay : List Key → Finds → ℕ → List (List ℕ) → Result Finds WordFault → Type 0
 EntriesSay keys finds place [] said = said ≡ Ok finds
 EntriesSay keys finds place (word ∷ words) said =

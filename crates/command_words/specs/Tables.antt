@@ -112,7 +112,7 @@ made_image_of finds = record {
   seed = number_at finds Seed;
 }
 
--- the number at a key, if the words have it
+-- the number at a key, if the arguments have it
 abbrev pub given_number : Finds → Key → Option ℕ
 given_number finds key = option_map number_of (finds key)
 

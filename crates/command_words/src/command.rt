@@ -2,7 +2,7 @@ use crate::tables::Reading;
 use base_122::{DecodeWish, Field, Setting};
 use raster_rows::MadeImage;
 
-/// What the words ask for.
+/// The command that the arguments ask for.
 #[derive(Clone, Copy, Debug, PartialEq, Eq)]
 pub enum Command {
     /// `encode`: it takes a raster and gives its packets.
@@ -18,16 +18,16 @@ pub enum Command {
     /// `pick`: it takes packets and gives those of one APID; if there is the number of an image, those of that image alone. The wish has no
     /// cap on pixels.
     Pick(DecodeWish, Option<u16>),
-    /// A raster in, its bare stream out. The height is known before, and there is no total.
+    /// `bare-encode`: it takes a raster and gives its bare stream. The height is known before, and there is no total.
     BareEncode(Setting),
-    /// A bare stream in, its picture out. The wish has no APID of its own.
+    /// `bare-decode`: it takes a bare stream and gives its picture. The wish has no APID of its own.
     BareDecode(DecodeWish),
     Make(MadeImage),
     /// `trial`: it has a setting, and the seed of the made image.
     Trial(Setting, u32),
 }
 
-/// The first thing that is wrong with the words (docs/DECISIONS.md, "Words"). A place counts from 0, the command's.
+/// The first thing that is wrong with the arguments (docs/DECISIONS.md, "Words"). A place counts from 0, the command's.
 #[derive(Clone, Copy, Debug, PartialEq, Eq)]
 pub enum WordFault {
     MissingCommand,

@@ -1,4 +1,4 @@
-// The words after the command.
+// The arguments after the command.
 ghost use Rattle.std.specs.Prelude.{◌≡◌, Ok, Err, MatchResult};
 ghost use Rattle.command_words.specs.Words.{texts};
 ghost use Rattle.command_words.specs.Entries.{nothing, WordSays, EntriesSay};
@@ -16,7 +16,7 @@ pub struct Entry {
     pub value: Value,
 }
 
-// Returns the entry in the word at this place.
+// Returns the entry in the argument at this place.
 fn read_entry(keys: &[Key], given: &Given, place: usize, word: &str) -> Result<Entry, WordFault>
     ensures { WordSays keys.now (finds_of given.now) place word.now result }
 {
@@ -35,7 +35,7 @@ fn read_entry(keys: &[Key], given: &Given, place: usize, word: &str) -> Result<E
     Ok(Entry { key, value })
 }
 
-/// Returns the entries in the words after the command, of which the first has place 1.
+/// Returns the entries in the arguments after the command, of which the first has place 1.
 pub fn read_entries(keys: &[Key], words: &[String]) -> Result<Given, WordFault>
     ensures { MatchResult result
         (λ given. EntriesSay keys.now nothing 1 (texts words.now) (Ok (finds_of given)))

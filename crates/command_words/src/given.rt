@@ -75,7 +75,7 @@ impl Given {
         }
     }
 
-    /// Returns the number at a key, if the words have it.
+    /// Returns the number at a key, if the arguments have it.
     pub fn given_number(&self, key: Key) -> Option<u32>
         ensures { result ≡ given_number (finds_of self.now) key }
     {

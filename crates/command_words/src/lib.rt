@@ -1,4 +1,5 @@
-//! The words of the command line: what they ask for, or the first thing that is wrong with them.
+//! This crate reads the arguments of the command line, and returns the command that they ask for or the first thing that is wrong with
+//! them.
 #![tactic(auto)]
 
 mod command;

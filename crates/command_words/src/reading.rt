@@ -1,4 +1,4 @@
-// Reads the words as a whole.
+// Reads all arguments.
 ghost use Rattle.std.specs.Prelude.{◌≡◌, ◌<◌, ◌^◌, Result, IfOk, IfErr, IfSome, length};
 ghost use Rattle.command_words.specs.declared.command.Command.{Command};
 ghost use Rattle.command_words.specs.declared.command.WordFault.{WordFault};
@@ -36,7 +36,7 @@ fn field_of(key: Option<Key>) -> Option<Field>
     key?.row().field
 }
 
-// Returns the number at a key, if the words have it.
+// Returns the number at a key, if the arguments have it.
 fn given_number(given: &Given, key: Key) -> Option<u16>
     requires { IfSome (given_number (finds_of given.now) key) (λ number. number < 2 ^ 16) }
     ensures { result ≡ given_number (finds_of given.now) key }
@@ -79,13 +79,13 @@ fn make_command(task: Task, keys: &[Key], given: &Given) -> Result<Command, Word
     Ok(command_of(task, given))
 }
 
-/// Reads the words of the command line, without the program's own name (docs/DECISIONS.md, "Words").
+/// Reads the arguments of the command line, without the program's own name (docs/DECISIONS.md, "Words").
 ///
-/// The first word is the command, and each further one `key=value`. A key that is missing has its default. If the words make no command,
-/// the result is the first thing that is wrong with them: the words are tested from left to right, then for a required key that is missing,
-/// then for the command's first field out of range in the order of `Field`. A command that is returned has its fields in range. The rows of
-/// `encode` are 0, for an image whose height is reported last, or 17 to 262,144 (docs/formats.md, "Bounds"); `rows=0` is out of range for
-/// all other commands.
+/// The first argument is the command, and each further one is `key=value`. A key that is missing has its default. If the arguments make no
+/// command, the result is the first thing that is wrong with them: the arguments are tested from left to right, then for a required key
+/// that is missing, then for the command's first field out of range in the order of `Field`. A command that is returned has its fields in
+/// range. The rows of `encode` are 0, for an image whose height is reported last, or 17 to 262,144 (docs/formats.md, "Bounds"); `rows=0` is
+/// out of range for all other commands.
 pub fn read_words(words: &[String]) -> Result<Command, WordFault>
     ensures says { Says (texts words.now) result }
     ensures only { (said : Result Command WordFault) → Says (texts words.now) said → said ≡ result }

@@ -76,9 +76,9 @@ pub enum Range {
     All,
     Number(FieldRange),
     Cap(FieldRange),
-    /// The rows of an image: 0 is in range for `encode` alone, and a trial must have few enough of them for its width.
+    /// The rows of an image: 0 is in range only for `encode`, and a trial must have few enough of them for its width.
     Rows(FieldRange),
-    /// A limit: 0, or a multiple of the word in its range.
+    /// A limit: 0, or a multiple of the code word length in its range.
     Limit,
     /// A bound on all texts together: 0, or at least 36 octets for each segment, without a limit.
     Total,
@@ -93,7 +93,7 @@ pub enum Range {
 /// A row of the table of keys.
 #[derive(Clone, Copy)]
 pub struct KeyRow {
-    /// The value if the words have none, which also determines how a value of the key is written.
+    /// The value if the arguments have none, which also determines how a value of the key is written.
     pub default: Value,
     /// Whether a command that has the key needs it; the default is then only that of the other commands.
     pub required: bool,
@@ -133,7 +133,7 @@ const USUAL: Weights = Weights {
     shifts: [0, 1, 1, 1, 2, 2, 2, 3, 3, 3],
 };
 
-// A row of the table of keys: the name; the default, of a required key after that word; the field; and the range.
+// A row of the table of keys: the name; the default, of a required key after `required`; the field; and the range.
 macro_rules! key_row {
     ($text:literal: required $default:expr, $field:expr, $range:expr) => {
         ($text, KeyRow { default: $default, required: true, field: $field, range: $range })

@@ -1,11 +1,11 @@
-// Tests of the meaning of words, and of which fault of theirs is the first.
+// Tests of the meaning of arguments, and of the first fault in them.
 use crate::tables::{ALL, GROUPS};
 use crate::{Command, Reading, WordFault, read_words};
 use base_122::{DecodeWish, Field, Select, Setting, Stop, Weights};
 use raster_rows::MadeImage;
 use std::test::Fail;
 
-// Returns the meaning of the words of a text, with a space between each two.
+// Returns the meaning of the arguments in a text, with a space between each two.
 fn said(rt: &HostRuntime, text: &str) -> Result<Result<Command, WordFault>, Fail> {
     let mut words = Vec::new(rt.alloc());
     for word in text.split(' ') {

@@ -49,7 +49,7 @@ pub fn hand_in<X: Port>(
 }
 
 /// Encodes an image that is in memory, one octet for each pixel and row after row. All of its packets are given, and after `Failed` a
-/// prefix of them. The work was made for an equal setting, whose rows are known, and serves again after either result.
+/// prefix of them. The work was made for an equal setting, whose rows are known, and can be used again after either result.
 pub fn encode_frame<X: Port>(
     port: &mut X,
     setting: &Setting,

@@ -8,7 +8,7 @@ use port_122::Port;
 use std::alloc::Global;
 use strip_decoder::{DecodeDone, DecodeFault, walk_segments};
 
-/// Takes the packets of an APID as `decode_packets` does and returns what it returns, but gives no row: after all is read it gives a line
+/// Takes the packets of an APID as `decode_packets` does and returns what it returns. It gives no row: after all is read, it gives a line
 /// `27-77 0-63` for each rectangle that missing blocks reach, rows first, then columns (docs/formats.md, "Picture and damage").
 ///
 /// # Errors

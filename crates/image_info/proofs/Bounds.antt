@@ -19,7 +19,7 @@ use Rattle.image_info.proofs.OneImage.{is_own}
 abbrev octets_of : List (List ℕ) → ℕ
 octets_of packets = sum_by length packets
 
--- these are at most as many, and have at most their octets
+-- the first packets are at most as numerous as the second ones, and have at most their octets
 record AreFewer (xs ys : List (List ℕ)) : Type 0 where
   number : length xs ≤ length ys
   octets : octets_of xs ≤ octets_of ys

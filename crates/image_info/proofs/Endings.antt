@@ -34,7 +34,7 @@ use Rattle.image_info.proofs.EntryLists.{length-entries}
 use Rattle.image_info.proofs.Passed.{table_full}
 use Rattle.image_info.proofs.Runs.{reading, HasTabled, filled, past_one}
 
--- ---- what is read where there is no next packet
+-- ---- what is read if there is no next packet
 
 pub over_so : (apid : ℕ) (u : Intake) (read : PacketRead) → begins_packet u.pending ≡ false → verdict apid u ≡ Some (Ok read) → verdict apid u ≡ Some (Ok (end_read (framing_in read)))
 over_so apid u (Mine head tells) none e = absurd (false≢true (sym none ∙ (mine_read apid u head tells e).whole))

@@ -68,7 +68,7 @@ fn put_picture(
             rows: done.written,
         });
     }
-    // The picture fits, so it was kept; but no clause of a port states that it keeps what fits.
+    // The picture fits, so it was kept. No clause of a port states that it keeps what fits, so this is tested.
     let Some(picture) = port.given() else {
         return Err(DecodeRefusal::Memory);
     };

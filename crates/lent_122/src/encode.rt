@@ -67,7 +67,7 @@ fn put_packets(
             octets: done.octets,
         });
     }
-    // The packets fit, so they were kept; but no clause of a port states that it keeps what fits.
+    // The packets fit, so they were kept. No clause of a port states that it keeps what fits, so this is tested.
     let Some(packets) = port.given() else {
         return Err(EncodeRefusal::Memory);
     };

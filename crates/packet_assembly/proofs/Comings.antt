@@ -76,7 +76,7 @@ coming_past u n text rest =
     let more : List ℕ = if u.ended then [] else take (u.cap - u.taken) rest in
     ap (λ zs. zs ++ more) (sym (take-append-drop n u.pending)) ∙ append_assoc (take n u.pending) (drop n u.pending) more
 
--- ---- no packet comes
+-- ---- no packet follows
 
 none_split : (octets : List ℕ) → begins_packet octets ≡ false → Splits octets [] octets
 none_split octets none = record { octets_are = refl; packets_are = tt; none_left = none }

@@ -67,7 +67,7 @@ made_ranged s flags a text head e fits image =
       weights = part.weights;
     }
 
--- ---- the height that a last head tells
+-- ---- the height that a last head reports
 
 -- the third of the tests that a head passes
 third : (a b c d e f : Bool) (v w x y z u : HeadFault) → first_of (when (not a) v ∷ when (not b) w ∷ when (not c) x ∷ when (not d) y ∷ when (not e) z ∷ when (not f) u ∷ []) ≡ None → c ≡ true

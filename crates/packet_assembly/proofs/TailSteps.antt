@@ -165,7 +165,7 @@ tail_ended b rest unheld empty going ended = by_framing b.framing ended
 pub tail_long : (b : Assembling) (rest : List ℕ) → b.held ≡ None → b.text ≡ [] → is_closed b.state.last ≡ false → StandsLong b → text_tail b rest ≡ nothing TooLong
 tail_long b rest unheld empty going long = stopped b rest TooLong unheld empty going (long_stops b.intake rest (long_read b.apid b.intake _ long))
 
--- ---- where the port tells what is left
+-- ---- ports that report what is left
 
 pub comes_none : (old new : Outside) (a b : Assembling) (took : List ℕ) → Loses old.rest new.rest took → ((rest : List ℕ) → new.rest ≡ Some rest → text_tail a (took ++ rest) ≡ text_tail b rest) →
     Comes (told_tail old a) (told_tail new b) []

@@ -126,7 +126,7 @@ unfolding verdict packet_read
 long_read apid u fault e =
     long_by u (has_bad_version u.pending) (begins_packet u.pending) u.ended (u.taken == u.cap) _ (packet_read apid (first_packet u.pending)) _ fault refl refl refl refl e
 
--- ---- what stands afterwards
+-- ---- what holds afterwards
 
 -- a reader that took no octet
 pub record Continues (u w : Intake) : Type 0 where

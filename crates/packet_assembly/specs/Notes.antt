@@ -22,7 +22,7 @@ use Rattle.packet_assembly.specs.declared.note.Passed.{Passed}
 use Rattle.packet_assembly.specs.Assembling.{Assembling}
 use Rattle.packet_assembly.specs.Classification.{head_told}
 
--- ---- what a packet brings
+-- ---- what a packet adds
 
 -- the report of a packet with this fate and number
 abbrev pub note_of : (number : ℕ) → Fate → List ℕ → PacketNote

@@ -28,7 +28,7 @@ kept_tail packet later =
     if (ancillary_in packet).part == 0 then nothing InPieces else
     (if closes (flags_in packet) then in_front (text_in packet) (nothing Plainly) else in_front (text_in packet) later)
 
--- what whole packets bring, and then this end
+-- what whole packets add to the text, and then this end
 unfoldable pub tail_over : (apid : ℕ) → FateState → List (List ℕ) → End → Tail
 tail_over apid s [] stop = nothing stop
 tail_over apid s (packet ∷ packets) stop =

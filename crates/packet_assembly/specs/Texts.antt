@@ -29,7 +29,7 @@ EndsTaken old new a b (Err fault) = ComesSo old new a b [] × FailsSo fault old 
 
 -- ---- no call reads while an octet of the text, its end or its break was read already
 
--- none of these packets, one after another, brings an octet to the text, begins another segment or closes the text
+-- none of these packets, one after another, adds an octet to the text, begins another segment or closes the text
 abbrev pub BringsNone : (apid : ℕ) → FateState → List (List ℕ) → Type 0
 BringsNone apid s [] = Unit {0}
 BringsNone apid s (packet ∷ packets) =

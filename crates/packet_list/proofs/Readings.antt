@@ -61,7 +61,7 @@ given_on {a = a} {waiting = waiting} come x = record {
   packets_are = come.packets_are;
 }
 
--- ---- a whole packet at hand
+-- ---- octets that begin with a whole packet
 
 -- octets that begin with a packet have one, whatever follows them
 pub begins_more : (octets more : List ℕ) → begins_packet octets ≡ true → begins_packet (octets ++ more) ≡ true

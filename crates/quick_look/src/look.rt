@@ -7,7 +7,7 @@ use port_122::Port;
 use std::alloc::Global;
 use strip_decoder::{DecodeDone, DecodeFault, walk_segments};
 
-/// Takes the packets of an APID as `decode_packets` does and returns what it returns, but gives the look at the segments that are received
+/// Takes the packets of an APID as `decode_packets` does and returns what it returns. It gives the look at the segments that are received
 /// (docs/formats.md, "Packets", "Fates" and "Raster and made image"). The look is a raster with a row for each block row and a value for
 /// each block, P/8 in a row: the coefficient of LL3 of that block, or 0 if the block is missing, clamped to the range of a pixel. Each row
 /// is given as soon as the packets so far settle its blocks. If no header reports the height, the look has the block rows that the kept

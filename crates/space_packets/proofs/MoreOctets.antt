@@ -14,7 +14,7 @@ use Rattle.space_packets.specs.Writes.{Continues, StopsEarly, PacketOut, PacketF
 use Rattle.space_packets.specs.FullParts.{full_parts_is, full_parts_none}
 use Rattle.space_packets.specs.Going.{same_progress, text_here}
 
--- ---- where the part has room
+-- ---- if the part has room
 
 none_full : {t : Text} {v : Progress} → IsOpen t v → (octets : List ℕ) → length v.pending + length octets ≤ part_size v.packet → full_count v octets ≡ 0
 none_full {v = v} going octets room =
@@ -36,7 +36,7 @@ goes_on_in {t = t} {p = p} {v = v} {w = w} going octets room e =
           (ap (λ n. drop (n * part_size v.packet) all) none ∙ ap (λ n. drop n all) (zero-mul (part_size v.packet))));
     }
 
--- ---- where the part is full
+-- ---- if the part is full
 
 one_full : {t : Text} {v : Progress} → IsOpen t v → (octet : ℕ) → length v.pending ≡ part_size v.packet → full_count v (octet ∷ []) ≡ 1
 one_full {v = v} going octet full =

@@ -9,7 +9,7 @@ pub const fn texts_go_whole()
 {}
 
 /// The greatest length of the packets is the same after each text, also after a failure, so after a `reset` the packetiser
-/// serves as it did before the text.
+/// can be used as before the text.
 pub const fn packetiser_serves_again()
     ensures { ServesAgain }
 {}

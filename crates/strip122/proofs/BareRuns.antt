@@ -1,4 +1,4 @@
--- What a run of `bare-encode` and `bare-decode` leaves after its note, and what follows for each status.
+-- The effect of a run of `bare-encode` and `bare-decode` after its note, and what follows for each status.
 use Rattle.std.proofs.Common.{◌≡◌, ◌≤◌, ◌+◌, ℕ, ℤ, List, [], ◌∷◌, ◌++◌, length, refl, sym, ◌∙◌, ap, subst, arith, length-append, inl, inr}
 use Rattle.std.specs.Prelude.{Option, None, Some, Result, Ok, Err}
 use Rattle.std.proofs.lemmas.List.{append-nil}
@@ -39,7 +39,7 @@ use Rattle.strip122.proofs.Encoded.{EncoderSays, IsEncoder, encoder_law}
 
 -- ---- `bare-encode`
 
--- a cause is one after a note too
+-- a cause is also valid after a note
 bare_later : (s : Setting) (a b c : Outside) (took gave wrote : List ℕ) (r : Result EncodeDone EncodeFault) → Exchange b c [] [] wrote NoRead → BareAnswers s a b took gave r → BareAnswers s a c took gave r
 bare_later s a b c took gave wrote (Ok done) n k = (k.0, at_end_later n k.1, k.2, k.3)
 bare_later s a b c took gave wrote (Err (Short octets)) n k = (k.0, k.1, at_end_later n k.2, k.3, k.4)
@@ -66,7 +66,7 @@ bare_engine s = record {
 pub bare_encode_law : (s : Setting) → Law (encodes_bare s)
 bare_encode_law s = encoder_law s (BareAnswers s) (texts_for s) (EncodedBare s) (bare_engine s)
 
--- no memory, and its note
+-- there is too little memory, and this is noted
 pub bare_lacks_memory : (s : Setting) (a b : Outside) → Notes a b memory_line → EncodesBare s a b 6
 bare_lacks_memory s a b n = inl (record { wrote = n.0; since = n.1; status_is = refl; noted = n.2 })
 
@@ -277,7 +277,7 @@ bare_decode_law law wish = record {
 
 -- ---- the round trip
 
--- of status 0 a picture was given, and that of an image's stream is the image
+-- at status 0 a picture was given, and that of an image's stream is the image
 pub gave_bare : BareRoundTrip → (wish : DecodeWish) (old new : Outside) (status : ℕ) → DecodesStream wish old new status → status ≡ 0 → GaveBare wish old new
 gave_bare trip wish old new status (read, run) zero = by run.answer (sym run.status_is ∙ zero) run.noted run.cause
   where

@@ -1,4 +1,4 @@
--- What a run of `decode`, `damage`, `look` and `rects` leaves after its note, and what follows for each status.
+-- The effect of a run of `decode`, `damage`, `look` and `rects` after its note, and what follows for each status.
 use Rattle.std.proofs.Common.{◌≡◌, ◌≤◌, ◌<◌, ◌*◌, ℕ, List, [], ◌∷◌, length, refl, sym, ◌∙◌, ap, subst, arith, inl, inr, true, false}
 use Rattle.std.specs.Prelude.{◌≢◌, ◌⊎◌, ◌==◌, Bool, not, Option, None, Some, Result, Ok, Err, filter, All}
 use Rattle.std.specs.List.{range_with_len}
@@ -45,7 +45,7 @@ told_before None (Some now) rest l is = absurd l
 told_before (Some before) None rest l is = absurd cc
 told_before (Some before) (Some now) rest l is = ap Some l ∙ is
 
--- what was read to its end stays so
+-- an input that was read to its end is so after a note too
 pub out_later : (cap : ℕ) (b c : Outside) (took wrote : List ℕ) → Exchange b c [] [] wrote NoRead → IsReadOut cap b took → IsReadOut cap c took
 out_later cap b c took wrote n (inl bad) = inl bad
 out_later cap b c took wrote n (inr ended) = inr (at_end_later n ended.0, λ rest told. ended.1 rest (told_before b.rest c.rest rest n.rest told))
@@ -63,7 +63,7 @@ picture_later gives wish a b c took gave wrote done n p = record {
   told = p.told;
 }
 
--- a cause stands after a note too
+-- a cause is also valid after a note
 decode_later : (wish : DecodeWish) (a b c : Outside) (took gave wrote : List ℕ) (r : Result DecodeDone DecodeFault) → Exchange b c [] [] wrote NoRead →
     Answers wish a b took gave r → Answers wish a c took gave r
 decode_later wish a b c took gave wrote (Ok done) n k = picture_later true wish a b c took gave wrote done n k
@@ -121,7 +121,7 @@ rects_later wish a b c took gave wrote (Err ReadFault) n k = (omega (arith, k.0,
 rects_later wish a b c took gave wrote (Err WriteFault) n k = (omega (arith, k.0, n.faults.writes), k.1, prefix_later wish a b c took gave wrote n k.2)
 rects_later wish a b c took gave wrote (Err Memory) n k = k
 
--- ---- what the note says
+-- ---- the text of the note
 
 pub tells_nothing : (ranges : List RowRange) (known : Bool) (framing : Option Framing) (a : Outside) → ranges ≡ [] → known ≡ true → framing ≡ None → TellsDone ranges known framing a a 0
 tells_nothing ranges known framing a unharmed told good = record {
@@ -163,7 +163,7 @@ some_known g some = ap not (is_not_open g.rows some)
 height_known : (g : Geometry) (n : ℕ) → g.rows ≢ 0 → height g n ≡ g.rows
 height_known g n some = let e = is_not_open g.rows some in rw e refl
 
--- ---- nothing is damaged only where nothing is missing
+-- ---- nothing is damaged only if nothing is missing
 
 rows_below : (n : ℕ) → All (λ k. k < n) (range_with_len 0 n)
 rows_below n = All-from_get_or (λ k. k < n) (range_with_len 0 n) 0 (λ i below. let size = length-range_with_len 0 n in let at = get_or-range_with_len 0 n i 0 (omega (arith, below, size)) in omega (arith, at, below, size))
@@ -192,7 +192,7 @@ missing_listed gives wish a b took gave done p none known all told =
     (t.3.missing known ∙ ap (λ n. filter (is_missing_of done.geometry t.0) (range_with_len 0 (block_count n))) (sym rows))
     (undamaged done.damage none)
 
--- ---- what each cause says
+-- ---- what follows from each cause
 
 -- an image that was read, of few pixels, and to the end; if its height is known and no row is damaged, nothing is missing
 pub record SawImage (wish : DecodeWish) (old new : Outside) (took : List ℕ) (done : DecodeDone) : Type 0 where
@@ -201,7 +201,7 @@ pub record SawImage (wish : DecodeWish) (old new : Outside) (took : List ℕ) (d
   pub out : IsReadOut wish.octets new took
   pub none_missing : damaged done.damage ≡ [] → done.geometry.rows ≢ 0 → (all : List ℕ) → old.rest ≡ Some all → done.damage.missing ≡ []
 
--- what an answer says of the octets and the faults, whatever was given
+-- what follows from an answer for the octets and the faults, whatever was given
 abbrev pub Says : DecodeWish → Outside → Outside → List ℕ → List ℕ → Result DecodeDone DecodeFault → Type 0
 Says wish old new took gave (Ok done) = SawImage wish old new took done
 Says wish old new took gave (Err NoSegment) = (geometry_in wish.apid took ≡ None) × IsReadOut wish.octets new took
@@ -214,7 +214,7 @@ Says wish old new took gave (Err Memory) = gave ≡ []
 saw : (gives : Bool) (wish : DecodeWish) (a b : Outside) (took gave : List ℕ) (done : DecodeDone) → PictureBy gives wish a b took gave done → SawImage wish a b took done
 saw gives wish a b took gave done p = record { geometry = p.geometry; few = p.few; out = p.out; none_missing = missing_listed gives wish a b took gave done p }
 
--- all answers of an engine say so
+-- this follows from all answers of an engine
 abbrev pub AllSay : DecodeWish → Causes → Type 0
 AllSay wish answers = (old new : Outside) (took gave : List ℕ) (r : Result DecodeDone DecodeFault) → answers old new took gave r → Says wish old new took gave r
 
@@ -256,7 +256,7 @@ rects_say wish a b took gave (Err Memory) k = k
 
 -- ---- after the note of a command
 
--- all answers of an engine are answers after a note too
+-- all answers of an engine are also answers after a note
 abbrev pub AllLast : Causes → Type 0
 AllLast answers = (a b c : Outside) (took gave wrote : List ℕ) (r : Result DecodeDone DecodeFault) → Exchange b c [] [] wrote NoRead → answers a b took gave r → answers a c took gave r
 

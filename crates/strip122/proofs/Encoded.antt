@@ -1,4 +1,4 @@
--- What a run of `encode` leaves after its note, and what follows for each status.
+-- The effect of a run of `encode` after its note, and what follows for each status.
 use Rattle.std.proofs.Common.{◌≡◌, ◌+◌, ◌*◌, ℕ, List, [], ◌++◌, length, refl, sym, ◌∙◌, ap, subst, arith, length-append, inl, inr}
 use Rattle.std.specs.Prelude.{Result, Ok, Err, Some}
 use Rattle.port_122.specs.Outside.{Outside, Exchange, NoRead, Rose, GivenBy, AtEnd}
@@ -17,9 +17,9 @@ use Rattle.strip122.proofs.Behaviours.{AtStatus, Law}
 use Rattle.strip122.proofs.Inputs.{not_in_range, none_lacking, few_octets}
 use Rattle.strip122.proofs.ReadOut.{took_front}
 
--- ---- what the answers say
+-- ---- what follows from the answers
 
--- what an answer says of the octets and the faults, whatever was given
+-- what follows from an answer for the octets and the faults, whatever was given
 abbrev pub EncoderSays : Setting → Outside → Outside → List ℕ → EncodeFault → Type 0
 EncoderSays s old new took (Short octets) = LacksRows s (length took) × AtEnd new
 EncoderSays s old new took Long = length took ≡ most_length s + 1
@@ -27,8 +27,8 @@ EncoderSays s old new took (BadPixel row column value) = FirstBad s took row col
 EncoderSays s old new took ReadFault = Rose old.read_faults new.read_faults
 EncoderSays s old new took WriteFault = Rose old.write_faults new.write_faults
 
--- All faults of an engine say so, and all answers are answers after a note too. If it is done, all of its output is given, for all of an
--- input that is a raster.
+-- This follows from all faults of an engine, and all answers are also answers after a note. If it is done, all of its output is given, for
+-- a whole input that is a raster.
 pub record IsEncoder (s : Setting) (answers : EncoderCauses) (given : List ℕ → List ℕ) (whole : Outside → Outside → Type 0) : Type 0 where
   pub say : (old new : Outside) (took gave : List ℕ) (fault : EncodeFault) → answers old new took gave (Err fault) → EncoderSays s old new took fault
   pub later : (a b c : Outside) (took gave wrote : List ℕ) (r : Result EncodeDone EncodeFault) → Exchange b c [] [] wrote NoRead → answers a b took gave r → answers a c took gave r
@@ -82,7 +82,7 @@ module _ (s : Setting) (answers : EncoderCauses) (given : List ℕ → List ℕ)
 
 -- ---- `encode`
 
--- a cause is one after a note too
+-- a cause is also valid after a note
 causes_later : (s : Setting) (a b c : Outside) (took gave wrote : List ℕ) (r : Result EncodeDone EncodeFault) → Exchange b c [] [] wrote NoRead → Answers s a b took gave r → Answers s a c took gave r
 causes_later s a b c took gave wrote (Ok done) n k = (k.0, k.1, at_end_later n k.2, k.3, k.4)
 causes_later s a b c took gave wrote (Err (Short octets)) n k = (k.0, k.1, at_end_later n k.2, k.3, k.4)
@@ -119,7 +119,7 @@ encode_engine s = record {
 pub encode_law : (s : Setting) → Law (encodes s)
 encode_law s = encoder_law s (Answers s) (given_for s) (EncodedWhole s) (encode_engine s)
 
--- no memory, and its note
+-- there is too little memory, and this is noted
 pub lacks_memory : (s : Setting) (a b : Outside) → Notes a b memory_line → Encodes s a b 6
 lacks_memory s a b n = inl (record { wrote = n.0; since = n.1; status_is = refl; noted = n.2 })
 

@@ -1,4 +1,4 @@
--- What a picture that `decode` gave shows, and what a look does.
+-- What a picture that `decode` gave shows, and what a look shows.
 use Rattle.std.proofs.Common.{◌≡◌, ◌≤◌, ℕ, ℤ, List, [], ◌∷◌, sym, ◌∙◌, ap, subst, arith, refl, inl, inr, true, false}
 use Rattle.std.specs.Prelude.{◌≢◌, ◌⊎◌, ◌&&◌, nat_le, nat_lt, Bool, Option, None, Some, Result, Ok, Err}
 use Rattle.std.proofs.lemmas.Bool.{false≢true}
@@ -36,7 +36,7 @@ use Rattle.strip122.specs.Decoding.{Decodes, LooksAt, decode_status}
 use Rattle.strip122.specs.Pictures.{GaveLook, GavePicture, GivesOwn}
 use Rattle.strip122.proofs.Decoded.{fault_statuses, some_known}
 
--- ---- where nothing is missing nothing is damaged
+-- ---- if nothing is missing, nothing is damaged
 
 unharmed : (rows row : ℕ) → is_damaged rows [] row ≡ false
 unharmed rows row = never (nat_lt row rows)
@@ -63,7 +63,7 @@ whole_status ranges known framing none told good = rw (none, told, good) refl
 
 -- ---- a run of the decoder
 
--- other packets that lie between change nothing
+-- packets of other APIDs change nothing
 own_begun : (apid : ℕ) (own octets : List ℕ) → geometry_in apid own ≡ geometry_in apid octets → kept_in apid own ≡ kept_in apid octets → begun_in apid own ≡ begun_in apid octets
 own_begun apid own octets geometry kept = by (geometry_in apid octets) geometry refl
   where

@@ -1,4 +1,4 @@
--- What a run of `list`, `pick` and `info` leaves after its note, and what follows for each status.
+-- The effect of a run of `list`, `pick` and `info` after its note, and what follows for each status.
 use Rattle.std.proofs.Common.{◌≡◌, ◌≤◌, ◌<◌, ℕ, List, [], ◌+◌, ◌++◌, length, refl, sym, ◌∙◌, subst, arith, ap, length-append, inl, inr, true, false}
 use Rattle.std.specs.Prelude.{◌⊎◌, Option, Result, Ok, Err}
 use Rattle.port_122.specs.Outside.{Outside, Exchange, NoRead, Rose}
@@ -28,17 +28,17 @@ use Rattle.strip122.proofs.ReadOut.{took_front, not_read_out}
 use Rattle.strip122.proofs.PacketInputs.{not_full, all_read}
 use Rattle.strip122.proofs.Decoded.{out_later, undamaged_status, damaged_status, status_small, whole_line, lacking_line}
 
--- ---- what the answers say
+-- ---- what follows from the answers
 
--- what a fault says of the octets and the counts, whatever was given
+-- what follows from a fault for the octets and the counts, whatever was given
 abbrev pub FaultSays : (cap : ℕ) → (Few : List ℕ → Type 0) → Outside → Outside → List ℕ → List ℕ → ListFault → Type 0
 FaultSays cap Few old new took gave LongInput = ((length took ≡ cap) × (has_bad_version (left_over took) ≡ false)) ⊎ (Few took → ⊥)
 FaultSays cap Few old new took gave ReadFault = Rose old.read_faults new.read_faults
 FaultSays cap Few old new took gave WriteFault = Rose old.write_faults new.write_faults
 FaultSays cap Few old new took gave Memory = old ≡ new
 
--- All answers of an engine say so, and are answers after a note too. How much is to be listed depends on the whole packets, and on no
--- less of them.
+-- This follows from all answers of an engine, which are also answers after a note. Whether the packets are few enough to be listed depends
+-- only on the whole packets, and holds for a prefix too.
 pub record IsReader {D F : Type 0} (r : Reader D F) : Type 0 where
   pub done : (old new : Outside) (took gave : List ℕ) (done : D) → r.causes old new took gave (Ok done) → IsReadOut r.cap new took × r.Few took
   pub say : (old new : Outside) (took gave : List ℕ) (fault : F) → r.causes old new took gave (Err fault) → FaultSays r.cap r.Few old new took gave (r.fault_of fault)

@@ -1,4 +1,4 @@
--- A made raster goes out part by part.
+-- A made raster is given part by part.
 use Rattle.std.proofs.Common.{◌≡◌, ◌<◌, ◌≤◌, ◌+◌, ◌-◌, ◌∙◌, ℕ, suc, ℤ, List, [], ◌∷◌, ◌++◌, length, map, take, sym, ap, subst, arith}
 use Rattle.std.specs.Prelude.{slice_set, Result, IsErr}
 use Rattle.std.specs.List.{range_with_len}
@@ -13,7 +13,7 @@ use Rattle.raster_rows.proofs.MadeLaws.{made_in_range, map-clamped, range-append
 use Rattle.raster_rows.proofs.RasterLaws.{rows_from}
 use Rattle.strip122.specs.MadeRasters.{made_raster, made_part}
 
--- one more pixel at the front
+-- one more pixel among the first places
 pub one_made : (pixel : ℕ → ℤ) (first place : ℕ) (into : List ℤ) (value : ℤ) → place < length into →
     take place into ≡ map pixel (range_with_len first place) → value ≡ pixel (first + place) →
     take (place + 1) (slice_set into place value) ≡ map pixel (range_with_len first (place + 1))
@@ -21,7 +21,7 @@ one_made pixel first place into value lt before is =
     take_more_set into place value lt ∙ ap (λ xs. xs ++ value ∷ []) before ∙ ap (λ v. map pixel (range_with_len first place) ++ v ∷ []) is ∙
     sym (ap (map pixel) (range-append first place 1) ∙ map-append pixel (range_with_len first place) (range_with_len (first + place) 1))
 
--- the octets of pixels that were put at the front
+-- the octets of pixels that were put into the first places
 pub part_is : (made : MadeImage) (row first count : ℕ) (pixels : List ℤ) → IsDepth made.depth →
     pixels ≡ map (made_value made row) (range_with_len first count) →
     pixel_octets made.depth (map (clamped made.depth made.signed) pixels) ≡ made_part made row first count
@@ -43,7 +43,7 @@ three_parts made row done count le =
     ap (made_part made row 0) size ∙ parts_then made row done (count + (made.width - (done + count))) ∙
     ap (λ zs. made_part made row 0 done ++ zs) (row_octets-append made.depth (made_value made row) done count (made.width - (done + count)))
 
--- where a part of a row couldn't be given whole, a prefix of the row is given
+-- if a part of a row couldn't be given whole, a prefix of the row is given
 pub row_failed : {T E : Type 0} {a b c : Outside} (made : MadeImage) (row done count : ℕ) (r : Result T E) → done + count ≤ made.width →
     Exchange a b [] (made_part made row 0 done) [] NoRead →
     Rose b.write_faults c.write_faults × ((n : ℕ) × (n ≤ length (made_part made row done count)) × Exchange b c [] (take n (made_part made row done count)) [] NoRead) →
@@ -63,7 +63,7 @@ three_rows made row lt =
     rows_from-append made.depth made.width (made_value made) 0 row (suc (made.rows - (row + 1))) ∙
     ap (λ i. raster_octets made.depth row made.width (made_value made) ++ rows_from made.depth made.width (made_value made) i (suc (made.rows - (row + 1)))) first
 
--- where a row couldn't be given whole, a prefix of the raster is given
+-- if a row couldn't be given whole, a prefix of the raster is given
 pub raster_failed : {T E : Type 0} {a b c : Outside} (made : MadeImage) (row : ℕ) (r : Result T E) → row < made.rows →
     Exchange a b [] (raster_octets made.depth row made.width (made_value made)) [] NoRead →
     Rose b.write_faults c.write_faults × ((n : ℕ) × (n ≤ length (made_part made row 0 made.width)) × Exchange b c [] (take n (made_part made row 0 made.width)) [] NoRead) →

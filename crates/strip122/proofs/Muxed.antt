@@ -1,4 +1,4 @@
--- What a run of `mux` leaves after its note, and what follows for each status.
+-- The effect of a run of `mux` after its note, and what follows for each status.
 use Rattle.std.proofs.Common.{◌≡◌, ◌<◌, ◌≤◌, ◌+◌, ◌*◌, ℕ, ℤ, zero, suc, Bool, List, [], ◌∷◌, ◌++◌, length, take, refl, sym, ◌∙◌, ap, subst, arith, append_assoc, length-append, inl, inr}
 use Rattle.std.specs.Prelude.{Result, Ok, Err, Some}
 use Rattle.std.proofs.lemmas.List.{append-nil}
@@ -27,7 +27,7 @@ use Rattle.strip122.proofs.ReadOut.{took_front}
 
 -- ---- after the note
 
--- a cause is one after a note too
+-- a cause is also valid after a note
 causes_later : (settings : List Setting) (a b c : Outside) (records : List CameraRow) (rest gave wrote : List ℕ) (r : Result MuxDone MuxFault) → Exchange b c [] [] wrote NoRead →
     Answers settings a b records rest gave r → Answers settings a c records rest gave r
 causes_later settings a b c records rest gave wrote (Ok done) n k = (k.0, k.1, at_end_later n k.2, k.3, k.4, k.5)
@@ -38,7 +38,7 @@ causes_later settings a b c records rest gave wrote (Err Long) n k = k
 causes_later settings a b c records rest gave wrote (Err (BadCamera place camera)) n k = k
 causes_later settings a b c records rest gave wrote (Err (BadPixel camera row column value)) n k = k
 
--- no memory, and its note
+-- there is too little memory, and this is noted
 pub lacks_works : (settings : List Setting) (a b : Outside) → Notes a b memory_line → Muxes settings a b 6
 lacks_works settings a b n = inl (record { wrote = n.0; since = n.1; status_is = refl; noted = n.2 })
 
@@ -118,7 +118,7 @@ record Continues (settings : List Setting) (before records front : List CameraRo
   octets_are : octets_of next ≡ octets
   follow : FollowOn settings (before ++ front) next
 
--- Of two lists of records that can follow the same ones, one begins the other if its octets do.
+-- Of two lists of records that can follow the same ones, one is a prefix of the other if its octets are.
 goes_on : (settings : List Setting) (before front records : List CameraRow) (octets : List ℕ) → FollowOn settings before front → FollowOn settings before records →
     octets_of records ≡ octets_of front ++ octets → Continues settings before records front octets
 goes_on settings before [] records octets one other e = record {
@@ -173,7 +173,7 @@ module _ (settings : List Setting) (input : List ℕ) (all : AreRecords settings
           let p = subst (IsPart settings records) (sym e) part in
           omega (arith, p.1, own.whole, length-append r.row (octets_of rs))
 
-  -- no record follows where each camera has all its rows
+  -- no record follows if each camera has all its rows
   not_long : AreFull settings records → length rest ≡ 1 → ⊥
   not_long full one = by after.next after.octets_are after.follow
     where

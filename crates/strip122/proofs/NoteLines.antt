@@ -50,7 +50,7 @@ pub nothing_noted : (old new : Outside) (wrote line : List ℕ) → line ≡ [] 
 nothing_noted old new wrote line none (inl same) = same ∙ none
 nothing_noted old new wrote line none (inr failed) = failed.1.2 ∙ ap (take failed.1.0) none ∙ take-nil failed.1.0
 
--- the word at a place
+-- the argument at a place
 pub word_is : (words : List (String Global)) (place : ℕ) (word : String Global) → place < length words → word ≡ get_or words place word →
     string_bytes word ≡ word_at (texts words) place
 word_is [] place word lt is = absurd (omega arith)

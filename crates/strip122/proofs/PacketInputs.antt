@@ -1,4 +1,4 @@
--- What the packets that are there make of a run without a fault.
+-- The effect of the packets of an input on a run without a fault.
 use Rattle.std.proofs.Common.{◌≡◌, ◌*◌, ℕ, List, [], ◌∷◌, ◌++◌, length, sym, subst, ◌∙◌, ap, arith, append_assoc, length-append, inl, inr, false}
 use Rattle.std.specs.Prelude.{◌⊎◌, Some, None, Ok, Err}
 use Rattle.std.proofs.lemmas.Bool.{false≢true}
@@ -27,7 +27,8 @@ use Rattle.strip122.proofs.ReadOut.{took_front, bad_stays, all_within, not_read_
 use Rattle.strip122.proofs.Decoded.{SawImage, Says, AllSay, picture_ends}
 use Rattle.strip122.proofs.Behaviours.{Law}
 
--- The rows that the kept heads reach don't fall. So if a head among the octets that were taken reports too many pixels, all octets do.
+-- The number of rows that the kept heads reach never falls. So if a head among the octets that were taken reports too many pixels, all
+-- octets do.
 many_stays : (most apid pixels : ℕ) (took more : List ℕ) → ReportsMany most apid pixels took → HasFewPixels most apid (took ++ more) → ⊥
 many_stays most apid pixels took more m few =
     let first = m.before ++ m.packet ∷ [] in
@@ -41,7 +42,7 @@ many_stays most apid pixels took more m few =
     let rise = mul-le-mul_left m.image.width (reached_more apid first later m.image last.0 m.geometry there) in
     omega (arith, m.many, m.pixels_are, small last.0 there, rise, ap (λ w. w * rows_reached last.0 (end_of (kept apid fresh (first ++ later)))) width)
 
--- where packets end within the cap, not all that it lets is taken and could be read on
+-- if the packets end within the cap, it is impossible that the full cap is taken and these octets can be read on
 pub not_full : (cap : ℕ) (old new : Outside) (took : List ℕ) → Loses old.rest new.rest took → HasPackets cap old → length took ≡ cap → has_bad_version (left_over took) ≡ false → ⊥
 not_full cap old new took loses has full good =
     let front = took_front has.input took old.rest new.rest has.told loses in
@@ -51,14 +52,14 @@ not_full cap old new took loses has full good =
     ]
 
 module _ (cap : ℕ) (old new : Outside) {took gave wrote : List ℕ} {Q : ℕ → ℕ → Type 0} (since : Exchange old new took gave wrote Q) (packets : HasPackets cap old) where
-  -- what was read out has all packets of the input
+  -- octets that were read out have all packets of the input
   pub all_read : IsReadOut cap new took → whole_packets packets.input ≡ whole_packets took
   all_read (inl bad) =
       let f = took_front packets.input took old.rest new.rest packets.told since.rest in
       ap whole_packets f.1 ∙ bad_stays took f.0 bad
   all_read (inr ended) = ap whole_packets (sym (end_told packets.input since packets.told ended.0))
 
-  -- so it reports the same image
+  -- so they report the same image
   same_image : (apid : ℕ) → IsReadOut cap new took → geometry_in apid packets.input ≡ geometry_in apid took
   same_image apid out = ap (λ whole. (after_all apid fresh whole).geometry) (all_read out)
 
@@ -80,7 +81,7 @@ module _ (wish : DecodeWish) (answers : Causes) (asks : Asking) (say : AllSay wi
       by WriteFault k three = omega (arith, three)
       by Memory k three = omega (arith, three)
 
-  -- and of others, or too many of them, no picture is given
+  -- and for other packets, or too many of them, no picture is given
   wrong_packets : {took gave wrote : List ℕ} {Q : ℕ → ℕ → Type 0} → HasNoPicture wish old ⊎ HasTooMany wish.octets old → Exchange old new took gave wrote Q → (done : DecodeDone) →
       CausedWithin wish.octets answers old new took gave (Ok done) → ⊥
   wrong_packets {took = took} {gave = gave} (inl has) since done cause = by has.no_picture

@@ -26,7 +26,7 @@ none_begins : (xs : List ℕ) → has_bad_version xs ≡ true → begins_packet 
 unfolding begins_packet
 none_begins xs bad = rw bad refl
 
--- more octets don't mend it
+-- a bad version stays bad if more octets follow
 bad_later : (took more : List ℕ) → has_bad_version (left_over took) ≡ true → has_bad_version (left_over took ++ more) ≡ true
 bad_later took more bad = version-append (left_over took) more (some_octets (left_over took) bad) ∙ bad
 
@@ -39,35 +39,35 @@ bad_splits took more bad =
       none_left = none_begins (left_over took ++ more) (bad_later took more bad);
     }
 
--- after a bad version nothing tells more
+-- after a bad version no more packets are read
 pub bad_stays : (took more : List ℕ) → has_bad_version (left_over took) ≡ true → whole_packets (took ++ more) ≡ whole_packets took
 bad_stays took more bad = splits_whole (bad_splits took more bad)
 
--- and it is left over with all that follows
+-- and the bad version is left over with all that follows
 pub left_stays : (took more : List ℕ) → has_bad_version (left_over took) ≡ true → left_over (took ++ more) ≡ left_over took ++ more
 left_stays took more bad = splits_left (bad_splits took more bad)
 
--- ---- what the cap lets
+-- ---- the octets that the cap allows
 
--- what was taken within a cap begins what the cap lets
+-- octets that were taken within a cap are a prefix of those that the cap allows
 within_cap : (cap : ℕ) (input took rest : List ℕ) → input ≡ took ++ rest → length took ≤ cap → take cap input ≡ took ++ take (cap - length took) rest
 within_cap cap input took rest is within =
     let all : cap ≡ length took + (cap - length took) = omega (arith, within) in
     ap (take cap) is ∙ ap (λ n. take n (took ++ rest)) all ∙ take-append-add took rest (cap - length took)
 
--- and where all was taken it is just that
+-- and if the full cap was taken, they are exactly these
 pub all_within : (cap : ℕ) (input took rest : List ℕ) → input ≡ took ++ rest → length took ≡ cap → take cap input ≡ took
 all_within cap input took rest is full =
     let none : cap - length took ≡ 0 = omega (arith, full) in
     within_cap cap input took rest is (omega (arith, full)) ∙ ap (λ n. took ++ take n rest) none ∙ append-nil took
 
--- what can't be read on is among what the cap lets
+-- if the octets taken can't be read on, those that the cap allows can't either
 bad_within : (cap : ℕ) (input took rest : List ℕ) → input ≡ took ++ rest → length took ≤ cap → has_bad_version (left_over took) ≡ true → has_bad_version (left_over (take cap input)) ≡ true
 bad_within cap input took rest is within bad =
     let more = take (cap - length took) rest in
     ap (λ xs. has_bad_version (left_over xs)) (within_cap cap input took rest is within) ∙ ap has_bad_version (left_stays took more bad) ∙ bad_later took more bad
 
--- An input of as many octets as the cap lets, which can be read on, isn't read out.
+-- An input that has at least the octets that the cap allows isn't read out, if these can be read on.
 pub not_read_out : {g w : List ℕ} {Q : ℕ → ℕ → Type 0} (cap : ℕ) (took input : List ℕ) (old new : Outside) → Exchange old new took g w Q → old.rest ≡ Some input → length took ≤ cap →
     cap ≤ length input → has_bad_version (left_over (take cap input)) ≡ false → IsReadOut cap new took → ⊥
 not_read_out cap took input old new since told within long good (inl bad) =

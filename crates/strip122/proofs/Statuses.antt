@@ -1,4 +1,4 @@
--- What a run of `make` and `trial` leaves after its note, or one that refuses the words, and what follows for each status.
+-- The effect of a run of `make` and `trial`, or of one that refuses the arguments, after its note, and what follows for each status.
 use Rattle.std.proofs.Common.{◌≡◌, ◌≤◌, ℕ, List, [], length, refl, sym, subst, arith, take, inl, inr}
 use Rattle.std.specs.Prelude.{Result, Ok, Err, codes}
 use Rattle.port_122.specs.Outside.{Outside, Exchange, NoRead, Rose, GivenBy}
@@ -44,7 +44,7 @@ given_cut octets a b c f n = record {
   });
 }
 
--- no memory for a trial, and its note
+-- there is too little memory for a trial, and this is noted
 pub lacks_trial : (s : Setting) (seed : ℕ) (a b : Outside) → Notes a b memory_line → Tries s seed a b 6
 lacks_trial s seed a b n = inl (record { wrote = n.0; since = n.1; status_is = refl; noted = n.2 })
 
@@ -58,7 +58,7 @@ tried_cut s seed done a b c tried f n = inr (record { done = done; tried = tried
 
 -- ---- each status
 
--- what only gives octets has status 0 or 5
+-- a run that only gives octets has status 0 or 5
 gives_ends : (octets : List ℕ) (b : Behaviour) (old new : Outside) (status : ℕ) → Gives octets old new status → (Exchange old new [] octets [] NoRead → b.whole old new) → AtStatus b old new status
 gives_ends octets b old new status run given = elim run.ending [
   | inl whole ↦ subst (AtStatus b old new) (sym whole.status_is)

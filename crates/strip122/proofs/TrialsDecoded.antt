@@ -1,4 +1,4 @@
--- What a decoder reads of all packets of an image.
+-- What a decoder reads if it is given all packets of an image.
 use Rattle.std.proofs.Common.{◌≡◌, ◌∙◌, inl, inr, ℕ, true, List, [], ◌++◌, length, sym, ap, arith, length-append}
 use Rattle.std.specs.Prelude.{Some}
 use Rattle.port_122.specs.Outside.{Outside, Exchange}
@@ -9,11 +9,11 @@ use Rattle.strip122.proofs.ReadOut.{took_front, some_octets, left_stays}
 
 -- ---- what can't be read on
 
--- so where nothing is left over of an input, each front of it can be read on
+-- so if nothing is left over of an input, each prefix of it can be read on
 front_good : (took more : List ℕ) → left_over (took ++ more) ≡ [] → has_bad_version (left_over took) ≡ true → ⊥
 front_good took more none bad = omega (arith, ap length (sym (left_stays took more bad) ∙ none), length-append (left_over took) more, some_octets (left_over took) bad)
 
--- and what was read out was all of it
+-- and if the input was read out, all of it was taken
 pub took_all : {g w : List ℕ} {Q : ℕ → ℕ → Type 0} (cap : ℕ) (took input : List ℕ) (old new : Outside) → Exchange old new took g w Q → old.rest ≡ Some input → left_over input ≡ [] →
     IsReadOut cap new took → took ≡ input
 took_all cap took input old new since told none (inl bad) =

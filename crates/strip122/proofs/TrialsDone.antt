@@ -1,4 +1,4 @@
--- A trial from its parts: the raster, its packets, and their picture.
+-- The steps of a trial: the raster, its packets, and their picture.
 use Rattle.std.proofs.Common.{◌≡◌, ◌≤◌, ◌<◌, ◌+◌, ◌-◌, ◌*◌, ◌^◌, ◌∙◌, ℕ, ℤ, ◌≤ℤ◌, Bool, List, [], length, min, refl, sym, ap, subst, inl, inr, arith}
 use Rattle.std.specs.Prelude.{Some, Result, Ok, Err, IfOk}
 use Rattle.std.specs.Int.{int_min, int_max}
@@ -155,7 +155,7 @@ are_equal s raster packets given equal range has is =
       equal_is = is ∙ places-same s.rows s.width (image_of s raster) (image_of s given) (image_of s raster) shows (omega (arith, width)) (λ i j row column. refl) (shown_is s shows given range pixels has.gave);
     }
 
--- what is tried of a raster
+-- the counts of a trial of a raster
 pub raster_tried : (s : Setting) (raster packets : List ℕ) (done : EncodeDone) (equal : ℕ) → HasEncoded s raster packets done → AreEqualIn s (image_of s raster) packets equal →
     IsTried s (image_of s raster) (record { segments = done.segments; packets = done.packets; octets = done.octets; equal = equal })
 raster_tried s raster packets done equal has are = record {
@@ -167,7 +167,7 @@ raster_tried s raster packets done equal has are = record {
 
 -- ---- the made image
 
--- of images that are the same in the rows and columns of a setting the same is tried
+-- images that are the same in the rows and columns of a setting have the same counts of a trial
 tried_same : (s : Setting) (x y : ℕ → ℕ → ℤ) (done : TrialDone) → IsInRange s → IsWithin rows_range s.rows → ((i j : ℕ) → i < s.rows → j < s.width → x i j ≡ y i j) → IsTried s x done → IsTried s y done
 tried_same s x y done range height same tried =
     let all = blocks_same s x y range height same in

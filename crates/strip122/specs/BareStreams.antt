@@ -1,4 +1,4 @@
--- What a run of `bare-encode` and `bare-decode` leaves. This project's own.
+-- The effect of a run of `bare-encode` and `bare-decode`. This project's own.
 use Rattle.std.specs.Prelude.{◌≡◌, ◌≤◌, ℕ, ℤ, List, [], length, Option, Some, Result, Ok, Err}
 use Rattle.port_122.specs.Outside.{Outside, GivenBy, Exchange, AtEnd}
 use Rattle.base_122.specs.declared.geometry.Geometry.{Geometry}
@@ -36,7 +36,7 @@ pub record EncodedBare (setting : Setting) (old new : Outside) : Type 0 where
 abbrev pub encodes_bare : Setting → Behaviour
 encodes_bare setting = encoder setting (BareAnswers setting) (texts_for setting) (EncodedBare setting)
 
--- ---- `bare-decode`: all that a run leaves
+-- ---- `bare-decode`: the whole effect of a run
 
 -- the status and the note for each answer
 abbrev pub bare_status : Result Geometry BareFault → ℕ
@@ -47,7 +47,7 @@ abbrev pub bare_line : Result Geometry BareFault → List ℕ
 bare_line (Ok g) = []
 bare_line (Err fault) = bare_fault_line fault
 
--- Why it was answered so, where these segments were read: what is given, how it ended, and the reason.
+-- The cause of an answer, if these segments were read: what is given, how the run ended, and the reason.
 pub record BareCauses (wish : DecodeWish) (read : Option SegmentsRead) (old new : Outside) (took gave : List ℕ) (answer : Result Geometry BareFault) : Type 0 where
   pub gives : GivesRead answer gave read
   pub ends : EndsSo answer old new
@@ -98,7 +98,7 @@ pub record BareRefuses (wish : DecodeWish) (old new : Outside) : Type 0 where
   pub cause : BareCauses wish read old new took gave (Err fault)
   pub noted : IsNoted old new wrote (bare_fault_line fault)
 
--- there is no memory for the decoder: nothing is given
+-- there is too little memory for the decoder: nothing is given
 pub record BareLacksMemory (wish : DecodeWish) (old new : Outside) : Type 0 where
   pub took : List ℕ
   pub wrote : List ℕ
@@ -122,7 +122,7 @@ decodes_bare wish = record {
 
 -- ---- the round trip
 
--- A picture was given. If the stream is that of an image from which nothing was left out, what is given is the image's raster.
+-- A picture was given. If the stream is that of an image from which nothing is missing, what is given is the image's raster.
 pub record GaveBare (wish : DecodeWish) (old new : Outside) : Type 0 where
   pub g : Geometry
   pub took : List ℕ

@@ -2,8 +2,8 @@
 use Rattle.std.specs.Prelude.{◌≡◌, ◌⊎◌, ℕ, List, []}
 use Rattle.port_122.specs.Outside.{Outside, Exchange, NoRead, Rose}
 
--- All that is said of a command, of the outside before it and after it: what it leaves with a status; at status 0 its whole output is
--- given, at 1 a part, at 3 it refuses its input, and at 6 it had no memory; and the right and the wrong input.
+-- All that is stated of a command, of the outside before it and after it: its effect for each status; at status 0 its whole output is
+-- given, at 1 a part, at 3 it refuses its input, and at 6 it had too little memory; and the right and the wrong input.
 pub record Behaviour : Type 1 where
   pub performs : Outside → Outside → ℕ → Type 0
   pub whole : Outside → Outside → Type 0
@@ -13,7 +13,7 @@ pub record Behaviour : Type 1 where
   pub right : Outside → Type 0
   pub wrong : Outside → Type 0
 
--- no run of the command leaves that
+-- no run of the command has this effect
 abbrev pub Never : Outside → Outside → Type 0
 Never old new = ⊥
 
@@ -26,6 +26,6 @@ pub record IsSteady (old new : Outside) : Type 0 where
   pub reads : Rose old.read_faults new.read_faults → ⊥
   pub writes : Rose old.write_faults new.write_faults → ⊥
 
--- the command is done, wholly or in part, or it had no memory
+-- the command is done, wholly or in part, or it had too little memory
 abbrev pub Completes : Behaviour → Outside → Outside → ℕ → Type 0
 Completes b old new status = ((status ≡ 0) × b.whole old new) ⊎ (((status ≡ 1) × b.part old new) ⊎ ((status ≡ 6) × b.nothing old new))

@@ -27,18 +27,18 @@ abbrev pub ranges_text : List RowRange → List ℕ
 ranges_text [] = codes " none"
 ranges_text (range ∷ ranges) = flat_map range_text (range ∷ ranges)
 
--- that the height isn't known
+-- the text that the height isn't known
 abbrev pub height_text : (known : Bool) → List ℕ
 height_text true = []
 height_text false = codes "; height unknown"
 
--- why the packets can't be read on
+-- the text of the reason why the packets can't be read on
 abbrev pub framing_text : Option Framing → List ℕ
 framing_text None = []
 framing_text (Some (BadVersion octet)) = codes "; bad version at octet " ++ decimal octet
 framing_text (Some (CutPacket missing)) = codes "; packet cut, " ++ decimal missing ++ codes " octets missing"
 
--- what follows the ranges
+-- the text after the ranges
 abbrev pub rest_text : (known : Bool) → Option Framing → List ℕ
 rest_text known framing = height_text known ++ framing_text framing
 

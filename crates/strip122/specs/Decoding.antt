@@ -1,4 +1,4 @@
--- What a run of `decode`, `damage`, `look` and `rects` leaves, and which command reads packets how. This project's own.
+-- The effect of a run of `decode`, `damage`, `look` and `rects`, and how each command reads packets. This project's own.
 use Rattle.std.specs.Prelude.{◌≡◌, ◌≢◌, ◌⊎◌, ◌<◌, ◌≤◌, ◌*◌, ℕ, List, [], length, None, Some, Result, Ok, Err}
 use Rattle.port_122.specs.Outside.{Outside, Exchange}
 use Rattle.base_122.specs.declared.geometry.Geometry.{Geometry}
@@ -29,7 +29,7 @@ abbrev pub decode_line : Result DecodeDone DecodeFault → List ℕ
 decode_line (Ok done) = done_line (damaged done.damage) (is_known done.geometry) done.framing
 decode_line (Err fault) = decoder_fault_line fault
 
--- ---- all that a run leaves
+-- ---- the whole effect of a run
 
 -- what causes an answer of a decoder
 abbrev pub Causes : Type 1
@@ -39,7 +39,7 @@ Causes = Outside → Outside → List ℕ → List ℕ → Result DecodeDone Dec
 abbrev pub RunsDecoder : Causes → Asking → (old new : Outside) (status : ℕ) → Type 0
 RunsDecoder causes asks = Ran causes asks decode_status decode_line
 
--- what causes an answer of `decode`, and how much is taken for it at most
+-- what causes an answer of `decode`, and the most octets that are taken for it
 abbrev pub DecodeCauses : DecodeWish → Causes
 DecodeCauses wish = CausedWithin wish.octets (Answers wish)
 
@@ -103,7 +103,7 @@ pub record DecoderRefuses (causes : Causes) (asks : Asking) (old new : Outside) 
   pub cause : causes old new took gave (Err fault)
   pub noted : IsNoted old new wrote (decoder_fault_line fault)
 
--- there is no memory for the decoder: nothing is given
+-- there is too little memory for the decoder: nothing is given
 pub record DecoderLacksMemory (wish : DecodeWish) (asks : Asking) (old new : Outside) : Type 0 where
   pub took : List ℕ
   pub wrote : List ℕ
@@ -120,7 +120,7 @@ pub record HasPicture (wish : DecodeWish) (old : Outside) : Type 0 where
   pub geometry_is : geometry_in wish.apid packets.input ≡ Some geometry
   pub few : HasFewPixels wish.pixels wish.apid packets.input
 
--- the octets tell of no image
+-- the octets report no image
 abbrev pub TellsNone : DecodeWish → List ℕ → Type 0
 TellsNone wish input = geometry_in wish.apid input ≡ None
 
@@ -128,7 +128,7 @@ TellsNone wish input = geometry_in wish.apid input ≡ None
 abbrev pub TellsMany : DecodeWish → List ℕ → Type 0
 TellsMany wish input = (g : Geometry) × (geometry_in wish.apid input ≡ Some g) × (wish.pixels < g.width * rows_reached g (end_of (kept_in wish.apid input)))
 
--- It has packets, and tells of no image, or of one of too many pixels.
+-- It has packets, and reports no image, or one of too many pixels.
 pub record HasNoPicture (wish : DecodeWish) (old : Outside) : Type 0 where
   pub packets : HasPackets wish.octets old
   pub no_picture : TellsNone wish packets.input ⊎ TellsMany wish packets.input

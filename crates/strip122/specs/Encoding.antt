@@ -1,4 +1,4 @@
--- What a run of `encode` leaves. This project's own.
+-- The effect of a run of `encode`. This project's own.
 use Rattle.std.specs.Prelude.{◌≡◌, ◌≢◌, ◌⊎◌, ◌≤◌, ℕ, List, [], Result, Ok, Err, Some}
 use Rattle.port_122.specs.Outside.{Outside, GivenBy, Exchange, AtEnd}
 use Rattle.base_122.specs.declared.setting.Setting.{Setting}
@@ -11,7 +11,7 @@ use Rattle.strip122.specs.Notes.{IsNoted, fault_status, fault_line}
 use Rattle.strip122.specs.Ran.{Ran, LacksMemory}
 use Rattle.strip122.specs.Behaviours.{Behaviour, Never, OnlyNotes}
 
--- ---- all that a run leaves
+-- ---- the whole effect of a run
 
 -- the status and the note for each answer of an encoder
 abbrev pub encode_status : Result EncodeDone EncodeFault → ℕ

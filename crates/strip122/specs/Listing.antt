@@ -1,4 +1,4 @@
--- What a run of `list`, `pick` and `info` leaves. This project's own.
+-- The effect of a run of `list`, `pick` and `info`. This project's own.
 use Rattle.std.specs.Prelude.{◌≡◌, ◌⊎◌, ◌<◌, ◌≤◌, ℕ, List, [], length, take, true, false, Option, None, Some, Result, Ok, Err}
 use Rattle.port_122.specs.Outside.{Outside, Exchange}
 use Rattle.base_122.specs.declared.wish.DecodeWish.{DecodeWish}
@@ -24,8 +24,8 @@ use Rattle.strip122.specs.Behaviours.{Behaviour, OnlyNotes}
 
 -- ---- a reader of packets that aren't decoded
 
--- One engine: what causes its answers, what it does at a read call, which octets have no more in them than it can list, and how its answers
--- are noted.
+-- One engine: the causes of its answers, what it does at a read call, which octets hold no more than it can list, and how its answers are
+-- noted.
 pub record Reader (D F : Type 0) : Type 1 where
   pub cap : ℕ
   pub causes : Outside → Outside → List ℕ → List ℕ → Result D F → Type 0
@@ -48,7 +48,7 @@ abbrev pub WithMemory : {D F : Type 0} → (r : Reader D F) → Outside → Outs
 WithMemory r old new took gave (Ok done) = r.causes old new took gave (Ok done)
 WithMemory r old new took gave (Err fault) = (r.fault_of fault ≡ Memory → ⊥) × r.causes old new took gave (Err fault)
 
--- ---- all that a run leaves
+-- ---- the whole effect of a run
 
 -- one run of a command with such an engine
 abbrev pub Reads : {D F : Type 0} → Reader D F → (old new : Outside) (status : ℕ) → Type 0
@@ -97,7 +97,7 @@ pub record HasPackets (cap : ℕ) (old : Outside) : Type 0 where
   pub told : old.rest ≡ Some input
   pub ends : (length input < cap) ⊎ (has_bad_version (left_over (take cap input)) ≡ true)
 
--- It has as many octets as may be taken, or more, and these can be read on.
+-- It has at least the number of octets that may be taken, and these can be read on.
 pub record HasTooMany (cap : ℕ) (old : Outside) : Type 0 where
   pub input : List ℕ
   pub told : old.rest ≡ Some input

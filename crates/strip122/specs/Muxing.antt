@@ -1,4 +1,4 @@
--- What a run of `mux` leaves. This project's own.
+-- The effect of a run of `mux`. This project's own.
 use Rattle.std.specs.Prelude.{◌≡◌, ◌⊎◌, ◌<◌, ◌+◌, ℕ, List, [], ◌++◌, length, map, Result, Ok, Err, Some}
 use Rattle.std.specs.List.{range_with_len}
 use Rattle.port_122.specs.Outside.{Outside, Exchange, AtEnd}
@@ -18,7 +18,7 @@ use Rattle.strip122.specs.Behaviours.{Behaviour, Never, OnlyNotes}
 abbrev pub camera_settings : Setting → (cameras : ℕ) → List Setting
 camera_settings setting cameras = map (λ camera. record setting { apid = setting.apid + camera }) (range_with_len 0 cameras)
 
--- ---- all that a run leaves
+-- ---- the whole effect of a run
 
 -- the status and the note for each answer
 abbrev pub mux_status : Result MuxDone MuxFault → ℕ

@@ -1,4 +1,4 @@
--- The notes: one line for each status but 0. This project's own.
+-- The notes: one line for each status except 0. This project's own.
 use Rattle.std.specs.Prelude.{◌≡◌, ◌⊎◌, ◌≤◌, ℕ, zero, suc, List, [], ◌∷◌, ◌++◌, length, take, decimal, codes}
 use Rattle.std.specs.Fmt.{signed_decimal}
 use Rattle.port_122.specs.Outside.{Outside, Exchange, NoRead, Rose}
@@ -17,15 +17,15 @@ use Rattle.packet_list.specs.declared.list.ListFault.TheVariants.{ReadFault as l
 use Rattle.command_words.specs.declared.command.WordFault.{WordFault}
 use Rattle.command_words.specs.declared.command.WordFault.TheVariants.{MissingCommand, BadWord, MissingKey, OutOfRange}
 
--- the line was noted, or a prefix of it where a note failed
+-- the line was noted, or a prefix of it if a note failed
 abbrev pub IsNoted : Outside → Outside → List ℕ → List ℕ → Type 0
 IsNoted old new wrote line = (wrote ≡ line) ⊎ (Rose old.note_faults new.note_faults × ((k : ℕ) × (k ≤ length line) × (wrote ≡ take k line)))
 
--- just this line was noted, or a prefix of it where a note failed
+-- exactly this line was noted, or a prefix of it if a note failed
 abbrev pub Notes : Outside → Outside → List ℕ → Type 0
 Notes old new line = (wrote : List ℕ) × Exchange old new [] [] wrote NoRead × IsNoted old new wrote line
 
--- the word at a place
+-- the argument at a place
 abbrev pub word_at : List (List ℕ) → ℕ → List ℕ
 word_at [] place = []
 word_at (word ∷ words) zero = word
@@ -50,7 +50,7 @@ field_text Octets = codes "octets"
 field_text Total = codes "total"
 field_text Cameras = codes "cameras"
 
--- the note on words that are refused
+-- the note on arguments that are refused
 abbrev pub word_line : List (List ℕ) → WordFault → List ℕ
 word_line words MissingCommand = codes "strip122: missing command\n"
 word_line words (BadWord place) = codes "strip122: bad word: " ++ word_at words place ++ codes "\n"
@@ -94,7 +94,7 @@ mux_fault_line (bad_camera_pixel camera row column value) =
 mux_fault_line mux_read_failed = codes "strip122: read fault\n"
 mux_fault_line mux_write_failed = codes "strip122: write fault\n"
 
--- the note on want of memory
+-- the note on a lack of memory
 abbrev pub memory_line : List ℕ
 memory_line = codes "strip122: no memory\n"
 

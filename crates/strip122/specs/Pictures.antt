@@ -1,4 +1,4 @@
--- What a picture that `decode` gave shows, and what a look does. This project's own.
+-- What a picture that `decode` gave shows, and what a look shows. This project's own.
 use Rattle.std.specs.Prelude.{◌≡◌, ℕ, ℤ, List, None, Some}
 use Rattle.port_122.specs.Outside.{Outside, Exchange}
 use Rattle.base_122.specs.Sizes.{block_count}
@@ -30,9 +30,10 @@ pub record GivesOwn (apid : ℕ) (took gave : List ℕ) (done : DecodeDone) : Ty
   pub gave_is : gave ≡ picture_octets done.geometry received (begun_in apid (picked took apid None))
   pub damage : IsDamageOf done.geometry received (begun_in apid (picked took apid None)) done.damage
 
--- A picture was given: that of the packets of the APID alone. Whatever numbers the lost blocks have, no pixel of it outside the damaged rows changes. If some packets of an
--- image were taken, of which one begins a segment, each such pixel is that of the picture for all of them, whether they report its
--- height or not. So it is of each pixel outside the rectangles that the missing blocks reach. If all were taken, the status is 0, nothing is missing, and the raster of an image that was sent whole is given.
+-- A picture was given: that of the packets of the APID alone. Whatever numbers the lost blocks have, no pixel of it outside the damaged
+-- rows changes. If some packets of an image were taken, of which one begins a segment, each such pixel is that of the picture for all of
+-- them, whether they report its height or not. The same holds of each pixel outside the rectangles that the missing blocks reach. If all
+-- packets were taken, the status is 0, nothing is missing, and the raster of an image that was sent whole is given.
 pub record GavePicture (wish : DecodeWish) (old new : Outside) (status : ℕ) : Type 0 where
   pub done : DecodeDone
   pub took : List ℕ

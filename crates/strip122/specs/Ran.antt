@@ -19,12 +19,12 @@ pub record Ran {R : Type 0} (causes : Outside → Outside → List ℕ → List 
   pub status_is : status ≡ status_of answer
   pub noted : IsNoted old new wrote (line_of answer)
 
--- An answer and its cause, for which at most so many octets were taken.
+-- An answer and its cause, for which at most `most` octets were taken.
 pub record CausedWithin {R : Type 0} (most : ℕ) (causes : Outside → Outside → List ℕ → List ℕ → R → Type 0) (old new : Outside) (took gave : List ℕ) (answer : R) : Type 0 where
   pub within : length took ≤ most
   pub cause : causes old new took gave answer
 
--- There is no memory for the engine: nothing is read or given.
+-- There is too little memory for the engine: nothing is read or given.
 pub record LacksMemory (old new : Outside) (status : ℕ) : Type 0 where
   pub wrote : List ℕ
   pub since : Exchange old new [] [] wrote NoRead

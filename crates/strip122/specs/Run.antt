@@ -1,4 +1,4 @@
--- What a run of the program leaves, for each command. This project's own.
+-- The effect of a run of the program, for each command. This project's own.
 use Rattle.std.specs.Prelude.{◌≡◌, ◌⊎◌, ◌≤◌, ℕ, List, [], length, take, codes, Result, Ok, Err}
 use Rattle.port_122.specs.Outside.{Outside, Exchange, NoRead, Rose}
 use Rattle.base_122.specs.declared.setting.Setting.{Setting}
@@ -19,9 +19,9 @@ use Rattle.strip122.specs.Listing.{reads_packets, picker, informer}
 use Rattle.strip122.specs.Muxing.{muxes, camera_settings}
 use Rattle.strip122.specs.Notes.{IsNoted, word_line}
 
--- ---- all that a run leaves
+-- ---- the whole effect of a run
 
--- The words are refused: nothing is read or written, and the note says why.
+-- The arguments are refused: nothing is read or written, and the note reports why.
 pub record Refuses (words : List (List ℕ)) (fault : WordFault) (old new : Outside) (status : ℕ) : Type 0 where
   pub wrote : List ℕ
   pub since : Exchange old new [] [] wrote NoRead
@@ -107,7 +107,7 @@ behaviour (BareDecode wish) = decodes_bare wish
 behaviour (Make made) = makes made
 behaviour (Trial setting seed) = tries setting seed
 
--- what a run leaves, for what the words say
+-- the effect of a run, for the meaning of the arguments
 abbrev pub Runs : List (List ℕ) → Result Command WordFault → Outside → Outside → ℕ → Type 0
 Runs words (Ok command) old new status = (behaviour command).performs old new status
 Runs words (Err fault) old new status = Refuses words fault old new status

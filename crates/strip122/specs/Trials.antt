@@ -28,7 +28,7 @@ raster_length s = s.rows * row_length s
 abbrev pub equal_places : (rows width : ℕ) → (x y : ℕ → ℕ → ℤ) → ℕ
 equal_places rows width x y = count_by (λ place. int_eq (x (place / width) (place % width)) (y (place / width) (place % width))) (range_with_len 0 (rows * width))
 
--- what a decoder is asked for: an image with at most the pixels of a setting, in fewer than 2 ^ 40 octets
+-- the wish of a decoder: an image with at most the pixels of a setting, in fewer than 2 ^ 40 octets
 abbrev pub wish_for : Setting → DecodeWish
 wish_for s = record { apid = s.apid; pixels = s.width * s.rows; octets = 2 ^ 40 }
 

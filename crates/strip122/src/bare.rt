@@ -1,4 +1,4 @@
-// The command that reads a bare stream.
+// Runs the command that reads a bare stream.
 ghost use Rattle.std.specs.Prelude.{◌≡◌};
 ghost use Rattle.strip122.specs.Notes.{bare_fault_status};
 ghost use Rattle.strip122.specs.BareStreams.{DecodesStream};
@@ -20,7 +20,8 @@ fn bare_fault_status(fault: BareFault) -> u8
     }
 }
 
-/// The command `bare-decode`: a bare stream in, its picture out. If there is no memory nothing is given.
+/// Runs the command `bare-decode`: it takes a bare stream and gives its picture. Returns the status. If there is too little memory, nothing
+/// is given.
 pub fn bare_decode<X: Port>(alloc: Global, wish: &DecodeWish, port: &mut X) -> u8
     ensures { DecodesStream wish.now (X.outside port.old) (X.outside port.new) result }
 {

@@ -1,4 +1,4 @@
-// The note on packets that aren't whole.
+// Writes the note on packets that aren't whole.
 ghost use Rattle.std.specs.Prelude.{◌≡◌, ◌≤◌, ◌<◌, ◌^◌, ◌++◌, [], true, length, codes, decimal};
 ghost use Rattle.std.specs.List.{flat_map};
 ghost use Rattle.port_122.specs.Outside.{NotesAll};

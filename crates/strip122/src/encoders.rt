@@ -1,4 +1,4 @@
-// The commands that encode rasters.
+// Runs the commands that encode rasters.
 ghost use Rattle.std.specs.Prelude.{◌≡◌, ◌≤◌, ◌+◌, IfOk};
 ghost use Rattle.base_122.specs.Ranges.{IsInRange, IsWithin, rows_range};
 ghost use Rattle.camera_mux.specs.MuxProgress.{AreSettings, CanMux};
@@ -39,7 +39,7 @@ fn mux_fault_status(fault: MuxFault) -> u8
     }
 }
 
-/// Runs the command `encode`. The memory is taken first, so if there is none nothing was read.
+/// Runs the command `encode`, and returns the status. The memory is taken first, so if there is too little, nothing was read.
 pub fn encode<X: Port>(alloc: Global, setting: &Setting, port: &mut X) -> u8
     requires { IsInRange setting.now }
     ensures { Encodes setting.now (X.outside port.old) (X.outside port.new) result }
@@ -57,7 +57,7 @@ pub fn encode<X: Port>(alloc: Global, setting: &Setting, port: &mut X) -> u8
     }
 }
 
-/// The command `bare-encode`. The memory is taken first, so if there is none nothing was read.
+/// Runs the command `bare-encode`, and returns the status. The memory is taken first, so if there is too little, nothing was read.
 pub fn bare_encode<X: Port>(alloc: Global, setting: &Setting, port: &mut X) -> u8
     requires range { IsInRange setting.now }
     requires height { IsWithin rows_range setting.now.rows }
@@ -77,7 +77,7 @@ pub fn bare_encode<X: Port>(alloc: Global, setting: &Setting, port: &mut X) -> u
     }
 }
 
-/// Runs the command `mux`, for cameras of one setting with consecutive APIDs. The memory is taken first.
+/// Runs the command `mux` for cameras of one setting with consecutive APIDs, and returns the status. The memory is taken first.
 pub fn mux<X: Port>(alloc: Global, setting: &Setting, cameras: u8, port: &mut X) -> u8
     requires range { IsInRange setting.now }
     requires height { IsWithin rows_range setting.now.rows }

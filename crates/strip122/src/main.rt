@@ -1,4 +1,4 @@
-//! The program: standard input, output and error, the words of the command line and the status.
+//! This crate is the program: it connects standard input, output and error, the arguments of the command line and the status.
 #![tactic(auto)]
 
 ghost use Rattle.std.specs.Prelude.{◌≡◌, Result, MatchOption, MatchResult};
@@ -32,13 +32,13 @@ use std::env;
 use std::io::{self, ErrorKind};
 use std::process::ExitCode;
 
-// The status for words that are no text.
+// The status for arguments that aren't UTF-8.
 const REFUSED: u8 = 2;
 
 // The status if standard output fails.
 const WRITE_FAULT: u8 = 5;
 
-// The status if there is no memory for the words.
+// The status if there is too little memory for the arguments.
 const NO_MEMORY: u8 = 6;
 
 // The usage text before the commands.
@@ -70,14 +70,14 @@ status  0 done, 1 rows are damaged, the height is unknown or the packets can't
 
 const VERSION: &str = "strip122 0.1.0 (CCSDS 122.0-B-2 in CCSDS 133.0-B-2 packets)\n";
 
-// What the program itself answers.
+// An answer of the program itself.
 #[derive(Clone, Copy, Debug, PartialEq, Eq)]
 enum Answer {
     Help,
     Version,
 }
 
-// Returns what the program itself answers to these words, if it does: to one word alone.
+// Returns the answer of the program itself to these arguments, if it has one: it answers only a single argument.
 fn answer_to(words: &[String]) -> Option<Answer>
     ensures { MatchOption result
         ((own : Answer) → IsAnswer (texts words.now) own → ⊥)
@@ -120,7 +120,7 @@ fn write_status(written: Result<(), io::Error>) -> u8
     }
 }
 
-// Returns the status if the words can't be read.
+// Returns the status if the arguments can't be read.
 fn words_status(kind: ErrorKind) -> u8
     ensures { result ≡ words_fault kind }
 {
@@ -130,7 +130,7 @@ fn words_status(kind: ErrorKind) -> u8
     }
 }
 
-// Prints an answer of the program itself, and returns the status of that.
+// Prints an answer of the program itself, and returns the status.
 fn print(rt: &(impl Print + AllocGlobal), answer: Answer) -> u8 {
     match answer_text(rt.alloc(), answer) {
         Ok(text) => write_status(rt.print(text.as_str())),
@@ -138,7 +138,7 @@ fn print(rt: &(impl Print + AllocGlobal), answer: Answer) -> u8 {
     }
 }
 
-// Does what the words ask for, and returns the status that `run` returns.
+// Does what the arguments ask for, and returns the status that `run` returns.
 fn run_words<X: Port>(alloc: Global, words: &[String], port: &mut X) -> ExitCode
     ensures { (said : Result Command WordFault) × Says (texts words.now) said
         × Runs (texts words.now) said (X.outside port.old) (X.outside port.new) (exit_status result) }

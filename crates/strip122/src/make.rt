@@ -9,11 +9,11 @@ ghost use Rattle.strip122.specs.MadeRasters.{made_raster, made_part};
 use port_122::{Failed, Port};
 use raster_rows::{MadeImage, made_pixel, write_row};
 
-// The pixels of a piece, which has at most 4,096 octets.
+// The number of pixels of a piece, which has at most 4,096 octets.
 const PIECE: usize = 2048;
 
-/// Gives the raster of a made image (docs/formats.md, "Raster and made image"), by pieces. It takes no memory and
-/// reads nothing. After `Failed` a prefix of the raster is given, and `write_faults` rose.
+/// Gives the raster of a made image in pieces (docs/formats.md, "Raster and made image"). It takes no memory and reads nothing. After
+/// `Failed`, a prefix of the raster is given, and `write_faults` rose.
 pub fn write_made<X: Port>(port: &mut X, made: &MadeImage) -> Result<(), Failed>
     requires { IsDepth made.now.depth }
     ensures { WritesAll result (X.outside port.old) (X.outside port.new) (made_raster made.now) }
@@ -25,7 +25,7 @@ pub fn write_made<X: Port>(port: &mut X, made: &MadeImage) -> Result<(), Failed>
     Ok(())
 }
 
-// Gives a row by pieces that fit `pixels`.
+// Gives a row in pieces that fit `pixels`.
 fn write_made_row<X: Port>(
     port: &mut X,
     made: &MadeImage,
@@ -48,7 +48,7 @@ fn write_made_row<X: Port>(
     Ok(())
 }
 
-// Puts `count` pixels of a row, from a column on, into the first places.
+// Puts `count` pixels of a row, from column `first` on, into the first places.
 fn make_pixels(made: &MadeImage, row: u32, first: u32, count: u32, into: &mut [i64])
     requires depth { IsDepth made.now.depth }
     requires within { first + count < 2 ^ 32 }

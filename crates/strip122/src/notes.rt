@@ -1,4 +1,4 @@
-// The notes.
+// Writes the notes.
 ghost use Rattle.std.specs.Prelude.{◌≡◌, ◌<◌, ◌++◌, length, codes, decimal};
 ghost use Rattle.std.specs.Fmt.{signed_decimal};
 ghost use Rattle.command_words.specs.Words.{texts, IsPlaced};
@@ -28,7 +28,7 @@ fn note_parts<X: Port>(port: &mut X, first: &str, middle: &str, last: &str)
     let _ = note_all(port, last.as_bytes());
 }
 
-/// Notes a line. A note that fails is left at that.
+/// Notes a line. If the note fails, only a prefix of the line is noted, and no error is reported.
 pub fn note_line<X: Port>(port: &mut X, line: &str)
     ensures { Notes (X.outside port.old) (X.outside port.new) line.now }
 {
@@ -58,7 +58,7 @@ fn field_name(field: Field) -> &'static str
     }
 }
 
-// Returns the word at a place.
+// Returns the argument at a place.
 fn word(words: &[String], place: usize) -> &str
     requires { place < length words.now }
     ensures { result.now ≡ word_at (texts words.now) place }
@@ -66,7 +66,7 @@ fn word(words: &[String], place: usize) -> &str
     words[place].as_str()
 }
 
-/// Notes why the words are refused.
+/// Notes why the arguments are refused.
 pub fn note_refusal<X: Port>(port: &mut X, words: &[String], fault: WordFault)
     requires { IsPlaced (length words.now) fault }
     ensures { Notes (X.outside port.old) (X.outside port.new) (word_line (texts words.now) fault) }
@@ -85,7 +85,7 @@ pub fn note_refusal<X: Port>(port: &mut X, words: &[String], fault: WordFault)
     }
 }
 
-// A line of an engine's note.
+// A line of the note on an engine's result.
 pub type Line = ArrayString<160>;
 
 fn short_line(octets: u64) -> Line

@@ -1,4 +1,4 @@
-// The commands that read packets.
+// Runs the commands that read packets.
 ghost use Rattle.std.specs.Prelude.{◌≡◌, [], true};
 ghost use Rattle.strip122.specs.Notes.{decoder_fault_status, list_fault_status};
 ghost use Rattle.strip122.specs.DamageNotes.{damaged, is_known, TellsDone};
@@ -67,7 +67,7 @@ fn tell_framing<X: Port>(port: &mut X, framing: Option<Framing>) -> u8
     1
 }
 
-// Runs the command `decode`: it takes packets and gives the picture. If there is no memory nothing is given.
+// Runs the command `decode`: it takes packets and gives the picture. If there is too little memory, nothing is given.
 fn decode<X: Port>(alloc: Global, wish: &DecodeWish, port: &mut X) -> u8
     ensures { Decodes wish.now (X.outside port.old) (X.outside port.new) result }
 {
@@ -80,7 +80,8 @@ fn decode<X: Port>(alloc: Global, wish: &DecodeWish, port: &mut X) -> u8
     }
 }
 
-// Runs the command `damage`: it takes packets and gives a line for each range of damaged rows. If there is no memory nothing is given.
+// Runs the command `damage`: it takes packets and gives a line for each range of damaged rows. If there is too little memory, nothing is
+// given.
 fn damage<X: Port>(alloc: Global, wish: &DecodeWish, port: &mut X) -> u8
     ensures { FindsDamage wish.now (X.outside port.old) (X.outside port.new) result }
 {
@@ -93,8 +94,8 @@ fn damage<X: Port>(alloc: Global, wish: &DecodeWish, port: &mut X) -> u8
     }
 }
 
-// Runs the command `look`: it takes packets and gives a small picture with one value for each block. If there is no memory nothing is
-// given.
+// Runs the command `look`: it takes packets and gives a small picture with one value for each block. If there is too little memory,
+// nothing is given.
 fn look<X: Port>(alloc: Global, wish: &DecodeWish, port: &mut X) -> u8
     ensures { LooksAt wish.now (X.outside port.old) (X.outside port.new) result }
 {
@@ -107,7 +108,8 @@ fn look<X: Port>(alloc: Global, wish: &DecodeWish, port: &mut X) -> u8
     }
 }
 
-// Runs the command `rects`: it takes packets and gives a line for each rectangle of damaged pixels. If there is no memory nothing is given.
+// Runs the command `rects`: it takes packets and gives a line for each rectangle of damaged pixels. If there is too little memory, nothing
+// is given.
 fn rects<X: Port>(alloc: Global, wish: &DecodeWish, port: &mut X) -> u8
     ensures { FindsRects wish.now (X.outside port.old) (X.outside port.new) result }
 {
@@ -120,7 +122,7 @@ fn rects<X: Port>(alloc: Global, wish: &DecodeWish, port: &mut X) -> u8
     }
 }
 
-// Runs the command `list`: it takes packets and gives a line for each. If there is no memory nothing is read.
+// Runs the command `list`: it takes packets and gives a line for each. If there is too little memory, nothing is read.
 fn list<X: Port>(alloc: Global, wish: &DecodeWish, port: &mut X) -> u8
     ensures { Reads (lister wish.now) (X.outside port.old) (X.outside port.new) result }
 {
@@ -133,8 +135,8 @@ fn list<X: Port>(alloc: Global, wish: &DecodeWish, port: &mut X) -> u8
     }
 }
 
-/// Runs the command `pick`: it takes packets and gives those of one APID, or those of one image of it. If there is no memory nothing is
-/// read.
+/// Runs the command `pick`: it takes packets and gives those of one APID, or those of one image of it. Returns the status. If there is too
+/// little memory, nothing is read.
 pub fn pick<X: Port>(alloc: Global, wish: &DecodeWish, image: Option<u16>, port: &mut X) -> u8
     ensures { Reads (picker wish.now image) (X.outside port.old) (X.outside port.new) result }
 {
@@ -147,8 +149,8 @@ pub fn pick<X: Port>(alloc: Global, wish: &DecodeWish, image: Option<u16>, port:
     }
 }
 
-/// Runs the command `info`: it takes packets and gives a line for each image of an APID, or of all APIDs. If there is no memory nothing is
-/// read.
+/// Runs the command `info`: it takes packets and gives a line for each image of an APID, or of all APIDs. Returns the status. If there is
+/// too little memory, nothing is read.
 pub fn info<X: Port>(alloc: Global, apid: Option<u16>, octets: u64, port: &mut X) -> u8
     ensures { Reads (informer (record { apid = apid; octets = octets })) (X.outside port.old) (X.outside port.new) result }
 {
@@ -174,7 +176,7 @@ fn list_fault_of(fault: InfoFault) -> ListFault
     }
 }
 
-/// Runs a command that reads packets.
+/// Runs a command that reads packets, and returns the status.
 pub fn read<X: Port>(alloc: Global, reading: Reading, wish: &DecodeWish, port: &mut X) -> u8
     ensures { (reads reading wish.now).performs (X.outside port.old) (X.outside port.new) result }
 {

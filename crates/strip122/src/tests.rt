@@ -1,4 +1,4 @@
-// Tests of what the program answers by itself.
+// Tests of the answers of the program itself.
 use crate::{Answer, answer_text, answer_to};
 use std::test::Fail;
 
@@ -62,7 +62,7 @@ status  0 done, 1 rows are damaged, the height is unknown or the packets can't
         6 no memory
 ";
 
-// Returns what the program answers to the words of a text, with a space between each two.
+// Returns the answer of the program itself to the arguments in a text, with a space between each two.
 fn answer_to_text(rt: &impl AllocGlobal, text: &str) -> Result<Option<Answer>, Fail> {
     let mut words = Vec::new(rt.alloc());
     for word in text.split(' ') {

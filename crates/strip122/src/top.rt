@@ -1,4 +1,4 @@
-// The entry point of the program.
+// Defines the entry point of the program.
 ghost use Rattle.std.specs.Prelude.{◌≡◌, ◌≤◌, ◌*◌, ◌⊎◌, ◌↔◌, length, Result, Ok, Err};
 ghost use Rattle.port_122.specs.Outside.{Rose};
 ghost use Rattle.base_122.specs.Ranges.{IsInRange as IsSettingInRange, IsWithin, rows_range};
@@ -32,7 +32,7 @@ use raster_rows::MadeImage;
 use std::alloc::Global;
 use strip_decoder::{decoding_contains, round_trip};
 
-// Refuses the words.
+// Refuses the arguments.
 fn refuse<X: Port>(words: &[String], fault: WordFault, port: &mut X) -> u8
     requires { IsPlaced (length words.now) fault }
     ensures { Refuses (texts words.now) fault (X.outside port.old) (X.outside port.new) result }
@@ -93,12 +93,12 @@ fn perform<X: Port>(alloc: Global, command: &Command, port: &mut X) -> u8
     }
 }
 
-/// Does all that the program does for these words, without the program's own name, and returns its status (docs/architecture.md, "Where the
-/// meaning of a run is proved"): 0 done, 1 rows of the picture are missing, its height isn't known or its packets can't be read on, 2 the
-/// words are refused, 3 the input is refused, 4 read fault, 5 write fault, 6 no memory. Each status except 0 has its line among the notes,
-/// and is decided before it is noted.
+/// Does all that the program does for these arguments, without the program's own name, and returns its status (docs/architecture.md, "Where
+/// the meaning of a run is proved"): 0 done, 1 rows of the picture are missing, its height isn't known or its packets can't be read on, 2
+/// the arguments are refused, 3 the input is refused, 4 read fault, 5 write fault, 6 no memory. Each status except 0 has its line among the
+/// notes, and is decided before it is noted.
 pub fn run<X: Port>(alloc: Global, words: &[String], port: &mut X) -> u8
-    // What the words ask for decides what is done, and each status has its cause there.
+    // The arguments decide what is done, and each status has its cause there.
     ensures runs { (said : Result Command WordFault) × Says (texts words.now) said
         × Runs (texts words.now) said (X.outside port.old) (X.outside port.new) result }
 
@@ -115,7 +115,7 @@ pub fn run<X: Port>(alloc: Global, words: &[String], port: &mut X) -> u8
     ensures no_memory { result ≡ 6 → (command : Command) × Says (texts words.now) (Ok command)
         × (behaviour command).nothing (X.outside port.old) (X.outside port.new) }
 
-    // Valid words and no fault: with the right input the command is done, and with another one that is refused.
+    // If the arguments are valid and there is no fault, the command is done for the right input, and another input is refused.
     ensures complete { (command : Command) → Says (texts words.now) (Ok command) → (behaviour command).right (X.outside port.old) →
         IsSteady (X.outside port.old) (X.outside port.new) → Completes (behaviour command) (X.outside port.old) (X.outside port.new) result }
     ensures wrong_input { (command : Command) → Says (texts words.now) (Ok command) → (behaviour command).wrong (X.outside port.old) →

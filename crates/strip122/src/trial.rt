@@ -1,4 +1,4 @@
-// A trial of a setting: the made image, encoded and decoded in memory.
+// Tries a setting: the made image is encoded and decoded in memory.
 ghost use Rattle.std.specs.Prelude.{◌≡◌, ◌<◌, ◌≤◌, ◌+◌, ◌*◌, ◌^◌, [], length, IfOk, Ok, Some};
 ghost use Rattle.std.specs.Ordering.{int_eq};
 ghost use Rattle.port_122.specs.Outside.{WritesAll};
@@ -25,7 +25,7 @@ use stream_defs::heights_are_known;
 use strip_coder::{EncodeDone, Work, encode_rows};
 use strip_decoder::decode_packets;
 
-/// What was encoded of a made image, and the number of its pixels that were decoded unchanged.
+/// The counts of a trial: what was encoded for a made image, and the number of its pixels that were decoded unchanged.
 #[derive(Clone, Copy, Debug, PartialEq, Eq)]
 pub struct TrialDone {
     pub segments: u32,
@@ -35,7 +35,7 @@ pub struct TrialDone {
     pub equal: u64,
 }
 
-// The most octets that a call of a port moves.
+// The largest number of octets that a call of a port moves.
 const PIECE: usize = 65_536;
 
 /// Makes the image of a setting and a seed, encodes it, decodes its packets, and counts the pixels that are decoded unchanged
@@ -109,7 +109,7 @@ fn made_with(setting: &Setting, seed: u32) -> MadeImage
     }
 }
 
-// Returns a port with this input, whose calls don't fail while there is memory.
+// Returns a port with this input, whose calls fail only if there is too little memory.
 fn port_with(alloc: Global, input: &[u8]) -> Result<MemoryPort, AllocError>
     ensures { IfOk result (λ port. IsFresh port input.now [] 65536) }
 {

@@ -166,7 +166,7 @@ module _ (s : Setting) (range : IsInRange s) (left_open : s.rows ≡ 0) (k rows 
         ap (λ g. g ++ broke.gave) (sym (open_packets from few)) ∙ broke.front ∙ ap (take broke.some) (open_packets (broke.index + 1) past) ∙ front.1 ∙ sym (ap (take front.0) rest.1),
       )
 
--- ---- a write that failed while rows came
+-- ---- a write that failed while rows arrived
 
 module _ (s : Setting) (range : IsInRange s) (k from : ℕ) (le : k ≤ tallest s) (few : from ≤ settled_in s (tallest s) k) where
   from_below : from ≤ segments_of (sized s (tallest s))

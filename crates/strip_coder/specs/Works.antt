@@ -38,7 +38,7 @@ pub record IsMadeFor (s : Setting) (w : Work) : Type 0 where
 pub record KeepsShare (s : Setting) (at : ImageAt) : Type 0 where
   pub left : s.total ≢ 0 → at.used + 36 * (segments_of s - at.index) ≤ s.total
 
--- ---- how far it has come
+-- ---- the progress of the work
 
 -- the blocks gathered so far, which are the first ones
 abbrev pub gathered_in : Plan → ImageAt → ℕ

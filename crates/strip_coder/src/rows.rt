@@ -22,13 +22,13 @@ use raster_rows::{RowFault, at_end, read_row};
 ///
 /// A setting with rows has a raster of that number, and the end of the input is read after all packets are written. If the setting
 /// leaves the rows open, the raster has the whole rows before the end of the input, 17 to 262,144, and the packets of the segments
-/// that the end settles are written after it was read. The work was made for an equal setting, and serves again after any return.
+/// that the end settles are written after it was read. The work was made for an equal setting, and can be used again after any return.
 ///
 /// # Errors
 ///
 /// - `Short`: the input ended inside a row, or before the last row of the setting, or before row 17 if the rows are open; `Long`: it
-///   has more than the raster, or than 262,144 rows. The packets of the settled segments are written, which after the last row of a
-///   setting are all.
+///   has more than the raster, or than 262,144 rows. The packets of the settled segments are written; after the last row of a setting
+///   these are all packets.
 /// - `BadPixel`: the first pixel out of range; its row is the number of rows before it. The packets of the segments that these settle
 ///   are written.
 /// - `ReadFault`, `WriteFault`: the port's count rose. After the first the packets of the settled segments are written, after the

@@ -39,7 +39,7 @@ impl BlockSink for NoPicture {
     fn end_at(&mut self, _geometry: &Geometry) {}
 }
 
-/// Takes the packets of an APID as `decode_packets` does and returns what it returns, but gives no row: after all is read it gives a line
+/// Takes the packets of an APID as `decode_packets` does and returns what it returns. It gives no row: after all is read, it gives a line
 /// `first-last` for each range of damaged rows (docs/formats.md, "Picture and damage"). After `WriteFault` a prefix of the lines is given,
 /// and nothing after the other faults.
 pub fn find_damage<X: Port>(

@@ -5,7 +5,7 @@ use std::test::Fail;
 
 const SQUARE: &str = "bare-encode width=17 rows=17";
 
-// The one text of 17 rows and columns of 0, with all bit planes: what a packet of them has after its headers.
+// The one text of 17 rows and columns of 0, with all bit planes: the octets that their packet has after its headers.
 fn black_text() -> [u8; 22] {
     let mut text = ZEROS;
     text[7] = 0x00;
@@ -81,8 +81,8 @@ fn eight_segments_have_one_header(rt: HostRuntime) -> Result<(), Fail> {
     expect(&rt, "bare-decode", cut, 3, &[0; 5824], note)
 }
 
-// The stream of 300 such segments. The count in a header is the index modulo 256, and the last header alone has the last flag and an
-// octet for the rows that pad.
+// The stream of 300 such segments. The count in a header is the index modulo 256, and only the last header has the last flag and an octet
+// for the pad rows.
 fn three_hundred(alloc: Global) -> Result<Vec<u8>, AllocError> {
     let mut stream = part(&EIGHT, 0, 21).to_vec(alloc)?;
     for index in 1..300u16 {

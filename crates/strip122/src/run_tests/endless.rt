@@ -1,4 +1,4 @@
-// A run over a stream without an end.
+// Tests a run over a stream without an end.
 ghost use Rattle.std.specs.Prelude.{◌<◌, ◌≤◌};
 
 use crate::run_tests::runs::{black, words};

@@ -1,9 +1,9 @@
-// Each call of a run fails in turn.
+// Tests runs in which each call fails in turn.
 use crate::run_tests::runs::{Outcome, WHOLE, black, done, ended, part, run_words};
 use std::process::Abort;
 use std::test::Fail;
 
-// More calls than a run here makes.
+// A number of calls that no run here reaches.
 const CALLS: u64 = 2000;
 
 // The numbers of reads and writes of a run that have failed, one in each run.
@@ -13,8 +13,8 @@ struct Failures {
     writes: usize,
 }
 
-// Counts what failed in a run: a read gives status 4, a write 5, and a note changes none. What is given is a prefix of what the undisturbed
-// run gives.
+// Counts what failed in a run: if a read failed, the status is 4, and if a write failed, 5; a failed note does not change it. What is
+// given is a prefix of what the undisturbed run gives.
 fn count(rt: &impl Abort, failures: &mut Failures, whole: &Outcome, ran: &Outcome, text: &str) {
     assert!(rt; whole.port.given().starts_with(ran.port.given()), "{text}");
     match ran.status {

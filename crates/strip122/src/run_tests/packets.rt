@@ -10,7 +10,7 @@ fn eight(rt: &(impl Abort + AllocGlobal)) -> Result<Vec<u8>, Fail> {
     done(rt, "encode width=64 rows=128 segment=16", &[0; 8192])
 }
 
-// Returns these octets without those of some places.
+// Returns these octets without those at some places.
 fn without(
     rt: &(impl Abort + AllocGlobal),
     octets: &[u8],

@@ -8,7 +8,7 @@ use std::test::Fail;
 // The size of pieces with which each call moves all of its octets.
 pub(crate) const WHOLE: usize = 65_536;
 
-// Returns the words of a text, with a space between each two.
+// Returns the arguments in a text, with a space between each two.
 pub(crate) fn words(rt: &impl AllocGlobal, text: &str) -> Result<Vec<String>, Fail> {
     let mut words = Vec::new(rt.alloc());
     for word in text.split(' ') {
@@ -17,15 +17,15 @@ pub(crate) fn words(rt: &impl AllocGlobal, text: &str) -> Result<Vec<String>, Fa
     Ok(words)
 }
 
-// The status of a run, and its port.
+// The status and the port of a run.
 #[derive(Drop)]
 pub(crate) struct Outcome {
     pub status: u8,
     pub port: MemoryPort,
 }
 
-// Runs these words over an input, with pieces of this size, and lets the calls of these numbers fail. If there is no memory, which is so
-// only while allocations are refused, nothing was given or the port itself had none: then the test ends.
+// Runs these arguments over an input, with pieces of this size, and lets the calls of these numbers fail. If there is too little memory,
+// which occurs only if allocations are refused, nothing was given or the port itself had none: then the test ends.
 pub(crate) fn run_words(
     rt: &(impl Abort + AllocGlobal),
     text: &str,
@@ -45,7 +45,7 @@ pub(crate) fn run_words(
     Ok(Outcome { status, port })
 }
 
-// Expects that the run ended with this status and this note, and read nothing if its words are refused.
+// Expects that the run ended with this status and this note, and read nothing if its arguments are refused.
 fn compare(rt: &impl Abort, text: &str, piece: usize, ran: &Outcome, status: u8, note: &str) {
     assert_eq!(rt; ran.status, status, "{text} with pieces of {piece}");
     assert_eq!(rt;
@@ -80,7 +80,7 @@ pub(crate) fn done(
     ended(rt, text, input, &[], WHOLE, 0, "")
 }
 
-// Runs these words over an input, and compares the status, what was given and what was noted.
+// Runs these arguments over an input, and compares the status, what was given and what was noted.
 pub(crate) fn expect(
     rt: &(impl Abort + AllocGlobal),
     text: &str,
@@ -96,7 +96,7 @@ pub(crate) fn expect(
     Ok(())
 }
 
-// Returns the octets of these places.
+// Returns the octets at these places.
 pub(crate) fn part(octets: &[u8], first: usize, end: usize) -> &[u8] {
     octets.get(first..end).unwrap_or(octets)
 }
