@@ -104,9 +104,9 @@ fn give_line<X: Port>(port: &mut X, rect: Rect) -> Result<(), Failed>
 }
 
 // The characters of four numbers, of what is between them, and of the end of the line.
-type Line = ArrayString<48>;
+type RectLine = ArrayString<48>;
 
-fn line_of(rect: Rect) -> Line
+fn line_of(rect: Rect) -> RectLine
     ensures { result.bytes ≡ rect_line rect }
 {
     let mut line = ArrayString::new();

@@ -13,10 +13,10 @@ use itoa::Buffer;
 pub const LINE: usize = 320;
 
 /// A line, which has at most 281 octets.
-pub type Line = ArrayString<LINE>;
+pub type ImageLine = ArrayString<LINE>;
 
 // Appends a word and a number.
-fn push_number(line: &mut Line, word: &str, number: u64)
+fn push_number(line: &mut ImageLine, word: &str, number: u64)
     requires { length line.old.bytes + length word.now ≤ 300 }
     ensures text { line.new.bytes ≡ line.old.bytes ++ (word.now ++ decimal number) }
     ensures short { length line.new.bytes ≤ length line.old.bytes + length word.now + 20 }
@@ -26,7 +26,7 @@ fn push_number(line: &mut Line, word: &str, number: u64)
 }
 
 // Appends a word and a number that is known only if the height is.
-fn push_known(line: &mut Line, word: &str, geometry: &Geometry, number: u64)
+fn push_known(line: &mut ImageLine, word: &str, geometry: &Geometry, number: u64)
     requires { length line.old.bytes + length word.now ≤ 300 }
     ensures text { line.new.bytes ≡ line.old.bytes ++ (word.now ++ known_text geometry.now number) }
     ensures short { length line.new.bytes ≤ length line.old.bytes + length word.now + 20 }
@@ -40,7 +40,7 @@ fn push_known(line: &mut Line, word: &str, geometry: &Geometry, number: u64)
 }
 
 // Appends the name of an image.
-fn push_id(line: &mut Line, id: ImageId)
+fn push_id(line: &mut ImageLine, id: ImageId)
     requires { length line.old.bytes ≤ 0 }
     ensures text { line.new.bytes ≡ line.old.bytes ++ id_text id }
     ensures short { length line.new.bytes ≤ 52 }
@@ -50,7 +50,7 @@ fn push_id(line: &mut Line, id: ImageId)
 }
 
 // Appends the size of an image and of its segments.
-fn push_geometry(line: &mut Line, geometry: &Geometry)
+fn push_geometry(line: &mut ImageLine, geometry: &Geometry)
     requires { length line.old.bytes ≤ 52 }
     ensures text { line.new.bytes ≡ line.old.bytes ++ geometry_text geometry.now }
     ensures short { length line.new.bytes ≤ 170 }
@@ -64,7 +64,7 @@ fn push_geometry(line: &mut Line, geometry: &Geometry)
 }
 
 // Appends the counts of an image.
-fn push_count(line: &mut Line, geometry: &Geometry, count: &ImageCount)
+fn push_count(line: &mut ImageLine, geometry: &Geometry, count: &ImageCount)
     requires range { IsGeometryInRange geometry.now }
     requires room { length line.old.bytes ≤ 170 }
     ensures text { line.new.bytes ≡ line.old.bytes ++ count_text geometry.now count.now }
@@ -77,7 +77,7 @@ fn push_count(line: &mut Line, geometry: &Geometry, count: &ImageCount)
 }
 
 /// Returns the line of an image: its APID and number, the size of the image and of its segments, and what is received of it.
-pub fn line_of(entry: &ImageEntry) -> Line
+pub fn line_of(entry: &ImageEntry) -> ImageLine
     requires { IsRanged entry.now.state }
     ensures { result.bytes ≡ line_of entry.now }
 {

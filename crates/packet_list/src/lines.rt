@@ -11,7 +11,7 @@ use packet_assembly::{Fate, PacketNote, Skip};
 pub const LINE: usize = 64;
 
 /// A line, which has at most 59 octets.
-pub type Line = ArrayString<LINE>;
+pub type PacketLine = ArrayString<LINE>;
 
 fn skip_name(skip: Skip) -> &'static str
     ensures text { result.now ≡ skip_text skip }
@@ -42,7 +42,7 @@ fn fate_name(fate: Fate) -> &'static str
 }
 
 // Returns the line of a packet that is kept.
-fn kept_line(number: u64, index: u32, part: u32, octets: u32) -> Line
+fn kept_line(number: u64, index: u32, part: u32, octets: u32) -> PacketLine
     ensures { result.bytes ≡ decimal number ++ codes " kept " ++ decimal index ++ codes " " ++ decimal part ++ codes " " ++ decimal octets ++ codes "\n" }
 {
     let mut line = ArrayString::new();
@@ -58,7 +58,7 @@ fn kept_line(number: u64, index: u32, part: u32, octets: u32) -> Line
 }
 
 // Returns the line of another packet, with its fate's name.
-fn other_line(number: u64, name: &str) -> Line
+fn other_line(number: u64, name: &str) -> PacketLine
     requires { length name.now ≤ 15 }
     ensures { result.bytes ≡ decimal number ++ codes " " ++ name.now ++ codes "\n" }
 {
@@ -71,7 +71,7 @@ fn other_line(number: u64, name: &str) -> Line
 }
 
 /// Returns the line of a packet: its number and its fate, and for a kept one its segment's index, its part and the octets of its text.
-pub fn line_of(note: &PacketNote) -> Line
+pub fn line_of(note: &PacketNote) -> PacketLine
     ensures { result.bytes ≡ line_of note.now }
 {
     match note.fate {

@@ -5,7 +5,7 @@ ghost use Rattle.port_122.specs.Outside.{NotesAll};
 ghost use Rattle.strip122.specs.Notes.{Notes};
 ghost use Rattle.strip122.specs.DamageNotes.{damaged, range_text, ranges_text, height_text, framing_text, rest_text, damage_line};
 
-use crate::notes::{Line, note_line};
+use crate::notes::{NoteLine, note_line};
 use arrayvec::ArrayString;
 use damage_rows::{Damage, RowRange};
 use itoa::Buffer;
@@ -67,7 +67,7 @@ fn note_range<X: Port>(port: &mut X, range: RowRange) -> Result<(), Failed>
     note_all(port, range_line(range).as_bytes())
 }
 
-fn range_line(range: RowRange) -> Line
+fn range_line(range: RowRange) -> NoteLine
     ensures { result.bytes ≡ range_text range }
 {
     let mut line = ArrayString::new();
@@ -79,7 +79,7 @@ fn range_line(range: RowRange) -> Line
 }
 
 // Returns the line after the ranges.
-fn end_line(known: bool, framing: Option<Framing>) -> Line
+fn end_line(known: bool, framing: Option<Framing>) -> NoteLine
     ensures { result.bytes ≡ rest_text known framing ++ codes "\n" }
 {
     let mut line = height_line(known);
@@ -89,7 +89,7 @@ fn end_line(known: bool, framing: Option<Framing>) -> Line
 }
 
 // Returns the text that the height isn't known, if it isn't.
-fn height_line(known: bool) -> Line
+fn height_line(known: bool) -> NoteLine
     ensures text { result.bytes ≡ height_text known }
     ensures short { length result.bytes ≤ 16 }
 {
@@ -101,7 +101,7 @@ fn height_line(known: bool) -> Line
 }
 
 // Returns the text of the reason why the packets can't be read on.
-fn framing_line(framing: Option<Framing>) -> Line
+fn framing_line(framing: Option<Framing>) -> NoteLine
     ensures text { result.bytes ≡ framing_text framing }
     ensures short { length result.bytes ≤ 60 }
 {
@@ -112,7 +112,7 @@ fn framing_line(framing: Option<Framing>) -> Line
     }
 }
 
-fn version_line(octet: u64) -> Line
+fn version_line(octet: u64) -> NoteLine
     ensures text { result.bytes ≡ codes "; bad version at octet " ++ decimal octet }
     ensures short { length result.bytes ≤ 60 }
 {
@@ -122,7 +122,7 @@ fn version_line(octet: u64) -> Line
     line
 }
 
-fn cut_line(missing: u32) -> Line
+fn cut_line(missing: u32) -> NoteLine
     ensures text { result.bytes ≡ codes "; packet cut, " ++ decimal missing ++ codes " octets missing" }
     ensures short { length result.bytes ≤ 60 }
 {

@@ -86,9 +86,9 @@ pub fn note_refusal<X: Port>(port: &mut X, words: &[String], fault: WordFault)
 }
 
 // A line of the note on an engine's result.
-pub type Line = ArrayString<160>;
+pub type NoteLine = ArrayString<160>;
 
-fn short_line(octets: u64) -> Line
+fn short_line(octets: u64) -> NoteLine
     ensures { result.bytes ≡ short_line octets }
 {
     let mut line = ArrayString::new();
@@ -98,7 +98,7 @@ fn short_line(octets: u64) -> Line
     line
 }
 
-fn bad_pixel_line(row: u32, column: u32, value: i32) -> Line
+fn bad_pixel_line(row: u32, column: u32, value: i32) -> NoteLine
     ensures { result.bytes ≡ codes "strip122: bad pixel " ++ signed_decimal value ++ codes " at row " ++ decimal row ++ codes " column " ++ decimal column ++ codes "\n" }
 {
     let mut line = ArrayString::new();
@@ -127,7 +127,7 @@ pub fn note_fault<X: Port>(port: &mut X, fault: EncodeFault)
     }
 }
 
-fn bad_camera_line(camera: u8, place: u64) -> Line
+fn bad_camera_line(camera: u8, place: u64) -> NoteLine
     ensures { result.bytes ≡ codes "strip122: bad camera " ++ decimal camera ++ codes " at record " ++ decimal place ++ codes "\n" }
 {
     let mut line = ArrayString::new();
@@ -139,7 +139,7 @@ fn bad_camera_line(camera: u8, place: u64) -> Line
     line
 }
 
-fn camera_pixel_line(camera: u8, row: u32, column: u32, value: i32) -> Line
+fn camera_pixel_line(camera: u8, row: u32, column: u32, value: i32) -> NoteLine
     ensures { result.bytes ≡ codes "strip122: bad pixel " ++ signed_decimal value ++ codes " of camera " ++ decimal camera ++ codes " at row " ++ decimal row ++ codes " column " ++ decimal column ++ codes "\n" }
 {
     let mut line = ArrayString::new();
@@ -176,7 +176,7 @@ pub fn note_mux_fault<X: Port>(port: &mut X, fault: MuxFault)
     }
 }
 
-fn pixels_line(pixels: u64) -> Line
+fn pixels_line(pixels: u64) -> NoteLine
     ensures { result.bytes ≡ codes "strip122: too many pixels, " ++ decimal pixels ++ codes "\n" }
 {
     let mut line = ArrayString::new();
@@ -200,7 +200,7 @@ pub fn note_decoder_fault<X: Port>(port: &mut X, fault: DecodeFault)
     }
 }
 
-fn segment_line(index: u32) -> Line
+fn segment_line(index: u32) -> NoteLine
     ensures { result.bytes ≡ codes "strip122: segment " ++ decimal index ++ codes " refused\n" }
 {
     let mut line = ArrayString::new();

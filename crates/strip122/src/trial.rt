@@ -13,7 +13,7 @@ ghost use Rattle.strip122.specs.MadeRasters.{made_raster};
 ghost use Rattle.strip122.specs.Trials.{made_with, raster_length, equal_places, trial_line, HasDecoded, AreEqualIn, IsTried};
 
 use crate::make::write_made;
-use crate::notes::Line;
+use crate::notes::NoteLine;
 use arrayvec::ArrayString;
 use base_122::{DecodeWish, Setting};
 use itoa::Buffer;
@@ -194,7 +194,7 @@ pub fn give_trial<X: Port>(port: &mut X, setting: &Setting, done: &TrialDone) ->
     write_all(port, trial_line(setting, done).as_bytes())
 }
 
-fn trial_line(setting: &Setting, done: &TrialDone) -> Line
+fn trial_line(setting: &Setting, done: &TrialDone) -> NoteLine
     requires { IsInRange setting.now }
     ensures { result.bytes ≡ trial_line setting.now done.now }
 {

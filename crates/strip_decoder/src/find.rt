@@ -80,9 +80,9 @@ fn give_line<X: Port>(port: &mut X, range: RowRange) -> Result<(), Failed>
 }
 
 // The characters of a range and the end of its line.
-type Line = ArrayString<32>;
+type RangeLine = ArrayString<32>;
 
-fn line_of(range: RowRange) -> Line
+fn line_of(range: RowRange) -> RangeLine
     ensures { result.bytes ≡ range_line range }
 {
     let mut line = ArrayString::new();
