@@ -51,8 +51,11 @@ class Pair:
         self.program, self.other, self.counts = [program], other.split(), Counter()
 
     def ask(self, words, octets):
-        """What both programs answer."""
+        """What both programs answer. Each may want memory, which is status 6; then nothing is compared."""
         ours, theirs = run(self.program, words, octets), run(self.other, words, octets)
+        if 6 in (ours[0], theirs[0]):
+            self.counts[f"{words[0]}, no memory"] += 1
+            return ours
         assert ours == theirs, (words, len(octets), ours[0], theirs[0], ours[2], theirs[2])
         self.counts[f"{words[0]}, status {ours[0]}"] += 1
         return ours
