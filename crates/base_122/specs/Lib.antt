@@ -1,4 +1,5 @@
 pub mod Sizes
+pub mod Profile
 pub mod Weights
 pub mod Ranges
 pub mod Setting

@@ -5,6 +5,7 @@ use Rattle.base_122.specs.declared.setting.Select.TheVariants.{Optimal}
 use Rattle.base_122.specs.declared.geometry.Geometry.{Geometry}
 use Rattle.base_122.specs.declared.wish.DecodeWish.{DecodeWish}
 use Rattle.base_122.specs.Weights.{usual_shifts}
+use Rattle.base_122.specs.Profile.{profile}
 use Rattle.base_122.specs.Ranges.{IsWithin, rows_range}
 
 -- an image of a setting has this height: the setting's own, or any in range if the setting leaves it open
@@ -50,8 +51,9 @@ usual_setting width rows = record {
   image = 0;
   packet = 1024;
   total = 0;
+  book = profile;
 }
 
 -- the usual wish of a decoder
 abbrev pub usual_wish : DecodeWish
-usual_wish = record { apid = 100; pixels = 2 ^ 32; octets = 2 ^ 40 }
+usual_wish = record { apid = 100; pixels = 2 ^ 32; octets = 2 ^ 40; book = profile }

@@ -2,6 +2,7 @@ ghost use Rattle.std.specs.Prelude.{◌≡◌, ◌≢◌, ◌↔◌, Ok};
 ghost use Rattle.base_122.specs.Sizes.{sample_need};
 ghost use Rattle.base_122.specs.Ranges.{IsInRange, is_within, limit_test, total_range};
 
+use crate::book::Book;
 use crate::field::{Field, OutOfRange};
 use crate::geometry::Geometry;
 use crate::range::FieldRange;
@@ -36,6 +37,8 @@ pub struct Setting {
     pub packet: u32,
     /// The greatest number of octets of all coded segments together, with their headers; 0 is no bound.
     pub total: u64,
+    /// The code book with which coded segments are written. No range is tested of it.
+    pub book: Book,
 }
 
 /// Where the coding of a segment stops (docs/formats.md, "Stops, cut and fill").
@@ -78,7 +81,8 @@ impl Setting {
     ghost use Rattle.base_122.specs.Setting.{geometry_of, image_geometry, usual_setting};
 
     /// Returns the usual setting for an image of this size: unsigned pixels of 8 bits, segments of 64 blocks without a limit or
-    /// a stop, code words of one octet, the usual weights, APID 100, image 0, and packet data fields of at most 1,024 octets.
+    /// a stop, code words of one octet, the usual weights, APID 100, image 0, packet data fields of at most 1,024 octets, and the code
+    /// book of the profile.
     pub fn usual(width: u32, rows: u32) -> Setting
         ensures { result ≡ usual_setting width rows }
     {
@@ -102,6 +106,7 @@ impl Setting {
             image: 0,
             packet: 1024,
             total: 0,
+            book: Book::profile(),
         }
     }
 

@@ -1,5 +1,7 @@
 ghost use Rattle.std.specs.Prelude.{◌≡◌};
 
+use crate::book::Book;
+
 /// The parameters of a decoder.
 #[derive(Clone, Copy, Debug, PartialEq, Eq)]
 pub struct DecodeWish {
@@ -9,12 +11,15 @@ pub struct DecodeWish {
     pub pixels: u64,
     /// The number of octets at which reading ends.
     pub octets: u64,
+    /// The code book with which coded segments are read.
+    pub book: Book,
 }
 
 impl DecodeWish {
     ghost use Rattle.base_122.specs.Setting.{usual_wish};
 
-    /// Returns the usual parameters: APID 100, pictures of at most 2^32 pixels, and at most 2^40 octets.
+    /// Returns the usual parameters: APID 100, pictures of at most 2^32 pixels, at most 2^40 octets, and the code book of
+    /// the profile.
     pub fn usual() -> DecodeWish
         ensures { result ≡ usual_wish }
     {
@@ -22,6 +27,7 @@ impl DecodeWish {
             apid: 100,
             pixels: 1 << 32,
             octets: 1 << 40,
+            book: Book::profile(),
         }
     }
 }

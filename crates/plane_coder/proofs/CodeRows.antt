@@ -7,7 +7,8 @@ use Rattle.item_defs.specs.Items.{item_bits}
 use Rattle.item_defs.proofs.NumberBits.{bits_none}
 use Rattle.base_122.specs.declared.book.Code.{Code}
 use Rattle.base_122.specs.declared.book.Book.{Book}
-use Rattle.plane_defs.specs.Codes.{code_bits, no_code, word_item}
+use Rattle.base_122.specs.Profile.{no_code}
+use Rattle.plane_defs.specs.Codes.{code_bits, word_item}
 use Rattle.plane_coder.specs.Coding.{IsCodeOf, IsWordOf, row_of, code_in, option_for}
 use Rattle.block_masks.specs.Gaggles.{AreOptions}
 use Rattle.plane_coder.specs.Picked.{IsPacked}

@@ -5,7 +5,8 @@ use Rattle.item_defs.specs.Bits.{bits_of}
 use Rattle.item_defs.specs.Items.{item_bits}
 use Rattle.base_122.specs.declared.book.Code.{Code}
 use Rattle.base_122.specs.declared.book.Book.{Book}
-use Rattle.plane_defs.specs.Codes.{code_bits, no_code, word_item}
+use Rattle.base_122.specs.Profile.{no_code}
+use Rattle.plane_defs.specs.Codes.{code_bits, word_item}
 use Rattle.plane_defs.specs.Spelled.{option_of}
 
 -- a word of up to four bits, and an option of its length

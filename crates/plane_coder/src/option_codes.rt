@@ -2,7 +2,7 @@
 
 ghost use Rattle.std.specs.Prelude.{◌≡◌, ◌<◌, ◌≤◌, ◌/◌, ◌%◌, ℕ, [], slice_index_or};
 ghost use Rattle.block_masks.specs.Gaggles.{AreOptions};
-ghost use Rattle.plane_defs.specs.Codes.{no_code};
+ghost use Rattle.base_122.specs.Profile.{no_code};
 ghost use Rattle.plane_coder.specs.Coding.{IsCodeOf, row_of, option_for};
 ghost use Rattle.plane_coder.specs.Picked.{IsPacked};
 

@@ -1,7 +1,8 @@
 // The codes of words, by the packed number of a word.
 
 ghost use Rattle.std.specs.Prelude.{◌≡◌, ◌+◌, ◌<◌, ◌≤◌, ◌/◌, ◌%◌, ◌^◌, ℕ, IsTrue, slice_index_or};
-ghost use Rattle.plane_defs.specs.Codes.{is_book_sound, no_code};
+ghost use Rattle.base_122.specs.Profile.{no_code};
+ghost use Rattle.plane_defs.specs.Codes.{is_book_sound};
 ghost use Rattle.base_122.specs.declared.book.Book.{Book as BookValue};
 ghost use Rattle.plane_coder.specs.Coding.{IsCodeOf, IsWordOf, row_of, code_in};
 

@@ -16,3 +16,4 @@ pub mod Completing
 pub mod Chosen
 pub mod Freedom
 pub mod Seen
+pub mod ProfileSound

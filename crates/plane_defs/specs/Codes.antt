@@ -7,6 +7,7 @@ use Rattle.item_defs.specs.Bits.{bits_of}
 use Rattle.item_defs.specs.Items.{Item, plain, identifier, code}
 use Rattle.base_122.specs.declared.book.Code.{Code}
 use Rattle.base_122.specs.declared.book.Book.{Book}
+use Rattle.base_122.specs.Profile.{no_code}
 use Rattle.plane_defs.specs.Spans.{span}
 
 -- v precedes w: it has fewer ones, or the same number of ones and is greater
@@ -25,9 +26,6 @@ is_prefix (false ∷ xs) (b ∷ bits) = not b && is_prefix xs bits
 
 abbrev pub code_bits : Code → List Bool
 code_bits c = bits_of c.len c.bits
-
-abbrev pub no_code : Code
-no_code = record { bits = 0; len = 0 }
 
 abbrev pub entry : List Code → ℕ → Code
 entry table s = get_or table s no_code

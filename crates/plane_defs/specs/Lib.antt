@@ -6,7 +6,6 @@ pub mod Choice
 pub mod Spelled
 pub mod Planes
 pub mod Laws
-pub mod Profile
 pub mod Marks
 pub mod Steps
 pub mod Reading

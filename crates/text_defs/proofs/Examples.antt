@@ -14,7 +14,7 @@ use Rattle.plane_defs.specs.Spans.{span}
 use Rattle.wave_defs.specs.Blocks as blocks
 use Rattle.plane_defs.specs.Codes.{symbol}
 use Rattle.plane_defs.specs.Choice.{cost, is_cheapest, cheapest}
-use Rattle.plane_defs.specs.Profile.{profile}
+use Rattle.base_122.specs.Profile.{profile}
 use Rattle.plane_defs.specs.Sets.{significant, coded, set_significant, live, enclosing_significant, type_due, flag_due, newly_significant, refined}
 use Rattle.plane_defs.specs.Entries.{block_entries}
 use Rattle.plane_defs.specs.Steps.{is_new, is_forced, block_steps}

@@ -1,5 +1,5 @@
 use Rattle.std.proofs.Common.{◌≡◌, ◌+◌, ◌*◌, ◌<◌, ℕ, length, get_or}
-use Rattle.plane_defs.specs.Codes.{no_code}
+use Rattle.base_122.specs.Profile.{no_code}
 use Rattle.plane_coder.specs.Coding.{code_in}
 use Rattle.plane_coder.proofs.option_codes.codes_of.Given as goal
 

@@ -1,5 +1,5 @@
 use Rattle.std.proofs.Common.{◌≡◌, ◌+◌, ◌*◌, ◌-◌, ◌∙◌, ap, sym, subst, arith}
-use Rattle.plane_defs.specs.Profile.{profile}
+use Rattle.base_122.specs.Profile.{profile}
 use Rattle.plane_defs.specs.Sets.{refined}
 use Rattle.plane_coder.specs.Refining.{refining}
 use Rattle.plane_coder.specs.Appends.{Appends}

@@ -2,7 +2,7 @@ use Rattle.std.proofs.Common.{◌∙◌, sym, subst, arith}
 use Rattle.std.specs.Prelude.{Ok, Err}
 use Rattle.std.proofs.lemmas.Result.{err_from_is_err_and}
 use Rattle.bit_pipe.specs.Standing.{stand}
-use Rattle.plane_defs.specs.Profile.{profile}
+use Rattle.base_122.specs.Profile.{profile}
 use Rattle.plane_defs.specs.Sets.{refined}
 use Rattle.plane_coder.specs.Refining.{refining}
 use Rattle.plane_coder.specs.Spells.{Spells}

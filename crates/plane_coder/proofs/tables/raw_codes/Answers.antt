@@ -1,5 +1,5 @@
 use Rattle.std.proofs.Common.{replicate}
-use Rattle.plane_defs.specs.Codes.{no_code}
+use Rattle.base_122.specs.Profile.{no_code}
 use Rattle.plane_coder.proofs.CodeRows.{raw_coded}
 use Rattle.plane_coder.proofs.tables.raw_codes.Goals as goal
 

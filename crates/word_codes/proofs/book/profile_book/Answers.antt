@@ -1,10 +1,10 @@
-use Rattle.std.proofs.Common.{refl}
-use Rattle.item_defs.specs.Bits.{bits_of, value_of}
-use Rattle.plane_defs.specs.Spans.{span}
-use Rattle.plane_defs.specs.Codes.{is_table_sound}
-use Rattle.plane_defs.specs.Profile.{profile}
+use Rattle.std.proofs.Common.{◌≡◌, true, sym, subst}
+use Rattle.plane_defs.specs.Codes.{is_book_sound}
+use Rattle.plane_defs.proofs.ProfileSound.{profile_sound}
 use Rattle.word_codes.proofs.book.profile_book.Goals as goal
 
 pub returns : goal.returns
-unfolding is_table_sound bits_of span profile value_of
-returns c = record { profile = refl; sound = refl }
+returns c = record {
+  profile = c.profile.ensures;
+  sound = subst (λ book. is_book_sound book ≡ true) (sym c.profile.ensures) profile_sound;
+}
