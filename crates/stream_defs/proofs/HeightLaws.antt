@@ -5,7 +5,6 @@ use Rattle.std.proofs.lemmas.Bool.{cases_lt}
 use Rattle.std.proofs.lemmas.Bool.Decides.{nat_tests}
 use Rattle.std.proofs.lemmas.List.{ext_get_or, get_or-take, get_or-drop}
 use Rattle.std.proofs.Math.Nat.{lt-div-mul-add, mul-le-mul_right, mul-le-mul_left}
-use Rattle.plane_defs.specs.Profile.{profile}
 use Rattle.wave_defs.specs.Held.{SameWithin}
 use Rattle.wave_defs.specs.Reach.{SameBlock}
 use Rattle.wave_defs.specs.Pyramid.{padded, pyramid}
@@ -184,16 +183,16 @@ module _ (s : Setting) (range : IsInRange s) (open_rows : s.rows ≡ 0) (k : ℕ
           let xs = segment_of A (image_blocks A x) n in
           let ys = segment_of B (image_blocks B y) n in
           ap (λ used. used + length (text_with A (image_blocks A x) n used)) before
-          ∙ ap (λ head. used_before B (image_blocks B y) n + length (coded profile head xs)) (head_same n (used_before B (image_blocks B y) n) xs lt)
-          ∙ ap (λ segment. used_before B (image_blocks B y) n + length (coded profile (head_of B n (used_before B (image_blocks B y) n) segment) segment)) (segment_same n lt)
+          ∙ ap (λ head. used_before B (image_blocks B y) n + length (coded s.book head xs)) (head_same n (used_before B (image_blocks B y) n) xs lt)
+          ∙ ap (λ segment. used_before B (image_blocks B y) n + length (coded s.book (head_of B n (used_before B (image_blocks B y) n) segment) segment)) (segment_same n lt)
 
       text_same : (n : ℕ) → n < settled true A k → segment_text A (image_blocks A x) n ≡ segment_text B (image_blocks B y) n
       text_same n lt =
           let used = used_before B (image_blocks B y) n in
           let xs = segment_of A (image_blocks A x) n in
           ap (λ used. text_with A (image_blocks A x) n used) (used_same n (omega (arith, lt)))
-          ∙ ap (λ head. coded profile head xs) (head_same n used xs lt)
-          ∙ ap (λ segment. coded profile (head_of B n used segment) segment) (segment_same n lt)
+          ∙ ap (λ head. coded s.book head xs) (head_same n used xs lt)
+          ∙ ap (λ segment. coded s.book (head_of B n used segment) segment) (segment_same n lt)
 
       pub before_same : (n : ℕ) → n ≤ settled true A k → packets_before A (image_blocks A x) n ≡ packets_before B (image_blocks B y) n
       before_same zero most = packets_before-none A (image_blocks A x) ∙ sym (packets_before-none B (image_blocks B y))

@@ -8,7 +8,7 @@ use Rattle.item_defs.specs.Bits.{octets_of}
 use Rattle.item_defs.specs.Padding.{padded}
 use Rattle.base_122.specs.Ranges.{IsInRange, HasTotal, limit_range}
 use Rattle.base_122.specs.declared.setting.Setting.{Setting}
-use Rattle.plane_defs.specs.Profile.{profile}
+use Rattle.base_122.specs.declared.book.Book.{Book}
 use Rattle.segment_defs.specs.declared.head.SegmentHead.{SegmentHead}
 use Rattle.segment_defs.specs.Coded.{coded, coded_bits}
 use Rattle.segment_defs.specs.Text.{text_octets}
@@ -16,10 +16,10 @@ use Rattle.stream_defs.specs.Output.{segment_of, segments_of, share, head_of, te
 use Rattle.stream_defs.specs.Shares.{CanBeSaid}
 
 -- a text is no longer than its limit
-pub coded_within : (head : SegmentHead) (blocks : List (List ℤ)) → head.limit ≢ 0 → length (coded profile head blocks) ≤ head.limit
+pub coded_within : (book : Book) (head : SegmentHead) (blocks : List (List ℤ)) → head.limit ≢ 0 → length (coded book head blocks) ≤ head.limit
 unfolding coded text_octets
-coded_within head blocks some =
-    let octets = octets_of (padded head.image.word head.limit head.fill (coded_bits profile head blocks)) in
+coded_within book head blocks some =
+    let octets = octets_of (padded head.image.word head.limit head.fill (coded_bits book head blocks)) in
     let e : (head.limit == 0) ≡ false = grind (arith, nat_tests) in
     rw e (let n = length-take head.limit octets in omega (arith, n))
 
@@ -98,10 +98,10 @@ module _ (s : Setting) (range : IsInRange s) (some : s.total ≢ 0) where
 
   -- a text, of whatever blocks, is within its share
   pub segment_within : (segment : List (List ℤ)) (index used : ℕ) → index < segments_of s → used + 36 * (segments_of s - index) ≤ s.total →
-      length (coded profile (head_of s index used segment) segment) ≤ share s index used
+      length (coded s.book (head_of s index used segment) segment) ≤ share s index used
   segment_within segment index used lt left =
       let least : 36 ≤ share s index used = share_least index used (enough index used lt left) in
-      coded_within (head_of s index used segment) segment (λ none. omega (arith, none, least))
+      coded_within s.book (head_of s index used segment) segment (λ none. omega (arith, none, least))
 
   pub text_within : (all : List (List ℤ)) (index used : ℕ) → index < segments_of s → used + 36 * (segments_of s - index) ≤ s.total →
       length (text_with s all index used) ≤ share s index used

@@ -2,7 +2,6 @@
 use Rattle.std.proofs.Common.{◌≡◌, ◌<◌, ◌+◌, ℕ, zero, suc, ℤ, List, ◌++◌, length, refl, sym, ap, subst, ◌∙◌, arith}
 use Rattle.std.specs.Prelude.{Bool}
 use Rattle.base_122.specs.declared.setting.Setting.{Setting}
-use Rattle.plane_defs.specs.Profile.{profile}
 use Rattle.segment_defs.specs.Coded.{coded}
 use Rattle.packet_defs.specs.Packets.{part_count, part_size, text_packets}
 use Rattle.stream_defs.specs.Output.{ancillary_of, head_of, packets_before, packets_of, segment_of, segment_packets, segment_text, segments_of, text_with, used_before}
@@ -48,12 +47,12 @@ used_same s xs ys zero same = refl
 used_same s xs ys (suc n) same =
     let before = used_same s xs ys n (λ index lt. same index (omega (arith, lt))) in
     ap (λ used. used + length (text_with s xs n used)) before
-    ∙ ap (λ (segment : List (List ℤ)). used_before s ys n + length (coded profile (head_of s n (used_before s ys n) segment) segment)) (same n (omega arith))
+    ∙ ap (λ (segment : List (List ℤ)). used_before s ys n + length (coded s.book (head_of s n (used_before s ys n) segment) segment)) (same n (omega arith))
 
 text_same : (s : Setting) (xs ys : List (List ℤ)) (n : ℕ) → ((index : ℕ) → index < n + 1 → segment_of s xs index ≡ segment_of s ys index) → segment_text s xs n ≡ segment_text s ys n
 text_same s xs ys n same =
     ap (λ used. text_with s xs n used) (used_same s xs ys n (λ index lt. same index (omega (arith, lt))))
-    ∙ ap (λ (segment : List (List ℤ)). coded profile (head_of s n (used_before s ys n) segment) segment) (same n (omega arith))
+    ∙ ap (λ (segment : List (List ℤ)). coded s.book (head_of s n (used_before s ys n) segment) segment) (same n (omega arith))
 
 before_same : (s : Setting) (xs ys : List (List ℤ)) (n : ℕ) → ((index : ℕ) → index < n → segment_of s xs index ≡ segment_of s ys index) → packets_before s xs n ≡ packets_before s ys n
 before_same s xs ys zero same = packets_before-none s xs ∙ sym (packets_before-none s ys)

@@ -3,7 +3,6 @@
 -- separate argument.
 use Rattle.std.specs.Prelude.{ℕ, zero, suc, ◌+◌, ◌-◌, ◌*◌, ◌/◌, ◌%◌, ◌==◌, ℤ, Bool, true, false, if◌then◌else◌, min, List, length, take, drop}
 use Rattle.std.specs.List.{range_with_len, flat_map, sum_by}
-use Rattle.plane_defs.specs.Profile.{profile}
 use Rattle.wave_defs.specs.Pyramid.{padded, pyramid}
 use Rattle.wave_defs.specs.Blocks.{blocks}
 use Rattle.base_122.specs.Sizes.{block_count, padded_size, total_blocks, segment_count, first_block}
@@ -80,7 +79,7 @@ head_of s index used segment = head_with s index (share s index used) (length se
 
 -- the text of the segment of this index, after texts of `used` octets
 abbrev pub text_with : Setting → List (List ℤ) → (index used : ℕ) → List ℕ
-text_with s all index used = let segment = segment_of s all index in coded profile (head_of s index used segment) segment
+text_with s all index used = let segment = segment_of s all index in coded s.book (head_of s index used segment) segment
 
 -- the octets of the texts of the segments before this one
 unfoldable pub used_before : Setting → List (List ℤ) → (index : ℕ) → ℕ
