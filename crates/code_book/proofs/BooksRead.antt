@@ -1,14 +1,17 @@
--- A book that was read whole.
-use Rattle.std.proofs.Common.{◌≡◌, ◌<◌, ℕ, Bool, true, false, List, [], length, refl, ◌∙◌, subst, arith, Option, None, Some, IfSome, IfErr, Result, Ok, Err, if◌then◌else◌}
+-- A book that was read whole, and which books are read.
+use Rattle.std.proofs.Common.{◌≡◌, ◌<◌, ℕ, Bool, true, false, List, [], length, refl, sym, ap, ◌∙◌, subst, arith, Option, None, Some, IfSome, IfOk, IfErr, IsTrue, Result, Ok, Err, if◌then◌else◌}
 use Rattle.std.proofs.lemmas.List.{take_all}
 use Rattle.port_122.specs.Outside.{Outside, Exchange}
 use Rattle.base_122.specs.declared.book.Book.{Book}
+use Rattle.plane_defs.specs.Codes.{is_book_sound}
 use Rattle.code_book.specs.declared.fault.BookFault.{BookFault}
 use Rattle.code_book.specs.declared.fault.BookFault.TheVariants.{ReadFault, Short, BadMark, BadLength, BadBits, Clash, Incomplete}
 use Rattle.code_book.specs.Tests.{IsOfCodes, fault_from, refusal, book_check}
 use Rattle.code_book.specs.Filling.{FilledTo}
-use Rattle.code_book.specs.Reading.{book_in, book_or, book_read, has_mark, BookAnswers, ReadsBook}
+use Rattle.code_book.specs.Sound.{IsSound}
+use Rattle.code_book.specs.Reading.{book_in, book_or, book_read, has_mark, BookAnswers, ReadsBook, SoundBooksAreRead}
 use Rattle.code_book.proofs.CodeFaults.{fault_kind}
+use Rattle.code_book.proofs.Checks.{book_sound, sound_book, book_usable}
 
 -- why octets that were all taken are no book
 abbrev IsOfOctets : BookFault → Type 0
@@ -80,3 +83,38 @@ read_sound octets book mark is e = sound_or book (fault_from book 0 6) e ∙ rea
 pub read_unsound : (octets : List ℕ) (book : Book) (fault : BookFault) → has_mark octets ≡ true → book ≡ book_in octets → Err fault ≡ book_check book →
     Err fault ≡ book_read octets
 read_unsound octets book fault mark is e = unsound_or book (fault_from book 0 6) fault e ∙ read_marked octets book mark is
+
+-- ---- exactly the sound books are read
+
+or_sound : (book back : Book) (o : Option BookFault) → book_or back o ≡ Ok book → (book ≡ back) × (o ≡ None)
+or_sound book back None e = let same : book ≡ back = cc in (same, refl)
+or_sound book back (Some fault) e = absurd cc
+
+-- octets that are read as a book have the mark, and no table of their codes has a fault
+parts_read : (octets : List ℕ) (book : Book) → book_read octets ≡ Ok book → (has_mark octets ≡ true) × (book ≡ book_in octets) × (fault_from (book_in octets) 0 6 ≡ None)
+unfolding book_read
+parts_read octets book e = by_mark (has_mark octets) refl e
+  where
+    by_mark : (b : Bool) → has_mark octets ≡ b → (if b then book_or (book_in octets) (fault_from (book_in octets) 0 6) else Err BadMark) ≡ Ok book →
+        (has_mark octets ≡ true) × (book ≡ book_in octets) × (fault_from (book_in octets) 0 6 ≡ None)
+    by_mark true f e = let parts = or_sound book (book_in octets) (fault_from (book_in octets) 0 6) e in (f, parts.0, parts.1)
+    by_mark false f e = absurd cc
+
+faultless : (octets : List ℕ) (book : Book) → book_read octets ≡ Ok book → fault_from book 0 6 ≡ None
+faultless octets book e = let parts = parts_read octets book e in ap (λ b. fault_from b 0 6) parts.1 ∙ parts.2
+
+pub sound_read : SoundBooksAreRead
+sound_read octets book = (
+  (λ e. let parts = parts_read octets book e in record { mark = parts.0; codes = parts.1; sound = book_sound book (faultless octets book e) }),
+  (λ is. sym (read_sound octets book is.mark is.codes (ap refusal (sym (sound_book book is.sound))))),
+)
+
+-- what a reader returns
+
+pub result_sound : {old new : Outside} {result : Result Book BookFault} → ReadsBook old new result → IfOk result IsSound
+result_sound {result = Ok book} p = book_sound book (faultless p.took book (sym p.answer.1))
+result_sound {result = Err fault} p = tt
+
+pub result_usable : {old new : Outside} {result : Result Book BookFault} → ReadsBook old new result → IfOk result (λ book. IsTrue (is_book_sound book))
+result_usable {result = Ok book} p = book_usable book (faultless p.took book (sym p.answer.1))
+result_usable {result = Err fault} p = tt

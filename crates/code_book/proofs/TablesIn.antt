@@ -4,7 +4,7 @@ use Rattle.std.proofs.lemmas.List.{ext_get_or, length-set}
 use Rattle.std.proofs.lemmas.List.FromFn.{get_or-map-range_with_len, length-map-range_with_len}
 use Rattle.std.proofs.lemmas.Bool.{cases_eq}
 use Rattle.base_122.specs.declared.book.Code.{Code}
-use Rattle.plane_defs.specs.Codes.{no_code}
+use Rattle.base_122.specs.Profile.{no_code}
 use Rattle.code_book.specs.Reading.{code_in, table_from}
 
 -- the code of a symbol, of a table of so many codes

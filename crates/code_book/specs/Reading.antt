@@ -1,14 +1,14 @@
 -- How a book is written in octets, and how a reader of one ends. (This project's own.)
-use Rattle.std.specs.Prelude.{◌≡◌, ◌<◌, ℕ, ◌+◌, ◌*◌, ◌&&◌, ◌==◌, Bool, nat_lt, if◌then◌else◌, List, [], length, map, Option, None, Some, Result, Ok, Err}
+use Rattle.std.specs.Prelude.{◌≡◌, ◌<◌, ◌↔◌, ℕ, ◌+◌, ◌*◌, ◌&&◌, ◌==◌, Bool, true, nat_lt, if◌then◌else◌, List, [], length, map, Option, None, Some, Result, Ok, Err}
 use Rattle.std.specs.List.{sum_by, range_with_len}
 use lib.ListN.{get_or}
 use Rattle.port_122.specs.Outside.{Outside, Exchange, AtEnd, Rose}
 use Rattle.base_122.specs.declared.book.Code.{Code}
 use Rattle.base_122.specs.declared.book.Book.{Book}
-use Rattle.plane_defs.specs.Codes.{no_code}
+use Rattle.base_122.specs.Profile.{no_code}
 use Rattle.code_book.specs.declared.fault.BookFault.{BookFault}
 use Rattle.code_book.specs.declared.fault.BookFault.TheVariants.{ReadFault, Short, BadMark}
-use Rattle.code_book.specs.Sound.{symbols_of}
+use Rattle.code_book.specs.Sound.{IsSound, symbols_of}
 use Rattle.code_book.specs.Tests.{fault_from}
 
 -- ---- the octets of a book
@@ -40,6 +40,16 @@ book_or book (Some fault) = Err fault
 -- what the 138 octets of a book are read as
 unfoldable pub book_read : List ℕ → Result Book BookFault
 book_read octets = if has_mark octets then book_or (book_in octets) (fault_from (book_in octets) 0 6) else Err BadMark
+
+-- these octets begin with the mark, and the codes after it are those of this book, which is sound
+pub record IsBookOf (octets : List ℕ) (book : Book) : Type 0 where
+  pub mark : has_mark octets ≡ true
+  pub codes : book ≡ book_in octets
+  pub sound : IsSound book
+
+-- exactly the octets of a sound book are read as one
+abbrev pub SoundBooksAreRead : Type 0
+SoundBooksAreRead = (octets : List ℕ) (book : Book) → (book_read octets ≡ Ok book) ↔ IsBookOf octets book
 
 -- ---- the reader
 

@@ -3,6 +3,7 @@
 
 mod check;
 mod fault;
+mod laws;
 mod read;
 #[cfg(test)]
 mod read_tests;
@@ -12,4 +13,5 @@ mod tests;
 pub use base_122::{Book, Code};
 pub use check::check_book;
 pub use fault::BookFault;
+pub use laws::sound_books_are_read;
 pub use read::read_book;

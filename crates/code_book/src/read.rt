@@ -1,6 +1,8 @@
 // A book from a port.
-ghost use Rattle.std.specs.Prelude.{◌≡◌, ◌+◌, ◌*◌, ◌≤◌, MatchResult, Err, length};
+ghost use Rattle.std.specs.Prelude.{◌≡◌, ◌+◌, ◌*◌, ◌≤◌, MatchResult, IfOk, IsTrue, Err, length};
+ghost use Rattle.plane_defs.specs.Codes.{is_book_sound};
 ghost use Rattle.code_book.specs.Filling.{FilledTo};
+ghost use Rattle.code_book.specs.Sound.{IsSound};
 ghost use Rattle.code_book.specs.Reading.{ReadsBook, has_mark, table_from, book_in, book_read};
 
 use crate::check::check_book;
@@ -15,7 +17,7 @@ const OCTETS: usize = 138;
 const MARK: [u8; 2] = [0x12, 0x2B];
 
 /// Reads a book of 138 octets (docs/formats.md, "Words and codes"). It takes no octet after them and no memory, and gives nothing.
-/// Entries that a table doesn't use have length 0.
+/// Returns exactly the sound books (`sound_books_are_read`); entries that a table doesn't use have length 0.
 ///
 /// # Errors
 ///
@@ -23,7 +25,9 @@ const MARK: [u8; 2] = [0x12, 0x2B];
 /// - `Short`: the input ended before 138 octets. It has the number of octets taken.
 /// - `BadMark`, or a fault of `check_book`: all 138 octets were taken, and this is the first thing that is wrong with them.
 pub fn read_book<X: Port>(port: &mut X) -> Result<Book, BookFault>
-    ensures { ReadsBook (X.outside port.old) (X.outside port.new) result }
+    ensures reads { ReadsBook (X.outside port.old) (X.outside port.new) result }
+    ensures sound { IfOk result IsSound }
+    ensures usable { IfOk result (λ book. IsTrue (is_book_sound book)) }
 {
     let mut octets = [0; OCTETS];
     fill(port, &mut octets)?;
