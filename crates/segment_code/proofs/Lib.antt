@@ -35,4 +35,3 @@ pub mod CodedOptions
 mod NoneAbove
 mod ExactTexts
 mod ItemEnds
-pub mod ProfileSound

@@ -17,12 +17,88 @@ use crate::planes::put_planes;
 use base_122::Book;
 use bit_pipe::{BitOut, Failed, OctetOut, PutFault};
 use dc_depths::{DcPlan, put_dc, put_depths};
+use plane_coder::CodeTables;
 use segment_head::{SegmentHead, write_head};
 
-/// Writes the text of a segment with the codes of a sound book, and answers its length in octets (docs/formats.md, "Stops, cut
-/// and fill"). The sink was given nothing yet. The blocks are 64 weighted numbers each. The depths of the head and the marks are
-/// those of the blocks, as `segment_depths` answers them; the marks keep them in their lowest five bits, and what their other
-/// bits hold afterwards is left open. `Failed` comes only where the sink failed.
+/// A writer of coded segments, with tables of the codes of its book that are made once.
+#[derive(Drop)]
+pub struct SegmentWriter {
+    /// The codes of the words, as the writer's book has them.
+    pub tables: CodeTables,
+}
+
+impl SegmentWriter {
+    /// Returns a writer of segments with the codes of this book, which must be sound.
+    pub fn new(book: &Book) -> SegmentWriter
+        requires sound { IsTrue (is_book_sound book.now) }
+        ensures book { result.tables.book ≡ book.now }
+    {
+        SegmentWriter {
+            tables: CodeTables::new(book),
+        }
+    }
+
+    /// Writes the text of a segment, and returns its length in octets (docs/formats.md, "Stops, cut and fill"). The sink was given
+    /// nothing yet. The blocks are 64 weighted numbers each. The depths of the head and the marks are those of the blocks, as
+    /// `segment_depths` returns them; the marks keep them in their lowest five bits, and their other bits have no meaning afterwards.
+    ///
+    /// # Errors
+    ///
+    /// `Failed` only if the sink failed.
+    pub fn encode<O: OctetOut>(
+        &self,
+        out: &mut O,
+        head: &SegmentHead,
+        blocks: &[i32],
+        marks: &mut [i32],
+    ) -> Result<u64, Failed>
+        requires fits { IsHead head.now }
+        requires count { length blocks.now ≡ 64 * head.now.blocks }
+        requires dc { head.now.depth_dc ≡ depth_dc_of (blocks_in blocks.now) }
+        requires ac { head.now.depth_ac ≡ depth_ac_of (blocks_in blocks.now) }
+        requires marks { marks.old ≡ map pos (block_depths (blocks_in blocks.now)) }
+        requires none { (O.sink.counts out.old).given ≡ 0 }
+        ensures text { MatchResult result
+            (λ octets. GivesText O.sink out.old out.new (coded self.now.tables.book head.now (blocks_in blocks.now)) octets)
+            (λ _. BreaksWithin O.sink out.old out.new (coded self.now.tables.book head.now (blocks_in blocks.now))) }
+        ensures depths { depths_of marks.new ≡ depths_of marks.old }
+    {
+        let mut bits = BitOut::new(out, u64::from(head.limit), 0);
+        put_fitting(&mut bits, head, blocks, marks, &self.tables)?;
+        bits.end(head.image.word, head.fill)
+    }
+
+    /// Puts the items of a segment's text, which follow its head (docs/formats.md, "Stops, cut and fill"): the DC part, the block
+    /// depths and the bit planes up to the stop. Blocks and marks are those of `encode`. It neither pads nor ends the text.
+    ///
+    /// # Errors
+    ///
+    /// Those of `BitOut`: `Stopped` exactly if the items do not all fit below the bound.
+    pub fn encode_items<O: OctetOut>(
+        &self,
+        out: &mut BitOut<O>,
+        head: &SegmentHead,
+        blocks: &[i32],
+        marks: &mut [i32],
+    ) -> Result<(), PutFault>
+        requires fits { IsHead head.now }
+        requires open { IsReady O.sink out.old }
+        requires count { length blocks.now ≡ 64 * head.now.blocks }
+        requires dc { head.now.depth_dc ≡ depth_dc_of (blocks_in blocks.now) }
+        requires ac { head.now.depth_ac ≡ depth_ac_of (blocks_in blocks.now) }
+        requires marks { marks.old ≡ map pos (block_depths (blocks_in blocks.now)) }
+        ensures encodes { EncodesItems O.sink self.now.tables.book head.now (blocks_in blocks.now) result (stand O.sink out.old) (stand O.sink out.new) }
+        ensures depths { depths_of marks.new ≡ depths_of marks.old }
+    {
+        put_items(out, head, &plan_of(head), blocks, marks, &self.tables)
+    }
+}
+
+/// The same for a single segment, with a sound book: `SegmentWriter` serves many.
+///
+/// # Errors
+///
+/// Those of `encode`.
 pub fn encode_segment<O: OctetOut>(
     out: &mut O,
     head: &SegmentHead,
@@ -42,9 +118,7 @@ pub fn encode_segment<O: OctetOut>(
         (λ _. BreaksWithin O.sink out.old out.new (coded book.now head.now (blocks_in blocks.now))) }
     ensures depths { depths_of marks.new ≡ depths_of marks.old }
 {
-    let mut bits = BitOut::new(out, u64::from(head.limit), 0);
-    put_fitting(&mut bits, head, blocks, marks, book)?;
-    bits.end(head.image.word, head.fill)
+    SegmentWriter::new(book).encode(out, head, blocks, marks)
 }
 
 // Puts the part of the text that fits below the bound: a text that is stopped is cut there.
@@ -53,9 +127,8 @@ fn put_fitting<O: OctetOut>(
     head: &SegmentHead,
     blocks: &[i32],
     marks: &mut [i32],
-    book: &Book,
+    tables: &CodeTables,
 ) -> Result<(), Failed>
-    requires sound { IsTrue (is_book_sound book.now) }
     requires fits { IsHead head.now }
     requires open { IsReady O.sink out.old }
     requires room { 8 * head_length head.now ≤ (stand O.sink out.old).room }
@@ -64,12 +137,12 @@ fn put_fitting<O: OctetOut>(
     requires ac { head.now.depth_ac ≡ depth_ac_of (blocks_in blocks.now) }
     requires marks { marks.old ≡ map pos (block_depths (blocks_in blocks.now)) }
     ensures puts { MatchResult result
-        (λ _. Adds O.sink (stand O.sink out.old) (stand O.sink out.new) (take (stand O.sink out.old).room (coded_bits book.now head.now (blocks_in blocks.now))))
-        (λ _. Breaks O.sink (stand O.sink out.old) (stand O.sink out.new) (take (stand O.sink out.old).room (coded_bits book.now head.now (blocks_in blocks.now)))) }
+        (λ _. Adds O.sink (stand O.sink out.old) (stand O.sink out.new) (take (stand O.sink out.old).room (coded_bits tables.now.book head.now (blocks_in blocks.now))))
+        (λ _. Breaks O.sink (stand O.sink out.old) (stand O.sink out.new) (take (stand O.sink out.old).room (coded_bits tables.now.book head.now (blocks_in blocks.now)))) }
     ensures ten { length head.now.image.weights.shifts ≡ 10 }
     ensures depths { depths_of marks.new ≡ depths_of marks.old }
 {
-    match put_text(out, head, blocks, marks, book) {
+    match put_text(out, head, blocks, marks, tables) {
         Ok(()) => Ok(()),
         Err(PutFault::Stopped) => Ok(()),
         Err(PutFault::WriteFault) => Err(Failed),
@@ -82,9 +155,8 @@ fn put_text<O: OctetOut>(
     head: &SegmentHead,
     blocks: &[i32],
     marks: &mut [i32],
-    book: &Book,
+    tables: &CodeTables,
 ) -> Result<(), PutFault>
-    requires sound { IsTrue (is_book_sound book.now) }
     requires fits { IsHead head.now }
     requires open { IsReady O.sink out.old }
     requires room { 8 * head_length head.now ≤ (stand O.sink out.old).room }
@@ -92,40 +164,13 @@ fn put_text<O: OctetOut>(
     requires dc { head.now.depth_dc ≡ depth_dc_of (blocks_in blocks.now) }
     requires ac { head.now.depth_ac ≡ depth_ac_of (blocks_in blocks.now) }
     requires marks { marks.old ≡ map pos (block_depths (blocks_in blocks.now)) }
-    ensures puts { Writes O.sink result out.old out.new (coded_bits book.now head.now (blocks_in blocks.now)) }
+    ensures puts { Writes O.sink result out.old out.new (coded_bits tables.now.book head.now (blocks_in blocks.now)) }
     ensures ten { length head.now.image.weights.shifts ≡ 10 }
     ensures depths { depths_of marks.new ≡ depths_of marks.old }
 {
     let plan = plan_of(head);
     write_head(out, head)?;
-    put_items(out, head, &plan, blocks, marks, book)
-}
-
-/// Puts the items of a segment's text, which follow its head (docs/formats.md, "Stops, cut and fill"): the DC part, the block
-/// depths and the bit planes up to the stop. Blocks, marks and book are those of `encode_segment`. It neither pads nor ends the
-/// text.
-///
-/// # Errors
-///
-/// Those of `BitOut`: `Stopped` exactly if the items do not all fit below the bound.
-pub fn encode_items<O: OctetOut>(
-    out: &mut BitOut<O>,
-    head: &SegmentHead,
-    blocks: &[i32],
-    marks: &mut [i32],
-    book: &Book,
-) -> Result<(), PutFault>
-    requires sound { IsTrue (is_book_sound book.now) }
-    requires fits { IsHead head.now }
-    requires open { IsReady O.sink out.old }
-    requires count { length blocks.now ≡ 64 * head.now.blocks }
-    requires dc { head.now.depth_dc ≡ depth_dc_of (blocks_in blocks.now) }
-    requires ac { head.now.depth_ac ≡ depth_ac_of (blocks_in blocks.now) }
-    requires marks { marks.old ≡ map pos (block_depths (blocks_in blocks.now)) }
-    ensures encodes { EncodesItems O.sink book.now head.now (blocks_in blocks.now) result (stand O.sink out.old) (stand O.sink out.new) }
-    ensures depths { depths_of marks.new ≡ depths_of marks.old }
-{
-    put_items(out, head, &plan_of(head), blocks, marks, book)
+    put_items(out, head, &plan, blocks, marks, tables)
 }
 
 // Puts the items of a text by the plan of its DC part.
@@ -135,9 +180,8 @@ fn put_items<O: OctetOut>(
     plan: &DcPlan,
     blocks: &[i32],
     marks: &mut [i32],
-    book: &Book,
+    tables: &CodeTables,
 ) -> Result<(), PutFault>
-    requires sound { IsTrue (is_book_sound book.now) }
     requires fits { IsHead head.now }
     requires open { IsReady O.sink out.old }
     requires plan_dc { plan.now.depth_dc ≡ head.now.depth_dc }
@@ -147,11 +191,11 @@ fn put_items<O: OctetOut>(
     requires dc { head.now.depth_dc ≡ depth_dc_of (blocks_in blocks.now) }
     requires ac { head.now.depth_ac ≡ depth_ac_of (blocks_in blocks.now) }
     requires marks { marks.old ≡ map pos (block_depths (blocks_in blocks.now)) }
-    ensures encodes { EncodesItems O.sink book.now head.now (blocks_in blocks.now) result (stand O.sink out.old) (stand O.sink out.new) }
+    ensures encodes { EncodesItems O.sink tables.now.book head.now (blocks_in blocks.now) result (stand O.sink out.old) (stand O.sink out.new) }
     ensures depths { depths_of marks.new ≡ depths_of marks.old }
 {
     put_dc(out, blocks, plan, select_of(head.best_dc))?;
-    put_rest(out, head, blocks, marks, book)
+    put_rest(out, head, blocks, marks, tables)
 }
 
 // Puts the block depths and the planes, if the text does not stop at the DC numbers.
@@ -160,20 +204,19 @@ fn put_rest<O: OctetOut>(
     head: &SegmentHead,
     blocks: &[i32],
     marks: &mut [i32],
-    book: &Book,
+    tables: &CodeTables,
 ) -> Result<(), PutFault>
-    requires sound { IsTrue (is_book_sound book.now) }
     requires fits { IsHead head.now }
     requires open { IsReady O.sink out.old }
     requires count { length blocks.now ≡ 64 * head.now.blocks }
     requires ac { head.now.depth_ac ≡ depth_ac_of (blocks_in blocks.now) }
     requires marks { marks.old ≡ map pos (block_depths (blocks_in blocks.now)) }
-    ensures puts { Writes O.sink result out.old out.new (text (coded_rest book.now head.now (blocks_in blocks.now))) }
+    ensures puts { Writes O.sink result out.old out.new (text (coded_rest tables.now.book head.now (blocks_in blocks.now))) }
     ensures depths { depths_of marks.new ≡ depths_of marks.old }
 {
     if head.stop.dc {
         return Ok(());
     }
     put_depths(out, marks, head.depth_ac, select_of(head.best_ac))?;
-    put_planes(out, head, blocks, marks, book)
+    put_planes(out, head, blocks, marks, tables)
 }

@@ -42,7 +42,7 @@ ghost use Rattle.segment_code.specs.Laws.{CodedHolds, CodedHoldsExactly, TextsAr
 
 pub use decode::{SegmentFault, SegmentReader, decode_segment};
 pub use depths::segment_depths;
-pub use encode::{encode_items, encode_segment};
+pub use encode::{SegmentWriter, encode_segment};
 use text_defs::{items_give_all, readings_give_one};
 
 /// What was encoded can be decoded: the coded text of values that can be coded holds values.

@@ -1,10 +1,9 @@
 // The writer of the bit planes of a segment.
-ghost use Rattle.std.specs.Prelude.{◌≡◌, ◌<◌, ◌≤◌, ◌*◌, IsTrue, length};
+ghost use Rattle.std.specs.Prelude.{◌≡◌, ◌<◌, ◌≤◌, ◌*◌, length};
 ghost use Rattle.item_defs.specs.Items.{text};
 ghost use Rattle.bit_pipe.specs.Standing.{IsReady, Writes};
 ghost use Rattle.wave_defs.specs.Held.{blocks_in};
 ghost use Rattle.plane_defs.specs.Marks.{depths_of};
-ghost use Rattle.plane_defs.specs.Codes.{is_book_sound};
 ghost use Rattle.plane_coder.specs.Coders.{Keeps, book_of};
 ghost use Rattle.segment_defs.specs.Depths.{block_depths};
 ghost use Rattle.segment_defs.specs.Head.{IsHead};
@@ -12,7 +11,6 @@ ghost use Rattle.segment_defs.specs.SegmentItems.{stages_sent, q_of};
 ghost use Rattle.segment_code.specs.Parts.{coded_plane, coded_planes};
 
 use crate::head_plans::plan_of;
-use base_122::Book;
 use bit_pipe::{BitOut, OctetOut, PutFault};
 use plane_coder::{CodeTables, PlaneCoder, PlanePlan};
 use segment_head::SegmentHead;
@@ -82,18 +80,16 @@ pub(crate) fn put_planes<O: OctetOut>(
     head: &SegmentHead,
     blocks: &[i32],
     marks: &mut [i32],
-    book: &Book,
+    tables: &CodeTables,
 ) -> Result<(), PutFault>
     requires fits { IsHead head.now }
-    requires sound { IsTrue (is_book_sound book.now) }
     requires open { IsReady O.sink out.old }
     requires count { length blocks.now ≡ 64 * length marks.old }
     requires depths { depths_of marks.old ≡ block_depths (blocks_in blocks.now) }
-    ensures puts { Writes O.sink result out.old out.new (text (coded_planes book.now head.now (blocks_in blocks.now) head.now.depth_ac)) }
+    ensures puts { Writes O.sink result out.old out.new (text (coded_planes tables.now.book head.now (blocks_in blocks.now) head.now.depth_ac)) }
     ensures depths { depths_of marks.new ≡ depths_of marks.old }
 {
-    let tables = CodeTables::new(book);
-    let mut coder = PlaneCoder::new(&tables);
+    let mut coder = PlaneCoder::new(tables);
     for n in 0..head.depth_ac {
         put_nth_plane(out, head, blocks, marks, &mut coder, n)?;
     }

@@ -16,11 +16,11 @@ pub returns-in_err-put_dc-clause-encodes : goal.returns-in_err-put_dc-clause-enc
 returns-in_err-put_dc-clause-encodes g c =
     let e = err_from_is_err_and c.from_residual.result c.from_residual.ensures.1 in
     let p = c.requires in
-    let same = dc_part_bits c.args.book.now c.args.head.now c.args.blocks.now c.args.head.now.blocks c.args.plan.now.shift _ c.requires.count p.plan_shift c.select_of.ensures in
-    rw (e.1, e.2) (record { puts = rw (text_parts c.args.book.now c.args.head.now (blocks_in c.args.blocks.now)) (puts_cut _ (rw same at (rw (p.plan_dc, p.plan_ac) at c.in_err-put_dc.ensures))) })
+    let same = dc_part_bits c.args.tables.now.book c.args.head.now c.args.blocks.now c.args.head.now.blocks c.args.plan.now.shift _ c.requires.count p.plan_shift c.select_of.ensures in
+    rw (e.1, e.2) (record { puts = rw (text_parts c.args.tables.now.book c.args.head.now (blocks_in c.args.blocks.now)) (puts_cut _ (rw same at (rw (p.plan_dc, p.plan_ac) at c.in_err-put_dc.ensures))) })
 
 pub returns-clause-encodes : goal.returns-clause-encodes
 returns-clause-encodes g c =
     let p = c.requires in
-    let same = dc_part_bits c.args.book.now c.args.head.now c.args.blocks.now c.args.head.now.blocks c.args.plan.now.shift _ c.requires.count p.plan_shift c.select_of.ensures in
-    record { puts = rw (text_parts c.args.book.now c.args.head.now (blocks_in c.args.blocks.now)) (puts_then (rw same at (rw (p.plan_dc, p.plan_ac) at c.in_ok-put_dc.ensures)).ends c.put_rest.ensures.puts) }
+    let same = dc_part_bits c.args.tables.now.book c.args.head.now c.args.blocks.now c.args.head.now.blocks c.args.plan.now.shift _ c.requires.count p.plan_shift c.select_of.ensures in
+    record { puts = rw (text_parts c.args.tables.now.book c.args.head.now (blocks_in c.args.blocks.now)) (puts_then (rw same at (rw (p.plan_dc, p.plan_ac) at c.in_ok-put_dc.ensures)).ends c.put_rest.ensures.puts) }

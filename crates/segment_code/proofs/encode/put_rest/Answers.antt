@@ -11,7 +11,7 @@ use Rattle.segment_code.proofs.encode.put_rest.Goals as goal
 
 pub returns-then-head-clause-puts : goal.returns-then-head-clause-puts
 returns-then-head-clause-puts g c =
-    rw (rest_none c.args.book.now c.args.head.now (blocks_in c.args.blocks.now) c.if-head.true) (puts_whole (adds_start g.O.OctetOut.sink _ c.requires.open))
+    rw (rest_none c.args.tables.now.book c.args.head.now (blocks_in c.args.blocks.now) c.if-head.true) (puts_whole (adds_start g.O.OctetOut.sink _ c.requires.open))
 
 pub put_depths-requires-clause-depths : goal.put_depths-requires-clause-depths
 put_depths-requires-clause-depths g c = rw c.requires.marks (are_depths (blocks_in c.args.blocks.now) c.args.head.now.depth_ac c.requires.ac)
@@ -29,12 +29,12 @@ returns-in_err-put_depths-clause-puts g c =
     let h = c.args.head.now in
     let blocks = blocks_in c.args.blocks.now in
     let e = err_from_is_err_and c.from_residual.result c.from_residual.ensures.1 in
-    let same = depths_put c.args.book.now h blocks c.args.marks.now _ c.requires.marks c.select_of.ensures in
-    rw (e.1, e.2) (rw (rest_parts c.args.book.now h blocks c.if-head.false) (puts_cut (text (coded_planes c.args.book.now h blocks h.depth_ac)) (rw same at c.in_err-put_depths.ensures)))
+    let same = depths_put c.args.tables.now.book h blocks c.args.marks.now _ c.requires.marks c.select_of.ensures in
+    rw (e.1, e.2) (rw (rest_parts c.args.tables.now.book h blocks c.if-head.false) (puts_cut (text (coded_planes c.args.tables.now.book h blocks h.depth_ac)) (rw same at c.in_err-put_depths.ensures)))
 
 pub returns-clause-puts : goal.returns-clause-puts
 returns-clause-puts g c =
     let h = c.args.head.now in
     let blocks = blocks_in c.args.blocks.now in
-    let same = depths_put c.args.book.now h blocks c.args.marks.now _ c.requires.marks c.select_of.ensures in
-    rw (rest_parts c.args.book.now h blocks c.if-head.false) (puts_then (rw same at c.in_ok-put_depths.ensures.ends) c.put_planes.ensures.puts)
+    let same = depths_put c.args.tables.now.book h blocks c.args.marks.now _ c.requires.marks c.select_of.ensures in
+    rw (rest_parts c.args.tables.now.book h blocks c.if-head.false) (puts_then (rw same at c.in_ok-put_depths.ensures.ends) c.put_planes.ensures.puts)

@@ -8,10 +8,10 @@ use Rattle.segment_code.proofs.planes.put_planes.Goals as goal
 
 pub loop-n-init : goal.loop-n-init
 loop-n-init g c = record {
-  so_far = none_put (coded_plane c.args.book.now c.args.head.now (blocks_in c.args.blocks.now)) _ c.requires.open;
+  so_far = none_put (coded_plane c.args.tables.now.book c.args.head.now (blocks_in c.args.blocks.now)) _ c.requires.open;
   is_open = c.requires.open;
   depths = refl;
-  book = c.new-coder.ensures.book ∙ c.new-tables.ensures;
+  book = c.new-coder.ensures.book;
   keeps = c.new-coder.ensures.keeps c.args.blocks.now;
 }
 
@@ -27,7 +27,7 @@ loop-n-preserved g c =
     let p = c.in_ok-put_nth_plane.ensures in
     let puts = rw i.book at p.puts in
     record {
-      so_far = more_put (coded_plane c.args.book.now c.args.head.now (blocks_in c.args.blocks.now)) c.loop-n.n i.so_far puts.ends;
+      so_far = more_put (coded_plane c.args.tables.now.book c.args.head.now (blocks_in c.args.blocks.now)) c.loop-n.n i.so_far puts.ends;
       is_open = open_later i.is_open puts.ends;
       depths = p.depths ∙ i.depths;
       book = p.book ∙ i.book;
@@ -42,7 +42,7 @@ returns-in_err-put_nth_plane g c =
     let puts = rw i.book at p.puts in
     let below : c.loop-n.n < c.args.head.now.depth_ac = omega (arith, c.loop-n-test.true) in
     rw (e.1, e.2) (record {
-      puts = (put_ended (coded_plane c.args.book.now c.args.head.now (blocks_in c.args.blocks.now)) c.loop-n.n c.args.head.now.depth_ac below i.so_far puts);
+      puts = (put_ended (coded_plane c.args.tables.now.book c.args.head.now (blocks_in c.args.blocks.now)) c.loop-n.n c.args.head.now.depth_ac below i.so_far puts);
       depths = p.depths ∙ i.depths;
     })
 
@@ -51,6 +51,6 @@ returns g c =
     let i = c.loop-n.invariant in
     let all : c.loop-n.n ≡ c.args.head.now.depth_ac = omega (arith, c.loop-n-test.false, c.loop-n.auto.n-end) in
     record {
-      puts = (put_whole (coded_plane c.args.book.now c.args.head.now (blocks_in c.args.blocks.now)) c.loop-n.n c.args.head.now.depth_ac all i.so_far);
+      puts = (put_whole (coded_plane c.args.tables.now.book c.args.head.now (blocks_in c.args.blocks.now)) c.loop-n.n c.args.head.now.depth_ac all i.so_far);
       depths = i.depths;
     }

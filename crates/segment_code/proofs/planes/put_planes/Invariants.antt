@@ -9,9 +9,9 @@ use Rattle.segment_code.proofs.planes.put_planes.Given as goal
 
 abbrev pub invariant-loop-n : goal.invariant-loop-n
 invariant-loop-n g l = record {
-  so_far : Adds g.O.OctetOut.sink (stand g.O.OctetOut.sink l.initial.out) (stand g.O.OctetOut.sink l.out) (text (coded_planes l.book l.head (blocks_in l.blocks) l.n));
+  so_far : Adds g.O.OctetOut.sink (stand g.O.OctetOut.sink l.initial.out) (stand g.O.OctetOut.sink l.out) (text (coded_planes l.tables.book l.head (blocks_in l.blocks) l.n));
   is_open : IsOpen (stand g.O.OctetOut.sink l.out);
   depths : depths_of l.marks ≡ depths_of l.initial.marks;
-  book : book_of l.coder ≡ l.book;
+  book : book_of l.coder ≡ l.tables.book;
   keeps : Keeps l.blocks l.coder;
 }
