@@ -28,6 +28,7 @@ no_setting = record {
   image = 0;
   packet = 0;
   total = 0;
+  book = record { codes = [] };
 }
 
 -- the setting of a camera

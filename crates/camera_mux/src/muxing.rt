@@ -33,8 +33,8 @@ struct Progress {
 /// Takes records, each one octet with a camera's number, from 0, and that camera's next row (docs/formats.md, "Raster and made image"),
 /// and writes the packets of each camera's image. After each record, and before the next read call, the packets of the segments are
 /// written that its row settles (docs/architecture.md, "The encoder"). It ends once each camera has all its rows and the end of the
-/// input is read. There are 1 to 16 settings with known rows and different APIDs, and a work that was made for each. The works can be
-/// used again after any return, and no memory is taken.
+/// input is read. There are 1 to 16 settings with known rows and different APIDs, and a work that was made for each; each camera's packets
+/// are written with the code book of its setting. The works can be used again after any return, and no memory is taken.
 ///
 /// # Errors
 ///

@@ -4,6 +4,7 @@ use Rattle.std.specs.Prelude.{MatchOption, is_some}
 use Rattle.std.proofs.lemmas.List.{append-nil}
 use Rattle.port_122.specs.Outside.{Outside, NoRead}
 use Rattle.port_122.proofs.Stretches.{since_start}
+use Rattle.segment_code.specs.declared.encode.SegmentWriter.{SegmentWriter}
 use Rattle.strip_coder.specs.Plans.{IsPlan, plan_of, whole}
 use Rattle.base_122.specs.Ranges.{IsWithin, rows_range}
 use Rattle.base_122.specs.Sizes.{block_count, padded_size}
@@ -38,6 +39,7 @@ pub record OnlyStrip (old mid : Work) : Type 0 where
   pub blocks : mid.blocks ≡ old.blocks
   pub marks : mid.marks ≡ old.marks
   pub packets : mid.packets ≡ old.packets
+  pub writer : mid.writer ≡ old.writer
   pub room : mid.room ≡ old.room
   pub at : mid.at ≡ old.at
 
@@ -74,6 +76,7 @@ module _ (s : Plan) (range : IsPlan s) (old mid : Work) (running : IsRunning s o
     marks = rw only.marks made.marks;
     strip = pushed.columns ∙ made.strip;
     packet = ap (λ v. v.packet) only.packets ∙ made.packet;
+    writer = ap (λ (v : SegmentWriter). v.tables.book) only.writer ∙ made.writer;
     room = only.room ∙ made.room;
   }
 

@@ -1,6 +1,7 @@
 -- A row that a work took.
 use Rattle.std.proofs.Common.{◌≡◌, ℕ, ◌+◌, ◌-◌, ◌*◌, ◌^◌, ◌<◌, ◌≤◌, ℤ, List, length, sym, ap, ◌∙◌, subst, arith, vec_len, min}
 use Rattle.port_122.specs.Outside.{Outside}
+use Rattle.segment_code.specs.declared.encode.SegmentWriter.{SegmentWriter}
 use Rattle.strip_coder.specs.Plans.{IsPlan, plan_of, tallest, whole}
 use Rattle.base_122.specs.Ranges.{IsInRange}
 use Rattle.base_122.specs.Setting.{IsHeight}
@@ -66,6 +67,7 @@ pub record OnlyCount (mid new : Work) : Type 0 where
   pub blocks : new.blocks ≡ mid.blocks
   pub marks : new.marks ≡ mid.marks
   pub packets : new.packets ≡ mid.packets
+  pub writer : new.writer ≡ mid.writer
   pub room : new.room ≡ mid.room
   pub rows : new.at.rows ≡ mid.at.rows + 1
   pub filled : new.at.filled ≡ mid.at.filled
@@ -107,6 +109,7 @@ count_running s mid new only run =
           marks = rw only.marks made.marks;
           strip = ap columns_of only.strip ∙ made.strip;
           packet = ap (λ v. v.packet) only.packets ∙ made.packet;
+          writer = ap (λ (v : SegmentWriter). v.tables.book) only.writer ∙ made.writer;
           room = only.room ∙ made.room;
         };
         share = share_kept (whole s) mid.at new.at index only.used has.share;

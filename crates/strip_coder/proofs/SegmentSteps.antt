@@ -7,7 +7,7 @@ use Rattle.std.proofs.lemmas.List.{same_lists, get_or_default, get_or-take, get_
 use Rattle.std.proofs.lemmas.List.FromFn.{get_or-map-range_with_len}
 use Rattle.std.proofs.Math.Seq.{take-append-add}
 use Rattle.port_122.specs.Outside.{Outside}
-use Rattle.plane_defs.specs.Profile.{profile}
+use Rattle.segment_code.specs.declared.encode.SegmentWriter.{SegmentWriter}
 use Rattle.strip_coder.specs.Plans.{IsPlan, whole}
 use Rattle.base_122.specs.Sizes.{total_blocks, first_block}
 use Rattle.strip_coder.specs.declared.plan.Plan.{Plan}
@@ -144,7 +144,7 @@ text_is s old range full all long holds =
     let index = old.at.index in
     let segment = segment_of (whole s) all index in
     ap (text_for s index old.at.used) (segment_is old.blocks.items all old.at.filled (first_block s.setting.segment index) s.setting.segment (total_blocks s.setting.width s.rows) long full.full (cells_fit s old range full) holds.blocks)
-    ∙ ap (λ limit. coded profile (head_with (whole s) index limit (length segment) (depth_dc_of segment) (depth_ac_of segment)) segment) (share_same (whole s) index old.at.used (used_before (whole s) all index) holds.used)
+    ∙ ap (λ limit. coded s.setting.book (head_with (whole s) index limit (length segment) (depth_dc_of segment) (depth_ac_of segment)) segment) (share_same (whole s) index old.at.used (used_before (whole s) all index) holds.used)
 
 -- what differs in a work after its present segment was given to be written
 pub record Rewritten (old new : Work) : Type 0 where
@@ -152,6 +152,7 @@ pub record Rewritten (old new : Work) : Type 0 where
   pub row : new.row ≡ old.row
   pub blocks : vec_len new.blocks ≡ vec_len old.blocks
   pub marks : vec_len new.marks ≡ vec_len old.marks
+  pub writer : new.writer ≡ old.writer
   pub room : new.room ≡ old.room
 
 pub still_made : (s : Setting) (old new : Work) → IsMadeFor s old → Rewritten old new → new.packets.packet ≡ old.packets.packet → IsMadeFor s new
@@ -161,6 +162,7 @@ still_made s old new made same packet = record {
   marks = subst (λ n. most_blocks s ≤ n) (sym same.marks) made.marks;
   strip = ap columns_of same.strip ∙ made.strip;
   packet = packet ∙ made.packet;
+  writer = ap (λ (v : SegmentWriter). v.tables.book) same.writer ∙ made.writer;
   room = same.room ∙ made.room;
 }
 

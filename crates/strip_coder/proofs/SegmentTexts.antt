@@ -6,7 +6,7 @@ use Rattle.std.proofs.Math.Nat.{le-div_iff_mul-le, mul-le-mul_right}
 use Rattle.std.proofs.lemmas.List.FromFn.{length-map-range_with_len}
 use Rattle.base_122.specs.Sizes.{padded_size}
 use Rattle.base_122.proofs.GeometryRanges.{in_range-sized}
-use Rattle.plane_defs.specs.Profile.{profile}
+use Rattle.base_122.specs.declared.book.Book.{Book}
 use Rattle.strip_coder.specs.Plans.{IsPlan, whole}
 use Rattle.strip_coder.specs.declared.plan.Plan.{Plan}
 use Rattle.item_defs.specs.Bits.{copies, octets_of, bits_of}
@@ -84,12 +84,12 @@ cut_some limit octets some = by_limit (limit == 0) refl
     by_limit false e = let least : 1 ≤ limit = grind (arith, nat_tests) in omega (arith, some, least, length-take limit octets)
 
 -- nor is a text that has one
-pub coded_some : (h : SegmentHead) (blocks : List (List ℤ)) → 1 ≤ h.image.word → 0 < length (coded profile h blocks)
+pub coded_some : (book : Book) (h : SegmentHead) (blocks : List (List ℤ)) → 1 ≤ h.image.word → 0 < length (coded book h blocks)
 unfolding coded text_octets
-coded_some h blocks word =
-    let bits = coded_bits profile h blocks in
+coded_some book h blocks word =
+    let bits = coded_bits book h blocks in
     let unit = 8 * h.image.word in
-    let some : 1 ≤ length bits = omega (arith, head_some h, length-append (head_bits h) (text (segment_items h blocks (block_depths blocks) (chosen_options profile h blocks)))) in
+    let some : 1 ≤ length bits = omega (arith, head_some h, length-append (head_bits h) (text (segment_items h blocks (block_depths blocks) (chosen_options book h blocks)))) in
     let least : 1 * unit ≤ rounded unit (length bits) = mul-le-mul_right {m = 1} {n = (length bits + (unit - 1)) / unit} unit (one_word unit (length bits) (omega (arith, word)) some) in
     let long : length (padded h.image.word h.limit h.fill bits) ≡ length bits + padding h.image.word h.limit h.fill (length bits) =
     length-append bits (copies (padding h.image.word h.limit h.fill (length bits)) false) ∙ ap (λ n. length bits + n) (length-copies (padding h.image.word h.limit h.fill (length bits)) false) in
@@ -101,7 +101,7 @@ coded_some h blocks word =
 
 -- the head is the segment's own if its depths are those of the blocks
 pub text_same : (s : Plan) (index used count depth_dc depth_ac : ℕ) (segment : List (List ℤ)) → count ≡ length segment →
-    depth_dc ≡ depth_dc_of segment → depth_ac ≡ depth_ac_of segment → coded profile (head_with (whole s) index (share (whole s) index used) count depth_dc depth_ac) segment ≡ text_for s index used segment
+    depth_dc ≡ depth_dc_of segment → depth_ac ≡ depth_ac_of segment → coded s.setting.book (head_with (whole s) index (share (whole s) index used) count depth_dc depth_ac) segment ≡ text_for s index used segment
 text_same s index used count depth_dc depth_ac segment e f g = rw (e, f, g) refl
 
 -- a head can have the share of what is left as its limit

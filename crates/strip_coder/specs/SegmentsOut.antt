@@ -1,6 +1,5 @@
 -- The segments of an image, as texts and packets.
 use Rattle.std.specs.Prelude.{ℕ, ℤ, List, [], length}
-use Rattle.plane_defs.specs.Profile.{profile}
 use Rattle.strip_coder.specs.declared.plan.Plan.{Plan}
 use Rattle.strip_coder.specs.Plans.{whole}
 use Rattle.segment_defs.specs.Coded.{coded}
@@ -14,9 +13,9 @@ use Rattle.space_packets.specs.Progress.{Progress}
 abbrev pub text_of : Plan → ℕ → Text
 text_of s index = record { apid = s.setting.apid; ancillary = ancillary_of (tells_last s.setting) (whole s) index }
 
--- the text of the segment of this index, with these blocks, after texts of `used` octets
+-- the text of the segment of this index, with these blocks, after texts of `used` octets: it is written with the code book of the setting
 abbrev pub text_for : Plan → (index used : ℕ) → List (List ℤ) → List ℕ
-text_for s index used segment = coded profile (head_of (whole s) index used segment) segment
+text_for s index used segment = coded s.setting.book (head_of (whole s) index used segment) segment
 
 -- a packetiser has written the packets of this number of segments of an image with these blocks, and nothing else
 abbrev pub progress_at : Plan → List (List ℤ) → ℕ → Progress

@@ -25,13 +25,14 @@ most_blocks s = if s.rows == 0 then s.segment else segment_blocks (total_blocks 
 abbrev pub samples_of : Work → ℕ
 samples_of w = strip_samples w.strip + (vec_len w.row + vec_len w.blocks + vec_len w.marks)
 
--- a work was made for this setting: it has room for its segments
+-- a work was made for this setting: it has room for its segments, and writes them with its code book
 pub record IsMadeFor (s : Setting) (w : Work) : Type 0 where
   pub row : vec_len w.row ≡ padded_size s.width
   pub blocks : 64 * most_blocks s ≤ vec_len w.blocks
   pub marks : most_blocks s ≤ vec_len w.marks
   pub strip : columns_of w.strip ≡ block_count s.width
   pub packet : w.packets.packet ≡ s.packet
+  pub writer : w.writer.tables.book ≡ s.book
   pub room : w.room ≡ sample_need s.width s.segment
 
 -- what the coded segments so far leave of a bound on all: at least 36 octets for each of those that follow

@@ -1,10 +1,13 @@
-// Black images, encoded: shares of a bound on all coded segments, and rows that are reported last.
+// Small images, encoded: shares of a bound on all coded segments, rows that are reported last, and another code book.
+ghost use Rattle.std.specs.Prelude.{IsTrue};
 ghost use Rattle.base_122.specs.Ranges.{IsInRange};
+ghost use Rattle.plane_defs.specs.Codes.{is_book_sound};
 
 use crate::encode::EncodeFault;
 use crate::rows::encode_rows;
 use crate::work::Work;
-use base_122::Setting;
+use base_122::{Book, Setting};
+use code_book::check_book;
 use port_122::MemoryPort;
 use std::alloc::Global;
 use std::mem;
@@ -17,7 +20,8 @@ fn encode_port(
     setting: &Setting,
     port: &mut MemoryPort,
 ) -> Result<Option<EncodeFault>, Fail>
-    requires { IsInRange setting.now }
+    requires range { IsInRange setting.now }
+    requires book { IsTrue (is_book_sound setting.now.book) }
 {
     let mut work = Work::new(alloc, setting)?;
     let fault = encode_rows(port, setting, &mut work).err();
@@ -33,8 +37,19 @@ fn black_packets(
     pixels: usize,
     fault: Option<EncodeFault>,
 ) -> Result<Vec<u8>, Fail> {
-    assert_eq!(rt; setting.check(), Ok(()));
     let raster = vec![in rt.alloc(); 0; pixels]?;
+    packets_of(rt, setting, raster, fault)
+}
+
+// Expects this fault for a raster, and returns the packets.
+fn packets_of(
+    rt: &(impl Abort + AllocGlobal),
+    setting: &Setting,
+    raster: Vec<u8>,
+    fault: Option<EncodeFault>,
+) -> Result<Vec<u8>, Fail> {
+    assert_eq!(rt; setting.check(), Ok(()));
+    assert_eq!(rt; check_book(&setting.book), Ok(()));
     let mut port = MemoryPort::new(rt.alloc(), raster, Vec::new(rt.alloc()), 65_536)?;
     assert_eq!(rt; encode_port(rt.alloc(), setting, &mut port)?, fault);
     Ok(port.given().to_vec(rt.alloc())?)
@@ -113,5 +128,44 @@ fn rows_reported_last_are_whole_and_enough(rt: HostRuntime) -> Result<(), Fail> 
         let packets = black_packets(&rt, &setting, octets, fault)?;
         assert!(rt; packets.is_empty());
     }
+    Ok(())
+}
+
+// The profile's book with the codes of symbols 0 and 1 exchanged in the first table of words of four bits: 01 and 1.
+fn exchanged() -> Book {
+    let mut book = Book::profile();
+    let first = book.codes[3][0];
+    book.codes[3][0] = book.codes[3][1];
+    book.codes[3][1] = first;
+    book
+}
+
+// Returns the packets of an image of 17 by 17 black pixels of which the first has the value 1.
+fn first_pixel_packets(
+    rt: &(impl Abort + AllocGlobal),
+    setting: &Setting,
+) -> Result<Vec<u8>, Fail> {
+    let mut raster = vec![in rt.alloc(); 0; 289]?;
+    raster[0] = 1;
+    packets_of(rt, setting, raster, None)
+}
+
+#[test]
+fn texts_have_the_codes_of_the_book_in_the_setting(rt: HostRuntime) -> Result<(), Fail> {
+    let mut setting = Setting::usual(17, 17);
+    let packets = first_pixel_packets(&rt, &setting)?;
+    let mut packet = [
+        0x08, 0x64, 0xc0, 0, 0, 0x31, 0x12, 0x20, 0, 0, 0, 0, 0, 0x11, 0, 0, 0, 0x40, 0, 0, 0, 0,
+        0, 0, 0, 0, 0, 0, 0, 0, 0xc0, 0x02, 0x27, 0xe0, 0, 0, 0, 0, 0x60, 0, 0, 0x9c, 0x88, 0,
+        0x01, 0x10, 0, 0, 0, 0, 0, 0x21, 0xff, 0x18, 0xbc, 0x50,
+    ];
+    assert_eq!(rt; packets.as_slice(), packet.as_slice());
+    // Four words of four bits have symbol 1 of the first table: 01 with the book of the profile, 1 with the other.
+    setting.book = exchanged();
+    packet[53] = 0x19;
+    packet[54] = 0xf3;
+    packet[55] = 0;
+    let packets = first_pixel_packets(&rt, &setting)?;
+    assert_eq!(rt; packets.as_slice(), packet.as_slice());
     Ok(())
 }

@@ -19,6 +19,7 @@ use crate::work::{ImageAt, Work};
 use base_122::Weights;
 use block_families::gather;
 use port_122::{Failed, Port};
+use segment_code::SegmentWriter;
 use space_packets::Packetiser;
 use wave_strip::StripWave;
 
@@ -54,8 +55,10 @@ fn write_front<X: Port>(
     blocks: &[i32],
     marks: &mut [i32],
     packets: &mut Packetiser,
+    writer: &SegmentWriter,
 ) -> Result<u64, Failed>
     requires in_range { IsPlan plan.now }
+    requires book { writer.now.tables.book ≡ plan.now.setting.book }
     requires index { at.now.index < segments_of (whole plan.now) }
     requires share { KeepsShare (whole plan.now) at.now }
     requires some { 1 ≤ count }
@@ -78,6 +81,7 @@ fn write_front<X: Port>(
         &blocks[..64 * count],
         &mut marks[..count],
         packets,
+        writer,
     )
 }
 
@@ -96,6 +100,7 @@ fn write_present<X: Port>(port: &mut X, plan: &Plan, work: &mut Work) -> Result<
         &work.blocks,
         &mut work.marks,
         &mut work.packets,
+        &work.writer,
     ) else {
         return Err(Failed);
     };

@@ -23,6 +23,7 @@ use raster_rows::{RowFault, at_end, read_row};
 /// A setting with rows has a raster of that number, and the end of the input is read after all packets are written. If the setting
 /// leaves the rows open, the raster has the whole rows before the end of the input, 17 to 262,144, and the packets of the segments
 /// that the end settles are written after it was read. The work was made for an equal setting, and can be used again after any return.
+/// The coded segments have the codes of the setting's book.
 ///
 /// # Errors
 ///

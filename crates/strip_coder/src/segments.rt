@@ -14,12 +14,11 @@ use crate::plan::Plan;
 use crate::work::ImageAt;
 use base_122::{FieldRange, Select, Setting, Stop};
 use port_122::{Failed, Port};
-use segment_code::{encode_segment, segment_depths};
+use segment_code::{SegmentWriter, segment_depths};
 use segment_head::{ImagePart, SegmentHead};
 use space_packets::{Ancillary, Packetiser};
-use word_codes::profile_book;
 
-/// Writes the packets of the present segment, and returns the octets of its text.
+/// Writes the packets of the present segment, and returns the octets of its text, which has the codes of the book of the setting.
 pub fn write_segment<X: Port>(
     port: &mut X,
     plan: &Plan,
@@ -27,8 +26,10 @@ pub fn write_segment<X: Port>(
     blocks: &[i32],
     marks: &mut [i32],
     packets: &mut Packetiser,
+    writer: &SegmentWriter,
 ) -> Result<u64, Failed>
     requires in_range { IsPlan plan.now }
+    requires book { writer.now.tables.book ≡ plan.now.setting.book }
     requires index { at.now.index < segments_of (whole plan.now) }
     requires share { KeepsShare (whole plan.now) at.now }
     requires some { 1 ≤ length marks.old }
@@ -55,7 +56,7 @@ pub fn write_segment<X: Port>(
     );
     packets.begin(plan.setting.apid, ancillary(plan, at.index));
     let mut sink = packets.sink(port);
-    let Ok(octets) = encode_segment(&mut sink, &head, blocks, marks, &profile_book()) else {
+    let Ok(octets) = writer.encode(&mut sink, &head, blocks, marks) else {
         return Err(Failed);
     };
     let Ok(()) = packets.close(port) else {

@@ -5,6 +5,7 @@ ghost use Rattle.wave_strip.specs.Strip.{columns_of};
 use crate::plan::Plan;
 use crate::room::most_blocks;
 use base_122::{Setting, need};
+use segment_code::SegmentWriter;
 use space_packets::Packetiser;
 use std::alloc::{AllocError, Global};
 use wave_strip::StripWave;
@@ -19,8 +20,8 @@ pub struct ImageAt {
     pub used: u64,
 }
 
-/// The transform, one padded row, the blocks of one segment with their states, one packet, and the progress of the image. All of its
-/// samples are at most `room`.
+/// The transform, one padded row, the blocks of one segment with their states, one packet, the writer of segments, and the progress of the
+/// image. All of its samples are at most `room`.
 #[derive(Drop)]
 pub struct Work {
     pub strip: StripWave,
@@ -28,20 +29,23 @@ pub struct Work {
     pub blocks: Vec<i32>,
     pub marks: Vec<i32>,
     pub packets: Packetiser,
+    pub writer: SegmentWriter,
     pub room: u64,
     pub at: ImageAt,
     ghost within: { 62 * (8 * columns_of strip) + vec_len row + vec_len blocks + vec_len marks ≤ room },
 }
 
 impl Work {
-    ghost use Rattle.std.specs.Prelude.{◌≡◌, ◌≤◌, ◌*◌, IfOk, vec_len};
+    ghost use Rattle.std.specs.Prelude.{◌≡◌, ◌≤◌, ◌*◌, IfOk, IsTrue, vec_len};
+    ghost use Rattle.plane_defs.specs.Codes.{is_book_sound};
     ghost use Rattle.base_122.specs.Ranges.{IsInRange};
     ghost use Rattle.strip_coder.specs.Works.{IsMadeFor, most_blocks, samples_of, RepresentsNone};
 
-    /// Takes all memory that images of this setting need (docs/architecture.md, "The encoder"). It fails only if there is too little
-    /// memory.
+    /// Takes all memory that images of this setting need (docs/architecture.md, "The encoder"), and makes the tables of its code book, which
+    /// must be sound. It fails only if there is too little memory.
     pub fn new(alloc: Global, setting: &Setting) -> Result<Work, AllocError>
-        requires { IsInRange setting.now }
+        requires in_range { IsInRange setting.now }
+        requires book { IsTrue (is_book_sound setting.now.book) }
         ensures made { IfOk result (IsMadeFor setting.now) }
         ensures blocks { IfOk result (λ made. vec_len made.blocks ≡ 64 * most_blocks setting.now) }
         ensures marks { IfOk result (λ made. vec_len made.marks ≡ most_blocks setting.now) }
@@ -61,6 +65,7 @@ impl Work {
             blocks,
             marks,
             packets,
+            writer: SegmentWriter::new(&setting.book),
             room: need(setting),
             at: ImageAt {
                 rows: 0,

@@ -24,6 +24,7 @@ push_tail-requires-clause-running g c =
           marks = made.marks;
           strip = made.strip;
           packet = made.packet;
+          writer = made.writer;
           room = made.room;
         };
         share = has.share;

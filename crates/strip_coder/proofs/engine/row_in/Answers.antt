@@ -24,6 +24,7 @@ push-requires-clause-running g c =
           marks = made.marks;
           strip = made.strip;
           packet = made.packet;
+          writer = made.writer;
           room = made.room;
         };
         share = has.share;
@@ -65,4 +66,4 @@ returns g c =
     row_taken s c.requires.in_range w _ c.requires.taken c.requires.few (record { strip = refl; blocks = refl; packets = refl; at = refl })
     (pads s.width w.row _ c.pad_row.new.row c.deref_mut.ensures.value long c.pad_row.ensures)
     (long_as w.row c.pad_row.new.row (padded_size s.width) long c.requires.taken.running.gathered.made.row) c.push.new.work _ (rw c.tallest-plan.ensures at c.in-Ok.ensures)
-    (record { strip = refl; row = refl; blocks = refl; marks = refl; packets = refl; room = refl; rows = refl; filled = refl; index = refl; used = refl })
+    (record { strip = refl; row = refl; blocks = refl; marks = refl; packets = refl; writer = refl; room = refl; rows = refl; filled = refl; index = refl; used = refl })

@@ -13,6 +13,7 @@ returns-clause-start c =
       marks = made.marks;
       strip = c.reset.ensures.columns ∙ made.strip;
       packet = ap (λ (p : Progress). p.packet) c.reset-2.ensures ∙ made.packet;
+      writer = made.writer;
       room = made.room;
     })
     c.reset.ensures.start (c.reset-2.ensures ∙ ap fresh made.packet) refl

@@ -12,7 +12,7 @@ returns-then-work-blocks_of g c =
     let numbers = gathered (number_in w.strip) s.setting.weights.shifts c.args.column in
     let size = rw c.geometry_for.ensures at c.blocks_of.ensures in
     put_part s c.requires.in_range w _ numbers c.requires.gathered c.requires.more
-    (put_in w _ w.blocks.items c.gather_block.new.blocks numbers (record { strip = refl; row = refl; blocks = refl; marks = refl; room = refl }) refl refl refl
+    (put_in w _ w.blocks.items c.gather_block.new.blocks numbers (record { strip = refl; row = refl; blocks = refl; marks = refl; writer = refl; room = refl }) refl refl refl
     (with_items_is w.blocks c.gather_block.new.blocks (c.gather_block.auto.blocks ∙ c.deref_mut.ensures.len)) (rw c.deref_mut.ensures.value at c.gather_block.ensures))
     (omega (arith, size, c.if-work-blocks_of.true))
 
@@ -23,7 +23,7 @@ write_present-requires-clause-full g c =
     let numbers = gathered (number_in w.strip) s.setting.weights.shifts c.args.column in
     let size = rw c.geometry_for.ensures at c.blocks_of.ensures in
     put_full s c.requires.in_range w _ numbers c.requires.gathered c.requires.more
-    (put_in w _ w.blocks.items c.gather_block.new.blocks numbers (record { strip = refl; row = refl; blocks = refl; marks = refl; room = refl }) refl refl refl
+    (put_in w _ w.blocks.items c.gather_block.new.blocks numbers (record { strip = refl; row = refl; blocks = refl; marks = refl; writer = refl; room = refl }) refl refl refl
     (with_items_is w.blocks c.gather_block.new.blocks (c.gather_block.auto.blocks ∙ c.deref_mut.ensures.len)) (rw c.deref_mut.ensures.value at c.gather_block.ensures))
     (omega (arith, size, c.if-work-blocks_of.false))
 
@@ -34,6 +34,6 @@ returns g c =
     let numbers = gathered (number_in w.strip) s.setting.weights.shifts c.args.column in
     let size = rw c.geometry_for.ensures at c.blocks_of.ensures in
     put_written s c.requires.in_range (g.X.Port.outside c.args.port.now) (g.X.Port.outside c.write_present.new.port) c.write_present.result w _ c.write_present.new.work numbers c.requires.gathered c.requires.more
-    (put_in w _ w.blocks.items c.gather_block.new.blocks numbers (record { strip = refl; row = refl; blocks = refl; marks = refl; room = refl }) refl refl refl
+    (put_in w _ w.blocks.items c.gather_block.new.blocks numbers (record { strip = refl; row = refl; blocks = refl; marks = refl; writer = refl; room = refl }) refl refl refl
     (with_items_is w.blocks c.gather_block.new.blocks (c.gather_block.auto.blocks ∙ c.deref_mut.ensures.len)) (rw c.deref_mut.ensures.value at c.gather_block.ensures))
     (omega (arith, size, c.if-work-blocks_of.false)) c.write_present.ensures

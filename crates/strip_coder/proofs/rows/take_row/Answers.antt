@@ -34,6 +34,7 @@ returns-then-ends_here-clause-row g c start come =
             marks = made.marks;
             strip = made.strip;
             packet = made.packet;
+            writer = made.writer;
             room = made.room;
           };
           share = has.share;

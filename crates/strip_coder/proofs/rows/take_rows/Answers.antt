@@ -1,4 +1,5 @@
 use Rattle.std.proofs.Common.{◌≡◌, ◌+◌, ap, sym, subst, arith}
+use Rattle.std.proofs.lemmas.Result.{err_from_is_err_and}
 use Rattle.strip_coder.specs.Plans.{tallest}
 use Rattle.strip_coder.specs.declared.plan.Plan.{Plan}
 use Rattle.strip_coder.specs.RowsIn.{HasCome}
@@ -17,6 +18,14 @@ loop-preserved g c =
     let come = subst (λ k. HasCome s k p (g.X.Port.outside c.loop.port) c.loop.work) (sym count) c.loop.invariant in
     let more = rw c.if-not-branch.false at (c.in_ok-take_row.ensures.row p come) in
     subst (λ k. HasCome s (k + 1) p (g.X.Port.outside c.take_row.new.port) c.take_row.new.work) count more
+
+pub returns-in_err-take_row-clause-rows : goal.returns-in_err-take_row-clause-rows
+returns-in_err-take_row-clause-rows g c =
+    let s = c.args.setting.now in
+    let p = g.X.Port.outside c.args.port.now in
+    let come = subst (λ k. HasCome s k p (g.X.Port.outside c.loop.port) c.loop.work) (sym c.loop.invariant.stands.taken.rows) c.loop.invariant in
+    let e = err_from_is_err_and c.from_residual.result c.from_residual.ensures.1 in
+    rw (e.1, e.2) (c.in_err-take_row.ensures.row p come)
 
 pub returns-then-not-branch-clause-rows : goal.returns-then-not-branch-clause-rows
 returns-then-not-branch-clause-rows g c =

@@ -1,7 +1,6 @@
 use Rattle.std.proofs.Common.{rules, Ok, Err, ◌≡◌, ◌<◌, ◌≤◌, ◌*◌, ◌∙◌, ◌++◌, ℕ, ℤ, List, length, refl, sym, ap, subst, arith}
 use Rattle.port_122.specs.Outside.{Outside}
 use Rattle.base_122.specs.declared.book.Book.{Book}
-use Rattle.plane_defs.specs.Profile.{profile}
 use Rattle.strip_coder.specs.Plans.{IsPlan, whole}
 use Rattle.strip_coder.specs.declared.plan.Plan.{Plan}
 use Rattle.segment_defs.specs.declared.head.SegmentHead.{SegmentHead}
@@ -45,22 +44,22 @@ begun_to : (a b : PacketiserState) → a ≡ b → IsBegun b → IsBegun a
 begun_to a b e begun = subst IsBegun (sym e) begun
 
 -- the text of the head that was made
-made : (book : Book) → book ≡ profile → (s : Plan) (index used limit count depth_dc depth_ac : ℕ) (head : SegmentHead) (cells : List ℤ) → head ≡ head_with (whole s) index limit count depth_dc depth_ac →
+made : (book : Book) (s : Plan) → book ≡ s.setting.book → (index used limit count depth_dc depth_ac : ℕ) (head : SegmentHead) (cells : List ℤ) → head ≡ head_with (whole s) index limit count depth_dc depth_ac →
     limit ≡ share (whole s) index used → length cells ≡ 64 * count → depth_dc ≡ depth_dc_of (blocks_in cells) → depth_ac ≡ depth_ac_of (blocks_in cells) →
     coded book head (blocks_in cells) ≡ text_for s index used (blocks_in cells)
-made book is s index used limit count depth_dc depth_ac head cells e l f dc ac =
-    ap (λ b. coded b head (blocks_in cells)) is
-    ∙ ap (λ h. coded profile h (blocks_in cells)) (e ∙ ap (λ n. head_with (whole s) index n count depth_dc depth_ac) l)
+made book s own index used limit count depth_dc depth_ac head cells e l f dc ac =
+    ap (λ b. coded b head (blocks_in cells)) own
+    ∙ ap (λ h. coded s.setting.book h (blocks_in cells)) (e ∙ ap (λ n. head_with (whole s) index n count depth_dc depth_ac) l)
     ∙ text_same s index used count depth_dc depth_ac (blocks_in cells) (omega (arith, length-blocks_in cells, f)) dc ac
 
 -- and it isn't empty
 some_text : (s : Plan) (index used : ℕ) (cells : List ℤ) → IsPlan s → 0 < length (text_for s index used (blocks_in cells))
 some_text s index used cells range =
-    coded_some (head_with (whole s) index (share (whole s) index used) (length (blocks_in cells)) (depth_dc_of (blocks_in cells)) (depth_ac_of (blocks_in cells))) (blocks_in cells) range.in_range.word.0
+    coded_some s.setting.book (head_with (whole s) index (share (whole s) index used) (length (blocks_in cells)) (depth_dc_of (blocks_in cells)) (depth_ac_of (blocks_in cells))) (blocks_in cells) range.in_range.word.0
 
 -- it can be written
-pub encode_segment-requires-clause-fits : goal.encode_segment-requires-clause-fits
-encode_segment-requires-clause-fits g c =
+pub encode-requires-clause-fits : goal.encode-requires-clause-fits
+encode-requires-clause-fits g c =
     let s = c.args.plan.now in
     let depths = c.segment_depths-depth_dc in
     let long = depths.auto.marks in
@@ -78,12 +77,12 @@ returns-in_default g c =
     let broken = c.in_default.ensures.text in
     let depths = c.segment_depths-depth_dc in
     let long : length cells ≡ 64 * length depths.new.marks = omega (arith, c.requires.blocks, depths.auto.marks) in
-    let same = made c.profile_book.result c.profile_book.ensures.profile s c.args.at.now.index c.args.at.now.used c.share-limit.result _ depths.result.0 depths.result.1 c.make_head-head.result cells c.make_head-head.ensures c.share-limit.ensures long depths.ensures.dc depths.ensures.ac in
-    let off = sink_breaks_off g.X.Port.outside c.sink-sink.result c.encode_segment.new.out c.args.packets.now (text_of s c.args.at.now.index) c.args.port.now broken.front begins c.sink-sink.ensures.same_port least broken.broke in
+    let same = made c.args.writer.now.tables.book s c.requires.book c.args.at.now.index c.args.at.now.used c.share-limit.result _ depths.result.0 depths.result.1 c.make_head-head.result cells c.make_head-head.ensures c.share-limit.ensures long depths.ensures.dc depths.ensures.ac in
+    let off = sink_breaks_off g.X.Port.outside c.sink-sink.result c.encode.new.out c.args.packets.now (text_of s c.args.at.now.index) c.args.port.now broken.front begins c.sink-sink.ensures.same_port least broken.broke in
     let whole : broken.front ++ broken.more ≡ text_for s c.args.at.now.index c.args.at.now.used (blocks_in cells) = sym broken.parts ∙ same in
     let some : 0 < length (broken.front ++ broken.more) = subst (λ xs. 0 < length xs) (sym whole) (some_text s c.args.at.now.index c.args.at.now.used cells c.requires.in_range) in
     let cut = rw whole at (text_cut c.args.packets.now broken.front broken.more least refl some off) in
-    cut_to g.X.Port.outside _ c.encode_segment.new.out.port.now _ c.encode_segment.new.out.packets.now (search rules) (search rules) cut
+    cut_to g.X.Port.outside _ c.encode.new.out.port.now _ c.encode.new.out.packets.now (search rules) (search rules) cut
 
 pub close-requires-clause-begun : goal.close-requires-clause-begun
 close-requires-clause-begun g c =
@@ -91,8 +90,8 @@ close-requires-clause-begun g c =
     let least : 64 ≤ c.args.packets.now.packet = omega (arith, c.requires.packet, c.requires.in_range.in_range.packet) in
     let begins = c.sink-sink.ensures.same_packets ∙ c.begin.ensures.begun ∙ begun_with s c.args.at.now.index c.args.packets.now c.ancillary.result c.ancillary.ensures in
     let given = c.in-Ok.ensures.text in
-    let sent = sink_goes_on g.X.Port.outside c.sink-sink.result c.encode_segment.new.out c.args.packets.now (text_of s c.args.at.now.index) c.args.port.now _ begins c.sink-sink.ensures.same_port least given.gave in
-    begun_to _ c.encode_segment.new.out.packets.now.stage (search rules) (begun_stands _ _ (ap (λ (w : Progress). w.stage) sent.stands))
+    let sent = sink_goes_on g.X.Port.outside c.sink-sink.result c.encode.new.out c.args.packets.now (text_of s c.args.at.now.index) c.args.port.now _ begins c.sink-sink.ensures.same_port least given.gave in
+    begun_to _ c.encode.new.out.packets.now.stage (search rules) (begun_stands _ _ (ap (λ (w : Progress). w.stage) sent.stands))
 
 pub close-requires-clause-some : goal.close-requires-clause-some
 close-requires-clause-some g c =
@@ -103,10 +102,10 @@ close-requires-clause-some g c =
     let given = c.in-Ok.ensures.text in
     let depths = c.segment_depths-depth_dc in
     let long : length cells ≡ 64 * length depths.new.marks = omega (arith, c.requires.blocks, depths.auto.marks) in
-    let same = made c.profile_book.result c.profile_book.ensures.profile s c.args.at.now.index c.args.at.now.used c.share-limit.result _ depths.result.0 depths.result.1 c.make_head-head.result cells c.make_head-head.ensures c.share-limit.ensures long depths.ensures.dc depths.ensures.ac in
+    let same = made c.args.writer.now.tables.book s c.requires.book c.args.at.now.index c.args.at.now.used c.share-limit.result _ depths.result.0 depths.result.1 c.make_head-head.result cells c.make_head-head.ensures c.share-limit.ensures long depths.ensures.dc depths.ensures.ac in
     let gave = rw same at given.gave in
-    let sent = sink_goes_on g.X.Port.outside c.sink-sink.result c.encode_segment.new.out c.args.packets.now (text_of s c.args.at.now.index) c.args.port.now _ begins c.sink-sink.ensures.same_port least gave in
-    let waits : 0 < length c.encode_segment.new.out.packets.now.pending = some_wait c.args.packets.now (text_for s c.args.at.now.index c.args.at.now.used (blocks_in cells)) (some_text s c.args.at.now.index c.args.at.now.used cells c.requires.in_range) sent in
+    let sent = sink_goes_on g.X.Port.outside c.sink-sink.result c.encode.new.out c.args.packets.now (text_of s c.args.at.now.index) c.args.port.now _ begins c.sink-sink.ensures.same_port least gave in
+    let waits : 0 < length c.encode.new.out.packets.now.pending = some_wait c.args.packets.now (text_for s c.args.at.now.index c.args.at.now.used (blocks_in cells)) (some_text s c.args.at.now.index c.args.at.now.used cells c.requires.in_range) sent in
     grind (arith, waits)
 
 pub returns-in_default-close : goal.returns-in_default-close
@@ -120,12 +119,12 @@ returns-in_default-close g c =
     let given = c.in-Ok.ensures.text in
     let depths = c.segment_depths-depth_dc in
     let long : length cells ≡ 64 * length depths.new.marks = omega (arith, c.requires.blocks, depths.auto.marks) in
-    let same = made c.profile_book.result c.profile_book.ensures.profile s index used c.share-limit.result _ depths.result.0 depths.result.1 c.make_head-head.result cells c.make_head-head.ensures c.share-limit.ensures long depths.ensures.dc depths.ensures.ac in
+    let same = made c.args.writer.now.tables.book s c.requires.book index used c.share-limit.result _ depths.result.0 depths.result.1 c.make_head-head.result cells c.make_head-head.ensures c.share-limit.ensures long depths.ensures.dc depths.ensures.ac in
     let gave = rw same at given.gave in
-    let sent = sink_goes_on g.X.Port.outside c.sink-sink.result c.encode_segment.new.out c.args.packets.now (text_of s index) c.args.port.now _ begins c.sink-sink.ensures.same_port least gave in
+    let sent = sink_goes_on g.X.Port.outside c.sink-sink.result c.encode.new.out c.args.packets.now (text_of s index) c.args.port.now _ begins c.sink-sink.ensures.same_port least gave in
     text_closed {T = Unit {0}} {E = Unit {0}} (Err tt) c.args.packets.now _ c.close.new.self (text_of s index) (text_for s index used (blocks_in cells)) (g.X.Port.outside c.args.port.now) _ (g.X.Port.outside c.close.new.port) least refl
     (some_text s index used cells c.requires.in_range)
-    (sent_to g.X.Port.outside _ c.encode_segment.new.out.port.now _ c.encode_segment.new.out.packets.now (search rules) (search rules) sent) c.in_default-close.ensures
+    (sent_to g.X.Port.outside _ c.encode.new.out.port.now _ c.encode.new.out.packets.now (search rules) (search rules) sent) c.in_default-close.ensures
 
 pub returns : goal.returns
 returns g c =
@@ -138,11 +137,11 @@ returns g c =
     let given = c.in-Ok.ensures.text in
     let depths = c.segment_depths-depth_dc in
     let long : length cells ≡ 64 * length depths.new.marks = omega (arith, c.requires.blocks, depths.auto.marks) in
-    let same = made c.profile_book.result c.profile_book.ensures.profile s index used c.share-limit.result _ depths.result.0 depths.result.1 c.make_head-head.result cells c.make_head-head.ensures c.share-limit.ensures long depths.ensures.dc depths.ensures.ac in
+    let same = made c.args.writer.now.tables.book s c.requires.book index used c.share-limit.result _ depths.result.0 depths.result.1 c.make_head-head.result cells c.make_head-head.ensures c.share-limit.ensures long depths.ensures.dc depths.ensures.ac in
     let gave = rw same at given.gave in
-    let sent = sink_goes_on g.X.Port.outside c.sink-sink.result c.encode_segment.new.out c.args.packets.now (text_of s index) c.args.port.now _ begins c.sink-sink.ensures.same_port least gave in (
+    let sent = sink_goes_on g.X.Port.outside c.sink-sink.result c.encode.new.out c.args.packets.now (text_of s index) c.args.port.now _ begins c.sink-sink.ensures.same_port least gave in (
       text_closed {T = Unit {0}} {E = Unit {0}} (Ok tt) c.args.packets.now _ c.close.new.self (text_of s index) (text_for s index used (blocks_in cells)) (g.X.Port.outside c.args.port.now) _ (g.X.Port.outside c.close.new.port) least refl
           (some_text s index used cells c.requires.in_range)
-          (sent_to g.X.Port.outside _ c.encode_segment.new.out.port.now _ c.encode_segment.new.out.packets.now (search rules) (search rules) sent) c.in-Ok-close.ensures,
+          (sent_to g.X.Port.outside _ c.encode.new.out.port.now _ c.encode.new.out.packets.now (search rules) (search rules) sent) c.in-Ok-close.ensures,
       given.count ∙ ap length same,
     )

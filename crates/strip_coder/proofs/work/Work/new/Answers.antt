@@ -6,20 +6,21 @@ use Rattle.strip_coder.proofs.WorkStarts.{starts}
 use Rattle.strip_coder.proofs.work.Work.new.Goals as goal
 
 pub geometry_for-geometry-requires : goal.geometry_for-geometry-requires
-geometry_for-geometry-requires c = rw c.tallest.ensures (tall_height c.args.setting.now c.requires).0
+geometry_for-geometry-requires c = rw c.tallest.ensures (tall_height c.args.setting.now c.requires.in_range).0
 
 pub returns-clause-start : goal.returns-clause-start
 returns-clause-start c =
     let width = rw c.geometry_for-geometry.ensures at c.padded_width-width.ensures in
     let count = c.most_blocks-count.ensures in
     let columns : columns_of c.in_ok-strip.strip ≡ block_count c.args.setting.now.width = omega (arith, c.in_ok-strip.ensures.columns, width) in
-    starts c.args.setting.now _ c.requires
+    starts c.args.setting.now _ c.requires.in_range
     (record {
       row = c.in_ok-row.ensures.len ∙ width;
       blocks = omega (arith, c.in_ok-blocks.ensures.len, count);
       marks = omega (arith, c.in_ok-marks.ensures.len, count);
       strip = columns;
       packet = ap (λ p. p.packet) c.in_ok-packets.ensures;
+      writer = c.new-3.ensures.book;
       room = c.need.ensures;
     })
     c.in_ok-strip.ensures.start c.in_ok-packets.ensures refl
