@@ -23,7 +23,7 @@ pub in_rects : (g : Geometry) (received : Numbers) (numbers : ℕ → ℕ → �
 in_rects g received numbers n range are = stays g received n numbers (number_at g received) range (record { at = are.at })
 
 module _ (short : TextsAreShort) (s : Setting) (rows : ℕ) (x : ℕ → ℕ → ℤ) (parts : ℕ → List ℕ) (are : AreSome s rows x parts) where
-  module _ (received whole : Numbers) (some_are : ReceivedIn holds_after s.apid (some_output s rows x parts) received) (all_are : ReceivedIn holds_after s.apid (output s rows x) whole) where
+  module _ (received whole : Numbers) (some_are : ReceivedIn (holds_after s.book) s.apid (some_output s rows x parts) received) (all_are : ReceivedIn (holds_after s.book) s.apid (output s rows x) whole) where
     -- whether the height is reported or not
     module _ (r n : ℕ) (is : (r ≡ rows) ⊎ ((s.rows ≡ 0) × (r ≡ 0))) (few : n ≤ block_count rows) where
       abbrev g : Geometry

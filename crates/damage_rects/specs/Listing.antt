@@ -20,7 +20,7 @@ use Rattle.strip_decoder.specs.Walks.{HasTooMany}
 -- For the octets that were taken the answer is a decoder's, and these are the lines of the rectangles that the missing blocks reach.
 pub record AreLines (wish : DecodeWish) (start new : Outside) (took lines : List ℕ) (done : DecodeDone) : Type 0 where
   pub found : PictureBy false wish start new took [] done
-  pub told : (all : List ℕ) → start.rest ≡ Some all → (received : Numbers) × ReceivedIn holds_after wish.apid took received
+  pub told : (all : List ℕ) → start.rest ≡ Some all → (received : Numbers) × ReceivedIn (holds_after wish.book) wish.apid took received
       × (lines ≡ rect_lines (rects done.geometry received (begun_in wish.apid took)))
 
 -- a prefix of the lines, for the octets that were taken to their end

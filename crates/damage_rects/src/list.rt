@@ -1,4 +1,6 @@
 // Lists the rectangles that losses damage, from packets.
+ghost use Rattle.std.specs.Prelude.{IsTrue};
+ghost use Rattle.plane_defs.specs.Codes.{is_book_sound};
 ghost use Rattle.damage_rects.specs.Listing.{ListsRects};
 
 use crate::gaps::{Gaps, into_gaps};
@@ -9,7 +11,8 @@ use std::alloc::Global;
 use strip_decoder::{DecodeDone, DecodeFault, walk_segments};
 
 /// Takes the packets of an APID as `decode_packets` does and returns what it returns. It gives no row: after all is read, it gives a line
-/// `27-77 0-63` for each rectangle that missing blocks reach, rows first, then columns (docs/formats.md, "Picture and damage").
+/// `27-77 0-63` for each rectangle that missing blocks reach, rows first, then columns (docs/formats.md, "Picture and damage"). Segments
+/// are read with the wish's code book, which must be sound, as `decode_packets` reads them.
 ///
 /// # Errors
 ///
@@ -21,6 +24,7 @@ pub fn list_rects<X: Port>(
     port: &mut X,
     wish: &DecodeWish,
 ) -> Result<DecodeDone, DecodeFault>
+    requires book { IsTrue (is_book_sound wish.now.book) }
     ensures { ListsRects wish.now (X.outside port.old) (X.outside port.new) result }
 {
     let walked = match walk_segments::<Gaps, X>(alloc, port, wish) {

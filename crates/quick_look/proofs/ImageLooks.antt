@@ -30,7 +30,7 @@ use Rattle.quick_look.specs.LookLaws.{low_image}
 use Rattle.quick_look.proofs.LowBands.{first_is, low_is}
 
 module _ (short : TextsAreShort) (holds : CodedHolds) (exact : CodedHoldsExactly) (s : Setting) (rows : ℕ) (x : ℕ → ℕ → ℤ) (is : IsImageFor s rows x) (received : Numbers)
-    (received_is : ReceivedIn holds_after s.apid (output s rows x) received) (sends : SendsAll s) where
+    (received_is : ReceivedIn (holds_after s.book) s.apid (output s rows x) received) (sends : SendsAll s) where
   abbrev g : Geometry
   g = image_geometry s rows
 
@@ -55,9 +55,9 @@ module _ (short : TextsAreShort) (holds : CodedHolds) (exact : CodedHoldsExactly
 -- ---- what a look gives
 
 pub given_back : TextsAreShort → CodedHolds → CodedHoldsExactly → (wish : DecodeWish) (start new : Outside) (took gave every : List ℕ) (done : DecodeDone) (s : Setting) (rows : ℕ) (x : ℕ → ℕ → ℤ) →
-    IsLook wish start new took gave done → start.rest ≡ Some every → wish.apid ≡ s.apid → took ≡ output s rows x → IsImageFor s rows x → SendsAll s →
+    IsLook wish start new took gave done → start.rest ≡ Some every → wish.apid ≡ s.apid → wish.book ≡ s.book → took ≡ output s rows x → IsImageFor s rows x → SendsAll s →
     gave ≡ raster_octets s.depth (block_count rows) (block_count s.width) (low_image s rows x)
-given_back short holds exact wish start new took gave every done s rows x found told apid took_is is sends =
+given_back short holds exact wish start new took gave every done s rows x found told apid book took_is is sends =
     let t = found.found.told every told in
     let received = t.0 in
     let n : ℕ = begun_in wish.apid took in
@@ -66,7 +66,7 @@ given_back short holds exact wish start new took gave every done s rows x found 
     let size : done.geometry ≡ image_geometry s rows = some_geometry (sym there ∙ geometry_told short s rows x is) in
     let some : rows ≡ 0 → ⊥ = within_not rows is.height.0 in
     let all_rows : block_rows (image_geometry s rows) n ≡ block_count rows = rw (is_not_open rows some) refl in
-    let mine : ReceivedIn holds_after s.apid (output s rows x) received = subst (λ octets. ReceivedIn holds_after s.apid octets received) took_is (subst (λ n. ReceivedIn holds_after n took received) apid t.1) in
+    let mine : ReceivedIn (holds_after s.book) s.apid (output s rows x) received = subst (λ octets. ReceivedIn (holds_after s.book) s.apid octets received) took_is (subst (λ n. ReceivedIn (holds_after s.book) n took received) apid (subst (λ b. ReceivedIn (holds_after b) wish.apid took received) book t.1)) in
     found.look every told received t.1 ∙ ap (λ g. look_octets g received n) size
     ∙ ap (λ k. raster_octets s.depth k (block_count s.width) (look (image_geometry s rows) received)) all_rows
     ∙ raster_same s.depth (block_count rows) (block_count s.width) (look (image_geometry s rows) received) (low_image s rows x) (look_is short holds exact s rows x is received mine sends)

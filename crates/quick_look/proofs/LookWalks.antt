@@ -6,6 +6,7 @@ use Rattle.std.proofs.lemmas.Nat.{div-mul-add}
 use Rattle.port_122.specs.Outside.{Outside}
 use Rattle.port_122.proofs.Stretches.{since_weaker}
 use Rattle.base_122.specs.Sizes.{block_count}
+use Rattle.base_122.specs.declared.book.Book.{Book}
 use Rattle.base_122.specs.declared.geometry.Geometry.{Geometry}
 use Rattle.base_122.specs.declared.wish.DecodeWish.{DecodeWish}
 use Rattle.base_122.proofs.SizeBounds.{three-le-block_count}
@@ -89,8 +90,8 @@ module _ (apid : ℕ) (taken : List ℕ) (g : Geometry) (geometry : geometry_in 
 
 -- ---- what is given
 
-prompt_by : (apid : ℕ) (taken given : List ℕ) → PassedBy look_sink apid taken given → PromptLook apid taken given
-prompt_by apid taken given passed = record {
+prompt_by : (book : Book) (apid : ℕ) (taken given : List ℕ) → PassedBy look_sink book apid taken given → PromptLook book apid taken given
+prompt_by book apid taken given passed = record {
   none = passed.none;
   some = λ g received there are.
       let x = passed.some g received there are in
@@ -98,8 +99,8 @@ prompt_by apid taken given passed = record {
       (k, rows_within apid taken g there x.0 x.1, rows_settled apid taken g there _ x.0 x.2, x.3 ∙ shown_rows g received k);
 }
 
-front_by : (apid : ℕ) (taken given : List ℕ) → PartBy look_sink apid taken given → FrontLook apid taken given
-front_by apid taken given part = record {
+front_by : (book : Book) (apid : ℕ) (taken given : List ℕ) → PartBy look_sink book apid taken given → FrontLook book apid taken given
+front_by book apid taken given part = record {
   none = part.none;
   some = λ g received there are.
       let x = part.some g received there are in
@@ -109,7 +110,7 @@ front_by apid taken given part = record {
 }
 
 asks_by : (wish : DecodeWish) (old : Outside) (took gave : List ℕ) (i j : ℕ) → AsksPassed look_sink (run_of wish old) took gave i j → LookAsks wish old took gave i j
-asks_by wish old took gave i j asks = (asks.0, asks.1, λ all told. prompt_by wish.apid (take i took) (take j gave) (asks.2 all told))
+asks_by wish old took gave i j asks = (asks.0, asks.1, λ all told. prompt_by wish.book wish.apid (take i took) (take j gave) (asks.2 all told))
 
 -- ---- the answers
 
@@ -128,7 +129,7 @@ is_look wish old new took gave walked x = record {
   look = λ all told received are.
       let t = x.told all told in
       let g = walked.done.geometry in
-      let same : t.0 ≡ received = λ i index. both_tell (kept_in wish.apid took) index (t.0 index) (received index) (t.1.at index) (are.at index) i in
+      let same : t.0 ≡ received = λ i index. both_tell wish.book (kept_in wish.apid took) index (t.0 index) (received index) (t.1.at index) (are.at index) i in
       let k : ℕ = blocks_passed g (end_of (kept_in wish.apid took)) / block_count g.width in
       t.2.gave_is ∙ shown_rows g t.0 k ∙ ap (look_rows g t.0) (all_rows wish.apid took g x.geometry) ∙ ap (λ received. look_octets g received (begun_in wish.apid took)) same;
 }
@@ -153,8 +154,8 @@ look_fails wish old new fault x = record {
   answer = by fault x.answer;
 }
   where
-    front : ((all : List ℕ) → old.rest ≡ Some all → PartBy look_sink wish.apid x.took x.gave) → (all : List ℕ) → old.rest ≡ Some all → FrontLook wish.apid x.took x.gave
-    front part all told = front_by wish.apid x.took x.gave (part all told)
+    front : ((all : List ℕ) → old.rest ≡ Some all → PartBy look_sink wish.book wish.apid x.took x.gave) → (all : List ℕ) → old.rest ≡ Some all → FrontLook wish.book wish.apid x.took x.gave
+    front part all told = front_by wish.book wish.apid x.took x.gave (part all told)
 
     by : (fault : DecodeFault) → WalkAnswers look_sink wish old new x.took x.gave (Err fault) → LookAnswers wish old new x.took x.gave (Err fault)
     by ReadFault a = (a.0, front a.1)

@@ -1,6 +1,7 @@
 -- How a look ends, by what it took and gave. This project's own.
 use Rattle.std.specs.Prelude.{◌≡◌, ◌≤◌, ℕ, List, [], length, take, false, None, Some, Result, Ok, Err}
 use Rattle.port_122.specs.Outside.{Outside, Exchange, Rose}
+use Rattle.base_122.specs.declared.book.Book.{Book}
 use Rattle.base_122.specs.declared.geometry.Geometry.{Geometry}
 use Rattle.base_122.specs.declared.wish.DecodeWish.{DecodeWish}
 use Rattle.packet_defs.specs.Streams.{left_over, has_bad_version}
@@ -21,26 +22,26 @@ use Rattle.quick_look.specs.Look.{look_rows, look_octets}
 
 -- What is given once these octets are taken: nothing without a geometry, otherwise the first rows of the look at the segments that are
 -- received, at least one for each whole block row among the blocks that these octets settle.
-pub record PromptLook (apid : ℕ) (taken given : List ℕ) : Type 0 where
+pub record PromptLook (book : Book) (apid : ℕ) (taken given : List ℕ) : Type 0 where
   pub none : geometry_in apid taken ≡ None → given ≡ []
-  pub some : (g : Geometry) (received : Numbers) → geometry_in apid taken ≡ Some g → ReceivedIn holds_after apid taken received →
+  pub some : (g : Geometry) (received : Numbers) → geometry_in apid taken ≡ Some g → ReceivedIn (holds_after book) apid taken received →
       (k : ℕ) × (k ≤ block_rows g (begun_in apid taken)) × (block_rows_before g (settled_blocks (state_after apid taken) received) ≤ k) × (given ≡ look_rows g received k)
 
 -- a prefix of the look for the octets that were taken; nothing without a geometry
-pub record FrontLook (apid : ℕ) (taken given : List ℕ) : Type 0 where
+pub record FrontLook (book : Book) (apid : ℕ) (taken given : List ℕ) : Type 0 where
   pub none : geometry_in apid taken ≡ None → given ≡ []
-  pub some : (g : Geometry) (received : Numbers) → geometry_in apid taken ≡ Some g → ReceivedIn holds_after apid taken received →
+  pub some : (g : Geometry) (received : Numbers) → geometry_in apid taken ≡ Some g → ReceivedIn (holds_after book) apid taken received →
       (n : ℕ) × (given ≡ take n (look_octets g received (begun_in apid taken)))
 
 -- For the octets that were taken the answer is a decoder's, and what is given is the whole look at the segments that are received in them.
 pub record IsLook (wish : DecodeWish) (start new : Outside) (took gave : List ℕ) (done : DecodeDone) : Type 0 where
   pub found : PictureBy false wish start new took [] done
-  pub look : (all : List ℕ) → start.rest ≡ Some all → (received : Numbers) → ReceivedIn holds_after wish.apid took received →
+  pub look : (all : List ℕ) → start.rest ≡ Some all → (received : Numbers) → ReceivedIn (holds_after wish.book) wish.apid took received →
       gave ≡ look_octets done.geometry received (begun_in wish.apid took)
 
 -- a prefix of the look for the octets that were taken, if the port reports what is left
 abbrev pub GivesFront : DecodeWish → Outside → (took gave : List ℕ) → Type 0
-GivesFront wish start took gave = (all : List ℕ) → start.rest ≡ Some all → FrontLook wish.apid took gave
+GivesFront wish start took gave = (all : List ℕ) → start.rest ≡ Some all → FrontLook wish.book wish.apid took gave
 
 -- Why the call ended so. The answers exclude each other by what was taken, the end and the counts, except for faults of the port.
 abbrev pub LookAnswers : DecodeWish → (old new : Outside) (took gave : List ℕ) → Result DecodeDone DecodeFault → Type 0
@@ -55,7 +56,7 @@ LookAnswers wish old new took gave (Err Memory) = gave ≡ []
 -- A read call with i octets taken and j given, if the port reports what is left. If the octets report too many pixels, no more is read.
 abbrev pub LookAsks : DecodeWish → Outside → (took gave : List ℕ) → ℕ → ℕ → Type 0
 LookAsks wish start took gave i j =
-    (j ≤ length gave) × HasFewPixels wish.pixels wish.apid (take i took) × ((all : List ℕ) → start.rest ≡ Some all → PromptLook wish.apid (take i took) (take j gave))
+    (j ≤ length gave) × HasFewPixels wish.pixels wish.apid (take i took) × ((all : List ℕ) → start.rest ≡ Some all → PromptLook wish.book wish.apid (take i took) (take j gave))
 
 -- One run over a port: what it took and gave, when, and why it ended so. However it ends, it takes at most the number of octets in the
 -- wish. What is given at each read call is a prefix of the look for the octets that were taken by then, with at least the rows whose blocks

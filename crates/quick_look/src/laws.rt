@@ -9,7 +9,8 @@ pub const fn look_is_low()
     ensures { LookIsLow }
 {}
 
-/// The look at all packets of an image, without a stop, a limit and a total, has the coefficients of LL3 of that image, each clamped.
+/// The look at all packets of an image, without a stop, a limit and a total, has the coefficients of LL3 of that image, each clamped, if
+/// segments are read with the setting's code book and this is sound.
 pub const fn looks_are_of_images()
     ensures { LooksOfImages }
 {

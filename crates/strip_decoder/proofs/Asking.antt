@@ -9,6 +9,7 @@ use Rattle.std.proofs.Math.Seq.{take-append-add}
 use Rattle.port_122.specs.Outside.{Outside, Exchange, NoRead}
 use Rattle.port_122.proofs.Stretches.{since_then, since_out, since_weaker}
 use Rattle.base_122.specs.Sizes.{first_block}
+use Rattle.base_122.specs.declared.book.Book.{Book}
 use Rattle.base_122.specs.declared.geometry.Geometry.{Geometry}
 use Rattle.packet_defs.specs.Packets.{joined}
 use Rattle.packet_defs.specs.Streams.{whole_packets, left_over}
@@ -79,11 +80,11 @@ future_part {a = a} {b = b} {went = went} q rest octets more told parts =
 
 -- ---- a run goes on
 
-pub knows_on : (apid : ℕ) (passed went later : List (List ℕ)) (bound : ℕ) (sofar : Numbers) → Knows apid passed (went ++ later) bound sofar → Knows apid (passed ++ went) later bound sofar
-knows_on apid passed went later bound sofar knows = record {
+pub knows_on : (book : Book) (apid : ℕ) (passed went later : List (List ℕ)) (bound : ℕ) (sofar : Numbers) → Knows book apid passed (went ++ later) bound sofar → Knows book apid (passed ++ went) later bound sofar
+knows_on book apid passed went later bound sofar knows = record {
   at = λ next more are index lt.
       let here = knows.at (went ++ next) more (ap (λ xs. went ++ xs) are ∙ sym (append_assoc went next more)) index lt in
-      subst (λ xs. MatchOption (sofar index) ((numbers : List (List ℤ)) → IsReceived holds_after (kept apid fresh xs) index numbers → ⊥) (IsReceived holds_after (kept apid fresh xs) index)) (sym (append_assoc passed went next)) here;
+      subst (λ xs. MatchOption (sofar index) ((numbers : List (List ℤ)) → IsReceived (holds_after book) (kept apid fresh xs) index numbers → ⊥) (IsReceived (holds_after book) (kept apid fresh xs) index)) (sym (append_assoc passed went next)) here;
 }
 
 asks_more : {S : Type 0} (k : SinkOf S) (w : Run) (took t gave g : List ℕ) (i j : ℕ) → i ≤ length took → AsksPassed k w took gave i j → AsksPassed k w (took ++ t) (gave ++ g) i j
@@ -91,7 +92,7 @@ asks_more k w took t gave g i j le asks =
     let early : take i took ≡ take i (took ++ t) = sym (take-append-le i took t le) in (
       omega (arith, asks.0, length-append gave g),
       subst (HasFewPixels w.pixels w.apid) early asks.1,
-      λ all told. subst (λ zs. PassedBy k w.apid zs (take j (gave ++ g))) early (subst (PassedBy k w.apid (take i took)) (sym (take-append-le j gave g asks.0)) (asks.2 all told)),
+      λ all told. subst (λ zs. PassedBy k w.book w.apid zs (take j (gave ++ g))) early (subst (PassedBy k w.book w.apid (take i took)) (sym (take-append-le j gave g asks.0)) (asks.2 all told)),
     )
 
 -- the exchange with a port is extended by what was given
@@ -101,7 +102,7 @@ wrote_on k w took gave g since out =
 
 -- the condition on these octets, if the port reports what is left
 abbrev pub IsRight : {S : Type 0} → SinkOf S → Run → (taken given : List ℕ) → Type 0
-IsRight k w taken given = HasFewPixels w.pixels w.apid taken × ((all : List ℕ) → w.start.rest ≡ Some all → PassedBy k w.apid taken given)
+IsRight k w taken given = HasFewPixels w.pixels w.apid taken × ((all : List ℕ) → w.start.rest ≡ Some all → PassedBy k w.book w.apid taken given)
 
 -- the run is extended by what was taken, if at each read call what was given is right
 pub took_on : {S : Type 0} {P : FateState → Type 0} {old new : Outside} {a b : Assembling} {went : List (List ℕ)} (k : SinkOf S) (w : Run) (took gave : List ℕ) → Exchange w.start old took gave [] (AsksPassed k w took gave) → (q : Passes P old new a b went) →
@@ -119,7 +120,7 @@ took_on {P = P} {new = new} {a = a} k w took gave since q right =
     let whole : take (length gave + j) gave ≡ gave = ap (λ n. take n gave) none ∙ take_whole gave in (
       omega (arith, asks.1),
       subst (HasFewPixels w.pixels w.apid) early here.0,
-      λ every told. subst (λ zs. PassedBy k w.apid zs (take (length gave + j) gave)) early (subst (PassedBy k w.apid (took ++ take i q.took)) (sym whole) (here.1 every told)),
+      λ every told. subst (λ zs. PassedBy k w.book w.apid zs (take (length gave + j) gave)) early (subst (PassedBy k w.book w.apid (took ++ take i q.took)) (sym whole) (here.1 every told)),
     )) in
     subst (λ zs. Exchange w.start new all zs [] (AsksPassed k w all gave)) (append-nil gave) both
   where
@@ -160,12 +161,12 @@ few_known pixels apid passed next g geometry few known h there = elim (known_or_
 -- ---- the segments that are received
 
 -- two results for the same segment agree
-pub both_tell : (packets : List (List ℕ)) (index : ℕ) (r s : Option (List (List ℤ))) → MatchOption r ((w : List (List ℤ)) → IsReceived holds_after packets index w → ⊥) (IsReceived holds_after packets index) →
-    MatchOption s ((w : List (List ℤ)) → IsReceived holds_after packets index w → ⊥) (IsReceived holds_after packets index) → r ≡ s
-both_tell packets index None None x y = refl
-both_tell packets index (Some v) (Some w) x y = ap Some (one_received packets index v w x y)
-both_tell packets index None (Some w) x y = absurd (x w y)
-both_tell packets index (Some v) None x y = absurd (y v x)
+pub both_tell : (book : Book) (packets : List (List ℕ)) (index : ℕ) (r s : Option (List (List ℤ))) → MatchOption r ((w : List (List ℤ)) → IsReceived (holds_after book) packets index w → ⊥) (IsReceived (holds_after book) packets index) →
+    MatchOption s ((w : List (List ℤ)) → IsReceived (holds_after book) packets index w → ⊥) (IsReceived (holds_after book) packets index) → r ≡ s
+both_tell book packets index None None x y = refl
+both_tell book packets index (Some v) (Some w) x y = ap Some (one_received book packets index v w x y)
+both_tell book packets index None (Some w) x y = absurd (x w y)
+both_tell book packets index (Some v) None x y = absurd (y v x)
 
 -- the first blocks are those of the segments that are received
 pub of_received : (g : Geometry) (sofar received : Numbers) (n bound : ℕ) → 0 < g.segment → n ≤ first_block g.segment bound → ((index : ℕ) → index < bound → received index ≡ sofar index) → AreOf g sofar n (blocks_with g received)
@@ -200,7 +201,7 @@ blocks_by size received block = option_map (λ numbers. slice_index_or numbers (
 
 module _ {S : Type 0} (k : SinkOf S) (w : Run) (a : Assembling) (p : Walking S) (took gave octets : List ℕ) (passed : List (List ℕ)) (bound : ℕ) (sofar : Numbers) (read : HasRead w.apid w.cap a took passed)
     (standing : IsCurrent k p) (few : passed_in p ≤ first_block p.geometry.segment bound) (begun : passed_in p ≤ end_of (kept w.apid fresh passed))
-    (later beyond : List (List ℕ)) (parts : later ≡ whole_packets (a.intake.pending ++ octets) ++ beyond) (knows : Knows w.apid passed later bound sofar) where
+    (later beyond : List (List ℕ)) (parts : later ≡ whole_packets (a.intake.pending ++ octets) ++ beyond) (knows : Knows w.book w.apid passed later bound sofar) where
   abbrev next : List (List ℕ)
   next = whole_packets (a.intake.pending ++ octets)
 
@@ -214,24 +215,24 @@ module _ {S : Type 0} (k : SinkOf S) (w : Run) (a : Assembling) (p : Walking S) 
   reach_more : (n : ℕ) → n ≤ end_of (kept w.apid fresh passed) → n ≤ end_of (kept_in w.apid (took ++ octets))
   reach_more n le = let more = end_more w.apid passed next in omega (arith, le, more, ap end_of kept_are)
 
-  pub known_same : (received : Numbers) → ReceivedIn holds_after w.apid (took ++ octets) received → (index : ℕ) → index < bound → received index ≡ sofar index
+  pub known_same : (received : Numbers) → ReceivedIn (holds_after w.book) w.apid (took ++ octets) received → (index : ℕ) → index < bound → received index ≡ sofar index
   known_same received are index lt =
-      both_tell (kept w.apid fresh (passed ++ next)) index (received index) (sofar index)
-      (subst (λ packets. MatchOption (received index) ((v : List (List ℤ)) → IsReceived holds_after packets index v → ⊥) (IsReceived holds_after packets index)) kept_are (are.at index))
+      both_tell w.book (kept w.apid fresh (passed ++ next)) index (received index) (sofar index)
+      (subst (λ packets. MatchOption (received index) ((v : List (List ℤ)) → IsReceived (holds_after w.book) packets index v → ⊥) (IsReceived (holds_after w.book) packets index)) kept_are (are.at index))
       (knows.at next beyond parts index lt)
 
   -- the first blocks are those of the segments that are received
-  pub first_received : (n : ℕ) → n ≤ first_block p.geometry.segment bound → (received : Numbers) → ReceivedIn holds_after w.apid (took ++ octets) received → AreOf p.geometry sofar n (blocks_with p.geometry received)
+  pub first_received : (n : ℕ) → n ≤ first_block p.geometry.segment bound → (received : Numbers) → ReceivedIn (holds_after w.book) w.apid (took ++ octets) received → AreOf p.geometry sofar n (blocks_with p.geometry received)
   first_received n le received are = of_received p.geometry sofar received n bound (omega (arith, standing.range.segment.0)) le (known_same received are)
 
-  pub given_then : Shows k p sofar gave → (received : Numbers) → ReceivedIn holds_after w.apid (took ++ octets) received → k.Given p.geometry (blocks_with p.geometry received) (passed_in p) gave
+  pub given_then : Shows k p sofar gave → (received : Numbers) → ReceivedIn (holds_after w.book) w.apid (took ++ octets) received → k.Given p.geometry (blocks_with p.geometry received) (passed_in p) gave
   given_then shows received are =
       let blocks = blocks_with p.geometry received in
       k.given_of p.sink p.geometry blocks (passed_in p) gave standing.stands (shows blocks (first_received (passed_in p) few received are)).sink
 
   -- a part of what the sink gives of the first n blocks
   pub part_at : (given : List ℕ) (n : ℕ) → (stays : StaysIn (state_with a octets) p.geometry n) → n ≤ total_in p → (stays.image.rows ≡ 0 → n ≤ end_of (kept w.apid fresh passed)) →
-      ((received : Numbers) → ReceivedIn holds_after w.apid (took ++ octets) received → (m : ℕ) × (m ≤ n) × k.Part p.geometry (blocks_with p.geometry received) m given) → PartBy k w.apid (took ++ octets) given
+      ((received : Numbers) → ReceivedIn (holds_after w.book) w.apid (took ++ octets) received → (m : ℕ) × (m ≤ n) × k.Part p.geometry (blocks_with p.geometry received) m given) → PartBy k w.book w.apid (took ++ octets) given
   part_at given n stays most reached parted = record {
     none = λ none. absurd (let both : None ≡ Some stays.image = sym none ∙ ap (λ (s : FateState). s.geometry) state_is ∙ stays.geometry in cc);
     some = λ g received told are.
@@ -247,14 +248,14 @@ module _ {S : Type 0} (k : SinkOf S) (w : Run) (a : Assembling) (p : Walking S) 
         );
   }
 
-  pub is_part : StaysIn (state_with a octets) p.geometry (passed_in p) → Shows k p sofar gave → PartBy k w.apid (took ++ octets) gave
+  pub is_part : StaysIn (state_with a octets) p.geometry (passed_in p) → Shows k p sofar gave → PartBy k w.book w.apid (took ++ octets) gave
   is_part stays shows = part_at gave (passed_in p) stays standing.few (λ none. begun)
       (λ received are. (passed_in p, omega arith, k.part_of p.geometry (blocks_with p.geometry received) (passed_in p) gave (given_then shows received are)))
 
   -- and it is at least what is given after the settled blocks
   pub is_prompt : (image : Geometry) → (state_with a octets).geometry ≡ Some image → p.geometry ≡ placed image → Shows k p sofar gave → ((index : ℕ) → bound ≤ index → sofar index ≡ None) →
-      ((index : ℕ) (v : List (List ℤ)) → bound ≤ index → IsReceived holds_after (kept w.apid fresh (passed ++ next)) index v → ⊥) →
-      (l : LastPart) → (state_with a octets).last ≡ Some l → blocks_through p.geometry sofar l.index ≤ passed_in p → PassedBy k w.apid (took ++ octets) gave
+      ((index : ℕ) (v : List (List ℤ)) → bound ≤ index → IsReceived (holds_after w.book) (kept w.apid fresh (passed ++ next)) index v → ⊥) →
+      (l : LastPart) → (state_with a octets).last ≡ Some l → blocks_through p.geometry sofar l.index ≤ passed_in p → PassedBy k w.book w.apid (took ++ octets) gave
   is_prompt image geometry goes_by shows above beyond_none l last_is reached = record {
     none = λ none. absurd (let both : None ≡ Some image = sym none ∙ ap (λ (s : FateState). s.geometry) state_is ∙ geometry in cc);
     some = λ g received told are.
@@ -274,10 +275,10 @@ module _ {S : Type 0} (k : SinkOf S) (w : Run) (a : Assembling) (p : Walking S) 
         ));
   }
     where
-      all_same : (received : Numbers) → ReceivedIn holds_after w.apid (took ++ octets) received → (index : ℕ) → received index ≡ sofar index
+      all_same : (received : Numbers) → ReceivedIn (holds_after w.book) w.apid (took ++ octets) received → (index : ℕ) → received index ≡ sofar index
       all_same received are index = elim (cases_lt index bound) [
         | inl low ↦ known_same received are index low
         | inr high ↦
-            let told = subst (λ packets. MatchOption (received index) ((v : List (List ℤ)) → IsReceived holds_after packets index v → ⊥) (IsReceived holds_after packets index)) kept_are (are.at index) in
-            both_tell (kept w.apid fresh (passed ++ next)) index (received index) (sofar index) told (rw (above index high) (λ v x. beyond_none index v high x))
+            let told = subst (λ packets. MatchOption (received index) ((v : List (List ℤ)) → IsReceived (holds_after w.book) packets index v → ⊥) (IsReceived (holds_after w.book) packets index)) kept_are (are.at index) in
+            both_tell w.book (kept w.apid fresh (passed ++ next)) index (received index) (sofar index) told (rw (above index high) (λ v x. beyond_none index v high x))
       ]

@@ -1,6 +1,6 @@
 -- The texts of an image's segments begin with their heads.
 use Rattle.std.proofs.Common.{◌≡◌, ◌≤◌, ◌<◌, ◌+◌, ◌-◌, ◌*◌, ◌%◌, ◌^◌, ℕ, ℤ, Bool, true, false, List, ◌++◌, length, take, drop, min, refl, sym, ap, ◌∙◌, inl, inr, arith, append_assoc, length-append, length-drop}
-use Rattle.std.specs.Prelude.{◌==◌, if◌then◌else◌, Ok}
+use Rattle.std.specs.Prelude.{◌==◌, if◌then◌else◌, Ok, IsTrue}
 use Rattle.std.proofs.lemmas.Bool.{cases_lt}
 use Rattle.std.proofs.lemmas.Bool.Decides.{nat_tests}
 use Rattle.std.proofs.lemmas.List.{take_all, take_at, take-append-drop, take-take, length-take, length-take-le}
@@ -13,7 +13,7 @@ use Rattle.item_defs.specs.Padding.{padding, padded}
 use Rattle.item_defs.proofs.BitLists.{length-copies}
 use Rattle.item_defs.proofs.OctetBits.{length-octets_of}
 use Rattle.item_defs.proofs.Rounding.{rounded_bounds}
-use Rattle.plane_defs.specs.Profile.{profile}
+use Rattle.base_122.specs.declared.book.Book.{Book}
 use Rattle.segment_defs.specs.declared.head.SegmentHead.{SegmentHead}
 use Rattle.segment_defs.specs.Coded.{chosen_options, coded, coded_bits}
 use Rattle.segment_defs.specs.Depths.{block_depths}
@@ -24,7 +24,7 @@ use Rattle.segment_defs.specs.Text.{text_octets}
 use Rattle.segment_head.proofs.WrittenFields.{octets_of-append}
 use Rattle.segment_head.proofs.WrittenHeads.{head_undoes, length-head_bits}
 use Rattle.segment_code.specs.Laws.{TextsAreShort}
-use Rattle.segment_code.proofs.ProfileSound.{profile_sound}
+use Rattle.plane_defs.specs.Codes.{is_book_sound}
 use Rattle.segment_code.proofs.CodedOptions.{words_are, numbers_are}
 use Rattle.packet_assembly.proofs.HeadLengths.{head_within}
 use Rattle.packet_defs.specs.Packets.{part_of, part_size}
@@ -63,15 +63,15 @@ take_less m n xs = elim (cases_lt n m) [
   | inr less ↦ take-take m n xs less ∙ ap (λ k. take k xs) (omega (arith, less))
 ]
 
-module _ (h : SegmentHead) (blocks : List (List ℤ)) (ok : IsHead h) (ten : length h.image.weights.shifts ≡ 10) (small : h.count < 256) where
+module _ (book : Book) (h : SegmentHead) (blocks : List (List ℤ)) (ok : IsHead h) (ten : length h.image.weights.shifts ≡ 10) (small : h.count < 256) where
   abbrev bits : List Bool
-  bits = coded_bits profile h blocks
+  bits = coded_bits book h blocks
 
   abbrev zeros : List Bool
   zeros = copies (padding h.image.word h.limit h.fill (length bits)) false
 
   abbrev after : List Bool
-  after = text (segment_items h blocks (block_depths blocks) (chosen_options profile h blocks)) ++ zeros
+  after = text (segment_items h blocks (block_depths blocks) (chosen_options book h blocks)) ++ zeros
 
   abbrev all : List ℕ
   all = octets_of (padded h.image.word h.limit h.fill bits)
@@ -86,7 +86,7 @@ module _ (h : SegmentHead) (blocks : List (List ℤ)) (ok : IsHead h) (ten : len
       let k : ℕ = m - n in
       let most = head_most h.last in
       let whole : m ≡ length (octets_of hb) + k = omega (arith, octets_long, some, most) in
-      let parts : all ≡ octets_of hb ++ octets_of after = ap octets_of (append_assoc hb (text (segment_items h blocks (block_depths blocks) (chosen_options profile h blocks))) zeros) ∙ octets_of-append n hb after bits_long in
+      let parts : all ≡ octets_of hb ++ octets_of after = ap octets_of (append_assoc hb (text (segment_items h blocks (block_depths blocks) (chosen_options book h blocks))) zeros) ∙ octets_of-append n hb after bits_long in
       ap (λ o. head_read (take m o)) parts
       ∙ ap (λ j. head_read (take j (octets_of hb ++ octets_of after))) whole
       ∙ ap head_read (take-append-add (octets_of hb) (octets_of after) k)
@@ -95,7 +95,7 @@ module _ (h : SegmentHead) (blocks : List (List ℤ)) (ok : IsHead h) (ten : len
       ∙ head_undoes h (take (8 * k) after) ok small ten
 
   -- and so do those of the text, which the limit may cut
-  text_tells : (m : ℕ) → 20 ≤ m → head_read (take m (coded profile h blocks)) ≡ Ok h
+  text_tells : (m : ℕ) → 20 ≤ m → head_read (take m (coded book h blocks)) ≡ Ok h
   unfolding coded text_octets
   text_tells m some = by (h.limit == 0) refl
     where
@@ -106,7 +106,7 @@ module _ (h : SegmentHead) (blocks : List (List ℤ)) (ok : IsHead h) (ten : len
           ap head_read (take_less m h.limit all) ∙ told (min m h.limit) (omega (arith, some, least))
 
   -- it isn't too long
-  text_short : length (head_bits h ++ text (segment_items h blocks (block_depths blocks) (chosen_options profile h blocks))) < 2 ^ 34 → length (coded profile h blocks) < 2 ^ 32
+  text_short : length (head_bits h ++ text (segment_items h blocks (block_depths blocks) (chosen_options book h blocks))) < 2 ^ 34 → length (coded book h blocks) < 2 ^ 32
   unfolding coded text_octets
   text_short few = by (h.limit == 0)
     where
@@ -131,8 +131,8 @@ module _ (h : SegmentHead) (blocks : List (List ℤ)) (ok : IsHead h) (ten : len
       by true = all_few
       by false = omega (arith, all_few, length-take h.limit all)
 
-pub images_coded : TextsAreShort → (s : Setting) (x : ℕ → ℕ → ℤ) → IsInRange s → IsWithin rows_range s.rows → length s.weights.shifts ≡ 10 → ArePixels s s.rows x → AreCoded s (image_blocks s x)
-images_coded short s x range height ten pixels = record {
+pub images_coded : TextsAreShort → (s : Setting) (x : ℕ → ℕ → ℤ) → IsInRange s → IsTrue (is_book_sound s.book) → IsWithin rows_range s.rows → length s.weights.shifts ≡ 10 → ArePixels s s.rows x → AreCoded s (image_blocks s x)
+images_coded short s x range sound height ten pixels = record {
   setting = range;
   rows = height;
   heads = heads;
@@ -145,7 +145,7 @@ images_coded short s x range height ten pixels = record {
       let blocks = segment_of s (image_blocks s x) index in
       let h = head_for s (image_blocks s x) index in
       let ok = head_fits s x range height pixels index lt in
-      text_short h blocks ok ten (count_small index) (short h blocks (block_depths blocks) (chosen_options profile h blocks) ok ten (spells s x range height pixels index lt) (words_are profile profile_sound h blocks) (numbers_are profile h blocks ok));
+      text_short s.book h blocks ok ten (count_small index) (short h blocks (block_depths blocks) (chosen_options s.book h blocks) ok ten (spells s x range height pixels index lt) (words_are s.book sound h blocks) (numbers_are s.book h blocks ok));
   blocks = λ index lt. length-segment s x range height pixels index;
 }
   where
@@ -158,4 +158,4 @@ images_coded short s x range height ten pixels = record {
         let packet = range.packet in
         let none : 0 * part_size s.packet ≡ 0 = omega arith in
         ap (λ n. head_read (take (part_size s.packet) (drop n (segment_text s (image_blocks s x) index)))) none
-        ∙ text_tells (head_for s (image_blocks s x) index) blocks (head_fits s x range height pixels index lt) ten (count_small index) (part_size s.packet) (omega (arith, packet))
+        ∙ text_tells s.book (head_for s (image_blocks s x) index) blocks (head_fits s x range height pixels index lt) ten (count_small index) (part_size s.packet) (omega (arith, packet))

@@ -36,8 +36,8 @@ decoded_contained wish start new took gave every done is told =
     }
 
 pub decoded_alike : TextsAreShort → CodedHolds → (wish : DecodeWish) (start new : Outside) (took gave every : List ℕ) (done : DecodeDone) (s : Setting) (rows : ℕ) (x : ℕ → ℕ → ℤ) (parts : ℕ → List ℕ) →
-    IsPicture wish start new took gave done → start.rest ≡ Some every → wish.apid ≡ s.apid → took ≡ some_output s rows x parts → AreSome s rows x parts → BeginsOne s rows parts → GivesAlike s rows x parts gave done
-decoded_alike short holds wish start new took gave every done s rows x parts is told apid took_is are begins =
+    IsPicture wish start new took gave done → start.rest ≡ Some every → wish.apid ≡ s.apid → wish.book ≡ s.book → took ≡ some_output s rows x parts → AreSome s rows x parts → BeginsOne s rows parts → GivesAlike s rows x parts gave done
+decoded_alike short holds wish start new took gave every done s rows x parts is told apid book took_is are begins =
     let t = is.told every told in
     let received = t.0 in
     let octets = some_output s rows x parts in
@@ -45,7 +45,7 @@ decoded_alike short holds wish start new took gave every done s rows x parts is 
     let begun_same : begun_in wish.apid took ≡ n = ap (λ apid. begun_in apid took) apid ∙ ap (begun_in s.apid) took_is in
     let there : geometry_in s.apid octets ≡ Some done.geometry = subst (λ octets. geometry_in s.apid octets ≡ Some done.geometry) took_is (subst (λ n. geometry_in n took ≡ Some done.geometry) apid is.geometry) in
     let same : done.geometry ≡ reported s rows parts = some_geometry (sym there ∙ geometry_there short s rows x parts are begins) in
-    let mine : ReceivedIn holds_after s.apid octets received = subst (λ octets. ReceivedIn holds_after s.apid octets received) took_is (subst (λ n. ReceivedIn holds_after n took received) apid t.1) in
+    let mine : ReceivedIn (holds_after s.book) s.apid octets received = subst (λ octets. ReceivedIn (holds_after s.book) s.apid octets received) took_is (subst (λ n. ReceivedIn (holds_after s.book) n took received) apid (subst (λ b. ReceivedIn (holds_after b) wish.apid took received) book t.1)) in
     let written : done.written ≡ height done.geometry n = is.written ∙ ap (height done.geometry) begun_same in
     let damaged : told_damage done ≡ damage done.geometry received n = t.3.ranges_are ∙ ap (damage done.geometry received) begun_same in
     record {

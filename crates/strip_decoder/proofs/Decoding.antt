@@ -88,7 +88,7 @@ first_fails k wish old new a b unread ReadFault finds =
       since = first_asks k (run_of wish old) new a b found.passed unread found.passes;
       within = read_within (none_read_yet k wish old new a b unread found);
       for_some = inl refl;
-      answer = (finds.ends.1, λ all told. first_part k wish.apid found.passes.took);
+      answer = (finds.ends.1, λ all told. first_part k wish.book wish.apid found.passes.took);
     }
 first_fails k wish old new a b unread LongInput finds =
     let found = finds.ends.0 in
@@ -101,7 +101,7 @@ first_fails k wish old new a b unread LongInput finds =
       since = first_asks k (run_of wish old) new a b found.passed unread found.passes;
       within = read_within read;
       for_some = inl refl;
-      answer = (long_full read long, long_good read long, none_few wish.pixels wish.apid found.passes.took none, λ all told. first_part k wish.apid found.passes.took);
+      answer = (long_full read long, long_good read long, none_few wish.pixels wish.apid found.passes.took none, λ all told. first_part k wish.book wish.apid found.passes.took);
     }
 first_fails k wish old new a b unread WriteFault finds = absurd finds
 first_fails k wish old new a b unread NoSegment finds = absurd finds
@@ -158,7 +158,7 @@ module _ {S : Type 0} (k : SinkOf S) (wish : DecodeWish) (old new : Outside) (b 
             };
             nothing = λ known. refl;
           },
-          λ all told. first_part k wish.apid found.took,
+          λ all told. first_part k wish.book wish.apid found.took,
         );
       }
 

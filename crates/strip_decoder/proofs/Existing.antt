@@ -1,11 +1,11 @@
 -- For each stream it is decided which segments are received.
 use Rattle.std.proofs.Common.{◌≡◌, ◌⊎◌, ◌==◌, ℕ, ℤ, List, [], ◌∷◌, ◌++◌, length, drop, map, refl, sym, ap, subst, ◌∙◌, inl, inr, arith, length-append}
-use Rattle.std.specs.Prelude.{Bool, true, false, ◌&&◌, Option, None, Some, Result, Ok, Err, MatchOption, slice_index_or}
+use Rattle.std.specs.Prelude.{Bool, true, false, ◌&&◌, Option, None, Some, Result, Ok, Err, MatchOption, slice_index_or, IsTrue}
 use Rattle.std.specs.List.{range_with_len}
 use Rattle.std.specs.Str.{bytes_eq}
 use Rattle.std.proofs.lemmas.Bool.{false≢true}
 use Rattle.std.proofs.lemmas.Bool.Decides.{nat_tests}
-use Rattle.plane_defs.specs.Profile.{profile}
+use Rattle.base_122.specs.declared.book.Book.{Book}
 use Rattle.segment_defs.specs.declared.head.SegmentHead.{SegmentHead}
 use Rattle.segment_defs.specs.declared.fault.HeadFault.{HeadFault}
 use Rattle.segment_defs.specs.Head.{head_length}
@@ -13,7 +13,7 @@ use Rattle.segment_defs.specs.Reading.{head_read}
 use Rattle.segment_head.proofs.ReadHeads.{read_fits}
 use Rattle.text_defs.proofs.OutcomeLaws.{outcomes_exclude}
 use Rattle.text_defs.proofs.Further.{has_outcome}
-use Rattle.segment_code.proofs.ProfileSound.{profile_sound}
+use Rattle.plane_defs.specs.Codes.{is_book_sound}
 use Rattle.packet_defs.specs.Reading.{flags_in, text_in}
 use Rattle.stream_defs.specs.Fates.{closes, kept_in}
 use Rattle.stream_defs.specs.Received.{number_of_part, packets_at, IsComplete, text_of_parts, IsReceived, ReceivedIn}
@@ -67,11 +67,11 @@ decide_complete (x ∷ xs) = by (bytes_eq (map number_of_part (x ∷ xs)) (range
 
 -- ---- whether a segment is received
 
-abbrev Decided : (packets : List (List ℕ)) (index : ℕ) → Type 0
-Decided packets index = ((w : List (List ℤ)) × IsReceived holds_after packets index w) ⊎ ((w : List (List ℤ)) → IsReceived holds_after packets index w → ⊥)
+abbrev Decided : (book : Book) (packets : List (List ℕ)) (index : ℕ) → Type 0
+Decided book packets index = ((w : List (List ℤ)) × IsReceived (holds_after book) packets index w) ⊎ ((w : List (List ℤ)) → IsReceived (holds_after book) packets index w → ⊥)
 
-decide_received : (packets : List (List ℕ)) (index : ℕ) → Decided packets index
-decide_received packets index = elim (decide_complete (packets_at index packets)) [
+decide_received : (book : Book) (packets : List (List ℕ)) (index : ℕ) → IsTrue (is_book_sound book) → Decided book packets index
+decide_received book packets index sound = elim (decide_complete (packets_at index packets)) [
   | inr never ↦ inr (λ w x. never x.whole)
   | inl whole ↦ by_head whole (head_read (text_in (slice_index_or (packets_at index packets) 0 []))) refl
 ]
@@ -79,28 +79,28 @@ decide_received packets index = elim (decide_complete (packets_at index packets)
     some_head : (r : Result SegmentHead HeadFault) (x y : SegmentHead) → r ≡ Ok x → r ≡ Ok y → x ≡ y
     some_head r x y e h = cc
 
-    by_head : IsComplete (packets_at index packets) → (r : Result SegmentHead HeadFault) → head_read (text_in (slice_index_or (packets_at index packets) 0 [])) ≡ r → Decided packets index
+    by_head : IsComplete (packets_at index packets) → (r : Result SegmentHead HeadFault) → head_read (text_in (slice_index_or (packets_at index packets) 0 [])) ≡ r → Decided book packets index
     by_head whole (Err fault) e = inr (λ w x. absurd (let both = sym e ∙ x.head_is in cc))
     by_head whole (Ok head) e =
         let ok = read_fits _ head e in
         let octets = drop (head_length head) (text_of_parts (packets_at index packets)) in
-        elim (has_outcome profile profile_sound head octets ok) [
+        elim (has_outcome book sound head octets ok) [
           | inl held ↦ inl (held.0, record { whole = whole; head = head; head_is = e; accepted = held.1 })
           | inr refused ↦ inr (λ w x.
-              let there = subst (λ h. holds_after h (text_of_parts (packets_at index packets)) w) (some_head _ x.head head x.head_is e) x.accepted in
-              outcomes_exclude.not_both profile head octets w refused.0 ok there refused.1)
+              let there = subst (λ h. holds_after book h (text_of_parts (packets_at index packets)) w) (some_head _ x.head head x.head_is e) x.accepted in
+              outcomes_exclude.not_both book head octets w refused.0 ok there refused.1)
         ]
 
-number_of : (packets : List (List ℕ)) (index : ℕ) → Decided packets index → Option (List (List ℤ))
-number_of packets index (inl held) = Some held.0
-number_of packets index (inr never) = None
+number_of : (book : Book) (packets : List (List ℕ)) (index : ℕ) → Decided book packets index → Option (List (List ℤ))
+number_of book packets index (inl held) = Some held.0
+number_of book packets index (inr never) = None
 
-number_told : (packets : List (List ℕ)) (index : ℕ) (d : Decided packets index) → MatchOption (number_of packets index d) ((w : List (List ℤ)) → IsReceived holds_after packets index w → ⊥) (IsReceived holds_after packets index)
+number_told : (book : Book) (packets : List (List ℕ)) (index : ℕ) (d : Decided book packets index) → MatchOption (number_of book packets index d) ((w : List (List ℤ)) → IsReceived (holds_after book) packets index w → ⊥) (IsReceived (holds_after book) packets index)
 unfolding number_of
-number_told packets index (inl held) = held.1
-number_told packets index (inr never) = never
+number_told book packets index (inl held) = held.1
+number_told book packets index (inr never) = never
 
-pub some_received : (apid : ℕ) (taken : List ℕ) → (received : Numbers) × ReceivedIn holds_after apid taken received
-some_received apid taken =
+pub some_received : (book : Book) → IsTrue (is_book_sound book) → (apid : ℕ) (taken : List ℕ) → (received : Numbers) × ReceivedIn (holds_after book) apid taken received
+some_received book sound apid taken =
     let packets = kept_in apid taken in
-    ((λ index. number_of packets index (decide_received packets index)), record { at = λ index. number_told packets index (decide_received packets index) })
+    ((λ index. number_of book packets index (decide_received book packets index sound)), record { at = λ index. number_told book packets index (decide_received book packets index sound) })

@@ -7,6 +7,7 @@ use Rattle.std.proofs.lemmas.Nat.{div_below, div-mul-add}
 use Rattle.port_122.specs.Outside.{Outside}
 use Rattle.port_122.proofs.Stretches.{since_weaker}
 use Rattle.base_122.specs.Sizes.{block_count}
+use Rattle.base_122.specs.declared.book.Book.{Book}
 use Rattle.base_122.specs.declared.geometry.Geometry.{Geometry}
 use Rattle.base_122.specs.declared.wish.DecodeWish.{DecodeWish}
 use Rattle.base_122.proofs.SizeBounds.{three-le-block_count}
@@ -246,8 +247,8 @@ module _ (apid : ℕ) (taken : List ℕ) (g : Geometry) (geometry : geometry_in 
           by true e through = omega (arith, none)
           by false e through = omega (arith, through, le)
 
-prompt_by : (apid : ℕ) (taken given : List ℕ) → PassedBy picture_sink apid taken given → PromptBy apid taken given
-prompt_by apid taken given passed = record {
+prompt_by : (book : Book) (apid : ℕ) (taken given : List ℕ) → PassedBy picture_sink book apid taken given → PromptBy book apid taken given
+prompt_by book apid taken given passed = record {
   none = passed.none;
   some = λ g received there are.
       let x = passed.some g received there are in
@@ -260,8 +261,8 @@ prompt_by apid taken given passed = record {
       );
 }
 
-pub front_by : (apid : ℕ) (taken given : List ℕ) → PartBy picture_sink apid taken given → FrontBy apid taken given
-front_by apid taken given part = record {
+pub front_by : (book : Book) (apid : ℕ) (taken given : List ℕ) → PartBy picture_sink book apid taken given → FrontBy book apid taken given
+front_by book apid taken given part = record {
   none = part.none;
   some = λ g received there are.
       let x = part.some g received there are in
@@ -275,7 +276,7 @@ front_by apid taken given part = record {
 }
 
 asks_by : (wish : DecodeWish) (old : Outside) (took gave : List ℕ) (i j : ℕ) → AsksPassed picture_sink (run_of wish old) took gave i j → Asks wish old took gave i j
-asks_by wish old took gave i j asks = (asks.0, asks.1, λ all told. prompt_by wish.apid (take i took) (take j gave) (asks.2 all told))
+asks_by wish old took gave i j asks = (asks.0, asks.1, λ all told. prompt_by wish.book wish.apid (take i took) (take j gave) (asks.2 all told))
 
 -- ---- the answers
 
@@ -323,8 +324,8 @@ decode_fails wish old new fault x = record {
   answer = by fault x.answer;
 }
   where
-    front : ((all : List ℕ) → old.rest ≡ Some all → PartBy picture_sink wish.apid x.took x.gave) → (all : List ℕ) → old.rest ≡ Some all → FrontBy wish.apid x.took x.gave
-    front part all told = front_by wish.apid x.took x.gave (part all told)
+    front : ((all : List ℕ) → old.rest ≡ Some all → PartBy picture_sink wish.book wish.apid x.took x.gave) → (all : List ℕ) → old.rest ≡ Some all → FrontBy wish.book wish.apid x.took x.gave
+    front part all told = front_by wish.book wish.apid x.took x.gave (part all told)
 
     by : (fault : DecodeFault) → WalkAnswers picture_sink wish old new x.took x.gave (Err fault) → Answers wish old new x.took x.gave (Err fault)
     by ReadFault a = (a.0, front a.1)

@@ -4,7 +4,7 @@ use Rattle.std.specs.Prelude.{true, false, None, Some, Result, Ok, MatchOption, 
 use Rattle.std.proofs.lemmas.Bool.{cases_lt}
 use Rattle.std.proofs.lemmas.List.{drop-append-le}
 use Rattle.bit_pipe.specs.Sources.{Plainly, InPieces, Tail}
-use Rattle.plane_defs.specs.Profile.{profile}
+use Rattle.base_122.specs.declared.book.Book.{Book}
 use Rattle.segment_defs.specs.declared.head.SegmentHead.{SegmentHead}
 use Rattle.segment_defs.specs.Head.{IsHead, head_length}
 use Rattle.segment_defs.specs.declared.fault.HeadFault.{HeadFault}
@@ -38,9 +38,9 @@ in_pieces e = absurd cc
 -- ---- one list of numbers
 
 -- a text holds one list of blocks
-one_held : (head : SegmentHead) (rest : List ℕ) (v w : List (List ℤ)) → IsHead head → Holds profile head rest v → Holds profile head rest w → v ≡ w
-one_held head rest v w ok h k =
-    let count = outcomes_exclude.one_count profile head rest v w ok h k in
+one_held : (book : Book) (head : SegmentHead) (rest : List ℕ) (v w : List (List ℤ)) → IsHead head → Holds book head rest v → Holds book head rest w → v ≡ w
+one_held book head rest v w ok h k =
+    let count = outcomes_exclude.one_count book head rest v w ok h k in
     let same = same_given head rest h.count h.blocks k.blocks h.depths k.depths h.options k.options h.more k.more ok (h.of_book ∙ sym k.of_book) h.reading
     (subst (λ n. Reading head rest k.blocks k.depths k.options n k.more) (sym count) k.reading) in
     h.given ∙ same ∙ ap (given_blocks head k.blocks k.depths k.options) count ∙ sym k.given
@@ -49,15 +49,15 @@ some_head : (r : Result SegmentHead HeadFault) (x y : SegmentHead) → r ≡ Ok 
 some_head r x y e h = cc
 
 -- a segment is received with one list of numbers
-pub one_received : (packets : List (List ℕ)) (index : ℕ) (v w : List (List ℤ)) → IsReceived holds_after packets index v → IsReceived holds_after packets index w → v ≡ w
-one_received packets index v w x y =
+pub one_received : (book : Book) (packets : List (List ℕ)) (index : ℕ) (v w : List (List ℤ)) → IsReceived (holds_after book) packets index v → IsReceived (holds_after book) packets index w → v ≡ w
+one_received book packets index v w x y =
     let same : x.head ≡ y.head = some_head _ x.head y.head x.head_is y.head_is in
-    let there = subst (λ head. holds_after head (text_of_parts (packets_at index packets)) w) (sym same) y.accepted in
-    one_held x.head _ v w (read_fits _ x.head x.head_is) x.accepted there
+    let there = subst (λ head. holds_after book head (text_of_parts (packets_at index packets)) w) (sym same) y.accepted in
+    one_held book x.head _ v w (read_fits _ x.head x.head_is) x.accepted there
 
 -- none of its packets is kept
-pub none_received : (packets : List (List ℕ)) (index : ℕ) (w : List (List ℤ)) → packets_at index packets ≡ [] → IsReceived holds_after packets index w → ⊥
-none_received packets index w none x = by x.whole.front x.whole.closing (sym x.whole.parts_are ∙ none)
+pub none_received : (book : Book) (packets : List (List ℕ)) (index : ℕ) (w : List (List ℤ)) → packets_at index packets ≡ [] → IsReceived (holds_after book) packets index w → ⊥
+none_received book packets index w none x = by x.whole.front x.whole.closing (sym x.whole.parts_are ∙ none)
   where
     by : (front : List (List ℕ)) (closing : List ℕ) → front ++ closing ∷ [] ≡ [] → ⊥
     by front closing e = let long = ap length e in absurd (omega (arith, long, length-append front (closing ∷ [])))
@@ -87,9 +87,9 @@ between_none apid passed text start bound index next b low high =
     ∙ shut index apid (after apid s b.packet) next record { last = part_in b.packet; last_is = first.last; past = inl (omega (arith, here, high)) }
 
 -- so all segments before this one are known
-pub knows_to : (apid : ℕ) (passed later : List (List ℕ)) (text : List ℕ) (start : SegmentStart) (bound : ℕ) (sofar : Numbers) → IsBegun apid passed text start bound → ((index : ℕ) → bound ≤ index → sofar index ≡ None) →
-    Knows apid passed later bound sofar → Knows apid passed later start.ancillary.index sofar
-knows_to apid passed later text start bound sofar b above knows = record {
+pub knows_to : (book : Book) (apid : ℕ) (passed later : List (List ℕ)) (text : List ℕ) (start : SegmentStart) (bound : ℕ) (sofar : Numbers) → IsBegun apid passed text start bound → ((index : ℕ) → bound ≤ index → sofar index ≡ None) →
+    Knows book apid passed later bound sofar → Knows book apid passed later start.ancillary.index sofar
+knows_to book apid passed later text start bound sofar b above knows = record {
   at = λ next more are index lt. elim (cases_lt index bound) [
     | inl low ↦ knows.at next more are index low
     | inr high ↦ none_at next index (above index high) (between_none apid passed text start bound index next b high lt)
@@ -97,13 +97,13 @@ knows_to apid passed later text start bound sofar b above knows = record {
 }
   where
     none_at : (next : List (List ℕ)) (index : ℕ) → sofar index ≡ None → packets_at index (kept apid fresh (passed ++ next)) ≡ [] → MatchOption (sofar index)
-        ((numbers : List (List ℤ)) → IsReceived holds_after (kept apid fresh (passed ++ next)) index numbers → ⊥)
-        (IsReceived holds_after (kept apid fresh (passed ++ next)) index)
-    none_at next index none empty = rw none (λ w x. none_received (kept apid fresh (passed ++ next)) index w empty x)
+        ((numbers : List (List ℤ)) → IsReceived (holds_after book) (kept apid fresh (passed ++ next)) index numbers → ⊥)
+        (IsReceived (holds_after book) (kept apid fresh (passed ++ next)) index)
+    none_at next index none empty = rw none (λ w x. none_received book (kept apid fresh (passed ++ next)) index w empty x)
 
 -- ---- a segment that was gone through
 
-module _ (apid : ℕ) (passed : List (List ℕ)) (a : Assembling) (start : SegmentStart) (bound : ℕ) (b : IsBegun apid passed a.text start bound) (apid_is : a.apid ≡ apid) (state : a.state ≡ after_all apid fresh passed) (unheld : a.held ≡ None) where
+module _ (book : Book) (apid : ℕ) (passed : List (List ℕ)) (a : Assembling) (start : SegmentStart) (bound : ℕ) (b : IsBegun apid passed a.text start bound) (apid_is : a.apid ≡ apid) (state : a.state ≡ after_all apid fresh passed) (unheld : a.held ≡ None) where
   abbrev index : ℕ
   index = start.ancillary.index
 
@@ -155,7 +155,7 @@ module _ (apid : ℕ) (passed : List (List ℕ)) (a : Assembling) (start : Segme
 
   -- it was accepted, and the packets that were passed have closed it: so it is received, whatever follows
   pub is_received : (rest : List ℕ) (went next : List (List ℕ)) (later : List (List ℕ)) (w : List (List ℤ)) → future a rest ≡ went ++ later → last_index (after_all apid there went).last ≡ Some index → is_closed (after_all apid there went).last ≡ true →
-      Holds profile start.head (text_tail a rest).octets w → IsReceived holds_after (kept apid fresh (passed ++ (went ++ next))) index w
+      Holds book start.head (text_tail a rest).octets w → IsReceived (holds_after book) (kept apid fresh (passed ++ (went ++ next))) index w
   is_received rest went next later w are last closed holds =
       let plain = from_closed apid index there went (part_in b.packet) last_is index_is last closed in
       let on : tail_past apid b.before b.packet (went ++ next) InPieces ≡ tail_past apid b.before b.packet went InPieces = from_more apid there went next InPieces InPieces in_pieces plain in
@@ -166,23 +166,23 @@ module _ (apid : ℕ) (passed : List (List ℕ)) (a : Assembling) (start : Segme
         whole = (tells (went ++ next)).complete (ap (λ (t : Tail). t.ends) on ∙ plain);
         head = start.head;
         head_is = head_there (went ++ next);
-        accepted = subst (λ zs. Holds profile start.head zs w) (sym octets) holds;
+        accepted = subst (λ zs. Holds book start.head zs w) (sym octets) holds;
       }
 
   -- it was refused, or it breaks off: so it isn't received, however many of the next packets follow
   pub not_received : (rest : List ℕ) (next more : List (List ℕ)) (w : List (List ℤ)) → future a rest ≡ next ++ more →
-      ((text_tail a rest).ends ≡ Plainly → (w : List (List ℤ)) → Holds profile start.head (text_tail a rest).octets w → ⊥) → IsReceived holds_after (kept apid fresh (passed ++ next)) index w → ⊥
+      ((text_tail a rest).ends ≡ Plainly → (w : List (List ℤ)) → Holds book start.head (text_tail a rest).octets w → ⊥) → IsReceived (holds_after book) (kept apid fresh (passed ++ next)) index w → ⊥
   not_received rest next more w are refused x =
       let plain = (tells next).plain x.whole in
       let all = all_there rest next more are plain in
       let same : x.head ≡ start.head = some_head _ x.head start.head x.head_is (head_there next) in
       let octets : drop (head_length start.head) (text_of_parts (packets_at index (kept apid fresh (passed ++ next)))) ≡ (text_tail a rest).octets =
       octets_after next ∙ sym (ap (λ (t : Tail). t.octets) all) in
-      let holds = subst (λ head. holds_after head (text_of_parts (packets_at index (kept apid fresh (passed ++ next)))) w) same x.accepted in
-      refused (ap (λ (t : Tail). t.ends) all ∙ plain) w (subst (λ zs. Holds profile start.head zs w) octets holds)
+      let holds = subst (λ head. holds_after book head (text_of_parts (packets_at index (kept apid fresh (passed ++ next)))) w) same x.accepted in
+      refused (ap (λ (t : Tail). t.ends) all ∙ plain) w (subst (λ zs. Holds book start.head zs w) octets holds)
 
   -- while its text is open it isn't received
-  pub open_received : (next : List (List ℕ)) (w : List (List ℤ)) → last_index (after_all apid there next).last ≡ Some index → is_closed (after_all apid there next).last ≡ false → IsReceived holds_after (kept apid fresh (passed ++ next)) index w → ⊥
+  pub open_received : (next : List (List ℕ)) (w : List (List ℤ)) → last_index (after_all apid there next).last ≡ Some index → is_closed (after_all apid there next).last ≡ false → IsReceived (holds_after book) (kept apid fresh (passed ++ next)) index w → ⊥
   open_received next w last going x =
       let plain = (tells next).plain x.whole in
       let closed = from_closes apid index there next (part_in b.packet) last_is index_is plain last in

@@ -17,9 +17,7 @@ use Rattle.base_122.proofs.SizeBounds.{three-le-block_count}
 use Rattle.packet_defs.specs.Streams.{framing}
 use Rattle.raster_rows.specs.Pixels.{clamped, pixel_octets, raster_octets}
 use Rattle.raster_rows.proofs.Numbers.{clamped_is}
-use Rattle.plane_defs.specs.Profile.{profile}
 use Rattle.segment_code.specs.Laws.{CodedHolds, CodedHoldsExactly, TextsAreShort}
-use Rattle.segment_code.proofs.ProfileSound.{profile_sound}
 use Rattle.stream_defs.specs.Damage.{whole_missing}
 use Rattle.stream_defs.specs.Begun.{begun_in, height}
 use Rattle.stream_defs.proofs.PlacedLaws.{is_not_open, within_not}
@@ -67,7 +65,7 @@ raster_same depth rows width a b same =
     (λ i from inside. ap (pixel_octets depth) (map_same (a i) (b i) 0 width (λ j first across. same i j (omega (arith, inside)) (omega (arith, across)))))
 
 module _ (short : TextsAreShort) (holds : CodedHolds) (exact : CodedHoldsExactly) (s : Setting) (rows : ℕ) (x : ℕ → ℕ → ℤ) (is : IsImageFor s rows x) (received : Numbers)
-    (received_is : ReceivedIn holds_after s.apid (output s rows x) received) where
+    (received_is : ReceivedIn (holds_after s.book) s.apid (output s rows x) received) where
   abbrev u : Setting
   u = sized s rows
 
@@ -107,7 +105,7 @@ module _ (short : TextsAreShort) (holds : CodedHolds) (exact : CodedHoldsExactly
             let h = head_for u all index in
             let plane : h.stop.plane ≡ 0 = ap (λ b. if b then 0 else s.stop.plane) sends.goes_on ∙ sends.plane in
             let stage : h.stop.stage ≡ 3 = ap (λ b. if b then 3 else s.stop.stage) sends.goes_on ∙ sends.stage in
-            e ∙ ap Some ((exact profile profile_sound h blocks (head_fits u x range is.height.0 pixels index lt) is.weights (spells u x range is.height.0 pixels index lt) refl (share_none u index (used_before u all index) sends.total ∙ sends.limit)
+            e ∙ ap Some ((exact s.book is.sound h blocks (head_fits u x range is.height.0 pixels index lt) is.weights (spells u x range is.height.0 pixels index lt) refl (share_none u index (used_before u all index) sends.total ∙ sends.limit)
             (record { goes_on = sends.goes_on; plane = plane; stage = stage }) w).0 (held_by short s rows x is received received_is index w lt e))
 
     -- so each block is there with its numbers
@@ -162,8 +160,8 @@ module _ (short : TextsAreShort) (holds : CodedHolds) (exact : CodedHoldsExactly
 -- ---- what a decoder gives
 
 pub decoded_back : TextsAreShort → CodedHolds → CodedHoldsExactly → (wish : DecodeWish) (start new : Outside) (took gave every : List ℕ) (done : DecodeDone) (s : Setting) (rows : ℕ) (x : ℕ → ℕ → ℤ) →
-    IsPicture wish start new took gave done → start.rest ≡ Some every → wish.apid ≡ s.apid → took ≡ output s rows x → IsImageFor s rows x → GivesBack s rows x gave done
-decoded_back short holds exact wish start new took gave every done s rows x found told apid took_is is =
+    IsPicture wish start new took gave done → start.rest ≡ Some every → wish.apid ≡ s.apid → wish.book ≡ s.book → took ≡ output s rows x → IsImageFor s rows x → GivesBack s rows x gave done
+decoded_back short holds exact wish start new took gave every done s rows x found told apid book took_is is =
     let t = found.told every told in
     let received = t.0 in
     let n : ℕ = begun_in wish.apid took in
@@ -172,7 +170,7 @@ decoded_back short holds exact wish start new took gave every done s rows x foun
     let high : done.geometry.rows ≡ rows = ap (λ (g : Geometry). g.rows) size in
     let some : done.geometry.rows ≡ 0 → ⊥ = λ none. within_not rows is.height.0 (sym high ∙ none) in
     let all_rows : height done.geometry n ≡ done.geometry.rows = rw (is_not_open done.geometry.rows some) refl in
-    let mine : ReceivedIn holds_after s.apid (output s rows x) received = subst (λ octets. ReceivedIn holds_after s.apid octets received) took_is (subst (λ n. ReceivedIn holds_after n took received) apid t.1) in
+    let mine : ReceivedIn (holds_after s.book) s.apid (output s rows x) received = subst (λ octets. ReceivedIn (holds_after s.book) s.apid octets received) took_is (subst (λ n. ReceivedIn (holds_after s.book) n took received) apid (subst (λ b. ReceivedIn (holds_after b) wish.apid took received) book t.1)) in
     let whole = comes_whole short s rows x is received mine holds in
     record {
       geometry = size;

@@ -48,8 +48,8 @@ known_on w now new a b bound took went known q = record {
   sofar = known.sofar;
   read = read_on w.apid w.cap known.read q;
   knows = λ rest told.
-      knows_on w.apid known.passed went (future b rest) bound known.sofar
-      (subst (λ xs. Knows w.apid known.passed xs bound known.sofar) (future_past q rest told) (known.knows (q.took ++ rest) (before_loses now.rest new.rest q.took rest q.since.rest told)));
+      knows_on w.book w.apid known.passed went (future b rest) bound known.sofar
+      (subst (λ xs. Knows w.book w.apid known.passed xs bound known.sofar) (future_past q rest told) (known.knows (q.took ++ rest) (before_loses now.rest new.rest q.took rest q.since.rest told)));
   above = known.above;
   at_end = end_on q known.at_end;
 }
@@ -82,7 +82,7 @@ read_come k w now new a b p bound went come q right = record {
 pub right_at : {S : Type 0} {P : FateState → Type 0} (k : SinkOf S) (w : Run) (now new : Outside) (a b : Assembling) (p : Walking S) (bound index : ℕ) (went : List (List ℕ)) → (come : HasWalkedTo k w now a p bound) → (q : Passes P now new a b went) → IsCurrent k p →
     (image : Geometry) → a.state.geometry ≡ Some image → p.geometry ≡ placed image → HasFew w.pixels w.apid come.known.passed → last_index a.state.last ≡ Some index →
     (octets more : List ℕ) → q.took ≡ octets ++ more → last_index (state_with a octets).last ≡ Some index → blocks_through p.geometry come.known.sofar index ≤ passed_in p →
-    ((i : ℕ) (v : List (List ℤ)) → bound ≤ i → i ≤ index → IsReceived holds_after (kept w.apid fresh (come.known.passed ++ whole_packets (a.intake.pending ++ octets))) i v → ⊥) → IsRight k w (come.took ++ octets) come.gave
+    ((i : ℕ) (v : List (List ℤ)) → bound ≤ i → i ≤ index → IsReceived (holds_after w.book) (kept w.apid fresh (come.known.passed ++ whole_packets (a.intake.pending ++ octets))) i v → ⊥) → IsRight k w (come.took ++ octets) come.gave
 right_at k w now new a b p bound index went come q standing image geometry goes_by small here octets more parts last reached open_ones =
     let known = come.known in
     let next = whole_packets (a.intake.pending ++ octets) in
@@ -100,7 +100,7 @@ right_at k w now new a b p bound index went come q standing image geometry goes_
           let l = last_there (state_with a octets).last index last in
           is_prompt k w a p come.took come.gave octets known.passed bound known.sofar known.read standing come.few come.begun (future a first.rest) part.0 later (known.knows first.rest first.told) image stays goes_by come.shows known.above
           (λ i v le x. elim (cases_lt index i) [
-            | inl past ↦ none_received (kept w.apid fresh (known.passed ++ next)) i v
+            | inl past ↦ none_received w.book (kept w.apid fresh (known.passed ++ next)) i v
                 (before_none i w.apid fresh (known.passed ++ next) (λ k is. let e = last_of (state_with a octets).last index k last (sym (ap (λ (s : FateState). s.last) state) ∙ is) in omega (arith, e, past))) x
             | inr near ↦ open_ones i v le near x
           ])
@@ -128,7 +128,7 @@ to_segment k w now a p start index standing come after reached found =
             passed = known.passed;
             sofar = known.sofar;
             read = known.read;
-            knows = λ rest told. knows_to w.apid known.passed (future a rest) a.text start (index + 1) known.sofar begun known.above (known.knows rest told);
+            knows = λ rest told. knows_to w.book w.apid known.passed (future a rest) a.text start (index + 1) known.sofar begun known.above (known.knows rest told);
             above = λ i le. known.above i (omega (arith, le, begun.later));
             at_end = known.at_end;
           };

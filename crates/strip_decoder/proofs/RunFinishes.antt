@@ -191,7 +191,7 @@ module _ {S : Type 0} (k : SinkOf S) (w : Run) (now new : Outside) (a : Assembli
   small_took : HasFewPixels w.pixels w.apid end.come.took
   small_took = subst (HasFew w.pixels w.apid) (sym whole) end.small
 
-  known_in : (every : List ℕ) → w.start.rest ≡ Some every → ReceivedIn holds_after w.apid end.come.took known
+  known_in : (every : List ℕ) → w.start.rest ≡ Some every → ReceivedIn (holds_after w.book) w.apid end.come.took known
   known_in every told =
       let rest = left_after w.start.rest now.rest end.come.took every end.come.since.rest told in
       all_received w now a end.index end.come.took end.come.known end.last rest.rest rest.told whole
@@ -266,7 +266,7 @@ module _ {S : Type 0} (k : SinkOf S) (w : Run) (now new : Outside) (a : Assembli
         none = λ none. absurd (let both : None ≡ Some image = sym none ∙ geometry_told in cc);
         some = λ g received there are.
             let same : image ≡ g = (let both : Some image ≡ Some g = sym geometry_told ∙ there in cc) in
-            let each : (index : ℕ) → received index ≡ known index = λ index. both_tell (kept_in w.apid end.come.took) index (received index) (known index) (are.at index) ((known_in every told).at index) in
+            let each : (index : ℕ) → received index ≡ known index = λ index. both_tell w.book (kept_in w.apid end.come.took) index (received index) (known index) (are.at index) ((known_in every told).at index) in
             let blocks = blocks_with p.geometry received in
             let of : (block : ℕ) → blocks block ≡ blocks_with p.geometry known block = λ block. block_by p.geometry received known block (each (block / p.geometry.segment)) in
             let x = broken.part blocks end.come.gave (end.come.shows blocks record { at = λ block lt. of block }) record { at = λ i lt. of (passed_in p + i) ∙ rest_lost i lt } in

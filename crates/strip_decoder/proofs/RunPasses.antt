@@ -55,7 +55,7 @@ module _ {S : Type 0} (k : SinkOf S) (w : Run) (now : Outside) (a : Assembling) 
         let known = come.known in
         let left = left_after w.start.rest now.rest come.took all come.since.rest told in
         let hand = at_hand a left.rest in
-        subst (λ zs. PartBy k w.apid zs come.gave) (append-nil come.took)
+        subst (λ zs. PartBy k w.book w.apid zs come.gave) (append-nil come.took)
         (is_part k w a p come.took come.gave [] known.passed bound known.sofar known.read standing come.few come.begun (future a left.rest) hand.0 hand.1 (known.knows left.rest left.told)
         (stays_with w a come.took [] known.passed known.read p.geometry (passed_in p) stays) come.shows);
     for_some =
@@ -95,7 +95,7 @@ module _ {S : Type 0} (k : SinkOf S) (w : Run) (now : Outside) (a : Assembling) 
             let hand = at_hand a left.rest in
             let knows = known.knows left.rest left.told in
             let stays = stays_with w a come.took [] known.passed known.read p.geometry (passed_in p + n) (stays_here a.state p.geometry image (passed_in p + n) index geometry range (sym goes_by) last here) in
-            subst (λ zs. PartBy k w.apid zs (come.gave ++ broken.gave)) (append-nil come.took)
+            subst (λ zs. PartBy k w.book w.apid zs (come.gave ++ broken.gave)) (append-nil come.took)
             (part_at k w a p come.took come.gave [] known.passed bound known.sofar known.read standing come.few come.begun (future a left.rest) hand.0 hand.1 knows (come.gave ++ broken.gave) (passed_in p + n) stays most (λ none. reach)
             (λ received received_are.
             let blocks = blocks_with p.geometry received in
@@ -318,7 +318,7 @@ failed fault = Err fault
 -- ---- a whole segment
 
 module _ {S : Type 0} (k : SinkOf S) (w : Run) (w1 w2 : Outside) (a b : Assembling) (p : Walking S) (start : SegmentStart) (to : WalksIn k w w1 a p start) (at : IsAt a p start) (standing : IsCurrent k p) (there : passed_in p ≡ start.ancillary.first) where
-  module _ (q : Walking S) (followed : HasFollowed k w.pixels b p q start) (accepted : Bool) (cells : List ℤ) (long : 64 * start.head.blocks ≤ length cells) (reads : ReadsText w1 w2 a b start.head cells (Ok accepted)) where
+  module _ (q : Walking S) (followed : HasFollowed k w.pixels b p q start) (accepted : Bool) (cells : List ℤ) (long : 64 * start.head.blocks ≤ length cells) (reads : ReadsText w.book w1 w2 a b start.head cells (Ok accepted)) where
     after_q : AfterText k w w2 b q start.ancillary.index (value_of accepted start.head cells) (start.ancillary.first + start.head.blocks)
     after_q = after_followed k w w2 b p q start start.ancillary.index (value_of accepted start.head cells) (start.ancillary.first + start.head.blocks) followed (text_known k w w1 w2 a b p start to standing at there accepted cells reads)
 
@@ -345,7 +345,7 @@ module _ {S : Type 0} (k : SinkOf S) (w : Run) (w1 w2 : Outside) (a b : Assembli
   text_broken failed =
       come_broken k w w2 b p start.ancillary.index (went_come k w w1 w2 a b p start to standing at there failed.goes) standing (stays_past failed.goes)
 
-  pub text_breaks : (fault : DecodeFault) (cells : List ℤ) → ReadsText w1 w2 a b start.head cells (Err fault) → BreaksRun k w w2 fault
+  pub text_breaks : (fault : DecodeFault) (cells : List ℤ) → ReadsText w.book w1 w2 a b start.head cells (Err fault) → BreaksRun k w w2 fault
   text_breaks ReadFault cells failed = text_broken failed
   text_breaks WriteFault cells failed = absurd failed
   text_breaks NoSegment cells failed = absurd failed
@@ -354,11 +354,11 @@ module _ {S : Type 0} (k : SinkOf S) (w : Run) (w1 w2 : Outside) (a b : Assembli
   text_breaks Memory cells failed = absurd failed
 
   -- the head of the next segment reports too many pixels
-  pub held_breaks : (q : Walking S) (accepted : Bool) (cells : List ℤ) → (reads : ReadsText w1 w2 a b start.head cells (Ok accepted)) → (fault : DecodeFault) → FollowsHeld k w.pixels b p q (Err fault) → BreaksRun k w w2 fault
+  pub held_breaks : (q : Walking S) (accepted : Bool) (cells : List ℤ) → (reads : ReadsText w.book w1 w2 a b start.head cells (Ok accepted)) → (fault : DecodeFault) → FollowsHeld k w.pixels b p q (Err fault) → BreaksRun k w w2 fault
   held_breaks q accepted cells reads fault follows = by b.held refl follows
     where
       goes : Continues w1 w2 a b
-      goes = text_goes w1 w2 a b start.head cells accepted reads
+      goes = text_goes w.book w1 w2 a b start.head cells accepted reads
 
       after : AfterText k w w2 b p start.ancillary.index (value_of accepted start.head cells) (start.ancillary.first + start.head.blocks)
       after = text_known k w w1 w2 a b p start to standing at there accepted cells reads

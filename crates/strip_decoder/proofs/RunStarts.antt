@@ -7,6 +7,7 @@ use Rattle.port_122.specs.Outside.{Outside, Exchange}
 use Rattle.port_122.proofs.Stretches.{since_weaker}
 use Rattle.base_122.specs.Sizes.{block_count}
 use Rattle.base_122.specs.Ranges.{IsGeometryInRange, IsWithin, rows_range}
+use Rattle.base_122.specs.declared.book.Book.{Book}
 use Rattle.base_122.specs.declared.geometry.Geometry.{Geometry}
 use Rattle.packet_defs.specs.Streams.{whole_packets}
 use Rattle.stream_defs.specs.declared.fate.FateState.{FateState}
@@ -77,8 +78,8 @@ first_asks k w new a b went unread q =
     nothing (suc j) = refl
 
 -- no octets are a part of what is given
-pub first_part : {S : Type 0} (k : SinkOf S) (apid : ℕ) (took : List ℕ) → PartBy k apid took []
-first_part k apid took = record { none = λ e. refl; some = λ g received there are. (0, omega arith, k.part_none (placed g) (blocks_with g received)) }
+pub first_part : {S : Type 0} (k : SinkOf S) (book : Book) (apid : ℕ) (took : List ℕ) → PartBy k book apid took []
+first_part k book apid took = record { none = λ e. refl; some = λ g received there are. (0, omega arith, k.part_none (placed g) (blocks_with g received)) }
 
 -- if the end was reached, nothing is left
 pub first_end : {P : FateState → Type 0} (w : Run) (new : Outside) (a b : Assembling) (went : List (List ℕ)) → a ≡ unread_assembly w.apid w.cap → Passes P w.start new a b went → SawEnd new b
@@ -167,7 +168,7 @@ first_comes k w new b p start g image found fresh_walk geometry small =
             sofar = λ index. None;
             read = found.read;
             knows = λ rest told. record {
-              at = λ next more are index lt v x. none_received (kept w.apid fresh (found.went ++ next)) index v (between_none w.apid found.went b.text start 0 index next found.begun (omega arith) lt) x;
+              at = λ next more are index lt v x. none_received w.book (kept w.apid fresh (found.went ++ next)) index v (between_none w.apid found.went b.text start 0 index next found.begun (omega arith) lt) x;
             };
             above = λ index le. refl;
             at_end = found.at_end;

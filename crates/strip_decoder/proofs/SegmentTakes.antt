@@ -7,8 +7,8 @@ use Rattle.std.proofs.Math.Nat.{mul-le-mul_right}
 use Rattle.port_122.specs.Outside.{Outside, NoFewerFaults, Rose}
 use Rattle.port_122.proofs.Stretches.{rose_since}
 use Rattle.base_122.specs.Sizes.{first_block}
+use Rattle.base_122.specs.declared.book.Book.{Book}
 use Rattle.base_122.specs.declared.geometry.Geometry.{Geometry}
-use Rattle.plane_defs.specs.Profile.{profile}
 use Rattle.wave_defs.specs.Line.{floor_div}
 use Rattle.wave_defs.specs.Blocks.{place_of, weight_at}
 use Rattle.wave_defs.specs.Held.{block_at, blocks_in}
@@ -36,9 +36,9 @@ use Rattle.strip_decoder.proofs.Between.{fewer_blocks, fits_ended, image_on, hel
 -- ---- the numbers that were read
 
 -- the numbers of a block that a text holds are parts of their weights
-weighted : (head : SegmentHead) (octets : List ℕ) (cells : List ℤ) (k : ℕ) → IsHead head → Holds profile head octets (blocks_in (cells_of head cells)) → 64 * head.blocks ≤ length cells → k < head.blocks →
+weighted : (book : Book) (head : SegmentHead) (octets : List ℕ) (cells : List ℤ) (k : ℕ) → IsHead head → Holds book head octets (blocks_in (cells_of head cells)) → 64 * head.blocks ≤ length cells → k < head.blocks →
     AreWeighted (block_at cells k) head.image.weights.shifts
-weighted head octets cells k ok holds long lt =
+weighted book head octets cells k ok holds long lt =
     let weights = head.image.weights.shifts in
     let front = cells_of head cells in
     let size : length front ≡ 64 * head.blocks = length-take-le (64 * head.blocks) cells long in
@@ -54,22 +54,22 @@ weighted head octets cells k ok holds long lt =
     }
 
 -- so they are blocks of the image
-pub accepted_blocks : (g : Geometry) (start : SegmentStart) (cells : List ℤ) (old new : Outside) (a b : Assembling) (accepted : Bool) → FitsImage g start → 64 * start.head.blocks ≤ length cells →
-    ReadsText old new a b start.head cells (Ok accepted) → accepted ≡ true → AreBlocks start.head.blocks g cells
-accepted_blocks g start cells old new a b true fits long reads e = record {
-  at = λ k lt. (block_whole cells k (omega (arith, long, lt)), subst (AreWeighted (block_at cells k)) fits.weights (weighted start.head reads.some cells k fits.head reads.holds long lt));
+pub accepted_blocks : (book : Book) (g : Geometry) (start : SegmentStart) (cells : List ℤ) (old new : Outside) (a b : Assembling) (accepted : Bool) → FitsImage g start → 64 * start.head.blocks ≤ length cells →
+    ReadsText book old new a b start.head cells (Ok accepted) → accepted ≡ true → AreBlocks start.head.blocks g cells
+accepted_blocks book g start cells old new a b true fits long reads e = record {
+  at = λ k lt. (block_whole cells k (omega (arith, long, lt)), subst (AreWeighted (block_at cells k)) fits.weights (weighted book start.head reads.some cells k fits.head reads.holds long lt));
 }
   where
     block_whole : (cells : List ℤ) (k : ℕ) → 64 * k + 64 ≤ length cells → length (block_at cells k) ≡ 64
     block_whole cells k le = length-take-le 64 (drop (64 * k) cells) (let size = length-drop (64 * k) cells in omega (arith, size, le))
-accepted_blocks g start cells old new a b false fits long reads e = absurd cc
+accepted_blocks book g start cells old new a b false fits long reads e = absurd cc
 
 -- ---- the blocks that were passed
 
 -- the text was read, accepted or not
-pub text_goes : (old new : Outside) (a b : Assembling) (head : SegmentHead) (cells : List ℤ) (accepted : Bool) → ReadsText old new a b head cells (Ok accepted) → Continues old new a b
-text_goes old new a b head cells true reads = reads.goes
-text_goes old new a b head cells false reads = reads.goes
+pub text_goes : (book : Book) (old new : Outside) (a b : Assembling) (head : SegmentHead) (cells : List ℤ) (accepted : Bool) → ReadsText book old new a b head cells (Ok accepted) → Continues old new a b
+text_goes book old new a b head cells true reads = reads.goes
+text_goes book old new a b head cells false reads = reads.goes
 
 pub faults_then : {p q r : Outside} → NoFewerFaults p q → NoFewerFaults q r → NoFewerFaults p r
 faults_then a b = record { reads = omega (arith, a.reads, b.reads); writes = omega (arith, a.writes, b.writes); notes = omega (arith, a.notes, b.notes) }
@@ -172,13 +172,13 @@ has_followed k pixels a b p q start at standing there goes follows = by b.held r
         }
 
 -- a read failed in its text
-pub read_takes : {S : Type 0} (k : SinkOf S) (w0 w1 w2 : Outside) (a b : Assembling) (p0 p : Walking S) (head : SegmentHead) (cells : List ℤ) (fault : DecodeFault) → NoFewerFaults w0 w1 → ReadsText w1 w2 a b head cells (Err fault) → TakesSegment k w0 w2 a b p0 p (Err fault)
-read_takes k w0 w1 w2 a b p0 p head cells ReadFault faults failed = rose_since faults.reads failed.rose
-read_takes k w0 w1 w2 a b p0 p head cells WriteFault faults failed = absurd failed
-read_takes k w0 w1 w2 a b p0 p head cells NoSegment faults failed = absurd failed
-read_takes k w0 w1 w2 a b p0 p head cells (TooManyPixels pixels) faults failed = absurd failed
-read_takes k w0 w1 w2 a b p0 p head cells LongInput faults failed = absurd failed
-read_takes k w0 w1 w2 a b p0 p head cells Memory faults failed = absurd failed
+pub read_takes : {S : Type 0} (k : SinkOf S) (book : Book) (w0 w1 w2 : Outside) (a b : Assembling) (p0 p : Walking S) (head : SegmentHead) (cells : List ℤ) (fault : DecodeFault) → NoFewerFaults w0 w1 → ReadsText book w1 w2 a b head cells (Err fault) → TakesSegment k w0 w2 a b p0 p (Err fault)
+read_takes k book w0 w1 w2 a b p0 p head cells ReadFault faults failed = rose_since faults.reads failed.rose
+read_takes k book w0 w1 w2 a b p0 p head cells WriteFault faults failed = absurd failed
+read_takes k book w0 w1 w2 a b p0 p head cells NoSegment faults failed = absurd failed
+read_takes k book w0 w1 w2 a b p0 p head cells (TooManyPixels pixels) faults failed = absurd failed
+read_takes k book w0 w1 w2 a b p0 p head cells LongInput faults failed = absurd failed
+read_takes k book w0 w1 w2 a b p0 p head cells Memory faults failed = absurd failed
 
 -- the head of the next segment reports too many pixels
 head_takes : {S : Type 0} (k : SinkOf S) (pixels : ℕ) (w0 w2 : Outside) (a b : Assembling) (p0 p q : Walking S) (image : Geometry) (next : SegmentStart) (fault : DecodeFault) → FollowsHead k pixels image next p q (Err fault) → TakesSegment k w0 w2 a b p0 p (Err fault)
@@ -219,11 +219,11 @@ shorter_then {g = g} {h = h} {i = i} a b = record { same = b.same ∙ (λ j. rec
 pub shorter_same : {g h : Geometry} → h ≡ g → IsShorter g h
 shorter_same {g = g} {h = h} same = subst (IsShorter g) (sym same) record { same = refl; fewer = omega arith }
 
-pub segment_taken : {S T E : Type 0} (k : SinkOf S) (pixels : ℕ) (r : Result T E) (w0 w1 w2 w3 : Outside) (a b : Assembling) (start : SegmentStart) (p0 p1 p2 p3 : Walking S) (cells : List ℤ) (accepted : Bool) (values : ℕ → Option (List ℤ)) → IsOk r → IsAt a p0 start →
-    HasReached k w0 w1 a p0 p1 start → ReadsText w1 w2 a b start.head cells (Ok accepted) → HasFollowed k pixels b p1 p2 start → PassesBlocks k r values start.head.blocks w2 w3 p2 p3 → HasTaken k w0 w3 a b p0 p3
-segment_taken k pixels (Err e) w0 w1 w2 w3 a b start p0 p1 p2 p3 cells accepted values is at before reads followed past = absurd (false≢true is)
-segment_taken k pixels (Ok x) w0 w1 w2 w3 a b start p0 p1 p2 p3 cells accepted values is at before reads followed past =
-    let goes = text_goes w1 w2 a b start.head cells accepted reads in
+pub segment_taken : {S T E : Type 0} (k : SinkOf S) (book : Book) (pixels : ℕ) (r : Result T E) (w0 w1 w2 w3 : Outside) (a b : Assembling) (start : SegmentStart) (p0 p1 p2 p3 : Walking S) (cells : List ℤ) (accepted : Bool) (values : ℕ → Option (List ℤ)) → IsOk r → IsAt a p0 start →
+    HasReached k w0 w1 a p0 p1 start → ReadsText book w1 w2 a b start.head cells (Ok accepted) → HasFollowed k pixels b p1 p2 start → PassesBlocks k r values start.head.blocks w2 w3 p2 p3 → HasTaken k w0 w3 a b p0 p3
+segment_taken k book pixels (Err e) w0 w1 w2 w3 a b start p0 p1 p2 p3 cells accepted values is at before reads followed past = absurd (false≢true is)
+segment_taken k book pixels (Ok x) w0 w1 w2 w3 a b start p0 p1 p2 p3 cells accepted values is at before reads followed past =
+    let goes = text_goes book w1 w2 a b start.head cells accepted reads in
     let fits = followed.fits in
     let end : passed_in p3 ≡ start.ancillary.first + start.head.blocks = omega (arith, past.count, followed.count, before.there) in
     let some = fits.head.blocks.0 in

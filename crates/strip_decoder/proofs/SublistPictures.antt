@@ -126,7 +126,7 @@ module _ (short : TextsAreShort) (s : Setting) (rows : ℕ) (x : ℕ → ℕ →
   sized_range = in_range-sized s rows image.range image.height
 
   pub coded_for : AreCoded t blocks
-  coded_for = images_coded short t x sized_range image.height.0 image.weights record { at = image.pixels.at }
+  coded_for = images_coded short t x sized_range image.sound image.height.0 image.weights record { at = image.pixels.at }
 
   -- all parts are some of them
   pub choice_all : IsChoice t blocks (all_parts t blocks)
@@ -221,20 +221,20 @@ module _ (short : TextsAreShort) (s : Setting) (rows : ℕ) (x : ℕ → ℕ →
       let below : end_of (kept_in s.apid octets) / c < block_count rows + 1 = div_below (end_of (kept_in s.apid octets)) c (block_count rows + 1) (omega (arith, wide)) (omega (arith, ends, more, turned, wide)) in
       omega (arith, here, below)
 
-  module _ (received whole : Numbers) (some_are : ReceivedIn holds_after s.apid (some_output s rows x parts) received) (all_are : ReceivedIn holds_after s.apid (output s rows x) whole) where
+  module _ (received whole : Numbers) (some_are : ReceivedIn (holds_after s.book) s.apid (some_output s rows x parts) received) (all_are : ReceivedIn (holds_after s.book) s.apid (output s rows x) whole) where
     -- a segment that is received of some is received of all, with the same numbers
     same_by : (index : ℕ) (o : Option (List (List ℤ))) → index < segments_of u → received index ≡ o → is_some o ≡ true → whole index ≡ received index
     same_by index None lt is some = absurd (false≢true some)
     same_by index (Some w) lt is some =
-        let here : MatchOption (Some w) ((v : List (List ℤ)) → IsReceived holds_after (kept s.apid fresh (whole_packets (some_output s rows x parts))) index v → ⊥) (IsReceived holds_after (kept s.apid fresh (whole_packets (some_output s rows x parts))) index) =
-        subst (λ o. MatchOption o ((v : List (List ℤ)) → IsReceived holds_after (kept s.apid fresh (whole_packets (some_output s rows x parts))) index v → ⊥) (IsReceived holds_after (kept s.apid fresh (whole_packets (some_output s rows x parts))) index)) is (some_are.at index) in
-        let mine : IsReceived holds_after (kept s.apid fresh (chosen told u all parts (segments_of u))) index w =
-        subst (λ packets. IsReceived holds_after (kept s.apid fresh packets) index w) packets_are here in
-        let held = (received_only told u all coded parts are.choice holds_after index w lt mine).1 in
-        let there : IsReceived holds_after (kept s.apid fresh (whole_packets (output s rows x))) index w =
-        subst (λ packets. IsReceived holds_after (kept s.apid fresh packets) index w) (sym (output_whole short s rows x are.image))
-        (received_each told u all coded (all_parts u all) (choice_all short s rows x are.image) holds_after index w lt refl held) in
-        both_tell (kept s.apid fresh (whole_packets (output s rows x))) index (whole index) (Some w) (all_are.at index) there ∙ sym is
+        let here : MatchOption (Some w) ((v : List (List ℤ)) → IsReceived (holds_after s.book) (kept s.apid fresh (whole_packets (some_output s rows x parts))) index v → ⊥) (IsReceived (holds_after s.book) (kept s.apid fresh (whole_packets (some_output s rows x parts))) index) =
+        subst (λ o. MatchOption o ((v : List (List ℤ)) → IsReceived (holds_after s.book) (kept s.apid fresh (whole_packets (some_output s rows x parts))) index v → ⊥) (IsReceived (holds_after s.book) (kept s.apid fresh (whole_packets (some_output s rows x parts))) index)) is (some_are.at index) in
+        let mine : IsReceived (holds_after s.book) (kept s.apid fresh (chosen told u all parts (segments_of u))) index w =
+        subst (λ packets. IsReceived (holds_after s.book) (kept s.apid fresh packets) index w) packets_are here in
+        let held = (received_only told u all coded parts are.choice (holds_after s.book) index w lt mine).1 in
+        let there : IsReceived (holds_after s.book) (kept s.apid fresh (whole_packets (output s rows x))) index w =
+        subst (λ packets. IsReceived (holds_after s.book) (kept s.apid fresh packets) index w) (sym (output_whole short s rows x are.image))
+        (received_each told u all coded (all_parts u all) (choice_all short s rows x are.image) (holds_after s.book) index w lt refl held) in
+        both_tell s.book (kept s.apid fresh (whole_packets (output s rows x))) index (whole index) (Some w) (all_are.at index) there ∙ sym is
 
     -- with the numbers of all packets in the lost blocks
     pub with_all : (r n : ℕ) → block_rows (image_geometry s r) n ≤ block_count rows → AreWith (image_geometry s r) received (number_at (image_geometry s r) whole) n

@@ -5,7 +5,7 @@ use Rattle.std.specs.Option.{option_map}
 use Rattle.std.proofs.lemmas.List.{append-nil, take-append-le}
 use Rattle.port_122.specs.Outside.{Outside, Loses}
 use Rattle.port_122.proofs.Stretches.{rose_since}
-use Rattle.plane_defs.specs.Profile.{profile}
+use Rattle.base_122.specs.declared.book.Book.{Book}
 use Rattle.wave_defs.specs.Held.{blocks_in}
 use Rattle.bit_pipe.specs.declared.fault.Part.{Part}
 use Rattle.bit_pipe.specs.Sources.{End, Plainly, TooLong, InPieces, Comes, IsOver}
@@ -58,7 +58,7 @@ take_all : (xs : List ℤ) → take (length xs) xs ≡ xs
 take_all [] = refl
 take_all (x ∷ xs) = ap (λ zs. x ∷ zs) (take_all xs)
 
-module _ {X : Type 0} (outside : X → Outside) (s t : SegmentText X) where
+module _ {X : Type 0} (outside : X → Outside) (book : Book) (s t : SegmentText X) where
   abbrev old : Outside
   old = outside s.port.now
 
@@ -71,7 +71,7 @@ module _ {X : Type 0} (outside : X → Outside) (s t : SegmentText X) where
 
   -- ---- a text that holds something
 
-  module _ (head : SegmentHead) (part : Part) (cells more : List ℤ) (long : length cells ≡ 64 * head.blocks) (d : DecodesSegment (segment_source outside) profile head (Ok part) s t cells) (new : Outside) (b : Assembling) where
+  module _ (head : SegmentHead) (part : Part) (cells more : List ℤ) (long : length cells ≡ 64 * head.blocks) (d : DecodesSegment (segment_source outside) book head (Ok part) s t cells) (new : Outside) (b : Assembling) where
     goes : Continues old now s.assembly.now t.assembly.now
     goes = d.went.goes
 
@@ -88,16 +88,16 @@ module _ {X : Type 0} (outside : X → Outside) (s t : SegmentText X) where
     none_left : (before : List ℕ) → now.rest ≡ Some before → ((text_tail t.assembly.now before).octets ≡ []) × ((text_tail t.assembly.now before).ends ≡ Plainly)
     none_left before told = over_by t.assembly.now now.rest before Plainly told d.ends.0
 
-    ends_by : (result : Result Bool DecodeFault) → EndsText now new t.assembly.now b result → ReadsText old new s.assembly.now b head (cells ++ more) result
+    ends_by : (result : Result Bool DecodeFault) → EndsText now new t.assembly.now b result → ReadsText book old new s.assembly.now b head (cells ++ more) result
     ends_by (Ok true) e = record {
       goes = goes_both goes e.goes;
       unheld = e.unheld;
       closed = e.closed;
       some = d.octets;
-      holds = subst (λ xs. Holds profile head d.octets (blocks_in xs)) cells_are d.ends.1.holds;
+      holds = subst (λ xs. Holds book head d.octets (blocks_in xs)) cells_are d.ends.1.holds;
       told = λ before told.
           let x = whole before told in
-          (x.0, subst (λ zs. Holds profile head zs (blocks_in (cells_of head (cells ++ more)))) (sym x.1) (subst (λ xs. Holds profile head d.octets (blocks_in xs)) cells_are d.ends.1.holds));
+          (x.0, subst (λ zs. Holds book head zs (blocks_in (cells_of head (cells ++ more)))) (sym x.1) (subst (λ xs. Holds book head d.octets (blocks_in xs)) cells_are d.ends.1.holds));
     }
     ends_by (Ok false) e = record {
       goes = goes_both goes e.goes;
@@ -114,27 +114,27 @@ module _ {X : Type 0} (outside : X → Outside) (s t : SegmentText X) where
     ends_by (Err Memory) e = absurd e
 
     pub text_read : (p x : X) (a y : Assembling) (result : Result Bool DecodeFault) → s.port.now ≡ p → s.assembly.now ≡ a → x ≡ t.port.now → y ≡ t.assembly.now → EndsText (outside x) new y b result →
-        ReadsText (outside p) new a b head (cells ++ more) result
+        ReadsText book (outside p) new a b head (cells ++ more) result
     text_read p x a y result begins from e f ends =
-        subst (λ p. ReadsText (outside p) new a b head (cells ++ more) result) begins (subst (λ a. ReadsText old new a b head (cells ++ more) result) from
+        subst (λ p. ReadsText book (outside p) new a b head (cells ++ more) result) begins (subst (λ a. ReadsText book old new a b head (cells ++ more) result) from
         (ends_by result (subst (λ y. EndsText now new y b result) f (subst (λ x. EndsText (outside x) new y b result) e ends))))
 
   -- ---- a text that is refused
 
-  module _ (head : SegmentHead) (cells : List ℤ) (fault : SegmentFault) (ok : IsHead head) (d : DecodesSegment (segment_source outside) profile head (Err fault) s t cells) where
+  module _ (head : SegmentHead) (cells : List ℤ) (fault : SegmentFault) (ok : IsHead head) (d : DecodesSegment (segment_source outside) book head (Err fault) s t cells) where
     -- by its first octets
-    by_name : (name : SegmentRefusal) → RefusedBy profile head d.octets name → (before : List ℕ) → old.rest ≡ Some before → (w : List (List ℤ)) → Holds profile head (text_tail s.assembly.now before).octets w → ⊥
+    by_name : (name : SegmentRefusal) → RefusedBy book head d.octets name → (before : List ℕ) → old.rest ≡ Some before → (w : List (List ℤ)) → Holds book head (text_tail s.assembly.now before).octets w → ⊥
     by_name name refused before told w holds =
         let x = come d.octets before d.went.goes d.came told in
-        outcomes_exclude.not_both profile head (text_tail s.assembly.now before).octets w name ok holds (subst (λ zs. Refused profile head zs name) (sym x.octets_are) (refused (text_tail t.assembly.now x.rest).octets))
+        outcomes_exclude.not_both book head (text_tail s.assembly.now before).octets w name ok holds (subst (λ zs. Refused book head zs name) (sym x.octets_are) (refused (text_tail t.assembly.now x.rest).octets))
 
     -- as it is too short
-    by_end : IsOver ((segment_source outside).tail t) Plainly → Refused profile head d.octets short_segment → (before : List ℕ) → old.rest ≡ Some before → (w : List (List ℤ)) → Holds profile head (text_tail s.assembly.now before).octets w → ⊥
+    by_end : IsOver ((segment_source outside).tail t) Plainly → Refused book head d.octets short_segment → (before : List ℕ) → old.rest ≡ Some before → (w : List (List ℤ)) → Holds book head (text_tail s.assembly.now before).octets w → ⊥
     by_end over refused before told w holds =
         let x = come d.octets before d.went.goes d.came told in
         let none = over_by t.assembly.now now.rest x.rest Plainly x.told over in
         let whole : (text_tail s.assembly.now before).octets ≡ d.octets = x.octets_are ∙ ap (λ zs. d.octets ++ zs) none.0 ∙ append-nil d.octets in
-        outcomes_exclude.not_both profile head (text_tail s.assembly.now before).octets w short_segment ok holds (subst (λ zs. Refused profile head zs short_segment) (sym whole) refused)
+        outcomes_exclude.not_both book head (text_tail s.assembly.now before).octets w short_segment ok holds (subst (λ zs. Refused book head zs short_segment) (sym whole) refused)
 
     -- as it ends otherwise
     by_break : (ends : End) → (ends ≡ Plainly → ⊥) → IsOver ((segment_source outside).tail t) ends → (before : List ℕ) → old.rest ≡ Some before → (text_tail s.assembly.now before).ends ≡ Plainly → ⊥
@@ -143,14 +143,14 @@ module _ {X : Type 0} (outside : X → Outside) (s t : SegmentText X) where
         let none = over_by t.assembly.now now.rest x.rest ends x.told over in
         other (sym none.1 ∙ sym x.ends ∙ plain)
 
-  pub text_refused : (head : SegmentHead) (cells : List ℤ) (fault : SegmentFault) → IsHead head → (fault ≡ faults.ReadFault → ⊥) → DecodesSegment (segment_source outside) profile head (Err fault) s t cells →
-      (p x : X) (a y : Assembling) → s.port.now ≡ p → s.assembly.now ≡ a → x ≡ t.port.now → y ≡ t.assembly.now → Refuses (outside p) (outside x) a y head
+  pub text_refused : (head : SegmentHead) (cells : List ℤ) (fault : SegmentFault) → IsHead head → (fault ≡ faults.ReadFault → ⊥) → DecodesSegment (segment_source outside) book head (Err fault) s t cells →
+      (p x : X) (a y : Assembling) → s.port.now ≡ p → s.assembly.now ≡ a → x ≡ t.port.now → y ≡ t.assembly.now → Refuses book (outside p) (outside x) a y head
   text_refused head cells fault ok other d p x a y begins from e f =
-      subst (λ p. Refuses (outside p) (outside x) a y head) begins (subst (λ a. Refuses old (outside x) a y head) from
-      (subst (λ x. Refuses old (outside x) s.assembly.now y head) (sym e) (subst (λ y. Refuses old now s.assembly.now y head) (sym f) record { goes = d.went.goes; told = by fault other d })))
+      subst (λ p. Refuses book (outside p) (outside x) a y head) begins (subst (λ a. Refuses book old (outside x) a y head) from
+      (subst (λ x. Refuses book old (outside x) s.assembly.now y head) (sym e) (subst (λ y. Refuses book old now s.assembly.now y head) (sym f) record { goes = d.went.goes; told = by fault other d })))
     where
-      by : (fault : SegmentFault) → (fault ≡ faults.ReadFault → ⊥) → DecodesSegment (segment_source outside) profile head (Err fault) s t cells →
-          (before : List ℕ) → old.rest ≡ Some before → (text_tail s.assembly.now before).ends ≡ Plainly → (w : List (List ℤ)) → Holds profile head (text_tail s.assembly.now before).octets w → ⊥
+      by : (fault : SegmentFault) → (fault ≡ faults.ReadFault → ⊥) → DecodesSegment (segment_source outside) book head (Err fault) s t cells →
+          (before : List ℕ) → old.rest ≡ Some before → (text_tail s.assembly.now before).ends ≡ Plainly → (w : List (List ℤ)) → Holds book head (text_tail s.assembly.now before).octets w → ⊥
       by faults.BadOption other d before told plain w holds = by_name head cells faults.BadOption ok d _ d.ends before told w holds
       by faults.BadDelta other d before told plain w holds = by_name head cells faults.BadDelta ok d _ d.ends before told w holds
       by faults.BadDepth other d before told plain w holds = by_name head cells faults.BadDepth ok d _ d.ends before told w holds

@@ -121,13 +121,13 @@ module _ (short : TextsAreShort) (s : Setting) (rows : ℕ) (x : ℕ → ℕ →
 
   -- ---- what is received
 
-  module _ (received : Numbers) (received_is : ReceivedIn holds_after s.apid (output s rows x) received) where
-    of_all : ReceivedIn holds_after s.apid (some_output s rows x (all_parts t all)) received
-    of_all = subst (λ octets. ReceivedIn holds_after s.apid octets received) all_are received_is
+  module _ (received : Numbers) (received_is : ReceivedIn (holds_after s.book) s.apid (output s rows x) received) where
+    of_all : ReceivedIn (holds_after s.book) s.apid (some_output s rows x (all_parts t all)) received
+    of_all = subst (λ octets. ReceivedIn (holds_after s.book) s.apid octets received) all_are received_is
 
     -- a segment that is received is the one that its packets carry
     pub held_by : (index : ℕ) (w : List (List ℤ)) → index < segments_of t → received index ≡ Some w →
-        holds_after (head_for t all index) (segment_text t all index) w
+        holds_after s.book (head_for t all index) (segment_text t all index) w
     held_by index w lt e = (only_whole short s rows x (all_parts t all) are received of_all index w lt e).1
 
     -- and each is received

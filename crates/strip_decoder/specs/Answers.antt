@@ -2,6 +2,7 @@
 use Rattle.std.specs.Prelude.{◌≡◌, ◌≤◌, ℕ, Bool, true, List, [], length, take, false, None, Some, Result, Ok, Err}
 use Rattle.port_122.specs.Outside.{Outside, Exchange, Rose}
 use Rattle.base_122.specs.Ranges.{IsGeometryInRange}
+use Rattle.base_122.specs.declared.book.Book.{Book}
 use Rattle.base_122.specs.declared.geometry.Geometry.{Geometry}
 use Rattle.base_122.specs.declared.wish.DecodeWish.{DecodeWish}
 use Rattle.packet_defs.specs.Streams.{left_over, has_bad_version, framing}
@@ -21,15 +22,15 @@ use Rattle.strip_decoder.specs.Walks.{IsDamageOf, HasTooMany}
 
 -- What is given once these octets are taken: nothing without a geometry, else the first rows of the picture of the segments that
 -- are received, at least those that may be given.
-pub record PromptBy (apid : ℕ) (taken given : List ℕ) : Type 0 where
+pub record PromptBy (book : Book) (apid : ℕ) (taken given : List ℕ) : Type 0 where
   pub none : geometry_in apid taken ≡ None → given ≡ []
-  pub some : (g : Geometry) (received : Numbers) → geometry_in apid taken ≡ Some g → ReceivedIn holds_after apid taken received →
+  pub some : (g : Geometry) (received : Numbers) → geometry_in apid taken ≡ Some g → ReceivedIn (holds_after book) apid taken received →
       (n : ℕ) × (n ≤ height g (begun_in apid taken)) × (ready (state_after apid taken) received ≤ n) × (given ≡ first_rows g received (begun_in apid taken) n)
 
 -- a prefix of the picture for the octets that were taken; nothing without a geometry
-pub record FrontBy (apid : ℕ) (taken given : List ℕ) : Type 0 where
+pub record FrontBy (book : Book) (apid : ℕ) (taken given : List ℕ) : Type 0 where
   pub none : geometry_in apid taken ≡ None → given ≡ []
-  pub some : (g : Geometry) (received : Numbers) → geometry_in apid taken ≡ Some g → ReceivedIn holds_after apid taken received →
+  pub some : (g : Geometry) (received : Numbers) → geometry_in apid taken ≡ Some g → ReceivedIn (holds_after book) apid taken received →
       (n : ℕ) × (given ≡ take n (picture_octets g received (begun_in apid taken)))
 
 -- what is given of a whole picture, if the kept heads reach n block rows
@@ -49,7 +50,7 @@ pub record PictureBy (gives : Bool) (wish : DecodeWish) (start new : Outside) (t
   pub out : IsReadOut wish.octets new took
   pub written : done.written ≡ height done.geometry (begun_in wish.apid took)
   pub rows : done.damage.rows ≡ done.written
-  pub told : (all : List ℕ) → start.rest ≡ Some all → (received : Numbers) × ReceivedIn holds_after wish.apid took received
+  pub told : (all : List ℕ) → start.rest ≡ Some all → (received : Numbers) × ReceivedIn (holds_after wish.book) wish.apid took received
       × (gave ≡ octets_of gives done.geometry received (begun_in wish.apid took)) × IsDamageOf done.geometry received (begun_in wish.apid took) done.damage
 
 abbrev pub IsPicture : (wish : DecodeWish) (start new : Outside) (took gave : List ℕ) (done : DecodeDone) → Type 0
@@ -57,7 +58,7 @@ IsPicture = PictureBy true
 
 -- a prefix of the picture for the octets that were taken, if the port reports what is left
 abbrev pub GivesFront : DecodeWish → Outside → (took gave : List ℕ) → Type 0
-GivesFront wish start took gave = (all : List ℕ) → start.rest ≡ Some all → FrontBy wish.apid took gave
+GivesFront wish start took gave = (all : List ℕ) → start.rest ≡ Some all → FrontBy wish.book wish.apid took gave
 
 -- Why the call ended so. The answers exclude each other by what was taken, the end and the counts, except for faults of the port.
 abbrev pub Answers : DecodeWish → (old new : Outside) (took gave : List ℕ) → Result DecodeDone DecodeFault → Type 0
@@ -72,7 +73,7 @@ Answers wish old new took gave (Err Memory) = gave ≡ []
 -- A read call with i octets taken and j given, if the port reports what is left. If the octets report too many pixels, no more is read.
 abbrev pub Asks : DecodeWish → Outside → (took gave : List ℕ) → ℕ → ℕ → Type 0
 Asks wish start took gave i j =
-    (j ≤ length gave) × HasFewPixels wish.pixels wish.apid (take i took) × ((all : List ℕ) → start.rest ≡ Some all → PromptBy wish.apid (take i took) (take j gave))
+    (j ≤ length gave) × HasFewPixels wish.pixels wish.apid (take i took) × ((all : List ℕ) → start.rest ≡ Some all → PromptBy wish.book wish.apid (take i took) (take j gave))
 
 -- One run over a port: what it took and gave, when, and why it ended so. However it ends, it takes at most the number of octets in the
 -- wish. What is given at each read call is a prefix of the picture for the octets that were taken by then, with at least the rows that may

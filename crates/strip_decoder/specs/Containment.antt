@@ -1,5 +1,5 @@
 -- Losses are contained: no pixel outside the damaged rows depends on what was lost. This project's own.
-use Rattle.std.specs.Prelude.{◌≡◌, ◌≤◌, ◌<◌, ◌-◌, ◌*◌, ◌↔◌, ◌/◌, ◌&&◌, ℕ, zero, suc, ℤ, Bool, true, false, not, if◌then◌else◌, List, [], ◌∷◌, length, Some, is_some}
+use Rattle.std.specs.Prelude.{◌≡◌, ◌≤◌, ◌<◌, ◌-◌, ◌*◌, ◌↔◌, ◌/◌, ◌&&◌, ℕ, zero, suc, ℤ, Bool, true, false, not, if◌then◌else◌, List, [], ◌∷◌, length, Some, is_some, IsTrue}
 use Rattle.port_122.specs.Outside.{Outside}
 use Rattle.base_122.specs.Ranges.{IsInRange, IsGeometryInRange}
 use Rattle.base_122.specs.Setting.{IsHeight, sized, image_geometry}
@@ -8,6 +8,7 @@ use Rattle.base_122.specs.declared.geometry.Geometry.{Geometry}
 use Rattle.base_122.specs.declared.setting.Setting.{Setting}
 use Rattle.base_122.specs.declared.wish.DecodeWish.{DecodeWish}
 use Rattle.packet_defs.specs.Packets.{joined}
+use Rattle.plane_defs.specs.Codes.{is_book_sound}
 use Rattle.raster_rows.specs.Pixels.{IsPixel}
 use Rattle.stream_defs.specs.declared.range.RowRange.{RowRange}
 use Rattle.stream_defs.specs.Begun.{begun_in, block_rows, height}
@@ -59,9 +60,10 @@ reported s rows parts = image_geometry s (reported_rows s rows parts)
 pub record ArePixels (s : Setting) (rows : ℕ) (x : ℕ → ℕ → ℤ) : Type 0 where
   pub at : (i j : ℕ) → i < rows → j < s.width → IsPixel s.depth s.signed (x i j)
 
--- an image of a height that this setting admits, and whose ten weights, other fields and pixels are in range
+-- an image of a height that this setting admits, whose book is sound, and whose ten weights, other fields and pixels are in range
 pub record IsImageFor (s : Setting) (rows : ℕ) (x : ℕ → ℕ → ℤ) : Type 0 where
   pub range : IsInRange s
+  pub sound : IsTrue (is_book_sound s.book)
   pub height : IsHeight s rows
   pub weights : length s.weights.shifts ≡ 10
   pub pixels : ArePixels s rows x
@@ -87,9 +89,9 @@ pub record LossesContained : Type 0 where
   pub begun : (s : Setting) (rows : ℕ) (x : ℕ → ℕ → ℤ) (parts : ℕ → List ℕ) → AreSome s rows x parts → BeginsOne s rows parts →
       begun_in s.apid (some_output s rows x parts) ≤ block_count rows
   pub those : (s : Setting) (rows : ℕ) (x : ℕ → ℕ → ℤ) (parts : ℕ → List ℕ) (received : Numbers) → AreSome s rows x parts →
-      ReceivedIn holds_after s.apid (some_output s rows x parts) received → ReceivesThose s rows x parts received
+      ReceivedIn (holds_after s.book) s.apid (some_output s rows x parts) received → ReceivesThose s rows x parts received
   pub sublists : (s : Setting) (rows : ℕ) (x : ℕ → ℕ → ℤ) (parts : ℕ → List ℕ) (received whole : Numbers) (n : ℕ) → AreSome s rows x parts → n ≤ block_count rows →
-      ReceivedIn holds_after s.apid (some_output s rows x parts) received → ReceivedIn holds_after s.apid (output s rows x) whole →
+      ReceivedIn (holds_after s.book) s.apid (some_output s rows x parts) received → ReceivedIn (holds_after s.book) s.apid (output s rows x) whole →
       SameOutside (height (reported s rows parts) n) s.width (damage (reported s rows parts) received n)
       (picture (reported s rows parts) received n) (whole_picture (image_geometry s rows) whole)
 
@@ -100,7 +102,7 @@ told_damage done = ranges done.damage.rows done.damage.missing
 -- What is given is the picture of these segments, and whatever numbers the blocks of others have, no pixel outside the damage changes.
 pub record GivesContained (wish : DecodeWish) (took gave : List ℕ) (done : DecodeDone) : Type 0 where
   pub received : Numbers
-  pub received_is : ReceivedIn holds_after wish.apid took received
+  pub received_is : ReceivedIn (holds_after wish.book) wish.apid took received
   pub gave_is : gave ≡ picture_octets done.geometry received (begun_in wish.apid took)
   pub whatever : (numbers : ℕ → ℕ → ℤ) → AreWith done.geometry received numbers (begun_in wish.apid took) →
       SameOutside done.written done.geometry.width (told_damage done) (picture_with done.geometry numbers (begun_in wish.apid took)) (picture done.geometry received (begun_in wish.apid took))
@@ -109,10 +111,10 @@ pub record GivesContained (wish : DecodeWish) (took gave : List ℕ) (done : Dec
 pub record GivesAlike (s : Setting) (rows : ℕ) (x : ℕ → ℕ → ℤ) (parts : ℕ → List ℕ) (gave : List ℕ) (done : DecodeDone) : Type 0 where
   pub geometry : done.geometry ≡ reported s rows parts
   pub received : Numbers
-  pub received_is : ReceivedIn holds_after s.apid (some_output s rows x parts) received
+  pub received_is : ReceivedIn (holds_after s.book) s.apid (some_output s rows x parts) received
   pub those : ReceivesThose s rows x parts received
   pub gave_is : gave ≡ picture_octets done.geometry received (begun_in s.apid (some_output s rows x parts))
-  pub same : (whole : Numbers) → ReceivedIn holds_after s.apid (output s rows x) whole →
+  pub same : (whole : Numbers) → ReceivedIn (holds_after s.book) s.apid (output s rows x) whole →
       SameOutside done.written s.width (told_damage done) (picture done.geometry received (begun_in s.apid (some_output s rows x parts)))
       (whole_picture (image_geometry s rows) whole)
 
@@ -120,5 +122,5 @@ pub record GivesAlike (s : Setting) (rows : ℕ) (x : ℕ → ℕ → ℤ) (part
 pub record DecodedContained : Type 0 where
   pub decoded : (wish : DecodeWish) (start new : Outside) (took gave all : List ℕ) (done : DecodeDone) → IsPicture wish start new took gave done → start.rest ≡ Some all → GivesContained wish took gave done
   pub sublists : (wish : DecodeWish) (start new : Outside) (took gave all : List ℕ) (done : DecodeDone) (s : Setting) (rows : ℕ) (x : ℕ → ℕ → ℤ) (parts : ℕ → List ℕ) →
-      IsPicture wish start new took gave done → start.rest ≡ Some all → wish.apid ≡ s.apid → took ≡ some_output s rows x parts → AreSome s rows x parts → BeginsOne s rows parts →
+      IsPicture wish start new took gave done → start.rest ≡ Some all → wish.apid ≡ s.apid → wish.book ≡ s.book → took ≡ some_output s rows x parts → AreSome s rows x parts → BeginsOne s rows parts →
       GivesAlike s rows x parts gave done

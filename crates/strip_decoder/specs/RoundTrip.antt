@@ -47,8 +47,8 @@ pub record GivesBack (s : Setting) (rows : ℕ) (x : ℕ → ℕ → ℤ) (gave 
 -- All packets of an image, in order, give it whole, whether they report its height first or last, and if nothing was omitted they give
 -- exactly its pixels. The same holds if a decoder took them and gave a whole picture.
 pub record RoundTrip : Type 0 where
-  pub whole : (s : Setting) (rows : ℕ) (x : ℕ → ℕ → ℤ) (received : Numbers) → IsImageFor s rows x → ReceivedIn holds_after s.apid (output s rows x) received → ComesWhole s rows x received
-  pub same : (s : Setting) (rows : ℕ) (x : ℕ → ℕ → ℤ) (received : Numbers) → IsImageFor s rows x → SendsAll s → ReceivedIn holds_after s.apid (output s rows x) received →
+  pub whole : (s : Setting) (rows : ℕ) (x : ℕ → ℕ → ℤ) (received : Numbers) → IsImageFor s rows x → ReceivedIn (holds_after s.book) s.apid (output s rows x) received → ComesWhole s rows x received
+  pub same : (s : Setting) (rows : ℕ) (x : ℕ → ℕ → ℤ) (received : Numbers) → IsImageFor s rows x → SendsAll s → ReceivedIn (holds_after s.book) s.apid (output s rows x) received →
       ComesSame s rows x received
   pub decoded : (wish : DecodeWish) (start new : Outside) (took gave all : List ℕ) (done : DecodeDone) (s : Setting) (rows : ℕ) (x : ℕ → ℕ → ℤ) →
-      IsPicture wish start new took gave done → start.rest ≡ Some all → wish.apid ≡ s.apid → took ≡ output s rows x → IsImageFor s rows x → GivesBack s rows x gave done
+      IsPicture wish start new took gave done → start.rest ≡ Some all → wish.apid ≡ s.apid → wish.book ≡ s.book → took ≡ output s rows x → IsImageFor s rows x → GivesBack s rows x gave done

@@ -4,7 +4,7 @@ use Rattle.port_122.specs.Outside.{Outside, Rose, NoFewerFaults}
 use Rattle.base_122.specs.Sizes.{first_block}
 use Rattle.base_122.specs.Ranges.{IsGeometryInRange}
 use Rattle.base_122.specs.declared.geometry.Geometry.{Geometry}
-use Rattle.plane_defs.specs.Profile.{profile}
+use Rattle.base_122.specs.declared.book.Book.{Book}
 use Rattle.wave_defs.specs.Held.{blocks_in}
 use Rattle.bit_pipe.specs.declared.fault.InFault.TheVariants as in_faults
 use Rattle.bit_pipe.specs.Sources.{Plainly}
@@ -137,25 +137,25 @@ EndsText old new a b (Err other) = ⊥
 abbrev pub cells_of : SegmentHead → List ℤ → List ℤ
 cells_of head cells = take (64 * head.blocks) cells
 
--- A segment's text was read whole, and holds these blocks; its closing part was passed.
-pub record Accepts (old new : Outside) (a b : Assembling) (head : SegmentHead) (cells : List ℤ) : Type 0 where
+-- A segment's text was read whole, and holds these blocks with the codes of this book; its closing part was passed.
+pub record Accepts (book : Book) (old new : Outside) (a b : Assembling) (head : SegmentHead) (cells : List ℤ) : Type 0 where
   pub goes : assembling.Continues old new a b
   pub unheld : b.held ≡ None
   pub closed : is_closed b.state.last ≡ true
   pub some : List ℕ
-  pub holds : Holds profile head some (blocks_in (cells_of head cells))
-  pub told : (rest : List ℕ) → old.rest ≡ Some rest → ((text_tail a rest).ends ≡ Plainly) × Holds profile head (text_tail a rest).octets (blocks_in (cells_of head cells))
+  pub holds : Holds book head some (blocks_in (cells_of head cells))
+  pub told : (rest : List ℕ) → old.rest ≡ Some rest → ((text_tail a rest).ends ≡ Plainly) × Holds book head (text_tail a rest).octets (blocks_in (cells_of head cells))
 
 -- It breaks off, or it holds nothing.
-pub record Refuses (old new : Outside) (a b : Assembling) (head : SegmentHead) : Type 0 where
+pub record Refuses (book : Book) (old new : Outside) (a b : Assembling) (head : SegmentHead) : Type 0 where
   pub goes : assembling.Continues old new a b
-  pub told : (rest : List ℕ) → old.rest ≡ Some rest → (text_tail a rest).ends ≡ Plainly → (w : List (List ℤ)) → Holds profile head (text_tail a rest).octets w → ⊥
+  pub told : (rest : List ℕ) → old.rest ≡ Some rest → (text_tail a rest).ends ≡ Plainly → (w : List (List ℤ)) → Holds book head (text_tail a rest).octets w → ⊥
 
-abbrev pub ReadsText : (old new : Outside) (a b : Assembling) (head : SegmentHead) (cells : List ℤ) → Result Bool DecodeFault → Type 0
-ReadsText old new a b head cells (Ok true) = Accepts old new a b head cells
-ReadsText old new a b head cells (Ok false) = Refuses old new a b head
-ReadsText old new a b head cells (Err ReadFault) = HasFailed old new a b
-ReadsText old new a b head cells (Err other) = ⊥
+abbrev pub ReadsText : Book → (old new : Outside) (a b : Assembling) (head : SegmentHead) (cells : List ℤ) → Result Bool DecodeFault → Type 0
+ReadsText book old new a b head cells (Ok true) = Accepts book old new a b head cells
+ReadsText book old new a b head cells (Ok false) = Refuses book old new a b head
+ReadsText book old new a b head cells (Err ReadFault) = HasFailed old new a b
+ReadsText book old new a b head cells (Err other) = ⊥
 
 -- the n blocks of a segment were passed: put if it was accepted, otherwise lost
 abbrev pub segment_values : Bool → List ℤ → ℕ → Option (List ℤ)

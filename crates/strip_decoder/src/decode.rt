@@ -1,4 +1,6 @@
 // Decodes packets to a picture.
+ghost use Rattle.std.specs.Prelude.{IsTrue};
+ghost use Rattle.plane_defs.specs.Codes.{is_book_sound};
 ghost use Rattle.strip_decoder.specs.Answers.{Decodes};
 
 use crate::engine::walk_segments;
@@ -48,6 +50,9 @@ pub enum DecodeFault {
 /// the end, or to what can't be read on, at most the octets that are wished, and no more once a header reports too many pixels.
 /// If no header reports the height, the rows are written that the block rows so far determine, whatever follows.
 ///
+/// Segments are read with the wish's code book, which must be sound. The packets do not carry it: with another book than the encoder's,
+/// segments are refused or give another picture.
+///
 /// # Errors
 ///
 /// After `NoSegment` and `Memory` nothing is written, and after the other faults a prefix of the picture; after `TooManyPixels` it is
@@ -57,6 +62,7 @@ pub fn decode_packets<X: Port>(
     port: &mut X,
     wish: &DecodeWish,
 ) -> Result<DecodeDone, DecodeFault>
+    requires book { IsTrue (is_book_sound wish.now.book) }
     ensures { Decodes wish.now (X.outside port.old) (X.outside port.new) result }
 {
     match walk_segments::<Picture, X>(alloc, port, wish) {

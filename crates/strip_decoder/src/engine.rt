@@ -1,6 +1,7 @@
 // Passes the blocks of an image from its packets to a sink.
-ghost use Rattle.std.specs.Prelude.{◌≡◌, ◌≤◌, true, is_some, IfOk, vec_len};
+ghost use Rattle.std.specs.Prelude.{◌≡◌, ◌≤◌, true, is_some, IfOk, IsTrue, vec_len};
 ghost use Rattle.base_122.specs.Ranges.{IsGeometryInRange};
+ghost use Rattle.plane_defs.specs.Codes.{is_book_sound};
 ghost use Rattle.stream_defs.specs.Begun.{height};
 ghost use Rattle.strip_decoder.specs.Steps.{walking, IsCurrent, PassesBlocks, missing};
 ghost use Rattle.strip_decoder.specs.Rooms.{IsRoom};
@@ -32,6 +33,9 @@ pub struct Walked<S> {
 /// most the octets that are wished, and no more once a header reports too many pixels. While the height isn't known, the sink takes the
 /// blocks of the tallest image; once a header reports it, the sink ends there.
 ///
+/// Segments are read with the wish's code book, which must be sound. With another book than the encoder's, segments are refused or give
+/// other blocks.
+///
 /// # Errors
 ///
 /// After `NoSegment` and `Memory` nothing is written, and after the other faults a part of what the sink writes; after
@@ -41,6 +45,7 @@ pub fn walk_segments<S: BlockSink + Drop, X: Port>(
     port: &mut X,
     wish: &DecodeWish,
 ) -> Result<Walked<S>, DecodeFault>
+    requires book { IsTrue (is_book_sound wish.now.book) }
     ensures { Walks S.sink wish.now (X.outside port.old) (X.outside port.new) result }
 {
     let Ok(mut assembly) = Assembly::new(alloc, wish.apid, wish.octets) else {
@@ -59,7 +64,7 @@ pub fn walk_segments<S: BlockSink + Drop, X: Port>(
         return Err(DecodeFault::TooManyPixels { pixels });
     }
     let tallest = placed(&geometry);
-    let Ok(mut room) = SegmentRoom::new(alloc, &tallest, wish.pixels) else {
+    let Ok(mut room) = SegmentRoom::new(alloc, &tallest, wish) else {
         return Err(DecodeFault::Memory);
     };
     let Ok(mut walk) = begin_walk::<S>(alloc, &tallest) else {
@@ -123,7 +128,7 @@ fn pass_all<S: BlockSink, X: Port>(
     ensures passes { PassesAll (X.outside port.old) (X.outside port.new) result }
     ensures standing { IfOk result (λ _. IsCurrent S.sink (walking walk.new)) }
     ensures image { IfOk result (λ _. is_some assembly.new.state.geometry ≡ true) }
-    ensures runs { (w : Run) → w.pixels ≡ room.old.pixels → WalksIn S.sink w (X.outside port.old) assembly.old (walking walk.old) first → RunsWalk S.sink w (X.outside port.new) assembly.new (walking walk.new) result }
+    ensures runs { (w : Run) → w.pixels ≡ room.old.pixels → w.book ≡ room.old.reader.tables.book → WalksIn S.sink w (X.outside port.old) assembly.old (walking walk.old) first → RunsWalk S.sink w (X.outside port.new) assembly.new (walking walk.new) result }
 {
     match take_segments(walk, port, assembly, room, first) {
         Ok(()) => {}
@@ -157,7 +162,7 @@ fn take_segments<S: BlockSink, X: Port>(
     requires at { IsAt assembly.old (walking walk.old) first }
     requires room { IsRoom walk.old.geometry (vec_len room.old.blocks) (vec_len room.old.marks) }
     ensures takes { TakesAll S.sink (X.outside port.old) (X.outside port.new) assembly.old assembly.new (walking walk.old) (walking walk.new) result }
-    ensures runs { (w : Run) → w.pixels ≡ room.old.pixels → WalksIn S.sink w (X.outside port.old) assembly.old (walking walk.old) first → RunsAll S.sink w (X.outside port.new) assembly.new (walking walk.new) result }
+    ensures runs { (w : Run) → w.pixels ≡ room.old.pixels → w.book ≡ room.old.reader.tables.book → WalksIn S.sink w (X.outside port.old) assembly.old (walking walk.old) first → RunsAll S.sink w (X.outside port.new) assembly.new (walking walk.new) result }
 {
     let mut start = first;
     'segments: loop {

@@ -1,6 +1,7 @@
 // Finds the rows that losses damage, without the picture.
-ghost use Rattle.std.specs.Prelude.{◌≡◌, ◌≤◌};
+ghost use Rattle.std.specs.Prelude.{◌≡◌, ◌≤◌, IsTrue};
 ghost use Rattle.port_122.specs.Outside.{WritesAll};
+ghost use Rattle.plane_defs.specs.Codes.{is_book_sound};
 ghost use Rattle.strip_decoder.specs.Lines.{range_line, damage_lines};
 ghost use Rattle.strip_decoder.specs.Finding.{Finds};
 
@@ -40,13 +41,14 @@ impl BlockSink for NoPicture {
 }
 
 /// Takes the packets of an APID as `decode_packets` does and returns what it returns. It gives no row: after all is read, it gives a line
-/// `first-last` for each range of damaged rows (docs/formats.md, "Picture and damage"). After `WriteFault` a prefix of the lines is given,
-/// and nothing after the other faults.
+/// `first-last` for each range of damaged rows (docs/formats.md, "Picture and damage"). The wish's code book must be sound. After
+/// `WriteFault` a prefix of the lines is given, and nothing after the other faults.
 pub fn find_damage<X: Port>(
     alloc: Global,
     port: &mut X,
     wish: &DecodeWish,
 ) -> Result<DecodeDone, DecodeFault>
+    requires book { IsTrue (is_book_sound wish.now.book) }
     ensures { Finds wish.now (X.outside port.old) (X.outside port.new) result }
 {
     let done = match walk_segments::<NoPicture, X>(alloc, port, wish) {

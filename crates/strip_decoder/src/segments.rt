@@ -1,7 +1,6 @@
 // Takes the segments of an image, one after another.
 ghost use Rattle.std.specs.Prelude.{◌≡◌, ◌≤◌, ◌*◌, true, length, vec_len};
 ghost use Rattle.base_122.specs.Ranges.{IsGeometryInRange};
-ghost use Rattle.plane_defs.specs.Profile.{profile};
 ghost use Rattle.segment_defs.specs.Head.{IsHead};
 ghost use Rattle.stream_defs.specs.Begun.{placed};
 ghost use Rattle.packet_assembly.specs.Assembling.{Assembling};
@@ -46,7 +45,7 @@ fn end_text<X: Port>(port: &mut X, assembly: &mut Assembly) -> Result<bool, Deco
     }
 }
 
-// Reads the text of a segment into the first of these blocks. Returns false if it is refused or breaks off.
+// Reads the text of a segment with the reader's code book into the first of these blocks. Returns false if it is refused or breaks off.
 fn read_text<X: Port>(
     port: &mut X,
     assembly: &mut Assembly,
@@ -56,10 +55,9 @@ fn read_text<X: Port>(
     marks: &mut [i32],
 ) -> Result<bool, DecodeFault>
     requires head { IsHead head.now }
-    requires book { reader.now.tables.book ≡ profile }
     requires blocks { 64 * head.now.blocks ≤ length blocks.old }
     requires marks { head.now.blocks ≤ length marks.old }
-    ensures { ReadsText (X.outside port.old) (X.outside port.new) assembly.old assembly.new head.now blocks.new result }
+    ensures { ReadsText reader.now.tables.book (X.outside port.old) (X.outside port.new) assembly.old assembly.new head.now blocks.new result }
 {
     let count = head.blocks as usize;
     let mut text = assembly.text(port);
@@ -197,8 +195,9 @@ pub fn take_segment<S: BlockSink, X: Port>(
     ensures blocks { vec_len room.new.blocks ≡ vec_len room.old.blocks }
     ensures marks { vec_len room.new.marks ≡ vec_len room.old.marks }
     ensures pixels { room.new.pixels ≡ room.old.pixels }
+    ensures book { room.new.reader.tables.book ≡ room.old.reader.tables.book }
     ensures takes { TakesSegment S.sink (X.outside port.old) (X.outside port.new) assembly.old assembly.new (walking walk.old) (walking walk.new) result }
-    ensures runs { (w : Run) → w.pixels ≡ room.old.pixels → WalksIn S.sink w (X.outside port.old) assembly.old (walking walk.old) start.now → RunsSegment S.sink w (X.outside port.new) assembly.new (walking walk.new) result }
+    ensures runs { (w : Run) → w.pixels ≡ room.old.pixels → w.book ≡ room.old.reader.tables.book → WalksIn S.sink w (X.outside port.old) assembly.old (walking walk.old) start.now → RunsSegment S.sink w (X.outside port.new) assembly.new (walking walk.new) result }
 {
     let Ok(()) = reach_segment(walk, port, start) else {
         return Err(DecodeFault::WriteFault);

@@ -1,18 +1,16 @@
 // The state of a walk over segments.
 ghost use Rattle.std.specs.Prelude.{◌≡◌, ◌≤◌, ◌+◌, ◌*◌, IfOk, vec_len};
 ghost use Rattle.base_122.specs.Ranges.{IsGeometryInRange, IsWithin, rows_range};
-ghost use Rattle.plane_defs.specs.Profile.{profile};
 ghost use Rattle.stream_defs.specs.Begun.{placed};
 ghost use Rattle.strip_decoder.specs.Sinks.{MayEnd};
 ghost use Rattle.strip_decoder.specs.Steps.{walking, passed_in, IsCurrent, IsFresh, HasGeometry};
 ghost use Rattle.strip_decoder.specs.Rooms.{IsRoom};
 
 use crate::sink::BlockSink;
-use base_122::{FieldRange, Geometry};
+use base_122::{DecodeWish, FieldRange, Geometry};
 use damage_rows::Damage;
 use segment_code::SegmentReader;
 use std::alloc::{AllocError, Global};
-use word_codes::profile_book;
 
 /// The block row and the column of the next block.
 #[derive(Clone, Copy, Debug, PartialEq, Eq)]
@@ -79,37 +77,43 @@ pub fn end_image<S: BlockSink>(walk: &mut Walk<S>, geometry: &Geometry)
     walk.geometry = *geometry;
 }
 
-/// The room in which the segments of an image are read: the blocks of one segment, a state for each, and the most pixels that the image may
-/// have. It holds at most 65 samples for each block of a segment.
+/// The room in which the segments of an image are read: a reader with the tables of their code book, the blocks of one segment, a state for
+/// each, and the most pixels that the image may have. It holds at most 65 samples for each block of a segment.
 #[derive(Drop)]
 pub struct SegmentRoom {
     pub reader: SegmentReader,
     pub blocks: Vec<i32>,
     pub marks: Vec<i32>,
     pub pixels: u64,
-    ghost of_profile: { reader.tables.book ≡ profile },
 }
 
 impl SegmentRoom {
-    ghost use Rattle.std.specs.Prelude.{◌≡◌, ◌≤◌, ◌+◌, ◌*◌, IfOk, vec_len};
+    ghost use Rattle.std.specs.Prelude.{◌≡◌, ◌≤◌, ◌+◌, ◌*◌, IfOk, IsTrue, vec_len};
     ghost use Rattle.base_122.specs.Ranges.{IsGeometryInRange, IsWithin, rows_range};
+    ghost use Rattle.plane_defs.specs.Codes.{is_book_sound};
     ghost use Rattle.strip_decoder.specs.Rooms.{IsRoom};
 
-    /// Takes the memory for the segments of an image. It fails only if there is too little memory.
-    pub fn new(alloc: Global, geometry: &Geometry, pixels: u64) -> Result<SegmentRoom, AllocError>
+    /// Takes the memory for the segments of an image, which are read with the wish's code book. It fails only if there is too little memory.
+    pub fn new(
+        alloc: Global,
+        geometry: &Geometry,
+        wish: &DecodeWish,
+    ) -> Result<SegmentRoom, AllocError>
         requires range { IsGeometryInRange geometry.now }
         requires height { IsWithin rows_range geometry.now.rows }
+        requires book { IsTrue (is_book_sound wish.now.book) }
         ensures room { IfOk result (λ room. IsRoom geometry.now (vec_len room.blocks) (vec_len room.marks)) }
-        ensures pixels { IfOk result (λ room. room.pixels ≡ pixels) }
+        ensures pixels { IfOk result (λ room. room.pixels ≡ wish.now.pixels) }
+        ensures book { IfOk result (λ room. room.reader.tables.book ≡ wish.now.book) }
     {
         let count = geometry.blocks_of(0) as usize;
         let blocks = vec![in alloc; 0; 64 * count]?;
         let marks = vec![in alloc; 0; count]?;
         Ok(SegmentRoom {
-            reader: SegmentReader::new(&profile_book()),
+            reader: SegmentReader::new(&wish.book),
             blocks,
             marks,
-            pixels,
+            pixels: wish.pixels,
         })
     }
 }

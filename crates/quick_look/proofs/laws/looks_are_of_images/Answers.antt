@@ -8,5 +8,5 @@ returns c =
     let exact = c.coded_holds_exactly.ensures in
     record {
       at = λ s rows x received is sends received_is t k row column. look_is short holds exact s rows x is received received_is sends t k row column;
-      given = λ wish start new took gave every done s rows x found told apid took_is is sends. given_back short holds exact wish start new took gave every done s rows x found told apid took_is is sends;
+      given = λ wish start new took gave every done s rows x found told apid book took_is is sends. given_back short holds exact wish start new took gave every done s rows x found told apid book took_is is sends;
     }

@@ -1,6 +1,7 @@
 use Rattle.std.proofs.Common.{◌≡◌, refl, sym, ap, subst, ◌∙◌}
 use Rattle.std.specs.Prelude.{true, false, is_some, Ok}
 use Rattle.std.proofs.lemmas.Bool.{false≢true}
+use Rattle.base_122.specs.Ranges.{IsGeometryInRange}
 use Rattle.stream_defs.specs.Begun.{placed}
 use Rattle.strip_decoder.specs.Steps.{walking, IsFresh}
 use Rattle.strip_decoder.specs.Walks.{Walks, run_of}
@@ -58,6 +59,9 @@ returns-in_default-begin_walk g c =
     let found = found_one k w (g.X.Port.outside c.find_next.new.port) c.in-Ok.assembly c.find_next.new.assembly c.in-Ok-Some.start c.in-Ok.ensures (rw c.in-Ok-Some.field-0-is at c.in-Ok-Some.ensures) in
     no_memory k c.args.wish.now (g.X.Port.outside c.args.port.now) (g.X.Port.outside c.find_next.new.port) c.find_next.new.assembly c.in-Ok-Some.start found
 
+pub begin_walk-requires-clause-range : goal.begin_walk-requires-clause-range
+begin_walk-requires-clause-range g c = subst IsGeometryInRange (sym c.placed-tallest.ensures) (placed_range c.in-Some.geometry c.in-Some.ensures.in_range)
+
 pub pass_all-requires-clause-standing : goal.pass_all-requires-clause-standing
 pass_all-requires-clause-standing g c =
     first_stands g.S.BlockSink.sink (placed c.in-Some.geometry) (walking c.in-Ok-begin_walk.walk) (placed_range c.in-Some.geometry c.in-Some.ensures.in_range) (placed_within c.in-Some.geometry c.in-Some.ensures.in_range)
@@ -85,7 +89,7 @@ returns-in-Err-pass_all g c =
     let comes = first_comes k w (g.X.Port.outside c.find_next.new.port) c.find_next.new.assembly (walking c.in-Ok-begin_walk.walk) c.in-Ok-Some.start _ c.in-Some.geometry found c.in-Ok-begin_walk.ensures (sym c.in-Some.ensures.standing) few in
     let faults = finds_faults c.in-Ok.assembly c.find_next.new.assembly _ c.in-Ok-Some.ensures in
     walk_fails k c.args.wish.now (g.X.Port.outside c.args.port.now) (g.X.Port.outside c.find_next.new.port) (g.X.Port.outside c.pass_all.new.port) faults.reads faults.writes
-    c.in-Err-pass_all.fault c.in-Err-pass_all.ensures.passes (c.in-Err-pass_all.ensures.runs w (sym c.in-Ok-new.ensures.pixels) comes)
+    c.in-Err-pass_all.fault c.in-Err-pass_all.ensures.passes (c.in-Err-pass_all.ensures.runs w (sym c.in-Ok-new.ensures.pixels) (sym c.in-Ok-new.ensures.book) comes)
 
 pub returns : goal.returns
 returns g c =
@@ -96,4 +100,4 @@ returns g c =
     let comes = first_comes k w (g.X.Port.outside c.find_next.new.port) c.find_next.new.assembly (walking c.in-Ok-begin_walk.walk) c.in-Ok-Some.start _ c.in-Some.geometry found c.in-Ok-begin_walk.ensures (sym c.in-Some.ensures.standing) few in
     subst (λ walked. Walks k c.args.wish.now (g.X.Port.outside c.args.port.now) (g.X.Port.outside c.pass_all.new.port) (Ok walked)) (sym c.finish.ensures)
     (walk_done k c.args.wish.now (g.X.Port.outside c.args.port.now) (g.X.Port.outside c.pass_all.new.port) (walking c.pass_all.new.walk) c.in-Some-geometry.geometry c.pass_all.new.assembly.framing c.framing.result
-    (c.in-Ok-pass_all.ensures.runs w (sym c.in-Ok-new.ensures.pixels) comes c.in-Some-geometry.geometry (sym c.geometry-2.ensures.standing ∙ c.in-Some-geometry.is)) c.framing.ensures.found)
+    (c.in-Ok-pass_all.ensures.runs w (sym c.in-Ok-new.ensures.pixels) (sym c.in-Ok-new.ensures.book) comes c.in-Some-geometry.geometry (sym c.geometry-2.ensures.standing ∙ c.in-Some-geometry.is)) c.framing.ensures.found)

@@ -10,5 +10,5 @@ returns c =
     record {
       whole = λ s rows x received is received_is. comes_whole short s rows x is received received_is holds;
       same = λ s rows x received is sends received_is. comes_same short holds exact s rows x is received received_is sends;
-      decoded = λ wish start new took gave every done s rows x found told apid took_is is. decoded_back short holds exact wish start new took gave every done s rows x found told apid took_is is;
+      decoded = λ wish start new took gave every done s rows x found told apid book took_is is. decoded_back short holds exact wish start new took gave every done s rows x found told apid book took_is is;
     }
