@@ -22,6 +22,7 @@ use Rattle.raster_rows.proofs.PixelPlaces.{pixel_at-append_right}
 use Rattle.space_packets.specs.declared.stage.PacketiserState.TheVariants.{Idle}
 use Rattle.stream_defs.specs.Output.{image_blocks, segments_of}
 use Rattle.stream_defs.specs.SettledImages.{settled_in}
+use Rattle.segment_code.specs.declared.encode.SegmentWriter.{SegmentWriter}
 use Rattle.strip_coder.specs.declared.work.Work.{Work}
 use Rattle.strip_coder.specs.Plans.{tallest}
 use Rattle.strip_coder.specs.Rasters.{row_length, most_length, image_of, AreInRange, whole_rows}
@@ -99,7 +100,7 @@ settled_now s w bare at lt more less =
     let each : c * answered_of w.strip ≡ c * block_rows_in (rows_of w.strip) = ap (λ n. c * n) answered in
     let running : IsRunning (plan s) (picture_state s w) = record {
       gathered = record {
-        made = record { row = made.row; blocks = made.blocks; marks = made.marks; strip = made.strip; packet = refl; room = made.room };
+        made = record { row = made.row; blocks = made.blocks; marks = made.marks; strip = made.strip; packet = refl; writer = made.writer; room = made.room };
         share = record { left = λ some. absurd (some bare.no_total) };
         index = at.index;
         present = λ _. more;
@@ -234,6 +235,7 @@ pub record OnlyRow (old mid : Work) : Type 0 where
   pub blocks : mid.blocks ≡ old.blocks
   pub marks : mid.marks ≡ old.marks
   pub packets : mid.packets ≡ old.packets
+  pub writer : mid.writer ≡ old.writer
   pub room : mid.room ≡ old.room
   pub at : mid.at ≡ old.at
 
@@ -245,6 +247,7 @@ module _ (s : Setting) (bare : IsBare s) (old mid : Work) (less : old.at.rows < 
     marks = rw only.marks made.marks;
     strip = rw only.strip made.strip;
     packet = ap (λ v. v.packet) only.packets ∙ made.packet;
+    writer = ap (λ (v : SegmentWriter). v.tables.book) only.writer ∙ made.writer;
     room = only.room ∙ made.room;
   }
 

@@ -26,7 +26,7 @@ use Rattle.bare_stream.specs.Inputs.{source_of}
 use Rattle.bare_stream.specs.SegmentsRead.{SegmentsRead, Told, block_rows_in, open_geometry, open_rows, segments_in, shape_with}
 use Rattle.bare_stream.specs.Reads.{AsksIn, HasRead, InForceAfter}
 use Rattle.bare_stream.specs.Decoded.{BareReasons, Refuses, GivesRead, EndsSo, DecodesBare}
-use Rattle.bare_stream.specs.Walks.{IsReading}
+use Rattle.bare_stream.specs.Walks.{IsReading, book_in}
 use Rattle.bare_stream.proofs.InputSteps.{came_is}
 use Rattle.bare_stream.proofs.ReadsOn.{still_told, read_on, read_on-gave, gave_told}
 use Rattle.bare_stream.proofs.HeadsRefused.{head_refused, ends_long, not_broken}
@@ -88,8 +88,8 @@ module _ {X : Type 0} (outside : X → Outside) (wish : DecodeWish) (s t : PortI
       ended_first reads.went (Refused i (Head fault)) refl tt (λ all told.
       let here = told_now reads.went all told in
       let same = came_is outside s t reads.went reads.octets all told reads.came in
-      let refused = head_refused outside wish.pixels None none_in_force i t here.0 reads.octets fault here.1 reads.ends.0 reads.ends.1 in
-      (x.0, subst (λ l. Refuses wish.pixels None none_in_force i l now (Head fault)) (ap (λ l. l ++ waiting t) same ∙ sym (took_is reads.went)) refused))
+      let refused = head_refused outside wish.book wish.pixels None none_in_force i t here.0 reads.octets fault here.1 reads.ends.0 reads.ends.1 in
+      (x.0, subst (λ l. Refuses wish.book wish.pixels None none_in_force i l now (Head fault)) (ap (λ l. l ++ waiting t) same ∙ sym (took_is reads.went)) refused))
   first_faulted after (Refused i BadOption) x = absurd x
   first_faulted after (Refused i BadDelta) x = absurd x
   first_faulted after (Refused i BadDepth) x = absurd x
@@ -129,7 +129,7 @@ module _ {X : Type 0} (outside : X → Outside) (wish : DecodeWish) (s t : PortI
     unfolding now_read
     now_gave = read_on-gave outside wish.octets start r [] s t before_it reads.went ∙ before_it-gave
 
-    force : InForceAfter start r none_in_force
+    force : InForceAfter wish.book start r none_in_force
     force all told = (tt, refl)
 
     first_told : Told start ((bare_head_read none_in_force front ≡ Ok read.head) × (length front ≡ bare_length front) × (read.size ≡ length front) × (after ≡ parts_after none_in_force front))
@@ -143,8 +143,8 @@ module _ {X : Type 0} (outside : X → Outside) (wish : DecodeWish) (s t : PortI
     pub no_memory : DecodesBare wish start now (Err Memory)
     no_memory = ended_at outside wish start r front t now_read (Err Memory) now_gave tt (begins_with outside wish start r front t now_read none_in_force force)
 
-    pub first_reading : (w : Walk) → w.first ≡ read.head → w.parts ≡ after → w.index ≡ 0 → w.pixels ≡ wish.pixels → IsFresh (shape_with read.head 262144) (picture_state w.picture) → IsReading outside wish start t w read
-    first_reading w first parts index pixels new = record {
+    pub first_reading : (w : Walk) → w.first ≡ read.head → w.parts ≡ after → w.index ≡ 0 → w.pixels ≡ wish.pixels → book_in w ≡ wish.book → IsFresh (shape_with read.head 262144) (picture_state w.picture) → IsReading outside wish start t w read
+    first_reading w first parts index pixels book new = record {
       r = r;
       front = front;
       before = none_in_force;
@@ -153,6 +153,7 @@ module _ {X : Type 0} (outside : X → Outside) (wish : DecodeWish) (s t : PortI
         first = sym first;
         index = index;
         pixels = pixels;
+        book = book;
         shows = record {
           standing = new.standing;
           geometry = new.geometry;

@@ -5,6 +5,7 @@ use Rattle.std.proofs.lemmas.Bool.Decides.{nat_tests}
 use Rattle.std.proofs.lemmas.List.{length-take}
 use Rattle.port_122.specs.Outside.{Outside, IsUsedUp}
 use Rattle.bit_pipe.specs.Sources.{End, IsOver, Plainly, TooLong, InPieces}
+use Rattle.base_122.specs.declared.book.Book.{Book}
 use Rattle.segment_defs.specs.declared.head.SegmentHead.{SegmentHead}
 use Rattle.segment_defs.specs.declared.fault.HeadFault.{HeadFault}
 use Rattle.segment_defs.specs.declared.fault.HeadFault.TheVariants.{HeadShort, MissingPart, Unsupported, DepthTooLarge, BadValue}
@@ -79,12 +80,12 @@ not_broken (Some rest) waits all left told over = plainly_or_long (nat_lt (lengt
 
 -- ---- texts
 
-pub are_so : {P Q : PartsInForce → Type 0} (first : SegmentHead) (before : PartsInForce) (index : ℕ) (texts : List (List ℕ)) (blocks : List (List (List ℤ))) → ((b : PartsInForce) → P b → Q b) → AreTexts first before index texts blocks P → AreTexts first before index texts blocks Q
-are_so first before index [] [] f are = f before are
-are_so first before index [] (b ∷ blocks) f are = absurd are
-are_so first before index (t ∷ texts) [] f are = absurd are
-are_so {P = P} {Q = Q} first before index (t ∷ texts) (b ∷ blocks) f are =
-    record { head = are.head; after = are.after; is = are.is; agrees = are.agrees; goes_on = (are.goes_on.0, are_so {P = P} {Q = Q} first are.after (index + 1) texts blocks f are.goes_on.1) }
+pub are_so : {P Q : PartsInForce → Type 0} (book : Book) (first : SegmentHead) (before : PartsInForce) (index : ℕ) (texts : List (List ℕ)) (blocks : List (List (List ℤ))) → ((b : PartsInForce) → P b → Q b) → AreTexts book first before index texts blocks P → AreTexts book first before index texts blocks Q
+are_so book first before index [] [] f are = f before are
+are_so book first before index [] (b ∷ blocks) f are = absurd are
+are_so book first before index (t ∷ texts) [] f are = absurd are
+are_so {P = P} {Q = Q} book first before index (t ∷ texts) (b ∷ blocks) f are =
+    record { head = are.head; after = are.after; is = are.is; agrees = are.agrees; goes_on = (are.goes_on.0, are_so {P = P} {Q = Q} book first are.after (index + 1) texts blocks f are.goes_on.1) }
 
 -- the first head, or this one if it is the first
 pub first_is : (first : SegmentHead) (texts : List (List ℕ)) (head : SegmentHead) → (texts ≡ [] → head ≡ first) → unwrap_or (first_of first texts) head ≡ first
@@ -101,7 +102,7 @@ decides outside t all front (Unsupported odd) told at = at
 decides outside t all front (DepthTooLarge dc ac) told at = at
 decides outside t all front (BadValue field) told at = at
 
-pub head_refused : {X : Type 0} (outside : X → Outside) (pixels : ℕ) (first : Option SegmentHead) (before : PartsInForce) (index : ℕ) (t : PortIn X) (all front : List ℕ) (fault : HeadFault) → (outside t.port.now).rest ≡ Some all →
-    bare_head_read before front ≡ Err fault → RefusesAt (source_of outside) fault front t → Refuses pixels first before index (front ++ waiting t) (outside t.port.now) (Head fault)
-head_refused outside pixels first before index t all front fault told read at =
+pub head_refused : {X : Type 0} (outside : X → Outside) (book : Book) (pixels : ℕ) (first : Option SegmentHead) (before : PartsInForce) (index : ℕ) (t : PortIn X) (all front : List ℕ) (fault : HeadFault) → (outside t.port.now).rest ≡ Some all →
+    bare_head_read before front ≡ Err fault → RefusesAt (source_of outside) fault front t → Refuses book pixels first before index (front ++ waiting t) (outside t.port.now) (Head fault)
+head_refused outside book pixels first before index t all front fault told read at =
     inl (record { front = front; rest = waiting t; parts = refl; read = read; decides = decides outside t all front fault told at })

@@ -62,8 +62,8 @@ module _ (hold : BareTextsHold) (undo : BareHeadsUndo) (s : Setting) (x : ℕ �
   fits : (index : ℕ) → index < n → IsHead (head index)
   fits index lt = head_fits s x is.setting.in_range rows is.pixels index lt
 
-  held : (index : ℕ) → index < n → HoldsText (head_before s all index) (head index) (segment_of s all index)
-  held index lt = hold (head_before s all index) (head index) (segment_of s all index) (fits index lt) is.weights (spells s x is.setting.in_range rows is.pixels index lt) refl
+  held : (index : ℕ) → index < n → HoldsText s.book (head_before s all index) (head index) (segment_of s all index)
+  held index lt = hold s.book is.sound (head_before s all index) (head index) (segment_of s all index) (fits index lt) is.weights (spells s x is.setting.in_range rows is.pixels index lt) refl
 
   count_small : (index : ℕ) → index % 256 < 256
   count_small index = omega arith
@@ -115,7 +115,7 @@ module _ (hold : BareTextsHold) (undo : BareHeadsUndo) (s : Setting) (x : ℕ �
   blocks_of index count = map blocks (range_with_len index count)
 
   -- from a segment on
-  texts_from : (index more : ℕ) → index + suc more ≡ n → TextsFrom (head 0) (bare_geometry s) (force index) index (texts_of index (suc more)) (blocks_of index (suc more))
+  texts_from : (index more : ℕ) → index + suc more ≡ n → TextsFrom s.book (head 0) (bare_geometry s) (force index) index (texts_of index (suc more)) (blocks_of index (suc more))
   texts_from index zero e =
       let last : index + 1 ≡ n = omega (arith, e) in
       record {
@@ -140,7 +140,7 @@ module _ (hold : BareTextsHold) (undo : BareHeadsUndo) (s : Setting) (x : ℕ �
         agrees = agree index (omega (arith, e));
         goes_on = (
           let test : (index + 1 == n) ≡ false = grind (arith, nat_tests, e) in test,
-          subst (λ before. TextsFrom (head 0) (bare_geometry s) before (index + 1) (texts_of (index + 1) (suc more)) (blocks_of (index + 1) (suc more))) (sym (ap force next))
+          subst (λ before. TextsFrom s.book (head 0) (bare_geometry s) before (index + 1) (texts_of (index + 1) (suc more)) (blocks_of (index + 1) (suc more))) (sym (ap force next))
               (texts_from (index + 1) more (omega (arith, e))),
         );
       }
@@ -160,12 +160,12 @@ module _ (hold : BareTextsHold) (undo : BareHeadsUndo) (s : Setting) (x : ℕ �
         whole = first.whole;
       }
 
-  texts : (more : ℕ) → n ≡ suc more → TextsFrom (head 0) (bare_geometry s) none_in_force 0 (bare s x) w
+  texts : (more : ℕ) → n ≡ suc more → TextsFrom s.book (head 0) (bare_geometry s) none_in_force 0 (bare s x) w
   unfolding first_texts
   texts more e =
-      subst (λ count. TextsFrom (head 0) (bare_geometry s) none_in_force 0 (texts_of 0 count) (blocks_of 0 count)) (sym e) (texts_from 0 more (let all_are : 0 + suc more ≡ n = omega (arith, e) in all_are))
+      subst (λ count. TextsFrom s.book (head 0) (bare_geometry s) none_in_force 0 (texts_of 0 count) (blocks_of 0 count)) (sym e) (texts_from 0 more (let all_are : 0 + suc more ≡ n = omega (arith, e) in all_are))
 
-  stream : (m : ℕ) → n ≡ m → BareStream (bare s x) (bare_geometry s) w
+  stream : (m : ℕ) → n ≡ m → BareStream s.book (bare s x) (bare_geometry s) w
   stream zero e = let some = some_segments in absurd (omega (arith, e, some))
   stream (suc more) e = record { first = head 0; starts = starts more e; texts = texts more e }
 
@@ -187,5 +187,5 @@ images_are_streams hold undo ends = record {
   says = λ s x is. blocks_there hold undo s x is;
   only = λ s x g w is other.
       let mine = blocks_there hold undo s x is in
-      (ends.geometry (bare s x) g (bare_geometry s) w mine.0 other mine.1.stream, subst (SaysImage s x) (sym (ends.blocks (bare s x) g (bare_geometry s) w mine.0 other mine.1.stream)) mine.1);
+      (ends.geometry s.book (bare s x) g (bare_geometry s) w mine.0 other mine.1.stream, subst (SaysImage s x) (sym (ends.blocks s.book (bare s x) g (bare_geometry s) w mine.0 other mine.1.stream)) mine.1);
 }

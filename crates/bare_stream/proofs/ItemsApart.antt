@@ -1,5 +1,5 @@
 -- Octets that hold the items of a text are not refused, and no item is missing.
-use Rattle.plane_defs.specs.Profile.{profile}
+use Rattle.base_122.specs.declared.book.Book.{Book}
 use Rattle.std.proofs.Common.{◌≡◌, ◌⊎◌, ℕ, ◌+◌, ◌*◌, ◌/◌, ◌<◌, inl, inr, Bool, cond, List, [], ◌∷◌, ◌++◌, length, take, refl, sym, ap, ◌∙◌, subst, arith, ℤ, append_assoc, length-append}
 use Rattle.std.proofs.lemmas.Bool.{cases_lt}
 use Rattle.std.proofs.lemmas.List.{append-nil}
@@ -106,12 +106,12 @@ module _ (is js : List Item) (same : ItemsAlike is js) (back : ItemsAlike js is)
 
 -- ---- a text
 
-module _ (head : SegmentHead) (size : ℕ) (fits : IsHead head) (rest : List ℕ) (w : List (List ℤ)) (part : Part) (a : HoldsItems profile head size rest w part) where
+module _ (book : Book) (head : SegmentHead) (size : ℕ) (fits : IsHead head) (rest : List ℕ) (w : List (List ℤ)) (part : Part) (a : HoldsItems book head size rest w part) where
   abbrev is : List Item
   is = segment_items head a.blocks a.depths a.options
 
   -- octets that hold items begin with none that are refused
-  module _ (items more after : List ℕ) (name : Refusal) (b : RefusesItem profile head size items name) (e : rest ++ more ≡ items ++ after) where
+  module _ (items more after : List ℕ) (name : Refusal) (b : RefusesItem book head size items name) (e : rest ++ more ≡ items ++ after) where
     abbrev others : List Item
     others = segment_items head b.blocks b.depths b.options
 
@@ -147,7 +147,7 @@ module _ (head : SegmentHead) (size : ℕ) (fits : IsHead head) (rest : List ℕ
     held_not_refused = by_end a.all
 
   -- and no item is missing, whatever follows
-  module _ (more : List ℕ) (b : LacksItems profile head size (rest ++ more)) where
+  module _ (more : List ℕ) (b : LacksItems book head size (rest ++ more)) where
     abbrev those : List Item
     those = segment_items head b.blocks b.depths b.options
 

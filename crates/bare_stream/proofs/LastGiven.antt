@@ -123,7 +123,7 @@ module _ (w : Walk) (read : BareHead) (sound : IsSound w) (next : IsNext w read)
     last_weights cells parts = subst (AreParts cells read.head.blocks) (same_weights w.first w.index read.head next.agrees ∙ sym (ap (λ (g : Geometry). g.weights.shifts) shape_ended)) parts
 
     module _ {X : Type 0} (outside : X → Outside) (wish : DecodeWish) (start : Outside) (r : SegmentsRead) (front text : List ℕ) (before : PartsInForce) (t u : PortIn X) (at : IsAt outside wish start r text t w)
-        (head : Told start (IsHeadOf r before w.parts front read)) (is_next : Told start (IsNextText r before w text read)) (waits : waiting u ≡ waiting t) (left : u.left ≡ t.left) where
+        (head : Told start (IsHeadOf wish.book r before w.parts front read)) (is_next : Told start (IsNextText wish.book r before w text read)) (waits : waiting u ≡ waiting t) (left : u.left ≡ t.left) where
       abbrev cells : List ℤ
       cells = w.room.blocks.items
 
@@ -175,7 +175,7 @@ module _ (w : Walk) (read : BareHead) (sound : IsSound w) (next : IsNext w read)
           ∙ ap (λ h. raster_octets w.first.image.depth height w.first.image.width (whole_with shape (number_at (open_geometry h) (segments_in all)))) at.first
           ∙ closed_octets w.first w.index read.head all
 
-      texts_told : Told start (BareStream (concat more.texts) g more.blocks)
+      texts_told : Told start (BareStream wish.book (concat more.texts) g more.blocks)
       texts_told told_all told =
           let h = head told_all told in
           let n = is_next told_all told in
@@ -183,9 +183,9 @@ module _ (w : Walk) (read : BareHead) (sound : IsSound w) (next : IsNext w read)
           let g_is : g ≡ geometry_at r.first w.index read.head = ap (λ h. geometry_at h w.index read.head) (sym at.first) in
           record {
             first = r.first;
-            starts = starts_all r.first r.texts text (begins_so r before w front text read h n);
-            texts = stream_of r.first g none_in_force before 0 r.texts r.blocks text held h.are
-                (subst (λ k. AgreeingText r.first before k text held (λ head now. (head.last ≡ true) × (g ≡ geometry_at r.first k head))) index
+            starts = starts_all r.first r.texts text (begins_so wish.book r before w front text read h n);
+            texts = stream_of wish.book r.first g none_in_force before 0 r.texts r.blocks text held h.are
+                (subst (λ k. AgreeingText wish.book r.first before k text held (λ head now. (head.last ≡ true) × (g ≡ geometry_at r.first k head))) index
                 (record { head = n.head; after = n.after; is = n.is; agrees = n.agrees; goes_on = (ap (λ (h : SegmentHead). h.last) n.goes_on.0 ∙ last, g_is ∙ ap (geometry_at r.first w.index) (sym n.goes_on.0)) }));
           }
 

@@ -5,6 +5,7 @@ use Rattle.std.proofs.Math.Nat.{mul-le-mul_left}
 use Rattle.port_122.specs.Outside.{Outside, Exchange, NoRead, Rose}
 use Rattle.port_122.proofs.Stretches.{since_weaker, rose_since}
 use Rattle.base_122.specs.Sizes.{block_count, first_block, total_blocks}
+use Rattle.base_122.specs.declared.book.Book.{Book}
 use Rattle.base_122.specs.declared.geometry.Geometry.{Geometry}
 use Rattle.base_122.specs.declared.wish.DecodeWish.{DecodeWish}
 use Rattle.wave_defs.specs.Held.{blocks_in}
@@ -27,7 +28,7 @@ use Rattle.bare_stream.specs.Input.{waiting}
 use Rattle.bare_stream.specs.SegmentsRead.{SegmentsRead, AgreeingText, AreTexts, BeginsSo, Told, open_geometry, segments_in, shape_with, rows_read}
 use Rattle.bare_stream.specs.Reads.{HasRead, InForceAfter, ShowsRead, AreNumbersOf}
 use Rattle.bare_stream.specs.Decoded.{BeginsWith, DecodesBare}
-use Rattle.bare_stream.specs.Walks.{IsSound, IsNext, IsAt, IsHeadOf, IsNextText}
+use Rattle.bare_stream.specs.Walks.{IsSound, IsNext, IsAt, IsHeadOf, IsNextText, book_in}
 use Rattle.bare_stream.proofs.Agrees.{Continues, goes_on, same_weights}
 use Rattle.bare_stream.proofs.HeadsRefused.{are_so}
 use Rattle.bare_stream.proofs.RowsShown.{rows_open}
@@ -37,18 +38,18 @@ use Rattle.bare_stream.proofs.WholeGiven.{whole_read, whole_read-gave, whole_sho
 
 -- ---- the first head of the segments
 
-no_force : (first : SegmentHead) (before : PartsInForce) (blocks : List (List (List ℤ))) → AreTexts first none_in_force 0 [] blocks (λ b. b ≡ before) → none_in_force ≡ before
-no_force first before [] are = are
-no_force first before (b ∷ blocks) are = absurd are
+no_force : (book : Book) (first : SegmentHead) (before : PartsInForce) (blocks : List (List (List ℤ))) → AreTexts book first none_in_force 0 [] blocks (λ b. b ≡ before) → none_in_force ≡ before
+no_force book first before [] are = are
+no_force book first before (b ∷ blocks) are = absurd are
 
 begins_more : (first : SegmentHead) (texts : List (List ℕ)) (t : List ℕ) → BeginsSo first texts → (texts ≡ [] → StartsWith first t) → BeginsSo first (texts ++ t ∷ [])
 begins_more first [] t begins starts = starts refl
 begins_more first (x ∷ texts) t begins starts = begins
 
 -- with the next segment too
-pub begins_so : (r : SegmentsRead) (before : PartsInForce) (w : Walk) (front text : List ℕ) (read : BareHead) → IsHeadOf r before w.parts front read → IsNextText r before w text read → BeginsSo r.first (r.texts ++ text ∷ [])
-begins_so r before w front text read h next = begins_more r.first r.texts text h.begins (λ none.
-    let force : none_in_force ≡ before = no_force r.first before r.blocks (subst (λ l. AreTexts r.first none_in_force 0 l r.blocks (λ b. b ≡ before)) none h.are) in
+pub begins_so : (book : Book) (r : SegmentsRead) (before : PartsInForce) (w : Walk) (front text : List ℕ) (read : BareHead) → IsHeadOf book r before w.parts front read → IsNextText book r before w text read → BeginsSo r.first (r.texts ++ text ∷ [])
+begins_so book r before w front text read h next = begins_more r.first r.texts text h.begins (λ none.
+    let force : none_in_force ≡ before = no_force book r.first before r.blocks (subst (λ l. AreTexts book r.first none_in_force 0 l r.blocks (λ b. b ≡ before)) none h.are) in
     let is = next.is in
     record {
       front = is.front;
@@ -62,7 +63,7 @@ begins_so r before w front text read h next = begins_more r.first r.texts text h
 
 module _ {X : Type 0} (outside : X → Outside) (wish : DecodeWish) (start : Outside) (r : SegmentsRead) (text more : List ℕ) (w : List (List ℤ)) (t u : PortIn X) (read : HasRead outside wish.octets start r text t)
     (waits : waiting u ≡ waiting t) (left : u.left ≡ t.left) (out : Exchange (outside t.port.now) (outside u.port.now) [] more [] NoRead) (rose : Rose (outside t.port.now).write_faults (outside u.port.now).write_faults) (ended : Option Geometry) where
-  pub broken_off : (some : ℕ) → read.gave ++ more ≡ take some (rows_read (with_more r text w ended)) → Told start (BeginsWith read.took (Some (with_more r text w ended))) → DecodesBare wish start (outside u.port.now) (Err WriteFault)
+  pub broken_off : (some : ℕ) → read.gave ++ more ≡ take some (rows_read (with_more r text w ended)) → Told start (BeginsWith wish.book read.took (Some (with_more r text w ended))) → DecodesBare wish start (outside u.port.now) (Err WriteFault)
   broken_off some rows reason = record {
     took = read.took;
     gave = read.gave ++ more;
@@ -135,7 +136,7 @@ module _ (w : Walk) (read : BareHead) (sound : IsSound w) (next : IsNext w read)
         }
 
   module _ {X : Type 0} (outside : X → Outside) (wish : DecodeWish) (start : Outside) (r : SegmentsRead) (front text : List ℕ) (before : PartsInForce) (t u : PortIn X) (at : IsAt outside wish start r text t w)
-      (head : Told start (IsHeadOf r before w.parts front read)) (is_next : Told start (IsNextText r before w text read)) (going : read.head.last ≡ false)
+      (head : Told start (IsHeadOf wish.book r before w.parts front read)) (is_next : Told start (IsNextText wish.book r before w text read)) (going : read.head.last ≡ false)
       (waits : waiting u ≡ waiting t) (left : u.left ≡ t.left) where
     abbrev pub cells : List ℤ
     cells = w.room.blocks.items
@@ -149,16 +150,16 @@ module _ (w : Walk) (read : BareHead) (sound : IsSound w) (next : IsNext w read)
     size_is : read.head.blocks ≡ r.first.blocks
     size_is = next_size going ∙ sym (ap (λ (h : SegmentHead). h.blocks) at.first)
 
-    are_next : Told start (AreTexts r.first none_in_force 0 more.texts more.blocks (λ b. b ≡ w.parts))
+    are_next : Told start (AreTexts wish.book r.first none_in_force 0 more.texts more.blocks (λ b. b ≡ w.parts))
     are_next all told =
         let n = is_next all told in
         let h = head all told in
-        are_more r.first none_in_force before w.parts 0 r.texts r.blocks text held h.are
-        (subst (λ k. AgreeingText r.first before k text held (λ head now. (head.last ≡ false) × (now ≡ w.parts))) (let e : w.index ≡ 0 + length r.texts = omega (arith, at.index) in e)
+        are_more wish.book r.first none_in_force before w.parts 0 r.texts r.blocks text held h.are
+        (subst (λ k. AgreeingText wish.book r.first before k text held (λ head now. (head.last ≡ false) × (now ≡ w.parts))) (let e : w.index ≡ 0 + length r.texts = omega (arith, at.index) in e)
         (record { head = n.head; after = n.after; is = n.is; agrees = n.agrees; goes_on = (ap (λ (h : SegmentHead). h.last) n.goes_on.0 ∙ going, n.goes_on.1) }))
 
-    pub force_next : InForceAfter start more w.parts
-    force_next all told = (begins_so r before w front text read (head all told) (is_next all told), are_next all told)
+    pub force_next : InForceAfter wish.book start more w.parts
+    force_next all told = (begins_so wish.book r before w front text read (head all told) (is_next all told), are_next all told)
 
     room_is : first_block r.first.blocks (length r.blocks) + r.first.blocks < total_blocks r.first.image.width 262144
     room_is =
@@ -175,8 +176,8 @@ module _ (w : Walk) (read : BareHead) (sound : IsSound w) (next : IsNext w read)
     some : 1 ≤ r.first.blocks
     some = rw at.first sound.first.blocks.0
 
-    pub next_at : (z : Walk) → HasPutBlocks cells read.head.blocks (outside t.port.now) (outside u.port.now) (picture_state w.picture) (picture_state z.picture) → z.first ≡ w.first → z.index ≡ w.index + 1 → z.pixels ≡ w.pixels → IsAt outside wish start more [] u z
-    next_at z put first index pixels =
+    pub next_at : (z : Walk) → HasPutBlocks cells read.head.blocks (outside t.port.now) (outside u.port.now) (picture_state w.picture) (picture_state z.picture) → z.first ≡ w.first → z.index ≡ w.index + 1 → z.pixels ≡ w.pixels → book_in z ≡ book_in w → IsAt outside wish start more [] u z
+    next_at z put first index pixels book =
         let put' = subst (λ n. HasPutBlocks cells n (outside t.port.now) (outside u.port.now) (picture_state w.picture) (picture_state z.picture)) size_is put in
         let is : held ≡ blocks_in (take (64 * r.first.blocks) cells) = ap (λ n. blocks_in (take (64 * n) cells)) size_is in
         let long' = subst (λ n. 64 * n ≤ length cells) size_is long in
@@ -185,6 +186,7 @@ module _ (w : Walk) (read : BareHead) (sound : IsSound w) (next : IsNext w read)
           first = at.first ∙ sym first;
           index = index ∙ ap (λ n. n + 1) at.index ∙ sym (length-append r.texts (text ∷ []));
           pixels = pixels ∙ at.pixels;
+          book = book ∙ at.book;
           shows = subst (λ l. ShowsRead (shape_with r.first 262144) more l (picture_state z.picture)) (sym (whole_read-gave outside wish.octets start r text held cells t u at.read w z at.shows waits left put' wide some long' is room_is))
               (whole_shown outside wish.octets start r text held cells t u at.read w z at.shows waits left put' wide some long' is room_is);
         }
@@ -208,7 +210,7 @@ module _ (w : Walk) (read : BareHead) (sound : IsSound w) (next : IsNext w read)
           (
             waiting u,
             octets_all outside wish.octets start r text broken.gave held t u at.read waits left broken.out None,
-            begins_so r before w front text read (head all told) (is_next all told),
-            are_so {P = λ b. b ≡ w.parts} {Q = λ b. Unit {0}} r.first none_in_force 0 more.texts more.blocks (λ b e. tt) (are_next all told),
+            begins_so wish.book r before w front text read (head all told) (is_next all told),
+            are_so {P = λ b. b ≡ w.parts} {Q = λ b. Unit {0}} wish.book r.first none_in_force 0 more.texts more.blocks (λ b e. tt) (are_next all told),
           ),
         ))

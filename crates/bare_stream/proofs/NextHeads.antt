@@ -47,25 +47,25 @@ module _ {X : Type 0} (outside : X → Outside) (wish : DecodeWish) (start : Out
     reason = reason;
   }
 
-  pub read_then : (before : PartsInForce) (Next : Option SegmentHead → ℕ → PartsInForce → List ℕ → Type 0) → BeginsSo r.first r.texts × AreTexts r.first none_in_force 0 r.texts r.blocks (λ b. b ≡ before) →
-      Next (first_of r.first r.texts) (length r.texts) before (part ++ waiting t) → ReadThen read.took (Some r) Next
+  pub read_then : (before : PartsInForce) (Next : Option SegmentHead → ℕ → PartsInForce → List ℕ → Type 0) → BeginsSo r.first r.texts × AreTexts wish.book r.first none_in_force 0 r.texts r.blocks (λ b. b ≡ before) →
+      Next (first_of r.first r.texts) (length r.texts) before (part ++ waiting t) → ReadThen wish.book read.took (Some r) Next
   read_then before Next are next = (
     read.going,
     (
       part ++ waiting t,
       read.octets,
       are.0,
-      are_so {P = λ b. b ≡ before} {Q = λ b. Next (first_of r.first r.texts) (length r.texts) b (part ++ waiting t)} r.first none_in_force 0 r.texts r.blocks (λ b e. subst (λ p. Next (first_of r.first r.texts) (length r.texts) p (part ++ waiting t)) (sym e) next) are.1,
+      are_so {P = λ b. b ≡ before} {Q = λ b. Next (first_of r.first r.texts) (length r.texts) b (part ++ waiting t)} wish.book r.first none_in_force 0 r.texts r.blocks (λ b e. subst (λ p. Next (first_of r.first r.texts) (length r.texts) p (part ++ waiting t)) (sym e) next) are.1,
     ),
   )
 
-  pub begins_with : (before : PartsInForce) → InForceAfter start r before → Told start (BeginsBy r.ended read.took r)
-  begins_with before force all told = subst (λ e. BeginsBy e read.took r) (sym read.going) (read_then before (λ first index b rest. Unit {0}) (force all told) tt)
+  pub begins_with : (before : PartsInForce) → InForceAfter wish.book start r before → Told start (BeginsBy wish.book r.ended read.took r)
+  begins_with before force all told = subst (λ e. BeginsBy wish.book e read.took r) (sym read.going) (read_then before (λ first index b rest. Unit {0}) (force all told) tt)
 
   pub rest_told : (all : List ℕ) → start.rest ≡ Some all → (rest : List ℕ) × (now.rest ≡ Some rest)
   rest_told all told = still_told start.rest now.rest read.took all read.since.rest told
 
-module _ {X : Type 0} (outside : X → Outside) (wish : DecodeWish) (start : Outside) (r : SegmentsRead) (s t : PortIn X) (before after : PartsInForce) (index : ℕ) (at : HasRead outside wish.octets start r [] s) (force : InForceAfter start r before) (is : index ≡ length r.texts) where
+module _ {X : Type 0} (outside : X → Outside) (wish : DecodeWish) (start : Outside) (r : SegmentsRead) (s t : PortIn X) (before after : PartsInForce) (index : ℕ) (at : HasRead outside wish.octets start r [] s) (force : InForceAfter wish.book start r before) (is : index ≡ length r.texts) where
   -- the head was not read
   pub head_faulted : (fault : BareFault) → TakesHead (source_of outside) before index (Err fault) s t after → DecodesBare wish start (outside t.port.now) (Err fault)
   head_faulted ReadFault x =
@@ -94,9 +94,9 @@ module _ {X : Type 0} (outside : X → Outside) (wish : DecodeWish) (start : Out
       (λ all told.
       let here = rest_told outside wish start r reads.went.gave t read all told in
       let same = gave_told outside wish.octets start r [] s t at reads.went reads.octets reads.came all told in
-      let refused = head_refused outside wish.pixels (first_of r.first r.texts) before i t here.0 reads.octets fault here.1 reads.ends.0 reads.ends.1 in
-      read_then outside wish start r reads.went.gave t read before (λ first next b rest. (i ≡ next) × Refuses wish.pixels first b i rest (outside t.port.now) (Head fault)) (force all told)
-      (x.0 ∙ is, subst (λ l. Refuses wish.pixels (first_of r.first r.texts) before i (l ++ waiting t) (outside t.port.now) (Head fault)) same refused))
+      let refused = head_refused outside wish.book wish.pixels (first_of r.first r.texts) before i t here.0 reads.octets fault here.1 reads.ends.0 reads.ends.1 in
+      read_then outside wish start r reads.went.gave t read before (λ first next b rest. (i ≡ next) × Refuses wish.book wish.pixels first b i rest (outside t.port.now) (Head fault)) (force all told)
+      (x.0 ∙ is, subst (λ l. Refuses wish.book wish.pixels (first_of r.first r.texts) before i (l ++ waiting t) (outside t.port.now) (Head fault)) same refused))
   head_faulted (Refused i BadOption) x = absurd x
   head_faulted (Refused i BadDelta) x = absurd x
   head_faulted (Refused i BadDepth) x = absurd x
@@ -105,7 +105,7 @@ module _ {X : Type 0} (outside : X → Outside) (wish : DecodeWish) (start : Out
   head_faulted (Refused i Trailing) x = absurd x
 
 -- the head was read, and doesn't agree or reports too many pixels
-module _ {X : Type 0} (outside : X → Outside) (wish : DecodeWish) (start : Outside) (r : SegmentsRead) (front : List ℕ) (t : PortIn X) (before : PartsInForce) (index : ℕ) (read : HasRead outside wish.octets start r front t) (force : InForceAfter start r before) (is : index ≡ length r.texts)
+module _ {X : Type 0} (outside : X → Outside) (wish : DecodeWish) (start : Outside) (r : SegmentsRead) (front : List ℕ) (t : PortIn X) (before : PartsInForce) (index : ℕ) (read : HasRead outside wish.octets start r front t) (force : InForceAfter wish.book start r before) (is : index ≡ length r.texts)
     (head : SegmentHead) (front_read : Told start ((bare_head_read before front ≡ Ok head) × (length front ≡ bare_length front))) (starts : r.texts ≡ [] → head ≡ r.first) where
   first_head : r.first ≡ unwrap_or (first_of r.first r.texts) head
   first_head = sym (first_is r.first r.texts head starts)
@@ -134,7 +134,7 @@ module _ {X : Type 0} (outside : X → Outside) (wish : DecodeWish) (start : Out
       ended_at outside wish start r front t read (Err (Refused i (Head fault))) read.gave_is tt
       (λ all told.
       let f = front_read all told in
-      read_then outside wish start r front t read before (λ first next b rest. (i ≡ next) × Refuses wish.pixels first b i rest (outside t.port.now) (Head fault)) (force all told)
+      read_then outside wish start r front t read before (λ first next b rest. (i ≡ next) × Refuses wish.book wish.pixels first b i rest (outside t.port.now) (Head fault)) (force all told)
       (x.0 ∙ is, inr (record { front = front; rest = waiting t; head = head; parts = refl; read = f.0; whole = f.1; goes_on = subst (λ k. first_refusal (agreement_tests k i head) ≡ Some fault) first_head (subst (λ n. first_refusal (agreement_tests r.first n head) ≡ Some fault) (sym x.0) x.1) })))
   check_faulted (Refused i BadOption) x = absurd x
   check_faulted (Refused i BadDelta) x = absurd x
@@ -145,7 +145,7 @@ module _ {X : Type 0} (outside : X → Outside) (wish : DecodeWish) (start : Out
 
 -- ---- the head was read
 
-module _ {X : Type 0} (outside : X → Outside) (wish : DecodeWish) (start : Outside) (r : SegmentsRead) (s t : PortIn X) (w : Walk) (after : PartsInForce) (at : IsAt outside wish start r [] s w) (force : InForceAfter start r w.parts) (read : BareHead)
+module _ {X : Type 0} (outside : X → Outside) (wish : DecodeWish) (start : Outside) (r : SegmentsRead) (s t : PortIn X) (w : Walk) (after : PartsInForce) (at : IsAt outside wish start r [] s w) (force : InForceAfter wish.book start r w.parts) (read : BareHead)
     (reads : ReadsHead (source_of outside) w.parts (Ok read) s t after) where
   abbrev pub front : List ℕ
   front = reads.went.gave
@@ -154,14 +154,14 @@ module _ {X : Type 0} (outside : X → Outside) (wish : DecodeWish) (start : Out
   now_read = read_on outside wish.octets start r [] s t at.read reads.went
 
   pub now_at : (v : Walk) → v ≡ record w { parts = after } → IsAt outside wish start r front t v
-  now_at v e = subst (IsAt outside wish start r front t) (sym e) (record { read = now_read; first = at.first; index = at.index; pixels = at.pixels; shows = subst (λ l. ShowsRead (shape_with r.first 262144) r l (picture_state w.picture)) (sym (read_on-gave outside wish.octets start r [] s t at.read reads.went)) at.shows })
+  now_at v e = subst (IsAt outside wish start r front t) (sym e) (record { read = now_read; first = at.first; index = at.index; pixels = at.pixels; book = at.book; shows = subst (λ l. ShowsRead (shape_with r.first 262144) r l (picture_state w.picture)) (sym (read_on-gave outside wish.octets start r [] s t at.read reads.went)) at.shows })
 
   head_told : Told start ((bare_head_read w.parts front ≡ Ok read.head) × (length front ≡ bare_length front) × (read.size ≡ length front) × (after ≡ parts_after w.parts front))
   head_told all told =
       subst (λ l. (bare_head_read w.parts l ≡ Ok read.head) × (length l ≡ bare_length l) × (read.size ≡ length l) × (after ≡ parts_after w.parts l))
       (gave_told outside wish.octets start r [] s t at.read reads.went reads.octets reads.came all told) reads.ends
 
-  pub is_head : 0 < w.index → Told start (IsHeadOf r w.parts after front read)
+  pub is_head : 0 < w.index → Told start (IsHeadOf wish.book r w.parts after front read)
   is_head later all told =
       let f = force all told in
       let h = head_told all told in

@@ -75,7 +75,7 @@ module _ (s : Setting) (bare : IsBare s) (column : ℕ) (old new : Work) (at : I
   pub now_made : IsMadeFor s new
   now_made = still_made s old new at.made same (ap (λ v. v.packet) packets)
 
-  pub present_cut : {p q : Outside} (before : Option SegmentHead) → TextCut p q (bare_text before (head_now s old.at.index (present_blocks old)) (present_blocks old)) → PresentCut s before p q old new
+  pub present_cut : {p q : Outside} (before : Option SegmentHead) → TextCut p q (bare_text s.book before (head_now s old.at.index (present_blocks old)) (present_blocks old)) → PresentCut s before p q old new
   present_cut before cut = record { made = now_made; cut = cut }
 
   module _ (rows : new.at.rows ≡ old.at.rows) (filled : new.at.filled ≡ 0) (index : new.at.index ≡ old.at.index + 1) (octets : ℕ) (few : octets ≤ 2 ^ 32) (used : new.at.used ≡ old.at.used + octets) where

@@ -10,6 +10,7 @@ use Rattle.wave_strip.specs.declared.strip.StripWave.{StripWave}
 use Rattle.wave_strip.specs.Strip.{rows_of, answered_of, columns_of, has_ended, is_standing, Follows, ShowsBlockRow}
 use Rattle.wave_strip.specs.Counts.{settled}
 use Rattle.stream_defs.specs.Output.{image_blocks}
+use Rattle.segment_code.specs.declared.encode.SegmentWriter.{SegmentWriter}
 use Rattle.strip_coder.specs.declared.work.Work.{Work}
 use Rattle.strip_coder.specs.Works.{IsMadeFor, StripFollows, gathered_in}
 use Rattle.strip_coder.specs.Steps.{NextRowIs, IsRowSmall}
@@ -27,6 +28,7 @@ pub record OnlyStrip (old new : Work) : Type 0 where
   pub blocks : new.blocks ≡ old.blocks
   pub marks : new.marks ≡ old.marks
   pub packets : new.packets ≡ old.packets
+  pub writer : new.writer ≡ old.writer
   pub room : new.room ≡ old.room
   pub filled : new.at.filled ≡ old.at.filled
   pub index : new.at.index ≡ old.at.index
@@ -40,6 +42,7 @@ module _ (s : Setting) (bare : IsBare s) (old new : Work) (only : OnlyStrip old 
     marks = rw only.marks made.marks;
     strip = columns ∙ made.strip;
     packet = ap (λ v. v.packet) only.packets ∙ made.packet;
+    writer = ap (λ (v : SegmentWriter). v.tables.book) only.writer ∙ made.writer;
     room = only.room ∙ made.room;
   }
 

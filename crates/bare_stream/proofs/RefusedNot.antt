@@ -1,10 +1,10 @@
 -- The next text of a bare stream isn't refused.
-use Rattle.plane_defs.specs.Profile.{profile}
 use Rattle.std.proofs.Common.{◌≡◌, ◌≤◌, ◌<◌, ◌+◌, ◌*◌, ◌==◌, ℕ, List, [], ◌∷◌, ◌++◌, length, take, inl, inr, refl, sym, ap, ◌∙◌, subst, arith, append_assoc, length-append}
 use Rattle.std.specs.Prelude.{Bool, true, false, nat_lt, if◌then◌else◌, Option, None, Some, Result, Ok, Err, unwrap_or}
 use Rattle.std.proofs.lemmas.Bool.Decides.{nat_tests}
 use Rattle.std.proofs.lemmas.List.{append-nil, append_cancel_left, take-append-le}
 use Rattle.port_122.specs.Outside.{Outside, AtEnd, IsUsedUp}
+use Rattle.base_122.specs.declared.book.Book.{Book}
 use Rattle.base_122.specs.declared.geometry.Geometry.{Geometry}
 use Rattle.item_defs.specs.Items.{Refusal, bad_option, bad_delta, bad_depth, false_flag}
 use Rattle.segment_defs.specs.declared.head.SegmentHead.{SegmentHead}
@@ -99,7 +99,7 @@ module _ (front more : List ℕ) (three : length front ≡ 3) where
 
 -- ---- the next text
 
-module _ (heads : BareHeadsEndThere) (first : SegmentHead) (g : Geometry) (before : PartsInForce) (index : ℕ) (octets beyond : List ℕ) (next : NextText first g before index (octets ++ beyond)) where
+module _ (heads : BareHeadsEndThere) (book : Book) (first : SegmentHead) (g : Geometry) (before : PartsInForce) (index : ℕ) (octets beyond : List ℕ) (next : NextText book first g before index (octets ++ beyond)) where
   abbrev head : SegmentHead
   head = next.head
 
@@ -193,21 +193,21 @@ module _ (heads : BareHeadsEndThere) (first : SegmentHead) (g : Geometry) (befor
         let more = here.2 in
         omega (arith, few, count, more, le)
 
-    no_item : (pixels : ℕ) (name : Refusal) → ItemRefused pixels f before index octets name → ⊥
+    no_item : (pixels : ℕ) (name : Refusal) → ItemRefused book pixels f before index octets name → ⊥
     no_item pixels name x =
-        let Q = λ (h : SegmentHead) (size : ℕ) (after : List ℕ). MayFollow pixels (unwrap_or f h) index h × ((items more : List ℕ) × (after ≡ items ++ more) × RefusesItem profile h size items name) in
+        let Q = λ (h : SegmentHead) (size : ℕ) (after : List ℕ). MayFollow pixels (unwrap_or f h) index h × ((items more : List ℕ) × (after ≡ items ++ more) × RefusesItem book h size items name) in
         let here = (so_here Q x).1 in
-        held_not_refused head (length front) fits rest next.blocks next.is.part next.is.holds here.0 next.rest (here.1 ++ beyond) name here.3
+        held_not_refused book head (length front) fits rest next.blocks next.is.part next.is.holds here.0 next.rest (here.1 ++ beyond) name here.3
         (sym (same_rest Q x) ∙ ap (λ l. l ++ beyond) here.2 ∙ append_assoc here.0 here.1 beyond)
 
     module _ (now : Outside) (told : now.rest ≡ Some beyond) where
-      not_short : (pixels : ℕ) → HeadThen before octets (λ h size after. MayFollow pixels (unwrap_or f h) index h × LacksItems profile h size after) → AtEnd now → ⊥
+      not_short : (pixels : ℕ) → HeadThen before octets (λ h size after. MayFollow pixels (unwrap_or f h) index h × LacksItems book h size after) → AtEnd now → ⊥
       not_short pixels x end =
-          let Q = λ (h : SegmentHead) (size : ℕ) (after : List ℕ). MayFollow pixels (unwrap_or f h) index h × LacksItems profile h size after in
+          let Q = λ (h : SegmentHead) (size : ℕ) (after : List ℕ). MayFollow pixels (unwrap_or f h) index h × LacksItems book h size after in
           let all : x.rest ≡ rest ++ next.rest = sym (ap (λ l. x.rest ++ l) (nothing_beyond now told end) ∙ append-nil x.rest) ∙ same_rest Q x in
-          held_not_lacking head (length front) fits rest next.blocks next.is.part next.is.holds next.rest (subst (LacksItems profile head (length front)) all (so_here Q x).1)
+          held_not_lacking book head (length front) fits rest next.blocks next.is.part next.is.holds next.rest (subst (LacksItems book head (length front)) all (so_here Q x).1)
 
-      pub not_refused : (pixels : ℕ) (cause : BareCause) → Refuses pixels f before index octets now cause → ⊥
+      pub not_refused : (pixels : ℕ) (cause : BareCause) → Refuses book pixels f before index octets now cause → ⊥
       not_refused pixels (Head fault) (inl x) = head_not_refused now told fault x
       not_refused pixels (Head fault) (inr x) = not_disagreeing fault x
       not_refused pixels BadOption x = no_item pixels bad_option x

@@ -46,14 +46,14 @@ use Rattle.bare_stream.proofs.Presents.{segment_held, head_is_now}
 module _ (s : Setting) (is_bare : IsBare s) (column : ℕ) (before : Option SegmentHead) (p q : Outside) (old : Work) (come : HasCome s column before p q old) (lt : old.at.index < segments_of s)
     (full : old.at.filled ≡ present_size s old) where
   -- the text is that of the segment in each image that begins so
-  text_is : (y : ℕ → ℕ → ℤ) → BeginsSo s come.took old y → bare_text before (head_now s old.at.index (present_blocks old)) (present_blocks old) ≡ segment_octets s (image_blocks s y) old.at.index
+  text_is : (y : ℕ → ℕ → ℤ) → BeginsSo s come.took old y → bare_text s.book before (head_now s old.at.index (present_blocks old)) (present_blocks old) ≡ segment_octets s (image_blocks s y) old.at.index
   text_is y begins =
       let all = image_blocks s y in
       let index = old.at.index in
       let held = segment_held s is_bare column old come.at lt full y (come.follows y begins) in
-      ap (λ b. bare_text b (head_now s index (present_blocks old)) (present_blocks old)) (come.head y begins)
-      ∙ ap (λ blocks. bare_text (head_before s all index) (head_now s index blocks) blocks) held
-      ∙ ap (λ h. bare_text (head_before s all index) h (segment_of s all index)) (head_is_now s all index is_bare)
+      ap (λ b. bare_text s.book b (head_now s index (present_blocks old)) (present_blocks old)) (come.head y begins)
+      ∙ ap (λ blocks. bare_text s.book (head_before s all index) (head_now s index blocks) blocks) held
+      ∙ ap (λ h. bare_text s.book (head_before s all index) h (segment_of s all index)) (head_is_now s all index is_bare)
 
   head_is : (y : ℕ → ℕ → ℤ) → BeginsSo s come.took old y → head_now s old.at.index (present_blocks old) ≡ head_for s (image_blocks s y) old.at.index
   head_is y begins =
@@ -62,9 +62,9 @@ module _ (s : Setting) (is_bare : IsBare s) (column : ℕ) (before : Option Segm
   pub text_out : {r : Outside} (new : Work) (head : SegmentHead) → PresentOut s column before q r old new head → HasCome s column (Some head) p r new
   text_out new head out =
       let rows : raster_rows s new ≡ raster_rows s old = ap (λ n. min n s.rows) out.rows in
-      let text = bare_text before head (present_blocks old) in
+      let text = bare_text s.book before head (present_blocks old) in
       let same : (y : ℕ → ℕ → ℤ) → BeginsSo s come.took new y → BeginsSo s come.took old y = λ y begins. subst (λ n. SameWithin n s.width (image_of s come.took) y) rows begins in
-      let text_now : text ≡ bare_text before (head_now s old.at.index (present_blocks old)) (present_blocks old) = ap (λ h. bare_text before h (present_blocks old)) out.out.is_head in
+      let text_now : text ≡ bare_text s.book before (head_now s old.at.index (present_blocks old)) (present_blocks old) = ap (λ h. bare_text s.book before h (present_blocks old)) out.out.is_head in
       record {
         at = out.at;
         took = come.took;
@@ -85,7 +85,7 @@ module _ (s : Setting) (is_bare : IsBare s) (column : ℕ) (before : Option Segm
 
   -- a prefix of the text is one of the bare stream
   cut_prefix : (some : ℕ) (y : ℕ → ℕ → ℤ) → BeginsSo s come.took old y →
-      (n : ℕ) × (come.gave ++ take some (bare_text before (head_now s old.at.index (present_blocks old)) (present_blocks old)) ≡ take n (bare s y))
+      (n : ℕ) × (come.gave ++ take some (bare_text s.book before (head_now s old.at.index (present_blocks old)) (present_blocks old)) ≡ take n (bare s y))
   cut_prefix some y begins =
       let all = image_blocks s y in
       let first = first_texts s all old.at.index in
@@ -94,7 +94,7 @@ module _ (s : Setting) (is_bare : IsBare s) (column : ℕ) (before : Option Segm
       let m = min some (length text) in
       let whole : bare s y ≡ first ++ (text ++ rest.0) = rest.1 ∙ ap (λ l. l ++ rest.0) (first_texts-more s all old.at.index) ∙ append_assoc first text rest.0 in (
         length first + m,
-        ap (λ g. g ++ take some (bare_text before (head_now s old.at.index (present_blocks old)) (present_blocks old))) (come.given y begins)
+        ap (λ g. g ++ take some (bare_text s.book before (head_now s old.at.index (present_blocks old)) (present_blocks old))) (come.given y begins)
             ∙ ap (λ t. first ++ take some t) (text_is y begins)
             ∙ ap (λ l. first ++ l) (sym (take_min some text) ∙ sym (take-append-le m text rest.0 (omega arith)))
             ∙ sym (take-append-add first (text ++ rest.0) m)
@@ -106,7 +106,7 @@ module _ (s : Setting) (is_bare : IsBare s) (column : ℕ) (before : Option Segm
       let all = tall s is_bare in
       record {
         took = come.took;
-        gave = come.gave ++ take cut.cut.some (bare_text before (head_now s old.at.index (present_blocks old)) (present_blocks old));
+        gave = come.gave ++ take cut.cut.some (bare_text s.book before (head_now s old.at.index (present_blocks old)) (present_blocks old));
         since = since_out come.since cut.cut.out;
         answer = (
           rose_since come.since.faults.writes cut.cut.rose,

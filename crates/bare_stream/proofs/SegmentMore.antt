@@ -7,6 +7,7 @@ use Rattle.std.proofs.lemmas.List.{append-nil, take-append-le}
 use Rattle.std.proofs.Math.Seq.{take-length}
 use Rattle.port_122.specs.Outside.{Outside, Exchange, NoRead}
 use Rattle.port_122.proofs.Stretches.{since_out, since_weaker}
+use Rattle.base_122.specs.declared.book.Book.{Book}
 use Rattle.base_122.specs.declared.geometry.Geometry.{Geometry}
 use Rattle.segment_defs.specs.declared.head.SegmentHead.{SegmentHead}
 use Rattle.bare_text.specs.declared.parts.PartsInForce.{PartsInForce}
@@ -122,14 +123,14 @@ module _ {X : Type 0} (outside : X → Outside) (cap : ℕ) (start : Outside) (r
 longer : (index : ℕ) (x : List ℕ) (texts : List (List ℕ)) → index + length (x ∷ texts) ≡ index + 1 + length texts
 longer index x texts = let size : length (x ∷ texts) ≡ length texts + 1 = omega arith in omega (arith, size)
 
-pub are_more : (first : SegmentHead) (before parts after : PartsInForce) (index : ℕ) (texts : List (List ℕ)) (blocks : List (List (List ℤ))) (t : List ℕ) (w : List (List ℤ)) → AreTexts first before index texts blocks (λ b. b ≡ parts) →
-    AgreeingText first parts (index + length texts) t w (λ head now. (head.last ≡ false) × (now ≡ after)) → AreTexts first before index (texts ++ t ∷ []) (blocks ++ w ∷ []) (λ b. b ≡ after)
-are_more first before parts after index [] [] t w are next =
-    subst (λ n. AgreeingText first before n t w (λ head now. (head.last ≡ false) × (now ≡ after))) (let e : index + 0 ≡ index = omega arith in e)
-    (subst (λ p. AgreeingText first p (index + 0) t w (λ head now. (head.last ≡ false) × (now ≡ after))) (sym are) next)
-are_more first before parts after index [] (b ∷ blocks) t w are next = absurd are
-are_more first before parts after index (x ∷ texts) [] t w are next = absurd are
-are_more first before parts after index (x ∷ texts) (b ∷ blocks) t w are next =
+pub are_more : (book : Book) (first : SegmentHead) (before parts after : PartsInForce) (index : ℕ) (texts : List (List ℕ)) (blocks : List (List (List ℤ))) (t : List ℕ) (w : List (List ℤ)) → AreTexts book first before index texts blocks (λ b. b ≡ parts) →
+    AgreeingText book first parts (index + length texts) t w (λ head now. (head.last ≡ false) × (now ≡ after)) → AreTexts book first before index (texts ++ t ∷ []) (blocks ++ w ∷ []) (λ b. b ≡ after)
+are_more book first before parts after index [] [] t w are next =
+    subst (λ n. AgreeingText book first before n t w (λ head now. (head.last ≡ false) × (now ≡ after))) (let e : index + 0 ≡ index = omega arith in e)
+    (subst (λ p. AgreeingText book first p (index + 0) t w (λ head now. (head.last ≡ false) × (now ≡ after))) (sym are) next)
+are_more book first before parts after index [] (b ∷ blocks) t w are next = absurd are
+are_more book first before parts after index (x ∷ texts) [] t w are next = absurd are
+are_more book first before parts after index (x ∷ texts) (b ∷ blocks) t w are next =
     let count : index + length (x ∷ texts) ≡ index + 1 + length texts = longer index x texts in
     record {
       head = are.head;
@@ -138,25 +139,25 @@ are_more first before parts after index (x ∷ texts) (b ∷ blocks) t w are nex
       agrees = are.agrees;
       goes_on = (
         are.goes_on.0,
-        are_more first are.after parts after (index + 1) texts blocks t w are.goes_on.1 (subst (λ n. AgreeingText first parts n t w (λ head now. (head.last ≡ false) × (now ≡ after))) count next),
+        are_more book first are.after parts after (index + 1) texts blocks t w are.goes_on.1 (subst (λ n. AgreeingText book first parts n t w (λ head now. (head.last ≡ false) × (now ≡ after))) count next),
       );
     }
 
-pub stream_of : (first : SegmentHead) (g : Geometry) (before parts : PartsInForce) (index : ℕ) (texts : List (List ℕ)) (blocks : List (List (List ℤ))) (t : List ℕ) (w : List (List ℤ)) → AreTexts first before index texts blocks (λ b. b ≡ parts) →
-    AgreeingText first parts (index + length texts) t w (λ head now. (head.last ≡ true) × (g ≡ geometry_at first (index + length texts) head)) → TextsFrom first g before index (concat (texts ++ t ∷ [])) (blocks ++ w ∷ [])
-stream_of first g before parts index [] [] t w are next =
+pub stream_of : (book : Book) (first : SegmentHead) (g : Geometry) (before parts : PartsInForce) (index : ℕ) (texts : List (List ℕ)) (blocks : List (List (List ℤ))) (t : List ℕ) (w : List (List ℤ)) → AreTexts book first before index texts blocks (λ b. b ≡ parts) →
+    AgreeingText book first parts (index + length texts) t w (λ head now. (head.last ≡ true) × (g ≡ geometry_at first (index + length texts) head)) → TextsFrom book first g before index (concat (texts ++ t ∷ [])) (blocks ++ w ∷ [])
+stream_of book first g before parts index [] [] t w are next =
     let none : index + 0 ≡ index = omega arith in
-    let here : AgreeingText first before index t w (λ head now. (head.last ≡ true) × (g ≡ geometry_at first index head)) =
-    subst (λ n. AgreeingText first before n t w (λ head now. (head.last ≡ true) × (g ≡ geometry_at first n head))) none
-    (subst (λ p. AgreeingText first p (index + 0) t w (λ head now. (head.last ≡ true) × (g ≡ geometry_at first (index + 0) head))) (sym are) next) in
+    let here : AgreeingText book first before index t w (λ head now. (head.last ≡ true) × (g ≡ geometry_at first index head)) =
+    subst (λ n. AgreeingText book first before n t w (λ head now. (head.last ≡ true) × (g ≡ geometry_at first n head))) none
+    (subst (λ p. AgreeingText book first p (index + 0) t w (λ head now. (head.last ≡ true) × (g ≡ geometry_at first (index + 0) head))) (sym are) next) in
     record { text = t; rest = []; head = here.head; after = here.after; parts = refl; is = here.is; agrees = here.agrees; goes_on = (here.goes_on.0, refl, here.goes_on.1) }
-stream_of first g before parts index [] (b ∷ blocks) t w are next = absurd are
-stream_of first g before parts index (x ∷ texts) [] t w are next = absurd are
-stream_of first g before parts index (x ∷ texts) (b ∷ blocks) t w are next =
+stream_of book first g before parts index [] (b ∷ blocks) t w are next = absurd are
+stream_of book first g before parts index (x ∷ texts) [] t w are next = absurd are
+stream_of book first g before parts index (x ∷ texts) (b ∷ blocks) t w are next =
     let count : index + length (x ∷ texts) ≡ index + 1 + length texts = longer index x texts in
-    let later = stream_of first g are.after parts (index + 1) texts blocks t w are.goes_on.1 (subst (λ n. AgreeingText first parts n t w (λ head now. (head.last ≡ true) × (g ≡ geometry_at first n head))) count next) in
+    let later = stream_of book first g are.after parts (index + 1) texts blocks t w are.goes_on.1 (subst (λ n. AgreeingText book first parts n t w (λ head now. (head.last ≡ true) × (g ≡ geometry_at first n head))) count next) in
     by blocks later
   where
-    by : (blocks : List (List (List ℤ))) → TextsFrom first g are.after (index + 1) (concat (texts ++ t ∷ [])) (blocks ++ w ∷ []) → TextsFrom first g before index (x ++ concat (texts ++ t ∷ [])) (b ∷ (blocks ++ w ∷ []))
+    by : (blocks : List (List (List ℤ))) → TextsFrom book first g are.after (index + 1) (concat (texts ++ t ∷ [])) (blocks ++ w ∷ []) → TextsFrom book first g before index (x ++ concat (texts ++ t ∷ [])) (b ∷ (blocks ++ w ∷ []))
     by [] later = record { text = x; rest = concat (texts ++ t ∷ []); head = are.head; after = are.after; parts = refl; is = are.is; agrees = are.agrees; goes_on = (are.goes_on.0, later) }
     by (y ∷ blocks) later = record { text = x; rest = concat (texts ++ t ∷ []); head = are.head; after = are.after; parts = refl; is = are.is; agrees = are.agrees; goes_on = (are.goes_on.0, later) }

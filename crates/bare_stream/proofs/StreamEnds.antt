@@ -4,7 +4,7 @@ use Rattle.std.specs.Prelude.{Result, Ok}
 use Rattle.std.proofs.lemmas.List.{append-nil, append_cancel_left}
 use Rattle.base_122.specs.declared.geometry.Geometry.{Geometry}
 use Rattle.bit_pipe.specs.declared.fault.Part.{Part}
-use Rattle.plane_defs.specs.Profile.{profile}
+use Rattle.base_122.specs.declared.book.Book.{Book}
 use Rattle.segment_defs.specs.declared.head.SegmentHead.{SegmentHead}
 use Rattle.segment_defs.specs.declared.fault.HeadFault.{HeadFault}
 use Rattle.segment_defs.specs.Head.{IsHead}
@@ -35,15 +35,15 @@ reads head = Ok head
 pub ok_one : (g h : SegmentHead) → reads g ≡ reads h → g ≡ h
 ok_one g h e = cc
 
-module _ (heads : BareHeadsEndThere) (items : ItemsEndThere) where
+module _ (heads : BareHeadsEndThere) (items : ItemsEndThere) (book : Book) where
   -- octets after a head hold items of one length
-  same_items : (head : SegmentHead) (size : ℕ) (a b x y : List ℕ) (v w : List (List ℤ)) (p q : Part) → IsHead head → HoldsItems profile head size a v p → HoldsItems profile head size b w q → a ++ x ≡ b ++ y → a ≡ b
+  same_items : (head : SegmentHead) (size : ℕ) (a b x y : List ℕ) (v w : List (List ℤ)) (p q : Part) → IsHead head → HoldsItems book head size a v p → HoldsItems book head size b w q → a ++ x ≡ b ++ y → a ≡ b
   same_items head size a b x y v w p q fits first second e = elim (two_fronts a b x y e) [
     | inl longer ↦
-        let none = items.no_prefix profile head size a longer.0 v w p q fits first (subst (λ l. HoldsItems profile head size l w q) longer.1 second) in
+        let none = items.no_prefix book head size a longer.0 v w p q fits first (subst (λ l. HoldsItems book head size l w q) longer.1 second) in
         sym (longer.1 ∙ ap (λ l. a ++ l) none ∙ append-nil a)
     | inr shorter ↦
-        let none = items.no_prefix profile head size b shorter.0 w v q p fits second (subst (λ l. HoldsItems profile head size l v p) shorter.1 first) in
+        let none = items.no_prefix book head size b shorter.0 w v q p fits second (subst (λ l. HoldsItems book head size l v p) shorter.1 first) in
         shorter.1 ∙ ap (λ l. b ++ l) none ∙ append-nil b
   ]
 
@@ -54,7 +54,7 @@ module _ (heads : BareHeadsEndThere) (items : ItemsEndThere) where
     pub blocks : v ≡ w
     pub after : a ≡ b
 
-  pub one_text : (before : PartsInForce) (s t x y : List ℕ) (g h : SegmentHead) (v w : List (List ℤ)) (a b : PartsInForce) → IsText before s g v a → IsText before t h w b → s ++ x ≡ t ++ y →
+  pub one_text : (before : PartsInForce) (s t x y : List ℕ) (g h : SegmentHead) (v w : List (List ℤ)) (a b : PartsInForce) → IsText book before s g v a → IsText book before t h w b → s ++ x ≡ t ++ y →
       SameText s t g h v w a b
   one_text before s t x y g h v w a b first second e =
       let spread : first.front ++ (first.rest ++ x) ≡ second.front ++ (second.rest ++ y) =
@@ -63,13 +63,13 @@ module _ (heads : BareHeadsEndThere) (items : ItemsEndThere) where
       let head : g ≡ h = ok_one g h (sym first.read ∙ ap (bare_head_read before) front ∙ second.read) in
       let later : first.rest ++ x ≡ second.rest ++ y = append_cancel_left second.front (first.rest ++ x) (second.rest ++ y) (ap (λ l. l ++ (first.rest ++ x)) (sym front) ∙ spread) in
       let fits = heads.fits before first.front g first.read in
-      let held : HoldsItems profile g (length first.front) second.rest w second.part =
-      subst (λ k. HoldsItems profile k (length first.front) second.rest w second.part) (sym head) (subst (λ l. HoldsItems profile h (length l) second.rest w second.part) (sym front) second.holds) in
+      let held : HoldsItems book g (length first.front) second.rest w second.part =
+      subst (λ k. HoldsItems book k (length first.front) second.rest w second.part) (sym head) (subst (λ l. HoldsItems book h (length l) second.rest w second.part) (sym front) second.holds) in
       let rest = same_items g (length first.front) first.rest second.rest x y v w first.part second.part fits first.holds held later in
       record {
         text = first.parts ∙ ap (λ l. l ++ first.rest) front ∙ ap (λ l. second.front ++ l) rest ∙ sym second.parts;
         head = head;
-        blocks = items.one profile g (length first.front) first.rest v w first.part second.part fits first.holds (subst (λ l. HoldsItems profile g (length first.front) l w second.part) (sym rest) held);
+        blocks = items.one book g (length first.front) first.rest v w first.part second.part fits first.holds (subst (λ l. HoldsItems book g (length first.front) l w second.part) (sym rest) held);
         after = first.force ∙ ap (parts_after before) front ∙ sym second.force;
       }
 
@@ -80,8 +80,8 @@ module _ (heads : BareHeadsEndThere) (items : ItemsEndThere) where
     pub blocks : v ≡ w
 
   -- a text, and what follows it
-  module _ (first : SegmentHead) (before : PartsInForce) (index : ℕ) (octets more : List ℕ) (v w : List (List ℤ)) (P Q : SegmentHead → PartsInForce → List ℕ → Type 0) (a : TextThen first before index octets v P)
-      (b : TextThen first before index (octets ++ more) w Q) where
+  module _ (first : SegmentHead) (before : PartsInForce) (index : ℕ) (octets more : List ℕ) (v w : List (List ℤ)) (P Q : SegmentHead → PartsInForce → List ℕ → Type 0) (a : TextThen book first before index octets v P)
+      (b : TextThen book first before index (octets ++ more) w Q) where
     joined : a.text ++ (a.rest ++ more) ≡ b.text ++ b.rest
     joined = sym (append_assoc a.text a.rest more) ∙ ap (λ l. l ++ more) (sym a.parts) ∙ b.parts
 
@@ -99,7 +99,7 @@ module _ (heads : BareHeadsEndThere) (items : ItemsEndThere) where
   clash b e f = cc
 
   one_stream : (first : SegmentHead) (g h : Geometry) (before : PartsInForce) (index : ℕ) (octets more : List ℕ) (v w : List (List (List ℤ))) →
-      TextsFrom first g before index octets v → TextsFrom first h before index (octets ++ more) w → SameStream more g h v w
+      TextsFrom book first g before index octets v → TextsFrom book first h before index (octets ++ more) w → SameStream more g h v w
   one_stream first g h before index octets more [] w a b = absurd a
   one_stream first g h before index octets more (v ∷ []) [] a b = absurd b
   one_stream first g h before index octets more (v ∷ (v' ∷ vs)) [] a b = absurd b
@@ -121,7 +121,7 @@ module _ (heads : BareHeadsEndThere) (items : ItemsEndThere) where
       let s = same first before index octets more v w _ _ a b in
       let l = later first before index octets more v w _ _ a b in
       let next = one_stream first g h a.after (index + 1) a.rest more (v' ∷ vs) (w' ∷ ws) a.goes_on.1
-      (subst (λ p. TextsFrom first h p (index + 1) (a.rest ++ more) (w' ∷ ws)) (sym s.after) (subst (λ o. TextsFrom first h b.after (index + 1) o (w' ∷ ws)) (sym l) b.goes_on.1)) in
+      (subst (λ p. TextsFrom book first h p (index + 1) (a.rest ++ more) (w' ∷ ws)) (sym s.after) (subst (λ o. TextsFrom book first h b.after (index + 1) o (w' ∷ ws)) (sym l) b.goes_on.1)) in
       record {
         none = next.none;
         geometry = next.geometry;
@@ -134,14 +134,14 @@ module _ (heads : BareHeadsEndThere) (items : ItemsEndThere) where
       let front = heads.one none_in_force x.front y.front (x.rest ++ more) y.rest a b x.read y.read x.whole y.whole joined in
       ok_one a b (sym x.read ∙ ap (λ l. bare_head_read none_in_force l) front ∙ y.read)
 
-  both : (octets more : List ℕ) (g h : Geometry) (v w : List (List (List ℤ))) → BareStream octets g v → BareStream (octets ++ more) h w → SameStream more g h v w
+  pub both : (octets more : List ℕ) (g h : Geometry) (v w : List (List (List ℤ))) → BareStream book octets g v → BareStream book (octets ++ more) h w → SameStream more g h v w
   both octets more g h v w a b =
       let first = one_first octets more a.first b.first a.starts b.starts in
-      one_stream a.first g h none_in_force 0 octets more v w a.texts (subst (λ k. TextsFrom k h none_in_force 0 (octets ++ more) w) (sym first) b.texts)
+      one_stream a.first g h none_in_force 0 octets more v w a.texts (subst (λ k. TextsFrom book k h none_in_force 0 (octets ++ more) w) (sym first) b.texts)
 
-  pub streams_end_there : BareStreamsEndThere
-  streams_end_there = record {
-    no_prefix = λ octets more g h v w a b. (both octets more g h v w a b).none;
-    geometry = λ octets g h v w a b. (both octets [] g h v w a (subst (λ o. BareStream o h w) (sym (append-nil octets)) b)).geometry;
-    blocks = λ octets g h v w a b. (both octets [] g h v w a (subst (λ o. BareStream o h w) (sym (append-nil octets)) b)).blocks;
-  }
+pub streams_end_there : BareHeadsEndThere → ItemsEndThere → BareStreamsEndThere
+streams_end_there heads items = record {
+  no_prefix = λ book octets more g h v w a b. (both heads items book octets more g h v w a b).none;
+  geometry = λ book octets g h v w a b. (both heads items book octets [] g h v w a (subst (λ o. BareStream book o h w) (sym (append-nil octets)) b)).geometry;
+  blocks = λ book octets g h v w a b. (both heads items book octets [] g h v w a (subst (λ o. BareStream book o h w) (sym (append-nil octets)) b)).blocks;
+}

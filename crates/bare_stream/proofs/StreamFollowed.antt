@@ -8,6 +8,7 @@ use Rattle.std.proofs.lemmas.List.{append_cancel_left}
 use Rattle.std.proofs.lemmas.Nat.{div-add-mod'}
 use Rattle.std.proofs.Math.Nat.{mul-le-mul_left, mul-le-mul_right}
 use Rattle.base_122.specs.Sizes.{block_count}
+use Rattle.base_122.specs.declared.book.Book.{Book}
 use Rattle.base_122.specs.declared.geometry.Geometry.{Geometry}
 use Rattle.base_122.proofs.SizeBounds.{three-le-block_count}
 use Rattle.segment_defs.specs.declared.head.SegmentHead.{SegmentHead}
@@ -23,11 +24,11 @@ use Rattle.bare_stream.proofs.StreamEnds.{one_text, clash}
 
 -- ---- what is left of a stream
 
-module _ (first : SegmentHead) (g : Geometry) where
+module _ (book : Book) (first : SegmentHead) (g : Geometry) where
   -- the texts after those that were read
   pub record Later (before : PartsInForce) (index : ℕ) (octets : List ℕ) (Continues : PartsInForce → Type 0) : Type 0 where
     pub blocks : List (List (List ℤ))
-    pub from : TextsFrom first g before index octets blocks
+    pub from : TextsFrom book first g before index octets blocks
     pub so : Continues before
 
   -- all blocks of the stream, by its height
@@ -46,37 +47,37 @@ module _ (first : SegmentHead) (g : Geometry) where
     pub blocks : List (List ℤ)
     pub after : PartsInForce
     pub parts : octets ≡ text ++ rest
-    pub is : IsText before text head blocks after
+    pub is : IsText book before text head blocks after
     pub agrees : AgreesWith first index head
     pub few : pixels_at first index head ≤ g.width * g.rows
 
 -- ---- how the reader continues
 
-module _ (heads : BareHeadsEndThere) (items : ItemsEndThere) (first : SegmentHead) (g : Geometry) (broad : 17 ≤ first.image.width) where
+module _ (heads : BareHeadsEndThere) (items : ItemsEndThere) (book : Book) (first : SegmentHead) (g : Geometry) (broad : 17 ≤ first.image.width) where
   abbrev columns : ℕ
   columns = block_count first.image.width
 
   -- ---- after some texts
 
   pub followed : (Continues : PartsInForce → Type 0) (before : PartsInForce) (index : ℕ) (octets rest : List ℕ) (w : List (List (List ℤ))) (texts : List (List ℕ)) (blocks : List (List (List ℤ))) →
-      TextsFrom first g before index octets w → AreTexts first before index texts blocks Continues → octets ≡ concat texts ++ rest → (after : PartsInForce) × Later first g after (index + length texts) rest Continues
+      TextsFrom book first g before index octets w → AreTexts book first before index texts blocks Continues → octets ≡ concat texts ++ rest → (after : PartsInForce) × Later book first g after (index + length texts) rest Continues
   followed Continues before index octets rest w [] [] a b e =
       let none : index ≡ index + 0 = omega arith in
-      (before, record { blocks = w; from = subst (λ n. TextsFrom first g before n rest w) none (subst (λ o. TextsFrom first g before index o w) e a); so = b })
+      (before, record { blocks = w; from = subst (λ n. TextsFrom book first g before n rest w) none (subst (λ o. TextsFrom book first g before index o w) e a); so = b })
   followed Continues before index octets rest w [] (c ∷ blocks) a b e = absurd b
   followed Continues before index octets rest w (t ∷ texts) [] a b e = absurd b
   followed Continues before index octets rest [] (t ∷ texts) (c ∷ blocks) a b e = absurd a
   followed Continues before index octets rest (v ∷ []) (t ∷ texts) (c ∷ blocks) a b e =
       let joined : a.text ++ a.rest ≡ t ++ (concat texts ++ rest) = sym a.parts ∙ e ∙ append_assoc t (concat texts) rest in
-      let same = one_text heads items before a.text t a.rest (concat texts ++ rest) a.head b.head v c a.after b.after a.is b.is joined in
-      absurd (clash heads items b.head.last (ap (λ h. h.last) (sym same.head) ∙ a.goes_on.0) b.goes_on.0)
+      let same = one_text heads items book before a.text t a.rest (concat texts ++ rest) a.head b.head v c a.after b.after a.is b.is joined in
+      absurd (clash heads items book b.head.last (ap (λ h. h.last) (sym same.head) ∙ a.goes_on.0) b.goes_on.0)
   followed Continues before index octets rest (v ∷ (v' ∷ vs)) (t ∷ texts) (c ∷ blocks) a b e =
       let joined : a.text ++ a.rest ≡ t ++ (concat texts ++ rest) = sym a.parts ∙ e ∙ append_assoc t (concat texts) rest in
-      let same = one_text heads items before a.text t a.rest (concat texts ++ rest) a.head b.head v c a.after b.after a.is b.is joined in
+      let same = one_text heads items book before a.text t a.rest (concat texts ++ rest) a.head b.head v c a.after b.after a.is b.is joined in
       let later : a.rest ≡ concat texts ++ rest = append_cancel_left t a.rest (concat texts ++ rest) (ap (λ l. l ++ a.rest) (sym same.text) ∙ joined) in
-      let next = followed Continues a.after (index + 1) a.rest rest (v' ∷ vs) texts blocks a.goes_on.1 (subst (λ p. AreTexts first p (index + 1) texts blocks Continues) (sym same.after) b.goes_on.1) later in
+      let next = followed Continues a.after (index + 1) a.rest rest (v' ∷ vs) texts blocks a.goes_on.1 (subst (λ p. AreTexts book first p (index + 1) texts blocks Continues) (sym same.after) b.goes_on.1) later in
       let count : index + 1 + length texts ≡ index + length (t ∷ texts) = omega arith in
-      (next.0, subst (λ n. Later first g next.0 n rest Continues) count next.1)
+      (next.0, subst (λ n. Later book first g next.0 n rest Continues) count next.1)
 
   -- ---- the next text
 
@@ -94,7 +95,7 @@ module _ (heads : BareHeadsEndThere) (items : ItemsEndThere) (first : SegmentHea
           below : (p q : ℕ) → (q < p → ⊥) → p ≤ q
           below p q none = omega arith
 
-  all_later : (before : PartsInForce) (index : ℕ) (octets : List ℕ) (v : List (List ℤ)) (w : List (List (List ℤ))) → TextsFrom first g before index octets (v ∷ w) → (n : ℕ) × HasAll first g index n × NextText first g before index octets
+  all_later : (before : PartsInForce) (index : ℕ) (octets : List ℕ) (v : List (List ℤ)) (w : List (List (List ℤ))) → TextsFrom book first g before index octets (v ∷ w) → (n : ℕ) × HasAll book first g index n × NextText book first g before index octets
   all_later before index octets v [] a =
       let is = a.is in
       let last = ends first index a.head a.agrees a.goes_on.0 in
@@ -154,6 +155,6 @@ module _ (heads : BareHeadsEndThere) (items : ItemsEndThere) (first : SegmentHea
         },
       )
 
-  pub next_text : (before : PartsInForce) (index : ℕ) (octets : List ℕ) (w : List (List (List ℤ))) → TextsFrom first g before index octets w → NextText first g before index octets
+  pub next_text : (before : PartsInForce) (index : ℕ) (octets : List ℕ) (w : List (List (List ℤ))) → TextsFrom book first g before index octets w → NextText book first g before index octets
   next_text before index octets [] a = absurd a
   next_text before index octets (v ∷ w) a = (all_later before index octets v w a).2

@@ -76,7 +76,7 @@ module _ {X : Type 0} (outside : X → Outside) (wish : DecodeWish) (start : Out
       still_told (outside s.port.now).rest now.rest went.took here.0 went.since.rest here.1
 
   -- the stream, and what follows
-  stream_then : (octets : List ℕ) → Comes (tail_of outside s) (tail_of outside t) octets → Told start (StreamThen took (Some r) (octets ++ waiting t) w.index ended.g)
+  stream_then : (octets : List ℕ) → Comes (tail_of outside s) (tail_of outside t) octets → Told start (StreamThen wish.book took (Some r) (octets ++ waiting t) w.index ended.g)
   stream_then octets came all told =
       let here = still_told start.rest (outside s.port.now).rest ended.took all ended.since.rest told in
       let same = came_is outside s t went octets here.0 here.1 came in (
@@ -88,8 +88,8 @@ module _ {X : Type 0} (outside : X → Outside) (wish : DecodeWish) (start : Out
         ended.index,
       )
 
-  begins : Comes (tail_of outside s) (tail_of outside t) [] → Told start (BeginsWith took (Some r))
-  begins came all told = subst (λ e. BeginsBy e took r) (sym ended.ended) ([] ++ waiting t, w.index, stream_then [] came all told)
+  begins : Comes (tail_of outside s) (tail_of outside t) [] → Told start (BeginsWith wish.book took (Some r))
+  begins came all told = subst (λ e. BeginsBy wish.book e took r) (sym ended.ended) ([] ++ waiting t, w.index, stream_then [] came all told)
 
   pub read_failed : GivesOctet (source_of outside) (Err in_faults.ReadFault) s t → DecodesBare wish start now (Err ReadFault)
   read_failed x = ended_so (Err ReadFault) ended.gave_is (rose_since ended.since.faults.reads x.ends.1) (begins x.ends.0)
@@ -115,7 +115,7 @@ module _ {X : Type 0} (outside : X → Outside) (wish : DecodeWish) (start : Out
       let some = over.some in
       let size = total in
       let none : [] ++ waiting t ≡ [] = over.none in
-      (w.index, subst (λ l. StreamThen took (Some r) l w.index ended.g) none (stream_then [] x.ends.0 all told), ended.few, omega (arith, some, size)))
+      (w.index, subst (λ l. StreamThen wish.book took (Some r) l w.index ended.g) none (stream_then [] x.ends.0 all told), ended.few, omega (arith, some, size)))
 
 module _ {X : Type 0} (outside : X → Outside) (wish : DecodeWish) (start : Outside) (s t : PortIn X) (w : Walk) (ended : HasEnded outside wish start s w) where
   pub end_faulted : (fault : BareFault) → ExpectsEnd (source_of outside) w.index (Err fault) s t → DecodesBare wish start (outside t.port.now) (Err fault)

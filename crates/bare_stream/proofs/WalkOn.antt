@@ -4,6 +4,7 @@ use Rattle.std.specs.Prelude.{Bool, true, false}
 use Rattle.std.proofs.lemmas.Bool.{cases_lt}
 use Rattle.port_122.specs.Outside.{Outside}
 use Rattle.base_122.specs.Sizes.{first_block, total_blocks}
+use Rattle.base_122.specs.declared.book.Book.{Book}
 use Rattle.segment_defs.specs.declared.head.SegmentHead.{SegmentHead}
 use Rattle.bare_text.specs.declared.parts.PartsInForce.{PartsInForce}
 use Rattle.bare_text.specs.declared.read.BareHead.{BareHead}
@@ -48,8 +49,8 @@ module _ (w v : Walk) (same : v ≡ record w { room = v.room }) where
   pub text_fits : (0 < w.index → w.first.last ≡ false) → 0 < v.index → v.first.last ≡ false
   text_fits fits lt = ap (λ (x : Walk). x.first.last) same ∙ fits (let index = ap (λ (x : Walk). x.index) same in omega (arith, lt, index))
 
-  pub text_head : (start : Outside) (r : SegmentsRead) (before : PartsInForce) (front : List ℕ) (read : BareHead) → Told start (IsHeadOf r before w.parts front read) → Told start (IsHeadOf r before v.parts front read)
-  text_head start r before front read head = subst (λ p. Told start (IsHeadOf r before p front read)) (sym (ap (λ (x : Walk). x.parts) same)) head
+  pub text_head : (book : Book) (start : Outside) (r : SegmentsRead) (before : PartsInForce) (front : List ℕ) (read : BareHead) → Told start (IsHeadOf book r before w.parts front read) → Told start (IsHeadOf book r before v.parts front read)
+  text_head book start r before front read head = subst (λ p. Told start (IsHeadOf book r before p front read)) (sym (ap (λ (x : Walk). x.parts) same)) head
 
 -- ---- the next head was read
 

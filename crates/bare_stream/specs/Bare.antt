@@ -14,7 +14,7 @@ head_before s all (suc index) = Some (head_for s all index)
 
 -- the text of the segment of this index
 abbrev pub segment_octets : Setting → List (List ℤ) → (index : ℕ) → List ℕ
-segment_octets s all index = bare_text (head_before s all index) (head_for s all index) (segment_of s all index)
+segment_octets s all index = bare_text s.book (head_before s all index) (head_for s all index) (segment_of s all index)
 
 -- the texts of the first n segments
 unfoldable pub first_texts : Setting → List (List ℤ) → (n : ℕ) → List ℕ

@@ -2,10 +2,10 @@
 use Rattle.std.specs.Prelude.{◌≡◌, ◌≤◌, ◌<◌, ◌⊎◌, ℕ, ◌*◌, List, [], ◌∷◌, ◌++◌, length, take, unwrap_or, Option, None, Some, Result, Ok, Err}
 use Rattle.std.specs.List.{concat}
 use Rattle.port_122.specs.Outside.{Outside, Exchange, AtEnd, Rose}
+use Rattle.base_122.specs.declared.book.Book.{Book}
 use Rattle.base_122.specs.declared.geometry.Geometry.{Geometry}
 use Rattle.base_122.specs.declared.wish.DecodeWish.{DecodeWish}
 use Rattle.item_defs.specs.Items.{Refusal, bad_option, bad_delta, bad_depth, false_flag}
-use Rattle.plane_defs.specs.Profile.{profile}
 use Rattle.segment_defs.specs.declared.head.SegmentHead.{SegmentHead}
 use Rattle.segment_defs.specs.declared.fault.HeadFault.{HeadFault}
 use Rattle.segment_defs.specs.declared.fault.HeadFault.TheVariants.{HeadShort, MissingPart}
@@ -54,23 +54,23 @@ pub record MayFollow (pixels : ℕ) (first : SegmentHead) (index : ℕ) (head : 
   pub few : pixels_at first index head ≤ pixels
 
 -- after a head that may follow there are octets of items, of which one is refused by this name
-abbrev pub ItemRefused : (pixels : ℕ) → (first : Option SegmentHead) → PartsInForce → (index : ℕ) → List ℕ → Refusal → Type 0
-ItemRefused pixels first before index octets name = HeadThen before octets (λ head size rest.
-    MayFollow pixels (unwrap_or first head) index head × ((items more : List ℕ) × (rest ≡ items ++ more) × RefusesItem profile head size items name))
+abbrev pub ItemRefused : Book → (pixels : ℕ) → (first : Option SegmentHead) → PartsInForce → (index : ℕ) → List ℕ → Refusal → Type 0
+ItemRefused book pixels first before index octets name = HeadThen before octets (λ head size rest.
+    MayFollow pixels (unwrap_or first head) index head × ((items more : List ℕ) × (rest ≡ items ++ more) × RefusesItem book head size items name))
 
 -- The segment of this index, whose octets are the first of these, is refused with this cause. If it is the first one, its head is the
 -- first head.
-abbrev pub Refuses : (pixels : ℕ) → (first : Option SegmentHead) → PartsInForce → (index : ℕ) → List ℕ → (now : Outside) → BareCause → Type 0
-Refuses pixels first before index octets now (Head fault) =
+abbrev pub Refuses : Book → (pixels : ℕ) → (first : Option SegmentHead) → PartsInForce → (index : ℕ) → List ℕ → (now : Outside) → BareCause → Type 0
+Refuses book pixels first before index octets now (Head fault) =
     HeadRefused before octets now fault
     ⊎ HeadThen before octets (λ head size rest. first_refusal (agreement_tests (unwrap_or first head) index head) ≡ Some fault)
-Refuses pixels first before index octets now BadOption = ItemRefused pixels first before index octets bad_option
-Refuses pixels first before index octets now BadDelta = ItemRefused pixels first before index octets bad_delta
-Refuses pixels first before index octets now BadDepth = ItemRefused pixels first before index octets bad_depth
-Refuses pixels first before index octets now FalseFlag = ItemRefused pixels first before index octets false_flag
-Refuses pixels first before index octets now Short =
-    HeadThen before octets (λ head size rest. MayFollow pixels (unwrap_or first head) index head × LacksItems profile head size rest) × AtEnd now
-Refuses pixels first before index octets now Trailing = ⊥
+Refuses book pixels first before index octets now BadOption = ItemRefused book pixels first before index octets bad_option
+Refuses book pixels first before index octets now BadDelta = ItemRefused book pixels first before index octets bad_delta
+Refuses book pixels first before index octets now BadDepth = ItemRefused book pixels first before index octets bad_depth
+Refuses book pixels first before index octets now FalseFlag = ItemRefused book pixels first before index octets false_flag
+Refuses book pixels first before index octets now Short =
+    HeadThen before octets (λ head size rest. MayFollow pixels (unwrap_or first head) index head × LacksItems book head size rest) × AtEnd now
+Refuses book pixels first before index octets now Trailing = ⊥
 
 -- ---- the decoder
 
@@ -81,37 +81,37 @@ first_of first (t ∷ texts) = Some first
 
 -- The octets that were taken are those of the segments that were read, and others; and `Next` holds of the number of these segments, the
 -- parts in force after them and the other octets. Without a first head none was read.
-abbrev pub ReadThen : (took : List ℕ) → Option SegmentsRead → (Option SegmentHead → (index : ℕ) → PartsInForce → List ℕ → Type 0) → Type 0
-ReadThen took None Next = Next None 0 none_in_force took
-ReadThen took (Some r) Next =
-    (r.ended ≡ None) × ((rest : List ℕ) × (took ≡ concat r.texts ++ rest) × BeginsSo r.first r.texts × AreTexts r.first none_in_force 0 r.texts r.blocks (λ before. Next (first_of r.first r.texts) (length r.texts) before rest))
+abbrev pub ReadThen : Book → (took : List ℕ) → Option SegmentsRead → (Option SegmentHead → (index : ℕ) → PartsInForce → List ℕ → Type 0) → Type 0
+ReadThen book took None Next = Next None 0 none_in_force took
+ReadThen book took (Some r) Next =
+    (r.ended ≡ None) × ((rest : List ℕ) × (took ≡ concat r.texts ++ rest) × BeginsSo r.first r.texts × AreTexts book r.first none_in_force 0 r.texts r.blocks (λ before. Next (first_of r.first r.texts) (length r.texts) before rest))
 
 -- the octets that were taken are a bare stream, of which each segment was read, and these
-abbrev pub StreamThen : (took : List ℕ) → Option SegmentsRead → (more : List ℕ) → (index : ℕ) → Geometry → Type 0
-StreamThen took None more index g = ⊥
-StreamThen took (Some r) more index g =
-    (octets : List ℕ) × (took ≡ octets ++ more) × BareStream octets g r.blocks × (r.ended ≡ Some g) × (index ≡ length r.blocks)
+abbrev pub StreamThen : Book → (took : List ℕ) → Option SegmentsRead → (more : List ℕ) → (index : ℕ) → Geometry → Type 0
+StreamThen book took None more index g = ⊥
+StreamThen book took (Some r) more index g =
+    (octets : List ℕ) × (took ≡ octets ++ more) × BareStream book octets g r.blocks × (r.ended ≡ Some g) × (index ≡ length r.blocks)
 
 -- the octets that were taken begin with those of the segments that were read, with the last one or without it
-abbrev pub BeginsBy : (ended : Option Geometry) → (took : List ℕ) → SegmentsRead → Type 0
-BeginsBy None took r = ReadThen took (Some r) (λ first index before rest. Unit {0})
-BeginsBy (Some g) took r = (more : List ℕ) × (index : ℕ) × StreamThen took (Some r) more index g
+abbrev pub BeginsBy : Book → (ended : Option Geometry) → (took : List ℕ) → SegmentsRead → Type 0
+BeginsBy book None took r = ReadThen book took (Some r) (λ first index before rest. Unit {0})
+BeginsBy book (Some g) took r = (more : List ℕ) × (index : ℕ) × StreamThen book took (Some r) more index g
 
-abbrev pub BeginsWith : (took : List ℕ) → Option SegmentsRead → Type 0
-BeginsWith took None = Unit {0}
-BeginsWith took (Some r) = BeginsBy r.ended took r
+abbrev pub BeginsWith : Book → (took : List ℕ) → Option SegmentsRead → Type 0
+BeginsWith book took None = Unit {0}
+BeginsWith book took (Some r) = BeginsBy book r.ended took r
 
 -- The reason for each answer, if the port reports what is left. The answers exclude each other by what was taken, the end and the counts,
 -- except for faults of the port.
 abbrev pub BareReasons : DecodeWish → (now : Outside) → (took : List ℕ) → Option SegmentsRead → Result Geometry BareFault → Type 0
-BareReasons wish now took read (Ok g) = (index : ℕ) × StreamThen took read [] index g × (g.width * g.rows ≤ wish.pixels) × (length took < wish.octets)
-BareReasons wish now took read (Err (Refused index Trailing)) = (octet : ℕ) × (more : List ℕ) × (g : Geometry) × StreamThen took read (octet ∷ more) index g
-BareReasons wish now took read (Err (Refused index cause)) = ReadThen took read (λ first next before rest. (index ≡ next) × Refuses wish.pixels first before index rest now cause)
+BareReasons wish now took read (Ok g) = (index : ℕ) × StreamThen wish.book took read [] index g × (g.width * g.rows ≤ wish.pixels) × (length took < wish.octets)
+BareReasons wish now took read (Err (Refused index Trailing)) = (octet : ℕ) × (more : List ℕ) × (g : Geometry) × StreamThen wish.book took read (octet ∷ more) index g
+BareReasons wish now took read (Err (Refused index cause)) = ReadThen wish.book took read (λ first next before rest. (index ≡ next) × Refuses wish.book wish.pixels first before index rest now cause)
 BareReasons wish now took read (Err (TooManyPixels pixels)) =
-    ReadThen took read (λ first index before rest. HeadThen before rest (λ head size after.
+    ReadThen wish.book took read (λ first index before rest. HeadThen before rest (λ head size after.
     AgreesWith (unwrap_or first head) index head × (pixels ≡ pixels_at (unwrap_or first head) index head) × (wish.pixels < pixels)))
-BareReasons wish now took read (Err LongInput) = (length took ≡ wish.octets) × BeginsWith took read
-BareReasons wish now took read (Err other) = BeginsWith took read
+BareReasons wish now took read (Err LongInput) = (length took ≡ wish.octets) × BeginsWith wish.book took read
+BareReasons wish now took read (Err other) = BeginsWith wish.book took read
 
 -- the rows that the segments that were read determine
 abbrev pub rows_of_read : Option SegmentsRead → List ℕ

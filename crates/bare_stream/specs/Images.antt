@@ -1,10 +1,11 @@
 -- What the bare stream of an image reports, and what a decoder gives for it. (This project's own.)
-use Rattle.std.specs.Prelude.{◌≡◌, ◌<◌, ℕ, ℤ, min, List, [], length, map, slice_index_or, Some}
+use Rattle.std.specs.Prelude.{◌≡◌, ◌<◌, ℕ, ℤ, min, List, [], length, map, slice_index_or, IsTrue, Some}
 use Rattle.std.specs.List.{range_with_len}
 use Rattle.base_122.specs.Setting.{geometry_of}
 use Rattle.base_122.specs.Sizes.{total_blocks}
 use Rattle.base_122.specs.declared.geometry.Geometry.{Geometry}
 use Rattle.base_122.specs.declared.setting.Setting.{Setting}
+use Rattle.plane_defs.specs.Codes.{is_book_sound}
 use Rattle.stream_defs.specs.Output.{head_for, image_blocks, segment_of, segments_of}
 use Rattle.strip_decoder.specs.Containment.{ArePixels}
 use Rattle.strip_decoder.specs.RoundTrip.{SendsAll}
@@ -13,9 +14,10 @@ use Rattle.bare_stream.specs.Bare.{bare, head_before, segment_octets}
 use Rattle.bare_stream.specs.BareStream.{IsText, BareStream}
 use Rattle.bare_stream.specs.Rasters.{IsBare}
 
--- an image of a setting of a bare stream, whose ten weights and whose pixels are in range
+-- an image of a setting of a bare stream, whose book is sound, and whose ten weights and pixels are in range
 pub record IsBareImage (s : Setting) (x : ℕ → ℕ → ℤ) : Type 0 where
   pub setting : IsBare s
+  pub sound : IsTrue (is_book_sound s.book)
   pub weights : length s.weights.shifts ≡ 10
   pub pixels : ArePixels s s.rows x
 
@@ -30,11 +32,11 @@ image_segments s x = map (segment_of s (image_blocks s x)) (range_with_len 0 (se
 -- the text of the segment of this index holds these blocks, by a reader that has read the head before
 abbrev pub IsSegmentText : Setting → List (List ℤ) → (index : ℕ) → List (List ℤ) → Type 0
 IsSegmentText s all index blocks =
-    IsText (in_force (head_before s all index)) (segment_octets s all index) (head_for s all index) blocks (in_force (Some (head_for s all index)))
+    IsText s.book (in_force (head_before s all index)) (segment_octets s all index) (head_for s all index) blocks (in_force (Some (head_for s all index)))
 
 -- The stream of an image reports its geometry and holds these blocks, text by text. If nothing is missing, they are those of the image.
 pub record SaysImage (s : Setting) (x : ℕ → ℕ → ℤ) (w : List (List (List ℤ))) : Type 0 where
-  pub stream : BareStream (bare s x) (bare_geometry s) w
+  pub stream : BareStream s.book (bare s x) (bare_geometry s) w
   pub count : length w ≡ segments_of s
   pub texts : (index : ℕ) → index < segments_of s → IsSegmentText s (image_blocks s x) index (slice_index_or w index [])
   pub exact : SendsAll s → w ≡ image_segments s x
@@ -42,4 +44,4 @@ pub record SaysImage (s : Setting) (x : ℕ → ℕ → ℤ) (w : List (List (Li
 -- The octets that are written for an image are a bare stream, which reports this and nothing else.
 pub record ImagesAreBareStreams : Type 0 where
   pub says : (s : Setting) (x : ℕ → ℕ → ℤ) → IsBareImage s x → (w : List (List (List ℤ))) × SaysImage s x w
-  pub only : (s : Setting) (x : ℕ → ℕ → ℤ) (g : Geometry) (w : List (List (List ℤ))) → IsBareImage s x → BareStream (bare s x) g w → (g ≡ bare_geometry s) × SaysImage s x w
+  pub only : (s : Setting) (x : ℕ → ℕ → ℤ) (g : Geometry) (w : List (List (List ℤ))) → IsBareImage s x → BareStream s.book (bare s x) g w → (g ≡ bare_geometry s) × SaysImage s x w

@@ -3,6 +3,7 @@ use Rattle.std.specs.Prelude.{◌≡◌, ◌≤◌, ◌+◌, ◌<◌, ℕ, ℤ, 
 use Rattle.std.specs.List.{concat}
 use Rattle.port_122.specs.Outside.{Outside, Exchange}
 use Rattle.base_122.specs.Sizes.{first_block}
+use Rattle.base_122.specs.declared.book.Book.{Book}
 use Rattle.base_122.specs.declared.geometry.Geometry.{Geometry}
 use Rattle.stream_defs.specs.Picture.{number_at}
 use Rattle.picture_rows.specs.Fronts.{rows_of}
@@ -30,8 +31,8 @@ pub record HasRead {X : Type 0} (outside : X → Outside) (cap : ℕ) (start : O
   pub left : length took + input.left ≡ cap
 
 -- these parts are in force after the segments, if the port reports what is left
-abbrev pub InForceAfter : (start : Outside) → SegmentsRead → PartsInForce → Type 0
-InForceAfter start r parts = Told start (BeginsSo r.first r.texts × AreTexts r.first none_in_force 0 r.texts r.blocks (λ before. before ≡ parts))
+abbrev pub InForceAfter : Book → (start : Outside) → SegmentsRead → PartsInForce → Type 0
+InForceAfter book start r parts = Told start (BeginsSo r.first r.texts × AreTexts book r.first none_in_force 0 r.texts r.blocks (λ before. before ≡ parts))
 
 -- blocks, counted in raster order, whose first ones have the numbers of these segments
 pub record AreNumbersOf (r : SegmentsRead) (numbers : ℕ → ℕ → ℤ) : Type 0 where

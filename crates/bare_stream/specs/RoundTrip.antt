@@ -29,10 +29,10 @@ ReadsWhole g w gave (Err WriteFault) = Unit {0}
 ReadsWhole g w gave (Err Memory) = Unit {0}
 ReadsWhole g w gave (Err other) = ⊥
 
--- A bare stream within the caps is read whole: it isn't refused.
+-- A bare stream within the caps, with the codes of the book that is wished, is read whole: it isn't refused.
 pub record StreamsAreRead : Type 0 where
   pub read : (wish : DecodeWish) (old new : Outside) (result : Result Geometry BareFault) (octets : List ℕ) (g : Geometry) (w : List (List (List ℤ))) (run : DecodesBare wish old new result) →
-      BareStream octets g w → old.rest ≡ Some octets → IsWithinCaps wish octets g → ReadsWhole g w run.gave result
+      BareStream wish.book octets g w → old.rest ≡ Some octets → IsWithinCaps wish octets g → ReadsWhole g w run.gave result
 
 -- ---- that of an image
 
@@ -49,12 +49,12 @@ AnswersImage s x gave (Err WriteFault) = Unit {0}
 AnswersImage s x gave (Err Memory) = Unit {0}
 AnswersImage s x gave (Err other) = ⊥
 
--- The picture of an image's segments is the image. So a decoder that took the octets that are written for an image, and nothing else, gives
--- its raster, if nothing is missing from them; and if an input is these octets, within the caps, this holds unless the port or the memory
--- fails.
+-- The picture of an image's segments is the image. So a decoder with the book of an image that took the octets that are written for the
+-- image, and nothing else, gives its raster, if nothing is missing from them; and if an input is these octets, within the caps, this holds
+-- unless the port or the memory fails.
 pub record BareRoundTrip : Type 0 where
   pub picture : (s : Setting) (x : ℕ → ℕ → ℤ) → IsBareImage s x → all_rows (bare_geometry s) (image_segments s x) ≡ raster_octets s.depth s.rows s.width x
   pub decoded : (wish : DecodeWish) (old new : Outside) (g : Geometry) (left : List ℕ) (s : Setting) (x : ℕ → ℕ → ℤ) (run : DecodesBare wish old new (Ok g)) →
-      old.rest ≡ Some left → run.took ≡ bare s x → IsBareImage s x → GivesImage s x run.gave g
+      old.rest ≡ Some left → run.took ≡ bare s x → wish.book ≡ s.book → IsBareImage s x → GivesImage s x run.gave g
   pub answered : (wish : DecodeWish) (old new : Outside) (result : Result Geometry BareFault) (s : Setting) (x : ℕ → ℕ → ℤ) (run : DecodesBare wish old new result) →
-      old.rest ≡ Some (bare s x) → IsBareImage s x → IsWithinCaps wish (bare s x) (bare_geometry s) → AnswersImage s x run.gave result
+      old.rest ≡ Some (bare s x) → wish.book ≡ s.book → IsBareImage s x → IsWithinCaps wish (bare s x) (bare_geometry s) → AnswersImage s x run.gave result

@@ -3,6 +3,7 @@ use Rattle.std.specs.Prelude.{◌≡◌, ◌≤◌, ◌<◌, ◌+◌, ◌-◌, �
 use Rattle.std.specs.List.{concat}
 use Rattle.port_122.specs.Outside.{Outside}
 use Rattle.base_122.specs.Sizes.{first_block}
+use Rattle.base_122.specs.declared.book.Book.{Book}
 use Rattle.base_122.specs.declared.geometry.Geometry.{Geometry}
 use Rattle.segment_defs.specs.declared.head.SegmentHead.{SegmentHead}
 use Rattle.stream_defs.specs.Begun.{rows_reached}
@@ -73,21 +74,21 @@ pub record IsPrompt (r : SegmentsRead) (gave : List ℕ) (i j : ℕ) : Type 0 wh
 -- ---- the texts
 
 -- the octets are the text of the segment of this index with these blocks, and its head agrees with the first one
-pub record AgreeingText (first : SegmentHead) (before : PartsInForce) (index : ℕ) (octets : List ℕ) (blocks : List (List ℤ)) (Continues : SegmentHead → PartsInForce → Type 0) : Type 0 where
+pub record AgreeingText (book : Book) (first : SegmentHead) (before : PartsInForce) (index : ℕ) (octets : List ℕ) (blocks : List (List ℤ)) (Continues : SegmentHead → PartsInForce → Type 0) : Type 0 where
   pub head : SegmentHead
   pub after : PartsInForce
-  pub is : IsText before octets head blocks after
+  pub is : IsText book before octets head blocks after
   pub agrees : AgreesWith first index head
   pub goes_on : Continues head after
 
 -- the octets of segments from this index on, none of which is the last, and their blocks; and `Continues` holds of the parts in force after
 -- them
-abbrev pub AreTexts : (first : SegmentHead) → PartsInForce → (index : ℕ) → List (List ℕ) → List (List (List ℤ)) → (PartsInForce → Type 0) → Type 0
-AreTexts first before index [] [] Continues = Continues before
-AreTexts first before index [] (b ∷ blocks) Continues = ⊥
-AreTexts first before index (t ∷ texts) [] Continues = ⊥
-AreTexts first before index (t ∷ texts) (b ∷ blocks) Continues =
-    AgreeingText first before index t b (λ head after. (head.last ≡ false) × AreTexts first after (index + 1) texts blocks Continues)
+abbrev pub AreTexts : Book → (first : SegmentHead) → PartsInForce → (index : ℕ) → List (List ℕ) → List (List (List ℤ)) → (PartsInForce → Type 0) → Type 0
+AreTexts book first before index [] [] Continues = Continues before
+AreTexts book first before index [] (b ∷ blocks) Continues = ⊥
+AreTexts book first before index (t ∷ texts) [] Continues = ⊥
+AreTexts book first before index (t ∷ texts) (b ∷ blocks) Continues =
+    AgreeingText book first before index t b (λ head after. (head.last ≡ false) × AreTexts book first after (index + 1) texts blocks Continues)
 
 -- the first head is that of the first of these texts, if there is one
 abbrev pub BeginsSo : (first : SegmentHead) → List (List ℕ) → Type 0

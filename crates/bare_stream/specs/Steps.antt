@@ -94,12 +94,12 @@ pub record TextCut (p q : Outside) (text : List ℕ) : Type 0 where
 pub record SegmentOut (s : Setting) (index : ℕ) (before : Option SegmentHead) (segment : List (List ℤ)) (p q : Outside) (head : SegmentHead) (octets : ℕ) : Type 0 where
   pub is_head : head ≡ head_now s index segment
   pub fits : IsHead head
-  pub text : TextOut p q (bare_text before head segment) octets
+  pub text : TextOut p q (bare_text s.book before head segment) octets
 
 abbrev pub WritesSegment : {E : Type 0} → Result (SegmentHead × ℕ) E → Setting → (index : ℕ) → Option SegmentHead → List (List ℤ) → Outside → Outside → Type 0
 WritesSegment result s index before segment p q = MatchResult result
     (λ done. SegmentOut s index before segment p q done.0 done.1)
-    (λ _. TextCut p q (bare_text before (head_now s index segment) segment))
+    (λ _. TextCut p q (bare_text s.book before (head_now s index segment) segment))
 
 -- the text of the present segment is written, and the next segment is present
 pub record PresentOut (s : Setting) (column : ℕ) (before : Option SegmentHead) (p q : Outside) (old new : Work) (head : SegmentHead) : Type 0 where
@@ -114,7 +114,7 @@ pub record PresentOut (s : Setting) (column : ℕ) (before : Option SegmentHead)
 
 pub record PresentCut (s : Setting) (before : Option SegmentHead) (p q : Outside) (old new : Work) : Type 0 where
   pub made : IsMadeFor s new
-  pub cut : TextCut p q (bare_text before (head_now s old.at.index (present_blocks old)) (present_blocks old))
+  pub cut : TextCut p q (bare_text s.book before (head_now s old.at.index (present_blocks old)) (present_blocks old))
 
 abbrev pub WritesPresent : {E : Type 0} → Result SegmentHead E → Setting → (column : ℕ) → Option SegmentHead → Outside → Outside → Work → Work → Type 0
 WritesPresent result s column before p q old new = MatchResult result

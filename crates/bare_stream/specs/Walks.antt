@@ -3,6 +3,7 @@ use Rattle.std.specs.Prelude.{◌≡◌, ◌≤◌, ◌<◌, ◌+◌, ◌*◌, �
 use Rattle.std.specs.List.{concat}
 use Rattle.port_122.specs.Outside.{Outside, Exchange}
 use Rattle.base_122.specs.Sizes.{first_block, total_blocks}
+use Rattle.base_122.specs.declared.book.Book.{Book}
 use Rattle.base_122.specs.declared.geometry.Geometry.{Geometry}
 use Rattle.base_122.specs.declared.wish.DecodeWish.{DecodeWish}
 use Rattle.segment_defs.specs.Head.{IsHead}
@@ -19,6 +20,10 @@ use Rattle.bare_stream.specs.Heads.{IsRoom}
 use Rattle.bare_stream.specs.Input.{waiting}
 use Rattle.bare_stream.specs.Reads.{HasRead, ShowsRead}
 use Rattle.bare_stream.specs.SegmentsRead.{SegmentsRead, AgreeingText, AreTexts, BeginsSo, IsPrompt, Told, pixels_at, rows_read, shape_with}
+
+-- the book with which a walk reads items
+abbrev pub book_in : Walk → Book
+book_in w = w.room.reader.reader.tables.book
 
 -- what a walk holds has the sizes of its stream: the next segment is in the tallest image
 pub record IsSound (w : Walk) : Type 0 where
@@ -45,12 +50,13 @@ pub record IsAt {X : Type 0} (outside : X → Outside) (wish : DecodeWish) (star
   pub first : r.first ≡ w.first
   pub index : w.index ≡ length r.texts
   pub pixels : w.pixels ≡ wish.pixels
+  pub book : book_in w ≡ wish.book
   pub shows : ShowsRead (shape_with r.first 262144) r read.gave (picture_state w.picture)
 
 -- the next head was read from these octets: if it is the first one, it is the first head
-pub record IsHeadOf (r : SegmentsRead) (before after : PartsInForce) (front : List ℕ) (read : BareHead) : Type 0 where
+pub record IsHeadOf (book : Book) (r : SegmentsRead) (before after : PartsInForce) (front : List ℕ) (read : BareHead) : Type 0 where
   pub begins : BeginsSo r.first r.texts
-  pub are : AreTexts r.first none_in_force 0 r.texts r.blocks (λ b. b ≡ before)
+  pub are : AreTexts book r.first none_in_force 0 r.texts r.blocks (λ b. b ≡ before)
   pub head : bare_head_read before front ≡ Ok read.head
   pub whole : length front ≡ bare_length front
   pub size : read.size ≡ length front
@@ -63,12 +69,12 @@ pub record IsReading {X : Type 0} (outside : X → Outside) (wish : DecodeWish) 
   pub front : List ℕ
   pub before : PartsInForce
   pub at : IsAt outside wish start r front input w
-  pub head : Told start (IsHeadOf r before w.parts front read)
+  pub head : Told start (IsHeadOf wish.book r before w.parts front read)
 
 -- the octets are the text of the next segment with this head, whose blocks the walk holds
-abbrev pub IsNextText : SegmentsRead → PartsInForce → Walk → List ℕ → BareHead → Type 0
-IsNextText r before w text read =
-    AgreeingText r.first before w.index text (blocks_in (take (64 * read.head.blocks) w.room.blocks.items)) (λ head after. (head ≡ read.head) × (after ≡ w.parts))
+abbrev pub IsNextText : Book → SegmentsRead → PartsInForce → Walk → List ℕ → BareHead → Type 0
+IsNextText book r before w text read =
+    AgreeingText book r.first before w.index text (blocks_in (take (64 * read.head.blocks) w.room.blocks.items)) (λ head after. (head ≡ read.head) × (after ≡ w.parts))
 
 -- all segments were read, and all rows of the picture are given
 pub record HasEnded {X : Type 0} (outside : X → Outside) (wish : DecodeWish) (start : Outside) (input : PortIn X) (w : Walk) : Type 0 where
@@ -85,4 +91,4 @@ pub record HasEnded {X : Type 0} (outside : X → Outside) (wish : DecodeWish) (
   pub octets : took ≡ concat r.texts ++ waiting input
   pub left : length took + input.left ≡ wish.octets
   pub all : length r.texts ≡ length r.blocks
-  pub stream : Told start (BareStream (concat r.texts) g r.blocks)
+  pub stream : Told start (BareStream wish.book (concat r.texts) g r.blocks)

@@ -1,5 +1,6 @@
 // Decodes a bare stream to a picture.
-ghost use Rattle.std.specs.Prelude.{◌≡◌, []};
+ghost use Rattle.std.specs.Prelude.{◌≡◌, [], IsTrue};
+ghost use Rattle.plane_defs.specs.Codes.{is_book_sound};
 ghost use Rattle.bare_stream.specs.Decoded.{DecodesBare};
 ghost use Rattle.bare_stream.specs.Input.{waiting};
 
@@ -14,8 +15,8 @@ use std::alloc::Global;
 
 /// Takes a bare stream and gives the picture of its segments, each row as soon as the segments so far determine it (docs/formats.md,
 /// "Bare texts" and "Picture and damage"). It reads to the end, at most the octets that are wished, and no more once a segment is refused
-/// or a head reports too many pixels. Returns the geometry of the image, in which `image` is 0. It takes memory only after the first head.
-/// The field `apid` of the wish isn't used.
+/// or a head reports too many pixels. Items have the codes of the wish's book, which is sound. Returns the geometry of the image, in
+/// which `image` is 0. It takes memory only after the first head. The field `apid` of the wish isn't used.
 ///
 /// # Errors
 ///
@@ -30,6 +31,7 @@ pub fn decode_bare<X: Port>(
     port: &mut X,
     wish: &DecodeWish,
 ) -> Result<Geometry, BareFault>
+    requires book { IsTrue (is_book_sound wish.now.book) }
     ensures { DecodesBare wish.now (X.outside port.old) (X.outside port.new) result }
 {
     let mut input = PortIn::new(port, wish.octets);
@@ -42,6 +44,7 @@ fn decode_input<X: Port>(
     input: &mut PortIn<X>,
     wish: &DecodeWish,
 ) -> Result<Geometry, BareFault>
+    requires book { IsTrue (is_book_sound wish.now.book) }
     requires none { waiting input.old ≡ [] }
     requires left { input.old.left ≡ wish.now.octets }
     ensures port { input.new.port.ghost_name ≡ input.old.port.ghost_name }
@@ -55,7 +58,7 @@ fn decode_input<X: Port>(
     if let Err(fault) = check_head(&first.head, 0, &first.head, wish.pixels) {
         return Err(fault);
     }
-    let Ok(mut walk) = Walk::new(alloc, &first.head, parts, wish.pixels) else {
+    let Ok(mut walk) = Walk::new(alloc, &first.head, parts, wish) else {
         return Err(BareFault::Memory);
     };
     take_stream(&mut walk, input, first)

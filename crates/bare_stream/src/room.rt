@@ -1,6 +1,5 @@
 // Takes the memory for the blocks of one segment, and reads the items of its text.
 ghost use Rattle.std.specs.Prelude.{◌≡◌, ◌≤◌, ◌*◌, take, length};
-ghost use Rattle.plane_defs.specs.Profile.{profile};
 ghost use Rattle.segment_defs.specs.Head.{IsHead};
 ghost use Rattle.bare_stream.specs.Inputs.{source_of};
 ghost use Rattle.segment_code.specs.DecodedItems.{DecodesItems};
@@ -9,6 +8,7 @@ ghost use Rattle.bare_stream.specs.Heads.{FaultOf};
 use crate::fault::{BareCause, BareFault};
 use crate::input::PortIn;
 use bare_text::{BareHead, BareReader, SegmentFault};
+use base_122::Book;
 use bit_pipe::Part;
 use port_122::Port;
 use std::alloc::{AllocError, Global};
@@ -22,19 +22,23 @@ pub struct Room {
 }
 
 impl Room {
-    ghost use Rattle.std.specs.Prelude.{IfOk, vec_len};
+    ghost use Rattle.std.specs.Prelude.{IfOk, IsTrue, vec_len};
+    ghost use Rattle.plane_defs.specs.Codes.{is_book_sound};
     ghost use Rattle.bare_stream.specs.Heads.{IsRoom};
 
-    /// Takes the memory for segments of at most this number of blocks. It fails only if there is too little memory.
-    pub fn new(alloc: Global, count: u32) -> Result<Room, AllocError>
-        requires { count ≤ 1048575 }
-        ensures { IfOk result (λ room. IsRoom count (vec_len room.blocks) (vec_len room.marks)) }
+    /// Takes the memory for segments of at most this number of blocks, with the codes of this book. It fails only if there is too little
+    /// memory.
+    pub fn new(alloc: Global, count: u32, book: &Book) -> Result<Room, AllocError>
+        requires count { count ≤ 1048575 }
+        requires book { IsTrue (is_book_sound book.now) }
+        ensures room { IfOk result (λ room. IsRoom count (vec_len room.blocks) (vec_len room.marks)) }
+        ensures book { IfOk result (λ room. room.reader.reader.tables.book ≡ book.now) }
     {
         let count = count as usize;
         let blocks = vec![in alloc; 0; 64 * count]?;
         let marks = vec![in alloc; 0; count]?;
         Ok(Room {
-            reader: BareReader::new(),
+            reader: BareReader::new(book),
             blocks,
             marks,
         })
@@ -69,7 +73,7 @@ pub fn read_items<X: Port>(
     requires size { read.now.size ≤ 20 }
     requires blocks { 64 * read.now.head.blocks ≤ length blocks.old }
     requires marks { read.now.head.blocks ≤ length marks.old }
-    ensures items { DecodesItems (source_of X.outside) profile read.now.head read.now.size result input.old input.new (take (64 * read.now.head.blocks) blocks.new) }
+    ensures items { DecodesItems (source_of X.outside) reader.now.reader.tables.book read.now.head read.now.size result input.old input.new (take (64 * read.now.head.blocks) blocks.new) }
     ensures sizes { (length blocks.new ≡ length blocks.old) × (length marks.new ≡ length marks.old) }
 {
     let count = read.head.blocks as usize;

@@ -10,18 +10,19 @@ ghost use Rattle.bare_stream.specs.Works.{IsAt, present_size};
 ghost use Rattle.bare_stream.specs.Steps.{WritesSegment, WritesPresent};
 
 use crate::text::write_text;
+use bare_text::BareWriter;
 use base_122::Setting;
 use port_122::{Failed, Port};
 use segment_code::segment_depths;
 use segment_head::SegmentHead;
 use strip_coder::{Plan, Work, make_head};
 
-// A segment by its index and its number of blocks, and the head before its own.
-#[derive(Clone, Copy)]
-pub struct SegmentPlace {
+// A segment by its index and its number of blocks, and the writer of its text, which has the head before its own.
+#[derive(Drop)]
+pub struct SegmentPlace<'a> {
     pub index: u32,
     pub count: usize,
-    pub before: Option<SegmentHead>,
+    pub writer: BareWriter<'a>,
 }
 
 // Writes the text of a segment, and returns its head and its length in octets.
@@ -33,13 +34,14 @@ fn write_segment<X: Port>(
     marks: &mut [i32],
 ) -> Result<(SegmentHead, u64), Failed>
     requires bare { IsBare setting.now }
+    requires book { place.now.writer.items.now.tables.book ≡ setting.now.book }
     requires index { place.now.index < segments_of setting.now }
-    requires before { IfSome place.now.before (λ h. IsHead h) }
+    requires before { IfSome place.now.writer.before (λ h. IsHead h) }
     requires some { 1 ≤ length marks.old }
     requires most { length marks.old ≤ 1048575 }
     requires blocks { length blocks.now ≡ 64 * length marks.old }
     requires bounded { AreBounded blocks.now }
-    ensures { WritesSegment result setting.now place.now.index place.now.before (blocks_in blocks.now) (X.outside port.old) (X.outside port.new) }
+    ensures { WritesSegment result setting.now place.now.index place.now.writer.before (blocks_in blocks.now) (X.outside port.old) (X.outside port.new) }
 {
     let (depth_dc, depth_ac) = segment_depths(blocks, marks);
     let plan = Plan::new(setting, setting.rows);
@@ -51,7 +53,7 @@ fn write_segment<X: Port>(
         depth_dc,
         depth_ac,
     );
-    let Ok(octets) = write_text(port, place.before, &head, blocks, marks) else {
+    let Ok(octets) = write_text(port, &place.writer, &head, blocks, marks) else {
         return Err(Failed);
     };
     Ok((head, octets))
@@ -66,14 +68,15 @@ fn write_front<X: Port>(
     marks: &mut [i32],
 ) -> Result<(SegmentHead, u64), Failed>
     requires bare { IsBare setting.now }
+    requires book { place.now.writer.items.now.tables.book ≡ setting.now.book }
     requires index { place.now.index < segments_of setting.now }
-    requires before { IfSome place.now.before (λ h. IsHead h) }
+    requires before { IfSome place.now.writer.before (λ h. IsHead h) }
     requires some { 1 ≤ place.now.count }
     requires most { place.now.count ≤ 1048575 }
     requires blocks { 64 * place.now.count ≤ length blocks.now }
     requires marks { place.now.count ≤ length marks.old }
     requires small { AreSmall place.now.count blocks.now }
-    ensures { WritesSegment result setting.now place.now.index place.now.before (blocks_in (take (64 * place.now.count) blocks.now)) (X.outside port.old) (X.outside port.new) }
+    ensures { WritesSegment result setting.now place.now.index place.now.writer.before (blocks_in (take (64 * place.now.count) blocks.now)) (X.outside port.old) (X.outside port.new) }
 {
     let count = place.count;
     write_segment(
@@ -104,7 +107,10 @@ pub fn write_present<X: Port>(
     let place = SegmentPlace {
         index: work.at.index,
         count: work.at.filled as usize,
-        before,
+        writer: BareWriter {
+            before,
+            items: &work.writer,
+        },
     };
     let Ok((head, octets)) = write_front(port, setting, &place, &work.blocks, &mut work.marks)
     else {

@@ -7,31 +7,31 @@ ghost use Rattle.bare_text.specs.Writing.{bare_text};
 ghost use Rattle.bare_stream.specs.Steps.{TextOut, TextCut};
 
 use crate::sink::TextSink;
-use bare_text::encode_bare_text;
+use bare_text::BareWriter;
 use port_122::{Failed, Port};
 use segment_head::SegmentHead;
 
 /// Writes the text of a segment as it is in a bare stream to a port, and returns its length in octets (docs/formats.md, "Bare texts").
-/// Heads, blocks and `marks` are as for `encode_bare_text`. After `Failed`, a prefix of the text is written.
+/// Writer, head, blocks and `marks` are as for `BareWriter::encode_text`. After `Failed`, a prefix of the text is written.
 pub fn write_text<X: Port>(
     port: &mut X,
-    before: Option<SegmentHead>,
+    writer: &BareWriter,
     head: &SegmentHead,
     blocks: &[i32],
     marks: &mut [i32],
 ) -> Result<u64, Failed>
-    requires before { IfSome before (λ h. IsHead h) }
+    requires before { IfSome writer.now.before (λ h. IsHead h) }
     requires fits { IsHead head.now }
     requires count { length blocks.now ≡ 64 * head.now.blocks }
     requires dc { head.now.depth_dc ≡ depth_dc_of (blocks_in blocks.now) }
     requires ac { head.now.depth_ac ≡ depth_ac_of (blocks_in blocks.now) }
     requires marks { marks.old ≡ map pos (block_depths (blocks_in blocks.now)) }
     ensures { MatchResult result
-        (λ octets. TextOut (X.outside port.old) (X.outside port.new) (bare_text before head.now (blocks_in blocks.now)) octets)
-        (λ _. TextCut (X.outside port.old) (X.outside port.new) (bare_text before head.now (blocks_in blocks.now))) }
+        (λ octets. TextOut (X.outside port.old) (X.outside port.new) (bare_text writer.now.items.now.tables.book writer.now.before head.now (blocks_in blocks.now)) octets)
+        (λ _. TextCut (X.outside port.old) (X.outside port.new) (bare_text writer.now.items.now.tables.book writer.now.before head.now (blocks_in blocks.now))) }
 {
     let mut sink = TextSink::new(port);
-    let Ok(octets) = encode_bare_text(&mut sink, before, head, blocks, marks) else {
+    let Ok(octets) = writer.encode_text(&mut sink, head, blocks, marks) else {
         return Err(Failed);
     };
     let Ok(()) = sink.flush() else {

@@ -1,8 +1,9 @@
 // The segments of a bare stream, one after another.
-ghost use Rattle.std.specs.Prelude.{◌≡◌, ◌≤◌, ◌<◌, ◌*◌, vec_len, [], List, ℕ, MatchResult, IfOk};
+ghost use Rattle.std.specs.Prelude.{◌≡◌, ◌≤◌, ◌<◌, ◌*◌, vec_len, [], List, ℕ, MatchResult, IfOk, IsTrue};
 ghost use Rattle.port_122.specs.Outside.{Outside};
 ghost use Rattle.base_122.specs.declared.wish.DecodeWish.{DecodeWish};
 ghost use Rattle.segment_defs.specs.Head.{IsHead};
+ghost use Rattle.plane_defs.specs.Codes.{is_book_sound};
 ghost use Rattle.bare_text.specs.declared.parts.PartsInForce.{PartsInForce};
 ghost use Rattle.bare_stream.specs.BareStream.{geometry_at};
 ghost use Rattle.bare_stream.specs.Decoded.{DecodesBare};
@@ -11,7 +12,7 @@ ghost use Rattle.bare_stream.specs.Inputs.{source_of};
 ghost use Rattle.bare_stream.specs.Reads.{InForceAfter};
 ghost use Rattle.picture_rows.specs.Pictures.{picture_state, IsFresh};
 ghost use Rattle.bare_stream.specs.SegmentsRead.{SegmentsRead, Told, shape_with};
-ghost use Rattle.bare_stream.specs.Walks.{IsSound, IsNext, IsAt, IsHeadOf, IsNextText, IsReading, HasEnded};
+ghost use Rattle.bare_stream.specs.Walks.{book_in, IsSound, IsNext, IsAt, IsHeadOf, IsNextText, IsReading, HasEnded};
 ghost use Rattle.bare_stream.specs.Blocks.{AreParts};
 
 use crate::fault::{BareCause, BareFault};
@@ -20,7 +21,7 @@ use crate::heads::{check_head, take_head};
 use crate::input::PortIn;
 use crate::room::{Room, items_fault, read_items};
 use bare_text::{BareHead, PartsInForce};
-use base_122::{FieldRange, Geometry};
+use base_122::{DecodeWish, FieldRange, Geometry};
 use bit_pipe::{InFault, OctetIn};
 use picture_rows::Picture;
 use port_122::Port;
@@ -40,19 +41,21 @@ pub struct Walk {
 }
 
 impl Walk {
-    /// Takes the memory for a stream with this first head, which agrees with itself. The only error is a lack of memory.
+    /// Takes the memory for a stream with this first head, which agrees with itself, and for the book and the pixels of this wish. The
+    /// only error is a lack of memory.
     pub fn new(
         alloc: Global,
         first: &SegmentHead,
         parts: PartsInForce,
-        pixels: u64,
+        wish: &DecodeWish,
     ) -> Result<Walk, AllocError>
         requires fits { IsHead first.now }
+        requires book { IsTrue (is_book_sound wish.now.book) }
         ensures sound { IfOk result (λ w. IsSound w) }
-        ensures begins { IfOk result (λ w. (w.first ≡ first.now) × (w.parts ≡ parts) × (w.index ≡ 0) × (w.pixels ≡ pixels)) }
+        ensures begins { IfOk result (λ w. (w.first ≡ first.now) × (w.parts ≡ parts) × (w.index ≡ 0) × (w.pixels ≡ wish.now.pixels) × (book_in w ≡ wish.now.book)) }
         ensures fresh { IfOk result (λ w. IsFresh (shape_with first.now 262144) (picture_state w.picture)) }
     {
-        let room = Room::new(alloc, first.blocks)?;
+        let room = Room::new(alloc, first.blocks, &wish.book)?;
         let rows = FieldRange::ROWS.most as u32;
         let segment = FieldRange::SEGMENT.least as u32;
         let geometry = Geometry {
@@ -64,7 +67,7 @@ impl Walk {
             first: *first,
             parts,
             index: 0,
-            pixels,
+            pixels: wish.pixels,
             room,
             picture,
         })
@@ -101,8 +104,8 @@ fn next_head<X: Port>(walk: &mut Walk, input: &mut PortIn<X>) -> Result<BareHead
     ensures walk { walk.new ≡ record walk.old { parts = walk.new.parts } }
     ensures next { IfOk result (λ read. IsNext walk.new read) }
     ensures port { input.new.port.ghost_name ≡ input.old.port.ghost_name }
-    ensures run { (wish : DecodeWish) (start : Outside) (r : SegmentsRead) → IsAt X.outside wish start r [] input.old walk.old → InForceAfter start r walk.old.parts → MatchResult result
-        (λ read. (front : List ℕ) × IsAt X.outside wish start r front input.new walk.new × Told start (IsHeadOf r walk.old.parts walk.new.parts front read))
+    ensures run { (wish : DecodeWish) (start : Outside) (r : SegmentsRead) → IsAt X.outside wish start r [] input.old walk.old → InForceAfter wish.book start r walk.old.parts → MatchResult result
+        (λ read. (front : List ℕ) × IsAt X.outside wish start r front input.new walk.new × Told start (IsHeadOf wish.book r walk.old.parts walk.new.parts front read))
         (λ fault. DecodesBare wish start (X.outside input.new.port.now) (Err fault)) }
 {
     let read = match take_head(input, &mut walk.parts, walk.index) {
@@ -128,8 +131,8 @@ fn take_text<X: Port>(
     ensures port { input.new.port.ghost_name ≡ input.old.port.ghost_name }
     ensures parts { IfOk result (λ _. AreParts walk.new.room.blocks.items read.now.head.blocks read.now.head.image.weights.shifts) }
     ensures room { (vec_len walk.new.room.blocks ≡ vec_len walk.old.room.blocks) × (vec_len walk.new.room.marks ≡ vec_len walk.old.room.marks) }
-    ensures run { (wish : DecodeWish) (start : Outside) (r : SegmentsRead) (front : List ℕ) (before : PartsInForce) → IsAt X.outside wish start r front input.old walk.old → Told start (IsHeadOf r before walk.old.parts front read.now) → MatchResult result
-        (λ _. (text : List ℕ) × IsAt X.outside wish start r text input.new walk.new × Told start (IsNextText r before walk.new text read.now))
+    ensures run { (wish : DecodeWish) (start : Outside) (r : SegmentsRead) (front : List ℕ) (before : PartsInForce) → IsAt X.outside wish start r front input.old walk.old → Told start (IsHeadOf wish.book r before walk.old.parts front read.now) → MatchResult result
+        (λ _. (text : List ℕ) × IsAt X.outside wish start r text input.new walk.new × Told start (IsNextText wish.book r before walk.new text read.now))
         (λ fault. DecodesBare wish start (X.outside input.new.port.now) (Err fault)) }
 {
     let items = read_items(

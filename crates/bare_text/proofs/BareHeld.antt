@@ -2,7 +2,6 @@
 use Rattle.std.proofs.Common.{◌≡◌, ℕ, ◌+◌, ◌*◌, ◌≤◌, ◌<◌, List, ◌++◌, length, get_or, Bool, true, false, if◌then◌else◌, refl, sym, ap, ◌∙◌, subst, arith, length-append}
 use Rattle.std.specs.List.{flat_map}
 use Rattle.item_defs.proofs.OctetBits.{length-octets_of}
-use Rattle.plane_defs.specs.Profile.{profile}
 use Rattle.segment_defs.specs.declared.head.SegmentHead.{SegmentHead}
 use Rattle.segment_defs.specs.Depths.{block_depth, block_depths}
 use Rattle.segment_defs.specs.Head.{Field, field_bits, part_2, part_3, part_4}
@@ -15,7 +14,6 @@ use Rattle.text_defs.specs.Given.{given_blocks}
 use Rattle.text_defs.specs.Laws.{AllGiven}
 use Rattle.text_defs.proofs.SegmentItems.{segment_are_items}
 use Rattle.segment_code.specs.ItemsHeld.{HoldsItems}
-use Rattle.segment_code.proofs.ProfileSound.{profile_sound}
 use Rattle.segment_code.proofs.CodedOptions.{words_are, numbers_are, within_greatest}
 use Rattle.bare_text.specs.Writing.{carried_after, fields_where, bare_head_bits, bare_text}
 use Rattle.bare_text.specs.Laws.{bare_head, BareTextsHold}
@@ -56,20 +54,20 @@ size_most last a b d = omega (arith, most last 4 3 4 (omega arith) (omega arith)
 
 pub bare_texts_hold : AllGiven → BareTextsHold
 unfolding bare_text
-bare_texts_hold given before h blocks fits ten spellable deep =
+bare_texts_hold given book sound before h blocks fits ten spellable deep =
     let c = carried_after before h in
-    let options = chosen_options profile h blocks in
+    let options = chosen_options book h blocks in
     let long = bits_long c h ten in
     let low = λ (r : ℕ) (lt : r < length (block_depths blocks)). low_is r lt in
-    let are = segment_are_items h blocks (block_depths blocks) options fits spellable (words_are profile profile_sound h blocks) (numbers_are profile h blocks fits) low in
-    let held = text_held h blocks (block_depths blocks) options fits spellable (words_are profile profile_sound h blocks) are (bare_head_bits c h) (size_with c h) long (size_most h.last c.part_2 c.part_3 c.part_4) in
+    let are = segment_are_items h blocks (block_depths blocks) options fits spellable (words_are book sound h blocks) (numbers_are book h blocks fits) low in
+    let held = text_held h blocks (block_depths blocks) options fits spellable (words_are book sound h blocks) are (bare_head_bits c h) (size_with c h) long (size_most h.last c.part_2 c.part_3 c.part_4) in
     let size : size_with c h ≡ length (bare_head before h) = sym (length-octets_of (bare_head_bits c h) ∙ omega (arith, long)) in
     record {
       rest = held.rest;
       w = given_blocks h blocks (block_depths blocks) options held.count;
       part = held.part;
       octets = held.parts;
-      holds = subst (λ n. HoldsItems profile h n held.rest (given_blocks h blocks (block_depths blocks) options held.count) held.part) size held.holds;
+      holds = subst (λ n. HoldsItems book h n held.rest (given_blocks h blocks (block_depths blocks) options held.count) held.part) size held.holds;
       exact = λ none whole. ap (given_blocks h blocks (block_depths blocks) options) (held.all none) ∙ given h blocks (block_depths blocks) options fits spellable whole.goes_on whole.plane whole.stage low;
     }
   where

@@ -1,10 +1,10 @@
 -- A text with a short head that was put into a sink, and ended.
 use Rattle.std.proofs.Common.{◌≡◌, ℕ, ℤ, ◌*◌, ◌≤◌, List, ◌++◌, length, Bool, true, false, inl, inr, subst, arith, length-append}
-use Rattle.std.specs.Prelude.{Option, Result, Ok, Err, MatchResult}
+use Rattle.std.specs.Prelude.{IsTrue, Option, Result, Ok, Err, MatchResult}
 use Rattle.std.specs.List.{flat_map}
 use Rattle.item_defs.specs.Items.{text}
 use Rattle.bit_pipe.specs.Sinks.{SinkOf}
-use Rattle.plane_defs.specs.Profile.{profile}
+use Rattle.base_122.specs.declared.book.Book.{Book}
 use Rattle.wave_defs.specs.Held.{blocks_in}
 use Rattle.segment_defs.specs.declared.head.SegmentHead.{SegmentHead}
 use Rattle.segment_defs.specs.Depths.{block_depths, depth_dc_of, depth_ac_of}
@@ -16,7 +16,7 @@ use Rattle.segment_head.specs.declared.carried.Carried.{Carried}
 use Rattle.segment_head.specs.Parts.{part_1}
 use Rattle.segment_head.proofs.WrittenHeads.{length_4, length-head_bits}
 use Rattle.segment_code.specs.Text.{GivesText, BreaksWithin}
-use Rattle.segment_code.proofs.ProfileSound.{profile_sound}
+use Rattle.plane_defs.specs.Codes.{is_book_sound}
 use Rattle.segment_code.proofs.Bounded.{is_bounded}
 use Rattle.segment_code.proofs.Encoding.{IsBounded}
 use Rattle.bare_text.specs.Writing.{carried_after, fields_where, bare_head_bits, bare_bits, bare_text}
@@ -46,19 +46,19 @@ fewer : (word limit : ℕ) (fill : Bool) (m n : ℕ) → m ≤ n → IsBounded w
 fewer word limit fill m n le (inl (some, few, none, plain, short)) = inl (some, few, none, plain, omega (arith, short, le))
 fewer word limit fill m n le (inr l) = inr l
 
-pub bare_bounded : (before : Option SegmentHead) (h : SegmentHead) (cells : List ℤ) → IsHead h → length h.image.weights.shifts ≡ 10 → length cells ≡ 64 * h.blocks → h.depth_dc ≡ depth_dc_of (blocks_in cells) → h.depth_ac ≡ depth_ac_of (blocks_in cells) →
-    IsBounded h.image.word h.limit h.fill (length (bare_bits before h (blocks_in cells)))
-bare_bounded before h cells fits ten count dc ac =
+pub bare_bounded : (book : Book) → IsTrue (is_book_sound book) → (before : Option SegmentHead) (h : SegmentHead) (cells : List ℤ) → IsHead h → length h.image.weights.shifts ≡ 10 → length cells ≡ 64 * h.blocks → h.depth_dc ≡ depth_dc_of (blocks_in cells) → h.depth_ac ≡ depth_ac_of (blocks_in cells) →
+    IsBounded h.image.word h.limit h.fill (length (bare_bits book before h (blocks_in cells)))
+bare_bounded book sound before h cells fits ten count dc ac =
     let blocks = blocks_in cells in
-    let items = text (segment_items h blocks (block_depths blocks) (chosen_options profile h blocks)) in
+    let items = text (segment_items h blocks (block_depths blocks) (chosen_options book h blocks)) in
     let short = bare_head_short (carried_after before h) h ten in
-    fewer h.image.word h.limit h.fill (length (bare_bits before h blocks)) (length (coded_bits profile h blocks))
-    (omega (arith, short, length-append (bare_head_bits (carried_after before h) h) items, length-append (head_bits h) items, length-head_bits h ten)) (is_bounded profile profile_sound h cells fits ten count dc ac)
+    fewer h.image.word h.limit h.fill (length (bare_bits book before h blocks)) (length (coded_bits book h blocks))
+    (omega (arith, short, length-append (bare_head_bits (carried_after before h) h) items, length-append (head_bits h) items, length-head_bits h ten)) (is_bounded book sound h cells fits ten count dc ac)
 
 -- the sink has the same value at the return
-pub told : {S E : Type 0} (k : SinkOf S) (out : S) (r : Result ℕ E) (before : Option SegmentHead) (h : SegmentHead) (blocks : List (List ℤ)) (u v : S) → u ≡ v →
-    MatchResult r (λ octets. GivesText k out u (text_octets h.image.word h.limit h.fill (bare_bits before h blocks)) octets) (λ _. BreaksWithin k out u (text_octets h.image.word h.limit h.fill (bare_bits before h blocks))) →
-    MatchResult r (λ octets. GivesText k out v (bare_text before h blocks) octets) (λ _. BreaksWithin k out v (bare_text before h blocks))
+pub told : {S E : Type 0} (k : SinkOf S) (out : S) (r : Result ℕ E) (book : Book) (before : Option SegmentHead) (h : SegmentHead) (blocks : List (List ℤ)) (u v : S) → u ≡ v →
+    MatchResult r (λ octets. GivesText k out u (text_octets h.image.word h.limit h.fill (bare_bits book before h blocks)) octets) (λ _. BreaksWithin k out u (text_octets h.image.word h.limit h.fill (bare_bits book before h blocks))) →
+    MatchResult r (λ octets. GivesText k out v (bare_text book before h blocks) octets) (λ _. BreaksWithin k out v (bare_text book before h blocks))
 unfolding bare_text
-told k out (Ok n) before h blocks u v e m = subst (λ x. GivesText k out x (text_octets h.image.word h.limit h.fill (bare_bits before h blocks)) n) e m
-told k out (Err x) before h blocks u v e m = subst (λ y. BreaksWithin k out y (text_octets h.image.word h.limit h.fill (bare_bits before h blocks))) e m
+told k out (Ok n) book before h blocks u v e m = subst (λ x. GivesText k out x (text_octets h.image.word h.limit h.fill (bare_bits book before h blocks)) n) e m
+told k out (Err x) book before h blocks u v e m = subst (λ y. BreaksWithin k out y (text_octets h.image.word h.limit h.fill (bare_bits book before h blocks))) e m

@@ -1,7 +1,8 @@
 -- The laws of heads with absent parts.
-use Rattle.std.specs.Prelude.{◌≡◌, ◌<◌, ◌≤◌, ℕ, ℤ, List, ◌++◌, length, Option, None, Some, Ok}
+use Rattle.std.specs.Prelude.{◌≡◌, ◌<◌, ◌≤◌, ℕ, ℤ, List, ◌++◌, length, IsTrue, Option, None, Some, Ok}
 use Rattle.item_defs.specs.Bits.{octets_of}
-use Rattle.plane_defs.specs.Profile.{profile}
+use Rattle.base_122.specs.declared.book.Book.{Book}
+use Rattle.plane_defs.specs.Codes.{is_book_sound}
 use Rattle.segment_defs.specs.declared.head.SegmentHead.{SegmentHead}
 use Rattle.segment_defs.specs.Depths.{block_depths, depth_ac_of}
 use Rattle.segment_defs.specs.Head.{IsHead, part_2, part_3, part_4}
@@ -40,16 +41,16 @@ pub record BareHeadsEndThere : Type 0 where
       a ++ x ≡ b ++ y → a ≡ b
   pub fits : (before : PartsInForce) (octets : List ℕ) (h : SegmentHead) → bare_head_read before octets ≡ Ok h → IsHead h
 
--- The text after the head before is its head and octets that hold blocks and end by themselves; with neither a stop nor a limit these
--- are the blocks that were coded.
-pub record HoldsText (before : Option SegmentHead) (h : SegmentHead) (blocks : List (List ℤ)) : Type 0 where
+-- The text after the head before is its head and octets that hold blocks, with the codes of this book, and end by themselves; with
+-- neither a stop nor a limit these are the blocks that were coded.
+pub record HoldsText (book : Book) (before : Option SegmentHead) (h : SegmentHead) (blocks : List (List ℤ)) : Type 0 where
   pub rest : List ℕ
   pub w : List (List ℤ)
   pub part : Part
-  pub octets : bare_text before h blocks ≡ bare_head before h ++ rest
-  pub holds : HoldsItems profile h (length (bare_head before h)) rest w part
+  pub octets : bare_text book before h blocks ≡ bare_head before h ++ rest
+  pub holds : HoldsItems book h (length (bare_head before h)) rest w part
   pub exact : h.limit ≡ 0 → HasNoStop h → w ≡ blocks
 
 abbrev pub BareTextsHold : Type 0
-BareTextsHold = (before : Option SegmentHead) (h : SegmentHead) (blocks : List (List ℤ)) → IsHead h → length h.image.weights.shifts ≡ 10 → IsSpellable h blocks (block_depths blocks) → h.depth_ac ≡ depth_ac_of blocks →
-    HoldsText before h blocks
+BareTextsHold = (book : Book) → IsTrue (is_book_sound book) → (before : Option SegmentHead) (h : SegmentHead) (blocks : List (List ℤ)) → IsHead h → length h.image.weights.shifts ≡ 10 →
+    IsSpellable h blocks (block_depths blocks) → h.depth_ac ≡ depth_ac_of blocks → HoldsText book before h blocks

@@ -5,7 +5,7 @@ use Rattle.std.specs.List.{flat_map}
 use Rattle.std.specs.Str.{bytes_eq}
 use Rattle.item_defs.specs.Bits.{octets_of}
 use Rattle.item_defs.specs.Items.{text}
-use Rattle.plane_defs.specs.Profile.{profile}
+use Rattle.base_122.specs.declared.book.Book.{Book}
 use Rattle.segment_defs.specs.declared.head.SegmentHead.{SegmentHead}
 use Rattle.segment_defs.specs.Depths.{block_depths}
 use Rattle.segment_defs.specs.Head.{Field, field_bits, part_2, part_3, part_4}
@@ -40,12 +40,12 @@ bare_head_bits carried head =
     ++ (flat_map field_bits (fields_where carried.part_3 (part_3 head))
     ++ flat_map field_bits (fields_where carried.part_4 (part_4 head.image))))
 
--- the bits of the text before they are padded
-abbrev pub bare_bits : Option SegmentHead → SegmentHead → List (List ℤ) → List Bool
-bare_bits before head blocks =
+-- the bits of the text before they are padded: the words have the codes of this book
+abbrev pub bare_bits : Book → Option SegmentHead → SegmentHead → List (List ℤ) → List Bool
+bare_bits book before head blocks =
     bare_head_bits (carried_after before head) head
-    ++ text (segment_items head blocks (block_depths blocks) (chosen_options profile head blocks))
+    ++ text (segment_items head blocks (block_depths blocks) (chosen_options book head blocks))
 
 -- the octets of the text: the limit counts this head
-unfoldable pub bare_text : Option SegmentHead → SegmentHead → List (List ℤ) → List ℕ
-bare_text before head blocks = text_octets head.image.word head.limit head.fill (bare_bits before head blocks)
+unfoldable pub bare_text : Book → Option SegmentHead → SegmentHead → List (List ℤ) → List ℕ
+bare_text book before head blocks = text_octets head.image.word head.limit head.fill (bare_bits book before head blocks)

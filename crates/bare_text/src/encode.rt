@@ -10,39 +10,49 @@ ghost use Rattle.bare_text.specs.Writing.{bare_bits, bare_text};
 
 use crate::write::put_bare_head;
 use bit_pipe::{BitOut, Failed, OctetOut, PutFault};
-use segment_code::encode_items;
+use segment_code::SegmentWriter;
 use segment_head::SegmentHead;
-use word_codes::profile_book;
 
-/// Writes the text of a segment as it is in a bare stream, and returns its length in octets (docs/formats.md, "Bare texts"). Its head
-/// carries the parts that differ from those in force, which are those of the head `before`; the first head carries all. The limit counts
-/// this head. Sink, blocks and `marks` are as for `encode_segment`.
-///
-/// # Errors
-///
-/// `Failed` only if the sink failed.
-pub fn encode_bare_text<O: OctetOut>(
-    out: &mut O,
-    before: Option<SegmentHead>,
-    head: &SegmentHead,
-    blocks: &[i32],
-    marks: &mut [i32],
-) -> Result<u64, Failed>
-    requires before { IfSome before (λ h. IsHead h) }
-    requires fits { IsHead head.now }
-    requires count { length blocks.now ≡ 64 * head.now.blocks }
-    requires dc { head.now.depth_dc ≡ depth_dc_of (blocks_in blocks.now) }
-    requires ac { head.now.depth_ac ≡ depth_ac_of (blocks_in blocks.now) }
-    requires marks { marks.old ≡ map pos (block_depths (blocks_in blocks.now)) }
-    requires none { (O.sink.counts out.old).given ≡ 0 }
-    ensures text { MatchResult result
-        (λ octets. GivesText O.sink out.old out.new (bare_text before head.now (blocks_in blocks.now)) octets)
-        (λ _. BreaksWithin O.sink out.old out.new (bare_text before head.now (blocks_in blocks.now))) }
-    ensures depths { depths_of marks.new ≡ depths_of marks.old }
-{
-    let mut bits = BitOut::new(out, limit_of(*head), 0);
-    put_fitting(&mut bits, before, head, blocks, marks)?;
-    bits.end(head.image.word, head.fill)
+/// How the text of a segment is written: after which head, whose parts are in force then, and with which codes.
+#[derive(Drop)]
+pub struct BareWriter<'a> {
+    /// The head of the segment before, or none before the first segment.
+    pub before: Option<SegmentHead>,
+    /// The writer of the items, whose tables have the codes.
+    pub items: &'a SegmentWriter,
+}
+
+impl BareWriter<'_> {
+    /// Writes the text of a segment as it is in a bare stream, and returns its length in octets (docs/formats.md, "Bare texts"). Its head
+    /// carries the parts that differ from those in force, which are those of the head before; the first head carries all. The limit counts
+    /// this head. Sink, blocks and `marks` are as for `SegmentWriter::encode`.
+    ///
+    /// # Errors
+    ///
+    /// `Failed` only if the sink failed.
+    pub fn encode_text<O: OctetOut>(
+        &self,
+        out: &mut O,
+        head: &SegmentHead,
+        blocks: &[i32],
+        marks: &mut [i32],
+    ) -> Result<u64, Failed>
+        requires before { IfSome self.now.before (λ h. IsHead h) }
+        requires fits { IsHead head.now }
+        requires count { length blocks.now ≡ 64 * head.now.blocks }
+        requires dc { head.now.depth_dc ≡ depth_dc_of (blocks_in blocks.now) }
+        requires ac { head.now.depth_ac ≡ depth_ac_of (blocks_in blocks.now) }
+        requires marks { marks.old ≡ map pos (block_depths (blocks_in blocks.now)) }
+        requires none { (O.sink.counts out.old).given ≡ 0 }
+        ensures text { MatchResult result
+            (λ octets. GivesText O.sink out.old out.new (bare_text self.now.items.now.tables.book self.now.before head.now (blocks_in blocks.now)) octets)
+            (λ _. BreaksWithin O.sink out.old out.new (bare_text self.now.items.now.tables.book self.now.before head.now (blocks_in blocks.now))) }
+        ensures depths { depths_of marks.new ≡ depths_of marks.old }
+    {
+        let mut bits = BitOut::new(out, limit_of(*head), 0);
+        put_fitting(&mut bits, self, head, blocks, marks)?;
+        bits.end(head.image.word, head.fill)
+    }
 }
 
 // Returns the limit of a text in octets, or 0.
@@ -56,12 +66,12 @@ fn limit_of(head: SegmentHead) -> u64
 // Puts the part of the text that fits below the bound: a text that is stopped is cut there.
 fn put_fitting<O: OctetOut>(
     out: &mut BitOut<O>,
-    before: Option<SegmentHead>,
+    writer: &BareWriter,
     head: &SegmentHead,
     blocks: &[i32],
     marks: &mut [i32],
 ) -> Result<(), Failed>
-    requires before { IfSome before (λ h. IsHead h) }
+    requires before { IfSome writer.now.before (λ h. IsHead h) }
     requires fits { IsHead head.now }
     requires open { IsReady O.sink out.old }
     requires room { 8 * head_length head.now ≤ (stand O.sink out.old).room }
@@ -70,11 +80,11 @@ fn put_fitting<O: OctetOut>(
     requires ac { head.now.depth_ac ≡ depth_ac_of (blocks_in blocks.now) }
     requires marks { marks.old ≡ map pos (block_depths (blocks_in blocks.now)) }
     ensures puts { MatchResult result
-        (λ _. Adds O.sink (stand O.sink out.old) (stand O.sink out.new) (take (stand O.sink out.old).room (bare_bits before head.now (blocks_in blocks.now))))
-        (λ _. Breaks O.sink (stand O.sink out.old) (stand O.sink out.new) (take (stand O.sink out.old).room (bare_bits before head.now (blocks_in blocks.now)))) }
+        (λ _. Adds O.sink (stand O.sink out.old) (stand O.sink out.new) (take (stand O.sink out.old).room (bare_bits writer.now.items.now.tables.book writer.now.before head.now (blocks_in blocks.now))))
+        (λ _. Breaks O.sink (stand O.sink out.old) (stand O.sink out.new) (take (stand O.sink out.old).room (bare_bits writer.now.items.now.tables.book writer.now.before head.now (blocks_in blocks.now)))) }
     ensures depths { depths_of marks.new ≡ depths_of marks.old }
 {
-    match put_text(out, before, head, blocks, marks) {
+    match put_text(out, writer, head, blocks, marks) {
         Ok(()) => Ok(()),
         Err(PutFault::Stopped) => Ok(()),
         Err(PutFault::WriteFault) => Err(Failed),
@@ -84,12 +94,12 @@ fn put_fitting<O: OctetOut>(
 // Puts the head and the items after it.
 fn put_text<O: OctetOut>(
     out: &mut BitOut<O>,
-    before: Option<SegmentHead>,
+    writer: &BareWriter,
     head: &SegmentHead,
     blocks: &[i32],
     marks: &mut [i32],
 ) -> Result<(), PutFault>
-    requires before { IfSome before (λ h. IsHead h) }
+    requires before { IfSome writer.now.before (λ h. IsHead h) }
     requires fits { IsHead head.now }
     requires open { IsReady O.sink out.old }
     requires room { 8 * head_length head.now ≤ (stand O.sink out.old).room }
@@ -97,9 +107,9 @@ fn put_text<O: OctetOut>(
     requires dc { head.now.depth_dc ≡ depth_dc_of (blocks_in blocks.now) }
     requires ac { head.now.depth_ac ≡ depth_ac_of (blocks_in blocks.now) }
     requires marks { marks.old ≡ map pos (block_depths (blocks_in blocks.now)) }
-    ensures puts { Writes O.sink result out.old out.new (bare_bits before head.now (blocks_in blocks.now)) }
+    ensures puts { Writes O.sink result out.old out.new (bare_bits writer.now.items.now.tables.book writer.now.before head.now (blocks_in blocks.now)) }
     ensures depths { depths_of marks.new ≡ depths_of marks.old }
 {
-    put_bare_head(out, before, head)?;
-    encode_items(out, head, blocks, marks, &profile_book())
+    put_bare_head(out, writer.before, head)?;
+    writer.items.encode_items(out, head, blocks, marks)
 }

@@ -13,7 +13,7 @@ mod tests;
 mod write;
 
 pub use agree::check_agreement;
-pub use encode::encode_bare_text;
+pub use encode::BareWriter;
 pub use parts::PartsInForce;
 pub use read::{BareHead, BareHeadFault, BareReader, read_bare_head};
 pub use segment_code::SegmentFault;

@@ -1,6 +1,5 @@
 // Reads a head with absent parts.
 ghost use Rattle.std.specs.Prelude.{◌≡◌, ◌≤◌, length, IfOk};
-ghost use Rattle.plane_defs.specs.Profile.{profile};
 ghost use Rattle.segment_defs.specs.Head.{IsHead};
 ghost use Rattle.segment_defs.specs.Reading.{answer, first_refusal};
 ghost use Rattle.segment_defs.specs.declared.fault.HeadFault.TheVariants.{HeadShort};
@@ -10,23 +9,29 @@ ghost use Rattle.bare_text.specs.Reading.{carry_tests};
 ghost use Rattle.bare_text.specs.Taken.{ReadsHead};
 
 use crate::parts::{PartsInForce, bare_length, read_completed};
+use base_122::Book;
 use bit_pipe::{InFault, OctetIn, Part};
 use segment_code::{SegmentFault, SegmentReader};
 use segment_head::{HeadFault, SegmentHead, carried_in};
-use word_codes::profile_book;
 
 /// Reads the items of bare texts, by tables of their words that are made once.
 #[derive(Drop)]
 pub struct BareReader {
-    reader: SegmentReader,
-    ghost of_profile: { reader.tables.book ≡ profile },
+    /// The reader of these items, whose tables have the book.
+    pub reader: SegmentReader,
 }
 
 impl BareReader {
-    /// A reader of the items of any bare texts: they have the codes of the profile's book.
-    pub fn new() -> BareReader {
+    ghost use Rattle.std.specs.Prelude.{IsTrue};
+    ghost use Rattle.plane_defs.specs.Codes.{is_book_sound};
+
+    /// A reader of the items of bare texts that were written with this book. The book is sound.
+    pub fn new(book: &Book) -> BareReader
+        requires sound { IsTrue (is_book_sound book.now) }
+        ensures book { result.reader.tables.book ≡ book.now }
+    {
         BareReader {
-            reader: SegmentReader::new(&profile_book()),
+            reader: SegmentReader::new(book),
         }
     }
 }
@@ -59,7 +64,7 @@ impl BareHead {
         requires size { self.now.size ≤ 20 }
         requires count { length blocks.old ≡ 64 * length marks.old }
         requires marks { length marks.old ≡ self.now.head.blocks }
-        ensures decodes { DecodesItems I.source profile self.now.head self.now.size result input.old input.new blocks.new }
+        ensures decodes { DecodesItems I.source reader.now.reader.tables.book self.now.head self.now.size result input.old input.new blocks.new }
         ensures sizes { (length blocks.new ≡ length blocks.old) × (length marks.new ≡ length marks.old) }
     {
         reader

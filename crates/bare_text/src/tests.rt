@@ -3,11 +3,12 @@ ghost use Rattle.std.specs.Prelude.{◌≡◌, ◌≤◌, ◌*◌, length, IfOk,
 ghost use Rattle.segment_defs.specs.Head.{IsHead};
 
 use crate::agree::check_agreement;
-use crate::encode::encode_bare_text;
+use crate::encode::BareWriter;
 use crate::parts::PartsInForce;
 use crate::read::{BareHead, BareHeadFault, BareReader, read_bare_head};
+use base_122::Book;
 use bit_pipe::{OctetIn, Part, SliceIn, SliceOut};
-use segment_code::{SegmentFault, segment_depths};
+use segment_code::{SegmentFault, SegmentWriter, segment_depths};
 use segment_head::{HeadFault, HeadField, SegmentHead};
 use std::process::Abort;
 
@@ -84,6 +85,16 @@ fn heads_cut_at_each_octet(rt: HostRuntime) {
     }
 }
 
+// Returns a reader of texts that were written with the profile's book.
+fn profile_reader() -> BareReader {
+    BareReader::new(&Book::profile())
+}
+
+// Returns a writer of items with the codes of the profile's book.
+fn profile_writer() -> SegmentWriter {
+    SegmentWriter::new(&Book::profile())
+}
+
 // Writes the text of these blocks, and returns its length.
 fn encode(
     rt: &impl Abort,
@@ -108,7 +119,14 @@ fn encode(
     assert_eq!(rt; depths.0, head.depth_dc);
     assert_eq!(rt; depths.1, head.depth_ac);
     assert_eq!(rt; head.blocks, marks.len() as u32);
-    encode_bare_text(&mut SliceOut::new(into), before, head, blocks, marks).expect(rt, "room")
+    let items = profile_writer();
+    let writer = BareWriter {
+        before,
+        items: &items,
+    };
+    writer
+        .encode_text(&mut SliceOut::new(into), head, blocks, marks)
+        .expect(rt, "room")
 }
 
 // Expects that the text is read, and is written again after the head before. Returns its head.
@@ -147,7 +165,7 @@ fn expect_text(
 
 #[test]
 fn texts_both_ways(rt: HostRuntime) {
-    let reader = BareReader::new();
+    let reader = profile_reader();
     let mut parts = PartsInForce::none();
     let first = expect_text(&rt, &reader, &FIRST, &mut parts, None);
     expect_text(&rt, &reader, &SECOND, &mut parts, Some(first));
@@ -163,7 +181,8 @@ fn a_text_cut_in_its_items(rt: HostRuntime) {
     let read = read_bare_head(&mut input, &mut parts).expect(&rt, "a head");
     assert_eq!(rt; (read.head.blocks, first.blocks), (16, 16));
     let (mut blocks, mut marks) = ([7; 1024], [7; 16]);
-    let answer = read.decode_items(&BareReader::new(), &mut input, &mut blocks, &mut marks);
+    let reader = profile_reader();
+    let answer = read.decode_items(&reader, &mut input, &mut blocks, &mut marks);
     assert_eq!(rt; answer, Err(SegmentFault::ShortSegment));
 }
 

@@ -24,4 +24,4 @@ returns-clause-decodes g c =
     let begins = c.in-Ok-new.ensures.begins in
     c.take_stream.ensures.run c.args.wish.now (g.X.Port.outside c.args.input.now.port.now)
     (first_reading g.X.Port.outside c.args.wish.now c.args.input.now c.take_head.new.input c.requires.none c.requires.left c.take_head.new.parts c.in-Ok.first (rw c.none-parts.ensures at c.in-Ok.ensures.takes)
-    c.in-Ok-new.walk begins.0 begins.1 begins.2 begins.3 c.in-Ok-new.ensures.fresh)
+    c.in-Ok-new.walk begins.0 begins.1 begins.2 begins.3 begins.4 c.in-Ok-new.ensures.fresh)

@@ -25,6 +25,6 @@ returns-clause-walk g c = (next_sound c.args.walk.now c.args.read.now c.requires
 pub returns-clause-run : goal.returns-clause-run
 returns-clause-run g c = λ wish start r front text before at head is. (
   more c.args.walk.now c.args.read.now c.requires.sound c.requires.next g.X.Port.outside wish start r front text before c.args.input.now c.args.input.now at head is c.requires.going refl refl,
-  next_at c.args.walk.now c.args.read.now c.requires.sound c.requires.next g.X.Port.outside wish start r front text before c.args.input.now _ at head is c.requires.going refl refl _ (rw c.deref.ensures.value at c.in-Ok.ensures) refl refl refl,
+  next_at c.args.walk.now c.args.read.now c.requires.sound c.requires.next g.X.Port.outside wish start r front text before c.args.input.now _ at head is c.requires.going refl refl _ (rw c.deref.ensures.value at c.in-Ok.ensures) refl refl refl refl,
   force_next c.args.walk.now c.args.read.now c.requires.sound c.requires.next g.X.Port.outside wish start r front text before c.args.input.now c.args.input.now at head is c.requires.going refl refl,
 )

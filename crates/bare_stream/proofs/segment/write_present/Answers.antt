@@ -16,7 +16,7 @@ write_front-requires-clause-marks g c = rw c.deref_mut.ensures.value (marks_fit 
 
 pub returns-in_default : goal.returns-in_default
 returns-in_default g c =
-    present_cut c.args.setting.now c.requires.bare c.args.column c.args.work.now _ c.requires.at c.requires.index c.requires.full (record { strip = refl; row = refl; blocks = refl; marks = refl; room = refl }) refl
+    present_cut c.args.setting.now c.requires.bare c.args.column c.args.work.now _ c.requires.at c.requires.index c.requires.full (record { strip = refl; row = refl; blocks = refl; marks = refl; writer = refl; room = refl }) refl
     c.args.before (rw c.deref.ensures.value at c.in_default.ensures)
 
 pub overflow_add-work : goal.overflow_add-work
@@ -31,5 +31,5 @@ overflow_add-work-2 g c =
 
 pub returns : goal.returns
 returns g c =
-    present_out c.args.setting.now c.requires.bare c.args.column c.args.work.now _ c.requires.at c.requires.index c.requires.full (record { strip = refl; row = refl; blocks = refl; marks = refl; room = refl }) refl
+    present_out c.args.setting.now c.requires.bare c.args.column c.args.work.now _ c.requires.at c.requires.index c.requires.full (record { strip = refl; row = refl; blocks = refl; marks = refl; writer = refl; room = refl }) refl
     refl refl refl c.in-Ok.octets c.in-Ok.ensures.text.few refl c.args.before c.in-Ok.head (rw c.deref.ensures.value at c.in-Ok.ensures)

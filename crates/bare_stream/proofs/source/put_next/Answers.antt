@@ -12,5 +12,5 @@ returns c =
     let w = c.args.work.now in
     let numbers = gathered (number_in w.strip) s.weights.shifts c.args.column in
     block_put s c.requires.bare c.args.column w _ c.requires.at c.requires.column c.requires.index c.requires.more
-    (put_in w _ w.blocks.items c.gather_block.new.blocks numbers (record { strip = refl; row = refl; blocks = refl; marks = refl; room = refl }) refl refl refl
+    (put_in w _ w.blocks.items c.gather_block.new.blocks numbers (record { strip = refl; row = refl; blocks = refl; marks = refl; writer = refl; room = refl }) refl refl refl
     (with_items_is w.blocks c.gather_block.new.blocks (c.gather_block.auto.blocks ∙ c.deref_mut.ensures.len)) (rw c.deref_mut.ensures.value at c.gather_block.ensures))

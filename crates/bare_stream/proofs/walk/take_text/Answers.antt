@@ -1,8 +1,12 @@
 use Rattle.std.proofs.Common.{rules, arith, ◌≤◌, ◌≡◌, ◌*◌, ◌++◌, length, take, refl, sym, subst, vec_len}
+use Rattle.std.specs.Prelude.{Ok, Err}
 use Rattle.std.proofs.lemmas.List.{with_items_is}
 use Rattle.wave_defs.specs.Held.{blocks_in}
+use Rattle.segment_code.specs.DecodedItems.{DecodesItems}
 use Rattle.bare_stream.specs.Blocks.{AreParts}
+use Rattle.bare_stream.specs.Inputs.{source_of}
 use Rattle.bare_stream.specs.SegmentsRead.{AgreeingText}
+use Rattle.bare_stream.specs.Walks.{book_in}
 use Rattle.bare_stream.proofs.ItemParts.{items_weighted}
 use Rattle.bare_stream.proofs.TextsRead.{items_faulted, text_at, is_text}
 use Rattle.bare_stream.proofs.walk.take_text.Goals as goal
@@ -14,23 +18,26 @@ returns-in-Ok-clause-parts g c =
     let same : length new ≡ vec_len c.args.walk.now.room.blocks = search rules in
     let long : 64 * read.head.blocks ≤ length new = omega (arith, same, c.requires.blocks) in
     subst (λ l. AreParts l read.head.blocks read.head.image.weights.shifts) (sym (with_items_is c.args.walk.now.room.blocks new same))
-    (items_weighted read.head read.size c.in-Ok.ensures.items.octets new c.in-Ok.field-0 c.requires.next.fits c.in-Ok.ensures.items.ends long)
+    (items_weighted (book_in c.args.walk.now) read.head read.size c.in-Ok.ensures.items.octets new c.in-Ok.field-0 c.requires.next.fits c.in-Ok.ensures.items.ends long)
 
 pub returns-in-Ok-clause-run : goal.returns-in-Ok-clause-run
 returns-in-Ok-clause-run g c = λ wish start r front before at head.
     let n = 64 * c.args.read.now.head.blocks in
     let new = c.read_items-items.new.blocks in
-    let x = c.in-Ok.ensures.items in
+    let source = source_of g.X.Port.outside in
+    let x = subst (λ b. DecodesItems source b c.args.read.now.head c.args.read.now.size (Ok c.in-Ok.field-0) c.args.input.now c.read_items-items.new.input (take n new)) at.book c.in-Ok.ensures.items in
     let same : length new ≡ vec_len c.args.walk.now.room.blocks = search rules in
     let is = with_items_is c.args.walk.now.room.blocks new same in (
       front ++ x.went.gave,
-      text_at g.X.Port.outside wish start r front c.args.input.now c.read_items-items.new.input c.args.walk.now before c.args.read.now at head c.requires.next (take n new) c.in-Ok.field-0 x _ refl refl refl refl,
+      text_at g.X.Port.outside wish start r front c.args.input.now c.read_items-items.new.input c.args.walk.now before c.args.read.now at head c.requires.next (take n new) c.in-Ok.field-0 x _ refl refl refl refl refl,
       λ all told.
-          subst (λ l. AgreeingText r.first before c.args.walk.now.index (front ++ x.went.gave) (blocks_in (take n l)) (λ h after. (h ≡ c.args.read.now.head) × (after ≡ c.args.walk.now.parts))) (sym is)
+          subst (λ l. AgreeingText wish.book r.first before c.args.walk.now.index (front ++ x.went.gave) (blocks_in (take n l)) (λ h after. (h ≡ c.args.read.now.head) × (after ≡ c.args.walk.now.parts))) (sym is)
           (is_text g.X.Port.outside wish start r front c.args.input.now c.read_items-items.new.input c.args.walk.now before c.args.read.now at head c.requires.next (take n new) c.in-Ok.field-0 x all told),
     )
 
 pub returns-in-Err-clause-run : goal.returns-in-Err-clause-run
 returns-in-Err-clause-run g c = λ wish start r front before at head.
     items_faulted g.X.Port.outside wish start r front c.args.input.now c.read_items-items.new.input c.args.walk.now before c.args.read.now at head c.requires.next
-    (take (64 * c.args.read.now.head.blocks) c.read_items-items.new.blocks) c.in-Err.fault c.items_fault.result c.in-Err.ensures.items c.items_fault.ensures
+    (take (64 * c.args.read.now.head.blocks) c.read_items-items.new.blocks) c.in-Err.fault c.items_fault.result
+    (subst (λ b. DecodesItems (source_of g.X.Port.outside) b c.args.read.now.head c.args.read.now.size (Err c.in-Err.fault) c.args.input.now c.read_items-items.new.input (take (64 * c.args.read.now.head.blocks) c.read_items-items.new.blocks)) at.book c.in-Err.ensures.items)
+    c.items_fault.ensures

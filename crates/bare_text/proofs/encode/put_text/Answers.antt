@@ -8,4 +8,4 @@ returns-in_err-put_bare_head-clause-puts g c =
     rw (e.1, e.2) (puts_cut _ c.in_err-put_bare_head.ensures)
 
 pub returns-clause-puts : goal.returns-clause-puts
-returns-clause-puts g c = puts_then c.in_ok-put_bare_head.ensures.ends (rw c.profile_book.ensures.profile at c.encode_items.ensures.encodes.puts)
+returns-clause-puts g c = puts_then c.in_ok-put_bare_head.ensures.ends c.encode_items.ensures.encodes.puts
