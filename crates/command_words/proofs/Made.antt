@@ -114,29 +114,29 @@ given_in_range finds key range within = by (finds key) refl
 
 -- no key that is tested is out of range
 pub command_in_range : (task : Task) (finds : Finds) → LacksTotal task finds → field_of (first_refused task finds) ≡ None → IsInRange (command_of task finds)
-command_in_range Encode finds lacks e = (all_in_range Encode finds e).setting
+command_in_range Encode finds lacks e = ((all_in_range Encode finds e).setting, refl)
 command_in_range Mux finds lacks e =
     let all = all_in_range Mux finds e in
     let few = cameras_in_range finds (number_at finds key.Apid) (number_at finds key.Cameras) all.cameras in
-    (all.setting, all.rows refl, record { least = few.0; most = few.1; apids = few.2 })
+    (all.setting, all.rows refl, record { least = few.0; most = few.1; apids = few.2 }, refl)
 command_in_range Info finds lacks e =
     let all = all_in_range Info finds e in
     (given_in_range finds key.Apid apid_range all.wish.apid, all.wish.octets)
 command_in_range Pick finds lacks e =
     let all = all_in_range Pick finds e in
     (all.wish, given_in_range finds key.Image image_range all.image)
-command_in_range (Read reading) finds lacks e = (all_in_range (Read reading) finds e).wish
+command_in_range (Read reading) finds lacks e = ((all_in_range (Read reading) finds e).wish, refl)
 command_in_range BareEncode finds lacks e =
     let all = all_in_range BareEncode finds e in
-    (all.setting, all.rows refl, ap (λ found. cap_of (unwrap_or found (row_of key.Total).default)) lacks)
-command_in_range BareDecode finds lacks e = (all_in_range BareDecode finds e).wish
+    (all.setting, all.rows refl, ap (λ found. cap_of (unwrap_or found (row_of key.Total).default)) lacks, refl)
+command_in_range BareDecode finds lacks e = ((all_in_range BareDecode finds e).wish, refl)
 command_in_range Make finds lacks e =
     let all = all_in_range Make finds e in
     record { width = all.setting.width; rows = all.rows refl; depth = all.setting.depth }
 command_in_range Trial finds lacks e =
     let all = all_in_range Trial finds e in
     let small : nat_le (number_at finds key.Width * number_at finds key.Rows) 16777216 ≡ true = all.small in
-    (all.setting, all.rows refl, grind (arith, nat_tests, small))
+    (all.setting, all.rows refl, grind (arith, nat_tests, small), refl)
 
 ok_after : (fault : Field → WordFault) (first : Option Field) (result : Result Command WordFault) → (first ≡ None → IfOk result IsInRange) → IfOk (after fault first result) IsInRange
 ok_after fault None result ok = ok refl

@@ -1,6 +1,7 @@
 -- The command that is made of the values, or the first thing that is wrong with them. This project's own.
 use Rattle.std.specs.Prelude.{◌≡◌, ◌≤◌, ◌+◌, ◌*◌, ℕ, IfSome, ◌&&◌, ◌||◌, ◌==◌, nat_le, Bool, true, false, not, List, find, is_some, option_and_then, Option, Some, None, Result, Ok, Err}
 use Rattle.std.specs.List.{list_all}
+use Rattle.base_122.specs.Profile.{profile}
 use Rattle.base_122.specs.Weights.{is_shift}
 use Rattle.base_122.specs.Ranges.{IsWithin, is_within, width_range, rows_range, depth_range, apid_range, image_range, octets_range, plane_range, stage_range, limit_test, total_test, IsInRange as IsSettingInRange, IsWishInRange}
 use Rattle.base_122.specs.declared.field.Field.{Field}
@@ -90,14 +91,14 @@ pub record AreCameras (setting : Setting) (cameras : ℕ) : Type 0 where
   pub most : cameras ≤ 16
   pub apids : setting.apid + cameras ≤ apid_range.most + 1
 
--- The command's fields are in range. Only the rows of `encode` may be 0, for an image whose height is reported last.
+-- The command's fields are in range, and its code book is the profile's. Only the rows of `encode` may be 0, for an image whose height is reported last.
 abbrev pub IsInRange : Command → Type 0
-IsInRange (Encode setting) = IsSettingInRange setting
-IsInRange (Mux setting cameras) = IsSettingInRange setting × IsWithin rows_range setting.rows × AreCameras setting cameras
-IsInRange (Read reading wish) = IsWishInRange wish
+IsInRange (Encode setting has_book) = IsSettingInRange setting × (setting.book ≡ profile)
+IsInRange (Mux setting cameras) = IsSettingInRange setting × IsWithin rows_range setting.rows × AreCameras setting cameras × (setting.book ≡ profile)
+IsInRange (Read reading wish has_book) = IsWishInRange wish × (wish.book ≡ profile)
 IsInRange (Info apid octets) = IfSome apid (IsWithin apid_range) × IsWithin octets_range octets
 IsInRange (Pick wish image) = IsWishInRange wish × IfSome image (IsWithin image_range)
-IsInRange (BareEncode setting) = IsSettingInRange setting × IsWithin rows_range setting.rows × (setting.total ≡ 0)
-IsInRange (BareDecode wish) = IsWishInRange wish
+IsInRange (BareEncode setting) = IsSettingInRange setting × IsWithin rows_range setting.rows × (setting.total ≡ 0) × (setting.book ≡ profile)
+IsInRange (BareDecode wish) = IsWishInRange wish × (wish.book ≡ profile)
 IsInRange (Make made) = IsMadeInRange made
-IsInRange (Trial setting seed) = IsSettingInRange setting × IsWithin rows_range setting.rows × (setting.width * setting.rows ≤ 16777216)
+IsInRange (Trial setting seed) = IsSettingInRange setting × IsWithin rows_range setting.rows × (setting.width * setting.rows ≤ 16777216) × (setting.book ≡ profile)

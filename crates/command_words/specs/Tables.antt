@@ -2,6 +2,7 @@
 use Rattle.std.specs.Prelude.{ℕ, ◌==◌, Bool, false, List, [], find, map, slice_index_or, unwrap_or, option_map, Option, None}
 use Rattle.std.specs.List.{list_any}
 use Rattle.std.specs.Str.{bytes_eq}
+use Rattle.base_122.specs.Profile.{profile}
 use Rattle.base_122.specs.declared.setting.Setting.{Setting}
 use Rattle.base_122.specs.declared.wish.DecodeWish.{DecodeWish}
 use Rattle.raster_rows.specs.declared.made.MadeImage.{MadeImage}
@@ -10,7 +11,7 @@ use Rattle.command_words.specs.declared.tables.Task.TheVariants.{Encode as to_en
 use Rattle.command_words.specs.declared.command.Command.{Command}
 use Rattle.command_words.specs.declared.command.Command.TheVariants.{Encode, Mux, Read, Info, Pick, BareEncode, BareDecode, Make, Trial}
 use Rattle.command_words.specs.declared.tables.Key.{Key}
-use Rattle.command_words.specs.declared.tables.Key.TheVariants.{Width, Rows, Depth, Signed, Segment, Limit, Fill, Word, Stop, Weights, Select, Apid, Image, Packet, Pixels, Octets, Total, Cameras, Seed}
+use Rattle.command_words.specs.declared.tables.Key.TheVariants.{Width, Rows, Depth, Signed, Segment, Limit, Fill, Word, Stop, Weights, Select, Apid, Image, Packet, Pixels, Octets, Total, Cameras, Book, Seed}
 use Rattle.command_words.specs.declared.tables.Range.TheVariants.{All as any_value}
 use Rattle.command_words.specs.declared.tables.KeyRow.{KeyRow}
 use Rattle.command_words.specs.declared.values.Value.{Value}
@@ -38,7 +39,8 @@ key_place Pixels = 14
 key_place Octets = 15
 key_place Total = 16
 key_place Cameras = 17
-key_place Seed = 18
+key_place Book = 18
+key_place Seed = 19
 
 abbrev pub no_row : KeyRow
 no_row = record { default = Flag false; required = false; field = None; range = any_value }
@@ -78,7 +80,7 @@ value_at finds key = unwrap_or (finds key) (row_of key).default
 abbrev pub number_at : Finds → Key → ℕ
 number_at finds key = number_of (value_at finds key)
 
--- the setting of the values; its numbers may be out of range
+-- the setting of the values, with the book of the profile; its numbers may be out of range
 abbrev pub setting_of : Finds → Setting
 setting_of finds = record {
   width = number_at finds Width;
@@ -96,11 +98,12 @@ setting_of finds = record {
   image = number_at finds Image;
   packet = number_at finds Packet;
   total = cap_of (value_at finds Total);
+  book = profile;
 }
 
--- the wish for a decoder
+-- the wish for a decoder, with the book of the profile
 abbrev pub wish_of : Finds → DecodeWish
-wish_of finds = record { apid = number_at finds Apid; pixels = cap_of (value_at finds Pixels); octets = cap_of (value_at finds Octets) }
+wish_of finds = record { apid = number_at finds Apid; pixels = cap_of (value_at finds Pixels); octets = cap_of (value_at finds Octets); book = profile }
 
 -- the made image of the values
 abbrev pub made_image_of : Finds → MadeImage
@@ -117,9 +120,9 @@ abbrev pub given_number : Finds → Key → Option ℕ
 given_number finds key = option_map number_of (finds key)
 
 abbrev pub command_of : Task → Finds → Command
-command_of to_encode finds = Encode (setting_of finds)
+command_of to_encode finds = Encode (setting_of finds) (flag_of (value_at finds Book))
 command_of to_mux finds = Mux (setting_of finds) (number_at finds Cameras)
-command_of (to_read reading) finds = Read reading (wish_of finds)
+command_of (to_read reading) finds = Read reading (wish_of finds) (flag_of (value_at finds Book))
 command_of to_info finds = Info (given_number finds Apid) (cap_of (value_at finds Octets))
 command_of to_pick finds = Pick (wish_of finds) (given_number finds Image)
 command_of to_bare_encode finds = BareEncode (setting_of finds)

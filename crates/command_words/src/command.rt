@@ -5,13 +5,15 @@ use raster_rows::MadeImage;
 /// The command that the arguments ask for.
 #[derive(Clone, Copy, Debug, PartialEq, Eq)]
 pub enum Command {
-    /// `encode`: it takes a raster and gives its packets.
-    Encode(Setting),
+    /// `encode`: it takes a raster and gives its packets. If the second field is true, the input begins with a code book, which is that of
+    /// the setting in place of the profile's.
+    Encode(Setting, bool),
     /// `mux`: it takes the rows of several cameras and gives the packets of all. It has the setting of the first camera, and the number
     /// of cameras. The APID of a camera is that of the one before it, plus 1.
     Mux(Setting, u8),
-    /// A command that takes packets and gives what is made of them.
-    Read(Reading, DecodeWish),
+    /// A command that takes packets and gives what is made of them. If the third field is true, the input begins with a code book, which is
+    /// that of the wish in place of the profile's.
+    Read(Reading, DecodeWish, bool),
     /// `info`: it takes packets and gives a line for each image. It has the APID of the images, or `None` for those of all APIDs, and the
     /// most octets that are read.
     Info(Option<u16>, u64),

@@ -3,7 +3,8 @@ use crate::entries::Entry;
 use crate::tables::{COUNT, Key, Range, Task};
 use crate::values::Value;
 use base_122::{
-    DecodeWish, FieldRange, Select, Setting, Stop, Weights, is_limit_in_range, is_total_in_range,
+    Book, DecodeWish, FieldRange, Select, Setting, Stop, Weights, is_limit_in_range,
+    is_total_in_range,
 };
 use raster_rows::MadeImage;
 
@@ -95,7 +96,8 @@ impl Given {
         }
     }
 
-    fn flag(&self, key: Key) -> bool
+    /// Returns the flag at a key.
+    pub fn flag(&self, key: Key) -> bool
         ensures { result ≡ flag_of (value_at (finds_of self.now) key) }
     {
         match self.value(key) {
@@ -224,7 +226,7 @@ impl Given {
         }
     }
 
-    /// Returns the setting, whose numbers are all in range.
+    /// Returns the setting, whose numbers are all in range, with the code book of the profile.
     pub fn setting(&self) -> Setting
         requires { IsInRange (setting_of (finds_of self.now)) }
         ensures { result ≡ setting_of (finds_of self.now) }
@@ -250,10 +252,11 @@ impl Given {
             image: self.number(Key::Image) as u16,
             packet: self.number(Key::Packet),
             total: self.cap(Key::Total),
+            book: Book::profile(),
         }
     }
 
-    /// Returns the wish, whose numbers are all in range.
+    /// Returns the wish, whose numbers are all in range, with the code book of the profile.
     pub fn wish(&self) -> DecodeWish
         requires { IsWishInRange (wish_of (finds_of self.now)) }
         ensures { result ≡ wish_of (finds_of self.now) }
@@ -262,6 +265,7 @@ impl Given {
             apid: self.number(Key::Apid) as u16,
             pixels: self.cap(Key::Pixels),
             octets: self.cap(Key::Octets),
+            book: Book::profile(),
         }
     }
 

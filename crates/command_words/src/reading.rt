@@ -53,9 +53,9 @@ fn command_of(task: Task, given: &Given) -> Command
     ensures { result ≡ command_of task (finds_of given.now) }
 {
     match task {
-        Task::Encode => Command::Encode(given.setting()),
+        Task::Encode => Command::Encode(given.setting(), given.flag(Key::Book)),
         Task::Mux => Command::Mux(given.setting(), given.number(Key::Cameras) as u8),
-        Task::Read(reading) => Command::Read(reading, given.wish()),
+        Task::Read(reading) => Command::Read(reading, given.wish(), given.flag(Key::Book)),
         Task::Info => Command::Info(given_number(given, Key::Apid), given.cap(Key::Octets)),
         Task::Pick => Command::Pick(given.wish(), given_number(given, Key::Image)),
         Task::BareEncode => Command::BareEncode(given.setting()),
@@ -84,7 +84,7 @@ fn make_command(task: Task, keys: &[Key], given: &Given) -> Result<Command, Word
 /// The first argument is the command, and each further one is `key=value`. A key that is missing has its default. If the arguments make no
 /// command, the result is the first thing that is wrong with them: the arguments are tested from left to right, then for a required key
 /// that is missing, then for the command's first field out of range in the order of `Field`. A command that is returned has its fields in
-/// range. The rows of `encode` are 0, for an image whose height is reported last, or 17 to 262,144 (docs/formats.md, "Bounds"); `rows=0` is
+/// range, and the code book of the profile. The rows of `encode` are 0, for an image whose height is reported last, or 17 to 262,144 (docs/formats.md, "Bounds"); `rows=0` is
 /// out of range for all other commands.
 pub fn read_words(words: &[String]) -> Result<Command, WordFault>
     ensures says { Says (texts words.now) result }

@@ -55,6 +55,7 @@ pub enum Key {
     Octets,
     Total,
     Cameras,
+    Book,
     Seed,
 }
 
@@ -103,7 +104,7 @@ pub struct KeyRow {
 }
 
 /// The number of keys.
-pub const COUNT: usize = 19;
+pub const COUNT: usize = 20;
 
 /// All keys in the order in which their ranges are tested, which is that of `Field`.
 pub const ALL: [Key; COUNT] = [
@@ -125,6 +126,7 @@ pub const ALL: [Key; COUNT] = [
     Key::Octets,
     Key::Total,
     Key::Cameras,
+    Key::Book,
     Key::Seed,
 ];
 
@@ -163,6 +165,7 @@ const KEYS: [(&str, KeyRow); COUNT] = [
     key_row! { "octets": Value::Cap(1 << 40), Some(Field::Octets), Range::Cap(FieldRange::OCTETS) },
     key_row! { "total": Value::Cap(0), Some(Field::Total), Range::Total },
     key_row! { "cameras": Value::Number(1), Some(Field::Cameras), Range::Cameras },
+    key_row! { "book": Value::Flag(false), None, Range::All },
     key_row! { "seed": Value::Number(0), None, Range::All },
 ];
 
@@ -175,7 +178,7 @@ macro_rules! key_group {
 pub const GROUPS: [(&str, &[Key]); 4] = [
     key_group! { "what\n": Width Rows Depth Signed Seed },
     key_group! { "how much to keep\n": Limit Total Fill Stop Weights Select },
-    key_group! { "segments and packets\n": Segment Word Apid Cameras Image Packet },
+    key_group! { "segments and packets\n": Segment Word Book Apid Cameras Image Packet },
     key_group! { "reading\n": Pixels Octets },
 ];
 
@@ -189,17 +192,17 @@ macro_rules! command_row {
 /// The table of commands.
 pub const COMMANDS: [CommandRow; 13] = [
     command_row! { "encode": Task::Encode, "raster in, space packets out, each as soon as it is determined",
-        Width Rows Depth Signed Segment Limit Fill Word Stop Weights Select Apid Image Packet Total },
+        Width Rows Depth Signed Segment Limit Fill Word Stop Weights Select Apid Image Packet Total Book },
     command_row! { "mux": Task::Mux, "rows of cameras in, packets out, each as soon as it is determined",
         Width Rows Depth Signed Segment Limit Fill Word Stop Weights Select Apid Image Packet Total Cameras },
     command_row! { "decode": Task::Read(Reading::Decode), "packets in, raster out, each row as soon as it is determined",
-        Apid Pixels Octets },
+        Apid Pixels Octets Book },
     command_row! { "damage": Task::Read(Reading::Damage), "packets in, one line FIRST-LAST out for each range of damaged rows",
-        Apid Pixels Octets },
+        Apid Pixels Octets Book },
     command_row! { "rects": Task::Read(Reading::Rects), "packets in, one line ROWS COLUMNS out for each damaged rectangle",
-        Apid Pixels Octets },
+        Apid Pixels Octets Book },
     command_row! { "look": Task::Read(Reading::Look), "packets in, a small picture out, with one value for each block",
-        Apid Pixels Octets },
+        Apid Pixels Octets Book },
     command_row! { "list": Task::Read(Reading::List), "packets in, one line out for each: its number and its fate",
         Apid Octets },
     command_row! { "info": Task::Info, "packets in, one line out for each image, of one APID or of all",

@@ -1,7 +1,7 @@
 // Tests of the meaning of arguments, and of the first fault in them.
 use crate::tables::{ALL, GROUPS};
 use crate::{Command, Reading, WordFault, read_words};
-use base_122::{DecodeWish, Field, Select, Setting, Stop, Weights};
+use base_122::{Book, DecodeWish, Field, Select, Setting, Stop, Weights};
 use raster_rows::MadeImage;
 use std::test::Fail;
 
@@ -28,7 +28,7 @@ fn defaults_stand_for_the_other_keys(rt: HostRuntime) -> Result<(), Fail> {
         ..Setting::usual(1_048_575, 48)
     };
     let text = "encode rows=48 stop=dc select=heuristic depth=12 width=1048575 signed=1";
-    assert_eq!(rt; said(&rt, text)?, Ok(Command::Encode(setting)));
+    assert_eq!(rt; said(&rt, text)?, Ok(Command::Encode(setting, false)));
     Ok(())
 }
 
@@ -56,10 +56,11 @@ fn each_key_has_its_field(rt: HostRuntime) -> Result<(), Fail> {
         image: 65_535,
         packet: 65_536,
         total: 0,
+        book: Book::profile(),
     };
     let text = "encode packet=65536 image=65535 apid=2046 weights=3210321032 stop=27.1 word=2 \
                 fill=1 limit=66 segment=16 depth=16 rows=262144 width=17";
-    assert_eq!(rt; said(&rt, text)?, Ok(Command::Encode(setting)));
+    assert_eq!(rt; said(&rt, text)?, Ok(Command::Encode(setting, false)));
     Ok(())
 }
 
@@ -81,24 +82,65 @@ fn a_made_image_has_a_seed(rt: HostRuntime) -> Result<(), Fail> {
 }
 
 #[test]
+fn a_book_is_part_of_the_input(rt: HostRuntime) -> Result<(), Fail> {
+    let setting = Setting::usual(17, 48);
+    let text = "encode rows=48 book=1 width=17";
+    assert_eq!(rt; said(&rt, text)?, Ok(Command::Encode(setting, true)));
+    let text = "encode rows=48 book=0 width=17";
+    assert_eq!(rt; said(&rt, text)?, Ok(Command::Encode(setting, false)));
+    let readings = [
+        ("decode book=1", Reading::Decode),
+        ("damage book=1", Reading::Damage),
+        ("look book=1", Reading::Look),
+        ("rects book=1", Reading::Rects),
+    ];
+    for (text, reading) in readings {
+        let wish = DecodeWish::usual();
+        assert_eq!(rt; said(&rt, text)?, Ok(Command::Read(reading, wish, true)));
+    }
+    for text in [
+        "list book=1",
+        "pick book=1",
+        "bare-decode book=1",
+        "decode book=2",
+    ] {
+        assert_eq!(rt; said(&rt, text)?, Err(WordFault::BadWord { place: 1 }));
+    }
+    Ok(())
+}
+
+#[test]
 fn a_decoder_has_caps(rt: HostRuntime) -> Result<(), Fail> {
     assert_eq!(rt;
         said(&rt, "decode")?,
-        Ok(Command::Read(Reading::Decode, DecodeWish::usual()))
+        Ok(Command::Read(Reading::Decode, DecodeWish::usual(), false))
     );
     let wish = DecodeWish {
         apid: 7,
         pixels: 1_099_511_627_776,
         octets: 1,
+        ..DecodeWish::usual()
     };
     let text = "decode octets=1 pixels=1099511627776 apid=7";
-    assert_eq!(rt; said(&rt, text)?, Ok(Command::Read(Reading::Decode, wish)));
+    assert_eq!(rt;
+        said(&rt, text)?,
+        Ok(Command::Read(Reading::Decode, wish, false))
+    );
     let text = "damage octets=1 pixels=1099511627776 apid=7";
-    assert_eq!(rt; said(&rt, text)?, Ok(Command::Read(Reading::Damage, wish)));
+    assert_eq!(rt;
+        said(&rt, text)?,
+        Ok(Command::Read(Reading::Damage, wish, false))
+    );
     let text = "look octets=1 pixels=1099511627776 apid=7";
-    assert_eq!(rt; said(&rt, text)?, Ok(Command::Read(Reading::Look, wish)));
+    assert_eq!(rt;
+        said(&rt, text)?,
+        Ok(Command::Read(Reading::Look, wish, false))
+    );
     let text = "rects octets=1 pixels=1099511627776 apid=7";
-    assert_eq!(rt; said(&rt, text)?, Ok(Command::Read(Reading::Rects, wish)));
+    assert_eq!(rt;
+        said(&rt, text)?,
+        Ok(Command::Read(Reading::Rects, wish, false))
+    );
     let listed = DecodeWish {
         apid: 7,
         octets: 1,
@@ -106,7 +148,7 @@ fn a_decoder_has_caps(rt: HostRuntime) -> Result<(), Fail> {
     };
     assert_eq!(rt;
         said(&rt, "list octets=1 apid=7")?,
-        Ok(Command::Read(Reading::List, listed))
+        Ok(Command::Read(Reading::List, listed, false))
     );
     Ok(())
 }
@@ -202,7 +244,7 @@ fn a_total_has_36_octets_for_each_segment(rt: HostRuntime) -> Result<(), Fail> {
         let text = format!(in rt.alloc(); "{words} {more}")?;
         assert_eq!(rt;
             said(&rt, text.as_str())?,
-            Ok(Command::Encode(setting)),
+            Ok(Command::Encode(setting, false)),
             "{more}"
         );
     }
@@ -212,7 +254,7 @@ fn a_total_has_36_octets_for_each_segment(rt: HostRuntime) -> Result<(), Fail> {
         ..Setting::usual(1_048_575, 262_144)
     };
     let text = "encode width=1048575 rows=262144 segment=16 total=9663676416";
-    assert_eq!(rt; said(&rt, text)?, Ok(Command::Encode(setting)));
+    assert_eq!(rt; said(&rt, text)?, Ok(Command::Encode(setting, false)));
     Ok(())
 }
 
@@ -254,7 +296,7 @@ fn only_encode_leaves_the_rows_open(rt: HostRuntime) -> Result<(), Fail> {
         ..Setting::usual(17, 0)
     };
     let text = "encode width=17 rows=0 depth=12";
-    assert_eq!(rt; said(&rt, text)?, Ok(Command::Encode(setting)));
+    assert_eq!(rt; said(&rt, text)?, Ok(Command::Encode(setting, false)));
     for (text, field) in [
         ("encode width=17 rows=0 depth=17", Field::Depth),
         ("encode width=17 rows=0 total=400", Field::Total),

@@ -5,6 +5,7 @@ use Rattle.std.proofs.lemmas.List.{append-nil}
 use Rattle.port_122.specs.Outside.{Outside, Exchange, NoRead, Rose, GivenBy, AtEnd, Grows}
 use Rattle.port_122.proofs.Stretches.{since_start, at_end_later}
 use Rattle.port_122.proofs.Told.{end_told}
+use Rattle.base_122.specs.declared.book.Book.{Book}
 use Rattle.base_122.specs.declared.geometry.Geometry.{Geometry}
 use Rattle.base_122.specs.declared.setting.Setting.{Setting}
 use Rattle.base_122.specs.declared.wish.DecodeWish.{DecodeWish}
@@ -82,16 +83,16 @@ bare_encode_failed s a b c fault status run n is =
 -- ---- `bare-decode`: after the note
 
 -- what holds of what follows the segments that were read, if something stronger does
-read_so : {P Q : Option SegmentHead → (index : ℕ) → PartsInForce → List ℕ → Type 0} (took : List ℕ) (read : Option SegmentsRead) →
-    ((first : Option SegmentHead) (index : ℕ) (before : PartsInForce) (rest : List ℕ) → P first index before rest → Q first index before rest) → ReadThen took read P → ReadThen took read Q
-read_so took None f k = f None 0 none_in_force took k
-read_so {P} {Q} took (Some r) f k = (
+read_so : {P Q : Option SegmentHead → (index : ℕ) → PartsInForce → List ℕ → Type 0} (book : Book) (took : List ℕ) (read : Option SegmentsRead) →
+    ((first : Option SegmentHead) (index : ℕ) (before : PartsInForce) (rest : List ℕ) → P first index before rest → Q first index before rest) → ReadThen book took read P → ReadThen book took read Q
+read_so book took None f k = f None 0 none_in_force took k
+read_so {P} {Q} book took (Some r) f k = (
   k.0,
   (
     k.1.0,
     k.1.1,
     k.1.2,
-    are_so {P = λ before. P (first_of r.first r.texts) (length r.texts) before k.1.0} {Q = λ before. Q (first_of r.first r.texts) (length r.texts) before k.1.0} r.first none_in_force 0 r.texts r.blocks
+    are_so {P = λ before. P (first_of r.first r.texts) (length r.texts) before k.1.0} {Q = λ before. Q (first_of r.first r.texts) (length r.texts) before k.1.0} book r.first none_in_force 0 r.texts r.blocks
         (λ before. f (first_of r.first r.texts) (length r.texts) before k.1.0) k.1.3,
   ),
 )
@@ -105,21 +106,21 @@ module _ (b c : Outside) (ends : AtEnd b → AtEnd c) where
   decides_later (DepthTooLarge dc ac) front rest k = k
   decides_later (BadValue field) front rest k = k
 
-  refuses_later : (pixels : ℕ) (cause : BareCause) (first : Option SegmentHead) (before : PartsInForce) (index : ℕ) (octets : List ℕ) → Refuses pixels first before index octets b cause → Refuses pixels first before index octets c cause
-  refuses_later pixels (Head fault) first before index octets (inl k) =
+  refuses_later : (book : Book) (pixels : ℕ) (cause : BareCause) (first : Option SegmentHead) (before : PartsInForce) (index : ℕ) (octets : List ℕ) → Refuses book pixels first before index octets b cause → Refuses book pixels first before index octets c cause
+  refuses_later book pixels (Head fault) first before index octets (inl k) =
       inl record { front = k.front; rest = k.rest; parts = k.parts; read = k.read; decides = decides_later fault k.front k.rest k.decides }
-  refuses_later pixels (Head fault) first before index octets (inr k) = inr k
-  refuses_later pixels BadOption first before index octets k = k
-  refuses_later pixels BadDelta first before index octets k = k
-  refuses_later pixels BadDepth first before index octets k = k
-  refuses_later pixels FalseFlag first before index octets k = k
-  refuses_later pixels cut_text first before index octets k = (k.0, ends k.1)
-  refuses_later pixels Trailing first before index octets k = absurd k
+  refuses_later book pixels (Head fault) first before index octets (inr k) = inr k
+  refuses_later book pixels BadOption first before index octets k = k
+  refuses_later book pixels BadDelta first before index octets k = k
+  refuses_later book pixels BadDepth first before index octets k = k
+  refuses_later book pixels FalseFlag first before index octets k = k
+  refuses_later book pixels cut_text first before index octets k = (k.0, ends k.1)
+  refuses_later book pixels Trailing first before index octets k = absurd k
 
   module _ (wish : DecodeWish) (took : List ℕ) (read : Option SegmentsRead) where
-    refused_later : (index : ℕ) (cause : BareCause) → ReadThen took read (λ first next before rest. (index ≡ next) × Refuses wish.pixels first before index rest b cause) →
-        ReadThen took read (λ first next before rest. (index ≡ next) × Refuses wish.pixels first before index rest c cause)
-    refused_later index cause = read_so took read (λ first next before rest k. (k.0, refuses_later wish.pixels cause first before index rest k.1))
+    refused_later : (index : ℕ) (cause : BareCause) → ReadThen wish.book took read (λ first next before rest. (index ≡ next) × Refuses wish.book wish.pixels first before index rest b cause) →
+        ReadThen wish.book took read (λ first next before rest. (index ≡ next) × Refuses wish.book wish.pixels first before index rest c cause)
+    refused_later index cause = read_so wish.book took read (λ first next before rest k. (k.0, refuses_later wish.book wish.pixels cause first before index rest k.1))
 
     reasons_later : (r : Result Geometry BareFault) → BareReasons wish b took read r → BareReasons wish c took read r
     reasons_later (Ok g) k = k
@@ -174,7 +175,7 @@ gives_picture : (wish : DecodeWish) (new : Outside) (took gave : List ℕ) (g : 
 gives_picture wish new took gave g None k gives = absurd k.1
 gives_picture wish new took gave g (Some r) k gives =
     let octets : took ≡ k.1.0 = k.1.1 ∙ append-nil k.1.0 in (
-      record { blocks = r.blocks; stream = subst (λ o. BareStream o g r.blocks) (sym octets) k.1.2; caps = record { few = k.2; short = k.3 } },
+      record { blocks = r.blocks; stream = subst (λ o. BareStream wish.book o g r.blocks) (sym octets) k.1.2; caps = record { few = k.2; short = k.3 } },
       gives ∙ ap (λ ended. rows_with r.first ended r.blocks) k.1.3,
     )
 
@@ -291,7 +292,7 @@ gave_bare trip wish old new status (read, run) zero = by run.answer (sym run.sta
           gave = run.gave;
           read = read;
           since = since;
-          back = λ all told s x is same. trip.decoded wish old new g all s x over told same is;
+          back = λ all told s x book is same. trip.decoded wish old new g all s x over told same book is;
         }
     by (Err (Refused index cause)) none noted k = absurd (omega (arith, none))
     by (Err (TooManyPixels pixels)) none noted k = absurd (omega (arith, none))

@@ -2,7 +2,8 @@
 use Rattle.std.proofs.Common.{◌≡◌, ◌≢◌, ◌<◌, ◌≤◌, ◌+◌, ℕ, List, [], ◌∷◌, ◌++◌, length, map, refl, sym, ◌∙◌, ap, subst, arith, get_or, inl, inr}
 use Rattle.std.proofs.Math.ListN.{get_or-append}
 use Rattle.std.proofs.Math.Seq.{get_or-append_seam}
-use Rattle.std.specs.Prelude.{slice_index_or}
+use Rattle.std.specs.Prelude.{true, slice_index_or}
+use Rattle.plane_defs.specs.Codes.{is_book_sound}
 use Rattle.std.specs.List.{range_with_len}
 use Rattle.std.proofs.lemmas.List.{length-map}
 use Rattle.std.proofs.lemmas.List.FromFn.{length-range_with_len, get_or-map-range_with_len, map-range_with_len_more}
@@ -59,6 +60,11 @@ are_settings s cameras range height are = record {
   where
     size : length (camera_settings s cameras) ≡ cameras
     size = size_is s cameras
+
+-- and they have one book
+pub sound_cameras : (s : Setting) (cameras : ℕ) → is_book_sound s.book ≡ true → (camera : ℕ) → camera < length (camera_settings s cameras) → is_book_sound (setting_at (camera_settings s cameras) camera).book ≡ true
+sound_cameras s cameras sound camera lt =
+    subst (λ (t : Setting). is_book_sound t.book ≡ true) (sym (setting_is s cameras camera (omega (arith, lt, size_is s cameras)))) sound
 
 -- one work more
 pub made_more : (settings : List Setting) (works : List Work) (w : Work) (k : ℕ) → length works ≡ k →

@@ -4,6 +4,7 @@ use Rattle.std.specs.Prelude.{Result, Ok, Err, Some}
 use Rattle.port_122.specs.Outside.{Outside, Exchange, NoRead, Rose, GivenBy, AtEnd}
 use Rattle.port_122.proofs.Stretches.{since_start, at_end_later}
 use Rattle.port_122.proofs.Told.{end_told}
+use Rattle.base_122.specs.declared.book.Book.{Book}
 use Rattle.base_122.specs.declared.setting.Setting.{Setting}
 use Rattle.strip_coder.specs.declared.encode.EncodeDone.{EncodeDone}
 use Rattle.strip_coder.specs.declared.encode.EncodeFault.{EncodeFault}
@@ -11,9 +12,12 @@ use Rattle.strip_coder.specs.declared.encode.EncodeFault.TheVariants.{ReadFault,
 use Rattle.strip_coder.specs.Rasters.{row_length, most_length, LacksRows, given_for}
 use Rattle.strip_coder.specs.Answers.{Answers, AllInRange, FirstBad, TookRaster, EncodesImage}
 use Rattle.strip122.specs.Notes.{IsNoted, Notes, fault_status, fault_line, memory_line}
-use Rattle.strip122.specs.Encoding.{EncoderCauses, AsksGiven, encode_status, encode_line, RunsEncoder, Encodes, EncodedWhole, EncoderRefuses, encoder, encodes}
+use Rattle.strip122.specs.Encoding.{EncoderCauses, AsksGiven, encode_status, encode_line, RunsRaster, EncodedWhole, EncoderRefuses, takes_raster, encoder, encodes_raster, encodes, encodes_with_book}
+use Rattle.strip122.specs.Books.{with_book}
+use Rattle.strip122.specs.Ran.{LacksMemory}
+use Rattle.strip122.proofs.BookRuns.{with_book_law}
 use Rattle.strip122.proofs.NoteLines.{ran_on, nothing_noted}
-use Rattle.strip122.proofs.Behaviours.{AtStatus, Law}
+use Rattle.strip122.proofs.Behaviours.{AtStatus, Law, memory_first_law}
 use Rattle.strip122.proofs.Inputs.{not_in_range, none_lacking, few_octets}
 use Rattle.strip122.proofs.ReadOut.{took_front}
 
@@ -38,15 +42,14 @@ pub record IsEncoder (s : Setting) (answers : EncoderCauses) (given : List ℕ �
 module _ (s : Setting) (answers : EncoderCauses) (given : List ℕ → List ℕ) (whole : Outside → Outside → Type 0) (engine : IsEncoder s answers given whole) where
   -- ---- each status
 
-  encoder_ends : (old new : Outside) (status : ℕ) → RunsEncoder answers given old new status → AtStatus (encoder s answers given whole) old new status
-  encoder_ends old new status (inl none) = subst (AtStatus (encoder s answers given whole) old new) (sym none.status_is) (none.wrote, none.since)
-  encoder_ends old new status (inr run) = subst (AtStatus (encoder s answers given whole) old new) (sym run.status_is) (by run.answer run.noted run.cause)
+  raster_ends : (old new : Outside) (status : ℕ) → RunsRaster answers given old new status → AtStatus (takes_raster s answers given whole) old new status
+  raster_ends old new status run = subst (AtStatus (takes_raster s answers given whole) old new) (sym run.status_is) (by run.answer run.noted run.cause)
     where
       refuses : (fault : EncodeFault) → fault_status fault ≡ 3 → IsNoted old new run.wrote (fault_line fault) → answers old new run.took run.gave (Err fault) → EncoderRefuses answers given old new
       refuses fault three noted k =
           record { fault = fault; took = run.took; gave = run.gave; wrote = run.wrote; since = run.since; input = three; cause = k; noted = noted }
 
-      by : (r : Result EncodeDone EncodeFault) → IsNoted old new run.wrote (encode_line r) → answers old new run.took run.gave r → AtStatus (encoder s answers given whole) old new (encode_status r)
+      by : (r : Result EncodeDone EncodeFault) → IsNoted old new run.wrote (encode_line r) → answers old new run.took run.gave r → AtStatus (takes_raster s answers given whole) old new (encode_status r)
       by (Ok done) noted k =
           engine.done old new run.took run.gave done k (subst (λ w. Exchange old new run.took run.gave w (GivenBy given run.took)) (nothing_noted old new run.wrote [] refl noted) run.since)
       by (Err (Short octets)) noted k = refuses (Short octets) refl noted k
@@ -56,7 +59,7 @@ module _ (s : Setting) (answers : EncoderCauses) (given : List ℕ → List ℕ)
       by (Err WriteFault) noted k = engine.say old new run.took run.gave WriteFault k
 
   -- a raster of all rows in range isn't refused
-  right_raster : (old new : Outside) → (encoder s answers given whole).right old → EncoderRefuses answers given old new → ⊥
+  right_raster : (old new : Outside) → (takes_raster s answers given whole).right old → EncoderRefuses answers given old new → ⊥
   right_raster old new input r = by r.fault (engine.say old new r.took r.gave r.fault r.cause) r.input
     where
       front : (rest : List ℕ) × (input.0 ≡ r.took ++ rest)
@@ -72,13 +75,16 @@ module _ (s : Setting) (answers : EncoderCauses) (given : List ℕ → List ℕ)
       by WriteFault k three = omega (arith, three)
 
   -- and nothing else is encoded
-  pub encoder_law : Law (encoder s answers given whole)
-  encoder_law = record {
-    ends = encoder_ends;
+  pub raster_law : Law (takes_raster s answers given whole)
+  raster_law = record {
+    ends = raster_ends;
     right = right_raster;
     wrong_whole = λ old new input w. let t = engine.takes old new input.0 input.1 w in input.2 t.0 t.1;
     wrong_part = λ old new wrong never. never;
   }
+
+  pub encoder_law : Law (encoder s answers given whole)
+  encoder_law = memory_first_law (takes_raster s answers given whole) raster_law (λ old new never. never)
 
 -- ---- `encode`
 
@@ -119,16 +125,23 @@ encode_engine s = record {
 pub encode_law : (s : Setting) → Law (encodes s)
 encode_law s = encoder_law s (Answers s) (given_for s) (EncodedWhole s) (encode_engine s)
 
+pub encode_book_law : (s : Setting) → Law (encodes_with_book s)
+encode_book_law s =
+    let b = λ (book : Book). encodes_raster (record s { book = book }) in
+    memory_first_law (with_book b)
+    (with_book_law b (λ book. let t = record s { book = book } in raster_law t (Answers t) (given_for t) (EncodedWhole t) (encode_engine t)))
+    (λ old new run. run.holds)
+
 -- there is too little memory, and this is noted
-pub lacks_memory : (s : Setting) (a b : Outside) → Notes a b memory_line → Encodes s a b 6
-lacks_memory s a b n = inl (record { wrote = n.0; since = n.1; status_is = refl; noted = n.2 })
+pub lacks_memory : (a b : Outside) → Notes a b memory_line → LacksMemory a b 6
+lacks_memory a b n = record { wrote = n.0; since = n.1; status_is = refl; noted = n.2 }
 
 -- the encoder's run, and nothing to note
-pub encoded : (s : Setting) (a b : Outside) (done : EncodeDone) → EncodesImage s a b (Ok done) → Encodes s a b 0
-encoded s a b done run = inr (ran_on a b b (Ok done) run.took run.gave [] 0 run.since run.answer (since_start b NoRead) refl (inl refl))
+pub encoded : (s : Setting) (a b : Outside) (done : EncodeDone) → EncodesImage s a b (Ok done) → (encodes_raster s).performs a b 0
+encoded s a b done run = (ran_on a b b (Ok done) run.took run.gave [] 0 run.since run.answer (since_start b NoRead) refl (inl refl))
 
 -- the encoder's run, and then its note
 pub encode_failed : (s : Setting) (a b c : Outside) (fault : EncodeFault) (status : ℕ) → EncodesImage s a b (Err fault) → Notes b c (fault_line fault) →
-    status ≡ fault_status fault → Encodes s a c status
+    status ≡ fault_status fault → (encodes_raster s).performs a c status
 encode_failed s a b c fault status run n is =
-    inr (ran_on a b c (Err fault) run.took run.gave n.0 status run.since (causes_later s a b c run.took run.gave n.0 (Err fault) n.1 run.answer) n.1 is n.2)
+    (ran_on a b c (Err fault) run.took run.gave n.0 status run.since (causes_later s a b c run.took run.gave n.0 (Err fault) n.1 run.answer) n.1 is n.2)

@@ -71,7 +71,7 @@ own_begun apid own octets geometry kept = by (geometry_in apid octets) geometry 
     by None one other = rw (one, other) refl
     by (Some g) one other = rw (one, other) (ap (begun_of g) kept)
 
-gives_own : PickingKeeps → (wish : DecodeWish) (old new : Outside) (took gave all : List ℕ) (done : DecodeDone) → IsPicture wish old new took gave done → old.rest ≡ Some all → GivesOwn wish.apid took gave done
+gives_own : PickingKeeps → (wish : DecodeWish) (old new : Outside) (took gave all : List ℕ) (done : DecodeDone) → IsPicture wish old new took gave done → old.rest ≡ Some all → GivesOwn wish took gave done
 gives_own law wish old new took gave all done p told =
     let keeps = law.all took wish.apid in
     let own = picked took wish.apid None in
@@ -81,7 +81,7 @@ gives_own law wish old new took gave all done p told =
     record {
       geometry = geometry ∙ p.geometry;
       received = t.0;
-      received_is = subst (λ packets. AreReceived holds_after packets t.0) (sym keeps.kept) t.1;
+      received_is = subst (λ packets. AreReceived (holds_after wish.book) packets t.0) (sym keeps.kept) t.1;
       gave_is = t.2 ∙ ap (picture_octets done.geometry t.0) begun;
       damage = subst (λ n. IsDamageOf done.geometry t.0 n done.damage) begun t.3;
     }
@@ -94,9 +94,9 @@ pub gave_picture : PickingKeeps → LossesStay → DecodedContained → RoundTri
 gave_picture law stays contains trip wish old new status run picture = by run.answer run.cause.cause run.status_is
   where
     back : (done : DecodeDone) → Answers wish old new run.took run.gave (Ok done) → status ≡ decode_status (Ok done) → (all : List ℕ) → old.rest ≡ Some all → (s : Setting) (rows : ℕ) (x : ℕ → ℕ → ℤ) →
-        wish.apid ≡ s.apid → run.took ≡ output s rows x → IsImageFor s rows x → (status ≡ 0) × GivesBack s rows x run.gave done
-    back done k is all told s rows x apid took image =
-        let b = trip.decoded wish old new run.took run.gave all done s rows x k told apid took image in
+        wish.apid ≡ s.apid → wish.book ≡ s.book → run.took ≡ output s rows x → IsImageFor s rows x → (status ≡ 0) × GivesBack s rows x run.gave done
+    back done k is all told s rows x apid book took image =
+        let b = trip.decoded wish old new run.took run.gave all done s rows x k told apid book took image in
         let known : done.geometry.rows ≢ 0 = λ none. within_not rows image.height.0 (sym (ap (λ (g : Geometry). g.rows) b.geometry) ∙ none) in
         (is ∙ whole_status (damaged done.damage) (is_known done.geometry) done.framing (none_damaged done.damage b.missing) (some_known done.geometry known) b.framing_is, b)
 
@@ -109,9 +109,9 @@ gave_picture law stays contains trip wish old new status run picture = by run.an
       since = run.since;
       own = λ all told. gives_own law wish old new run.took run.gave all done k told;
       contained = λ all told. contains.decoded wish old new run.took run.gave all done k told;
-      alike = λ all told s rows x parts apid took are begins. contains.sublists wish old new run.took run.gave all done s rows x parts k told apid took are begins;
+      alike = λ all told s rows x parts apid book took are begins. contains.sublists wish old new run.took run.gave all done s rows x parts k told apid book took are begins;
       in_rects = λ all told. stays.decoded wish old new run.took run.gave all done k told;
-      alike_in_rects = λ all told s rows x parts apid took are begins. stays.some_decoded wish old new run.took run.gave all done s rows x parts k told apid took are begins;
+      alike_in_rects = λ all told s rows x parts apid book took are begins. stays.some_decoded wish old new run.took run.gave all done s rows x parts k told apid book took are begins;
       back = back done k is;
     }
     by (Err fault) k is = absurd (omega (arith, is, fault_statuses fault, low_status status picture))
@@ -129,6 +129,6 @@ gave_look law wish old new status run given = by run.answer run.cause.cause run.
       wrote = run.wrote;
       since = run.since;
       look = k;
-      of_image = λ all told s rows x apid took image sends. law.given wish old new run.took run.gave all done s rows x k told apid took image sends;
+      of_image = λ all told s rows x apid book took image sends. law.given wish old new run.took run.gave all done s rows x k told apid book took image sends;
     }
     by (Err fault) k is = absurd (omega (arith, is, fault_statuses fault, low_status status given))

@@ -15,5 +15,7 @@ pub mod Encoded
 pub mod CameraWorks
 pub mod Muxed
 pub mod Behaviours
+pub mod BookRuns
+pub mod BookSettings
 pub mod BareRuns
 pub mod Laws

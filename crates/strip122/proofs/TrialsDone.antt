@@ -1,6 +1,7 @@
 -- The steps of a trial: the raster, its packets, and their picture.
 use Rattle.std.proofs.Common.{◌≡◌, ◌≤◌, ◌<◌, ◌+◌, ◌-◌, ◌*◌, ◌^◌, ◌∙◌, ℕ, ℤ, ◌≤ℤ◌, Bool, List, [], length, min, refl, sym, ap, subst, inl, inr, arith}
-use Rattle.std.specs.Prelude.{Some, Result, Ok, Err, IfOk}
+use Rattle.std.specs.Prelude.{true, Some, Result, Ok, Err, IfOk}
+use Rattle.plane_defs.specs.Codes.{is_book_sound}
 use Rattle.std.specs.Int.{int_min, int_max}
 use Rattle.std.proofs.lemmas.Int.{ints, clamps}
 use Rattle.port_122.specs.Outside.{Outside}
@@ -116,16 +117,16 @@ some_geometry e = cc
 -- what a decoder gives for all packets of an image
 pub record HasPicture (s : Setting) (packets given : List ℕ) : Type 0 where
   pub received : Numbers
-  pub received_are : ReceivedIn holds_after s.apid packets received
+  pub received_are : ReceivedIn (holds_after s.book) s.apid packets received
   pub gave : given ≡ whole_octets (geometry_of s) received
 
-pub has_picture : (s : Setting) (raster packets given fail : List ℕ) (piece : ℕ) (port : MemoryPort) (new : Outside) → TextsAreShort → KnownHeights → IsInRange s → IsWithin rows_range s.rows → length s.weights.shifts ≡ 10 → TookRaster s s.rows raster →
+pub has_picture : (s : Setting) (raster packets given fail : List ℕ) (piece : ℕ) (port : MemoryPort) (new : Outside) → TextsAreShort → KnownHeights → IsInRange s → IsWithin rows_range s.rows → is_book_sound s.book ≡ true → length s.weights.shifts ≡ 10 → TookRaster s s.rows raster →
     packets ≡ output s s.rows (image_of s raster) → IsFresh port packets fail piece → HasDecoded s (outside_of port) new → new.given ≡ Some given → HasPicture s packets given
-has_picture s raster packets given fail piece port new short known range height ten whole packets_are fresh has gives =
+has_picture s raster packets given fail piece port new short known range height sound ten whole packets_are fresh has gives =
     let rest = ap (λ (o : Outside). o.rest) fresh.outside in
     let none = ap (λ (o : Outside). o.given) fresh.outside in
     let x = image_of s raster in
-    let image : IsImageFor s s.rows x = record { range = range; height = (height, inr refl); weights = ten; pixels = raster_pixels s raster range whole } in
+    let image : IsImageFor s s.rows x = record { range = range; height = (height, inr refl); sound = sound; weights = ten; pixels = raster_pixels s raster range whole } in
     let run = has.decodes in
     let is = run.answer in
     let took : run.took ≡ packets = took_all (2 ^ 40) run.took packets (outside_of port) new run.since rest (ap left_over packets_are ∙ none_left short s s.rows x image) is.out in
@@ -135,7 +136,7 @@ has_picture s raster packets given fail piece port new short known range height 
     let begun = begun_in s.apid run.took in
     record {
       received = told.0;
-      received_are = subst (λ octets. ReceivedIn holds_after s.apid octets told.0) took told.1;
+      received_are = subst (λ octets. ReceivedIn (holds_after s.book) s.apid octets told.0) took told.1;
       gave = given_told [] given run.since none gives ∙ told.2 ∙ ap (λ g. picture_octets g told.0 begun) same ∙ known.octets (geometry_of s) told.0 begun (within_not s.rows height);
     }
 
@@ -180,7 +181,7 @@ tried_same s x y done range height same tried =
       octets = tried.octets ∙ ap length packets;
       equal = record {
         received = tried.equal.received;
-        received_are = subst (λ octets. ReceivedIn holds_after s.apid octets tried.equal.received) packets tried.equal.received_are;
+        received_are = subst (λ octets. ReceivedIn (holds_after s.book) s.apid octets tried.equal.received) packets tried.equal.received_are;
         equal_is = tried.equal.equal_is ∙ places-same s.rows s.width x shows y shows (omega (arith, width)) same (λ i j row column. refl);
       };
     }

@@ -68,7 +68,7 @@ DecodesStream wish old new status =
 -- are wished. Then no header of theirs reports more.
 pub record IsStreamOf (wish : DecodeWish) (octets : List ℕ) (g : Geometry) : Type 0 where
   pub blocks : List (List (List ℤ))
-  pub stream : BareStream octets g blocks
+  pub stream : BareStream wish.book octets g blocks
   pub caps : IsWithinCaps wish octets g
 
 -- a bare stream within the caps was taken, and the picture of all its segments is given
@@ -122,11 +122,12 @@ decodes_bare wish = record {
 
 -- ---- the round trip
 
--- A picture was given. If the stream is that of an image from which nothing is missing, what is given is the image's raster.
+-- A picture was given. If the stream is that of an image from which nothing is missing, and was written with the book of the wish, what is
+-- given is the image's raster.
 pub record GaveBare (wish : DecodeWish) (old new : Outside) : Type 0 where
   pub g : Geometry
   pub took : List ℕ
   pub gave : List ℕ
   pub read : Option SegmentsRead
   pub since : Exchange old new took gave [] (AsksRead read gave)
-  pub back : Told old ((s : Setting) (x : ℕ → ℕ → ℤ) → IsBareImage s x → took ≡ bare s x → GivesImage s x gave g)
+  pub back : Told old ((s : Setting) (x : ℕ → ℕ → ℤ) → wish.book ≡ s.book → IsBareImage s x → took ≡ bare s x → GivesImage s x gave g)

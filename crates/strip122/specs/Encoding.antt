@@ -9,7 +9,8 @@ use Rattle.strip_coder.specs.Rasters.{image_of, given_for}
 use Rattle.strip_coder.specs.Answers.{Answers, TookRaster, coded_octets}
 use Rattle.strip122.specs.Notes.{IsNoted, fault_status, fault_line}
 use Rattle.strip122.specs.Ran.{Ran, LacksMemory}
-use Rattle.strip122.specs.Behaviours.{Behaviour, Never, OnlyNotes}
+use Rattle.strip122.specs.Behaviours.{Behaviour, Never, memory_first}
+use Rattle.strip122.specs.Books.{with_book}
 
 -- ---- the whole effect of a run
 
@@ -30,9 +31,13 @@ EncoderCauses = Outside → Outside → List ℕ → List ℕ → Result EncodeD
 abbrev pub AsksGiven : (given : List ℕ → List ℕ) → Outside → List ℕ → List ℕ → ℕ → ℕ → Type 0
 AsksGiven given old took gave = GivenBy given took
 
+-- one run of an encoder that has its memory
+abbrev pub RunsRaster : EncoderCauses → (given : List ℕ → List ℕ) → (old new : Outside) (status : ℕ) → Type 0
+RunsRaster answers given = Ran answers (AsksGiven given) encode_status encode_line
+
 -- one run of a command that encodes
 abbrev pub RunsEncoder : EncoderCauses → (given : List ℕ → List ℕ) → (old new : Outside) (status : ℕ) → Type 0
-RunsEncoder answers given old new status = LacksMemory old new status ⊎ Ran answers (AsksGiven given) encode_status encode_line old new status
+RunsEncoder answers given old new status = LacksMemory old new status ⊎ RunsRaster answers given old new status
 
 -- one run of `encode`: at a read call the packets of the settled segments are given
 abbrev pub Encodes : Setting → (old new : Outside) (status : ℕ) → Type 0
@@ -63,17 +68,28 @@ pub record EncoderRefuses (answers : EncoderCauses) (given : List ℕ → List �
 
 -- ---- the behaviour of each command
 
--- an encoder takes a raster of all its rows with all values in range
-abbrev pub encoder : Setting → EncoderCauses → (given : List ℕ → List ℕ) → (whole : Outside → Outside → Type 0) → Behaviour
-encoder setting answers given whole = record {
-  performs = RunsEncoder answers given;
+-- an encoder that has its memory takes a raster of all its rows with all values in range
+abbrev pub takes_raster : Setting → EncoderCauses → (given : List ℕ → List ℕ) → (whole : Outside → Outside → Type 0) → Behaviour
+takes_raster setting answers given whole = record {
+  performs = RunsRaster answers given;
   whole = whole;
   part = Never;
   refuses = EncoderRefuses answers given;
-  nothing = OnlyNotes;
+  nothing = Never;
   right = λ old. (input : List ℕ) × (old.rest ≡ Some input) × (rows : ℕ) × TookRaster setting rows input;
   wrong = λ old. (input : List ℕ) × (old.rest ≡ Some input) × ((rows : ℕ) → TookRaster setting rows input → ⊥);
 }
 
+abbrev pub encoder : Setting → EncoderCauses → (given : List ℕ → List ℕ) → (whole : Outside → Outside → Type 0) → Behaviour
+encoder setting answers given whole = memory_first (takes_raster setting answers given whole)
+
+-- `encode`, once it has its memory
+abbrev pub encodes_raster : Setting → Behaviour
+encodes_raster setting = takes_raster setting (Answers setting) (given_for setting) (EncodedWhole setting)
+
+-- `encode`, without a book and with one; the memory is taken before the book is read
 abbrev pub encodes : Setting → Behaviour
-encodes setting = encoder setting (Answers setting) (given_for setting) (EncodedWhole setting)
+encodes setting = memory_first (encodes_raster setting)
+
+abbrev pub encodes_with_book : Setting → Behaviour
+encodes_with_book setting = memory_first (with_book (λ book. encodes_raster (record setting { book = book })))

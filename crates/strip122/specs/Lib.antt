@@ -4,6 +4,7 @@ pub mod Notes
 pub mod DamageNotes
 pub mod Ran
 pub mod Behaviours
+pub mod Books
 pub mod Encoding
 pub mod Muxing
 pub mod BareStreams

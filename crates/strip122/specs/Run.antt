@@ -1,5 +1,5 @@
 -- The effect of a run of the program, for each command. This project's own.
-use Rattle.std.specs.Prelude.{◌≡◌, ◌⊎◌, ◌≤◌, ℕ, List, [], length, take, codes, Result, Ok, Err}
+use Rattle.std.specs.Prelude.{◌≡◌, ◌⊎◌, ◌≤◌, ℕ, true, false, List, [], length, take, codes, Result, Ok, Err}
 use Rattle.port_122.specs.Outside.{Outside, Exchange, NoRead, Rose}
 use Rattle.base_122.specs.declared.setting.Setting.{Setting}
 use Rattle.raster_rows.specs.declared.made.MadeImage.{MadeImage}
@@ -13,7 +13,8 @@ use Rattle.strip122.specs.Trials.{made_with, trial_line, IsTried}
 use Rattle.strip122.specs.Ran.{LacksMemory}
 use Rattle.strip122.specs.Behaviours.{Behaviour, Never, OnlyNotes}
 use Rattle.strip122.specs.Decoding.{reads}
-use Rattle.strip122.specs.Encoding.{encodes}
+use Rattle.strip122.specs.Encoding.{encodes, encodes_with_book}
+use Rattle.strip122.specs.Books.{by_book}
 use Rattle.strip122.specs.BareStreams.{encodes_bare, decodes_bare}
 use Rattle.strip122.specs.Listing.{reads_packets, picker, informer}
 use Rattle.strip122.specs.Muxing.{muxes, camera_settings}
@@ -97,9 +98,10 @@ tries setting seed = record {
 }
 
 abbrev pub behaviour : Command → Behaviour
-behaviour (Encode setting) = encodes setting
+behaviour (Encode setting false) = encodes setting
+behaviour (Encode setting true) = encodes_with_book setting
 behaviour (Mux setting cameras) = muxes (camera_settings setting cameras)
-behaviour (Read reading wish) = reads reading wish
+behaviour (Read reading wish has_book) = by_book has_book wish (reads reading)
 behaviour (Info apid octets) = reads_packets (informer (record { apid = apid; octets = octets }))
 behaviour (Pick wish image) = reads_packets (picker wish image)
 behaviour (BareEncode setting) = encodes_bare setting

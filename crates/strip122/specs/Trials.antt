@@ -28,9 +28,9 @@ raster_length s = s.rows * row_length s
 abbrev pub equal_places : (rows width : ℕ) → (x y : ℕ → ℕ → ℤ) → ℕ
 equal_places rows width x y = count_by (λ place. int_eq (x (place / width) (place % width)) (y (place / width) (place % width))) (range_with_len 0 (rows * width))
 
--- the wish of a decoder: an image with at most the pixels of a setting, in fewer than 2 ^ 40 octets
+-- the wish of a decoder: an image with at most the pixels of a setting, in fewer than 2 ^ 40 octets, with its book
 abbrev pub wish_for : Setting → DecodeWish
-wish_for s = record { apid = s.apid; pixels = s.width * s.rows; octets = 2 ^ 40 }
+wish_for s = record { apid = s.apid; pixels = s.width * s.rows; octets = 2 ^ 40; book = s.book }
 
 -- a decoder has given a picture for this wish
 pub record HasDecoded (s : Setting) (old new : Outside) : Type 0 where
@@ -40,7 +40,7 @@ pub record HasDecoded (s : Setting) (old new : Outside) : Type 0 where
 -- this number of pixels of an image are the same in the picture of these packets
 pub record AreEqualIn (s : Setting) (x : ℕ → ℕ → ℤ) (packets : List ℕ) (equal : ℕ) : Type 0 where
   pub received : Numbers
-  pub received_are : ReceivedIn holds_after s.apid packets received
+  pub received_are : ReceivedIn (holds_after s.book) s.apid packets received
   pub equal_is : equal ≡ equal_places s.rows s.width x (whole_picture (geometry_of s) received)
 
 -- What was encoded of an image, and the number of its pixels that are the same in the picture of its packets.

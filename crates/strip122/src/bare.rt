@@ -1,5 +1,6 @@
 // Runs the command that reads a bare stream.
-ghost use Rattle.std.specs.Prelude.{◌≡◌};
+ghost use Rattle.std.specs.Prelude.{◌≡◌, IsTrue};
+ghost use Rattle.plane_defs.specs.Codes.{is_book_sound};
 ghost use Rattle.strip122.specs.Notes.{bare_fault_status};
 ghost use Rattle.strip122.specs.BareStreams.{DecodesStream};
 
@@ -23,6 +24,7 @@ fn bare_fault_status(fault: BareFault) -> u8
 /// Runs the command `bare-decode`: it takes a bare stream and gives its picture. Returns the status. If there is too little memory, nothing
 /// is given.
 pub fn bare_decode<X: Port>(alloc: Global, wish: &DecodeWish, port: &mut X) -> u8
+    requires { IsTrue (is_book_sound wish.now.book) }
     ensures { DecodesStream wish.now (X.outside port.old) (X.outside port.new) result }
 {
     match decode_bare(alloc, port, wish) {

@@ -1,10 +1,13 @@
 // Runs the commands that encode rasters.
-ghost use Rattle.std.specs.Prelude.{◌≡◌, ◌≤◌, ◌+◌, IfOk};
+ghost use Rattle.std.specs.Prelude.{◌≡◌, ◌≤◌, ◌<◌, ◌+◌, ℕ, length, IfOk, IsTrue};
+ghost use Rattle.camera_mux.specs.Records.{setting_at};
 ghost use Rattle.base_122.specs.Ranges.{IsInRange, IsWithin, rows_range};
+ghost use Rattle.plane_defs.specs.Codes.{is_book_sound};
+ghost use Rattle.strip_coder.specs.Works.{IsMadeFor};
 ghost use Rattle.camera_mux.specs.MuxProgress.{AreSettings, CanMux};
 ghost use Rattle.command_words.specs.Commands.{AreCameras};
 ghost use Rattle.strip122.specs.Notes.{fault_status, mux_fault_status};
-ghost use Rattle.strip122.specs.Encoding.{Encodes};
+ghost use Rattle.strip122.specs.Encoding.{Encodes, encodes_raster};
 ghost use Rattle.strip122.specs.BareStreams.{EncodesBare};
 ghost use Rattle.strip122.specs.Muxing.{Muxes, camera_settings};
 
@@ -41,14 +44,24 @@ fn mux_fault_status(fault: MuxFault) -> u8
 
 /// Runs the command `encode`, and returns the status. The memory is taken first, so if there is too little, nothing was read.
 pub fn encode<X: Port>(alloc: Global, setting: &Setting, port: &mut X) -> u8
-    requires { IsInRange setting.now }
+    requires range { IsInRange setting.now }
+    requires book { IsTrue (is_book_sound setting.now.book) }
     ensures { Encodes setting.now (X.outside port.old) (X.outside port.new) result }
 {
     let Ok(mut work) = Work::new(alloc, setting) else {
         note_line(port, "strip122: no memory\n");
         return 6;
     };
-    match encode_rows(port, setting, &mut work) {
+    encode_raster(port, setting, &mut work)
+}
+
+/// Encodes a raster with a work that was made for the setting, and returns the status.
+pub fn encode_raster<X: Port>(port: &mut X, setting: &Setting, work: &mut Work) -> u8
+    requires range { IsInRange setting.now }
+    requires made { IsMadeFor setting.now work.old }
+    ensures { (encodes_raster setting.now).performs (X.outside port.old) (X.outside port.new) result }
+{
+    match encode_rows(port, setting, work) {
         Ok(_) => 0,
         Err(fault) => {
             note_fault(port, fault);
@@ -61,6 +74,7 @@ pub fn encode<X: Port>(alloc: Global, setting: &Setting, port: &mut X) -> u8
 pub fn bare_encode<X: Port>(alloc: Global, setting: &Setting, port: &mut X) -> u8
     requires range { IsInRange setting.now }
     requires height { IsWithin rows_range setting.now.rows }
+    requires book { IsTrue (is_book_sound setting.now.book) }
     requires no_total { setting.now.total ≡ 0 }
     ensures { EncodesBare setting.now (X.outside port.old) (X.outside port.new) result }
 {
@@ -82,6 +96,7 @@ pub fn mux<X: Port>(alloc: Global, setting: &Setting, cameras: u8, port: &mut X)
     requires range { IsInRange setting.now }
     requires height { IsWithin rows_range setting.now.rows }
     requires cameras { AreCameras setting.now cameras }
+    requires book { IsTrue (is_book_sound setting.now.book) }
     ensures { Muxes (camera_settings setting.now cameras) (X.outside port.old) (X.outside port.new) result }
 {
     let Ok(settings) = settings_of(alloc, setting, cameras) else {
@@ -117,7 +132,8 @@ fn settings_of(alloc: Global, setting: &Setting, cameras: u8) -> Result<Vec<Sett
 
 // Returns a work for each camera.
 fn works_for(alloc: Global, settings: &[Setting]) -> Result<Vec<Work>, AllocError>
-    requires { AreSettings settings.now }
+    requires settings { AreSettings settings.now }
+    requires books { (camera : ℕ) → camera < length settings.now → IsTrue (is_book_sound (setting_at settings.now camera).book) }
     ensures { IfOk result (λ works. CanMux settings.now works.items) }
 {
     let mut works = Vec::with_capacity(alloc, settings.len())?;

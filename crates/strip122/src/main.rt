@@ -12,6 +12,7 @@ ghost use Rattle.strip122.specs.declared.Answer.{Answer};
 ghost use Rattle.strip122.specs.Answers.{IsAnswer, words_fault};
 
 mod bare;
+mod books;
 mod damage_notes;
 mod encoders;
 mod make;
@@ -52,8 +53,9 @@ usage: strip122 COMMAND [KEY=VALUE ..]
 const RASTERS: &str = "
 A raster has its rows from the top. A pixel has one octet if depth is at most 8,
 else two, the higher first. With rows=0, encode takes rows until the input ends.
-mux takes records: the number of a camera from 0, one octet, and then that
-camera's next row. A trial has at most 2^24 pixels.
+With book=1, the input begins with a code book of 138 octets. mux takes records:
+the number of a camera from 0, one octet, and then that camera's next row. A
+trial has at most 2^24 pixels.
 
 Each key is given at most once. Its default is in parentheses, and after it are
 the commands that have the key. pick has no default for image, and info none for

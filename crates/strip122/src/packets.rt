@@ -1,5 +1,6 @@
 // Runs the commands that read packets.
-ghost use Rattle.std.specs.Prelude.{◌≡◌, [], true};
+ghost use Rattle.std.specs.Prelude.{◌≡◌, [], true, IsTrue};
+ghost use Rattle.plane_defs.specs.Codes.{is_book_sound};
 ghost use Rattle.strip122.specs.Notes.{decoder_fault_status, list_fault_status};
 ghost use Rattle.strip122.specs.DamageNotes.{damaged, is_known, TellsDone};
 ghost use Rattle.strip122.specs.Decoding.{Decodes, FindsDamage, FindsRects, LooksAt, reads};
@@ -69,6 +70,7 @@ fn tell_framing<X: Port>(port: &mut X, framing: Option<Framing>) -> u8
 
 // Runs the command `decode`: it takes packets and gives the picture. If there is too little memory, nothing is given.
 fn decode<X: Port>(alloc: Global, wish: &DecodeWish, port: &mut X) -> u8
+    requires { IsTrue (is_book_sound wish.now.book) }
     ensures { Decodes wish.now (X.outside port.old) (X.outside port.new) result }
 {
     match decode_packets(alloc, port, wish) {
@@ -83,6 +85,7 @@ fn decode<X: Port>(alloc: Global, wish: &DecodeWish, port: &mut X) -> u8
 // Runs the command `damage`: it takes packets and gives a line for each range of damaged rows. If there is too little memory, nothing is
 // given.
 fn damage<X: Port>(alloc: Global, wish: &DecodeWish, port: &mut X) -> u8
+    requires { IsTrue (is_book_sound wish.now.book) }
     ensures { FindsDamage wish.now (X.outside port.old) (X.outside port.new) result }
 {
     match find_damage(alloc, port, wish) {
@@ -97,6 +100,7 @@ fn damage<X: Port>(alloc: Global, wish: &DecodeWish, port: &mut X) -> u8
 // Runs the command `look`: it takes packets and gives a small picture with one value for each block. If there is too little memory,
 // nothing is given.
 fn look<X: Port>(alloc: Global, wish: &DecodeWish, port: &mut X) -> u8
+    requires { IsTrue (is_book_sound wish.now.book) }
     ensures { LooksAt wish.now (X.outside port.old) (X.outside port.new) result }
 {
     match look_packets(alloc, port, wish) {
@@ -111,6 +115,7 @@ fn look<X: Port>(alloc: Global, wish: &DecodeWish, port: &mut X) -> u8
 // Runs the command `rects`: it takes packets and gives a line for each rectangle of damaged pixels. If there is too little memory, nothing
 // is given.
 fn rects<X: Port>(alloc: Global, wish: &DecodeWish, port: &mut X) -> u8
+    requires { IsTrue (is_book_sound wish.now.book) }
     ensures { FindsRects wish.now (X.outside port.old) (X.outside port.new) result }
 {
     match list_rects(alloc, port, wish) {
@@ -178,6 +183,7 @@ fn list_fault_of(fault: InfoFault) -> ListFault
 
 /// Runs a command that reads packets, and returns the status.
 pub fn read<X: Port>(alloc: Global, reading: Reading, wish: &DecodeWish, port: &mut X) -> u8
+    requires { IsTrue (is_book_sound wish.now.book) }
     ensures { (reads reading wish.now).performs (X.outside port.old) (X.outside port.new) result }
 {
     match reading {

@@ -1,5 +1,6 @@
 // Tests of whole runs.
 mod bare;
+mod books;
 mod endless;
 mod faults;
 mod heights;

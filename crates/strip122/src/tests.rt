@@ -23,8 +23,9 @@ trial        encodes and decodes a made image in memory; a line of counts out
 
 A raster has its rows from the top. A pixel has one octet if depth is at most 8,
 else two, the higher first. With rows=0, encode takes rows until the input ends.
-mux takes records: the number of a camera from 0, one octet, and then that
-camera's next row. A trial has at most 2^24 pixels.
+With book=1, the input begins with a code book of 138 octets. mux takes records:
+the number of a camera from 0, one octet, and then that camera's next row. A
+trial has at most 2^24 pixels.
 
 Each key is given at most once. Its default is in parentheses, and after it are
 the commands that have the key. pick has no default for image, and info none for
@@ -46,6 +47,7 @@ how much to keep
 segments and packets
   segment=16..1048575 (64)                    encode mux bare-encode trial
   word=1..4 (1)                               encode mux bare-encode trial
+  book=0|1 (0)                                encode decode damage rects look
   apid=0..2046 (100)                          encode mux decode damage rects
                                               look list info pick trial
   cameras=1..16, with APIDs from apid on (1)  mux

@@ -1,5 +1,6 @@
 // Defines the entry point of the program.
-ghost use Rattle.std.specs.Prelude.{◌≡◌, ◌≤◌, ◌*◌, ◌⊎◌, ◌↔◌, length, Result, Ok, Err};
+ghost use Rattle.std.specs.Prelude.{◌≡◌, ◌≤◌, ◌*◌, ◌⊎◌, ◌↔◌, length, Bool, IsTrue, Result, Ok, Err};
+ghost use Rattle.plane_defs.specs.Codes.{is_book_sound};
 ghost use Rattle.port_122.specs.Outside.{Rose};
 ghost use Rattle.base_122.specs.Ranges.{IsInRange as IsSettingInRange, IsWithin, rows_range};
 ghost use Rattle.base_122.specs.declared.setting.Setting.{Setting};
@@ -12,10 +13,12 @@ ghost use Rattle.command_words.specs.Commands.{IsInRange};
 ghost use Rattle.base_122.specs.declared.wish.DecodeWish.{DecodeWish};
 ghost use Rattle.strip122.specs.Pictures.{GaveLook, GavePicture};
 ghost use Rattle.strip122.specs.BareStreams.{GaveBare};
+ghost use Rattle.strip122.specs.Books.{ByBook};
 ghost use Rattle.strip122.specs.Behaviours.{IsSteady, Completes};
 ghost use Rattle.strip122.specs.Run.{Refuses, Makes, Tries, Runs, behaviour};
 
 use crate::bare::bare_decode;
+use crate::books::{encode_with_book, read_with_book};
 use crate::encoders::{bare_encode, encode, mux};
 use crate::make::write_made;
 use crate::notes::{note_line, note_refusal};
@@ -59,6 +62,7 @@ fn make<X: Port>(made: &MadeImage, port: &mut X) -> u8
 fn trial<X: Port>(alloc: Global, setting: &Setting, seed: u32, port: &mut X) -> u8
     requires range { IsSettingInRange setting.now }
     requires height { IsWithin rows_range setting.now.rows }
+    requires book { IsTrue (is_book_sound setting.now.book) }
     requires few { setting.now.width * setting.now.rows ≤ 16777216 }
     ensures { Tries setting.now seed (X.outside port.old) (X.outside port.new) result }
 {
@@ -81,9 +85,11 @@ fn perform<X: Port>(alloc: Global, command: &Command, port: &mut X) -> u8
     ensures { (behaviour command.now).performs (X.outside port.old) (X.outside port.new) result }
 {
     match command {
-        Command::Encode(setting) => encode(alloc, setting, port),
+        Command::Encode(setting, false) => encode(alloc, setting, port),
+        Command::Encode(setting, true) => encode_with_book(alloc, setting, port),
         Command::Mux(setting, cameras) => mux(alloc, setting, *cameras, port),
-        Command::Read(reading, wish) => read(alloc, *reading, wish, port),
+        Command::Read(reading, wish, false) => read(alloc, *reading, wish, port),
+        Command::Read(reading, wish, true) => read_with_book(alloc, *reading, wish, port),
         Command::Info(apid, octets) => info(alloc, *apid, *octets, port),
         Command::Pick(wish, image) => pick(alloc, wish, *image, port),
         Command::BareEncode(setting) => bare_encode(alloc, setting, port),
@@ -122,13 +128,13 @@ pub fn run<X: Port>(alloc: Global, words: &[String], port: &mut X) -> u8
         IsSteady (X.outside port.old) (X.outside port.new) → (result ≡ 3) ⊎ (result ≡ 6) }
 
     // No pixel of a picture outside the damaged rows, or outside the damaged rectangles, depends on what was lost, packets of other APIDs
-    // change nothing, and all packets of an image give it whole.
-    ensures picture { (wish : DecodeWish) → Says (texts words.now) (Ok (Command.Read Reading.Decode wish)) → (result ≡ 0) ⊎ (result ≡ 1) →
-        GavePicture wish (X.outside port.old) (X.outside port.new) result }
+    // change nothing, and all packets of an image give it whole. If the input has a book, the wish has it, and this holds of the rest.
+    ensures picture { (wish : DecodeWish) (has_book : Bool) → Says (texts words.now) (Ok (Command.Read Reading.Decode wish has_book)) → (result ≡ 0) ⊎ (result ≡ 1) →
+        ByBook has_book wish (λ wish old new. GavePicture wish old new result) (X.outside port.old) (X.outside port.new) }
 
     // A look at all packets of an image has the coefficients of its lowest subband.
-    ensures look { (wish : DecodeWish) → Says (texts words.now) (Ok (Command.Read Reading.Look wish)) → (result ≡ 0) ⊎ (result ≡ 1) →
-        GaveLook wish (X.outside port.old) (X.outside port.new) }
+    ensures look { (wish : DecodeWish) (has_book : Bool) → Says (texts words.now) (Ok (Command.Read Reading.Look wish has_book)) → (result ≡ 0) ⊎ (result ≡ 1) →
+        ByBook has_book wish GaveLook (X.outside port.old) (X.outside port.new) }
 
     // The picture of an image's bare stream is the image.
     ensures bare_picture { (wish : DecodeWish) → Says (texts words.now) (Ok (Command.BareDecode wish)) → result ≡ 0 →

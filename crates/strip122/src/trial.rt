@@ -1,5 +1,6 @@
 // Tries a setting: the made image is encoded and decoded in memory.
-ghost use Rattle.std.specs.Prelude.{◌≡◌, ◌<◌, ◌≤◌, ◌+◌, ◌*◌, ◌^◌, [], length, IfOk, Ok, Some};
+ghost use Rattle.std.specs.Prelude.{◌≡◌, ◌<◌, ◌≤◌, ◌+◌, ◌*◌, ◌^◌, [], length, IfOk, IsTrue, Ok, Some};
+ghost use Rattle.plane_defs.specs.Codes.{is_book_sound};
 ghost use Rattle.std.specs.Ordering.{int_eq};
 ghost use Rattle.port_122.specs.Outside.{WritesAll};
 ghost use Rattle.port_122.specs.Memory.{outside_of, IsFresh};
@@ -44,6 +45,7 @@ const PIECE: usize = 65_536;
 pub fn run_trial(alloc: Global, setting: &Setting, seed: u32) -> Result<TrialDone, AllocError>
     requires range { IsInRange setting.now }
     requires height { IsWithin rows_range setting.now.rows }
+    requires book { IsTrue (is_book_sound setting.now.book) }
     requires few { setting.now.width * setting.now.rows ≤ 2 ^ 24 }
     ensures { IfOk result (IsTried setting.now (made_value (made_with setting.now seed))) }
 {
@@ -55,6 +57,7 @@ pub fn run_trial(alloc: Global, setting: &Setting, seed: u32) -> Result<TrialDon
 fn try_raster(alloc: Global, setting: &Setting, raster: &[u8]) -> Result<TrialDone, AllocError>
     requires range { IsInRange setting.now }
     requires height { IsWithin rows_range setting.now.rows }
+    requires book { IsTrue (is_book_sound setting.now.book) }
     ensures { IfOk result (IsTried setting.now (image_of setting.now raster.now)) }
 {
     let mut port = port_with(alloc, raster)?;
@@ -77,6 +80,7 @@ fn count_decoded(
 ) -> Result<u64, AllocError>
     requires range { IsInRange setting.now }
     requires height { IsWithin rows_range setting.now.rows }
+    requires book { IsTrue (is_book_sound setting.now.book) }
     requires raster { TookRaster setting.now setting.now.rows raster.now }
     requires packets { packets.now ≡ output setting.now setting.now.rows (image_of setting.now raster.now) }
     ensures { IfOk result (AreEqualIn setting.now (image_of setting.now raster.now) packets.now) }
@@ -132,6 +136,7 @@ fn make_raster(alloc: Global, made: &MadeImage) -> Result<MemoryPort, AllocError
 fn encode(alloc: Global, setting: &Setting, port: &mut MemoryPort) -> Result<EncodeDone, AllocError>
     requires range { IsInRange setting.now }
     requires height { IsWithin rows_range setting.now.rows }
+    requires book { IsTrue (is_book_sound setting.now.book) }
     ensures { IfOk result (λ done. EncodesImage setting.now (outside_of port.old) (outside_of port.new) (Ok done)) }
 {
     let Ok(mut work) = Work::new(alloc, setting) else {
@@ -145,12 +150,14 @@ fn encode(alloc: Global, setting: &Setting, port: &mut MemoryPort) -> Result<Enc
 
 // Decodes the packets that a port has, and gives their picture to the port.
 fn decode(alloc: Global, setting: &Setting, port: &mut MemoryPort) -> Result<(), AllocError>
+    requires { IsTrue (is_book_sound setting.now.book) }
     ensures { IfOk result (λ _. HasDecoded setting.now (outside_of port.old) (outside_of port.new)) }
 {
     let wish = DecodeWish {
         apid: setting.apid,
         pixels: u64::from(setting.width) * u64::from(setting.rows),
         octets: 1 << 40,
+        book: setting.book,
     };
     match decode_packets(alloc, port, &wish) {
         Ok(_) => Ok(()),

@@ -1,4 +1,5 @@
 // Tests runs in which each call fails in turn.
+use crate::run_tests::books::{PROFILE, READINGS, after};
 use crate::run_tests::runs::{Outcome, WHOLE, black, done, ended, part, run_words};
 use std::process::Abort;
 use std::test::Fail;
@@ -94,6 +95,19 @@ fn encoding_and_decoding(rt: HostRuntime) -> Result<(), Fail> {
         fail_each(&rt, "encode width=17 rows=17", &[0; 289], piece)?;
         fail_each(&rt, "decode", &black, piece)?;
         fail_each(&rt, "encode width=17 rows=0", &[0; 289], piece)?;
+    }
+    Ok(())
+}
+
+#[test]
+fn input_after_a_book(rt: HostRuntime) -> Result<(), Fail> {
+    let raster = after(&rt, &PROFILE, &[0; 289])?;
+    let packets = after(&rt, &PROFILE, &black(&rt)?)?;
+    for piece in [1, 7, WHOLE] {
+        fail_each(&rt, "encode width=17 rows=17 book=1", &raster, piece)?;
+        for words in READINGS {
+            fail_each(&rt, words, &packets, piece)?;
+        }
     }
     Ok(())
 }

@@ -1,8 +1,9 @@
-use Rattle.strip122.proofs.Encoded.{lacks_memory, encode_failed}
+use Rattle.std.proofs.Common.{inl, inr}
+use Rattle.strip122.proofs.Encoded.{lacks_memory}
 use Rattle.strip122.proofs.encoders.encode.Goals as goal
 
 pub returns-in_default : goal.returns-in_default
-returns-in_default g c = lacks_memory c.args.setting.now _ _ c.note_line.ensures
+returns-in_default g c = inl (lacks_memory _ _ c.note_line.ensures)
 
 pub returns : goal.returns
-returns g c = encode_failed c.args.setting.now _ _ _ c.in-Err.fault c.fault_status.result c.in-Err.ensures.encodes c.note_fault.ensures c.fault_status.ensures
+returns g c = inr c.encode_raster.ensures

@@ -1,12 +1,20 @@
-use Rattle.std.proofs.Common.{◌∙◌, sym, subst}
+use Rattle.std.proofs.Common.{◌≡◌, ◌<◌, ◌∙◌, ℕ, sym, subst}
 use Rattle.camera_mux.specs.MuxProgress.{AreSettings}
 use Rattle.strip122.specs.Muxing.{Muxes}
-use Rattle.strip122.proofs.CameraWorks.{are_settings}
+use Rattle.std.proofs.Common.{true, length}
+use Rattle.plane_defs.specs.Codes.{is_book_sound}
+use Rattle.camera_mux.specs.Records.{setting_at}
+use Rattle.strip122.proofs.CameraWorks.{are_settings, sound_cameras}
 use Rattle.strip122.proofs.Muxed.{muxed, mux_failed}
 use Rattle.strip122.proofs.encoders.mux.Goals as goal
 
-pub works_for-requires : goal.works_for-requires
-works_for-requires g c =
+pub works_for-requires-clause-books : goal.works_for-requires-clause-books
+works_for-requires-clause-books g c =
+    subst (λ settings. (camera : ℕ) → camera < length settings → is_book_sound (setting_at settings camera).book ≡ true) (sym (c.as_slice.ensures.value ∙ c.in-Ok.ensures))
+    (sound_cameras c.args.setting.now c.args.cameras c.requires.book)
+
+pub works_for-requires-clause-settings : goal.works_for-requires-clause-settings
+works_for-requires-clause-settings g c =
     subst AreSettings (sym (c.as_slice.ensures.value ∙ c.in-Ok.ensures)) (are_settings c.args.setting.now c.args.cameras c.requires.range c.requires.height c.requires.cameras)
 
 pub returns-in-Ok-mux_rows : goal.returns-in-Ok-mux_rows

@@ -3,7 +3,10 @@ use Rattle.std.specs.Prelude.{Ok}
 use Rattle.command_words.specs.declared.command.Command.TheVariants.{Read, BareDecode}
 use Rattle.command_words.specs.declared.tables.Reading.TheVariants.{Decode, Look}
 use Rattle.command_words.specs.Words.{texts, Says}
+use Rattle.strip122.specs.Decoding.{reads}
+use Rattle.strip122.specs.Pictures.{GaveLook, GavePicture}
 use Rattle.strip122.specs.Run.{behaviour}
+use Rattle.strip122.proofs.BookRuns.{by_book_gives}
 use Rattle.strip122.proofs.BareRuns.{gave_bare}
 use Rattle.strip122.proofs.Behaviours.{completes, refused}
 use Rattle.strip122.proofs.GavePictures.{gave_look, gave_picture}
@@ -63,24 +66,26 @@ returns-in-Err-clause-wrong_input g c command says input steady =
     absurd (let e = c.read_words.ensures.only (Ok command) says in let f = c.in-Err.is in cc)
 
 pub returns-in-Ok-clause-picture : goal.returns-in-Ok-clause-picture
-returns-in-Ok-clause-picture g c wish says given =
-    let same : Read Decode wish ≡ c.in-Ok.command = let e = c.read_words.ensures.only (Ok (Read Decode wish)) says in let f = c.in-Ok.is in cc in
-    gave_picture c.picking_keeps.ensures c.decoding_stays_in_rects.ensures c.decoding_contains.ensures c.round_trip.ensures wish _ _ c.perform.result
-    (subst (λ k. (behaviour k).performs (g.X.Port.outside c.args.port.now) (g.X.Port.outside c.perform.new.port) c.perform.result) (sym same) c.perform.ensures) given
+returns-in-Ok-clause-picture g c wish has_book says given =
+    let same : Read Decode wish has_book ≡ c.in-Ok.command = let e = c.read_words.ensures.only (Ok (Read Decode wish has_book)) says in let f = c.in-Ok.is in cc in
+    by_book_gives (reads Decode) (λ wish old new. GavePicture wish old new c.perform.result) c.perform.result given
+    (λ wish old new run. gave_picture c.picking_keeps.ensures c.decoding_stays_in_rects.ensures c.decoding_contains.ensures c.round_trip.ensures wish old new c.perform.result run given)
+    has_book wish _ _
+    (subst (λ k. (behaviour k).performs (g.X.Port.outside c.args.port.now) (g.X.Port.outside c.perform.new.port) c.perform.result) (sym same) c.perform.ensures)
 
 pub returns-in-Err-clause-picture : goal.returns-in-Err-clause-picture
-returns-in-Err-clause-picture g c wish says given =
-    absurd (let e = c.read_words.ensures.only (Ok (Read Decode wish)) says in let f = c.in-Err.is in cc)
+returns-in-Err-clause-picture g c wish has_book says given =
+    absurd (let e = c.read_words.ensures.only (Ok (Read Decode wish has_book)) says in let f = c.in-Err.is in cc)
 
 pub returns-in-Ok-clause-look : goal.returns-in-Ok-clause-look
-returns-in-Ok-clause-look g c wish says given =
-    let same : Read Look wish ≡ c.in-Ok.command = let e = c.read_words.ensures.only (Ok (Read Look wish)) says in let f = c.in-Ok.is in cc in
-    gave_look c.looks_are_of_images.ensures wish _ _ c.perform.result
-    (subst (λ k. (behaviour k).performs (g.X.Port.outside c.args.port.now) (g.X.Port.outside c.perform.new.port) c.perform.result) (sym same) c.perform.ensures) given
+returns-in-Ok-clause-look g c wish has_book says given =
+    let same : Read Look wish has_book ≡ c.in-Ok.command = let e = c.read_words.ensures.only (Ok (Read Look wish has_book)) says in let f = c.in-Ok.is in cc in
+    by_book_gives (reads Look) GaveLook c.perform.result given (λ wish old new run. gave_look c.looks_are_of_images.ensures wish old new c.perform.result run given) has_book wish _ _
+    (subst (λ k. (behaviour k).performs (g.X.Port.outside c.args.port.now) (g.X.Port.outside c.perform.new.port) c.perform.result) (sym same) c.perform.ensures)
 
 pub returns-in-Err-clause-look : goal.returns-in-Err-clause-look
-returns-in-Err-clause-look g c wish says given =
-    absurd (let e = c.read_words.ensures.only (Ok (Read Look wish)) says in let f = c.in-Err.is in cc)
+returns-in-Err-clause-look g c wish has_book says given =
+    absurd (let e = c.read_words.ensures.only (Ok (Read Look wish has_book)) says in let f = c.in-Err.is in cc)
 
 pub returns-in-Ok-clause-bare_picture : goal.returns-in-Ok-clause-bare_picture
 returns-in-Ok-clause-bare_picture g c wish says zero =

@@ -1,0 +1,17 @@
+use Rattle.std.proofs.Common.{inl, inr}
+use Rattle.strip122.proofs.BookSettings.{range_with_book, made_with_book}
+use Rattle.strip122.proofs.Encoded.{lacks_memory}
+use Rattle.strip122.proofs.books.encode_with_book.Goals as goal
+
+pub encode_raster-requires-clause-range : goal.encode_raster-requires-clause-range
+encode_raster-requires-clause-range g c = range_with_book c.args.setting.now _ c.requires.range
+
+pub returns-in_default : goal.returns-in_default
+returns-in_default g c = inl (lacks_memory _ _ c.note_line.ensures)
+
+pub invariant_of-work-in-Ok-read_book-3 : goal.invariant_of-work-in-Ok-read_book-3
+invariant_of-work-in-Ok-read_book-3 g c =
+    let third = c.encode_raster.new.work.strip.third in record { wide = third.wide; long = third.long; room = third.room }
+
+pub invariant_of-work-4 : goal.invariant_of-work-4
+invariant_of-work-4 g c = let third = c.in-Ok.work.strip.third in record { wide = third.wide; long = third.long; room = third.room }
