@@ -5,7 +5,9 @@ use crate::pictures::{BLOCK, NUMBERS, SEGMENT, TEXT, fill};
 use crate::texts::{Answer, HeadFields, put_text, take_text};
 use crate::watch::Watch;
 use crate::words::blocks_of;
+use segment_code::SegmentWriter;
 use std::io;
+use word_codes::profile_book;
 
 // Puts the texts of all segments, and the number of octets of each. Returns the number of all octets.
 fn put_texts(into: &mut [u8], lengths: &mut [u64], blocks: &[i32], marks: &mut [i32]) -> u64
@@ -13,9 +15,11 @@ fn put_texts(into: &mut [u8], lengths: &mut [u64], blocks: &[i32], marks: &mut [
     requires segments { 64 * length lengths.old ≤ length marks.old }
     requires room { 4096 * length lengths.old ≤ length into.old }
 {
+    let writer = SegmentWriter::new(&profile_book());
     let mut all: u64 = 0;
     for s in 0..lengths.len() {
         lengths[s] = put_text(
+            &writer,
             &mut into[TEXT * s..TEXT * s + TEXT],
             &HeadFields::PLAIN,
             &blocks[NUMBERS * s..NUMBERS * s + NUMBERS],
@@ -58,7 +62,7 @@ pub(crate) fn measure(rt: &HostRuntime, thousands: Option<u16>) -> io::Result<bo
 
     let watch = Watch::start(rt)?;
     let given = put_texts(&mut octets, &mut lengths, &blocks, &mut marks);
-    watch.tell(rt, "encode_segment", blocks.len(), "pixel")?;
+    watch.tell(rt, "SegmentWriter::encode", blocks.len(), "pixel")?;
     eprintln!(rt; "texts of {given} octets")?;
 
     let watch = Watch::start(rt)?;

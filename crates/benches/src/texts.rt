@@ -2,7 +2,7 @@
 ghost use Rattle.std.specs.Prelude.{◌≡◌, ◌≤◌, ◌*◌, length};
 
 use bit_pipe::{Part, SliceIn, SliceOut};
-use segment_code::{SegmentFault, decode_segment, encode_segment, segment_depths};
+use segment_code::{SegmentFault, SegmentWriter, decode_segment, segment_depths};
 use segment_head::read_head;
 use word_codes::profile_book;
 
@@ -60,6 +60,7 @@ fn head_octets(fields: &HeadFields, depths: (u8, u8), blocks: u32) -> [u8; 19] {
 
 // Puts the text of a segment, and returns how many octets it has, or 0 if it has none.
 pub(crate) fn put_text(
+    writer: &SegmentWriter,
     into: &mut [u8],
     fields: &HeadFields,
     blocks: &[i32],
@@ -83,14 +84,9 @@ pub(crate) fn put_text(
     if head.depth_dc != depths.0 || head.depth_ac != depths.1 || head.blocks != count {
         return 0;
     }
-    encode_segment(
-        &mut SliceOut::new(into),
-        &head,
-        blocks,
-        marks,
-        &profile_book(),
-    )
-    .unwrap_or(0)
+    writer
+        .encode(&mut SliceOut::new(into), &head, blocks, marks)
+        .unwrap_or(0)
 }
 
 // The results for a text. `ManyBlocks` is for more blocks than there is room for, `Other` for a result that is not possible.

@@ -8,7 +8,9 @@ use crate::texts::{Answer, take_text};
 use crate::words::Trials;
 use changes::change;
 use made::make_text;
+use segment_code::SegmentWriter;
 use std::io;
+use word_codes::profile_book;
 
 // A number of octets that is greater than that of a text of four blocks.
 const ROOM: usize = 2048;
@@ -45,13 +47,14 @@ fn tell(rt: &HostRuntime, text: &[u8], answer: Answer, numbers: &[i32]) -> io::R
 
 // Reads changed texts, and returns the number of texts with each answer.
 fn try_texts(rt: &HostRuntime, wish: Trials) -> io::Result<[u64; 11]> {
+    let writer = SegmentWriter::new(&profile_book());
     let mut random = Random::new(u64::from(wish.seed));
     let mut octets = [0; ROOM];
     let mut blocks = [0; 256];
     let mut marks = [0; 4];
     let mut tally = [0u64; 11];
     for _ in 0..wish.texts {
-        let made = make_text(&mut random, &mut octets);
+        let made = make_text(&writer, &mut random, &mut octets);
         let len = change(&mut random, &mut octets, made);
         let text = &octets[..len];
         let (answer, numbers) = take_text(text, &mut blocks, &mut marks);

@@ -6,7 +6,7 @@ use Rattle.bit_pipe.specs.declared.slice_in.SliceIn.{SliceIn}
 use Rattle.bit_pipe.specs.declared.fault.Part.{Part}
 use Rattle.bit_pipe.specs.Streams.{octets_left, slice_source}
 use Rattle.item_defs.specs.Items.{bad_option, bad_delta, bad_depth, false_flag}
-use Rattle.plane_defs.specs.Profile.{profile}
+use Rattle.base_122.specs.Profile.{profile}
 use Rattle.segment_defs.specs.declared.head.SegmentHead.{SegmentHead}
 use Rattle.text_defs.specs.Outcomes.{Refused, at_item, short_segment, overlong}
 use Rattle.segment_code.specs.declared.decode.SegmentFault.{SegmentFault}

@@ -1,7 +1,7 @@
 -- What a segment's text is read as, from its head on. This project's own.
 use Rattle.std.specs.Prelude.{◌≡◌, ℕ, List, drop, Result, Ok, Err}
 use Rattle.item_defs.specs.Items.{bad_option, bad_delta, bad_depth, false_flag}
-use Rattle.plane_defs.specs.Profile.{profile}
+use Rattle.base_122.specs.Profile.{profile}
 use Rattle.segment_defs.specs.declared.head.SegmentHead.{SegmentHead}
 use Rattle.segment_defs.specs.Head.{head_length}
 use Rattle.segment_defs.specs.Reading.{head_read}

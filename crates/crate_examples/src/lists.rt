@@ -19,6 +19,7 @@ pub fn list_octets(alloc: Global, octets: Vec<u8>, apid: u16) -> Result<Vec<u8>,
         apid,
         pixels: 0,
         octets: octets.len() as u64 + 1,
+        ..DecodeWish::usual()
     };
     let Ok(mut port) = MemoryPort::new(alloc, octets, Vec::new(alloc), 4096) else {
         return Err(ListFault::Memory);

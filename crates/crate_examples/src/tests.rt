@@ -1,6 +1,7 @@
 // The three examples on one picture, calculated by hand from the rules.
-ghost use Rattle.std.specs.Prelude.{◌≡◌, ◌≢◌, ◌*◌, length};
+ghost use Rattle.std.specs.Prelude.{◌≡◌, ◌≢◌, ◌*◌, length, IsTrue};
 ghost use Rattle.base_122.specs.Ranges.{IsInRange};
+ghost use Rattle.plane_defs.specs.Codes.{is_book_sound};
 ghost use Rattle.crate_examples.specs.Frames.{HasOctets};
 
 use crate::{NotRead, encode_frame, list_octets, read_text};
@@ -22,9 +23,10 @@ pub(crate) const PACKET: [u8; 53] = [
     0, 0, 0, 0x06, 0x47, 0xf8,
 ];
 
-// Returns the setting of a camera of 8 bits.
+// Returns the setting of a camera of 8 bits. Its code book, the profile's, is sound.
 fn camera(width: u32, rows: u32) -> Setting
     ensures octets { HasOctets result }
+    ensures book { IsTrue (is_book_sound result.book) }
     ensures width { result.width ≡ width }
     ensures rows { result.rows ≡ rows }
 {
@@ -39,6 +41,7 @@ fn encode_to(
     frame: &[u8],
 ) -> Option<EncodeDone>
     requires in_range { IsInRange setting.now }
+    requires book { IsTrue (is_book_sound setting.now.book) }
     requires known { setting.now.rows ≢ 0 }
     requires octets { HasOctets setting.now }
     requires frame { length frame.now ≡ setting.now.rows * setting.now.width }
@@ -55,6 +58,7 @@ fn packet_of(
     setting: &Setting,
     frame: &[u8],
 ) -> Result<Vec<u8>, Fail>
+    requires book { IsTrue (is_book_sound setting.now.book) }
     requires octets { HasOctets setting.now }
     requires frame { length frame.now ≡ setting.now.rows * setting.now.width }
 {

@@ -1,6 +1,6 @@
 -- The result of a run of the encoder over the whole raster.
 use Rattle.std.proofs.Common.{◌≡◌, ◌≤◌, ◌<◌, ◌+◌, ◌*◌, ◌∙◌, ℕ, ℤ, Bool, List, [], ◌++◌, length, take, refl, sym, ap, subst, arith, inl, inr, length-append}
-use Rattle.std.specs.Prelude.{Option, Some, None, Result, Ok, Err}
+use Rattle.std.specs.Prelude.{IsTrue, Option, Some, None, Result, Ok, Err}
 use Rattle.std.proofs.lemmas.Bool.{cases_lt}
 use Rattle.std.proofs.lemmas.List.{take-append-le, length-take-le}
 use Rattle.std.proofs.Math.Nat.{div-mul-le_self, mul-le-mul_right}
@@ -10,6 +10,7 @@ use Rattle.base_122.specs.Ranges.{IsInRange, refusal}
 use Rattle.base_122.specs.declared.field.Field.{Field}
 use Rattle.base_122.specs.declared.field.OutOfRange.{OutOfRange}
 use Rattle.base_122.specs.declared.setting.Setting.{Setting}
+use Rattle.plane_defs.specs.Codes.{is_book_sound}
 use Rattle.raster_rows.specs.Pixels.{IsPixel, pixel_at, pixel_size, whole_pixels}
 use Rattle.raster_rows.specs.RowReads.{IsFirstBad}
 use Rattle.raster_rows.proofs.PixelPlaces.{size_some, pixel_at-append_left, whole_before, whole_pixels-is, whole_pixels-above}
@@ -130,16 +131,16 @@ pub record HasEncoded (s : Setting) (raster : List ℕ) (new : Outside) (done : 
   pub done_for : DoneFor s s.rows (image_of s raster) done
   pub gave : (packets : List ℕ) → new.given ≡ Some packets → packets ≡ output s s.rows (image_of s raster)
 
-pub has_encoded : (s : Setting) (raster : List ℕ) (old new : Outside) (done : EncodeDone) → IsAdmitted s → length s.weights.shifts ≡ 10 → old.rest ≡ Some raster → old.given ≡ Some [] →
+pub has_encoded : (s : Setting) (raster : List ℕ) (old new : Outside) (done : EncodeDone) → IsAdmitted s → IsTrue (is_book_sound s.book) → length s.weights.shifts ≡ 10 → old.rest ≡ Some raster → old.given ≡ Some [] →
     EncodesImage s old new (Ok done) → HasEncoded s raster new done
-has_encoded s raster old new done admits ten rest none run =
+has_encoded s raster old new done admits sound ten rest none run =
     let answer = run.answer in
     let took : run.took ≡ raster = end_told raster run.since rest answer.2 in
     let rows : answer.0 ≡ s.rows = only_height s answer.0 admits answer.1.height in
     let whole : TookRaster s s.rows raster = subst (λ rows. TookRaster s rows raster) rows (subst (TookRaster s answer.0) took answer.1) in
     record {
       took = whole;
-      image = record { range = admits.range; height = (admits.height, inr refl); weights = ten; pixels = raster_pixels s raster whole };
+      image = record { range = admits.range; height = (admits.height, inr refl); weights = ten; sound = sound; pixels = raster_pixels s raster whole };
       done_for = subst (λ rows. DoneFor s rows (image_of s raster) done) rows (subst (λ octets. DoneFor s answer.0 (image_of s octets) done) took answer.4);
       gave = λ packets gives. given_told [] packets run.since none gives ∙ answer.3 ∙ ap (λ octets. output s answer.0 (image_of s octets)) took
           ∙ ap (λ rows. output s rows (image_of s raster)) rows;

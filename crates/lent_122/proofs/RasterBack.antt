@@ -76,9 +76,9 @@ packets_are s raster old new done has =
     ap (take done.octets) has.room ∙ ap (λ n. take n (output s s.rows (image_of s raster) ++ drop done.octets old)) has.done_for.octets ∙ take-append_seam (output s s.rows (image_of s raster)) (drop done.octets old)
 
 pub comes_back : (s : Setting) (raster old new room : List ℕ) (done : EncodeDone) (result : Result DecodeDone DecodeRefusal) → AreOctets raster → HasPackets s raster old new done →
-    BringsBack s.apid (take done.octets new) room result → BringsRaster s raster room result
+    BringsBack s.book s.apid (take done.octets new) room result → BringsRaster s raster room result
 comes_back s raster old new room done (Ok found) are has back =
-    let gives = back s s.rows (image_of s raster) refl (packets_are s raster old new done has) has.image in
+    let gives = back s s.rows (image_of s raster) refl refl (packets_are s raster old new done has) has.image in
     let size : length raster ≡ picture_length found.geometry found.written =
     has.took.whole ∙ ap (λ g. picture_length g s.rows) (sym gives.geometry) ∙ ap (picture_length found.geometry) (sym gives.written) in (
       gives.written,
@@ -86,6 +86,6 @@ comes_back s raster old new room done (Ok found) are has back =
       gives.framing_is,
       λ all. ap (λ n. take n room) size ∙ gives.same all ∙ raster-same s.depth s.signed s.rows s.width raster are has.took.whole,
     )
-comes_back s raster old new room done (Err NoSegment) are has back = back s s.rows (image_of s raster) refl (packets_are s raster old new done has) has.image
-comes_back s raster old new room done (Err (SmallRoom g rows)) are has back = back s s.rows (image_of s raster) refl (packets_are s raster old new done has) has.image
+comes_back s raster old new room done (Err NoSegment) are has back = back s s.rows (image_of s raster) refl refl (packets_are s raster old new done has) has.image
+comes_back s raster old new room done (Err (SmallRoom g rows)) are has back = back s s.rows (image_of s raster) refl refl (packets_are s raster old new done has) has.image
 comes_back s raster old new room done (Err Memory) are has back = tt

@@ -22,7 +22,7 @@ BringsRaster s raster room (Err (SmallRoom g rows)) = (g ≡ geometry_of s) × (
 BringsRaster s raster room (Err Memory) = ⊤
 BringsRaster s raster room (Err other) = ⊥
 
--- the same for what an encoder put into a room and a decoder takes from there
+-- the same for what an encoder put into a room and a decoder with the same code book takes from there
 pub record RastersComeBack : Type 0 where
   pub back : (s : Setting) (raster old new room : List ℕ) (done : EncodeDone) (result : Result DecodeDone DecodeRefusal) → AreOctets raster → HasPackets s raster old new done →
-      BringsBack s.apid (take done.octets new) room result → BringsRaster s raster room result
+      BringsBack s.book s.apid (take done.octets new) room result → BringsRaster s raster room result

@@ -3,6 +3,7 @@ use Rattle.std.specs.Prelude.{◌≡◌, ◌≢◌, ◌≤◌, ◌<◌, ◌+◌,
 use Rattle.port_122.specs.Outside.{Outside}
 use Rattle.base_122.specs.Ranges.{IsGeometryInRange, rows_range}
 use Rattle.base_122.specs.Setting.{image_geometry}
+use Rattle.base_122.specs.declared.book.Book.{Book}
 use Rattle.base_122.specs.declared.geometry.Geometry.{Geometry}
 use Rattle.base_122.specs.declared.setting.Setting.{Setting}
 use Rattle.base_122.specs.declared.wish.DecodeWish.{DecodeWish}
@@ -39,36 +40,36 @@ pub record BeginsWith (apid : ℕ) (packets : List ℕ) (g : Geometry) : Type 0 
 
 -- ---- a run over a port
 
--- the wish for a decoder with no bound on pixels or octets
-abbrev pub wish_for : (apid : ℕ) → List ℕ → DecodeWish
-wish_for apid packets = record { apid = apid; pixels = 2 ^ 64 - 1; octets = length packets + 1 }
+-- the wish for a decoder with this code book and no bound on pixels or octets
+abbrev pub wish_for : Book → (apid : ℕ) → List ℕ → DecodeWish
+wish_for book apid packets = record { apid = apid; pixels = 2 ^ 64 - 1; octets = length packets + 1; book = book }
 
 -- the decoder's own result: one of these, on a port that never fails
-abbrev pub HasRun : (apid : ℕ) (packets : List ℕ) (old new : Outside) → Result DecodeDone DecodeRefusal → Type 0
-HasRun apid packets old new (Ok done) = RunsDecoder (wish_for apid packets) old new (Ok done)
-HasRun apid packets old new (Err NoSegment) = RunsDecoder (wish_for apid packets) old new (Err faults.NoSegment)
-HasRun apid packets old new (Err Memory) = ⊤
-HasRun apid packets old new (Err other) = ⊥
+abbrev pub HasRun : Book → (apid : ℕ) (packets : List ℕ) (old new : Outside) → Result DecodeDone DecodeRefusal → Type 0
+HasRun book apid packets old new (Ok done) = RunsDecoder (wish_for book apid packets) old new (Ok done)
+HasRun book apid packets old new (Err NoSegment) = RunsDecoder (wish_for book apid packets) old new (Err faults.NoSegment)
+HasRun book apid packets old new (Err Memory) = ⊤
+HasRun book apid packets old new (Err other) = ⊥
 
 -- ---- all packets
 
--- The picture of the segments that are received in the packets, up to their end or what can't be read on, and its damage. It has all
--- rows of the image, or if no header reports the height those that the block rows determine which the kept headers reach.
-pub record IsShown (apid : ℕ) (packets picture : List ℕ) (done : DecodeDone) : Type 0 where
+-- The picture of the segments that are received in the packets with a code book, up to the packets' end or what can't be read on, and its
+-- damage. It has all rows of the image, or if no header reports the height those that the block rows determine which the kept headers reach.
+pub record IsShown (book : Book) (apid : ℕ) (packets picture : List ℕ) (done : DecodeDone) : Type 0 where
   pub tells : HasGeometry apid packets done.geometry
   pub framing_is : done.framing ≡ framing packets
   pub written : done.written ≡ height done.geometry (begun_in apid packets)
   pub most : done.written ≤ rows_range.most
   pub rows : done.damage.rows ≡ done.written
   pub received : Numbers
-  pub received_are : ReceivedIn holds_after apid packets received
+  pub received_are : ReceivedIn (holds_after book) apid packets received
   pub picture_is : picture ≡ picture_octets done.geometry received (begun_in apid packets)
   pub damage : IsDamageOf done.geometry received (begun_in apid packets) done.damage
 
 -- the room begins with it, and the rest of the room is unchanged
-pub record HasPicture (apid : ℕ) (packets old new : List ℕ) (done : DecodeDone) : Type 0 where
+pub record HasPicture (book : Book) (apid : ℕ) (packets old new : List ℕ) (done : DecodeDone) : Type 0 where
   pub picture : List ℕ
-  pub shown : IsShown apid packets picture done
+  pub shown : IsShown book apid packets picture done
   pub octets : length picture ≡ picture_length done.geometry done.written
   pub room : new ≡ picture ++ drop (length picture) old
 
@@ -86,9 +87,9 @@ IsRefused apid packets room (SmallRoom g rows) = HasSmallRoom apid packets room 
 IsRefused apid packets room Memory = ⊤
 
 -- The result and its cause. A refusal leaves the room unchanged.
-abbrev pub Decodes : (apid : ℕ) (packets old new : List ℕ) → Result DecodeDone DecodeRefusal → Type 0
-Decodes apid packets old new (Ok done) = HasPicture apid packets old new done
-Decodes apid packets old new (Err refusal) = (new ≡ old) × IsRefused apid packets (length old) refusal
+abbrev pub Decodes : Book → (apid : ℕ) (packets old new : List ℕ) → Result DecodeDone DecodeRefusal → Type 0
+Decodes book apid packets old new (Ok done) = HasPicture book apid packets old new done
+Decodes book apid packets old new (Err refusal) = (new ≡ old) × IsRefused apid packets (length old) refusal
 
 -- ---- the round trip
 
@@ -100,7 +101,7 @@ BringsImage s rows x new (Err (SmallRoom g needed)) = (g ≡ image_geometry s ro
 BringsImage s rows x new (Err Memory) = ⊤
 BringsImage s rows x new (Err other) = ⊥
 
--- the same for each image
-abbrev pub BringsBack : (apid : ℕ) (packets new : List ℕ) → Result DecodeDone DecodeRefusal → Type 0
-BringsBack apid packets new result =
-    (s : Setting) (rows : ℕ) (x : ℕ → ℕ → ℤ) → apid ≡ s.apid → packets ≡ output s rows x → IsImageFor s rows x → BringsImage s rows x new result
+-- the same for each image that was written with this code book
+abbrev pub BringsBack : Book → (apid : ℕ) (packets new : List ℕ) → Result DecodeDone DecodeRefusal → Type 0
+BringsBack book apid packets new result =
+    (s : Setting) (rows : ℕ) (x : ℕ → ℕ → ℤ) → apid ≡ s.apid → book ≡ s.book → packets ≡ output s rows x → IsImageFor s rows x → BringsImage s rows x new result

@@ -1,11 +1,12 @@
 // Decodes packets to whole pictures.
-ghost use Rattle.std.specs.Prelude.{◌≡◌, IfErr, Some};
+ghost use Rattle.std.specs.Prelude.{◌≡◌, IfErr, IsTrue, Some};
+ghost use Rattle.plane_defs.specs.Codes.{is_book_sound};
 ghost use Rattle.lent_122.specs.Lent.{outside_of};
 ghost use Rattle.lent_122.specs.Decoding.{HasRun, IsRefused, Decodes, BringsBack};
 
 use crate::geometry::{find_geometry, picture_length};
 use crate::port::LentPort;
-use base_122::{DecodeWish, Geometry};
+use base_122::{Book, DecodeWish, Geometry};
 use std::alloc::Global;
 use stream_defs::heights_are_known;
 use strip_decoder::{DecodeDone, DecodeFault, decode_packets, received_is_told, round_trip};
@@ -26,29 +27,36 @@ pub enum DecodeRefusal {
 /// the room is too small, the packets are read no further than to the first one that is kept, or to their end if their height is reported
 /// last. If it isn't reported at all, the picture has the rows that the block rows determine which the packets reach (docs/formats.md,
 /// "Picture and damage").
+///
+/// Segments are read with this code book, which must be sound. The packets do not carry it: with another book than the encoder's, segments
+/// are refused or give another picture.
 pub fn decode_whole(
     alloc: Global,
+    book: &Book,
     apid: u16,
     packets: &[u8],
     room: &mut [u8],
 ) -> Result<DecodeDone, DecodeRefusal>
-    ensures decodes { Decodes apid packets.now room.old room.new result }
-    ensures back { BringsBack apid packets.now room.new result }
+    requires book { IsTrue (is_book_sound book.now) }
+    ensures decodes { Decodes book.now apid packets.now room.old room.new result }
+    ensures back { BringsBack book.now apid packets.now room.new result }
 {
     round_trip();
     received_is_told();
     heights_are_known();
-    put_picture(alloc, apid, packets, room)
+    put_picture(alloc, book, apid, packets, room)
 }
 
 // Decodes packets, and puts their picture at the start of the room.
 fn put_picture(
     alloc: Global,
+    book: &Book,
     apid: u16,
     packets: &[u8],
     room: &mut [u8],
 ) -> Result<DecodeDone, DecodeRefusal>
-    ensures { Decodes apid packets.now room.old room.new result }
+    requires book { IsTrue (is_book_sound book.now) }
+    ensures { Decodes book.now apid packets.now room.old room.new result }
 {
     let kept = match octets_kept(alloc, apid, packets, room.len()) {
         Ok(kept) => kept,
@@ -57,7 +65,7 @@ fn put_picture(
     let Ok(mut port) = LentPort::new(alloc, packets, kept) else {
         return Err(DecodeRefusal::Memory);
     };
-    let done = match decode(alloc, apid, packets, &mut port) {
+    let done = match decode(alloc, book, apid, packets, &mut port) {
         Ok(done) => done,
         Err(refusal) => return Err(refusal),
     };
@@ -105,17 +113,20 @@ fn octets_kept(
 // Decodes the packets that a port has.
 fn decode(
     alloc: Global,
+    book: &Book,
     apid: u16,
     packets: &[u8],
     port: &mut LentPort,
 ) -> Result<DecodeDone, DecodeRefusal>
-    requires { (outside_of port.old).rest ≡ Some packets.now }
-    ensures { HasRun apid packets.now (outside_of port.old) (outside_of port.new) result }
+    requires book { IsTrue (is_book_sound book.now) }
+    requires input { (outside_of port.old).rest ≡ Some packets.now }
+    ensures { HasRun book.now apid packets.now (outside_of port.old) (outside_of port.new) result }
 {
     let wish = DecodeWish {
         apid,
         pixels: u64::MAX,
         octets: packets.len() as u64 + 1,
+        book: *book,
     };
     match decode_packets(alloc, port, &wish) {
         Ok(done) => Ok(done),

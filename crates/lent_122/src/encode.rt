@@ -1,6 +1,7 @@
 // Encodes whole rasters to packets.
-ghost use Rattle.std.specs.Prelude.{◌≡◌, length, Some, MatchResult};
+ghost use Rattle.std.specs.Prelude.{◌≡◌, length, IsTrue, Some, MatchResult};
 ghost use Rattle.base_122.specs.Ranges.{IsInRange};
+ghost use Rattle.plane_defs.specs.Codes.{is_book_sound};
 ghost use Rattle.lent_122.specs.Lent.{outside_of};
 ghost use Rattle.lent_122.specs.Encoding.{IsAdmitted, first_refused, HasRun, Encodes, Accepts};
 ghost use Rattle.strip_coder.specs.Answers.{TookRaster};
@@ -29,13 +30,15 @@ pub enum EncodeRefusal {
 
 /// Encodes a raster, and puts all of its packets at the start of the room; the rest of the room is unchanged, and so is all of it after a
 /// refusal. The causes of the results exclude each other, so each result except `Memory` is given exactly if its cause holds. The caller
-/// has the whole raster, and so knows its height: a setting that leaves its rows open is refused by the name of the rows.
+/// has the whole raster, and so knows its height: a setting that leaves its rows open is refused by the name of the rows. The packets are
+/// written with the setting's code book, which must be sound.
 pub fn encode_whole(
     alloc: Global,
     setting: &Setting,
     raster: &[u8],
     room: &mut [u8],
 ) -> Result<EncodeDone, EncodeRefusal>
+    requires book { IsTrue (is_book_sound setting.now.book) }
     ensures encodes { Encodes setting.now raster.now room.old room.new result }
     ensures accepts { IsInRange setting.now → TookRaster setting.now setting.now.rows raster.now → Accepts result }
 {
@@ -49,6 +52,7 @@ fn put_packets(
     raster: &[u8],
     room: &mut [u8],
 ) -> Result<EncodeDone, EncodeRefusal>
+    requires book { IsTrue (is_book_sound setting.now.book) }
     ensures { Encodes setting.now raster.now room.old room.new result }
 {
     ten_weights(&setting.weights.shifts);
@@ -96,7 +100,8 @@ fn encode(
     setting: &Setting,
     port: &mut LentPort,
 ) -> Result<EncodeDone, EncodeRefusal>
-    requires { IsAdmitted setting.now }
+    requires admitted { IsAdmitted setting.now }
+    requires book { IsTrue (is_book_sound setting.now.book) }
     ensures { HasRun setting.now (outside_of port.old) (outside_of port.new) result }
 {
     let Ok(mut work) = Work::new(alloc, setting) else {

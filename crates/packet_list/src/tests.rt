@@ -8,11 +8,14 @@ use port_122::MemoryPort;
 use std::alloc::{AllocError, Global};
 use std::test::Fail;
 
-const WISH: DecodeWish = DecodeWish {
-    apid: 100,
-    pixels: 0,
-    octets: 1000,
-};
+// Returns the usual wish, but with caps of no pixels and 1,000 octets.
+fn wish() -> DecodeWish {
+    DecodeWish {
+        pixels: 0,
+        octets: 1000,
+        ..DecodeWish::usual()
+    }
+}
 
 // The packet of the only segment of a black image of 17 by 17 pixels of 8 bits.
 const BLACK: [u8; 52] = [
@@ -37,7 +40,7 @@ fn port_of(alloc: Global, parts: &[&[u8]], fail: &[u64]) -> Result<MemoryPort, A
 fn each_packet_has_a_line(rt: HostRuntime) -> Result<(), Fail> {
     let mut port = port_of(rt.alloc(), &[&BLACK, &BLACK, &IDLE, &BLACK[..50]], &[])?;
     assert_eq!(rt;
-        list_packets(rt.alloc(), &mut port, &WISH),
+        list_packets(rt.alloc(), &mut port, &wish()),
         Ok(ListDone {
             packets: 3,
             framing: Some(Framing::CutPacket { missing: 2 })
@@ -51,7 +54,7 @@ fn each_packet_has_a_line(rt: HostRuntime) -> Result<(), Fail> {
 fn a_line_is_out_before_the_next_packet_is_read(rt: HostRuntime) -> Result<(), Fail> {
     let mut port = port_of(rt.alloc(), &[&BLACK, &BLACK], &[2])?;
     assert_eq!(rt;
-        list_packets(rt.alloc(), &mut port, &WISH),
+        list_packets(rt.alloc(), &mut port, &wish()),
         Err(ListFault::ReadFault)
     );
     assert_eq!(rt; port.given(), b"0 kept 0 0 22\n".as_slice());
@@ -67,7 +70,7 @@ fn lines_of_one_read_are_one_write(rt: HostRuntime) -> Result<(), Fail> {
         let mut input = BLACK.to_vec(rt.alloc())?;
         input.extend_from_slice(&BLACK)?;
         let mut port = MemoryPort::new(rt.alloc(), input, [fail].to_vec(rt.alloc())?, 1000)?;
-        assert_eq!(rt; list_packets(rt.alloc(), &mut port, &WISH), Err(fault));
+        assert_eq!(rt; list_packets(rt.alloc(), &mut port, &wish()), Err(fault));
         assert_eq!(rt; port.given(), lines.as_bytes());
     }
     Ok(())

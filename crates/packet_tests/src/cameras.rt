@@ -1,9 +1,11 @@
 // Black images of two cameras, calculated by hand from the rules.
-ghost use Rattle.std.specs.Prelude.{◌≡◌, ◌≢◌};
+ghost use Rattle.std.specs.Prelude.{◌≡◌, ◌≢◌, IsTrue};
 ghost use Rattle.base_122.specs.Ranges.{IsInRange};
+ghost use Rattle.plane_defs.specs.Codes.{is_book_sound};
 
 use base_122::Setting;
 use camera_mux::{MuxDone, MuxFault, mux_rows};
+use code_book::check_book;
 use port_122::MemoryPort;
 use std::alloc::{AllocError, Global};
 use std::mem;
@@ -33,6 +35,8 @@ fn mux_two(
 ) -> Result<Result<MuxDone, MuxFault>, AllocError>
     requires first { IsInRange first.now }
     requires second { IsInRange second.now }
+    requires first_book { IsTrue (is_book_sound first.now.book) }
+    requires second_book { IsTrue (is_book_sound second.now.book) }
     requires first_rows { first.now.rows ≢ 0 }
     requires second_rows { second.now.rows ≢ 0 }
     requires apart { first.now.apid ≢ second.now.apid }
@@ -60,6 +64,8 @@ fn given_for(
     second.apid = 101;
     assert_eq!(rt; first.check(), Ok(()));
     assert_eq!(rt; second.check(), Ok(()));
+    assert_eq!(rt; check_book(&first.book), Ok(()));
+    assert_eq!(rt; check_book(&second.book), Ok(()));
     let mut port = MemoryPort::new(rt.alloc(), records, Vec::new(rt.alloc()), 65_536)?;
     assert_eq!(rt; mux_two(rt.alloc(), &first, &second, &mut port)?, done);
     Ok(port.given().to_vec(rt.alloc())?)

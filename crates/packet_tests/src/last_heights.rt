@@ -1,8 +1,8 @@
 // Images of 17 columns whose height is reported last, by the header of their last segment. A block row has three blocks, and a segment
 // is one packet of 16 blocks or, if it is the last, fewer.
 use crate::pictures::{
-    MadeStream, Outcome, WISH, decoded, expect_damage, expect_rows, fault_of, make_packets,
-    make_raster, place_of, tall, usual, without,
+    MadeStream, Outcome, decoded, expect_damage, expect_rows, fault_of, make_packets, make_raster,
+    place_of, tall, usual, usual_wish, without,
 };
 use base_122::{Geometry, Setting};
 use damage_rows::RowRange;
@@ -35,7 +35,7 @@ fn expect_found(
     input: &[u8],
     found: Found,
 ) -> Result<(), Fail> {
-    let outcome = decoded(rt, &WISH, input, &[], 100)?;
+    let outcome = decoded(rt, &usual_wish(), input, &[], 100)?;
     let damaged = found.damaged.map(|(first, last)| RowRange { first, last });
     let octets = 17 * found.written as usize;
     assert!(rt; octets <= raster.len());
@@ -192,7 +192,7 @@ fn expect_many(
     most: u64,
     many: Many,
 ) -> Result<(), Fail> {
-    let mut wish = WISH;
+    let mut wish = usual_wish();
     wish.pixels = most;
     let outcome = decoded(rt, &wish, &made.packets, &[], 1)?;
     let pixels = many.pixels;
@@ -223,7 +223,7 @@ fn each_header_may_report_too_many_pixels(rt: HostRuntime) -> Result<(), Fail> {
         };
         expect_many(&rt, &made, most, many)?;
     }
-    let mut wish = WISH;
+    let mut wish = usual_wish();
     wish.pixels = 2_176;
     let outcome = decoded(&rt, &wish, &made.packets, &[], 1)?;
     assert!(rt; outcome.answer.is_ok());

@@ -1,15 +1,10 @@
 // Looks at constant images of 17 columns, and so of three blocks in a block row.
 use base_122::DecodeWish;
+use code_book::check_book;
 use port_122::MemoryPort;
 use quick_look::look_packets;
 use std::process::Abort;
 use std::test::Fail;
-
-const WISH: DecodeWish = DecodeWish {
-    apid: 100,
-    pixels: 1 << 20,
-    octets: 1000,
-};
 
 // The packet of the only segment of an image of 17 rows, whose pixels have 8 bits and are all 200.
 const GREY: [u8; 53] = [
@@ -45,9 +40,15 @@ fn expect_look(
     height: u32,
     look: &[u8],
 ) -> Result<(), Fail> {
+    let wish = DecodeWish {
+        pixels: 1 << 20,
+        octets: 1000,
+        ..DecodeWish::usual()
+    };
+    assert_eq!(rt; check_book(&wish.book), Ok(()));
     let input = packets.to_vec(rt.alloc())?;
     let mut port = MemoryPort::new(rt.alloc(), input, Vec::new(rt.alloc()), 100)?;
-    match look_packets(rt.alloc(), &mut port, &WISH) {
+    match look_packets(rt.alloc(), &mut port, &wish) {
         Ok(done) => assert_eq!(rt; done.geometry.rows, height),
         Err(_) => assert!(rt; false),
     }

@@ -9,11 +9,14 @@ use port_122::MemoryPort;
 use std::alloc::{AllocError, Global};
 use std::test::Fail;
 
-const WISH: DecodeWish = DecodeWish {
-    apid: 100,
-    pixels: 0,
-    octets: 1000,
-};
+// Returns the wish for the packets of APID 100, at most 1,000 octets of input.
+fn usual_wish() -> DecodeWish {
+    DecodeWish {
+        pixels: 0,
+        octets: 1000,
+        ..DecodeWish::usual()
+    }
+}
 
 // The packet of the only segment of a black image of 17 by 17 pixels of 8 bits, of APID 100 and image 0.
 const BLACK: [u8; 52] = [
@@ -69,7 +72,8 @@ fn port_of(
 #[test]
 fn packets_of_another_camera_are_left(rt: HostRuntime) -> Result<(), Fail> {
     let mut port = port_of(rt.alloc(), &[&BLACK, &SECOND], &[], 100)?;
-    let wish = DecodeWish { apid: 101, ..WISH };
+    let mut wish = usual_wish();
+    wish.apid = 101;
     assert_eq!(rt;
         pick_packets(rt.alloc(), &mut port, &wish, None),
         Ok(ListDone {
@@ -93,7 +97,7 @@ fn an_apid_has_packets_of_any_kind(rt: HostRuntime) -> Result<(), Fail> {
     ];
     let mut port = port_of(rt.alloc(), &parts, &[], 100)?;
     assert_eq!(rt;
-        pick_packets(rt.alloc(), &mut port, &WISH, None),
+        pick_packets(rt.alloc(), &mut port, &usual_wish(), None),
         Ok(ListDone {
             packets: 3,
             framing: Some(Framing::CutPacket { missing: 10 })
@@ -110,7 +114,7 @@ fn an_image_has_packets_with_its_number(rt: HostRuntime) -> Result<(), Fail> {
         let parts = [&BLACK[..], &SECOND[..], &COMMAND[..], &SEVEN[..]];
         let mut port = port_of(rt.alloc(), &parts, &[], 100)?;
         assert_eq!(rt;
-            pick_packets(rt.alloc(), &mut port, &WISH, Some(image)),
+            pick_packets(rt.alloc(), &mut port, &usual_wish(), Some(image)),
             Ok(ListDone {
                 packets,
                 framing: None
@@ -129,7 +133,7 @@ fn a_packet_is_out_before_the_next_is_read(rt: HostRuntime) -> Result<(), Fail> 
     ] {
         let mut port = port_of(rt.alloc(), &[&BLACK, &BLACK], &[fail], piece)?;
         assert_eq!(rt;
-            pick_packets(rt.alloc(), &mut port, &WISH, None),
+            pick_packets(rt.alloc(), &mut port, &usual_wish(), None),
             Err(fault)
         );
         assert_eq!(rt; port.given(), &BLACK[..octets]);
@@ -140,7 +144,8 @@ fn a_packet_is_out_before_the_next_is_read(rt: HostRuntime) -> Result<(), Fail> 
 #[test]
 fn input_beyond_the_cap_is_too_long(rt: HostRuntime) -> Result<(), Fail> {
     let mut port = port_of(rt.alloc(), &[&BLACK, &BLACK], &[], 100)?;
-    let wish = DecodeWish { octets: 60, ..WISH };
+    let mut wish = usual_wish();
+    wish.octets = 60;
     assert_eq!(rt;
         pick_packets(rt.alloc(), &mut port, &wish, None),
         Err(ListFault::LongInput)

@@ -1,9 +1,11 @@
 // Made images, encoded, and the pictures of their packets.
-ghost use Rattle.std.specs.Prelude.{◌≤◌, length};
+ghost use Rattle.std.specs.Prelude.{◌≤◌, length, IsTrue};
 ghost use Rattle.base_122.specs.Ranges.{IsInRange};
+ghost use Rattle.plane_defs.specs.Codes.{is_book_sound};
 
 use crate::examples::port_of;
 use base_122::{DecodeWish, Setting};
+use code_book::check_book;
 use damage_rows::{Damage, RowRange};
 use packet_assembly::Framing;
 use port_122::MemoryPort;
@@ -15,12 +17,14 @@ use std::test::Fail;
 use strip_coder::{Work, encode_rows};
 use strip_decoder::{DecodeDone, DecodeFault, decode_packets};
 
-// The wish for most pictures.
-pub const WISH: DecodeWish = DecodeWish {
-    apid: 100,
-    pixels: 1 << 20,
-    octets: 1 << 20,
-};
+// Returns the wish for most pictures.
+pub fn usual_wish() -> DecodeWish {
+    DecodeWish {
+        pixels: 1 << 20,
+        octets: 1 << 20,
+        ..DecodeWish::usual()
+    }
+}
 
 // Returns the usual setting for an image of 8 bits, except for segments of 16 blocks.
 pub fn usual(width: u32, rows: u32, packet: u32) -> Setting {
@@ -75,7 +79,8 @@ pub fn make_raster(rt: &impl AllocGlobal, setting: &Setting) -> Result<Vec<u8>, 
 
 // Encodes the raster that this port has, and returns whether that was done.
 fn encode_port(alloc: Global, setting: &Setting, port: &mut MemoryPort) -> bool
-    requires { IsInRange setting.now }
+    requires in_range { IsInRange setting.now }
+    requires book { IsTrue (is_book_sound setting.now.book) }
 {
     let Ok(mut work) = Work::new(alloc, setting) else {
         return false;
@@ -93,6 +98,7 @@ pub fn make_packets(
     raster: &[u8],
 ) -> Result<Vec<u8>, Fail> {
     assert_eq!(rt; setting.check(), Ok(()));
+    assert_eq!(rt; check_book(&setting.book), Ok(()));
     let mut port = port_of(rt.alloc(), &[raster], &[], 65_536)?;
     assert!(rt; encode_port(rt.alloc(), setting, &mut port));
     Ok(port.given().to_vec(rt.alloc())?)
@@ -147,6 +153,7 @@ pub fn decoded(
     piece: usize,
 ) -> Result<Outcome, Fail> {
     assert!(rt; piece > 0);
+    assert_eq!(rt; check_book(&wish.book), Ok(()));
     let input = input.to_vec(rt.alloc())?;
     let mut port = MemoryPort::new(rt.alloc(), input, fail.to_vec(rt.alloc())?, piece)?;
     let answer = decode_packets(rt.alloc(), &mut port, wish);
@@ -229,7 +236,7 @@ pub fn expect_picture(
     damaged: Option<RowRange>,
     framing: Option<Framing>,
 ) -> Result<(), Fail> {
-    let outcome = decoded(rt, &WISH, input, &[], 100)?;
+    let outcome = decoded(rt, &usual_wish(), input, &[], 100)?;
     expect_rows(rt, setting.width, raster, outcome.port.given(), damaged);
     expect_done(rt, setting, &outcome.answer, damaged, framing);
     Ok(())
@@ -241,7 +248,7 @@ pub fn expect_whole(
     setting: &Setting,
     input: &[u8],
 ) -> Result<(), Fail> {
-    let outcome = decoded(rt, &WISH, input, &[], 100)?;
+    let outcome = decoded(rt, &usual_wish(), input, &[], 100)?;
     expect_done(rt, setting, &outcome.answer, None, None);
     Ok(())
 }
@@ -356,8 +363,8 @@ fn is_decoded(
 #[test]
 fn no_picture_without_a_segment_or_of_too_many_pixels(rt: HostRuntime) -> Result<(), Fail> {
     let made = encode_made(&rt, &tall())?;
-    expect_fault(&rt, &WISH, &[], DecodeFault::NoSegment)?;
-    let mut wish = WISH;
+    expect_fault(&rt, &usual_wish(), &[], DecodeFault::NoSegment)?;
+    let mut wish = usual_wish();
     wish.apid = 101;
     expect_fault(&rt, &wish, &made.packets, DecodeFault::NoSegment)?;
     wish.apid = 100;
@@ -382,7 +389,7 @@ fn expect_capped(rt: &impl Abort, outcome: &Outcome, octets: u64, raster: &[u8])
 fn cap_leaves_the_rows_before(rt: HostRuntime) -> Result<(), Fail> {
     let made = encode_made(&rt, &tall())?;
     assert!(rt; !made.packets.is_empty());
-    let mut wish = WISH;
+    let mut wish = usual_wish();
     wish.octets = made.packets.len() as u64 - 1;
     let outcome = decoded(&rt, &wish, &made.packets, &[], 100)?;
     expect_capped(&rt, &outcome, wish.octets, &made.raster);
@@ -395,7 +402,7 @@ fn fault_at(
     made: &MadeStream,
     call: u64,
 ) -> Result<Option<DecodeFault>, Fail> {
-    let outcome = decoded(rt, &WISH, &made.packets, &[call], 17)?;
+    let outcome = decoded(rt, &usual_wish(), &made.packets, &[call], 17)?;
     let given = outcome.port.given();
     assert!(rt; made.raster.starts_with(given), "call {call}");
     assert!(rt; call > 0 || given.is_empty());

@@ -2,16 +2,11 @@
 ghost use Rattle.std.specs.Prelude.{◌<◌};
 
 use base_122::DecodeWish;
+use code_book::check_book;
 use damage_rects::list_rects;
 use port_122::MemoryPort;
 use std::alloc::{AllocError, Global};
 use std::test::Fail;
-
-const WISH: DecodeWish = DecodeWish {
-    apid: 100,
-    pixels: 16_384,
-    octets: 1000,
-};
 
 // Returns the packet of the first segment of a black image of this size, with 16 blocks in a segment.
 type First = [u8; 51];
@@ -111,10 +106,16 @@ fn missing_blocks_have_rectangles(rt: HostRuntime) -> Result<(), Fail> {
         (&open, &[1], None, ""),
         (&open, &[2], None, "0-2 0-127\n0-2 0-127\n"),
     ];
+    let wish = DecodeWish {
+        pixels: 16_384,
+        octets: 1000,
+        ..DecodeWish::usual()
+    };
+    assert_eq!(rt; check_book(&wish.book), Ok(()));
     for (first, indices, last, lines) in cases {
         let input = stream_of(rt.alloc(), first, indices, last)?;
         let mut port = MemoryPort::new(rt.alloc(), input, Vec::new(rt.alloc()), 100)?;
-        assert!(rt; list_rects(rt.alloc(), &mut port, &WISH).is_ok());
+        assert!(rt; list_rects(rt.alloc(), &mut port, &wish).is_ok());
         assert_eq!(rt; port.given(), lines.as_bytes());
     }
     Ok(())

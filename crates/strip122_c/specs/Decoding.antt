@@ -1,5 +1,6 @@
 -- The report on a picture. This project's own.
 use Rattle.std.specs.Prelude.{◌≡◌, ◌≤◌, ℕ, ◌==◌, ◌&&◌, not, if◌then◌else◌, List, [], ◌∷◌, length, Option, None, Some, is_none, Result, Ok, Err, ⊤}
+use Rattle.base_122.specs.Profile.{profile}
 use Rattle.base_122.specs.Ranges.{IsGeometryInRange, rows_range}
 use Rattle.base_122.specs.declared.geometry.Geometry.{Geometry}
 use Rattle.packet_defs.specs.declared.packet.Framing.{Framing}
@@ -73,12 +74,12 @@ HasSizeInRange (Ok done) = IsGeometryInRange done.geometry × (done.written ≤ 
 HasSizeInRange (Err (SmallRoom g rows)) = IsGeometryInRange g × (rows ≤ rows_range.most)
 HasSizeInRange (Err other) = ⊤
 
--- Packets were decoded into a room that was `old`, or refused. The answer and the report say how it ended, and `ranges` begins with the
--- ranges of damaged rows, as far as there are places.
+-- Packets were decoded with the profile's code book into a room that was `old`, or refused. The answer and the report say how it ended, and
+-- `ranges` begins with the ranges of damaged rows, as far as there are places.
 pub record ReportsDecoding (apid : ℕ) (packets old new : List ℕ) (places ranges : List Strip122Range) (report : Strip122Decoded) (answer : ℕ) : Type 0 where
   pub ended : Result DecodeDone DecodeRefusal
-  pub decodes : Decodes apid packets old new ended
-  pub back : BringsBack apid packets new ended
+  pub decodes : Decodes profile apid packets old new ended
+  pub back : BringsBack profile apid packets new ended
   pub answer_is : answer ≡ answer_with ended (length (ranges_of ended))
   pub report_is : report ≡ report_with ended (length (ranges_of ended))
   pub ranges_are : ranges ≡ put_over (ranges_of ended) places

@@ -1,5 +1,6 @@
 -- A setting as C has it. This project's own.
 use Rattle.std.specs.Prelude.{ℕ, ◌==◌, Bool, not, if◌then◌else◌}
+use Rattle.base_122.specs.Profile.{profile}
 use Rattle.base_122.specs.declared.setting.Select.{Select}
 use Rattle.base_122.specs.declared.setting.Select.TheVariants.{Heuristic, Optimal}
 use Rattle.base_122.specs.declared.setting.Setting.{Setting}
@@ -29,4 +30,5 @@ setting_of c = record {
   image = c.image;
   packet = c.packet;
   total = 0;
+  book = profile;
 }

@@ -14,6 +14,7 @@ ghost use Rattle.strip122_c.specs.Settings.{setting_of};
 ghost use Rattle.strip122_c.specs.Encoding.{ReportsEncoding, IsAccepted};
 ghost use Rattle.strip122_c.specs.Decoding.{ReportsDecoding};
 
+use base_122::Book;
 pub use decoded::Strip122Decoded;
 pub use encoded::Strip122Encoded;
 use lent_122::{decode_whole, encode_whole};
@@ -30,7 +31,8 @@ const _: () = prove!(size_of::<Strip122Decoded>() == 56);
 
 const _: () = prove!(size_of::<Strip122Range>() == 8);
 
-/// Encodes a raster. If the answer is 0, the room begins with all of its packets; `encoded` reports what was done, or why it was not.
+/// Encodes a raster with the code book of the profile. If the answer is 0, the room begins with all of its packets; `encoded` reports what
+/// was done, or why it was not.
 #[unsafe(no_mangle)]
 pub extern "C" fn strip122_encode(
     alloc: Global,
@@ -47,8 +49,8 @@ pub extern "C" fn strip122_encode(
     encoded::answer_of(&ended)
 }
 
-/// Decodes the packets of an APID. If the answer is 0 or 1, the room begins with their picture, and `ranges` with the first ranges of
-/// damaged rows, one for each place; `decoded` reports what was found, or what room is needed.
+/// Decodes the packets of an APID with the code book of the profile. If the answer is 0 or 1, the room begins with their picture, and
+/// `ranges` with the first ranges of damaged rows, one for each place; `decoded` reports what was found, or what room is needed.
 #[unsafe(no_mangle)]
 pub extern "C" fn strip122_decode(
     alloc: Global,
@@ -60,7 +62,7 @@ pub extern "C" fn strip122_decode(
 ) -> u32
     ensures { ReportsDecoding apid packets.now room.old room.new ranges.old ranges.new decoded.new result }
 {
-    let ended = decode_whole(alloc, apid, packets, room);
+    let ended = decode_whole(alloc, &Book::profile(), apid, packets, room);
     let count = ranges::put_damage(&ended, ranges);
     *decoded = decoded::report_of(&ended, count);
     decoded::answer_of(&ended, count)

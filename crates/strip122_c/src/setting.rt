@@ -1,8 +1,9 @@
 // A setting as C has it.
-ghost use Rattle.std.specs.Prelude.{◌≡◌};
+ghost use Rattle.std.specs.Prelude.{◌≡◌, IsTrue};
+ghost use Rattle.plane_defs.specs.Codes.{is_book_sound};
 ghost use Rattle.strip122_c.specs.Settings.{select_of, setting_of};
 
-use base_122::{Select, Setting, Stop, Weights};
+use base_122::{Book, Select, Setting, Stop, Weights};
 
 /// A setting of the encoder. A flag is set by each number except 0.
 #[repr(C)]
@@ -26,9 +27,10 @@ pub struct Strip122Setting {
     pub weights: [u8; 10],
 }
 
-/// Returns the setting of an encoder, without a total.
+/// Returns the setting of an encoder, without a total and with the code book of the profile, which is sound.
 pub fn setting_of(setting: &Strip122Setting) -> Setting
-    ensures { result ≡ setting_of setting.now }
+    ensures value { result ≡ setting_of setting.now }
+    ensures book { IsTrue (is_book_sound result.book) }
 {
     let stop = Stop {
         dc: setting.stop_dc != 0,
@@ -54,6 +56,7 @@ pub fn setting_of(setting: &Strip122Setting) -> Setting
         image: setting.image,
         packet: setting.packet,
         total: 0,
+        book: Book::profile(),
     }
 }
 

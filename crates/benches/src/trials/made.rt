@@ -4,6 +4,7 @@ ghost use Rattle.std.specs.Prelude.{◌≡◌, ◌≤◌, length};
 use crate::pictures::BLOCK;
 use crate::random::Random;
 use crate::texts::{HeadFields, put_text};
+use segment_code::SegmentWriter;
 
 // The usual weights of the ten bands, two bits each.
 const USUAL: u32 = 0b00_01_01_01_10_10_10_11_11_11;
@@ -88,7 +89,7 @@ fn made_fields(random: &mut Random, depth: u32) -> HeadFields
 }
 
 // Makes a segment of one to four blocks and puts its text into `text`; returns how many octets it has, 0 if it made none.
-pub(crate) fn make_text(random: &mut Random, text: &mut [u8]) -> usize
+pub(crate) fn make_text(writer: &SegmentWriter, random: &mut Random, text: &mut [u8]) -> usize
     ensures within { result ≤ length text.new }
     ensures size { length text.new ≡ length text.old }
 {
@@ -100,6 +101,6 @@ pub(crate) fn make_text(random: &mut Random, text: &mut [u8]) -> usize
     let rare = 1 + random.below(30);
     let numbers = &mut blocks[..BLOCK * count];
     fill(random, numbers, fields.weights, depth, rare);
-    let octets = put_text(text, &fields, numbers, &mut marks[..count]);
+    let octets = put_text(writer, text, &fields, numbers, &mut marks[..count]);
     octets.min(text.len() as u64) as usize
 }

@@ -2,7 +2,7 @@ use Rattle.std.proofs.Common.{drop, sym, subst, ◌∙◌, arith}
 use Rattle.std.specs.Prelude.{Ok, Err}
 use Rattle.std.proofs.lemmas.List.{with_items_is}
 use Rattle.packet_assembly.proofs.HeadLengths.{head_within}
-use Rattle.plane_defs.specs.Profile.{profile}
+use Rattle.base_122.specs.Profile.{profile}
 use Rattle.segment_defs.specs.Head.{head_length}
 use Rattle.segment_code.specs.Decoded.{HoldsPart}
 use Rattle.crate_examples.proofs.TextsRead.{rest_is, read_all}
