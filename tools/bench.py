@@ -12,6 +12,16 @@ SIDE = 2048  # the side of the usual picture
 RUNS = 3  # each time is the least of so many, with the greatest beside it
 PIXELS = 1 << 20  # a smaller picture runs several times for one figure
 
+# The lengths of the codes of the six tables of a book.
+LENGTHS = [
+    "1 2 3 3",
+    "4 1 2 5 3 6 7 7",
+    "2 2 3 3 4 4 4 4",
+    "6 2 2 3 3 4 5 6 6 4 6 7 7 7 8 8",
+    "6 3 3 2 2 5 5 6 5 5 5 6 7 6 6 7",
+    "6 3 3 3 3 4 4 5 5 4 4 6 5 5 5 4",
+]
+
 
 # ---- pictures, of 16 bits, as lists of rows
 
@@ -129,18 +139,25 @@ def told(name, size, depth, times, length, same):
     print(f"| {name} | {size[0]} x {size[1]} | {depth} | {spans[0]} | {spans[1]} | {length:,} | {bits:.2f} | {same} |", flush=True)
 
 
+def photograph_book():
+    """A code book whose lengths fit photographs (docs/recipes.md, "Another code book")."""
+    script = os.path.join(os.path.dirname(os.path.abspath(__file__)), "book.py")
+    return subprocess.run([sys.executable, script, *LENGTHS], check=True, stdout=subprocess.PIPE).stdout
+
+
 class Ours(Bench):
-    def line(self, name, size, depth, octets, *words):
+    def line(self, name, size, depth, octets, *words, book=b""):
         """Encodes and decodes, and compares what comes back."""
-        source, packed, back = self.path("raster"), self.path("packed"), self.path("back")
+        source, packed, sent, back = self.path("raster"), self.path("packed"), self.path("sent"), self.path("back")
         with open(source, "wb") as it:
-            it.write(octets)
+            it.write(book + octets)
         sizes = [f"width={size[0]}", f"rows={size[1]}", f"depth={depth}"]
+        booked = ["book=1"] if book else []
         pixels = size[0] * size[1]
-        times = [
-            self.spent([self.program, "encode", *sizes, *words], pixels, source, packed),
-            self.spent([self.program, "decode", "pixels=1099511627776"], pixels, packed, back),
-        ]
+        times = [self.spent([self.program, "encode", *sizes, *words, *booked], pixels, source, packed)]
+        with open(packed, "rb") as it, open(sent, "wb") as into:
+            into.write(book + it.read())
+        times.append(self.spent([self.program, "decode", "pixels=1099511627776", *booked], pixels, sent, back))
         with open(back, "rb") as it:
             same = it.read() == octets
         told(name, size, depth, times, os.path.getsize(packed), "yes" if same else "NO")
@@ -249,6 +266,7 @@ def main(program, most, pictures):
         for segment in (16, 64, 4096, 1048575):
             good &= ours.line(f"drawn, segment={segment}", square, 8, eight, f"segment={segment}")
         good &= ours.line("drawn, select=heuristic", square, 8, eight, "select=heuristic")
+        good &= ours.line("drawn, another code book", square, 8, eight, book=photograph_book())
         side = 256
         while side <= most:
             if side != SIDE:

@@ -2,8 +2,10 @@
 
 Each image is encoded by both, and its packets are decoded. Then some packets are lost, or octets changed, and what is
 left is decoded, looked at and listed, and its damage found. The rows of some cameras are muxed, and the packets of one
-are picked. The image is also encoded as a bare stream, which is decoded whole, cut, and with octets changed. Status, output and note have to be the same each time, and the packets of an image that leave nothing out
-have to give its raster.
+are picked. The image is also encoded as a bare stream, which is decoded whole, cut, and with octets changed. It is
+encoded with a random code book too, and these packets are decoded with that book, with another one and with none; and
+the book is changed or cut. Status, output and note have to be the same each time, and the packets of an image that
+leave nothing out have to give its raster.
 """
 
 import random
@@ -61,7 +63,7 @@ class Pair:
         return ours
 
 
-def try_image(pair, chance):
+def try_image(pair, chance, books):
     width, rows = chance.randint(17, 70), chance.randint(17, 70)
     depth, signed = chance.randint(1, 16), chance.randint(0, 1)
     given = raster(chance, width, rows, depth, signed)
@@ -79,6 +81,7 @@ def try_image(pair, chance):
     size = [f"width={width}", f"rows={rows}", f"depth={depth}", f"signed={signed}"]
     try_bare(pair, chance, size, words, given, is_whole)
     try_cameras(pair, chance)
+    try_books(pair, books, size, words, given, is_whole)
 
 
 def try_bare(pair, chance, size, words, given, is_whole):
@@ -90,6 +93,37 @@ def try_bare(pair, chance, size, words, given, is_whole):
     assert status == 0 and (picture == given or not is_whole)
     for left in (octets[: chance.randrange(len(octets))], octets + b"\0", changed(chance, octets)):
         pair.ask(["bare-decode", "pixels=1000000"], left)
+
+
+def codes(chance, count):
+    """A complete list of codes of 1 to 8 bits, of which none is a prefix of another: each its length and its bits."""
+    found = [(0, 0)]
+    while len(found) < count:
+        length, bits = found.pop(chance.choice([at for at, (length, _) in enumerate(found) if length < 8]))
+        found += [(length + 1, 2 * bits), (length + 1, 2 * bits + 1)]
+    return chance.sample(found, count)
+
+
+def book(chance):
+    octets = b"".join(bytes(code) for count in (4, 8, 8, 16, 16, 16) for code in codes(chance, count))
+    return b"\x12\x2b" + octets
+
+
+def try_books(pair, chance, size, words, given, is_whole):
+    """An image with a code book of its own, whose packets are read with books that need not be that one."""
+    own, other = book(chance), book(chance)
+    _, octets, _ = pair.ask(["encode", *size, *words, "book=1"], own + given)
+    status, picture, _ = pair.ask(["decode", "book=1"], own + octets)
+    assert status == 0 and (picture == given or not is_whole)
+    lost = b"".join(it for it in packets_of(octets) if chance.random() < 0.8)
+    for command in ("decode", "damage", "look", "rects"):
+        pair.ask([command, "book=1"], own + lost)
+        pair.ask([command, "book=1"], other + octets)
+        pair.ask([command], octets)
+    place, octet = chance.randrange(138), chance.choice([chance.randrange(256), chance.randrange(10)])
+    for bad in (own[:place] + bytes([octet]) + own[place + 1 :], own[:place]):
+        pair.ask(["encode", *size, *words, "book=1"], bad + given)
+        pair.ask(["decode", "book=1", f"octets={len(octets) + 1}"], bad + octets)
 
 
 def try_cameras(pair, chance):
@@ -108,9 +142,9 @@ def try_cameras(pair, chance):
 
 
 def main(program, other, count, seed=1):
-    pair, chance = Pair(program, other), random.Random(seed)
+    pair, chance, books = Pair(program, other), random.Random(seed), random.Random(f"books {seed}")
     for number in range(count):
-        try_image(pair, chance)
+        try_image(pair, chance, books)
     for name, times in sorted(pair.counts.items()):
         print(f"{name}: {times}")
 

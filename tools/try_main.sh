@@ -112,5 +112,30 @@ head -c 21 bare >in
 cp nothing output
 expect 3 "strip122: segment 0 refused" bare-decode
 
+# A code book before the raster and before the packets. Each code has the length of its word, and a black image has no words.
+octets() {
+    for octet in "$@"; do printf "\\$(printf %03o "$octet")"; done
+}
+codes() {
+    for symbol in $(seq 0 $(($2 - 1))); do octets "$1" "$symbol"; done
+}
+{ octets 18 43; codes 2 4; codes 3 8; codes 3 8; codes 4 16; codes 4 16; codes 4 16; } >book
+[ "$(wc -c <book)" = 138 ] || wrong=1
+cat book black >in
+cp packets output
+expect 0 "" encode width=17 rows=17 book=1
+cat book packets >in
+cp black output
+expect 0 "" decode book=1
+cp nothing output
+expect 0 "" damage book=1
+head -c 137 book >in
+expect 3 "strip122: book short, 137 octets taken" decode book=1
+cp black in
+expect 3 "strip122: book without mark" encode width=17 rows=17 book=1
+{ head -c 3 book; octets 1; tail -c +5 book; } >in
+expect 3 "strip122: book refused: codes 0 and 1 of table 0 clash" look book=1
+expect 2 "strip122: bad word: book=1" list book=1
+
 [ $wrong = 0 ] && echo "$count runs: output, note and status are as they should be"
 exit $wrong
