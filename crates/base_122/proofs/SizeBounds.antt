@@ -1,16 +1,9 @@
 -- Bounds of the padded sizes and of the segments.
-use Rattle.std.proofs.Common.{◌≡◌, ℕ, ◌+◌, ◌*◌, ◌^◌, ◌<◌, ◌≤◌, arith, ap}
+use Rattle.std.proofs.Common.{◌≡◌, ℕ, ◌+◌, ◌*◌, ◌^◌, ◌<◌, ◌≤◌, arith}
 use Rattle.std.proofs.Math.Nat.{mul-le-mul, mul-le-mul_right}
 use Rattle.std.proofs.lemmas.Grind.{div_ceil_times}
 use Rattle.base_122.specs.Ranges.{IsWithin, width_range, rows_range}
-use Rattle.base_122.specs.Sizes.{block_count, padded_size, total_blocks, segment_count, first_block, segment_blocks}
-
--- the padded size is the least multiple of 8 that is at least n
-pub le-padded_size : (n : ℕ) → n ≤ padded_size n
-le-padded_size n = omega arith
-
-pub padded_size-lt : (n : ℕ) → padded_size n < n + 8
-padded_size-lt n = omega arith
+use Rattle.base_122.specs.Sizes.{block_count, total_blocks, segment_count, first_block, segment_blocks}
 
 pub three-le-block_count : (n : ℕ) → 17 ≤ n → 3 ≤ block_count n
 three-le-block_count n least = omega arith
@@ -39,19 +32,6 @@ total-le-segments total S some = (div_ceil_times total S some).0
 pub one-le-segment_blocks : (total S index : ℕ) → 0 < S → index < segment_count total S → 1 ≤ segment_blocks total S index
 one-le-segment_blocks total S index some below = let before = first_block-lt total S index some below in omega (arith, before)
 
-pub segment_blocks-most : (total S index : ℕ) → segment_blocks total S index ≤ S
-segment_blocks-most total S index = omega arith
-
 -- a segment that is not the last is whole
 pub segment_blocks-whole : (total S index : ℕ) → 0 < S → index + 1 < segment_count total S → segment_blocks total S index ≡ S
 segment_blocks-whole total S index some below = let next = first_block-lt total S (index + 1) some below in omega (arith, next)
-
--- blocks that fit in one segment make one
-pub segment_count-one : (total S : ℕ) → 0 < total → total ≤ S → segment_count total S ≡ 1
-segment_count-one total S some fit = omega (arith, not_zero, not_two)
-  where
-    not_zero : segment_count total S ≡ 0 → ⊥
-    not_zero none = omega (arith, ap (λ count. count * S) none, (div_ceil_times total S (let positive : 0 < S = omega arith in positive)).0)
-
-    not_two : 2 ≤ segment_count total S → ⊥
-    not_two two = omega (arith, mul-le-mul_right S two, (div_ceil_times total S (let positive : 0 < S = omega arith in positive)).1)

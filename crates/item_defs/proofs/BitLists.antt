@@ -1,5 +1,5 @@
 -- Lists of bits of one kind, and prefixes of lists.
-use Rattle.std.proofs.Common.{◌≡◌, ℕ, zero, suc, ◌+◌, ◌-◌, ◌<◌, ◌≤◌, List, [], ◌∷◌, ◌++◌, length, take, Bool, true, false, eqb, refl, sym, ap, ◌∙◌, append_assoc, arith, zero-add, inl, inr, length-append}
+use Rattle.std.proofs.Common.{◌≡◌, ℕ, zero, suc, ◌+◌, ◌-◌, ◌<◌, ◌≤◌, List, [], ◌∷◌, ◌++◌, length, take, Bool, true, false, eqb, refl, ap, ◌∙◌, append_assoc, arith, zero-add, inl, inr, length-append}
 use Rattle.std.proofs.lemmas.Bool.{cases_eq}
 use Rattle.std.proofs.lemmas.Bool.Decides.{nat_tests}
 use Rattle.std.proofs.lemmas.List.{append-nil}
@@ -60,11 +60,7 @@ zeros_differ i limit n more lt le e =
     ]
 
 pub zeros_and_no_one : (n limit : ℕ) → n ≤ limit → limit ≤ n → copies n false ≡ zeros_and_one limit n
-zeros_and_no_one n limit p q =
-    let t : eqb n limit ≡ true = grind (arith, nat_tests) in
-    rw t (sym (append-nil (copies n false)))
+zeros_and_no_one n limit p q = grind (arith, nat_tests, append-nil)
 
 pub zeros_then_one : (n limit : ℕ) → n < limit → copies n false ++ true ∷ [] ≡ zeros_and_one limit n
-zeros_then_one n limit p =
-    let t : eqb n limit ≡ false = grind (arith, nat_tests) in
-    rw t refl
+zeros_then_one n limit p = grind (arith, nat_tests)

@@ -1,5 +1,5 @@
 -- Bits of numbers, and the numbers of bits.
-use Rattle.std.proofs.Common.{◌≡◌, ℕ, zero, suc, ◌+◌, ◌*◌, ◌-◌, ◌/◌, ◌%◌, ◌^◌, ◌<◌, ◌≤◌, List, [], ◌∷◌, ◌++◌, length, take, drop, Bool, true, false, refl, sym, ap, ◌∙◌, append_assoc, arith, sub-one, zero-add, eqb}
+use Rattle.std.proofs.Common.{◌≡◌, ℕ, zero, suc, ◌+◌, ◌*◌, ◌-◌, ◌/◌, ◌%◌, ◌^◌, ◌<◌, ◌≤◌, List, [], ◌∷◌, ◌++◌, length, take, drop, Bool, false, refl, sym, ap, ◌∙◌, append_assoc, arith, sub-one, zero-add, eqb}
 use Rattle.std.specs.Prelude.{bit_and, nat_eq, fold}
 use Rattle.std.proofs.lemmas.Nat.{shr_le, shr-shr, and_mask, mod-pow-add, shr_high, mod_low}
 use Rattle.std.proofs.lemmas.List.{append-nil, take_at, drop_at}
@@ -29,17 +29,14 @@ bit_above p b i lt =
     ap (λ k. eqb (k % 2) 1) f
 
 low_bit : (p : ℕ) (b : Bool) → bit (2 * p + digit b) 0 ≡ b
-low_bit p true = let e : (2 * p + 1) / 1 % 2 ≡ 1 = omega arith in ap (λ k. eqb k 1) e
-low_bit p false = let e : (2 * p + 0) / 1 % 2 ≡ 0 = omega arith in ap (λ k. eqb k 1) e
+low_bit p b = grind (arith, nat_tests)
 
 pub digit_small : (b : Bool) → digit b < 2
-digit_small true = omega arith
-digit_small false = omega arith
+digit_small b = grind (arith, nat_tests)
 
 -- the code's number of a bit
 pub digit_code : (b : Bool) → bool_byte b ≡ digit b
-digit_code true = refl
-digit_code false = refl
+digit_code b = grind (arith, nat_tests)
 
 -- the code's test of a bit
 pub bit_is : (n i : ℕ) → nat_eq (bit_and (n / 2 ^ i) 1) 1 ≡ bit n i
@@ -58,8 +55,7 @@ bits_push (suc w) p b = rw (bit_above p (digit b) w (digit_small b)) (ap (λ xs.
 
 pub bits_first : (w n : ℕ) → 0 < w → bits_of w n ≡ bit n (w - 1) ∷ bits_of (w - 1) n
 unfolding bits_of
-bits_first zero n lt = absurd (omega arith)
-bits_first (suc w) n lt = rw sub-one refl
+bits_first w n lt = grind (arith, nat_tests, sub-one)
 
 pub bits_cons : (w n : ℕ) → bits_of (suc w) n ≡ bit n w ∷ bits_of w n
 unfolding bits_of
@@ -102,10 +98,7 @@ value_of-append xs ys = appended 0 xs ys ∙ value_after (value_of xs) ys
     appended a (x ∷ xs) ys = appended (2 * a + digit x) xs ys
 
 room : (a d p q n : ℕ) → q ≡ p * 2 → d < 2 → n < (2 * a + d + 1) * p → n < (a + 1) * q
-room a d p q n e lt h =
-    let less : (2 * a + d + 1) * p ≤ (2 * a + 2) * p = mul-le-mul_right p (omega arith) in
-    let same : (2 * a + 2) * p ≡ (a + 1) * q = rw e (grind arith) in
-    omega arith
+room a d p q n e lt h = grind (arith, nat_tests, mul-le-mul_right)
 
 after_below : (a : ℕ) (bits : List Bool) → fold (λ n b. 2 * n + digit b) a bits < (a + 1) * 2 ^ length bits
 after_below a [] = omega arith
@@ -154,10 +147,7 @@ bits_of-mod w n =
 
 -- the bits of two numbers, one after the other, are those of one number
 pub bits_join : (m n a b : ℕ) → b < 2 ^ n → bits_of m a ++ bits_of n b ≡ bits_of (m + n) (a * 2 ^ n + b)
-bits_join m n a b lt =
-    let high : (a * 2 ^ n + b) / 2 ^ n ≡ a = shr_high a n b lt in
-    let low : (a * 2 ^ n + b) % 2 ^ n ≡ b = mod_low a n b lt in
-    sym (bits_of-split m n (a * 2 ^ n + b) ∙ ap (λ k. bits_of m k ++ bits_of n (a * 2 ^ n + b)) high ∙ ap (λ r. bits_of m a ++ r) (sym (bits_of-mod n (a * 2 ^ n + b)) ∙ ap (bits_of n) low))
+bits_join m n a b lt = grind (arith, nat_tests, shr_high, mod_low, bits_of-split, bits_of-mod)
 
 -- numbers of the same bits are the same
 pub same_number : (w m n : ℕ) → m < 2 ^ w → n < 2 ^ w → bits_of w m ≡ bits_of w n → m ≡ n

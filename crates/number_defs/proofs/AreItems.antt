@@ -1,9 +1,9 @@
 -- No item of numbers that are not too great is refused.
-use Rattle.std.proofs.Common.{◌≡◌, ◌⊎◌, ℕ, zero, suc, ◌+◌, ◌*◌, ◌-◌, ◌/◌, ◌%◌, ◌^◌, ◌<◌, ◌≤◌, min, max, List, [], ◌∷◌, ◌++◌, length, map, take, get_or, Bool, true, false, eqb, cond, refl, sym, ap, subst, ◌∙◌, arith, inl, inr, ℤ, pos, negsuc}
+use Rattle.std.proofs.Common.{◌≡◌, ◌⊎◌, ℕ, zero, suc, ◌+◌, ◌*◌, ◌-◌, ◌/◌, ◌%◌, ◌^◌, ◌<◌, ◌≤◌, min, max, List, [], ◌∷◌, ◌++◌, length, map, take, get_or, Bool, true, false, eqb, cond, refl, sym, ap, subst, ◌∙◌, arith, inl, inr, ℤ}
 use Rattle.std.specs.List.{range_with_len}
 use Rattle.std.specs.Int.{int_shr}
-use Rattle.std.specs.Prelude.{Some, None, not, nat_lt, ◌||◌}
-use Rattle.std.proofs.lemmas.Bool.{cases_lt}
+use Rattle.std.specs.Prelude.{Some, None, not, ◌||◌}
+use Rattle.std.proofs.lemmas.Bool.{cases_lt, le-ltb}
 use Rattle.std.proofs.lemmas.Bool.Decides.{nat_tests}
 use Rattle.std.proofs.lemmas.List.{length-map, take_all}
 use Rattle.std.proofs.lemmas.List.FromFn.{length-range_with_len}
@@ -13,7 +13,6 @@ use Rattle.item_defs.specs.Readings.{IsItem, AreItems}
 use Rattle.item_defs.proofs.ReadingLaws.{are_append}
 use Rattle.number_defs.specs.Given.{numbers_through}
 use Rattle.number_defs.specs.Ranges.{negatives, number_at, complement, shifted_height}
-use Rattle.number_defs.specs.Mapping.{unmapped}
 use Rattle.number_defs.specs.Gaggles.{Kind, identifier_bits, uncoded, is_option, value_at, first_place, places, depth_refusal, uncoded_value, unary_part, rest_part, value_items, lead_items, gaggle_items, items_before, gaggle_count, number_items}
 use Rattle.number_defs.specs.DcPart.{dc_q, dc_bits, dc_kind, dc_bit, high_items, planes_before, dc_planes, dc_items}
 use Rattle.number_defs.specs.Depths.{depth_bits, depth_kind, depth_items}
@@ -46,8 +45,7 @@ range_front f a (suc n) zero item = tt
 range_front f a (suc n) (suc m) item = (item a (omega arith) (omega arith) (omega arith), range_front f (a + 1) n m (λ i from to inside. item i (omega arith) (omega arith) (omega arith)))
 
 complement_small : (w : ℕ) (z : ℤ) → complement w z < 2 ^ w
-complement_small w (pos a) = mod_below a (2 ^ w) (pow_pos w)
-complement_small w (negsuc a) = omega (arith, pow_pos w)
+complement_small w z = grind (arith, nat_tests, mod_below, pow_pos)
 
 identifier_small : (N option : ℕ) → N ≤ 10 → is_option N option ≡ true → option < 2 ^ identifier_bits N
 identifier_small N option few e = grind (arith, nat_tests)
@@ -64,9 +62,7 @@ module _ (kind : Kind) (xs : List ℕ) (few : (i : ℕ) → get_or xs i 0 < 2 ^ 
   value_small i = mapped_below kind.bits (get_or xs (i - 1) 0) (get_or xs i 0) (few (i - 1)) (few i)
 
   value_allowed : (i v : ℕ) → IsLow i → v ≡ value_at kind.bits xs i → depth_refusal kind (get_or xs (i - 1) 0) v ≡ None
-  value_allowed i v low e =
-      none_of bad_depth (kind.too_great (unmapped kind.bits (get_or xs (i - 1) 0) v))
-      (ap kind.too_great (ap (unmapped kind.bits (get_or xs (i - 1) 0)) e ∙ mapped_back kind.bits (get_or xs (i - 1) 0) (get_or xs i 0) (few (i - 1)) (few i)) ∙ low)
+  value_allowed i v low e = grind (arith, nat_tests, none_of, mapped_back)
 
   uncoded_item : (i : ℕ) → IsLow i → IsItem (uncoded_value kind xs i)
   uncoded_item i low = (tt, value_small i, value_allowed i (value_at kind.bits xs i) low refl)
@@ -80,12 +76,7 @@ module _ (kind : Kind) (xs : List ℕ) (few : (i : ℕ) → get_or xs i 0 < 2 ^ 
       differs lt = grind (arith, nat_tests)
 
       by_count : (most whole : Bool) → most ≡ false → eqb k 0 ≡ whole → cond most (Some bad_delta) (cond whole (depth_refusal kind (get_or xs (i - 1) 0) (value_at kind.bits xs i / 2 ^ k)) None) ≡ None
-      by_count true whole e f = cc
-      by_count false true e f =
-          let z : k ≡ 0 = grind (arith, nat_tests) in
-          let same : value_at kind.bits xs i / 2 ^ k ≡ value_at kind.bits xs i = ap (λ n. value_at kind.bits xs i / 2 ^ n) z ∙ omega arith in
-          value_allowed i (value_at kind.bits xs i / 2 ^ k) (low z) same
-      by_count false false e f = refl
+      by_count most whole e f = grind (arith, nat_tests, value_allowed)
 
   rest_item : (k i : ℕ) → IsLow i → IsItem (rest_part kind xs k i)
   rest_item k i low = (tt, mod_below (value_at kind.bits xs i) (2 ^ k) (pow_pos k), value_allowed i _ low (shr_split (value_at kind.bits xs i) k))
@@ -237,9 +228,6 @@ pub depths_front : (depth_ac : ℕ) (xs : List ℕ) (o : ℕ → ℕ) (m : ℕ) 
 unfolding depth_items
 depths_front depth_ac xs o m most few low valid = by_depth (eqb depth_ac 0) (eqb depth_ac 1) refl refl low
   where
-    not_above : (a b : ℕ) → b ≤ a → nat_lt a b ≡ false
-    not_above a b le = grind (arith, nat_tests)
-
     by_depth : (none one : Bool) → eqb depth_ac 0 ≡ none → eqb depth_ac 1 ≡ one →
         ((i : ℕ) → i < length xs → cond none 0 (cond one (i + 1) (numbers_through (depth_kind depth_ac) xs o i)) ≤ m → get_or xs i 0 ≤ depth_ac) →
         AreItems (take m (cond none [] (cond one (map raw xs) (number_items (depth_kind depth_ac) xs o))))
@@ -247,7 +235,7 @@ depths_front depth_ac xs o m most few low valid = by_depth (eqb depth_ac 0) (eqb
     by_depth false true e f low = let z : depth_ac ≡ 1 = grind (arith, nat_tests) in raw_front xs m (λ i lt le. omega (arith, low i lt le, z))
     by_depth false false e f low =
         let two : 2 ≤ depth_ac = grind (arith, nat_tests) in
-        numbers_front (depth_kind depth_ac) xs (few_anywhere (depth_bits depth_ac) xs few) o most m (valid two) (λ i lt le. not_above depth_ac (get_or xs i 0) (low i lt le))
+        numbers_front (depth_kind depth_ac) xs (few_anywhere (depth_bits depth_ac) xs few) o most m (valid two) (λ i lt le. le-ltb depth_ac (get_or xs i 0) (low i lt le))
 
 pub depths_are : (depth_ac : ℕ) (xs : List ℕ) (o : ℕ → ℕ) → depth_bits depth_ac ≤ 10 → AreFew (depth_bits depth_ac) xs → ((i : ℕ) → i < length xs → get_or xs i 0 ≤ depth_ac) →
     (2 ≤ depth_ac → (g : ℕ) → g < gaggle_count (length xs) → is_option (depth_bits depth_ac) (o g) ≡ true) → AreItems (depth_items depth_ac xs o)

@@ -1,11 +1,11 @@
 -- The places of the numbers of every `stride`-th cell.
-use Rattle.std.proofs.Common.{◌≡◌, ℕ, ◌+◌, ◌*◌, ◌/◌, ◌%◌, ◌<◌, ◌≤◌, ℤ, pos, List, length, get_or, map, ap, ◌∙◌, arith, inl, inr}
+use Rattle.std.proofs.Common.{◌≡◌, ℕ, ◌*◌, ◌<◌, ◌≤◌, ℤ, pos, List, length, get_or, map, ◌∙◌, arith}
 use Rattle.std.specs.Int.{div_ceil}
-use Rattle.std.proofs.lemmas.Bool.{cases_lt}
 use Rattle.std.proofs.lemmas.List.{length-map, get_or-map}
 use Rattle.std.proofs.lemmas.List.FromFn.{length-map-range_with_len, get_or-map-range_with_len}
 use Rattle.std.proofs.lemmas.Nat.{div-add-mod'}
 use Rattle.std.proofs.Math.Nat.{mul-le-mul_left, mul-le-mul_right}
+use Rattle.std.proofs.lemmas.Bool.Decides.{nat_tests}
 use Rattle.number_defs.specs.Cells.{cell_at, strided}
 
 pub length-strided : (stride : ℕ) (cells : List ℤ) → length (strided stride cells) ≡ div_ceil (length cells) stride
@@ -18,17 +18,7 @@ strided_at stride cells m lt = get_or-map-range_with_len (cell_at stride cells) 
 
 -- such a number is within the slice
 pub place_within : (n stride m : ℕ) → 1 ≤ stride → m < div_ceil n stride → m * stride < n
-place_within n stride m low lt =
-    let whole = div-add-mod' n stride in
-    elim (cases_lt m (n / stride)) [
-      | inl under ↦
-          let more : (m + 1) * stride ≤ n / stride * stride = mul-le-mul_right stride (omega arith) in
-          omega (arith, whole, more)
-      | inr over ↦
-          let at : m ≡ n / stride = omega arith in
-          let rest : 1 ≤ n % stride = omega arith in
-          rw at (omega (arith, whole))
-    ]
+place_within n stride m low lt = grind (arith, nat_tests, div-add-mod', mul-le-mul_right)
 
 -- the image of each of them
 module _ (f : ℤ → ℕ) (stride : ℕ) (cells : List ℤ) where
@@ -36,12 +26,7 @@ module _ (f : ℤ → ℕ) (stride : ℕ) (cells : List ℤ) where
   made_length = length-map (strided stride cells) f ∙ length-strided stride cells
 
   pub made_at : (m : ℕ) → m < length (map f (strided stride cells)) → get_or (map f (strided stride cells)) m 0 ≡ f (cell_at stride cells m)
-  made_at m lt =
-      let within : m < div_ceil (length cells) stride = omega (arith, made_length) in
-      get_or-map f (strided stride cells) m (pos 0) 0 (omega (arith, length-strided stride cells)) ∙ ap f (strided_at stride cells m within)
+  made_at m lt = grind (arith, nat_tests, made_length, get_or-map, length-strided, strided_at)
 
 pub count_within : (n stride : ℕ) → 1 ≤ stride → div_ceil n stride ≤ n
-count_within n stride low =
-    let whole = div-add-mod' n stride in
-    let more : n / stride * 1 ≤ n / stride * stride = mul-le-mul_left (n / stride) low in
-    omega (arith, whole, more)
+count_within n stride low = grind (arith, nat_tests, div-add-mod', mul-le-mul_left)

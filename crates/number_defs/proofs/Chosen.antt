@@ -1,5 +1,5 @@
 -- A choice is an option.
-use Rattle.std.proofs.Common.{◌≡◌, ℕ, ◌*◌, ◌-◌, ◌^◌, ◌≤◌, List, [], ◌∷◌, length, Bool, true, false, cond, leb, ltb, arith}
+use Rattle.std.proofs.Common.{◌≡◌, ℕ, ◌-◌, ◌≤◌, List, [], ◌∷◌, length, Bool, true, false, cond, arith}
 use Rattle.std.specs.Prelude.{Some, sum, find, unwrap_or}
 use Rattle.std.specs.List.{range_with_len, list_all}
 use Rattle.std.proofs.lemmas.Bool.Decides.{nat_tests}
@@ -7,23 +7,16 @@ use Rattle.std.proofs.lemmas.Bool.{and_parts}
 use Rattle.number_defs.specs.Gaggles.{uncoded, is_option}
 use Rattle.number_defs.proofs.Searching.{all_of_range}
 use Rattle.number_defs.proofs.Suiting.{greatest_within}
-use Rattle.number_defs.specs.Choice.{greatest_suiting, by_total, heuristic, candidates, is_least, optimal}
+use Rattle.number_defs.specs.Choice.{by_total, heuristic, candidates, is_least, optimal}
 
-uncoded_is : (N : ℕ) → is_option N (uncoded N) ≡ true
+pub uncoded_is : (N : ℕ) → is_option N (uncoded N) ≡ true
 uncoded_is N = grind (arith, nat_tests)
 
 small_is : (N k : ℕ) → k ≤ N - 2 → is_option N k ≡ true
 small_is N k le = grind (arith, nat_tests)
 
 total_is : (N count total : ℕ) → is_option N (by_total N count total) ≡ true
-total_is N count total =
-    elim (leb (23 * count * 2 ^ N) (64 * total)) as (λ t. is_option N (cond t (uncoded N) (cond (ltb (128 * total) (207 * count)) 0 (greatest_suiting count total (N - 2)))) ≡ true) [
-      | true ↦ uncoded_is N
-      | false ↦ elim (ltb (128 * total) (207 * count)) as (λ t. is_option N (cond t 0 (greatest_suiting count total (N - 2))) ≡ true) [
-        | true ↦ small_is N 0 (omega arith)
-        | false ↦ small_is N (greatest_suiting count total (N - 2)) (greatest_within count total (N - 2))
-      ]
-    ]
+total_is N count total = grind (arith, nat_tests, uncoded_is, small_is, greatest_within)
 
 pub heuristic_is : (N : ℕ) (values : List ℕ) → is_option N (heuristic N values) ≡ true
 unfolding heuristic

@@ -1,11 +1,10 @@
 -- The bits that a choice counts are those of the items.
-use Rattle.std.proofs.Common.{◌≡◌, ℕ, zero, suc, ◌+◌, ◌*◌, ◌-◌, ◌/◌, ◌%◌, ◌^◌, ◌<◌, ◌≤◌, List, [], ◌∷◌, ◌++◌, length, map, true, false, eqb, cond, refl, sym, ap, ◌∙◌, arith, length-append}
+use Rattle.std.proofs.Common.{◌≡◌, ℕ, ◌+◌, ◌*◌, ◌-◌, ◌/◌, ◌^◌, ◌<◌, ◌≤◌, List, [], ◌∷◌, ◌++◌, length, map, true, false, eqb, cond, refl, sym, ap, ◌∙◌, arith, length-append}
 use Rattle.std.specs.Prelude.{sum_by, IsTrue}
 use Rattle.std.proofs.lemmas.Bool.Decides.{nat_tests}
 use Rattle.std.proofs.lemmas.Nat.{shr_below}
 use Rattle.std.proofs.lemmas.List.Sums.{sum_by-cons}
 use Rattle.std.proofs.lemmas.List.Concat.{flat_map-append, flat_map-cons}
-use Rattle.item_defs.specs.Bits.{copies}
 use Rattle.item_defs.proofs.BitLists.{length-copies, zeros_then_one}
 use Rattle.item_defs.proofs.NumberBits.{length-bits_of}
 use Rattle.item_defs.specs.Items.{Item, item_bits, text, zeros_and_one}
@@ -13,8 +12,7 @@ use Rattle.number_defs.specs.Gaggles.{Kind, uncoded, is_option, value_at, value_
 use Rattle.number_defs.specs.Choice.{coded_bits}
 
 zeros_length : (limit n : ℕ) → n < limit → length (zeros_and_one limit n) ≡ n + 1
-zeros_length limit n lt =
-    ap length (sym (zeros_then_one n limit lt)) ∙ length-append (copies n false) (true ∷ []) ∙ ap (λ m. m + 1) (length-copies n false)
+zeros_length limit n lt = grind (arith, nat_tests, zeros_then_one, length-append, length-copies)
 
 -- the number of bits of each item
 module _ (f : ℕ → Item) (g c : ℕ → ℕ) (each : (i : ℕ) → length (item_bits (f i)) ≡ c (g i)) where
@@ -41,9 +39,7 @@ sum_alike n (x ∷ xs) =
     omega (arith, p, h)
 
 pub high_small : (N k v : ℕ) → k ≤ N → v < 2 ^ N → v / 2 ^ k < 2 ^ (N - k)
-high_small N k v le lt =
-    let e : (N - k) + k ≡ N = omega arith in
-    shr_below v (N - k) k (rw e lt)
+high_small N k v le lt = grind (arith, nat_tests, shr_below)
 
 module _ (kind : Kind) (heights : List ℕ) (fits : (i : ℕ) → value_at kind.bits heights i < 2 ^ kind.bits) (at : List ℕ) where
   uncoded_length : length (text (map (uncoded_value kind heights) at)) ≡ kind.bits * length (map (value_at kind.bits heights) at)
@@ -52,15 +48,10 @@ module _ (kind : Kind) (heights : List ℕ) (fits : (i : ℕ) → value_at kind.
       ∙ sum_alike kind.bits (map (value_at kind.bits heights) at)
 
   unary_length : (k : ℕ) → k ≤ kind.bits → length (text (map (unary_part kind heights k) at)) ≡ sum_by (λ v. v / 2 ^ k + 1) (map (value_at kind.bits heights) at)
-  unary_length k le =
-      each_length (unary_part kind heights k) (value_at kind.bits heights) (λ v. v / 2 ^ k + 1)
-      (λ i. zeros_length (2 ^ (kind.bits - k)) (value_at kind.bits heights i / 2 ^ k) (high_small kind.bits k (value_at kind.bits heights i) le (fits i))) at
+  unary_length k le = grind (arith, nat_tests, each_length, zeros_length, high_small)
 
   rests_length : (k : ℕ) → length (text (cond (eqb k 0) [] (map (rest_part kind heights k) at))) ≡ sum_by (λ v. k) (map (value_at kind.bits heights) at)
-  rests_length zero = sym (sum_alike 0 (map (value_at kind.bits heights) at) ∙ omega arith)
-  rests_length (suc k) =
-      let e : eqb (suc k) 0 ≡ false = grind (arith, nat_tests) in
-      rw e (each_length (rest_part kind heights (suc k)) (value_at kind.bits heights) (λ v. suc k) (λ i. length-bits_of (suc k) (value_at kind.bits heights i % 2 ^ suc k)) at)
+  rests_length k = grind (arith, nat_tests, sum_alike, each_length, length-bits_of)
 
 is_k : (N option : ℕ) → IsTrue (is_option N option) → eqb option (uncoded N) ≡ false → option ≤ N
 is_k N option h ne = grind (arith, nat_tests)

@@ -1,20 +1,17 @@
 -- A DC of this number of bits, over 2 ^ q, has a number with the bits that are left.
-use Rattle.std.proofs.Common.{ℕ, ◌+◌, ◌*◌, ◌-◌, ◌/◌, ◌^◌, ◌<◌, ◌≤◌, max, ℤ, pos, negsuc, List, length, true, arith}
+use Rattle.std.proofs.Common.{ℕ, ◌*◌, ◌-◌, ◌/◌, ◌^◌, ◌<◌, ◌≤◌, max, ℤ, pos, negsuc, List, length, true, arith}
 use Rattle.std.specs.Int.{int_shr}
 use Rattle.std.proofs.Math.Pow.{pow_mono}
 use Rattle.std.proofs.lemmas.Int.{ints}
 use Rattle.std.proofs.lemmas.Nat.{shr_below}
+use Rattle.std.proofs.lemmas.Bool.Decides.{nat_tests}
 use Rattle.number_defs.specs.Ranges.{IsInRange}
 use Rattle.number_defs.specs.Cells.{AreInRange, cell_at}
 use Rattle.number_defs.specs.DcPart.{dc_q, dc_bits}
 use Rattle.number_defs.proofs.Heights.{half}
 
 shifted_below : (d q a : ℕ) → 1 ≤ d → a < 2 ^ (d - 1) → a / 2 ^ q < 2 ^ (max (d - q) 1 - 1)
-shifted_below d q a low lt =
-    let m = max (d - q) 1 - 1 in
-    let wide : 2 ^ (d - 1) ≤ 2 ^ (m + q) = pow_mono (omega arith) in
-    let below : a < 2 ^ (m + q) = omega arith in
-    shr_below a m q below
+shifted_below d q a low lt = grind (arith, nat_tests, pow_mono, shr_below)
 
 pub dc_in_range : (d q : ℕ) (z : ℤ) → 1 ≤ d → IsInRange true d z → IsInRange true (max (d - q) 1) (int_shr z q)
 dc_in_range d q (pos a) low h =

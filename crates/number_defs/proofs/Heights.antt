@@ -6,6 +6,7 @@ use Rattle.std.proofs.lemmas.Nat.{mod_low}
 use Rattle.std.proofs.Math.Nat.{mod-eq_of_lt, pow-succ'}
 use Rattle.std.proofs.lemmas.Bool.{cases_lt}
 use Rattle.std.proofs.Math.Pow.{pow_mono}
+use Rattle.std.proofs.lemmas.Bool.Decides.{nat_tests}
 use Rattle.number_defs.specs.Ranges.{IsInRange, negatives, number_at, height_of, complement}
 
 up_and_down : (a n : ℕ) → pos a -ℤ pos n +ℤ pos n ≡ pos a
@@ -33,16 +34,14 @@ complement_less w a n lt le =
     ]
 
 pub negatives_fit : (signed : Bool) (N : ℕ) → negatives signed N ≤ 2 ^ N
-negatives_fit true N = let le : N - 1 ≤ N = omega arith in pow_mono le
-negatives_fit false N = omega arith
+negatives_fit signed N = grind (arith, nat_tests, pow_mono)
 
 pub complement_back : (signed : Bool) (N height : ℕ) → height < 2 ^ N → (complement N (number_at signed N height) + negatives signed N) % 2 ^ N ≡ height
 complement_back signed N height lt = complement_less N height (negatives signed N) lt (negatives_fit signed N)
 
 -- a number of the range has a height of N bits, and this height determines it
 pub height_below : (signed : Bool) (N : ℕ) (z : ℤ) → IsInRange signed N z → height_of signed N z < 2 ^ N
-height_below signed N (pos a) h = omega (arith, ints, h.low, h.high)
-height_below signed N (negsuc a) h = omega (arith, ints, h.low, h.high)
+height_below signed N z h = grind (arith, nat_tests)
 
 pub number_back : (signed : Bool) (N : ℕ) (z : ℤ) → IsInRange signed N z → number_at signed N (height_of signed N z) ≡ z
 number_back signed N z h = omega (arith, ints, h.low, h.high)

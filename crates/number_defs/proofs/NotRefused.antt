@@ -1,8 +1,8 @@
 -- Numbers whose items are not refused are not too great.
 use Rattle.std.proofs.Common.{◌≡◌, ℕ, zero, suc, ◌+◌, ◌*◌, ◌-◌, ◌/◌, ◌%◌, ◌^◌, ◌<◌, ◌≤◌, min, List, [], ◌∷◌, ◌++◌, length, map, get_or, Bool, true, false, eqb, cond, refl, sym, ap, subst, ◌∙◌, arith, inl, inr}
 use Rattle.std.specs.List.{range_with_len}
-use Rattle.std.specs.Prelude.{Some, None, nat_lt}
-use Rattle.std.proofs.lemmas.Bool.{cases_lt}
+use Rattle.std.specs.Prelude.{Some, None}
+use Rattle.std.proofs.lemmas.Bool.{cases_lt, ltb-false}
 use Rattle.std.proofs.lemmas.Bool.Decides.{nat_tests}
 use Rattle.std.proofs.lemmas.Nat.{shr_split}
 use Rattle.item_defs.specs.Items.{Item, Refusal, bad_delta, bad_depth, raw}
@@ -31,8 +31,7 @@ range_at f a (suc n) i all from to =
     ] refl
 
 not_refused : (test : Bool) (name : Refusal) → cond test (Some name) None ≡ None → test ≡ false
-not_refused true name e = cc
-not_refused false name e = refl
+not_refused test name e = grind (arith, nat_tests)
 
 module _ (kind : Kind) (xs : List ℕ) (few : (i : ℕ) → get_or xs i 0 < 2 ^ kind.bits) where
   abbrev Allowed : ℕ → Type 0
@@ -50,11 +49,7 @@ module _ (kind : Kind) (xs : List ℕ) (few : (i : ℕ) → get_or xs i 0 < 2 ^ 
   whole_unary i item = by_value i (value_at kind.bits xs i / 2 ^ 0) (omega arith) (past (eqb (value_at kind.bits xs i / 2 ^ 0) (2 ^ (kind.bits - 0))) item.2)
     where
       past : (b : Bool) → cond b (Some bad_delta) (cond (eqb 0 0) (depth_refusal kind (get_or xs (i - 1) 0) (value_at kind.bits xs i / 2 ^ 0)) None) ≡ None → depth_refusal kind (get_or xs (i - 1) 0) (value_at kind.bits xs i / 2 ^ 0) ≡ None
-      past true e = absurd (some_none e)
-        where
-          some_none : Some bad_delta ≡ None → ⊥
-          some_none e = cc
-      past false e = e
+      past b e = grind (arith, nat_tests)
 
   values_allowed : (option a n : ℕ) → AreItems (value_items kind xs option (range_with_len a n)) → (i : ℕ) → a ≤ i → i < a + n → Allowed i
   unfolding value_items
@@ -108,27 +103,20 @@ module _ (kind : Kind) (xs : List ℕ) (few : (i : ℕ) → get_or xs i 0 < 2 ^ 
 -- ---- block depths
 
 few_bits : (depth_ac : ℕ) → depth_ac ≤ 1 → depth_bits depth_ac ≡ depth_ac
-few_bits zero le = refl
-few_bits (suc zero) le = refl
-few_bits (suc (suc n)) le = absurd (omega arith)
+few_bits depth_ac le = grind (arith, nat_tests)
 
 -- depths of at most one bit are not too great
 low_depths : (depth_ac : ℕ) (xs : List ℕ) → depth_ac ≤ 1 → AreFew (depth_bits depth_ac) xs → (i : ℕ) → get_or xs i 0 ≤ depth_ac
-low_depths zero xs le few i = let h : get_or xs i 0 < 2 ^ depth_bits 0 = few_anywhere (depth_bits 0) xs few i in omega (arith, h, few_bits 0 le)
-low_depths (suc zero) xs le few i = let h : get_or xs i 0 < 2 ^ depth_bits 1 = few_anywhere (depth_bits 1) xs few i in omega (arith, h, few_bits 1 le)
-low_depths (suc (suc n)) xs le few i = absurd (omega arith)
+low_depths depth_ac xs le few i = grind (arith, nat_tests, few_anywhere, few_bits)
 
 pub depths_allowed : (depth_ac : ℕ) (xs : List ℕ) (o : ℕ → ℕ) → AreFew (depth_bits depth_ac) xs → AreItems (depth_items depth_ac xs o) → (i : ℕ) → i < length xs → get_or xs i 0 ≤ depth_ac
 unfolding depth_items
 depths_allowed depth_ac xs o few all i within = by_depth (eqb depth_ac 0) (eqb depth_ac 1) refl refl all
   where
-    within_test : (a b : ℕ) → nat_lt a b ≡ false → b ≤ a
-    within_test a b e = grind (arith, nat_tests)
-
     by_depth : (none one : Bool) → eqb depth_ac 0 ≡ none → eqb depth_ac 1 ≡ one → AreItems (cond none [] (cond one (map raw xs) (number_items (depth_kind depth_ac) xs o))) → get_or xs i 0 ≤ depth_ac
     by_depth true one e f all = let low : depth_ac ≤ 1 = grind (arith, nat_tests) in low_depths depth_ac xs low few i
     by_depth false true e f all = let low : depth_ac ≤ 1 = grind (arith, nat_tests) in low_depths depth_ac xs low few i
-    by_depth false false e f all = within_test depth_ac (get_or xs i 0) (numbers_allowed (depth_kind depth_ac) xs (few_anywhere (depth_bits depth_ac) xs few) o all i within)
+    by_depth false false e f all = ltb-false depth_ac (get_or xs i 0) (numbers_allowed (depth_kind depth_ac) xs (few_anywhere (depth_bits depth_ac) xs few) o all i within)
 
 said_raw : (xs : List ℕ) → said_of (map raw xs) ≡ xs
 said_raw [] = refl
@@ -138,14 +126,4 @@ said_raw (x ∷ xs) = ap (λ l. x ∷ l) (said_raw xs)
 pub depths_said : (depth_ac : ℕ) (xs ys : List ℕ) (o p : ℕ → ℕ) → length xs ≡ length ys → AreFew (depth_bits depth_ac) xs → AreFew (depth_bits depth_ac) ys →
     said_of (depth_items depth_ac xs o) ≡ said_of (depth_items depth_ac ys p) → (i : ℕ) → get_or xs i 0 ≡ get_or ys i 0
 unfolding depth_items
-depths_said depth_ac xs ys o p same few also said i = by_depth (eqb depth_ac 0) (eqb depth_ac 1) refl refl said
-  where
-    by_depth : (none one : Bool) → eqb depth_ac 0 ≡ none → eqb depth_ac 1 ≡ one →
-        said_of (cond none [] (cond one (map raw xs) (number_items (depth_kind depth_ac) xs o))) ≡ said_of (cond none [] (cond one (map raw ys) (number_items (depth_kind depth_ac) ys p))) → get_or xs i 0 ≡ get_or ys i 0
-    by_depth true one e f said =
-        let z : depth_ac ≡ 0 = grind (arith, nat_tests) in
-        let a = low_depths depth_ac xs (omega arith) few i in
-        let b = low_depths depth_ac ys (omega arith) also i in omega arith
-    by_depth false true e f said = ap (λ l. get_or l i 0) (sym (said_raw xs) ∙ said ∙ said_raw ys)
-    by_depth false false e f said =
-        numbers_same (depth_kind depth_ac) xs ys (few_anywhere (depth_bits depth_ac) xs few) (few_anywhere (depth_bits depth_ac) ys also) same o p said i
+depths_said depth_ac xs ys o p same few also said i = grind (arith, nat_tests, low_depths, said_raw, numbers_same, few_anywhere)

@@ -1,9 +1,9 @@
 -- The items of two DC parts, and of two lists of block depths, step alike.
-use Rattle.std.proofs.Common.{◌≡◌, ℕ, zero, suc, ◌-◌, ◌^◌, ◌<◌, ℤ, pos, List, [], length, map, get_or, true, false, eqb, cond, sym, ◌∙◌, refl, arith, inl, inr}
+use Rattle.std.proofs.Common.{◌≡◌, ℕ, zero, suc, ◌-◌, ◌^◌, ◌<◌, ℤ, pos, List, [], length, map, get_or, true, false, eqb, cond, sym, ◌∙◌, refl, arith}
 use Rattle.std.specs.Int.{int_shr}
-use Rattle.std.proofs.lemmas.Bool.{cases_lt}
 use Rattle.std.proofs.lemmas.List.{get_or_past, get_or-map, length-map}
 use Rattle.std.proofs.lemmas.Nat.{pow_pos}
+use Rattle.std.proofs.lemmas.Bool.Decides.{nat_tests}
 use Rattle.item_defs.specs.Items.{raw}
 use Rattle.item_defs.specs.Readings.{StepsAlike}
 use Rattle.item_defs.proofs.ReadingLaws.{steps_append, steps_each}
@@ -16,11 +16,7 @@ use Rattle.number_defs.proofs.Heights.{height_below}
 use Rattle.number_defs.proofs.Stepping.{numbers_step}
 
 pub few_anywhere : (N : ℕ) (xs : List ℕ) → AreFew N xs → (i : ℕ) → get_or xs i 0 < 2 ^ N
-few_anywhere N xs few i =
-    elim (cases_lt i (length xs)) [
-      | inl within ↦ few i within
-      | inr past ↦ let none : get_or xs i 0 ≡ 0 = get_or_past xs i 0 past in omega (arith, pow_pos N)
-    ]
+few_anywhere N xs few i = grind (arith, nat_tests, get_or_past, pow_pos)
 
 pub numbers_alike : (kind : Kind) (xs ys : List ℕ) (o p : ℕ → ℕ) → length xs ≡ length ys → AreFew kind.bits xs → AreFew kind.bits ys →
     StepsAlike (number_items kind xs o) (number_items kind ys p)

@@ -1,18 +1,17 @@
 -- The items of two lists of numbers step alike.
 use Rattle.std.proofs.Common.{◌≡◌, ℕ, zero, suc, ◌+◌, ◌*◌, ◌-◌, ◌/◌, ◌%◌, ◌^◌, ◌<◌, ◌≤◌, min, List, [], ◌∷◌, ◌++◌, length, map, get_or, Bool, true, false, eqb, cond, refl, sym, ap, subst, ◌∙◌, arith, inl, inr}
 use Rattle.std.specs.List.{range_with_len}
-use Rattle.std.specs.Prelude.{Some, None}
 use Rattle.std.proofs.lemmas.List.{get_or_past}
 use Rattle.std.proofs.lemmas.Bool.{cases_lt}
 use Rattle.std.proofs.lemmas.Bool.Decides.{nat_tests}
 use Rattle.std.proofs.lemmas.Nat.{shr_split}
-use Rattle.item_defs.specs.Items.{Item, Form, bad_delta, zeros_to}
+use Rattle.item_defs.specs.Items.{Item}
 use Rattle.item_defs.specs.Readings.{StepsAlike}
 use Rattle.item_defs.specs.Laws.{said_of}
 use Rattle.item_defs.proofs.ReadingLaws.{steps_append}
 use Rattle.number_defs.specs.Ranges.{negatives, number_at, complement}
 use Rattle.number_defs.specs.Mapping.{unmapped}
-use Rattle.number_defs.specs.Gaggles.{Kind, uncoded, value_at, first_place, places, depth_refusal, uncoded_form, unary_form, rest_form, uncoded_value, unary_part, rest_part, value_items, lead_items, gaggle_items, items_before, gaggle_count, number_items}
+use Rattle.number_defs.specs.Gaggles.{Kind, uncoded, value_at, first_place, places, uncoded_form, unary_form, rest_form, uncoded_value, unary_part, rest_part, value_items, lead_items, gaggle_items, items_before, gaggle_count, number_items}
 use Rattle.number_defs.proofs.MappingLaws.{mapped_back}
 use Rattle.number_defs.proofs.Heights.{complement_back}
 
@@ -104,10 +103,7 @@ module _ (kind : Kind) (xs ys : List ℕ) (p : (i : ℕ) → get_or xs i 0 < 2 ^
 
     -- all unary parts, then all rests
     unary_alike : (k i : ℕ) → eqb k 0 ≡ false → (unary_part kind xs k i).form ≡ (unary_part kind ys k i).form
-    unary_alike k i e = ap (form_where (get_or xs (i - 1) 0)) e ∙ sym (ap (form_where (get_or ys (i - 1) 0)) e)
-      where
-        form_where : ℕ → Bool → Form
-        form_where before whole = record { shape = zeros_to (2 ^ (kind.bits - k)); refusal = λ zeros. cond (eqb zeros (2 ^ (kind.bits - k))) (Some bad_delta) (cond whole (depth_refusal kind before zeros) None) }
+    unary_alike k i e = grind (arith, nat_tests)
 
     unary_steps : (k : ℕ) → eqb k 0 ≡ false → StepsAlike (map (unary_part kind xs k) (range_with_len a n)) (map (unary_part kind ys k) (range_with_len a n))
     unary_steps k e = each_steps (unary_part kind xs k) (unary_part kind ys k) (λ i. unary_alike k i e) (range_with_len a n)
@@ -193,14 +189,7 @@ module _ (kind : Kind) (xs ys : List ℕ) (p : (i : ℕ) → get_or xs i 0 < 2 ^
 
     by_place : (i g : ℕ) → i < 16 * (g + 1) → ((j : ℕ) → j < 16 * g → get_or xs j 0 ≡ get_or ys j 0) → get_or xs (first_place g - 1) 0 ≡ get_or ys (first_place g - 1) 0 →
         (first_place g ≤ i → i < length xs → get_or xs i 0 ≡ get_or ys i 0) → get_or xs i 0 ≡ get_or ys i 0
-    by_place i g below known before values =
-        elim (cases_lt i (16 * g)) [
-          | inl early ↦ known i early
-          | inr late ↦ elim (cases_lt i (first_place g)) [
-            | inl first ↦ let at : i ≡ first_place g - 1 = omega arith in rw at before
-            | inr after ↦ elim (cases_lt i (length xs)) [ inl within ↦ values after within | inr past ↦ none_past i past ]
-          ]
-        ]
+    by_place i g below known before values = grind (arith, nat_tests, none_past)
 
     gaggle_same : (o u g : ℕ) → ((i : ℕ) → i < 16 * g → get_or xs i 0 ≡ get_or ys i 0) → said_of (gaggle_items kind xs o g) ≡ said_of (gaggle_items kind ys u g) →
         (i : ℕ) → i < 16 * (g + 1) → get_or xs i 0 ≡ get_or ys i 0

@@ -1,6 +1,6 @@
 -- The greatest option that suits, by the options up to it.
 use Rattle.std.proofs.Common.{◌≡◌, ℕ, zero, suc, ◌+◌, ◌*◌, ◌^◌, ◌<◌, ◌≤◌, List, [], ◌∷◌, ◌++◌, Bool, true, false, refl, sym, ap, ◌∙◌, arith, add-one, append-nil}
-use Rattle.std.specs.Prelude.{Option, Some, None, filter, unwrap_or, if◌then◌else◌}
+use Rattle.std.specs.Prelude.{Option, Some, None, filter}
 use Rattle.std.specs.List.{range_with_len, last_or}
 use Rattle.std.proofs.lemmas.Bool.Decides.{nat_tests}
 use Rattle.std.proofs.lemmas.List.Elements.{filter-append}
@@ -38,9 +38,7 @@ module _ (count total : ℕ) where
 
   pub greatest_suiting-none : greatest_suiting count total 0 ≡ 0
   unfolding greatest_suiting
-  greatest_suiting-none =
-      let zeroth : ℕ = 0 in
-      elim (suits count total 0) as (λ b. unwrap_or (last_or None (if b then zeroth ∷ [] else [])) zeroth ≡ zeroth) [ true ↦ refl | false ↦ refl ]
+  greatest_suiting-none = grind (arith, nat_tests)
 
   pub greatest_within : (k : ℕ) → greatest_suiting count total k ≤ k
   greatest_within zero = omega (arith, greatest_suiting-none)

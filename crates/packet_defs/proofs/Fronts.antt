@@ -3,6 +3,7 @@ use Rattle.std.proofs.Common.{◌≡◌, ◌≤◌, ◌<◌, ℕ, List, ◌++◌
 use Rattle.std.specs.Prelude.{Bool, true, false, slice_index, nat_le, ◌&&◌, not}
 use Rattle.std.proofs.lemmas.Bool.Decides.{nat_tests}
 use Rattle.std.proofs.lemmas.List.{length-take-le, take-append-drop, get_or-drop, get_or_append_left, take_at, drop_at}
+use Rattle.std.proofs.lemmas.Bool.{leb-true}
 use Rattle.packet_defs.specs.Reading.{header_length}
 use Rattle.packet_defs.specs.Streams.{has_bad_version, told_length, begins_packet, first_packet, after_packet, IsPacket}
 
@@ -18,14 +19,11 @@ and_true false true true e = (refl, refl, refl)
 and_true false true false e = grind (arith, nat_tests)
 and_true false false c e = grind (arith, nat_tests)
 
-le_true : (m n : ℕ) → nat_le m n ≡ true → m ≤ n
-le_true m n e = grind (arith, nat_tests)
-
 pub begins_so : (octets : List ℕ) → begins_packet octets ≡ true → Begins octets
 unfolding begins_packet
 begins_so octets e =
     let parts = and_true (has_bad_version octets) (nat_le header_length (length octets)) (nat_le (told_length octets) (length octets)) e in
-    record { version = parts.0; header = le_true 6 (length octets) parts.1; whole = le_true (told_length octets) (length octets) parts.2 }
+    record { version = parts.0; header = leb-true 6 (length octets) parts.1; whole = leb-true (told_length octets) (length octets) parts.2 }
 
 pub so_begins : (octets : List ℕ) → Begins octets → begins_packet octets ≡ true
 unfolding begins_packet

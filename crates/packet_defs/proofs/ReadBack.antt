@@ -1,7 +1,7 @@
 -- A packet is read as it was written.
-use Rattle.std.proofs.Common.{◌≡◌, ◌≤◌, ◌<◌, ◌+◌, ◌-◌, ◌/◌, ◌%◌, ◌^◌, ℕ, List, [], ◌∷◌, ◌++◌, length, refl, sym, ap, ◌∙◌, arith, length-append}
-use Rattle.std.specs.Prelude.{Bool, true, false, not, ◌==◌, ◌||◌, nat_lt, nat_le, slice_index, Option}
-use Rattle.std.proofs.lemmas.Bool.Decides.{nat_tests}
+use Rattle.std.proofs.Common.{◌≡◌, ◌<◌, ◌+◌, ◌-◌, ◌/◌, ◌%◌, ◌^◌, ℕ, List, [], ◌∷◌, ◌++◌, length, refl, sym, ap, ◌∙◌, arith, length-append}
+use Rattle.std.specs.Prelude.{Bool, true, false, not, ◌==◌, ◌||◌, nat_lt, slice_index, Option}
+use Rattle.std.proofs.lemmas.Bool.{eq-eqb, ne_eqb, le-ltb, lt-leb}
 use Rattle.byteorder.specs.Endian.{big_bytes}
 use Rattle.byteorder.specs.Numbers.{big_number-reads_back}
 use Rattle.packet_defs.specs.declared.ancillary.Ancillary.{Ancillary}
@@ -17,18 +17,6 @@ use Rattle.packet_defs.specs.Laws.{ReadsBack}
 pub none_first : {X : Type 0} (b : Bool) (x : X) (answers : List (Option X)) → b ≡ false → first_of (when b x ∷ answers) ≡ first_of answers
 none_first b x answers e = rw e refl
 
-equal : (m n : ℕ) → m ≡ n → (m == n) ≡ true
-equal m n e = grind (arith, nat_tests)
-
-apart : (m n : ℕ) → (m ≡ n → ⊥) → (m == n) ≡ false
-apart m n e = grind (arith, nat_tests)
-
-not_below : (m n : ℕ) → n ≤ m → nat_lt m n ≡ false
-not_below m n e = grind (arith, nat_tests)
-
-not_least : (m n : ℕ) → n < m → nat_le m n ≡ false
-not_least m n e = grind (arith, nat_tests)
-
 same_ancillary : {a b : Ancillary} → a.told_last ≡ b.told_last → a.image ≡ b.image → a.rows ≡ b.rows → a.segment ≡ b.segment → a.index ≡ b.index → a.first ≡ b.first → a.part ≡ b.part → a ≡ b
 same_ancillary told image rows segment index first part = λ i. record { told_last = told i; image = image i; rows = rows i; segment = segment i; index = index i; first = first i; part = part i }
 
@@ -38,12 +26,12 @@ mark_fits false = omega arith
 
 -- each of the two marks reports its own value
 mark_tells : (m : ℕ) (told_last : Bool) → m ≡ mark_of told_last → (m == mark_of true) ≡ told_last
-mark_tells m true e = equal m (mark_of true) e
-mark_tells m false e = apart m (mark_of true) (λ f. omega (arith, e, f))
+mark_tells m true e = eq-eqb m (mark_of true) e
+mark_tells m false e = ne_eqb m (mark_of true) (λ f. omega (arith, e, f))
 
 mark_known : (m : ℕ) (told_last : Bool) → m ≡ mark_of told_last → ((m == mark_of false) || (m == mark_of true)) ≡ true
-mark_known m true e = rw (apart m (mark_of false) (λ f. omega (arith, e, f)), equal m (mark_of true) e) refl
-mark_known m false e = rw (equal m (mark_of false) e) refl
+mark_known m true e = rw (ne_eqb m (mark_of false) (λ f. omega (arith, e, f)), eq-eqb m (mark_of true) e) refl
+mark_known m false e = rw (eq-eqb m (mark_of false) e) refl
 
 -- the octets of the ancillary data from each number on
 abbrev from_part : Ancillary → List ℕ → List ℕ
@@ -96,15 +84,15 @@ reads_back apid flags number a text can =
     length-append (big_bytes 2 (identification apid) ++ big_bytes 2 control ++ big_bytes 2 (length field - 1)) field in
     record {
       whole = record {
-        version = not_least (2 ^ 5) (slice_index packet 0) (omega (arith, can.own));
+        version = lt-leb (2 ^ 5) (slice_index packet 0) (omega (arith, can.own));
         whole = long ∙ ap (λ n. 6 + n) (sym told);
       };
       mine =
-          none_first (apid_in packet == idle_apid) _ _ (apart (apid_in packet) idle_apid (λ e. omega (arith, own, can.own, e)))
-          ∙ none_first (type_in packet == 1) _ _ (apart (type_in packet) 1 (λ e. omega (arith, kind, e)))
-          ∙ none_first (not (apid_in packet == apid)) _ _ (ap not (equal (apid_in packet) apid own))
-          ∙ none_first (secondary_in packet == 0) _ _ (apart (secondary_in packet) 0 (λ e. omega (arith, secondary, e)))
-          ∙ none_first (nat_lt (field_length packet) ancillary_length) _ _ (not_below (field_length packet) ancillary_length (omega (arith, told, size)))
+          none_first (apid_in packet == idle_apid) _ _ (ne_eqb (apid_in packet) idle_apid (λ e. omega (arith, own, can.own, e)))
+          ∙ none_first (type_in packet == 1) _ _ (ne_eqb (type_in packet) 1 (λ e. omega (arith, kind, e)))
+          ∙ none_first (not (apid_in packet == apid)) _ _ (ap not (eq-eqb (apid_in packet) apid own))
+          ∙ none_first (secondary_in packet == 0) _ _ (ne_eqb (secondary_in packet) 0 (λ e. omega (arith, secondary, e)))
+          ∙ none_first (nat_lt (field_length packet) ancillary_length) _ _ (le-ltb (field_length packet) ancillary_length (omega (arith, told, size)))
           ∙ none_first (not (has_mark packet)) OtherMark [] (ap not (mark_known (mark_in packet) a.told_last marked));
       flags_are = ap (λ n. n / 2 ^ 14) second ∙ (let e : control / 2 ^ 14 ≡ flags = omega (arith, low) in e);
       ancillary_is = same_ancillary (mark_tells (mark_in packet) a.told_last marked) image rows segment index block part;

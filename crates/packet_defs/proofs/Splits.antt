@@ -8,7 +8,7 @@ use Rattle.packet_defs.specs.Streams.{told_length, begins_packet, first_packet, 
 use Rattle.packet_defs.proofs.Fronts.{begins_so, so_begins, begins-append, packet_begins, first-packet, after-packet, first_is_packet, told_least}
 
 -- each packet has some octets, so there are at most as many packets as octets
-few_packets : (packets : List (List ℕ)) → AllByRecursion IsPacket packets → length packets ≤ length (joined packets)
+pub few_packets : (packets : List (List ℕ)) → AllByRecursion IsPacket packets → length packets ≤ length (joined packets)
 few_packets [] p = omega arith
 few_packets (packet ∷ packets) p =
     let rest : length packets ≤ length (joined packets) = few_packets packets p.1 in

@@ -2,10 +2,11 @@
 use Rattle.std.proofs.Common.{◌≡◌, ℕ, zero, suc, ◌+◌, ◌<◌, ◌≤◌, Bool, false, not, ◌&&◌, List, [], ◌∷◌, ◌++◌, refl, ap, sym, ◌∙◌, ℤ, arith}
 use Rattle.std.specs.Prelude.{filter, ◌||◌}
 use Rattle.std.specs.List.{list_any, AllByRecursion}
+use Rattle.std.proofs.lemmas.Bool.Decides.{nat_tests}
 use Rattle.plane_defs.specs.declared.sets.Set.{Set}
 use Rattle.plane_defs.specs.declared.sets.Set.TheVariants.{Descendants, Family, Grandchildren, Quad}
 use Rattle.plane_defs.specs.Spans.{span}
-use Rattle.plane_defs.specs.Sets.{significant, coded, members, set_significant, live, enclosing_significant, type_due, flag_due, newly_significant, refined, IsKnown, children_of, grandchildren_of, quad_of}
+use Rattle.plane_defs.specs.Sets.{significant, coded, members, set_significant, enclosing_significant, type_due, flag_due, newly_significant, refined, IsKnown, children_of, grandchildren_of, quad_of}
 use Rattle.plane_defs.specs.Entries.{flags, types}
 use Rattle.plane_defs.specs.Laws.{SameSets}
 use Rattle.plane_defs.specs.StepLaws.{IsAc, AcsAlike}
@@ -48,9 +49,7 @@ module _ (u v : List ℤ) (weights : List ℕ) (plane : ℕ) (alike : AcsAlike u
 
   pub flag_same : (s : Set) → IsKnown s → enclosing_significant u plane s ≡ enclosing_significant v plane s → flag_due u weights plane s ≡ flag_due v weights plane s
   unfolding flag_due
-  flag_same s known enclosing =
-      ap (λ b. not b && live weights plane s && enclosing_significant u plane s) (set_above s known) ∙
-      ap (λ b. not (set_significant v (plane + 1) s) && live weights plane s && b) enclosing
+  flag_same s known enclosing = grind (arith, nat_tests, set_above)
 
   pub flags_settle : (sets : List Set) → AllByRecursion IsKnown sets → AllByRecursion (λ s. enclosing_significant u plane s ≡ enclosing_significant v plane s) sets →
       flags u weights plane sets ≡ flags v weights plane sets → SameSets u v plane sets
@@ -91,8 +90,7 @@ module _ (u v : List ℤ) (weights : List ℕ) (plane : ℕ) (alike : AcsAlike u
 
   pub newly_same : (p : ℕ) → IsAc p → significant u plane p ≡ significant v plane p → newly_significant u weights plane p ≡ newly_significant v weights plane p
   unfolding newly_significant
-  newly_same p ac same =
-      ap (λ b. b && significant u plane p) (type_same p ac) ∙ ap (λ b. type_due v weights plane p && b) same
+  newly_same p ac same = grind (arith, nat_tests, type_same)
 
   pub refined_same : (p : ℕ) → IsAc p → refined u weights plane p ≡ refined v weights plane p
   unfolding refined

@@ -3,6 +3,7 @@ use Rattle.std.proofs.Common.{◌≡◌, ℕ, ◌<◌, Bool, true, false, ◌&&�
 use Rattle.std.specs.Prelude.{map, filter, nat_lt}
 use Rattle.std.specs.List.{flat_map, AllByRecursion}
 use Rattle.std.proofs.lemmas.List.{length-map}
+use Rattle.std.proofs.lemmas.Bool.Decides.{nat_tests}
 use Rattle.item_defs.specs.Bits.{bit, bits_of, value_of}
 use Rattle.item_defs.proofs.NumberBits.{bits_of-value_of}
 use Rattle.plane_defs.specs.declared.sets.Set.{Set}
@@ -11,7 +12,7 @@ use Rattle.plane_defs.specs.declared.entries.Entry.{Entry}
 use Rattle.plane_defs.specs.declared.entries.Bits.{Bits}
 use Rattle.plane_defs.specs.declared.entries.Entry.TheVariants.{Bit, Word}
 use Rattle.plane_defs.specs.Spans.{span}
-use Rattle.plane_defs.specs.Sets.{magnitude, significant, coded, set_significant, enclosing_significant, type_due, flag_due, newly_significant, refined, IsKnown, children_of, quad_of}
+use Rattle.plane_defs.specs.Sets.{magnitude, significant, coded, set_significant, enclosing_significant, newly_significant, refined, IsKnown, children_of, quad_of}
 use Rattle.plane_defs.specs.Entries.{word, types, flags, signs, typed, negative, twos_bit, dc_bits, parents, children, children_types, quads, quads_types, all_quads, grandchildren, refinement}
 use Rattle.plane_defs.specs.Laws.{SameAbove, SameSets, EntriesAlike, AreAlike, three_families}
 use Rattle.plane_defs.proofs.Settled.{types_settle, flags_settle, type_above, flag_above}
@@ -110,8 +111,7 @@ word_value a b xs ys h = let heads : word a ≡ word b = cc in ap value_in heads
 newly_same : (u v : List ℤ) (weights : List ℕ) (plane p : ℕ) → SameAbove u v plane → significant u plane p ≡ significant v plane p →
     newly_significant u weights plane p ≡ newly_significant v weights plane p
 unfolding newly_significant
-newly_same u v weights plane p above same =
-    ap (λ b. b && significant u plane p) (type_above u v weights plane p above) ∙ ap (λ b. type_due v weights plane p && b) same
+newly_same u v weights plane p above same = grind (arith, nat_tests, type_above)
 
 refined_same : (u v : List ℤ) (weights : List ℕ) (plane p : ℕ) → SameAbove u v plane → refined u weights plane p ≡ refined v weights plane p
 unfolding refined
@@ -137,9 +137,7 @@ of_quad u v plane i j same = same
 
 module _ (u v : List ℤ) (weights : List ℕ) (plane : ℕ) (alike : AreAlike u v weights plane) where
   types_length : (ps : List ℕ) → length (types u weights plane ps) ≡ length (types v weights plane ps)
-  types_length ps =
-      length_map_same (significant u plane) (significant v plane) (filter (type_due u weights plane) ps) (filter (type_due v weights plane) ps)
-      (filter_same (type_due u weights plane) (type_due v weights plane) ps (all_of ps (λ p. type_above u v weights plane p alike.above)))
+  types_length ps = grind (arith, nat_tests, length_map_same, filter_same, all_of, type_above)
 
   signs_step : (ps : List ℕ) → AllByRecursion (λ p. significant u plane p ≡ significant v plane p) ps → EntriesAlike (signs u weights plane ps) (signs v weights plane ps)
   signs_step ps same =
@@ -158,9 +156,7 @@ module _ (u v : List ℤ) (weights : List ℕ) (plane : ℕ) (alike : AreAlike u
 
   flags_length : (sets : List Set) → AllByRecursion (λ s. enclosing_significant u plane s ≡ enclosing_significant v plane s) sets →
       length (flags u weights plane sets) ≡ length (flags v weights plane sets)
-  flags_length sets enclosing =
-      length_map_same (set_significant u plane) (set_significant v plane) (filter (flag_due u weights plane) sets) (filter (flag_due v weights plane) sets)
-      (filter_same (flag_due u weights plane) (flag_due v weights plane) sets (all_map sets (λ s e. flag_above u v weights plane s alike.above e) enclosing))
+  flags_length sets enclosing = grind (arith, nat_tests, length_map_same, filter_same, all_map, flag_above)
 
   settle_flags : (sets : List Set) → AllByRecursion IsKnown sets → AllByRecursion (λ s. enclosing_significant u plane s ≡ enclosing_significant v plane s) sets →
       flags u weights plane sets ≡ flags v weights plane sets → SameSets u v plane sets

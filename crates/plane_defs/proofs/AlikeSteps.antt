@@ -5,12 +5,13 @@ use Rattle.std.specs.List.{flat_map, list_any, AllByRecursion}
 use Rattle.std.proofs.lemmas.Bool.{cases_lt, or_parts}
 use Rattle.plane_defs.proofs.Determined.{enclosed}
 use Rattle.std.proofs.lemmas.List.Folds.{list_any-append}
+use Rattle.std.proofs.lemmas.Bool.Decides.{nat_tests}
 use Rattle.item_defs.specs.Bits.{bit}
 use Rattle.plane_defs.specs.declared.sets.Set.{Set}
 use Rattle.plane_defs.specs.declared.sets.Set.TheVariants.{Descendants, Family, Grandchildren, Quad}
 use Rattle.plane_defs.specs.declared.entries.Entry.TheVariants.{Bit}
 use Rattle.plane_defs.specs.Spans.{span}
-use Rattle.plane_defs.specs.Sets.{magnitude, significant, coded, set_significant, live, enclosing_significant, type_due, flag_due, newly_significant, refined, IsKnown, children_of, grandchildren_of, quad_of}
+use Rattle.plane_defs.specs.Sets.{magnitude, significant, coded, set_significant, live, enclosing_significant, flag_due, newly_significant, refined, IsKnown, children_of, grandchildren_of, quad_of}
 use Rattle.plane_defs.specs.Entries.{word, types, flags, negative, twos_bit, significant_families}
 use Rattle.plane_defs.specs.Steps.{Check, free, ones_at, some_one_where, Told, flags_alone, types_at, sign_at, bit_at, Step, step, is_new, is_forced, typed_steps, flags_step, dc_steps, parents_steps, descendants_check, children_check, children_types_steps, children_steps, three_grandchildren, grandchildren_check, quads_types_steps, quads_steps, all_quads_steps, grandchildren_steps, refinement_steps}
 use Rattle.plane_defs.specs.Laws.{SameSets, three_families}
@@ -93,7 +94,7 @@ none_any p (x ∷ xs) h = ((or_parts (p x) (list_any p xs) h).0, none_any p xs (
 none_both : (p q : ℕ → Bool) (xs : List ℕ) → list_any p xs ≡ false → list_any q xs ≡ false → AllByRecursion (λ x. p x ≡ q x) xs
 none_both p q xs h k = all_zip {P = λ x. (p x ≡ false) × (q x ≡ false)} xs (λ x e. e.0 ∙ sym e.1) (all_both (λ x. p x ≡ false) (λ x. q x ≡ false) xs (none_any p xs h) (none_any q xs k))
 
-any_equal : (p q : ℕ → Bool) (xs : List ℕ) → AllByRecursion (λ x. p x ≡ q x) xs → list_any p xs ≡ list_any q xs
+pub any_equal : (p q : ℕ → Bool) (xs : List ℕ) → AllByRecursion (λ x. p x ≡ q x) xs → list_any p xs ≡ list_any q xs
 any_equal p q [] same = refl
 any_equal p q (x ∷ xs) same = ap (λ b. b || list_any p xs) same.0 ∙ ap (λ b. q x || b) (any_equal p q xs same.1)
 
@@ -136,8 +137,7 @@ module _ (u v : List ℤ) (weights : List ℕ) (plane : ℕ) (alike : AcsAlike u
   -- ---- types
 
   types_length : (ps : List ℕ) → AllByRecursion IsAc ps → length (types u weights plane ps) ≡ length (types v weights plane ps)
-  types_length ps acs =
-      length_map_same (significant u plane) (significant v plane) (filter (type_due u weights plane) ps) (filter (type_due v weights plane) ps) (types_filter u v weights plane alike ps acs)
+  types_length ps acs = grind (arith, nat_tests, length_map_same, types_filter)
 
   types_word : (ps : List ℕ) → AllByRecursion IsAc ps → word (types u weights plane ps) ≡ word (types v weights plane ps) → Same u v plane ps
   types_word ps acs e =
@@ -165,8 +165,7 @@ module _ (u v : List ℤ) (weights : List ℕ) (plane : ℕ) (alike : AcsAlike u
 
   flags_length : (sets : List Set) → AllByRecursion IsKnown sets → AllByRecursion (λ s. enclosing_significant u plane s ≡ enclosing_significant v plane s) sets →
       length (flags u weights plane sets) ≡ length (flags v weights plane sets)
-  flags_length sets known enclosing =
-      length_map_same (set_significant u plane) (set_significant v plane) (filter (flag_due u weights plane) sets) (filter (flag_due v weights plane) sets) (due_filter u v weights plane alike sets known enclosing)
+  flags_length sets known enclosing = grind (arith, nat_tests, length_map_same, due_filter)
 
   flags_word : (sets : List Set) → AllByRecursion IsKnown sets → AllByRecursion (λ s. enclosing_significant u plane s ≡ enclosing_significant v plane s) sets →
       word (flags u weights plane sets) ≡ word (flags v weights plane sets) → SameSets u v plane sets
@@ -175,8 +174,7 @@ module _ (u v : List ℤ) (weights : List ℕ) (plane : ℕ) (alike : AcsAlike u
 
   new_same : (s : Set) → IsKnown s → set_significant u plane s ≡ set_significant v plane s → is_new u plane s ≡ is_new v plane s
   unfolding is_new
-  new_same s known same =
-      ap (λ b. b && not (set_significant u (plane + 1) s)) same ∙ ap (λ b. set_significant v plane s && not b) (set_above u v weights plane alike s known)
+  new_same s known same = grind (arith, nat_tests, set_above)
 
   -- ---- stage 1
 
@@ -278,9 +276,7 @@ module _ (u v : List ℤ) (weights : List ℕ) (plane : ℕ) (alike : AcsAlike u
     hope_same : (i : ℕ) → i < 3 → set_significant u plane (Family i) ≡ set_significant v plane (Family i) → Same u v plane (span (children_of i) 4) →
         is_forced u plane (Grandchildren i) ≡ is_forced v plane (Grandchildren i)
     unfolding is_forced
-    hope_same i known family same =
-        ap (λ b. b && not (list_any (significant u plane) (span (children_of i) 4))) (new_same (Family i) known family) ∙
-        ap (λ b. is_new v plane (Family i) && not b) (any_equal (significant u plane) (significant v plane) (span (children_of i) 4) same)
+    hope_same i known family same = grind (arith, nat_tests, new_same, any_equal)
 
     hopes_same : AllByRecursion (λ s. is_forced u plane s ≡ is_forced v plane s) three_grandchildren
     unfolding span

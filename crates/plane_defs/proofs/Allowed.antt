@@ -1,8 +1,8 @@
 -- No word that a block sends is refused in its place.
-use Rattle.std.proofs.Common.{◌≡◌, ◌⊎◌, ℕ, zero, suc, ◌+◌, ◌-◌, ◌/◌, ◌<◌, ◌≤◌, inl, inr, Bool, true, false, not, ◌&&◌, cond, eqb, List, [], ◌∷◌, ◌++◌, length, refl, ap, sym, ◌∙◌, subst, arith, ℤ}
+use Rattle.std.proofs.Common.{◌≡◌, ◌⊎◌, ℕ, zero, suc, ◌+◌, ◌-◌, ◌/◌, ◌<◌, ◌≤◌, inl, inr, Bool, true, false, not, ◌&&◌, cond, List, [], ◌∷◌, ◌++◌, length, refl, ap, sym, ◌∙◌, subst, arith, ℤ}
 use Rattle.std.specs.Prelude.{map, filter, nat_lt, ◌||◌}
 use Rattle.std.specs.List.{flat_map, list_any, AllByRecursion}
-use Rattle.std.proofs.lemmas.Bool.{cases_lt, and_parts}
+use Rattle.std.proofs.lemmas.Bool.{cases_lt, and_parts, false_from_ne_true}
 use Rattle.std.proofs.lemmas.Bool.Decides.{nat_tests}
 use Rattle.std.proofs.lemmas.List.{length-map}
 use Rattle.std.proofs.lemmas.List.Folds.{list_any-append}
@@ -45,28 +45,18 @@ zero_word : {X : Type 0} (f d : X → Bool) (xs : List X) → value_of (map f (f
 zero_word f d xs none = of_filter (λ x. f x ≡ false) d xs (inside_map f (filter d xs) (zero_bits (map f (filter d xs)) none))
 
 by_test : (b c : Bool) → (b ≡ true → c ≡ false) → (b ≡ false → c ≡ false) → c ≡ false
-by_test true c first second = first refl
-by_test false c first second = second refl
-
-not_true : (b : Bool) → (b ≡ true → ⊥) → b ≡ false
-not_true true h = absurd (h refl)
-not_true false h = refl
+by_test b c first second = grind (arith, nat_tests)
 
 any_none : (p : ℕ → Bool) (xs : List ℕ) → AllByRecursion (λ x. p x ≡ false) xs → list_any p xs ≡ false
 any_none p [] all = refl
 any_none p (x ∷ xs) all = ap (λ b. b || list_any p xs) all.0 ∙ any_none p xs all.1
 
-not_false : (b : Bool) → not b ≡ true → b ≡ false
-not_false true h = cc
-not_false false h = refl
+pub not_false : (b : Bool) → not b ≡ true → b ≡ false
+not_false b h = grind (arith, nat_tests)
 
 -- a word of zeros would be false
 some_one_allowed : (b : Bool) (w : ℕ) → (b ≡ true → w ≡ 0 → ⊥) → refuses (some_one_where b) w ≡ false
-some_one_allowed true w h = not_true (eqb w 0) (λ e. h refl (zero_from w e))
-  where
-    zero_from : (n : ℕ) → eqb n 0 ≡ true → n ≡ 0
-    zero_from n e = grind (arith, nat_tests)
-some_one_allowed false w h = refl
+some_one_allowed b w h = grind (arith, nat_tests, false_from_ne_true)
 
 -- no wanted bit is missing
 lacks_none : {X : Type 0} (want f : X → Bool) (xs : List X) → AllByRecursion (λ x. want x ≡ true → f x ≡ true) xs → lacks_one (map want xs) (map f xs) ≡ false
@@ -113,7 +103,7 @@ module _ (block : List ℤ) (weights : List ℕ) (plane : ℕ) (whole : IsMultip
 
   family_above : (i : ℕ) → i < 3 → set_significant block (plane + 1) Descendants ≡ false → set_significant block (plane + 1) (Family i) ≡ false
   unfolding enclosing_significant
-  family_above i known h = not_true (set_significant block (plane + 1) (Family i)) (λ e. let inside : set_significant block (plane + 1) Descendants ≡ true = enclosed block (plane + 1) (Family i) known e in true_false (sym inside ∙ h))
+  family_above i known h = false_from_ne_true (set_significant block (plane + 1) (Family i)) (λ e. let inside : set_significant block (plane + 1) Descendants ≡ true = enclosed block (plane + 1) (Family i) known e in true_false (sym inside ∙ h))
 
   no_member : (i p : ℕ) → set_significant block plane (Family i) ≡ false → ((children_of i ≤ p) × (p < children_of i + 4)) ⊎ ((grandchildren_of i ≤ p) × (p < grandchildren_of i + 16)) → significant block plane p ≡ false
   unfolding set_significant
@@ -152,22 +142,16 @@ module _ (block : List ℤ) (weights : List ℕ) (plane : ℕ) (whole : IsMultip
 
   family_of : (i : ℕ) → list_any (significant block plane) (span (children_of i) 4) ≡ false → set_significant block plane (Grandchildren i) ≡ false → set_significant block plane (Family i) ≡ false
   unfolding set_significant
-  family_of i children grandchildren =
-      list_any-append (significant block plane) (span (children_of i) 4) (span (grandchildren_of i) 16)
-      ∙ ap (λ b. b || list_any (significant block plane) (span (grandchildren_of i) 16)) children ∙ grandchildren
+  family_of i children grandchildren = grind (arith, nat_tests, list_any-append)
 
   no_grandchild_above : (i : ℕ) → i < 3 → set_significant block (plane + 1) (Family i) ≡ false → set_significant block (plane + 1) (Grandchildren i) ≡ false
   unfolding enclosing_significant
   no_grandchild_above i known h =
-      not_true (set_significant block (plane + 1) (Grandchildren i)) (λ e. let inside : set_significant block (plane + 1) (Family i) ≡ true = enclosed block (plane + 1) (Grandchildren i) known e in true_false (sym inside ∙ h))
+      false_from_ne_true (set_significant block (plane + 1) (Grandchildren i)) (λ e. let inside : set_significant block (plane + 1) (Family i) ≡ true = enclosed block (plane + 1) (Grandchildren i) known e in true_false (sym inside ∙ h))
 
   dead_undue : (s : Set) → live weights plane s ≡ false → flag_due block weights plane s ≡ false
   unfolding flag_due
-  dead_undue s h = ap (λ b. not (set_significant block (plane + 1) s) && b && enclosing_significant block plane s) h ∙ none (not (set_significant block (plane + 1) s)) (enclosing_significant block plane s)
-    where
-      none : (a c : Bool) → (a && false && c) ≡ false
-      none true c = refl
-      none false c = refl
+  dead_undue s h = grind (arith, nat_tests)
 
   children_allowed : (i : ℕ) → i < 3 → refuses (children_check block weights plane i) (value_of (types block weights plane (span (children_of i) 4))) ≡ false
   children_allowed i known =
@@ -192,21 +176,14 @@ module _ (block : List ℤ) (weights : List ℕ) (plane : ℕ) (whole : IsMultip
       by_grandchildren false e new children = absurd (true_false (sym (here_of_new (Family i) new) ∙ family_of i children e))
 
   grandchildren_allowed : refuses (grandchildren_check block weights plane three_grandchildren) (value_of (flags block weights plane three_grandchildren)) ≡ false
-  grandchildren_allowed =
-      let due = filter (flag_due block weights plane) three_grandchildren in
-      let wants = map (is_forced block plane) due in
-      let bits = flags block weights plane three_grandchildren in
-      let long : length wants ≡ length bits = length-map due (is_forced block plane) ∙ sym (length-map due (set_significant block plane)) in
-      ap (λ n. lacks_one wants (bits_of n (value_of bits))) long ∙ ap (lacks_one wants) (bits_of-value_of bits)
-      ∙ lacks_none (is_forced block plane) (set_significant block plane) due
-      (all_filter (λ s. is_forced block plane s ≡ true → set_significant block plane s ≡ true) (flag_due block weights plane) three_grandchildren (hope_met 0, (hope_met 1, (hope_met 2, tt))))
+  grandchildren_allowed = grind (arith, nat_tests, length-map, bits_of-value_of, lacks_none, all_filter, hope_met)
 
   -- ---- 4 and 5: a new set of grandchildren has one
 
   quad_above : (i j : ℕ) → i < 3 → j < 4 → set_significant block (plane + 1) (Grandchildren i) ≡ false → set_significant block (plane + 1) (Quad i j) ≡ false
   unfolding enclosing_significant
   quad_above i j known also h =
-      not_true (set_significant block (plane + 1) (Quad i j)) (λ e. let inside : set_significant block (plane + 1) (Grandchildren i) ≡ true = enclosed block (plane + 1) (Quad i j) (known, also) e in true_false (sym inside ∙ h))
+      false_from_ne_true (set_significant block (plane + 1) (Quad i j)) (λ e. let inside : set_significant block (plane + 1) (Grandchildren i) ≡ true = enclosed block (plane + 1) (Quad i j) (known, also) e in true_false (sym inside ∙ h))
 
   no_grandchild : (i : ℕ) → ((j : ℕ) → j < 4 → set_significant block plane (Quad i j) ≡ false) → set_significant block plane (Grandchildren i) ≡ false
   unfolding set_significant

@@ -3,7 +3,8 @@ use Rattle.std.proofs.Common.{◌≡◌, ℕ, ◌+◌, ◌<◌, ◌≤◌, Bool,
 use Rattle.std.specs.Prelude.{◌||◌, ◌&&◌, ◌==◌}
 use Rattle.std.specs.List.{list_any, AllByRecursion}
 use Rattle.std.proofs.lemmas.Bool.Decides.{nat_tests}
-use Rattle.std.proofs.lemmas.Bool.{or_left, or_right}
+use Rattle.std.proofs.lemmas.Bool.{or_left, or_right, eqb-true}
+use Rattle.plane_defs.proofs.AlikeSteps.{any_equal}
 use Rattle.plane_defs.specs.declared.sets.Set.{Set}
 use Rattle.plane_defs.specs.declared.sets.Set.TheVariants.{Family, Grandchildren}
 use Rattle.plane_defs.specs.Spans.{span}
@@ -11,10 +12,7 @@ use Rattle.plane_defs.specs.Sets.{members, children_of, grandchildren_of}
 use Rattle.plane_defs.specs.Choosing.{family_of, sixteen_of, chosen_anew, AreApart, WordsChosen}
 use Rattle.plane_defs.proofs.Above.{all_append, all_span, all_zip}
 
-pub equal_from : (m n : ℕ) → (m == n) ≡ true → m ≡ n
-equal_from m n e = grind (arith, nat_tests)
-
-equal_self : (p : ℕ) → (p == p) ≡ true
+pub equal_self : (p : ℕ) → (p == p) ≡ true
 equal_self p = grind (arith, nat_tests)
 
 -- each element of a list is in the list
@@ -24,10 +22,6 @@ all_inside (x ∷ xs) = (
   or_left (x == x) (list_any (λ q. q == x) xs) (equal_self x),
   all_zip {P = λ p. list_any (λ q. q == p) xs ≡ true} xs (λ p e. or_right (x == p) (list_any (λ q. q == p) xs) e) (all_inside xs),
 )
-
-any_equal : (f g : ℕ → Bool) (xs : List ℕ) → AllByRecursion (λ x. f x ≡ g x) xs → list_any f xs ≡ list_any g xs
-any_equal f g [] same = refl
-any_equal f g (x ∷ xs) same = ap (λ b. b || list_any f xs) same.0 ∙ ap (λ b. g x || b) (any_equal f g xs same.1)
 
 any_and : (b : Bool) (g : ℕ → Bool) (xs : List ℕ) → list_any g xs ≡ true → list_any (λ x. b && g x) xs ≡ b
 any_and true g xs e = e
@@ -61,7 +55,7 @@ found P p [] all e = cc
 found P p (x ∷ xs) all e = by_first (x == p) refl e (found P p xs all.1)
   where
     by_first : (b : Bool) → (x == p) ≡ b → (b || list_any (λ q. q == p) xs) ≡ true → (list_any (λ q. q == p) xs ≡ true → P p) → P p
-    by_first true f e later = subst P (equal_from x p f) all.0
+    by_first true f e later = subst P (eqb-true x p f) all.0
     by_first false f e later = later e
 
 in_family : (i p : ℕ) → i < 3 → list_any (λ q. q == p) (members (Family i)) ≡ true → family_of p ≡ i

@@ -6,7 +6,10 @@ use Rattle.std.proofs.lemmas.Bool.Decides.{nat_tests}
 use Rattle.std.proofs.lemmas.List.{get_or_past}
 use Rattle.std.proofs.lemmas.Nat.{pow_pos, pow-add}
 use Rattle.std.proofs.Math.Pow.{pow_mono}
-use Rattle.std.proofs.lemmas.Bool.{or_left, or_right, and_parts}
+use Rattle.std.proofs.lemmas.Bool.{or_left, or_right, and_parts, le-leb, lt-leb, leb-true}
+use Rattle.std.proofs.Math.Bool.{or-true, or-false}
+use Rattle.plane_defs.proofs.Allowed.{not_false}
+use Rattle.plane_defs.proofs.Chosen.{equal_self}
 use Rattle.plane_defs.specs.declared.sets.Set.{Set}
 use Rattle.plane_defs.specs.Sets.{magnitude, significant, shift, coded, members, set_significant, live, type_due, IsKnown}
 use Rattle.plane_defs.specs.Laws.{IsMultiple}
@@ -15,34 +18,13 @@ use Rattle.plane_defs.specs.Completed.{completed_number, completed, MayComplete,
 use Rattle.plane_defs.proofs.SpanLists.{length-map-span, get_or-map-span}
 use Rattle.plane_defs.proofs.Above.{members_acs}
 
-le_test : (a b : ℕ) → a ≤ b → nat_le a b ≡ true
-le_test a b h = grind (arith, nat_tests)
-
-lt_test : (a b : ℕ) → b < a → nat_le a b ≡ false
-lt_test a b h = grind (arith, nat_tests)
-
-from_test : (a b : ℕ) → nat_le a b ≡ true → a ≤ b
-from_test a b h = grind (arith, nat_tests)
-
-not_true : (b : Bool) → not b ≡ true → b ≡ false
-not_true true h = cc
-not_true false h = refl
-
-or_true : (b : Bool) → (b || true) ≡ true
-or_true true = refl
-or_true false = refl
-
-or_false : (b : Bool) → (b || false) ≡ b
-or_false true = refl
-or_false false = refl
-
 pub due_above : (block : List ℤ) (weights : List ℕ) (plane p : ℕ) → type_due block weights plane p ≡ true → significant block (plane + 1) p ≡ false
 unfolding type_due
-due_above block weights plane p h = not_true (significant block (plane + 1) p) (and_parts _ _ h).0
+due_above block weights plane p h = not_false (significant block (plane + 1) p) (and_parts _ _ h).0
 
 due_coded : (block : List ℤ) (weights : List ℕ) (plane p : ℕ) → type_due block weights plane p ≡ true → shift weights p ≤ plane
 unfolding type_due coded
-due_coded block weights plane p h = from_test (shift weights p) plane (and_parts (not (significant block (plane + 1) p)) _ h).1
+due_coded block weights plane p h = leb-true (shift weights p) plane (and_parts (not (significant block (plane + 1) p)) _ h).1
 
 is_due : (block : List ℤ) (weights : List ℕ) (plane p : ℕ) → significant block (plane + 1) p ≡ false → coded weights plane p ≡ true → type_due block weights plane p ≡ true
 unfolding type_due
@@ -68,9 +50,7 @@ module _ (block : List ℤ) (weights : List ℕ) (plane : ℕ) (chosen minus : �
   is_whole = length-map-span (completed_number block plane chosen minus) 64
 
   size : (b m : Bool) (z : ℤ) → b ≡ true → unsigned_abs (cond b (cond m (negsuc (2 ^ plane - 1)) (pos (2 ^ plane))) z) ≡ 2 ^ plane
-  size true true z e = omega (arith, pow_pos plane)
-  size true false z e = refl
-  size false m z e = cc
+  size b m z e = grind (arith, nat_tests, pow_pos)
 
   chosen_size : (p : ℕ) → p < 64 → chosen p ≡ true → magnitude (completed block plane chosen minus) p ≡ 2 ^ plane
   chosen_size p lt e = ap unsigned_abs (there p lt) ∙ size (chosen p) (minus p) (get_or block p (pos 0)) e
@@ -79,31 +59,18 @@ module _ (block : List ℤ) (weights : List ℕ) (plane : ℕ) (chosen minus : �
   other_size p lt e = ap unsigned_abs (there p lt ∙ ap (λ b. cond b (cond (minus p) (negsuc (2 ^ plane - 1)) (pos (2 ^ plane))) (get_or block p (pos 0))) e)
 
   no_dc : chosen 0 ≡ false
-  no_dc = by_choice (chosen 0) refl
-    where
-      by_choice : (b : Bool) → chosen 0 ≡ b → chosen 0 ≡ false
-      by_choice true e = absurd (omega (arith, (may.chosen_acs 0 e).0))
-      by_choice false e = e
+  no_dc = grind (arith, nat_tests)
 
   is_above : SameAc (completed block plane chosen minus) block (plane + 1)
   unfolding significant
   is_above p ac = by_choice (chosen p) refl
     where
       by_choice : (b : Bool) → chosen p ≡ b → nat_le (2 ^ (plane + 1)) (magnitude (completed block plane chosen minus) p) ≡ nat_le (2 ^ (plane + 1)) (magnitude block p)
-      by_choice true e =
-          let half : 2 ^ plane < 2 ^ (plane + 1) = omega (arith, pow_pos plane, pow-add 2 plane 1) in
-          ap (nat_le (2 ^ (plane + 1))) (chosen_size p ac.1 e) ∙ lt_test (2 ^ (plane + 1)) (2 ^ plane) half ∙ sym (due_above block weights plane p (may.chosen_due p e))
-      by_choice false e = ap (nat_le (2 ^ (plane + 1))) (other_size p ac.1 e)
+      by_choice b e = grind (arith, nat_tests, pow_pos, pow-add, chosen_size, lt-leb, due_above, other_size)
 
   is_here : (p : ℕ) → IsAc p → significant (completed block plane chosen minus) plane p ≡ (significant block (plane + 1) p || chosen p)
   unfolding significant
-  is_here p ac = by_choice (chosen p) refl
-    where
-      by_choice : (b : Bool) → chosen p ≡ b → nat_le (2 ^ plane) (magnitude (completed block plane chosen minus) p) ≡ (nat_le (2 ^ (plane + 1)) (magnitude block p) || chosen p)
-      by_choice true e =
-          ap (nat_le (2 ^ plane)) (chosen_size p ac.1 e) ∙ le_test (2 ^ plane) (2 ^ plane) (omega arith) ∙ sym (ap (λ b. nat_le (2 ^ (plane + 1)) (magnitude block p) || b) e ∙ or_true (nat_le (2 ^ (plane + 1)) (magnitude block p)))
-      by_choice false e =
-          ap (nat_le (2 ^ plane)) (other_size p ac.1 e) ∙ may.none_new p ac ∙ sym (ap (λ b. nat_le (2 ^ (plane + 1)) (magnitude block p) || b) e ∙ or_false (nat_le (2 ^ (plane + 1)) (magnitude block p)))
+  is_here p ac = grind (arith, nat_tests, chosen_size, le-leb, or-true, other_size, or-false)
 
   has_sets : (s : Set) → IsKnown s → set_significant (completed block plane chosen minus) plane s ≡ (set_significant block (plane + 1) s || list_any chosen (members s))
   unfolding set_significant
@@ -151,9 +118,6 @@ module _ (block : List ℤ) (weights : List ℕ) (plane : ℕ) (chosen minus : �
   }
 
 -- ---- a member that may be chosen
-
-equal_self : (p : ℕ) → (p == p) ≡ true
-equal_self p = grind (arith, nat_tests)
 
 some_member : (f g : ℕ → Bool) (xs : List ℕ) → AllByRecursion IsAc xs → list_any f xs ≡ true → (list_any g xs ≡ true → ⊥) →
     (p : ℕ) × IsAc p × (f p ≡ true) × (g p ≡ false) × (list_any (λ q. q == p) xs ≡ true)

@@ -7,10 +7,11 @@ use Rattle.std.proofs.Math.Nat.{mul-suc}
 use Rattle.std.proofs.lemmas.Nat.{pow_pos}
 use Rattle.std.proofs.Math.Pow.{pow_mono}
 use Rattle.std.proofs.lemmas.Bool.{or_left, or_right, or_cases, or_parts}
+use Rattle.std.proofs.lemmas.Bool.Decides.{nat_tests}
 use Rattle.plane_defs.specs.declared.sets.Set.{Set}
 use Rattle.plane_defs.specs.declared.sets.Set.TheVariants.{Descendants, Family, Grandchildren, Quad}
 use Rattle.plane_defs.specs.Spans.{span}
-use Rattle.plane_defs.specs.Sets.{magnitude, significant, shift, coded, members, set_significant, live, enclosing_significant, flag_due, IsKnown}
+use Rattle.plane_defs.specs.Sets.{significant, shift, coded, set_significant, live, enclosing_significant, flag_due, IsKnown}
 use Rattle.plane_defs.specs.Laws.{IsMultiple}
 use Rattle.plane_defs.proofs.SpanLists.{list_any-span-suc, list_any-span-none}
 
@@ -84,10 +85,7 @@ below_shift m plane shift (suc k) whole low =
 
 pub not_coded : (block : List ℤ) (weights : List ℕ) (plane p : ℕ) → IsMultiple block weights → coded weights plane p ≡ false → significant block plane p ≡ significant block (plane + 1) p
 unfolding significant coded
-not_coded block weights plane p whole low = below_shift (magnitude block p) plane (shift weights p) (whole.part p) (whole.whole p) (above (shift weights p) plane low)
-  where
-    above : (a b : ℕ) → nat_le a b ≡ false → b < a
-    above a b h = grind arith
+not_coded block weights plane p whole low = grind (arith, nat_tests, below_shift)
 
 not_live : (block : List ℤ) (weights : List ℕ) (plane : ℕ) (xs : List ℕ) → IsMultiple block weights → list_any (coded weights plane) xs ≡ false →
     list_any (significant block plane) xs ≡ list_any (significant block (plane + 1)) xs
@@ -98,11 +96,7 @@ not_live block weights plane (x ∷ xs) whole h =
 
 pub still_significant : (block : List ℤ) (plane p : ℕ) → significant block (plane + 1) p ≡ true → significant block plane p ≡ true
 unfolding significant
-still_significant block plane p h =
-    let more : 2 ^ plane ≤ 2 ^ (plane + 1) = pow_mono (omega arith) in lower (2 ^ plane) (2 ^ (plane + 1)) (magnitude block p) more h
-  where
-    lower : (n n' m : ℕ) → n ≤ n' → nat_le n' m ≡ true → nat_le n m ≡ true
-    lower n n' m l h = grind arith
+still_significant block plane p h = grind (arith, nat_tests, pow_mono)
 
 any_still : (block : List ℤ) (plane : ℕ) (xs : List ℕ) → list_any (significant block (plane + 1)) xs ≡ true → list_any (significant block plane) xs ≡ true
 any_still block plane [] h = h
@@ -114,15 +108,10 @@ any_still block plane (x ∷ xs) h =
 
 settled : (above here live enclosing : Bool) → (above ≡ true → here ≡ true) → (live ≡ false → here ≡ above) → (here ≡ true → enclosing ≡ true) →
     (not above && live && enclosing) ≡ false → here ≡ above
-settled true here live enclosing kept dead inside h = kept refl
-settled false here false enclosing kept dead inside h = dead refl
-settled false true true enclosing kept dead inside h = sym (inside refl) ∙ h
-settled false false true enclosing kept dead inside h = refl
+settled above here live enclosing kept dead inside h = grind (arith, nat_tests)
 
 -- what is sent determines the rest: a set whose flag is not due is significant exactly if it was
 pub undue : (block : List ℤ) (weights : List ℕ) (plane : ℕ) (s : Set) → IsKnown s → IsMultiple block weights → flag_due block weights plane s ≡ false →
     set_significant block plane s ≡ set_significant block (plane + 1) s
 unfolding flag_due set_significant live
-undue block weights plane s known whole h =
-    settled (set_significant block (plane + 1) s) (set_significant block plane s) (live weights plane s) (enclosing_significant block plane s)
-    (any_still block plane (members s)) (not_live block weights plane (members s) whole) (enclosed block plane s known) h
+undue block weights plane s known whole h = grind (arith, nat_tests, settled, any_still, not_live, enclosed)

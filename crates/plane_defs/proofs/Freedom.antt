@@ -2,14 +2,14 @@
 use Rattle.std.proofs.Common.{◌≡◌, ℕ, ◌+◌, ◌<◌, Bool, true, false, cond, List, refl, ap, sym, ◌∙◌, subst, ℤ}
 use Rattle.std.specs.Prelude.{◌||◌, ◌&&◌, ◌==◌}
 use Rattle.std.specs.List.{list_any}
-use Rattle.std.proofs.lemmas.Bool.{and_parts}
+use Rattle.std.proofs.lemmas.Bool.{and_parts, eqb-true, both_ways}
 use Rattle.plane_defs.specs.declared.sets.Set.{Set}
 use Rattle.plane_defs.specs.Sets.{significant, members, set_significant, type_due}
 use Rattle.plane_defs.specs.StepLaws.{IsAc}
 use Rattle.plane_defs.specs.Completed.{completed, MayComplete}
 use Rattle.plane_defs.specs.Choosing.{chosen_anew, AreApart, AreFree, ChosenAs, FlagsFree, typed_anew, TypesFree}
 use Rattle.plane_defs.proofs.Completing.{completes, live_member, due_above}
-use Rattle.plane_defs.proofs.Chosen.{before, as_asked, equal_from}
+use Rattle.plane_defs.proofs.Chosen.{before, as_asked}
 
 module _ (sets : ℕ → Set) (owner : ℕ → ℕ) (count : ℕ) (block : List ℤ) (weights : List ℕ) (plane : ℕ) (chosen minus free wanted : ℕ → Bool)
     (apart : AreApart sets owner count) (may : MayComplete block weights plane chosen) (are_free : AreFree sets count block weights plane free) where
@@ -19,16 +19,12 @@ module _ (sets : ℕ → Set) (owner : ℕ → ℕ) (count : ℕ) (block : List 
   choose : (j : ℕ) → (p : ℕ) × (free j ≡ true → Pick j p)
   choose j = by_free (free j) refl
     where
-      not_both : (b : Bool) → b ≡ false → b ≡ true → ⊥
-      not_both true e h = cc
-      not_both false e h = cc
-
       by_free : (b : Bool) → free j ≡ b → (p : ℕ) × (free j ≡ true → Pick j p)
       by_free true e =
-          let none : set_significant block (plane + 1) (sets j) ≡ true → ⊥ = not_both (set_significant block (plane + 1) (sets j)) (are_free.none_above j e) in
+          let none : set_significant block (plane + 1) (sets j) ≡ true → ⊥ = both_ways (set_significant block (plane + 1) (sets j)) (are_free.none_above j e) in
           let r = live_member block weights plane (sets j) (apart.known j (are_free.below j e)) (are_free.is_live j e) none in
           (r.0, λ h. (r.1, r.2, r.3))
-      by_free false e = (0, λ h. absurd (not_both (free j) e h))
+      by_free false e = (0, λ h. absurd (both_ways (free j) e h))
 
   abbrev pick : ℕ → ℕ
   pick j = (choose j).0
@@ -41,7 +37,7 @@ module _ (sets : ℕ → Set) (owner : ℕ → ℕ) (count : ℕ) (block : List 
   by_owner P picked kept p h = by_free (free (owner p)) refl h
     where
       by_free : (b : Bool) → free (owner p) ≡ b → cond b (wanted (owner p) && (p == pick (owner p))) (chosen p) ≡ true → P p
-      by_free true e h = subst P (sym (equal_from p (pick (owner p)) (and_parts (wanted (owner p)) _ h).1)) (picked (owner p) e)
+      by_free true e h = subst P (sym (eqb-true p (pick (owner p)) (and_parts (wanted (owner p)) _ h).1)) (picked (owner p) e)
       by_free false e h = kept p h
 
   may_other : MayComplete block weights plane other

@@ -1,6 +1,6 @@
 -- Two planes whose AC numbers above are the same have items that step alike; a whole plane that says the same determines its numbers.
 use Rattle.std.proofs.Common.{◌≡◌, ℕ, zero, suc, ◌-◌, ◌*◌, ◌/◌, ◌^◌, ◌<◌, ◌≤◌, inl, inr, min, Bool, true, false, cond, List, [], ◌∷◌, ◌++◌, length, refl, ap, sym, ◌∙◌, subst, arith, ℤ, get_or, add-one, zero-add}
-use Rattle.std.specs.Prelude.{nat_lt, nat_le}
+use Rattle.std.specs.Prelude.{nat_lt}
 use Rattle.std.specs.List.{flat_map, AllByRecursion}
 use Rattle.std.proofs.lemmas.Bool.{cases_lt}
 use Rattle.std.proofs.lemmas.Bool.Decides.{nat_tests}
@@ -67,10 +67,7 @@ module _ (u v : List ℤ) (d : ℕ) (weights : List ℕ) (plane q : ℕ) (alike 
 
   small_insignificant : (w : List ℤ) (p : ℕ) → d ≤ plane → magnitude w p < 2 ^ d → significant w plane p ≡ false
   unfolding significant
-  small_insignificant w p deep small = let m : 2 ^ d ≤ 2 ^ plane = pow_mono deep in below (2 ^ plane) (magnitude w p) (omega arith)
-    where
-      below : (a b : ℕ) → b < a → nat_le a b ≡ false
-      below a b lt = grind (arith, nat_tests)
+  small_insignificant w p deep small = grind (arith, nat_tests, pow_mono)
 
   pub block_settles : ((p : ℕ) → IsAc p → magnitude u p < 2 ^ d) → ((p : ℕ) → IsAc p → magnitude v p < 2 ^ d) → SaidIn stages.Parents → SaidIn stages.Children → SaidIn stages.Grandchildren → SameAc u v plane
   unfolding block_steps

@@ -1,9 +1,9 @@
 -- The codes of a sound table are distinguished by the next bits.
-use Rattle.std.proofs.Common.{◌≡◌, ℕ, zero, suc, ◌+◌, ◌^◌, ◌<◌, ◌≤◌, ◌⊎◌, inl, inr, Bool, true, false, cond, List, [], ◌∷◌, ◌++◌, length, take, get_or, refl, sym, ap, ◌∙◌, subst, arith, add-one, zero-add, append_assoc}
+use Rattle.std.proofs.Common.{◌≡◌, ℕ, zero, suc, ◌+◌, ◌^◌, ◌<◌, ◌≤◌, ◌⊎◌, inl, inr, Bool, true, false, cond, List, [], ◌∷◌, ◌++◌, length, take, get_or, refl, sym, ap, ◌∙◌, arith, add-one, zero-add, append_assoc}
 use Rattle.std.specs.Prelude.{count_by}
-use Rattle.std.proofs.lemmas.Bool.{cases_lt}
 use Rattle.std.proofs.lemmas.List.{append_cancel_left, length-append, length-take-le}
 use Rattle.std.proofs.lemmas.List.Sums.{sum_by-append}
+use Rattle.std.proofs.lemmas.Bool.Decides.{nat_tests}
 use Rattle.item_defs.specs.Bits.{bits_of, copies, value_of}
 use Rattle.item_defs.proofs.BitLists.{length-copies}
 use Rattle.item_defs.proofs.NumberBits.{length-bits_of, bits_of-value_of, value_below}
@@ -23,10 +23,7 @@ is_prefix_front (true ∷ xs) ys (suc n) h = is_prefix_front xs ys n (omega arit
 is_prefix_front (false ∷ xs) ys (suc n) h = is_prefix_front xs ys n (omega arith)
 
 count_last : (p : ℕ → Bool) (count : ℕ) → count_by p (span 0 (count + 1)) ≡ count_by p (span 0 count) + cond (p count) 1 0
-count_last p count =
-    let f = λ (x : ℕ). cond (p x) 1 0 in
-    let place : f (0 + count) ≡ f count = ap f (zero-add count) in
-    ap (count_by p) (span-suc 0 count) ∙ sum_by-append f (span 0 count) ((0 + count) ∷ []) ∙ omega arith
+count_last p count = grind (arith, nat_tests, zero-add, span-suc, sum_by-append)
 
 one_if : (b : Bool) → b ≡ true → cond {A = ℕ} b 1 0 ≡ 1
 one_if b h = rw h refl
@@ -38,7 +35,7 @@ below_or_at : (k n : ℕ) → k < suc n → (k < n) ⊎ (k ≡ n)
 below_or_at k n h = grind arith
 
 -- a test that passes at one place, and at two
-count_one : (p : ℕ → Bool) (count m : ℕ) → m < count → p m ≡ true → 1 ≤ count_by p (span 0 count)
+pub count_one : (p : ℕ → Bool) (count m : ℕ) → m < count → p m ≡ true → 1 ≤ count_by p (span 0 count)
 count_one p zero m below here = absurd (omega arith)
 count_one p (suc count) m below here =
     let last : count_by p (span 0 (suc count)) ≡ count_by p (span 0 count) + cond (p count) 1 0 = ap (λ n. count_by p (span 0 n)) (sym (add-one count)) ∙ count_last p count in
@@ -59,7 +56,7 @@ count_two p (suc count) m n apart below first second =
     ]
 
 -- if some are counted, there is one
-counted_somewhere : (p : ℕ → Bool) (count : ℕ) → 1 ≤ count_by p (span 0 count) → (m : ℕ) × (m < count) × (p m ≡ true)
+pub counted_somewhere : (p : ℕ → Bool) (count : ℕ) → 1 ≤ count_by p (span 0 count) → (m : ℕ) × (m < count) × (p m ≡ true)
 unfolding span
 counted_somewhere p zero h = absurd (omega arith)
 counted_somewhere p (suc count) h =
@@ -87,14 +84,10 @@ module _ (bits : List Bool) where
   length-octet = length-take-le 8 (bits ++ copies 8 false) (omega (arith, length-append bits (copies 8 false), length-copies 8 false))
 
   octet_value : bits_of 8 (value_of octet) ≡ octet
-  octet_value =
-      let P : ℕ → Type 0 = λ n. bits_of n (value_of octet) ≡ octet in
-      subst P length-octet (bits_of-value_of octet)
+  octet_value = grind (arith, nat_tests, octet, length-octet, bits_of-value_of)
 
   octet_small : value_of octet < 256
-  octet_small =
-      let P : ℕ → Type 0 = λ n. value_of octet < 2 ^ n in
-      let h = subst P length-octet (value_below octet) in omega arith
+  octet_small = grind (arith, nat_tests, octet, length-octet, value_below)
 
 -- a code that is a prefix of some bits is a prefix of their first eight
 begins_octet : (table : List Code) (count m : ℕ) (xs bits : List Bool) → is_table_sound table count ≡ true → m < count → code_bits (entry table m) ++ xs ≡ bits →
@@ -119,14 +112,7 @@ apart table count m n xs ys sound below last e =
 
 pub once : (table : List Code) (count m n : ℕ) (xs ys : List Bool) → is_table_sound table count ≡ true →
     m < count → n < count → code_bits (entry table m) ++ xs ≡ code_bits (entry table n) ++ ys → m ≡ n
-once table count m n xs ys sound hm hn e =
-    elim (cases_lt m n) [
-      | inl lt ↦ absurd (apart table count m n xs ys sound lt hn e)
-      | inr ge ↦ elim (cases_lt n m) [
-        | inl lt ↦ absurd (apart table count n m ys xs sound lt hm (sym e))
-        | inr le ↦ omega arith
-      ]
-    ]
+once table count m n xs ys sound hm hn e = grind (arith, nat_tests, apart)
 
 -- the codes of all symbols, one by one
 pub code_there : (book : Book) (length option s : ℕ) → s < 2 ^ length → get_or (codes_of book length option) s [] ≡ code_bits (code_at book length option s)

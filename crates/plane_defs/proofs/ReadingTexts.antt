@@ -1,25 +1,24 @@
 -- A plane's items as they are read have the bits of the plane's items.
-use Rattle.std.proofs.Common.{◌≡◌, ℕ, ◌*◌, Bool, true, false, cond, eqb, List, [], ◌∷◌, ◌++◌, refl, ap, sym, ◌∙◌, ℤ, get_or, pos}
-use Rattle.std.specs.Prelude.{map, filter, nat_lt, ◌&&◌}
+use Rattle.std.proofs.Common.{◌≡◌, ℕ, Bool, cond, List, [], ◌∷◌, ◌++◌, refl, ap, sym, ◌∙◌, ℤ, arith}
+use Rattle.std.specs.Prelude.{map, filter, nat_lt}
 use Rattle.std.specs.List.{flat_map}
 use Rattle.std.proofs.lemmas.List.{map-append}
-use Rattle.item_defs.specs.Items.{Item, raw, text}
+use Rattle.std.proofs.lemmas.Bool.Decides.{nat_tests}
+use Rattle.item_defs.specs.Items.{Item, text}
 use Rattle.item_defs.proofs.Texts.{text-append}
 use Rattle.base_122.specs.declared.book.Book.{Book}
 use Rattle.plane_defs.specs.declared.stages.Stage.{Stage}
 use Rattle.plane_defs.specs.declared.stages.Stage.TheVariants as stages
-use Rattle.plane_defs.specs.declared.sets.Set.TheVariants.{Descendants, Family, Grandchildren, Quad}
+use Rattle.plane_defs.specs.declared.sets.Set.TheVariants.{Family, Grandchildren, Quad}
 use Rattle.plane_defs.specs.declared.entries.Entry.{Entry}
-use Rattle.plane_defs.specs.declared.entries.Entry.TheVariants.{Bit, Word}
 use Rattle.plane_defs.specs.Spans.{span}
-use Rattle.plane_defs.specs.Sets.{set_significant, children_of, quad_of, coded}
-use Rattle.plane_defs.specs.Entries.{word, types, flags, typed, parents, children, children_types, quads, quads_types, all_quads, grandchildren, refinement, dc_bits, significant_families, block_entries, stage_number, twos_bit}
-use Rattle.plane_defs.specs.Steps.{Check, free, refuses, Step, step, bit_at, flags_alone, flags_step, typed_steps, parents_steps, children_steps, children_types_steps, children_check, descendants_check, quads_steps, quads_types_steps, all_quads_steps, grandchildren_steps, three_grandchildren, refinement_steps, dc_steps, block_steps, is_new, some_one_where}
+use Rattle.plane_defs.specs.Sets.{set_significant, children_of, quad_of}
+use Rattle.plane_defs.specs.Entries.{word, types, flags, typed, parents, children, children_types, quads, quads_types, all_quads, grandchildren, refinement, dc_bits, significant_families, block_entries}
+use Rattle.plane_defs.specs.Steps.{Check, free, Step, typed_steps, parents_steps, children_steps, children_types_steps, children_check, quads_steps, quads_types_steps, all_quads_steps, grandchildren_steps, three_grandchildren, refinement_steps, dc_steps, block_steps, is_new, some_one_where}
 use Rattle.plane_defs.specs.StepLaws.{entry_of}
-use Rattle.plane_defs.specs.Spelled.{option_of, opening, entry_items, spelled_after}
-use Rattle.plane_defs.specs.Codes.{word_item}
-use Rattle.plane_defs.specs.Planes.{Plane, gaggles, gaggle_size, of_block, of_gaggle, before_stage, gaggle_items, stage_items, plane_items}
-use Rattle.plane_defs.specs.Reading.{checked, checked_word, entry_reading, step_reading, read_after, steps_of_block, steps_of_gaggle, gaggle_reading, stage_reading, plane_reading}
+use Rattle.plane_defs.specs.Spelled.{entry_items, spelled_after}
+use Rattle.plane_defs.specs.Planes.{Plane, gaggles, of_gaggle, gaggle_items, stage_items, plane_items}
+use Rattle.plane_defs.specs.Reading.{checked, entry_reading, step_reading, read_after, steps_of_gaggle, gaggle_reading, stage_reading, plane_reading}
 
 pub map_map : {X Y Z : Type 0} (f : Y → Z) (g : X → Y) (xs : List X) → map f (map g xs) ≡ map (λ x. f (g x)) xs
 map_map f g [] = refl
@@ -46,12 +45,7 @@ module _ (block : List ℤ) (weights : List ℕ) (plane : ℕ) where
       (λ i. typed block weights plane (span (children_of i) 4)) (λ i. typed_entries (children_check block weights plane i) (span (children_of i) 4)) (significant_families block plane Family)
 
   children_entries : map entry_of (children_steps block weights plane) ≡ children block weights plane
-  children_entries =
-      let first : Bool → Step = λ b. step free flags_alone (Bit b) in
-      let rest : List Step = flags_step block weights plane (descendants_check block plane) (Family 0 ∷ Family 1 ∷ Family 2 ∷ []) ∷ children_types_steps block weights plane in
-      map-append entry_of (map first (flags block weights plane (Descendants ∷ []))) rest
-      ∙ ap (λ l. l ++ map entry_of rest) (map_map entry_of first (flags block weights plane (Descendants ∷ [])))
-      ∙ ap (λ l. map Bit (flags block weights plane (Descendants ∷ [])) ++ word (flags block weights plane (Family 0 ∷ Family 1 ∷ Family 2 ∷ [])) ∷ l) children_types_entries
+  children_entries = grind (arith, nat_tests, map-append, map_map, children_types_entries)
 
   quads_types_entries : (i : ℕ) → map entry_of (quads_types_steps block weights plane i) ≡ quads_types block weights plane i
   quads_types_entries i =
@@ -72,16 +66,10 @@ module _ (block : List ℤ) (weights : List ℕ) (plane : ℕ) where
   refinement_entries = map_map entry_of _ _
 
   dc_entries : (q : ℕ) → map entry_of (dc_steps block weights plane q) ≡ dc_bits block weights plane q
-  dc_entries q = either (coded weights plane 0 && nat_lt plane q)
-    where
-      either : (b : Bool) → map entry_of (cond b (step free (bit_at 0) (Bit (twos_bit (get_or block 0 (pos 0)) plane)) ∷ []) []) ≡
-          cond b (Bit (twos_bit (get_or block 0 (pos 0)) plane) ∷ []) []
-      either true = refl
-      either false = refl
+  dc_entries q = grind (arith, nat_tests)
 
 where_sent : (b : Bool) (xs : List Step) (ys : List Entry) → map entry_of xs ≡ ys → map entry_of (cond b xs []) ≡ cond b ys []
-where_sent true xs ys e = e
-where_sent false xs ys e = refl
+where_sent b xs ys e = grind (arith, nat_tests)
 
 pub steps_entries : (stage : Stage) (block : List ℤ) (d : ℕ) (weights : List ℕ) (plane q : ℕ) →
     map entry_of (block_steps stage block d weights plane q) ≡ block_entries stage block d weights plane q
@@ -105,15 +93,7 @@ text_checked front test i = text-append front (checked test i ∷ []) ∙ sym (t
 pub entry_text : (book : Book) (options : List ℕ) (before : List Entry) (check : Check) (e : Entry) →
     text (entry_reading book options before check e) ≡ text (entry_items book options before e)
 unfolding entry_reading entry_items
-entry_text book options before check (Bit b) = refl
-entry_text book options before check (Word bits) = by_count (eqb bits.count 0) (eqb bits.count 1)
-  where
-    by_count : (none one : Bool) →
-        text (cond none [] (cond one (checked (refuses check) (raw bits.value) ∷ []) (opening options before bits.count ++ checked_word book bits.count (option_of options bits.count) bits.value check ∷ []))) ≡
-        text (cond none [] (cond one (raw bits.value ∷ []) (opening options before bits.count ++ word_item book bits.count (option_of options bits.count) bits.value ∷ [])))
-    by_count true one = refl
-    by_count false true = refl
-    by_count false false = text_checked (opening options before bits.count) _ (word_item book bits.count (option_of options bits.count) bits.value)
+entry_text book options before check e = grind (arith, nat_tests, text_checked)
 
 pub read_text : (book : Book) (options : List ℕ) (before : List Entry) (steps : List Step) →
     text (read_after book options before steps) ≡ text (spelled_after book options before (map entry_of steps))
@@ -126,13 +106,10 @@ read_text book options before (s ∷ more) =
 
 module _ (book : Book) (options : ℕ → List ℕ) (p : Plane) where
   pub gaggle_entries : (stage : Stage) (g : ℕ) → map entry_of (steps_of_gaggle p stage g) ≡ of_gaggle p stage g
-  gaggle_entries stage g =
-      map_flat entry_of (steps_of_block p stage) (of_block p stage) (λ r. steps_entries stage (get_or p.blocks r []) (get_or p.depths r 0) p.weights p.number p.q) (span (16 * g) (gaggle_size p g))
+  gaggle_entries stage g = grind (arith, nat_tests, map_flat, steps_entries)
 
   gaggle_text : (k g : ℕ) → text (gaggle_reading book options p k g) ≡ text (gaggle_items book options p k g)
-  gaggle_text k g =
-      read_text book (options g) (before_stage p k g) (steps_of_gaggle p (stage_number k) g)
-      ∙ ap (λ l. text (spelled_after book (options g) (before_stage p k g) l)) (gaggle_entries (stage_number k) g)
+  gaggle_text k g = grind (arith, nat_tests, read_text, gaggle_entries)
 
   stage_text : (k : ℕ) → text (stage_reading book options p k) ≡ text (stage_items book options p k)
   stage_text k = text_flat (gaggle_reading book options p k) (gaggle_items book options p k) (gaggle_text k) (span 0 (gaggles p))

@@ -3,6 +3,7 @@ use Rattle.std.proofs.Common.{◌≡◌, ℕ, ◌+◌, ◌*◌, ◌<◌, Bool, t
 use Rattle.std.specs.Prelude.{map, filter, nat_lt}
 use Rattle.std.specs.List.{flat_map, AllByRecursion}
 use Rattle.std.proofs.lemmas.Bool.{and_parts}
+use Rattle.std.proofs.lemmas.Bool.Decides.{nat_tests}
 use Rattle.item_defs.specs.Bits.{bit}
 use Rattle.base_122.specs.declared.book.Book.{Book}
 use Rattle.plane_defs.specs.declared.sets.Set.{Set}
@@ -12,13 +13,13 @@ use Rattle.plane_defs.specs.declared.stages.Stage.TheVariants as stages
 use Rattle.plane_defs.specs.declared.entries.Entry.{Entry}
 use Rattle.plane_defs.specs.declared.entries.Entry.TheVariants.{Bit}
 use Rattle.plane_defs.specs.Spans.{span}
-use Rattle.plane_defs.specs.Sets.{magnitude, significant, coded, members, set_significant, enclosing_significant, type_due, flag_due, newly_significant, refined, IsKnown, children_of, quad_of}
+use Rattle.plane_defs.specs.Sets.{magnitude, significant, coded, members, set_significant, enclosing_significant, type_due, newly_significant, refined, IsKnown, children_of, quad_of}
 use Rattle.plane_defs.specs.Entries.{word, types, flags, signs, typed, negative, children_types, quads_types, quads, all_quads, stage_number, block_entries, dc_bits, children, grandchildren, refinement}
 use Rattle.plane_defs.specs.Laws.{three_families}
 use Rattle.plane_defs.specs.Steps.{Step, three_grandchildren, block_steps}
 use Rattle.plane_defs.specs.StepLaws.{entries_of, SameSteps, IsAc, SeenAlike, PlaneSees}
-use Rattle.plane_defs.specs.Planes.{Plane, gaggles, gaggle_size, of_block, of_gaggle, before_stage}
-use Rattle.plane_defs.specs.Reading.{steps_of_block, steps_of_gaggle, gaggle_reading, stage_reading, plane_reading, read_after}
+use Rattle.plane_defs.specs.Planes.{Plane, gaggle_size, before_stage}
+use Rattle.plane_defs.specs.Reading.{steps_of_gaggle, gaggle_reading, plane_reading}
 use Rattle.plane_defs.proofs.Settled.{head_same, tail_same}
 use Rattle.plane_defs.proofs.Alike.{all_filter, filter_same, all_of}
 use Rattle.plane_defs.proofs.ReadingTexts.{steps_entries}
@@ -44,7 +45,7 @@ flat_equal f g [] same = refl
 flat_equal f g (x ∷ xs) same = ap (λ a. a ++ flat_map f xs) same.0 ∙ ap (λ l. g x ++ l) (flat_equal f g xs same.1)
 
 -- those that are chosen pass the test
-passed : {X : Type 0} (p : X → Bool) (xs : List X) → AllByRecursion (λ x. p x ≡ true) (filter p xs)
+pub passed : {X : Type 0} (p : X → Bool) (xs : List X) → AllByRecursion (λ x. p x ≡ true) (filter p xs)
 passed p [] = tt
 passed {X} p (x ∷ xs) = chosen (p x) refl (passed p xs)
   where
@@ -52,7 +53,7 @@ passed {X} p (x ∷ xs) = chosen (p x) refl (passed p xs)
     chosen true e rest = (e, rest)
     chosen false e rest = rest
 
-newly_here : (block : List ℤ) (weights : List ℕ) (plane p : ℕ) → newly_significant block weights plane p ≡ true → significant block plane p ≡ true
+pub newly_here : (block : List ℤ) (weights : List ℕ) (plane p : ℕ) → newly_significant block weights plane p ≡ true → significant block plane p ≡ true
 unfolding newly_significant
 newly_here block weights plane p h = (and_parts (type_due block weights plane p) (significant block plane p) h).1
 
@@ -62,10 +63,7 @@ refined_above block weights plane p h = (and_parts (significant block (plane + 1
 
 enclosing_same : (u v : List ℤ) (plane : ℕ) (s : Set) → ((t : Set) → IsKnown t → set_significant u plane t ≡ set_significant v plane t) → IsKnown s → enclosing_significant u plane s ≡ enclosing_significant v plane s
 unfolding enclosing_significant
-enclosing_same u v plane Descendants sets known = refl
-enclosing_same u v plane (Family i) sets known = sets Descendants tt
-enclosing_same u v plane (Grandchildren i) sets known = sets (Family i) known
-enclosing_same u v plane (Quad i j) sets known = sets (Grandchildren i) known.0
+enclosing_same u v plane s sets known = grind (arith, nat_tests)
 
 module _ (u v : List ℤ) (weights : List ℕ) (plane : ℕ) (seen : SeenAlike u v weights plane) where
   sets_same : (s : Set) → IsKnown s → set_significant u plane s ≡ set_significant v plane s
@@ -73,10 +71,7 @@ module _ (u v : List ℤ) (weights : List ℕ) (plane : ℕ) (seen : SeenAlike u
   sets_same s known = any_alike (significant u plane) (significant v plane) (members s) (members_acs s known) seen.here
 
   types_same : (ps : List ℕ) → AllByRecursion IsAc ps → types u weights plane ps ≡ types v weights plane ps
-  types_same ps acs =
-      map_equal (significant u plane) (significant v plane) (filter (type_due u weights plane) ps)
-      (all_filter (λ p. significant u plane p ≡ significant v plane p) (type_due u weights plane) ps (all_zip {P = IsAc} ps seen.here acs))
-      ∙ ap (map (significant v plane)) (types_filter u v weights plane seen.alike ps acs)
+  types_same ps acs = grind (arith, nat_tests, map_equal, all_filter, all_zip, types_filter)
 
   signs_same : (ps : List ℕ) → AllByRecursion IsAc ps → signs u weights plane ps ≡ signs v weights plane ps
   signs_same ps acs =
@@ -94,10 +89,7 @@ module _ (u v : List ℤ) (weights : List ℕ) (plane : ℕ) (seen : SeenAlike u
   enclosed sets known = all_zip {P = IsKnown} sets (λ s k. enclosing_same u v plane s sets_same k) known
 
   flags_same : (sets : List Set) → AllByRecursion IsKnown sets → flags u weights plane sets ≡ flags v weights plane sets
-  flags_same sets known =
-      map_equal (set_significant u plane) (set_significant v plane) (filter (flag_due u weights plane) sets)
-      (all_filter (λ s. set_significant u plane s ≡ set_significant v plane s) (flag_due u weights plane) sets (all_zip {P = IsKnown} sets sets_same known))
-      ∙ ap (map (set_significant v plane)) (due_filter u v weights plane seen.alike sets known (enclosed sets known))
+  flags_same sets known = grind (arith, nat_tests, map_equal, all_filter, all_zip, sets_same, due_filter, enclosed)
 
   chosen_same : (count : ℕ) (set_of : ℕ → Set) → ((i : ℕ) → i < count → IsKnown (set_of i)) →
       filter (λ i. set_significant u plane (set_of i)) (span 0 count) ≡ filter (λ i. set_significant v plane (set_of i)) (span 0 count)
@@ -153,11 +145,7 @@ module _ (u v : List ℤ) (weights : List ℕ) (plane : ℕ) (seen : SeenAlike u
 
   entries_seen : (stage : Stage) (d q : ℕ) → block_entries stage u d weights plane q ≡ block_entries stage v d weights plane q
   unfolding block_entries
-  entries_seen stages.DcBits d q = dc_seen q
-  entries_seen stages.Parents d q = ap (λ l. cond (nat_lt plane d) l []) (typed_same (span 1 3) (all_acs 1 3 (omega arith) (omega arith)))
-  entries_seen stages.Children d q = ap (λ l. cond (nat_lt plane d) l []) children_seen
-  entries_seen stages.Grandchildren d q = ap (λ l. cond (nat_lt plane d) l []) grandchildren_seen
-  entries_seen stages.Refinement d q = ap (λ l. cond (nat_lt plane d) l []) refinement_seen
+  entries_seen stage d q = grind (arith, nat_tests, dc_seen, typed_same, all_acs, children_seen, grandchildren_seen, refinement_seen)
 
   said_seen : (stage : Stage) (d q : ℕ) → entries_of (block_steps stage u d weights plane q) ≡ entries_of (block_steps stage v d weights plane q)
   said_seen stage d q = steps_entries stage u d weights plane q ∙ entries_seen stage d q ∙ sym (steps_entries stage v d weights plane q)
@@ -186,30 +174,16 @@ module _ (book : Book) (options : ℕ → List ℕ) (xs ys : List (List ℤ)) (d
   rows g = span (16 * g) (gaggle_size (with_blocks xs) g)
 
   sent_before : (k g : ℕ) → before_stage (with_blocks xs) k g ≡ before_stage (with_blocks ys) k g
-  sent_before k g =
-      flat_equal (λ j. of_gaggle (with_blocks xs) (stage_number j) g) (λ j. of_gaggle (with_blocks ys) (stage_number j) g) (span 0 k)
-      (all_of {P = λ j. of_gaggle (with_blocks xs) (stage_number j) g ≡ of_gaggle (with_blocks ys) (stage_number j) g} (span 0 k) (λ j.
-      flat_equal (of_block (with_blocks xs) (stage_number j)) (of_block (with_blocks ys) (stage_number j)) (rows g)
-      (all_of {P = λ r. of_block (with_blocks xs) (stage_number j) r ≡ of_block (with_blocks ys) (stage_number j) r} (rows g)
-      (λ r. entries_seen (get_or xs r []) (get_or ys r []) weights number (seen r) (stage_number j) (get_or depths r 0) q))))
+  sent_before k g = grind (arith, nat_tests, flat_equal, all_of, entries_seen)
 
   steps_now : (stage : Stage) (g : ℕ) → steps_of_gaggle (with_blocks xs) stage g ≡ steps_of_gaggle (with_blocks ys) stage g
-  steps_now stage g =
-      flat_equal (steps_of_block (with_blocks xs) stage) (steps_of_block (with_blocks ys) stage) (rows g)
-      (all_of {P = λ r. steps_of_block (with_blocks xs) stage r ≡ steps_of_block (with_blocks ys) stage r} (rows g)
-      (λ r. steps_seen (get_or xs r []) (get_or ys r []) weights number (seen r) stage (get_or depths r 0) q))
+  steps_now stage g = grind (arith, nat_tests, flat_equal, all_of, steps_seen)
 
   gaggle_sees : (k g : ℕ) → gaggle_reading book options (with_blocks xs) k g ≡ gaggle_reading book options (with_blocks ys) k g
-  gaggle_sees k g =
-      ap (λ b. read_after book (options g) b (steps_of_gaggle (with_blocks xs) (stage_number k) g)) (sent_before k g)
-      ∙ ap (read_after book (options g) (before_stage (with_blocks ys) k g)) (steps_now (stage_number k) g)
+  gaggle_sees k g = grind (arith, nat_tests, sent_before, steps_now)
 
   pub sees : (stages : ℕ) → plane_reading book options (with_blocks xs) stages ≡ plane_reading book options (with_blocks ys) stages
-  sees stages =
-      flat_equal (stage_reading book options (with_blocks xs)) (stage_reading book options (with_blocks ys)) (span 0 stages)
-      (all_of {P = λ k. stage_reading book options (with_blocks xs) k ≡ stage_reading book options (with_blocks ys) k} (span 0 stages) (λ k.
-      flat_equal (gaggle_reading book options (with_blocks xs) k) (gaggle_reading book options (with_blocks ys) k) (span 0 (gaggles (with_blocks xs)))
-      (all_of {P = λ g. gaggle_reading book options (with_blocks xs) k g ≡ gaggle_reading book options (with_blocks ys) k g} (span 0 (gaggles (with_blocks xs))) (gaggle_sees k))))
+  sees stages = grind (arith, nat_tests, flat_equal, all_of, gaggle_sees)
 
 pub plane_sees : PlaneSees
 plane_sees book options xs ys depths weights number q stages seen = sees book options xs ys depths weights number q seen stages

@@ -1,9 +1,10 @@
 -- Two blocks that are the same above a plane and send the same word have the same values for the word.
-use Rattle.std.proofs.Common.{◌≡◌, ℕ, ◌+◌, Bool, true, false, not, ◌&&◌, List, [], ◌∷◌, refl, ap, sym, ◌∙◌, ℤ}
-use Rattle.std.specs.Prelude.{map, filter, cond, ◌||◌}
+use Rattle.std.proofs.Common.{◌≡◌, ℕ, ◌+◌, Bool, true, false, not, ◌&&◌, List, [], ◌∷◌, refl, ap, sym, ◌∙◌, ℤ, arith}
+use Rattle.std.specs.Prelude.{map, filter, cond}
 use Rattle.std.specs.List.{list_any, AllByRecursion}
+use Rattle.std.proofs.lemmas.Bool.Decides.{nat_tests}
 use Rattle.plane_defs.specs.declared.sets.Set.{Set}
-use Rattle.plane_defs.specs.Sets.{significant, coded, members, set_significant, live, enclosing_significant, type_due, flag_due, IsKnown}
+use Rattle.plane_defs.specs.Sets.{significant, coded, members, set_significant, enclosing_significant, type_due, flag_due, IsKnown}
 use Rattle.plane_defs.specs.Entries.{flags, types}
 use Rattle.plane_defs.specs.Laws.{IsMultiple, SameAbove, SameSets}
 use Rattle.plane_defs.proofs.Determined.{undue, not_coded, still_significant}
@@ -29,8 +30,7 @@ settle f g d e (x ∷ xs) known h = by_due (d x) (e x) known.0.0 known.0.1 h (se
     by_due false true same alike h rest = cc
 
 any_same : (p q : ℕ → Bool) (xs : List ℕ) → ((n : ℕ) → p n ≡ q n) → list_any p xs ≡ list_any q xs
-any_same p q [] same = refl
-any_same p q (x ∷ xs) same = ap (λ b. b || list_any p xs) (same x) ∙ ap (λ b. q x || b) (any_same p q xs same)
+any_same p q xs same = grind (arith, nat_tests)
 
 set_above : (u v : List ℤ) (plane : ℕ) (s : Set) → SameAbove u v plane → set_significant u (plane + 1) s ≡ set_significant v (plane + 1) s
 unfolding set_significant
@@ -39,9 +39,7 @@ set_above u v plane s same = any_same _ _ (members s) same
 pub flag_above : (u v : List ℤ) (weights : List ℕ) (plane : ℕ) (s : Set) → SameAbove u v plane → enclosing_significant u plane s ≡ enclosing_significant v plane s →
     flag_due u weights plane s ≡ flag_due v weights plane s
 unfolding flag_due
-flag_above u v weights plane s same enclosing =
-    ap (λ b. not b && live weights plane s && enclosing_significant u plane s) (set_above u v plane s same) ∙
-    ap (λ b. not (set_significant v (plane + 1) s) && live weights plane s && b) enclosing
+flag_above u v weights plane s same enclosing = grind (arith, nat_tests, set_above)
 
 pub flags_settle : (u v : List ℤ) (weights : List ℕ) (plane : ℕ) (sets : List Set) → SameAbove u v plane → IsMultiple u weights → IsMultiple v weights →
     AllByRecursion IsKnown sets → AllByRecursion (λ s. enclosing_significant u plane s ≡ enclosing_significant v plane s) sets →
@@ -59,16 +57,13 @@ flags_settle u v weights plane sets same mu mv known enclosing h =
         )
 
 settled : (above here coded : Bool) → (above ≡ true → here ≡ true) → (coded ≡ false → here ≡ above) → (not above && coded) ≡ false → here ≡ above
-settled true here coded kept dead h = kept refl
-settled false here false kept dead h = dead refl
-settled false here true kept dead h = cc
+settled above here coded kept dead h = grind (arith, nat_tests)
 
 -- a number whose type is not due is significant exactly if it was
 pub type_undue : (block : List ℤ) (weights : List ℕ) (plane p : ℕ) → IsMultiple block weights → type_due block weights plane p ≡ false →
     significant block plane p ≡ significant block (plane + 1) p
 unfolding type_due
-type_undue block weights plane p whole h =
-    settled (significant block (plane + 1) p) (significant block plane p) (coded weights plane p) (still_significant block plane p) (not_coded block weights plane p whole) h
+type_undue block weights plane p whole h = grind (arith, nat_tests, settled, still_significant, not_coded)
 
 pub type_above : (u v : List ℤ) (weights : List ℕ) (plane p : ℕ) → SameAbove u v plane → type_due u weights plane p ≡ type_due v weights plane p
 unfolding type_due

@@ -1,5 +1,5 @@
 -- A span grows by one position at its end.
-use Rattle.std.proofs.Common.{◌≡◌, ℕ, suc, ◌+◌, Bool, true, false, List, [], ◌∷◌, ◌++◌, refl, ap, add-one, arith, cond, length, length-append, ◌≤◌, ◌<◌, zero, get_or}
+use Rattle.std.proofs.Common.{◌≡◌, ℕ, suc, ◌+◌, Bool, false, List, [], ◌∷◌, ◌++◌, refl, ap, add-one, arith, cond, length, length-append, ◌≤◌, ◌<◌, zero, get_or}
 use Rattle.std.specs.Prelude.{◌||◌, map, filter}
 use Rattle.std.specs.List.{list_any, flat_map}
 use Rattle.std.proofs.lemmas.List.Folds.{list_any-append}
@@ -10,26 +10,22 @@ use Rattle.std.proofs.Common.{◌⊎◌, inl, inr, ◌∙◌, sym, append_assoc}
 use Rattle.std.proofs.lemmas.Bool.{cases_lt}
 use Rattle.std.proofs.lemmas.List.{get_or_append_left}
 use Rattle.std.proofs.Math.Seq.{get_or-append_seam}
+use Rattle.std.proofs.Math.Bool.{or-false}
+use Rattle.std.proofs.lemmas.Bool.Decides.{nat_tests}
 use Rattle.plane_defs.specs.Spans.{span}
 
 pub span-suc : (start count : ℕ) → span start (count + 1) ≡ span start count ++ (start + count) ∷ []
 unfolding span
 span-suc start count = rw add-one
 
-or-false : (b : Bool) → (b || false) ≡ b
-or-false true = refl
-or-false false = refl
-
 pub list_any-span-suc : (p : ℕ → Bool) (start count : ℕ) → list_any p (span start (count + 1)) ≡ (list_any p (span start count) || p (start + count))
-list_any-span-suc p start count =
-    rw (span-suc, list_any-append) (ap (λ b. list_any p (span start count) || b) (or-false (p (start + count))))
+list_any-span-suc p start count = grind (arith, nat_tests, span-suc, list_any-append, or-false)
 
 pub filter-span-suc : (p : ℕ → Bool) (start count : ℕ) → filter p (span start (count + 1)) ≡ filter p (span start count) ++ cond (p (start + count)) ((start + count) ∷ []) []
 filter-span-suc p start count = rw (span-suc, filter-append)
 
 pub flat_map-span-suc : {A : Type 0} (f : ℕ → List A) (start count : ℕ) → flat_map f (span start (count + 1)) ≡ flat_map f (span start count) ++ f (start + count)
-flat_map-span-suc f start count =
-    rw (span-suc, flat_map-append) (ap (λ b. flat_map f (span start count) ++ b) (append-nil (f (start + count))))
+flat_map-span-suc f start count = grind (arith, nat_tests, span-suc, flat_map-append, append-nil)
 
 pub list_any-span-none : (p : ℕ → Bool) (start : ℕ) → list_any p (span start 0) ≡ false
 unfolding span
@@ -46,12 +42,7 @@ filter-span-none p start = refl
 -- the chosen elements with one more position
 pub map-filter-span-suc : {A : Type 0} (f : ℕ → A) (p : ℕ → Bool) (start count : ℕ) →
     map f (filter p (span start (count + 1))) ≡ map f (filter p (span start count)) ++ cond (p (start + count)) (f (start + count) ∷ []) []
-map-filter-span-suc f p start count =
-    rw (filter-span-suc, map-append) (ap (λ b. map f (filter p (span start count)) ++ b) (map_one (p (start + count)) (start + count)))
-  where
-    map_one : (b : Bool) (x : ℕ) → map f (cond b (x ∷ []) []) ≡ cond b (f x ∷ []) []
-    map_one true x = refl
-    map_one false x = refl
+map-filter-span-suc f p start count = grind (arith, nat_tests, filter-span-suc, map-append)
 
 pub map-filter-span-passed : {A : Type 0} (f : ℕ → A) (p : ℕ → Bool) (start count : ℕ) → p (start + count) ≡ false →
     map f (filter p (span start (count + 1))) ≡ map f (filter p (span start count))
@@ -62,8 +53,7 @@ unfolding span
 map-filter-span-none f p start = refl
 
 at_most_one : {A : Type 0} (b : Bool) (x : A) → length (cond b (x ∷ []) []) ≤ 1
-at_most_one true x = omega arith
-at_most_one false x = omega arith
+at_most_one b x = grind (arith, nat_tests)
 
 -- no more elements are chosen than there are
 pub length-chosen : {A : Type 0} (f : ℕ → A) (p : ℕ → Bool) (start count : ℕ) → length (map f (filter p (span start count))) ≤ count
@@ -74,8 +64,7 @@ length-chosen {A = A} f p start (suc count) =
     rw (← add-one) more
 
 one_more : {X A : Type 0} (f : X → A) (b : Bool) (x : X) (kept : List X) (n : ℕ) → length (map f kept) ≤ n → length (map f (cond b (x ∷ kept) kept)) ≤ n + 1
-one_more f true x kept n h = rw add-one (omega arith)
-one_more f false x kept n h = omega arith
+one_more f b x kept n h = grind (arith, nat_tests)
 
 pub length-map-filter : {X A : Type 0} (f : X → A) (p : X → Bool) (xs : List X) → length (map f (filter p xs)) ≤ length xs
 length-map-filter f p [] = omega arith

@@ -4,9 +4,10 @@ use Rattle.std.specs.Prelude.{◌||◌, ◌==◌}
 use Rattle.std.specs.List.{list_any, list_all, flat_map, AllByRecursion}
 use Rattle.std.proofs.lemmas.Bool.Decides.{nat_tests}
 use Rattle.std.proofs.lemmas.List.Folds.{list_any-append}
-use Rattle.std.proofs.lemmas.Bool.{or_cases}
+use Rattle.std.proofs.lemmas.Bool.{or_cases, eqb-true}
+use Rattle.std.proofs.Math.Bool.{or-false}
 use Rattle.item_defs.specs.Bits.{digit}
-use Rattle.item_defs.specs.Items.{Item, Form, raw, plain, code, false_flag, refused_where}
+use Rattle.item_defs.specs.Items.{Item, raw}
 use Rattle.item_defs.specs.Readings.{StepsAlike}
 use Rattle.item_defs.specs.Laws.{said_of}
 use Rattle.item_defs.proofs.ReadingLaws.{steps_append}
@@ -15,11 +16,11 @@ use Rattle.plane_defs.specs.declared.entries.Entry.{Entry}
 use Rattle.plane_defs.specs.declared.entries.Entry.TheVariants.{Bit, Word}
 use Rattle.plane_defs.specs.Spans.{span}
 use Rattle.plane_defs.specs.Entries.{IsEntry}
-use Rattle.plane_defs.specs.Codes.{symbol, uncoded, codes_of, word_item, option_item, identifier_number}
+use Rattle.plane_defs.specs.Codes.{symbol, word_item, option_item, identifier_number}
 use Rattle.plane_defs.specs.Spelled.{is_word_of, option_of, opening}
 use Rattle.plane_defs.specs.Steps.{Check, refuses, Step}
 use Rattle.plane_defs.specs.StepLaws.{entries_of, SameKind, SameSteps}
-use Rattle.plane_defs.specs.Reading.{word_of, word_said, checked, checked_word, entry_reading, step_reading, read_after}
+use Rattle.plane_defs.specs.Reading.{word_of, checked, checked_word, entry_reading, step_reading, read_after}
 use Rattle.plane_defs.proofs.Tables.{list_all-span-zero}
 use Rattle.plane_defs.proofs.Settled.{head_same, tail_same}
 
@@ -57,12 +58,9 @@ words_of_symbols (suc (suc (suc zero))) low high = refl
 words_of_symbols (suc (suc (suc (suc zero)))) low high = refl
 words_of_symbols (suc (suc (suc (suc (suc n))))) low high = absurd (omega arith)
 
-equal_from : (m n : ℕ) → (m == n) ≡ true → m ≡ n
-equal_from m n e = grind (arith, nat_tests)
-
 pub word_of-symbol : (n v : ℕ) → 2 ≤ n → n ≤ 4 → v < 2 ^ n → word_of n (symbol n v) ≡ v
 word_of-symbol n v low high below =
-    equal_from (word_of n (symbol n v)) v (list_all-span-zero (λ v. word_of n (symbol n v) == v) (2 ^ n) v (words_of_symbols n low high) below)
+    eqb-true (word_of n (symbol n v)) v (list_all-span-zero (λ v. word_of n (symbol n v) == v) (2 ^ n) v (words_of_symbols n low high) below)
 
 one_word : (n v w : ℕ) → 2 ≤ n → n ≤ 4 → v < 2 ^ n → w < 2 ^ n → symbol n v ≡ symbol n w → v ≡ w
 one_word n v w low high p q e = sym (word_of-symbol n v low high p) ∙ ap (word_of n) e ∙ word_of-symbol n w low high q
@@ -82,42 +80,26 @@ none_agree o u = record { at = λ n low high sent. cc }
 one_option : (n o u : ℕ) → 2 ≤ n → n ≤ 4 → o < n → u < n → identifier_number n o ≡ identifier_number n u → o ≡ u
 one_option n o u low high p q e = grind (arith, nat_tests)
 
-or_false : (b : Bool) → (b || false) ≡ b
-or_false true = refl
-or_false false = refl
-
 agree_more : (before : List Entry) (e : Entry) (o u : List ℕ) → OptionsAgree before o u → ((n : ℕ) → 2 ≤ n → n ≤ 4 → is_word_of n e ≡ true → option_of o n ≡ option_of u n) →
     OptionsAgree (before ++ e ∷ []) o u
 agree_more before e o u known new = record {
   at = λ n low high sent.
       elim (or_cases (list_any (is_word_of n) before) (is_word_of n e || false) (sym (list_any-append (is_word_of n) before (e ∷ [])) ∙ sent)) [
         | inl s ↦ known.at n low high s
-        | inr s ↦ new n low high (sym (or_false (is_word_of n e)) ∙ s)
+        | inr s ↦ new n low high (sym (or-false (is_word_of n e)) ∙ s)
       ];
 }
 
 -- ---- words
 
 word_shape : (book : Book) (n option v w : ℕ) → (word_item book n option v).form.shape ≡ (word_item book n option w).form.shape
-word_shape book n option v w =
-    elim (option == uncoded n) as (λ t. (cond t (plain n v) (code (codes_of book n option) (symbol n v))).form.shape ≡
-    (cond t (plain n w) (code (codes_of book n option) (symbol n w))).form.shape) [
-      | true ↦ refl
-      | false ↦ refl
-    ]
+word_shape book n option v w = grind (arith, nat_tests)
 
 word_number : (book : Book) (n option v w : ℕ) → 2 ≤ n → n ≤ 4 → v < 2 ^ n → w < 2 ^ n → (word_item book n option v).said ≡ (word_item book n option w).said → v ≡ w
-word_number book n option v w low high p q =
-    elim (option == uncoded n) as (λ t. (cond t (plain n v) (code (codes_of book n option) (symbol n v))).said ≡
-    (cond t (plain n w) (code (codes_of book n option) (symbol n w))).said → v ≡ w) [
-      | true ↦ λ e. e
-      | false ↦ λ e. one_word n v w low high p q e
-    ]
+word_number book n option v w low high p q h9 = grind (arith, nat_tests, one_word)
 
 word_form : (book : Book) (n o u v w : ℕ) (check : Check) → o ≡ u → (checked_word book n o v check).form ≡ (checked_word book n u w check).form
-word_form book n o u v w check same =
-    ap (λ option. (checked_word book n option v check).form) same ∙
-    ap (λ s. let f : Form = record { shape = s; refusal = refused_where (λ said. refuses check (word_said n u said)) false_flag } in f) (word_shape book n u v w)
+word_form book n o u v w check same = grind (arith, nat_tests, word_shape)
 
 module _ (book : Book) (o u : List ℕ) (p : AreOptionsOf o) (q : AreOptionsOf u) (before : List Entry) (agree : OptionsAgree before o u) where
   -- what a word's items determine
@@ -155,11 +137,11 @@ module _ (book : Book) (o u : List ℕ) (p : AreOptionsOf o) (q : AreOptionsOf u
       by_count : (none one : Bool) → eqb n 0 ≡ none → eqb n 1 ≡ one →
           WordSettles n v w (cond none [] (cond one (checked (refuses check) (raw v) ∷ []) (opening o before n ++ checked_word book n (option_of o n) v check ∷ [])))
           (cond none [] (cond one (checked (refuses check) (raw w) ∷ []) (opening u before n ++ checked_word book n (option_of u n) w check ∷ [])))
-      by_count true one e f = let z : n ≡ 0 = equal_from n 0 e in (tt, λ s. (none_but n v w z below also, λ two. absurd (omega arith)))
+      by_count true one e f = let z : n ≡ 0 = eqb-true n 0 e in (tt, λ s. (none_but n v w z below also, λ two. absurd (omega arith)))
         where
           none_but : (n v w : ℕ) → n ≡ 0 → v < 2 ^ n → w < 2 ^ n → v ≡ w
           none_but n v w z a b = let c : v < 1 = rw z at a in let d : w < 1 = rw z at b in omega arith
-      by_count false true e f = let z : n ≡ 1 = equal_from n 1 f in ((refl, λ s. tt), λ s. (head_same _ _ _ _ s, λ two. absurd (omega arith)))
+      by_count false true e f = let z : n ≡ 1 = eqb-true n 1 f in ((refl, λ s. tt), λ s. (head_same _ _ _ _ s, λ two. absurd (omega arith)))
       by_count false false e f = let two : 2 ≤ n = grind (arith, nat_tests) in long_word n v w check two high below also
 
   -- what a step's items determine
@@ -174,10 +156,7 @@ module _ (book : Book) (o u : List ℕ) (p : AreOptionsOf o) (q : AreOptionsOf u
   )
     where
       one_digit : (a b : Bool) → digit a ≡ digit b → a ≡ b
-      one_digit true true e = refl
-      one_digit false false e = refl
-      one_digit true false e = absurd (omega (arith, e))
-      one_digit false true e = absurd (omega (arith, e))
+      one_digit a b e = grind (arith, nat_tests)
 
       nothing : false ≡ true → ⊥
       nothing e = cc
@@ -190,7 +169,7 @@ module _ (book : Book) (o u : List ℕ) (p : AreOptionsOf o) (q : AreOptionsOf u
         r.0,
         λ s. (
           ap (λ v. Word (record { value = v; count = a.count })) (r.1 s).0,
-          agree_more before (Word a) o u agree (λ n low high e. let here : a.count ≡ n = equal_from a.count n e in
+          agree_more before (Word a) o u agree (λ n low high e. let here : a.count ≡ n = eqb-true a.count n e in
               subst (λ k. option_of o k ≡ option_of u k) here ((r.1 s).1 (omega arith))),
         ),
       )

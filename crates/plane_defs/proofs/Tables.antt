@@ -1,8 +1,10 @@
 -- What a test of a whole table says of one entry.
-use Rattle.std.proofs.Common.{◌≡◌, ℕ, zero, suc, ◌+◌, ◌^◌, ◌<◌, ◌≤◌, ◌⊎◌, inl, inr, Bool, true, false, List, [], ◌∷◌, refl, sym, ◌∙◌, arith, zero-add}
+use Rattle.std.proofs.Common.{◌≡◌, ℕ, zero, suc, ◌+◌, ◌^◌, ◌<◌, ◌≤◌, ◌⊎◌, inl, inr, Bool, true, List, [], ◌∷◌, sym, ◌∙◌, arith, zero-add}
 use Rattle.std.specs.Prelude.{◌==◌, ◌&&◌, nat_le, count_by}
 use Rattle.std.specs.List.{list_all}
 use Rattle.std.proofs.lemmas.List.Folds.{list_all-append}
+use Rattle.std.proofs.lemmas.Bool.{leb-true}
+use Rattle.std.proofs.lemmas.Bool.Decides.{nat_tests}
 use Rattle.item_defs.specs.Bits.{bits_of}
 use Rattle.base_122.specs.declared.book.Code.{Code}
 use Rattle.base_122.specs.declared.book.Book.{Book}
@@ -10,12 +12,10 @@ use Rattle.plane_defs.specs.Spans.{span}
 use Rattle.plane_defs.specs.Codes.{entry, table, table_place, is_table_sound, is_book_sound, code_at, code_bits, is_prefix}
 
 pub and-left : (a b : Bool) → (a && b) ≡ true → a ≡ true
-and-left true b h = refl
-and-left false b h = h
+and-left a b h = grind (arith, nat_tests)
 
 pub and-right : (a b : Bool) → (a && b) ≡ true → b ≡ true
-and-right true b h = h
-and-right false b h = cc
+and-right a b h = grind (arith, nat_tests)
 
 -- a test that a whole span passes is passed at each of its places
 pub list_all-span-at : (p : ℕ → Bool) (start count k : ℕ) → list_all p (span start count) ≡ true → k < count → p (start + k) ≡ true
@@ -33,15 +33,12 @@ list_all-span-at p start (suc count) k all below =
 pub list_all-span-zero : (p : ℕ → Bool) (count k : ℕ) → list_all p (span 0 count) ≡ true → k < count → p k ≡ true
 list_all-span-zero p count k all below = let h = list_all-span-at p 0 count k all below in rw zero-add at h
 
-le_from_test : (a b : ℕ) → nat_le a b ≡ true → a ≤ b
-le_from_test a b h = grind arith
-
 -- each code has 1 to 8 bits
 pub table_len : (t : List Code) (count s : ℕ) → is_table_sound t count ≡ true → s < count → (1 ≤ (entry t s).len) × ((entry t s).len ≤ 8)
 unfolding is_table_sound
 table_len t count s sound below =
     let here = list_all-span-zero (λ s. nat_le 1 (entry t s).len && nat_le (entry t s).len 8) count s (and-left _ _ sound) below in
-    (le_from_test 1 (entry t s).len (and-left _ _ here), le_from_test (entry t s).len 8 (and-right _ _ here))
+    (leb-true 1 (entry t s).len (and-left _ _ here), leb-true (entry t s).len 8 (and-right _ _ here))
 
 one_from_test : (n : ℕ) → (n == 1) ≡ true → n ≡ 1
 one_from_test n h = grind arith
@@ -59,5 +56,4 @@ sound_table book length option sound low high known = grind (arith, and-left, an
 
 pub code_len : (book : Book) (length option s : ℕ) → is_book_sound book ≡ true → 2 ≤ length → length ≤ 4 → option + 1 < length → s < 2 ^ length →
     (code_at book length option s).len ≤ 8
-code_len book length option s sound low high known below =
-    (table_len (table book (table_place length option)) (2 ^ length) s (sound_table book length option sound low high known) below).1
+code_len book length option s sound low high known below = grind (arith, nat_tests, table_len, sound_table)

@@ -1,8 +1,7 @@
 -- A block with another entry in one step of a plane: what it keeps.
-use Rattle.std.proofs.Common.{◌≡◌, ℕ, ◌+◌, ◌-◌, ◌*◌, ◌/◌, ◌%◌, ◌^◌, ◌<◌, ◌≤◌, inl, inr, Bool, true, false, List, refl, ap, sym, ◌∙◌, subst, arith, ℤ, pos, get_or}
+use Rattle.std.proofs.Common.{◌≡◌, ℕ, ◌+◌, ◌-◌, ◌/◌, ◌%◌, ◌^◌, ◌<◌, ◌≤◌, true, List, ap, sym, ◌∙◌, subst, arith, ℤ, pos, get_or}
 use Rattle.std.specs.Prelude.{nat_le, ◌==◌}
 use Rattle.std.specs.Int.{int_shr}
-use Rattle.std.proofs.lemmas.Bool.{cases_lt}
 use Rattle.std.proofs.lemmas.Bool.Decides.{nat_tests}
 use Rattle.std.proofs.lemmas.Nat.{pow_pos, shr-shr, div-mul-add, div-add-mod', mod_below}
 use Rattle.std.proofs.Math.Pow.{pow_mono}
@@ -16,37 +15,10 @@ use Rattle.plane_texts.proofs.LowBits.{twos}
 -- ---- above the plane
 
 reaches : (w m n : ℕ) → 1 ≤ w → m / w ≡ n / w → w ≤ m → w ≤ n
-reaches w m n some e le =
-    elim (cases_lt n w) [
-      | inr over ↦ over
-      | inl under ↦
-          let none : (0 * w + n) / w ≡ 0 = div-mul-add 0 w n under in
-          let z : 0 * w + n ≡ n = omega arith in
-          let f : m / w ≡ 0 = e ∙ sym (ap (λ x. x / w) z) ∙ none in
-          let split : m / w * w + m % w ≡ m = div-add-mod' m w in
-          absurd (less (m / w) (m % w) f split (below m))
-    ]
-  where
-    below : (m : ℕ) → m % w < w
-    below m = mod_below m w some
-
-    less : (q r : ℕ) → q ≡ 0 → q * w + r ≡ m → r < w → ⊥
-    less q r z e lt = let f : q * w ≡ 0 = ap (λ x. x * w) z ∙ omega arith in omega (arith, e, f, lt, le)
+reaches w m n some e le = grind (arith, nat_tests, div-mul-add, div-add-mod', mod_below)
 
 same_test : (w m n : ℕ) → 1 ≤ w → m / w ≡ n / w → nat_le w m ≡ nat_le w n
-same_test w m n some e = by_test (nat_le w m) (nat_le w n) refl refl
-  where
-    by_test : (s t : Bool) → nat_le w m ≡ s → nat_le w n ≡ t → nat_le w m ≡ nat_le w n
-    by_test true true a b = a ∙ sym b
-    by_test false false a b = a ∙ sym b
-    by_test true false a b = let le : w ≤ m = grind (arith, nat_tests) in let r = reaches w m n some e le in absurd (refused w n b r)
-      where
-        refused : (w n : ℕ) → nat_le w n ≡ false → w ≤ n → ⊥
-        refused w n b le = grind (arith, nat_tests)
-    by_test false true a b = let le : w ≤ n = grind (arith, nat_tests) in let r = reaches w n m some (sym e) le in absurd (refused w m a r)
-      where
-        refused : (w n : ℕ) → nat_le w n ≡ false → w ≤ n → ⊥
-        refused w n b le = grind (arith, nat_tests)
+same_test w m n some e = grind (arith, nat_tests, reaches)
 
 higher : (m n a c : ℕ) → a ≤ c → m / 2 ^ a ≡ n / 2 ^ a → m / 2 ^ c ≡ n / 2 ^ c
 higher m n a c le e =
@@ -60,10 +32,7 @@ module _ (u v : List ℤ) (b : ℕ) (same : AboveSame u v b) where
 
   lower : (c p : ℕ) → b < c → significant u c p ≡ true → significant u (b + 1) p ≡ true
   unfolding significant
-  lower c p lt e = let m : 2 ^ (b + 1) ≤ 2 ^ c = pow_mono (omega (arith, lt)) in still (2 ^ (b + 1)) (2 ^ c) (magnitude u p) m e
-    where
-      still : (x y m : ℕ) → x ≤ y → nat_le y m ≡ true → nat_le x m ≡ true
-      still x y m le e = grind (arith, nat_tests)
+  lower c p lt e = grind (arith, nat_tests, pow_mono)
 
   pub seen_above : (weights : List ℕ) (c : ℕ) → b < c → IsMultiple u weights → IsMultiple v weights → int_shr (get_or u 0 (pos 0)) c ≡ int_shr (get_or v 0 (pos 0)) c → SeenAlike u v weights c
   seen_above weights c lt first second dc = record {

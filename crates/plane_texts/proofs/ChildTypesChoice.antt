@@ -2,9 +2,11 @@
 use Rattle.std.proofs.Common.{◌≡◌, ◌⊎◌, ℕ, zero, suc, ◌+◌, ◌-◌, ◌<◌, ◌≤◌, inl, inr, Bool, true, false, not, ◌&&◌, cond, List, [], ◌∷◌, length, refl, ap, sym, ◌∙◌, subst, arith, ℤ, length-append}
 use Rattle.std.specs.Prelude.{nat_lt, ◌||◌, ◌==◌, map}
 use Rattle.std.specs.List.{list_any}
-use Rattle.std.proofs.lemmas.Bool.{cases_lt}
+use Rattle.std.proofs.lemmas.Bool.{cases_lt, eqb-true, eqb-false, ne_eqb, or_left, or_right}
 use Rattle.std.proofs.lemmas.List.{length-map}
 use Rattle.std.proofs.lemmas.List.Folds.{list_any-append}
+use Rattle.std.proofs.lemmas.Bool.Decides.{nat_tests}
+use Rattle.plane_defs.proofs.Chosen.{equal_self}
 use Rattle.plane_defs.specs.declared.entries.Entry.{Entry}
 use Rattle.plane_defs.specs.declared.entries.Entry.TheVariants.{Bit, Word}
 use Rattle.plane_defs.specs.declared.sets.Set.TheVariants.{Descendants, Family, Grandchildren}
@@ -26,7 +28,7 @@ use Rattle.plane_texts.proofs.GroupChoice.{GroupChosen, group_choice, Outside}
 use Rattle.plane_texts.proofs.ParentsChoice.{StageChosen, MayComplete', from_completions}
 use Rattle.plane_texts.proofs.ChildrenChoice as kids
 use Rattle.plane_texts.proofs.ChildrenChoice.{any_member, in_span, family_sends, family_steps, types_sent, types_said, family_entries, children_sent, descendants_choice, families_choice}
-use Rattle.plane_texts.proofs.SmallFacts.{or_right, or_left, equal_from, not_equal, true_false, unequal, strictly, itself}
+use Rattle.plane_texts.proofs.SmallFacts.{true_false, strictly}
 
 -- a raw bit of a list
 raw_at : (j : ℕ) (ys : List Bool) → j < length ys → (y : Bool) × (step_at (map (λ y. step free flags_alone (Bit y)) ys) j ≡ step free flags_alone (Bit y))
@@ -57,7 +59,7 @@ module _ (w : List ℤ) (weights : List ℕ) (b : ℕ) (new minus : ℕ → Bool
   }
     where
       split : (P : ℕ → Type 0) (p : ℕ) → P g → (new p ≡ true → P p) → (t : Bool) → (p == g) ≡ t → (t || new p) ≡ true → P p
-      split P p here there true h e = subst P (sym (equal_from p g h)) here
+      split P p here there true h e = subst P (sym (eqb-true p g h)) here
       split P p here there false h e = there e
 
   extend : live weights b (Grandchildren i) ≡ true → (set_significant w (b + 1) (Grandchildren i) ≡ true → ⊥) → Extended
@@ -67,19 +69,18 @@ module _ (w : List ℤ) (weights : List ℕ) (b : ℕ) (new minus : ℕ → Bool
       let g : ℕ = r.0 in
       let m = may_with g r.1 r.2 in
       let range = in_span (grandchildren_of i) 16 g r.3 in
-      let has : list_any (with_one g) (span (grandchildren_of i) 16) ≡ true = any_member (with_one g) g (span (grandchildren_of i) 16) r.3 (or_left (g == g) (new g) (itself g)) in
+      let has : list_any (with_one g) (span (grandchildren_of i) 16) ≡ true = any_member (with_one g) g (span (grandchildren_of i) 16) r.3 (or_left (g == g) (new g) (equal_self g)) in
       record {
         more = with_one g;
         may_more = m;
-        same = λ p out. sym (ap (λ t. t || new p) (not_equal p g (λ e. apart p e range.0 range.1 out)));
+        same = λ p out. sym (ap (λ t. t || new p) (ne_eqb p g (λ e. apart p e range.0 range.1 out)));
         family =
             two.set_is w weights b (with_one g) minus m (Family i) known
             ∙ or_right (set_significant w (b + 1) (Family i)) _ (list_any-append (with_one g) (span (children_of i) 4) (span (grandchildren_of i) 16) ∙ or_right (list_any (with_one g) (span (children_of i) 4)) _ has);
       }
     where
       apart : {g : ℕ} (p : ℕ) → p ≡ g → grandchildren_of i ≤ g → g < grandchildren_of i + 16 → Outside (grandchildren_of i) 16 p → ⊥
-      apart p e low high (inl under) = omega (arith, e, low, under)
-      apart p e low high (inr over) = omega (arith, e, high, over)
+      apart p e low high h4 = grind (arith, nat_tests)
 
 module _ (w : List ℤ) (weights : List ℕ) (b d q : ℕ) (chosen minus : ℕ → Bool) (may : MayComplete w weights b chosen) (deep : nat_lt b d ≡ true) where
   abbrev old : List ℤ
@@ -105,8 +106,7 @@ module _ (w : List ℤ) (weights : List ℕ) (b d q : ℕ) (chosen minus : ℕ �
       as_is is_true = record { more = r.new; may_more = r.may_new; same = λ p out. refl; family = is_true }
 
       any_same : ((p : ℕ) → chosen p ≡ r.new p) → (xs : List ℕ) → list_any chosen xs ≡ list_any r.new xs
-      any_same same [] = refl
-      any_same same (x ∷ xs) = ap (λ t. t || list_any chosen xs) (same x) ∙ ap (λ t. r.new x || t) (any_same same xs)
+      any_same same xs = grind (arith, nat_tests)
 
       child_in : list_any (significant made b) (span (children_of i) 4) ≡ true → set_significant made b (Family i) ≡ true
       child_in has =
@@ -177,9 +177,9 @@ module _ (w : List ℤ) (weights : List ℕ) (b d q : ℕ) (chosen minus : ℕ �
         families_kept h lt = by_place (h == i) refl
           where
             by_place : (t : Bool) → (h == i) ≡ t → set_significant old b (Family h) ≡ set_significant last b (Family h)
-            by_place true s = let same : i ≡ h = sym (equal_from h i s) in subst (λ n. set_significant old b (Family n) ≡ set_significant last b (Family n)) same (reached ∙ sym k.family)
+            by_place true s = let same : i ≡ h = sym (eqb-true h i s) in subst (λ n. set_significant old b (Family n) ≡ set_significant last b (Family n)) same (reached ∙ sym k.family)
             by_place false s =
-                let apart = unequal h i s in
+                let apart = eqb-false h i s in
                 two.set_same w weights b chosen minus k.more r.minus' may k.may_more (Family h) lt
                 (list_any-append chosen (span (children_of h) 4) (span (grandchildren_of h) 16)
                 ∙ ap (λ t. t || list_any chosen (span (grandchildren_of h) 16)) (two.range_same w weights b chosen minus k.more r.minus' may k.may_more (children_of h) 4 (λ p low high. (other_children h lt apart p low high).0))

@@ -4,6 +4,7 @@ use Rattle.std.specs.Prelude.{nat_lt, ◌||◌, ◌==◌, map}
 use Rattle.std.specs.List.{flat_map, list_any}
 use Rattle.std.proofs.lemmas.Bool.Decides.{nat_tests}
 use Rattle.std.proofs.lemmas.List.{length-map}
+use Rattle.std.proofs.lemmas.Bool.{le-ltb, lt-ltb, eqb-true, eqb-false, or_right}
 use Rattle.item_defs.specs.Bits.{bits_of, digit}
 use Rattle.plane_defs.specs.declared.entries.Entry.{Entry}
 use Rattle.plane_defs.specs.declared.entries.Entry.TheVariants.{Bit, Word}
@@ -27,7 +28,6 @@ use Rattle.plane_texts.proofs.WordParts.{word_is}
 use Rattle.plane_texts.proofs.Completions as two
 use Rattle.plane_texts.proofs.FlagChoice as flagged
 use Rattle.plane_texts.proofs.ParentsChoice.{StageChosen, dc_kept}
-use Rattle.plane_texts.proofs.SmallFacts.{or_right, equal_from, unequal}
 
 -- ---- members
 
@@ -35,14 +35,14 @@ use Rattle.plane_texts.proofs.SmallFacts.{or_right, equal_from, unequal}
 pub in_span : (start count p : ℕ) → list_any (λ q. q == p) (span start count) ≡ true → (start ≤ p) × (p < start + count)
 in_span start count p e =
     let r = flagged.any_found (λ q. q == p) (λ q. (start ≤ q) × (q < start + count)) (span start count) (all_span (λ q. (start ≤ q) × (q < start + count)) start count (λ q low high. (low, high))) e in
-    subst (λ q. (start ≤ q) × (q < start + count)) (equal_from r.0 p r.2) r.1
+    subst (λ q. (start ≤ q) × (q < start + count)) (eqb-true r.0 p r.2) r.1
 
 pub any_member : (f : ℕ → Bool) (g : ℕ) (xs : List ℕ) → list_any (λ q. q == g) xs ≡ true → f g ≡ true → list_any f xs ≡ true
 any_member f g [] e h = e
 any_member f g (x ∷ xs) e h = by_first (x == g) refl e (λ later. any_member f g xs later h)
   where
     by_first : (t : Bool) → (x == g) ≡ t → (t || list_any (λ q. q == g) xs) ≡ true → (list_any (λ q. q == g) xs ≡ true → list_any f xs ≡ true) → (f x || list_any f xs) ≡ true
-    by_first true s e more = ap (λ t. t || list_any f xs) (ap f (equal_from x g s) ∙ h)
+    by_first true s e more = ap (λ t. t || list_any f xs) (ap f (eqb-true x g s) ∙ h)
     by_first false s e more = or_right (f x) (list_any f xs) (more e)
 
 -- ---- the stage's parts
@@ -142,32 +142,21 @@ module _ (w : List ℤ) (weights : List ℕ) (b d q : ℕ) (chosen minus : ℕ �
 
   owner_of : (p : ℕ) → 4 ≤ p → descendants_owner p ≡ 0
   unfolding descendants_owner
-  owner_of p le = ap (λ t. cond t 1 0) (not_below p 4 le)
-    where
-      not_below : (a c : ℕ) → c ≤ a → nat_lt a c ≡ false
-      not_below a c le = grind (arith, nat_tests)
+  owner_of p le = ap (λ t. cond t 1 0) (le-ltb p 4 le)
 
   no_owner : (p : ℕ) → p < 4 → descendants_owner p ≡ 1
   unfolding descendants_owner
-  no_owner p lt = ap (λ t. cond t 1 0) (is_below p 4 lt)
-    where
-      is_below : (a c : ℕ) → a < c → nat_lt a c ≡ true
-      is_below a c lt = grind (arith, nat_tests)
+  no_owner p lt = ap (λ t. cond t 1 0) (lt-ltb p 4 lt)
 
   one_set : AreApart (λ i. Descendants) descendants_owner 1
   one_set = record { known = λ j lt. tt; owned = λ j p lt e. owner_of p (in_span 4 60 p e).0 ∙ (let z : 0 ≡ j = omega (arith, lt) in z) }
 
   due_list : (t : Bool) → flag_due old weights b Descendants ≡ t → flags old weights b (Descendants ∷ []) ≡ cond t (set_significant old b Descendants ∷ []) []
-  due_list t e = ap (λ s. map (set_significant old b) (cond s (Descendants ∷ []) [])) e ∙ by_test t
-    where
-      by_test : (t : Bool) → map (set_significant old b) (cond t (Descendants ∷ []) []) ≡ cond t (set_significant old b Descendants ∷ []) []
-      by_test true = refl
-      by_test false = refl
+  due_list t e = grind (arith, nat_tests)
 
   bits_one : (y : Bool) → bits_of 1 (digit y) ≡ y ∷ []
   unfolding bits_of
-  bits_one true = refl
-  bits_one false = refl
+  bits_one y = grind (arith, nat_tests)
 
   pub descendants_choice : (j : ℕ) (y : Bool) → j < length (flags old weights b (Descendants ∷ [])) → StageChosen w weights b d q 2 chosen minus j (Bit y)
   unfolding span enclosing_significant
@@ -230,5 +219,5 @@ module _ (w : List ℤ) (weights : List ℕ) (b d q : ℕ) (chosen minus : ℕ �
       by_above true e r old_d = two.set_stays w weights b r.new minus r.may_new Descendants tt e
       by_above false e r old_d =
           let is_some : descendants_check old b ≡ some_one = ap some_one_where (two.is_new_here w weights b chosen minus may Descendants tt e old_d) in
-          let f = flagged.some_has w weights b chosen minus may Family family_of 3 words_chosen.families x n r small (unequal x 0 (subst (λ k. refuses k x ≡ false) is_some passes)) in
+          let f = flagged.some_has w weights b chosen minus may Family family_of 3 words_chosen.families x n r small (eqb-false x 0 (subst (λ k. refuses k x ≡ false) is_some passes)) in
           two.encloses w weights b r.new minus r.may_new (Family f.0) f.1.0 f.2

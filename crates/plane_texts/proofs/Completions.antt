@@ -1,7 +1,8 @@
 -- Two completions of the same numbers: what a plane has the same in both.
-use Rattle.std.proofs.Common.{◌≡◌, ℕ, ◌+◌, ◌-◌, ◌^◌, ◌<◌, ◌≤◌, Bool, true, false, not, ◌&&◌, cond, List, refl, ap, sym, ◌∙◌, ℤ, pos, negsuc, get_or}
+use Rattle.std.proofs.Common.{◌≡◌, ℕ, ◌+◌, ◌-◌, ◌^◌, ◌<◌, ◌≤◌, Bool, true, false, not, ◌&&◌, cond, List, ap, sym, ◌∙◌, ℤ, pos, negsuc, get_or, arith}
 use Rattle.std.specs.Prelude.{nat_le, ◌||◌, unsigned_abs}
 use Rattle.std.specs.List.{list_any}
+use Rattle.std.proofs.lemmas.Bool.Decides.{nat_tests}
 use Rattle.plane_defs.specs.declared.sets.Set.{Set}
 use Rattle.plane_defs.specs.Spans.{span}
 use Rattle.plane_defs.specs.Sets.{significant, coded, members, set_significant, enclosing_significant, type_due, IsKnown}
@@ -30,11 +31,7 @@ module _ (w : List ℤ) (weights : List ℕ) (b : ℕ) (chosen minus : ℕ → B
   number_at p lt = get_or-map-span (completed_number w b chosen minus) 64 p (pos 0) lt
 
   pub sign_at : (p : ℕ) → p < 64 → chosen p ≡ true → negative (get_or done p (pos 0)) ≡ minus p
-  sign_at p lt e = ap negative (number_at p lt ∙ ap (λ t. cond t (cond (minus p) (negsuc (2 ^ b - 1)) (pos (2 ^ b))) (get_or w p (pos 0))) e) ∙ by_sign (minus p)
-    where
-      by_sign : (t : Bool) → negative (cond t (negsuc (2 ^ b - 1)) (pos (2 ^ b))) ≡ t
-      by_sign true = refl
-      by_sign false = refl
+  sign_at p lt e = grind (arith, nat_tests, number_at)
 
   -- the types that are due are those of the numbers below
   pub due_is : (p : ℕ) → IsAc p → type_due done weights b p ≡ type_due w weights b p

@@ -3,6 +3,9 @@ use Rattle.std.proofs.Common.{◌≡◌, ℕ, zero, suc, ◌+◌, ◌*◌, ◌/�
 use Rattle.std.specs.Prelude.{◌==◌, nat_lt, unsigned_abs}
 use Rattle.std.specs.Int.{int_shr}
 use Rattle.std.proofs.lemmas.List.{get_or-set_same, get_or-set_other}
+use Rattle.std.proofs.lemmas.Bool.{leb-true, ltb-true, eqb-true, eqb-false, and_parts}
+use Rattle.std.proofs.lemmas.Bool.Decides.{nat_tests}
+use Rattle.item_defs.proofs.NumberBits.{digit_small}
 use Rattle.item_defs.specs.Bits.{digit}
 use Rattle.plane_defs.specs.declared.entries.Entry.{Entry}
 use Rattle.plane_defs.specs.declared.entries.Entry.TheVariants.{Bit, Word}
@@ -13,29 +16,20 @@ use Rattle.plane_defs.specs.Steps.{Step, step, free, bit_at, block_steps}
 use Rattle.plane_texts.proofs.LowBits.{twos}
 use Rattle.plane_texts.proofs.DcShifts.{with_bit, bit_chosen, bit_above, bit_times, IsTimes}
 use Rattle.plane_texts.specs.Candidates.{EntriesChoose, step_at, Replaces, BlockChosen, MayChoose}
-use Rattle.plane_texts.proofs.SmallFacts.{le_from, lt_from, equal_from, unequal, both}
-
-pub digit_small : (x : Bool) → digit x < 2
-digit_small true = omega arith
-digit_small false = omega arith
 
 pub digit_back : (x : Bool) → (digit x == 1) ≡ x
-digit_back true = refl
-digit_back false = refl
+digit_back x = grind (arith, nat_tests)
 
 pub shift_low : (weights : List ℕ) (b p : ℕ) → coded weights b p ≡ true → shift weights p ≤ b
 unfolding coded
-shift_low weights b p e = le_from (shift weights p) b e
+shift_low weights b p e = leb-true (shift weights p) b e
 
 -- a multiple stays a multiple if another number of the block is changed
 pub set_multiple : (u : List ℤ) (weights : List ℕ) (p : ℕ) (z : ℤ) → IsMultiple u weights → p < length u → IsTimes (shift weights p) z → IsMultiple (set u p z) weights
 set_multiple u weights p z m lt times = record { part = λ n. cond (n == p) times.0 (m.part n); whole = λ n. by_place n (n == p) refl }
   where
     by_place : (n : ℕ) (t : Bool) → (n == p) ≡ t → magnitude (set u p z) n ≡ 2 ^ shift weights n * cond (n == p) times.0 (m.part n)
-    by_place n true e =
-        let same = equal_from n p e in
-        ap (λ k. magnitude (set u p z) k) same ∙ ap unsigned_abs (get_or-set_same u p z (pos 0) lt) ∙ times.1 ∙ ap (λ k. 2 ^ shift weights k * times.0) (sym same) ∙ ap (λ t. 2 ^ shift weights n * cond t times.0 (m.part n)) (sym e)
-    by_place n false e = ap unsigned_abs (get_or-set_other u p n z (pos 0) (unequal n p e)) ∙ m.whole n ∙ ap (λ t. 2 ^ shift weights n * cond t times.0 (m.part n)) (sym e)
+    by_place n t e = grind (arith, nat_tests, eqb-true, set, get_or-set_same, get_or-set_other, eqb-false)
 
 abbrev Sent : Bool → ℤ → ℕ → List Step
 Sent t z b = cond t (step free (bit_at 0) (Bit (twos_bit z b)) ∷ []) []
@@ -51,9 +45,9 @@ dc_bit_choice u d weights b q j e long m below lt replaces = by_sent (coded weig
     chosen (suc j) e sent lt r = absurd (omega (arith, lt))
     chosen zero (Word bits) sent lt r = absurd r.kind
     chosen zero (Bit x) sent lt r =
-        let parts = both _ _ sent in
+        let parts = and_parts _ _ sent in
         let low : shift weights 0 ≤ b = shift_low weights b 0 parts.0 in
-        let deep : b < q = lt_from b q parts.1 in
+        let deep : b < q = ltb-true b q parts.1 in
         let old : ℤ = get_or u 0 (pos 0) in
         let z : ℤ = with_bit old b (digit x) in
         let small : digit x < 2 = digit_small x in

@@ -1,8 +1,9 @@
 -- A number over a power of two, rounded down, and its bit there may be chosen freely.
-use Rattle.std.proofs.Common.{◌≡◌, ℕ, suc, ◌+◌, ◌-◌, ◌*◌, ◌/◌, ◌^◌, ◌<◌, ◌≤◌, refl, ap, sym, ◌∙◌, subst, arith, ℤ, pos, negsuc}
+use Rattle.std.proofs.Common.{◌≡◌, ℕ, suc, ◌+◌, ◌-◌, ◌*◌, ◌^◌, ◌<◌, ◌≤◌, refl, ap, sym, ◌∙◌, subst, arith, ℤ, pos, negsuc}
 use Rattle.std.specs.Prelude.{unsigned_abs}
 use Rattle.std.specs.Int.{int_shr}
 use Rattle.std.proofs.lemmas.Nat.{pow_pos, pow-add, shl-shr, shr_high, shr-shr}
+use Rattle.std.proofs.lemmas.Bool.Decides.{nat_tests}
 use Rattle.number_defs.specs.Ranges.{complement}
 
 -- z times 2 ^ q
@@ -25,12 +26,10 @@ IsTimes s z = (t : ℕ) × (unsigned_abs z ≡ 2 ^ s * t)
 
 pub lifted_back : (z : ℤ) (q : ℕ) → int_shr (lifted z q) q ≡ z
 unfolding lifted
-lifted_back (pos a) q = ap pos (shl-shr a q)
-lifted_back (negsuc a) q = ap negsuc (shr_high a q (2 ^ q - 1) (omega (arith, pow_pos q)))
+lifted_back z q = grind (arith, nat_tests, shl-shr, shr_high, pow_pos)
 
 pub shr_twice : (z : ℤ) (j k : ℕ) → int_shr (int_shr z j) k ≡ int_shr z (j + k)
-shr_twice (pos a) j k = ap pos (shr-shr a j k)
-shr_twice (negsuc a) j k = ap negsuc (shr-shr a j k)
+shr_twice z j k = grind (arith, nat_tests, shr-shr)
 
 lifted_size : (z : ℤ) (q : ℕ) → unsigned_abs (lifted z q) ≡ unsigned_abs z * 2 ^ q
 unfolding lifted
@@ -51,13 +50,11 @@ lifted_times z s q le = (
 
 doubled_back : (z : ℤ) (d : ℕ) → d < 2 → int_shr (doubled z d) 1 ≡ z
 unfolding doubled
-doubled_back (pos a) d lt = ap pos (let e : (2 * a + d) / 2 ^ 1 ≡ a = omega (arith, lt) in e)
-doubled_back (negsuc a) d lt = ap negsuc (let e : (2 * a + (1 - d)) / 2 ^ 1 ≡ a = omega (arith, lt) in e)
+doubled_back z d lt = grind (arith, nat_tests)
 
 doubled_bit : (z : ℤ) (d : ℕ) → d < 2 → complement 1 (doubled z d) ≡ d
 unfolding doubled
-doubled_bit (pos a) d lt = omega (arith, lt)
-doubled_bit (negsuc a) d lt = omega (arith, lt)
+doubled_bit z d lt = grind (arith, nat_tests)
 
 pub bit_chosen : (z : ℤ) (b d : ℕ) → d < 2 → complement 1 (int_shr (with_bit z b d) b) ≡ d
 unfolding with_bit

@@ -3,7 +3,10 @@ use Rattle.std.proofs.Common.{◌≡◌, ℕ, ◌+◌, ◌^◌, ◌<◌, ◌≤�
 use Rattle.std.specs.Prelude.{nat_lt, ◌||◌, map, filter}
 use Rattle.std.specs.List.{list_any, AllByRecursion}
 use Rattle.std.proofs.lemmas.List.{length-map}
-use Rattle.std.proofs.lemmas.Bool.{and_parts}
+use Rattle.std.proofs.lemmas.Bool.{and_parts, ltb-true}
+use Rattle.std.proofs.lemmas.Bool.Decides.{nat_tests}
+use Rattle.plane_defs.proofs.Seen.{passed}
+use Rattle.plane_defs.proofs.Allowed.{not_false}
 use Rattle.item_defs.specs.Bits.{bits_of}
 use Rattle.item_defs.proofs.NumberBits.{length-bits_of}
 use Rattle.plane_defs.specs.declared.sets.Set.{Set}
@@ -20,7 +23,7 @@ use Rattle.plane_defs.proofs.ReadingTexts.{map_map}
 use Rattle.plane_defs.proofs.Freedom.{flags_free}
 use Rattle.plane_texts.proofs.WordParts.{spread, spread_is, some_bit, any_of_map, wants_had}
 use Rattle.plane_texts.proofs.Completions as two
-use Rattle.plane_texts.proofs.SmallFacts.{passed, lt_to, lt_from}
+use Rattle.plane_texts.proofs.SmallFacts.{lt_to}
 use Rattle.plane_defs.proofs.AlikeSteps.{map_equal}
 
 filter_map : {X A : Type 0} (f : X → A) (t : A → Bool) (xs : List X) → filter t (map f xs) ≡ map f (filter (λ x. t (f x)) xs)
@@ -38,10 +41,6 @@ any_found {X} f P (x ∷ xs) all e = by_first (f x) refl e (any_found f P xs all
     by_first : (t : Bool) → f x ≡ t → (t || list_any f xs) ≡ true → (list_any f xs ≡ true → (x : X) × P x × (f x ≡ true)) → (x : X) × P x × (f x ≡ true)
     by_first true h e more = (x, all.0, h)
     by_first false h e more = more e
-
-not_false : (t : Bool) → not t ≡ true → t ≡ false
-not_false true e = cc
-not_false false e = refl
 
 module _ (w : List ℤ) (weights : List ℕ) (b : ℕ) (chosen minus : ℕ → Bool) (may : MayComplete w weights b chosen) (sets : ℕ → Set) (owner : ℕ → ℕ) (count : ℕ) (apart : AreApart sets owner count) where
   abbrev old : List ℤ
@@ -99,26 +98,21 @@ module _ (w : List ℤ) (weights : List ℕ) (b : ℕ) (chosen minus : ℕ → B
 
     free_false : (i : ℕ) → (i < count → due i ≡ false) → free i ≡ false
     unfolding free
-    free_false i none = by_place (nat_lt i count) refl
-      where
-        by_place : (t : Bool) → nat_lt i count ≡ t → (nat_lt i count && due i) ≡ false
-        by_place true e = ap (λ t. t && due i) e ∙ none (lt_from i count e)
-        by_place false e = ap (λ t. t && due i) e
+    free_false i none = grind (arith, nat_tests, ltb-true)
 
     are_free : AreFree sets count w weights b free
     unfolding free
     are_free = record {
-      below = λ i e. lt_from i count (and_parts (nat_lt i count) (due i) e).0;
-      is_live = λ i e. (due_parts i (lt_from i count (and_parts (nat_lt i count) (due i) e).0) (and_parts (nat_lt i count) (due i) e).1).1;
-      none_above = λ i e. (due_parts i (lt_from i count (and_parts (nat_lt i count) (due i) e).0) (and_parts (nat_lt i count) (due i) e).1).0;
+      below = λ i e. ltb-true i count (and_parts (nat_lt i count) (due i) e).0;
+      is_live = λ i e. (due_parts i (ltb-true i count (and_parts (nat_lt i count) (due i) e).0) (and_parts (nat_lt i count) (due i) e).1).1;
+      none_above = λ i e. (due_parts i (ltb-true i count (and_parts (nat_lt i count) (due i) e).0) (and_parts (nat_lt i count) (due i) e).1).0;
     }
 
     anew : ChosenAs sets owner count w weights b chosen minus free wanted
     anew = flags_free sets owner count w weights b chosen minus free wanted apart may are_free
 
     bit_count : length (bits_of n x) ≡ length (filter due (span 0 count))
-    bit_count =
-        length-bits_of n x ∙ sym long ∙ length-map (filter (flag_due old weights b) listed) (set_significant old b) ∙ ap length (due_filter old (λ i lt. refl)) ∙ length-map (filter due (span 0 count)) sets
+    bit_count = grind (arith, nat_tests, length-bits_of, length-map, due_filter)
 
     pub flags_choice : FlagsChosen x n
     unfolding free wanted

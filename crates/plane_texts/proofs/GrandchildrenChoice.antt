@@ -1,8 +1,8 @@
 -- The flags of the sets of sixteen grandchildren may be chosen; and what stays if only one of them changes.
 use Rattle.std.proofs.Common.{◌≡◌, ℕ, suc, ◌+◌, ◌-◌, ◌^◌, ◌<◌, ◌≤◌, inl, inr, Bool, true, false, not, ◌&&◌, cond, List, [], ◌∷◌, length, refl, ap, sym, ◌∙◌, subst, arith, ℤ}
-use Rattle.std.specs.Prelude.{nat_lt, ◌||◌, ◌==◌, map, filter}
+use Rattle.std.specs.Prelude.{nat_lt, ◌||◌, map, filter}
 use Rattle.std.specs.List.{flat_map, list_any}
-use Rattle.std.proofs.lemmas.Bool.{cases_lt}
+use Rattle.std.proofs.lemmas.Bool.{cases_lt, eqb-true, eqb-false, or_left}
 use Rattle.std.proofs.lemmas.Bool.Decides.{nat_tests}
 use Rattle.std.proofs.lemmas.List.{length-map}
 use Rattle.std.proofs.lemmas.List.Folds.{list_any-append}
@@ -30,7 +30,7 @@ use Rattle.plane_texts.proofs.GroupChoice.{Outside}
 use Rattle.plane_texts.proofs.FlagChoice as flagged
 use Rattle.plane_texts.proofs.ParentsChoice.{StageChosen}
 use Rattle.plane_texts.proofs.ChildrenChoice as kids
-use Rattle.plane_texts.proofs.SmallFacts.{or_left, equal_from, unequal, strictly}
+use Rattle.plane_texts.proofs.SmallFacts.{strictly}
 
 -- ---- the stage's parts
 
@@ -188,11 +188,7 @@ module _ (w : List ℤ) (weights : List ℕ) (b d q : ℕ) (chosen minus : ℕ �
       old_family h is_due = flagged.due_encloses w weights b chosen minus may Grandchildren sixteen_of 3 words_chosen.sixteens h is_due
 
       families : (h : ℕ) → h < 3 → set_significant old b (Family h) ≡ set_significant set b (Family h)
-      families h lt = by_due (flag_due old weights b (Grandchildren h)) refl
-        where
-          by_due : (t : Bool) → flag_due old weights b (Grandchildren h) ≡ t → set_significant old b (Family h) ≡ set_significant set b (Family h)
-          by_due false e = unmoved h lt e
-          by_due true e = old_family h e ∙ sym (family_stays h lt e (old_family h e) (set_significant w (b + 1) (Family h)) refl)
+      families h lt = grind (arith, nat_tests, unmoved, old_family, family_stays)
 
       descendants : set_significant old b Descendants ≡ set_significant set b Descendants
       unfolding enclosing_significant
@@ -258,18 +254,10 @@ module _ (w : List ℤ) (weights : List ℕ) (b d q : ℕ) (chosen minus : ℕ �
     family_now = two.encloses w weights b new minus' may' (Grandchildren i) known still
 
     pub sixteens_kept : (h : ℕ) → h < 3 → set_significant old b (Grandchildren h) ≡ set_significant now b (Grandchildren h)
-    sixteens_kept h lt = by_place (h == i) refl
-      where
-        by_place : (t : Bool) → (h == i) ≡ t → set_significant old b (Grandchildren h) ≡ set_significant now b (Grandchildren h)
-        by_place true s = let same : i ≡ h = sym (equal_from h i s) in subst (λ n. set_significant old b (Grandchildren n) ≡ set_significant now b (Grandchildren n)) same (reached ∙ sym still)
-        by_place false s = other_sixteens h lt (unequal h i s)
+    sixteens_kept h lt = grind (arith, nat_tests, eqb-true, other_sixteens, eqb-false)
 
     pub families_kept : (h : ℕ) → h < 3 → set_significant old b (Family h) ≡ set_significant now b (Family h)
-    families_kept h lt = by_place (h == i) refl
-      where
-        by_place : (t : Bool) → (h == i) ≡ t → set_significant old b (Family h) ≡ set_significant now b (Family h)
-        by_place true s = let same : i ≡ h = sym (equal_from h i s) in subst (λ n. set_significant old b (Family n) ≡ set_significant now b (Family n)) same (family_old ∙ sym family_now)
-        by_place false s = other_families h lt (unequal h i s)
+    families_kept h lt = grind (arith, nat_tests, eqb-true, family_old, family_now, other_families, eqb-false)
 
     pub descendants_kept : set_significant old b Descendants ≡ set_significant now b Descendants
     unfolding enclosing_significant

@@ -3,6 +3,10 @@ use Rattle.std.proofs.Common.{◌≡◌, ◌⊎◌, ℕ, zero, suc, ◌+◌, ◌
 use Rattle.std.specs.Prelude.{nat_le, nat_lt, ◌==◌, ◌||◌, map, filter}
 use Rattle.std.specs.List.{flat_map, list_any}
 use Rattle.std.proofs.lemmas.List.{length-map}
+use Rattle.std.proofs.lemmas.Bool.{leb-true, ltb-true, le-leb, eqb-false, ne_eqb, and_parts}
+use Rattle.std.proofs.lemmas.Bool.Decides.{nat_tests}
+use Rattle.plane_defs.proofs.Seen.{passed, newly_here}
+use Rattle.plane_defs.proofs.Chosen.{equal_self}
 use Rattle.item_defs.specs.Bits.{bits_of}
 use Rattle.item_defs.proofs.NumberBits.{length-bits_of}
 use Rattle.plane_defs.specs.declared.entries.Entry.{Entry}
@@ -22,10 +26,10 @@ use Rattle.plane_defs.proofs.Completing.{due_above}
 use Rattle.plane_defs.proofs.ReadingTexts.{map_map}
 use Rattle.plane_texts.specs.Candidates.{EntriesChoose, step_at, Replaces}
 use Rattle.plane_texts.proofs.EntryChoices.{entries_as, entries_right, StepLocated, locate_step}
-use Rattle.plane_texts.proofs.StageParts.{SeenAt, map_filter_flat, newly_here}
+use Rattle.plane_texts.proofs.StageParts.{SeenAt, map_filter_flat}
 use Rattle.plane_texts.proofs.WordParts.{spread, spread_is, word_is, some_bit, any_of_map, any_of_filter}
 use Rattle.plane_texts.proofs.Completions as two
-use Rattle.plane_texts.proofs.SmallFacts.{passed, le_to, lt_to, le_from, lt_from, both, itself, unequal, not_equal}
+use Rattle.plane_texts.proofs.SmallFacts.{lt_to}
 use Rattle.plane_defs.proofs.AlikeSteps.{map_equal}
 
 -- the positions of a range
@@ -34,21 +38,17 @@ inside start count p = nat_le start p && nat_lt p (start + count)
 
 inside_true : (start count p : ℕ) → start ≤ p → p < start + count → inside start count p ≡ true
 unfolding inside
-inside_true start count p low high = ap (λ t. t && nat_lt p (start + count)) (le_to start p low) ∙ lt_to p (start + count) high
+inside_true start count p low high = ap (λ t. t && nat_lt p (start + count)) (le-leb start p low) ∙ lt_to p (start + count) high
 
 inside_from : (start count p : ℕ) → inside start count p ≡ true → (start ≤ p) × (p < start + count)
 unfolding inside
-inside_from start count p e = let r = both (nat_le start p) (nat_lt p (start + count)) e in (le_from start p r.0, lt_from p (start + count) r.1)
+inside_from start count p e = let r = and_parts (nat_le start p) (nat_lt p (start + count)) e in (leb-true start p r.0, ltb-true p (start + count) r.1)
 
 abbrev pub Outside : (start count p : ℕ) → Type 0
 Outside start count p = (p < start) ⊎ (start + count ≤ p)
 
 outside_false : (start count p : ℕ) → Outside start count p → inside start count p ≡ false
-outside_false start count p out = by_test (inside start count p) refl
-  where
-    by_test : (t : Bool) → inside start count p ≡ t → inside start count p ≡ false
-    by_test false e = e
-    by_test true e = let r = inside_from start count p e in absurd (elim out [ inl low ↦ omega (arith, low, r.0) | inr high ↦ omega (arith, high, r.1) ])
+outside_false start count p out = grind (arith, nat_tests, inside, inside_from)
 
 module _ (w : List ℤ) (weights : List ℕ) (b : ℕ) (chosen minus : ℕ → Bool) (may : MayComplete w weights b chosen) (start count : ℕ) (first : 1 ≤ start) (last : start + count ≤ 64) where
   abbrev old : List ℤ
@@ -91,8 +91,7 @@ module _ (w : List ℤ) (weights : List ℕ) (b : ℕ) (chosen minus : ℕ → B
 
     due_count : length bits ≡ length (filter (type_due w weights b) ps)
     unfolding bits
-    due_count =
-        length-bits_of n x ∙ sym long ∙ length-map (filter (type_due old weights b) ps) (significant old b) ∙ ap length (due_filter chosen minus may)
+    due_count = grind (arith, nat_tests, length-bits_of, length-map, due_filter)
 
     types_are : types (completed w b anew minus) weights b ps ≡ bits
     unfolding wanted
@@ -114,7 +113,7 @@ module _ (w : List ℤ) (weights : List ℕ) (b : ℕ) (chosen minus : ℕ → B
       outside = λ p out. (sym (typed_as.elsewhere p (outside_false start count p out)), refl);
       here = record { within = omega arith; before = refl; next = ap word types_are ∙ word_is n x small };
       stays = inr (λ is_some.
-          let some : x ≡ 0 → ⊥ = unequal x 0 (subst (λ k. refuses k x ≡ false) is_some passes) in
+          let some : x ≡ 0 → ⊥ = eqb-false x 0 (subst (λ k. refuses k x ≡ false) is_some passes) in
           any_of_filter (significant (completed w b anew minus) b) (type_due (completed w b anew minus) weights b) ps
           (sym (any_of_map (significant (completed w b anew minus) b) (filter (type_due (completed w b anew minus) weights b) ps)) ∙ ap (list_any (λ t. t)) types_are ∙ some_bit n x small some));
     }
@@ -130,11 +129,11 @@ module _ (w : List ℤ) (weights : List ℕ) (b : ℕ) (chosen minus : ℕ → B
 
     signed_here : signed p ≡ y
     unfolding signed
-    signed_here = ap (λ t. cond t y (minus p)) (itself p)
+    signed_here = ap (λ t. cond t y (minus p)) (equal_self p)
 
     signed_other : (i : ℕ) → (i ≡ p → ⊥) → minus i ≡ signed i
     unfolding signed
-    signed_other i apart = sym (ap (λ t. cond t y (minus i)) (not_equal i p apart))
+    signed_other i apart = sym (ap (λ t. cond t y (minus i)) (ne_eqb i p apart))
 
     abbrev turned : List ℤ
     turned = completed w b chosen signed
@@ -184,7 +183,7 @@ module _ (w : List ℤ) (weights : List ℕ) (b : ℕ) (chosen minus : ℕ → B
   is_chosen : (p : ℕ) → IsAc p → newly_significant old weights b p ≡ true → chosen p ≡ true
   unfolding newly_significant
   is_chosen p ac e =
-      let parts = both (type_due old weights b p) (significant old b p) e in
+      let parts = and_parts (type_due old weights b p) (significant old b p) e in
       let due : type_due w weights b p ≡ true = sym (two.due_is w weights b chosen minus may p ac) ∙ parts.0 in
       sym (ap (λ t. t || chosen p) (due_above w weights b p due)) ∙ sym (two.here_is w weights b chosen minus may p ac) ∙ parts.1
 
@@ -211,8 +210,7 @@ module _ (w : List ℤ) (weights : List ℕ) (b : ℕ) (chosen minus : ℕ → B
       }
     where
       apart : (i : ℕ) → Outside start count i → i ≡ l.at → ⊥
-      apart i (inl low) e = omega (arith, low, e, l.low)
-      apart i (inr high) e = omega (arith, high, e, l.high)
+      apart i h1 e = grind (arith, nat_tests)
 
   abbrev SignIf : Bool → ℕ → List Step
   SignIf t i = cond t (step free (sign_at i) (Bit (negative (get_or old i (pos 0)))) ∷ []) []

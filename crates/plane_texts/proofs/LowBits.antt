@@ -1,8 +1,9 @@
 -- The low bits of a DC number.
-use Rattle.std.proofs.Common.{◌≡◌, ℕ, zero, suc, ◌+◌, ◌-◌, ◌*◌, ◌/◌, ◌%◌, ◌^◌, ◌<◌, ◌≤◌, max, false, refl, ap, ◌∙◌, arith, ℤ, pos, negsuc}
+use Rattle.std.proofs.Common.{◌≡◌, ℕ, zero, suc, ◌+◌, ◌-◌, ◌*◌, ◌/◌, ◌%◌, ◌^◌, ◌<◌, ◌≤◌, max, false, ap, ◌∙◌, arith, ℤ, pos, negsuc}
 use Rattle.std.specs.Prelude.{◌==◌, unsigned_abs}
 use Rattle.std.specs.Int.{int_shr}
 use Rattle.std.proofs.lemmas.Nat.{pow_pos, pow-add, div-mul-add}
+use Rattle.std.proofs.lemmas.Bool.Decides.{nat_tests}
 use Rattle.number_defs.specs.Ranges.{complement}
 use Rattle.plane_defs.specs.Entries.{twos_bit}
 
@@ -24,9 +25,7 @@ odd_part w (suc y) n low e =
     once y = omega arith
 
 pub halves : (b s : ℕ) → b < s → 2 ^ s ≡ 2 ^ b * (2 * 2 ^ (s - b - 1))
-halves b s lt =
-    let a : s ≡ b + (1 + (s - b - 1)) = omega arith in
-    ap (λ n. 2 ^ n) a ∙ pow-add 2 b (1 + (s - b - 1)) ∙ ap (λ n. 2 ^ b * n) (pow-add 2 1 (s - b - 1))
+halves b s lt = grind (arith, nat_tests, pow-add)
 
 -- a multiple of two to a shift has no bits below it
 pub none_below : (z : ℤ) (b s t : ℕ) → unsigned_abs z ≡ 2 ^ s * t → b < s → (complement 1 (int_shr z b) == 1) ≡ false
@@ -45,13 +44,7 @@ none_below (negsuc n) b s t e lt =
     ap (λ x. 2 - 1 - x == 1) low
 
 pub twos : (z : ℤ) (b : ℕ) → twos_bit z b ≡ (complement 1 (int_shr z b) == 1)
-twos (pos n) b = refl
-twos (negsuc n) b = by_rest (n / 2 ^ b % 2) (omega arith)
-  where
-    by_rest : (d : ℕ) → d < 2 → (d == 0) ≡ (2 - 1 - d == 1)
-    by_rest zero lt = refl
-    by_rest (suc zero) lt = refl
-    by_rest (suc (suc d)) lt = absurd (omega arith)
+twos z b = grind (arith, nat_tests)
 
 -- the bits from the greater of two places on
 pub left_over : (q b a s : ℕ) → b < q → a ≤ b → s ≤ b → q - (b + 1) < q - max a s

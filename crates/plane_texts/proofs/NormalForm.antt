@@ -1,12 +1,14 @@
 -- A block as it is in a plane: the numbers that were significant above it, and those that become significant in it.
-use Rattle.std.proofs.Common.{◌≡◌, ℕ, suc, ◌+◌, ◌-◌, ◌*◌, ◌/◌, ◌^◌, ◌<◌, ◌≤◌, inl, inr, Bool, true, false, not, ◌&&◌, cond, eqb, List, length, refl, ap, sym, ◌∙◌, subst, arith, ℤ, pos, negsuc, get_or}
+use Rattle.std.proofs.Common.{◌≡◌, ℕ, suc, ◌+◌, ◌-◌, ◌*◌, ◌/◌, ◌^◌, ◌<◌, ◌≤◌, inl, inr, Bool, true, false, not, ◌&&◌, cond, eqb, List, length, refl, ap, sym, ◌∙◌, arith, ℤ, pos, negsuc, get_or}
 use Rattle.std.specs.Prelude.{nat_le, nat_lt, ◌||◌, unsigned_abs, map}
 use Rattle.std.specs.Int.{int_shr}
-use Rattle.std.proofs.lemmas.Bool.{cases_lt}
+use Rattle.std.proofs.lemmas.Bool.{cases_lt, leb-true, ltb-true, le-leb, and_parts}
 use Rattle.std.proofs.lemmas.Bool.Decides.{nat_tests}
 use Rattle.std.proofs.lemmas.List.{get_or_past}
 use Rattle.std.proofs.lemmas.Nat.{pow_pos, div-mul-add}
 use Rattle.std.proofs.Math.Nat.{pow-succ'}
+use Rattle.std.proofs.Math.Bool.{or-true}
+use Rattle.plane_defs.proofs.Allowed.{not_false}
 use Rattle.item_defs.specs.Bits.{bit}
 use Rattle.plane_defs.specs.declared.entries.Entry.{Entry}
 use Rattle.plane_defs.specs.declared.stages.Stage.{Stage}
@@ -24,26 +26,16 @@ use Rattle.plane_defs.proofs.ReadingTexts.{steps_entries}
 use Rattle.plane_defs.proofs.Seen.{steps_seen}
 use Rattle.plane_texts.specs.Candidates.{EntriesChoose, AboveSame, BlockChosen}
 use Rattle.plane_texts.proofs.EntryChoices.{entries_as}
-use Rattle.plane_texts.proofs.SmallFacts.{le_from, lt_from, le_to, lt_to, true_false, both}
+use Rattle.plane_texts.proofs.SmallFacts.{lt_to, true_false}
 use Rattle.plane_texts.proofs.Completions.{significant_same}
-
-not_true : (a : Bool) → not a ≡ true → a ≡ false
-not_true true e = true_false (sym e)
-not_true false e = refl
 
 insignificant_zero : (block : List ℤ) (plane p : ℕ) → get_or block p (pos 0) ≡ pos 0 → significant block plane p ≡ false
 unfolding significant
-insignificant_zero block plane p e = ap (λ z. nat_le (2 ^ plane) (unsigned_abs z)) e ∙ none (2 ^ plane) (pow_pos plane)
-  where
-    none : (w : ℕ) → 1 ≤ w → nat_le w 0 ≡ false
-    none w some = grind (arith, nat_tests)
+insignificant_zero block plane p e = grind (arith, nat_tests, pow_pos)
 
 small_from : (block : List ℤ) (plane p : ℕ) → significant block plane p ≡ false → magnitude block p < 2 ^ plane
 unfolding significant
-small_from block plane p e = below (2 ^ plane) (magnitude block p) e
-  where
-    below : (a b : ℕ) → nat_le a b ≡ false → b < a
-    below a b e = grind (arith, nat_tests)
+small_from block plane p e = grind (arith, nat_tests)
 
 no_quotient : (n w : ℕ) → n < w → n / w ≡ 0
 no_quotient n w lt = let z : 0 * w + n ≡ n = omega arith in sym (ap (λ x. x / w) z) ∙ div-mul-add 0 w n lt
@@ -52,8 +44,7 @@ not_zero : (p : ℕ) → 1 ≤ p → eqb p 0 ≡ false
 not_zero p some = grind (arith, nat_tests)
 
 scaled : (z : ℤ) (t : Bool) (w k : ℕ) → unsigned_abs z ≡ w * k → unsigned_abs (cond t z (pos 0)) ≡ w * cond t k 0
-scaled z true w k e = e
-scaled z false w k e = omega arith
+scaled z t w k e = grind (arith, nat_tests)
 
 module _ (u : List ℤ) (weights : List ℕ) (b : ℕ) (long : length u ≡ 64) (m : IsMultiple u weights) where
   -- the numbers above the plane, and the DC
@@ -87,16 +78,11 @@ module _ (u : List ℤ) (weights : List ℕ) (b : ℕ) (long : length u ≡ 64) 
       ]
     where
       none : {z : ℤ} (t : Bool) → z ≡ pos 0 → cond t z (pos 0) ≡ pos 0
-      none true e = e
-      none false e = refl
+      none t e = grind (arith, nat_tests)
 
   kept_above : (p : ℕ) → significant u (b + 1) p ≡ true → get_or upper p (pos 0) ≡ get_or u p (pos 0)
   unfolding kept
-  kept_above p e = upper_at p ∙ ap (λ t. cond t (get_or u p (pos 0)) (pos 0)) (ap (λ t. eqb p 0 || t) e ∙ any_true (eqb p 0))
-    where
-      any_true : (a : Bool) → (a || true) ≡ true
-      any_true true = refl
-      any_true false = refl
+  kept_above p e = upper_at p ∙ ap (λ t. cond t (get_or u p (pos 0)) (pos 0)) (ap (λ t. eqb p 0 || t) e ∙ or-true (eqb p 0))
 
   kept_dc : get_or upper 0 (pos 0) ≡ get_or u 0 (pos 0)
   unfolding kept
@@ -107,18 +93,10 @@ module _ (u : List ℤ) (weights : List ℕ) (b : ℕ) (long : length u ≡ 64) 
   dropped p some e = upper_at p ∙ ap (λ t. cond (t || significant u (b + 1) p) (get_or u p (pos 0)) (pos 0)) (not_zero p some) ∙ ap (λ t. cond t (get_or u p (pos 0)) (pos 0)) e
 
   upper_above : (p : ℕ) → 1 ≤ p → significant upper (b + 1) p ≡ significant u (b + 1) p
-  upper_above p some = by_test (significant u (b + 1) p) refl
-    where
-      by_test : (t : Bool) → significant u (b + 1) p ≡ t → significant upper (b + 1) p ≡ significant u (b + 1) p
-      by_test true e = significant_same upper u (b + 1) p (kept_above p e)
-      by_test false e = insignificant_zero upper (b + 1) p (dropped p some e) ∙ sym e
+  upper_above p some = grind (arith, nat_tests, upper, significant_same, kept_above, insignificant_zero, dropped)
 
   upper_here : (p : ℕ) → 1 ≤ p → significant upper b p ≡ significant upper (b + 1) p
-  upper_here p some = by_test (significant u (b + 1) p) refl
-    where
-      by_test : (t : Bool) → significant u (b + 1) p ≡ t → significant upper b p ≡ significant upper (b + 1) p
-      by_test true e = significant_same upper u b p (kept_above p e) ∙ still_significant u b p e ∙ sym (significant_same upper u (b + 1) p (kept_above p e) ∙ e)
-      by_test false e = insignificant_zero upper b p (dropped p some e) ∙ sym (insignificant_zero upper (b + 1) p (dropped p some e))
+  upper_here p some = grind (arith, nat_tests, upper, significant_same, kept_above, still_significant, insignificant_zero, dropped)
 
   upper_multiple : IsMultiple upper weights
   unfolding kept
@@ -130,14 +108,14 @@ module _ (u : List ℤ) (weights : List ℕ) (b : ℕ) (long : length u ≡ 64) 
   new_from : (p : ℕ) → new_here p ≡ true → IsAc p × (significant u b p ≡ true) × (significant u (b + 1) p ≡ false)
   unfolding new_here
   new_from p e =
-      let parts = both _ _ e in
-      let range = both (nat_le 1 p) (nat_lt p 64) parts.0 in
-      let here = both (significant u b p) _ parts.1 in
-      ((le_from 1 p range.0, lt_from p 64 range.1), here.0, not_true (significant u (b + 1) p) here.1)
+      let parts = and_parts _ _ e in
+      let range = and_parts (nat_le 1 p) (nat_lt p 64) parts.0 in
+      let here = and_parts (significant u b p) _ parts.1 in
+      ((leb-true 1 p range.0, ltb-true p 64 range.1), here.0, not_false (significant u (b + 1) p) here.1)
 
   new_is : (p : ℕ) → IsAc p → new_here p ≡ (significant u b p && not (significant u (b + 1) p))
   unfolding new_here
-  new_is p ac = ap (λ t. (t && nat_lt p 64) && (significant u b p && not (significant u (b + 1) p))) (le_to 1 p ac.0) ∙ ap (λ t. t && (significant u b p && not (significant u (b + 1) p))) (lt_to p 64 ac.1)
+  new_is p ac = ap (λ t. (t && nat_lt p 64) && (significant u b p && not (significant u (b + 1) p))) (le-leb 1 p ac.0) ∙ ap (λ t. t && (significant u b p && not (significant u (b + 1) p))) (lt_to p 64 ac.1)
 
   pub may_new : MayComplete upper weights b new_here
   unfolding type_due
@@ -152,8 +130,7 @@ module _ (u : List ℤ) (weights : List ℕ) (b : ℕ) (long : length u ≡ 64) 
   }
     where
       is_coded : (p : ℕ) → significant u b p ≡ true → significant u (b + 1) p ≡ false → (t : Bool) → coded weights b p ≡ t → coded weights b p ≡ true
-      is_coded p here above true e = e
-      is_coded p here above false e = true_false (sym here ∙ not_coded u weights b p m e ∙ above)
+      is_coded p here above t e = grind (arith, nat_tests, true_false, not_coded)
 
   -- ---- the same block in the plane
 
@@ -175,31 +152,16 @@ module _ (u : List ℤ) (weights : List ℕ) (b : ℕ) (long : length u ≡ 64) 
     is_chosen p lt e = v_at p lt ∙ ap (λ t. cond t (cond (minus p) (negsuc (2 ^ b - 1)) (pos (2 ^ b))) (get_or upper p (pos 0))) e
 
     pub sign_chosen : (p : ℕ) → p < 64 → chosen p ≡ true → negative (get_or v p (pos 0)) ≡ minus p
-    sign_chosen p lt e = ap negative (is_chosen p lt e) ∙ by_sign (minus p)
-      where
-        by_sign : (t : Bool) → negative (cond t (negsuc (2 ^ b - 1)) (pos (2 ^ b))) ≡ t
-        by_sign true = refl
-        by_sign false = refl
+    sign_chosen p lt e = grind (arith, nat_tests, is_chosen)
 
     chosen_size : (p : ℕ) → p < 64 → chosen p ≡ true → magnitude v p ≡ 2 ^ b
-    chosen_size p lt e = ap unsigned_abs (is_chosen p lt e) ∙ by_sign (minus p)
-      where
-        by_sign : (t : Bool) → unsigned_abs (cond t (negsuc (2 ^ b - 1)) (pos (2 ^ b))) ≡ 2 ^ b
-        by_sign true = grown (2 ^ b) (pow_pos b)
-          where
-            grown : (w : ℕ) → 1 ≤ w → suc (w - 1) ≡ w
-            grown w some = omega (arith, some)
-        by_sign false = refl
+    chosen_size p lt e = grind (arith, nat_tests, is_chosen, pow_pos)
 
     chosen_none_above : (p : ℕ) → chosen p ≡ true → significant u (b + 1) p ≡ false
     chosen_none_above p e = sym (upper_above p (may.chosen_acs p e).0) ∙ due_above upper weights b p (may.chosen_due p e)
 
     reached_not_chosen : (p : ℕ) → significant u (b + 1) p ≡ true → chosen p ≡ false
-    reached_not_chosen p e = by_test (chosen p) refl
-      where
-        by_test : (t : Bool) → chosen p ≡ t → chosen p ≡ false
-        by_test false f = f
-        by_test true f = true_false (sym e ∙ chosen_none_above p f)
+    reached_not_chosen p e = grind (arith, nat_tests, true_false, chosen_none_above)
 
     reached_same : (p : ℕ) → IsAc p → significant u (b + 1) p ≡ true → get_or v p (pos 0) ≡ get_or u p (pos 0)
     reached_same p ac e = not_chosen p ac.1 (reached_not_chosen p e) ∙ kept_above p e
@@ -221,15 +183,10 @@ module _ (u : List ℤ) (weights : List ℕ) (b : ℕ) (long : length u ≡ 64) 
     above_same = record { mags = λ p ac. by_test p ac (significant u (b + 1) p) refl; signs = λ p ac e. ap negative (sym (reached_same p ac e)) }
       where
         by_test : (p : ℕ) → IsAc p → (t : Bool) → significant u (b + 1) p ≡ t → magnitude u p / 2 ^ (b + 1) ≡ magnitude v p / 2 ^ (b + 1)
-        by_test p ac true e = ap (λ z. unsigned_abs z / 2 ^ (b + 1)) (sym (reached_same p ac e))
-        by_test p ac false e = no_quotient (magnitude u p) (2 ^ (b + 1)) (small_from u (b + 1) p e) ∙ sym (no_quotient (magnitude v p) (2 ^ (b + 1)) (small_here p ac e))
+        by_test p ac t e = grind (arith, nat_tests, reached_same, no_quotient, small_from, small_here)
 
     upper_small : (d p : ℕ) → 1 ≤ p → magnitude u p < 2 ^ d → magnitude upper p < 2 ^ d
-    upper_small d p some lt = by_test (significant u (b + 1) p) refl
-      where
-        by_test : (t : Bool) → significant u (b + 1) p ≡ t → magnitude upper p < 2 ^ d
-        by_test true e = subst (λ z. unsigned_abs z < 2 ^ d) (sym (kept_above p e)) lt
-        by_test false e = subst (λ z. unsigned_abs z < 2 ^ d) (sym (dropped p some e)) (pow_pos d)
+    upper_small d p some lt = grind (arith, nat_tests, upper, kept_above, dropped, pow_pos)
 
     v_small : (d : ℕ) → b < d → ((p : ℕ) → 1 ≤ p → magnitude u p < 2 ^ d) → (p : ℕ) → 1 ≤ p → magnitude v p < 2 ^ d
     v_small d deep below p some =
@@ -253,19 +210,13 @@ module _ (u : List ℤ) (weights : List ℕ) (b : ℕ) (long : length u ≡ 64) 
       }
     where
       whole : (p : ℕ) (x y : Bool) → significant u (b + 1) p ≡ x → significant u b p ≡ y → (x || (y && not x)) ≡ y
-      whole p true true e f = refl
-      whole p true false e f = true_false (sym (still_significant u b p e) ∙ f)
-      whole p false true e f = refl
-      whole p false false e f = refl
+      whole p x y e f = grind (arith, nat_tests, true_false, still_significant)
 
       missed : (x y : Bool) → (x && not y) ≡ false → x ≡ true → y ≡ true
-      missed true true e f = refl
-      missed true false e f = true_false e
-      missed false y e f = true_false (sym f)
+      missed x y e f = grind (arith, nat_tests, true_false)
 
       by_new : (p : ℕ) → IsAc p → significant u b p ≡ true → (t : Bool) → new_here p ≡ t → negative (get_or u p (pos 0)) ≡ negative (get_or shown p (pos 0))
-      by_new p ac e true f = sym (sign_chosen new_here minus_here may_new p ac.1 f)
-      by_new p ac e false f = ap negative (sym (reached_same new_here minus_here may_new p ac (missed (significant u b p) (significant u (b + 1) p) (sym (new_is p ac) ∙ f) e)))
+      by_new p ac e t f = grind (arith, nat_tests, sign_chosen, new_here, minus_here, may_new, reached_same, missed, new_is)
 
   pub steps_shown : (stage : Stage) (d q : ℕ) → block_steps stage u d weights b q ≡ block_steps stage shown d weights b q
   steps_shown stage d q = steps_seen u shown weights b seen_shown stage d q

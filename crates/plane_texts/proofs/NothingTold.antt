@@ -1,20 +1,17 @@
 -- Steps that take no item report nothing.
-use Rattle.std.proofs.Common.{◌≡◌, ℕ, ◌-◌, ◌≤◌, Bool, true, false, cond, eqb, List, [], ◌∷◌, ◌++◌, length, map, refl, ap, sym, ◌∙◌, subst, arith, ℤ, length-append}
+use Rattle.std.proofs.Common.{◌≡◌, ℕ, ◌-◌, ◌≤◌, Bool, true, false, cond, List, [], ◌∷◌, ◌++◌, length, map, refl, ap, sym, ◌∙◌, subst, arith, ℤ, length-append}
 use Rattle.std.specs.Prelude.{nat_le, ◌||◌, ◌==◌}
 use Rattle.std.specs.List.{flat_map, list_any}
 use Rattle.std.proofs.lemmas.List.{length-map}
 use Rattle.std.proofs.lemmas.Bool.Decides.{nat_tests}
 use Rattle.std.proofs.lemmas.List.Folds.{list_any-append}
-use Rattle.item_defs.specs.Bits.{value_of}
-use Rattle.item_defs.specs.Items.{raw}
 use Rattle.base_122.specs.declared.book.Book.{Book}
 use Rattle.plane_defs.specs.declared.entries.Entry.{Entry}
 use Rattle.plane_defs.specs.declared.entries.Entry.TheVariants.{Bit}
 use Rattle.plane_defs.specs.Sets.{significant}
 use Rattle.plane_defs.specs.Entries.{word}
-use Rattle.plane_defs.specs.Spelled.{option_of, opening}
-use Rattle.plane_defs.specs.Steps.{Check, refuses, Told, flags_alone, types_at, sign_at, bit_at, Step}
-use Rattle.plane_defs.specs.Reading.{checked, checked_word, entry_reading, step_reading}
+use Rattle.plane_defs.specs.Steps.{Check, Told, flags_alone, types_at, sign_at, bit_at, Step}
+use Rattle.plane_defs.specs.Reading.{entry_reading, step_reading}
 use Rattle.plane_texts.specs.Given.{whole_steps, tells_bit, tells_sign, has_bit_in, has_sign_in}
 use Rattle.plane_texts.proofs.Says.{Tells, AllSay}
 
@@ -33,15 +30,7 @@ empty_entry book o before check e le b same = let long : length (entry_reading b
 
 empty_word : (book : Book) (o : List ℕ) (before : List Entry) (check : Check) (bits : List Bool) → length (entry_reading book o before check (word bits)) ≤ 0 → length bits ≡ 0
 unfolding entry_reading
-empty_word book o before check bits le = by_count (eqb (length bits) 0) (eqb (length bits) 1) refl le
-  where
-    none : (n : ℕ) → eqb n 0 ≡ true → n ≡ 0
-    none n e = grind (arith, nat_tests)
-
-    by_count : (a b : Bool) → eqb (length bits) 0 ≡ a → length (cond a [] (cond b (checked (refuses check) (raw (value_of bits)) ∷ []) (opening o before (length bits) ++ checked_word book (length bits) (option_of o (length bits)) (value_of bits) check ∷ []))) ≤ 0 → length bits ≡ 0
-    by_count true b e le = none (length bits) e
-    by_count false true e le = absurd (omega (arith, le))
-    by_count false false e le = absurd (omega (arith, le, length-append (opening o before (length bits)) (checked_word book (length bits) (option_of o (length bits)) (value_of bits) check ∷ [])))
+empty_word book o before check bits le = grind (arith, nat_tests, length-append)
 
 pub nothing_told : (u : List ℤ) (plane : ℕ) (book : Book) (o : List ℕ) (before : List Entry) (ss : List Step) → AllSay u plane ss → TellsNone (whole_steps book o before 0 ss)
 nothing_told u plane book o before [] a = λ p. (refl, refl)

@@ -1,6 +1,8 @@
 -- The types or a sign of the parents may be chosen.
-use Rattle.std.proofs.Common.{◌≡◌, ℕ, zero, suc, ◌<◌, Bool, true, false, ◌&&◌, cond, List, [], ◌∷◌, length, refl, ap, sym, ◌∙◌, subst, arith, ℤ}
+use Rattle.std.proofs.Common.{◌≡◌, ℕ, ◌<◌, Bool, true, false, ◌&&◌, cond, List, [], ◌∷◌, length, refl, ap, sym, ◌∙◌, subst, arith, ℤ}
 use Rattle.std.specs.Prelude.{nat_lt}
+use Rattle.std.proofs.lemmas.Bool.{ltb-true}
+use Rattle.std.proofs.lemmas.Bool.Decides.{nat_tests}
 use Rattle.plane_defs.specs.declared.entries.Entry.{Entry}
 use Rattle.plane_defs.specs.declared.entries.Entry.TheVariants.{Bit}
 use Rattle.plane_defs.specs.declared.stages.Stage.TheVariants as stages
@@ -12,7 +14,6 @@ use Rattle.plane_defs.specs.Completed.{completed, MayComplete}
 use Rattle.plane_defs.proofs.Completing.{completes}
 use Rattle.plane_texts.specs.Candidates.{EntriesChoose, step_at, Replaces, BlockChosen, MayChoose}
 use Rattle.plane_texts.proofs.EntryChoices.{entries_as}
-use Rattle.plane_texts.proofs.SmallFacts.{lt_from}
 use Rattle.plane_texts.proofs.NormalForm.{upper, new_here, minus_here, may_new, steps_shown, from_completion}
 use Rattle.plane_texts.proofs.GroupChoice.{group_choice}
 
@@ -43,7 +44,7 @@ from_completions k none may u d weights b q j e long m below lt replaces = by_de
         let same = steps_shown u weights b long m (stage_number k) d q in
         let r = may (upper u weights b long m) weights b d q (new_here u weights b long m) (minus_here u weights b long m) j e (may_new u weights b long m) h
         (subst (λ ss. j < length ss) same lt) (subst (λ ss. Replaces (step_at ss j).check (step_at ss j).entry e) same replaces) in
-        from_completion u weights b long m d q k j e (lt_from b d h) below r.new r.minus' r.may_new r.before r.here
+        from_completion u weights b long m d q k j e (ltb-true b d h) below r.new r.minus' r.may_new r.before r.here
 
 -- the DC's bit is that of the numbers below
 pub dc_kept : (w : List ℤ) (weights : List ℕ) (b d q : ℕ) (chosen minus chosen' minus' : ℕ → Bool) → MayComplete w weights b chosen → MayComplete w weights b chosen' →
@@ -76,8 +77,7 @@ complete_parents w weights b d q chosen minus j e may deep lt replaces =
     }
   where
     only : (i : ℕ) → i < 1 → (new minus' : ℕ → Bool) → MayComplete w weights b new → block_entries (stage_number i) (completed w b chosen minus) d weights b q ≡ block_entries (stage_number i) (completed w b new minus') d weights b q
-    only zero low new minus' may' = dc_kept w weights b d q chosen minus new minus' may may'
-    only (suc i) low new minus' may' = absurd (omega (arith, low))
+    only i low new minus' may' = grind (arith, nat_tests, dc_kept)
 
 pub parents_choice : MayChoose 1
 parents_choice = from_completions 1 (λ u d weights b q j h lt. subst (λ ss. j < length ss) (parents_sent u d weights b q false h) lt) complete_parents

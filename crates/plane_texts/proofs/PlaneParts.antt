@@ -1,14 +1,15 @@
 -- The parts of a plane's reading: what precedes a block of a stage, the block's own items, and what follows.
-use Rattle.std.proofs.Common.{◌≡◌, ℕ, ◌+◌, ◌-◌, ◌*◌, ◌/◌, ◌<◌, ◌≤◌, List, [], ◌∷◌, ◌++◌, length, ap, sym, ◌∙◌, arith, get_or, append_assoc, append-nil, length-append, zero-add}
+use Rattle.std.proofs.Common.{◌≡◌, ℕ, ◌+◌, ◌-◌, ◌*◌, ◌/◌, ◌<◌, ◌≤◌, List, [], ◌∷◌, ◌++◌, length, ap, sym, ◌∙◌, arith, append_assoc, append-nil, length-append, zero-add}
 use Rattle.std.specs.List.{flat_map}
+use Rattle.std.proofs.lemmas.Bool.Decides.{nat_tests}
 use Rattle.item_defs.specs.Items.{Item}
 use Rattle.base_122.specs.declared.book.Book.{Book}
 use Rattle.plane_defs.specs.declared.entries.Entry.{Entry}
 use Rattle.plane_defs.specs.Spans.{span}
 use Rattle.plane_defs.specs.Entries.{stage_number}
 use Rattle.plane_defs.specs.Steps.{Step}
-use Rattle.plane_defs.specs.StepLaws.{entry_of, entries_of}
-use Rattle.plane_defs.specs.Planes.{Plane, gaggles, gaggle_size, of_block, before_stage}
+use Rattle.plane_defs.specs.StepLaws.{entries_of}
+use Rattle.plane_defs.specs.Planes.{Plane, gaggles, gaggle_size, before_stage}
 use Rattle.plane_defs.specs.Reading.{step_reading, read_after, steps_of_block, gaggle_reading, stage_reading, plane_reading}
 use Rattle.plane_defs.proofs.SpanLists.{flat_map-span-parts}
 use Rattle.plane_defs.proofs.ReadingTexts.{map_flat, steps_entries}
@@ -58,10 +59,7 @@ abbrev pub read_here : Book → (ℕ → List ℕ) → Plane → (k r : ℕ) →
 read_here book o p k r = read_after book (o (r / 16)) (entries_before p k r) (steps_of_block p (stage_number k) r)
 
 pub before_entries : (p : Plane) (k r : ℕ) → before_stage p k (r / 16) ++ entries_of (steps_before p k r) ≡ entries_before p k r
-before_entries p k r =
-    ap (λ l. before_stage p k (r / 16) ++ l)
-    (map_flat entry_of (steps_of_block p (stage_number k)) (of_block p (stage_number k))
-    (λ j. steps_entries (stage_number k) (get_or p.blocks j []) (get_or p.depths j 0) p.weights p.number p.q) (span (16 * (r / 16)) (r - 16 * (r / 16))))
+before_entries p k r = grind (arith, nat_tests, map_flat, steps_entries)
 
 module _ (book : Book) (o : ℕ → List ℕ) (p : Plane) where
   -- the first blocks of a gaggle, of which this is one
@@ -103,8 +101,4 @@ module _ (book : Book) (o : ℕ → List ℕ) (p : Plane) where
   plane_parts stages k r below within = parts_within _ _ _ _ _ (parts_of (stage_reading book o p) stages k below) (stage_parts k r within)
 
   pub before_long : (k r : ℕ) → length (items_before k r) ≡ count_before book o p k r
-  before_long k r = omega (
-    arith,
-    length-append (plane_reading book o p k) (gaggles_before k r ++ read_before book o p k r),
-    length-append (gaggles_before k r) (read_before book o p k r),
-  )
+  before_long k r = grind (arith, nat_tests, length-append)

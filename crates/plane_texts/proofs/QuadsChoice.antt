@@ -1,8 +1,9 @@
 -- The flags, the types or a sign of a family's grandchildren may be chosen.
 use Rattle.std.proofs.Common.{◌≡◌, ◌⊎◌, ℕ, zero, suc, ◌+◌, ◌-◌, ◌/◌, ◌^◌, ◌<◌, ◌≤◌, inl, inr, Bool, true, false, ◌&&◌, cond, List, [], ◌∷◌, length, refl, ap, sym, ◌∙◌, subst, arith, ℤ}
-use Rattle.std.specs.Prelude.{nat_le, nat_lt, ◌||◌, ◌==◌, map}
+use Rattle.std.specs.Prelude.{nat_le, nat_lt, ◌==◌, map}
 use Rattle.std.specs.List.{list_any}
-use Rattle.std.proofs.lemmas.Bool.{cases_lt}
+use Rattle.std.proofs.lemmas.Bool.{cases_lt, lt-leb, le-ltb, le-leb, eqb-true, eqb-false}
+use Rattle.std.proofs.Math.Bool.{and-false}
 use Rattle.std.proofs.lemmas.Bool.Decides.{nat_tests}
 use Rattle.item_defs.specs.Bits.{bits_of}
 use Rattle.plane_defs.specs.declared.entries.Entry.{Entry}
@@ -28,7 +29,7 @@ use Rattle.plane_texts.proofs.ParentsChoice.{StageChosen, MayComplete', from_com
 use Rattle.plane_texts.proofs.ChildrenChoice.{in_span}
 use Rattle.plane_texts.proofs.GrandchildrenChoice as grand
 use Rattle.plane_texts.proofs.GrandchildrenChoice.{quad_sends, quad_steps, quad_entries, quads_sent, quads_said, sixteen_sends, sixteen_steps, sixteens_sent, grandchildren_sent, sixteens_choice}
-use Rattle.plane_texts.proofs.SmallFacts.{le_to, lt_to, equal_from, unequal, strictly}
+use Rattle.plane_texts.proofs.SmallFacts.{lt_to, strictly}
 
 -- ---- the sets of four of a family
 
@@ -45,24 +46,11 @@ quad_owner i p = cond (nat_le (grandchildren_of i) p && nat_lt p (grandchildren_
 
 owner_in : (i j p : ℕ) → j < 4 → quad_of i j ≤ p → p < quad_of i j + 4 → quad_owner i p ≡ j
 unfolding quad_owner
-owner_in i j p lt low high =
-    ap (λ t. cond (t && nat_lt p (grandchildren_of i + 16)) ((p - grandchildren_of i) / 4) 4) (le_to (grandchildren_of i) p (omega (arith, low)))
-    ∙ ap (λ t. cond t ((p - grandchildren_of i) / 4) 4) (lt_to p (grandchildren_of i + 16) (omega (arith, high, lt))) ∙ (let z : (p - grandchildren_of i) / 4 ≡ j = omega (arith, low, high) in z)
+owner_in i j p lt low high = grind (arith, nat_tests, le-leb, lt_to)
 
 no_owner : (i p : ℕ) → Outside (grandchildren_of i) 16 p → quad_owner i p ≡ 4
 unfolding quad_owner
-no_owner i p (inl under) = ap (λ t. cond (t && nat_lt p (grandchildren_of i + 16)) ((p - grandchildren_of i) / 4) 4) (not_le (grandchildren_of i) p under)
-  where
-    not_le : (a c : ℕ) → c < a → nat_le a c ≡ false
-    not_le a c lt = grind (arith, nat_tests)
-no_owner i p (inr over) = ap (λ t. cond (nat_le (grandchildren_of i) p && t) ((p - grandchildren_of i) / 4) 4) (not_lt p (grandchildren_of i + 16) over) ∙ ap (λ t. cond t ((p - grandchildren_of i) / 4) 4) (nothing (nat_le (grandchildren_of i) p))
-  where
-    not_lt : (a c : ℕ) → c ≤ a → nat_lt a c ≡ false
-    not_lt a c le = grind (arith, nat_tests)
-
-    nothing : (t : Bool) → (t && false) ≡ false
-    nothing true = refl
-    nothing false = refl
+no_owner i p h2 = grind (arith, nat_tests, lt-leb, le-ltb, and-false)
 
 quad_low : (i j : ℕ) → 1 ≤ quad_of i j
 quad_low i j = omega arith
@@ -102,7 +90,7 @@ module _ (w : List ℤ) (weights : List ℕ) (b d q : ℕ) (chosen minus : ℕ �
         stays_by true e = two.set_stays w weights b r.new minus r.may_new (Grandchildren i) known e
         stays_by false e =
             let is_some : some_one_where (is_new old b (Grandchildren i)) ≡ some_one = ap some_one_where (two.is_new_here w weights b chosen minus may (Grandchildren i) known e reached) in
-            let f = flagged.some_has w weights b chosen minus may (Quad i) (quad_owner i) 4 (apart_quads i known) x n r small (unequal x 0 (subst (λ k. refuses k x ≡ false) is_some passes)) in
+            let f = flagged.some_has w weights b chosen minus may (Quad i) (quad_owner i) 4 (apart_quads i known) x n r small (eqb-false x 0 (subst (λ k. refuses k x ≡ false) is_some passes)) in
             two.encloses w weights b r.new minus r.may_new (Quad i f.0) (known, f.1.0) f.2
 
         still : set_significant set b (Grandchildren i) ≡ true
@@ -139,8 +127,7 @@ module _ (w : List ℤ) (weights : List ℕ) (b d q : ℕ) (chosen minus : ℕ �
         made = completed w b r.new r.minus'
 
         any_same : ((p : ℕ) → chosen p ≡ r.new p) → (xs : List ℕ) → list_any chosen xs ≡ list_any r.new xs
-        any_same same [] = refl
-        any_same same (x ∷ xs) = ap (λ t. t || list_any chosen xs) (same x) ∙ ap (λ t. r.new x || t) (any_same same xs)
+        any_same same xs = grind (arith, nat_tests)
 
         by_above : (check ≡ some_one → list_any (significant made b) (span (quad_of i j) 4) ≡ true) → (t : Bool) → set_significant w (b + 1) (Quad i j) ≡ t → set_significant made b (Quad i j) ≡ true
         by_above some true above = two.set_stays w weights b r.new r.minus' r.may_new (Quad i j) (known, which) above
@@ -175,10 +162,10 @@ module _ (w : List ℤ) (weights : List ℕ) (b d q : ℕ) (chosen minus : ℕ �
         quads_kept h lt = by_place (h == j) refl
           where
             by_place : (t : Bool) → (h == j) ≡ t → set_significant old b (Quad i h) ≡ set_significant made b (Quad i h)
-            by_place true s = let same : j ≡ h = sym (equal_from h j s) in subst (λ n. set_significant old b (Quad i n) ≡ set_significant made b (Quad i n)) same (quad_reached ∙ sym quad_still)
+            by_place true s = let same : j ≡ h = sym (eqb-true h j s) in subst (λ n. set_significant old b (Quad i n) ≡ set_significant made b (Quad i n)) same (quad_reached ∙ sym quad_still)
             by_place false s =
                 two.set_same w weights b chosen minus r.new r.minus' may r.may_new (Quad i h) (known, lt)
-                (two.range_same w weights b chosen minus r.new r.minus' may r.may_new (quad_of i h) 4 (λ p low high. (elsewhere h lt (unequal h j s) p low high).0))
+                (two.range_same w weights b chosen minus r.new r.minus' may r.may_new (quad_of i h) 4 (λ p low high. (elsewhere h lt (eqb-false h j s) p low high).0))
 
         flags_same : flags old weights b (quads_of i) ≡ flags made weights b (quads_of i)
         unfolding quads_of enclosing_significant

@@ -1,20 +1,21 @@
 -- A refinement bit in a plane may be chosen.
-use Rattle.std.proofs.Common.{◌≡◌, ℕ, zero, suc, ◌+◌, ◌-◌, ◌*◌, ◌/◌, ◌%◌, ◌^◌, ◌<◌, ◌≤◌, Bool, true, false, ◌&&◌, cond, List, [], ◌∷◌, length, set, refl, ap, sym, ◌∙◌, subst, arith, ℤ, pos, negsuc, get_or, length-set}
+use Rattle.std.proofs.Common.{◌≡◌, ℕ, zero, suc, ◌+◌, ◌-◌, ◌*◌, ◌/◌, ◌^◌, ◌<◌, ◌≤◌, Bool, true, false, ◌&&◌, cond, List, [], ◌∷◌, length, set, refl, ap, sym, ◌∙◌, subst, arith, ℤ, pos, negsuc, get_or, length-set}
 use Rattle.std.specs.Prelude.{◌==◌, nat_le, nat_lt, unsigned_abs}
 use Rattle.std.specs.Int.{int_shr}
 use Rattle.std.specs.List.{flat_map}
 use Rattle.std.proofs.lemmas.Bool.Decides.{nat_tests}
 use Rattle.std.proofs.lemmas.List.{get_or-set_same, get_or-set_other}
 use Rattle.std.proofs.lemmas.Nat.{pow_pos, pow-add, shl-shr, shr-shr, shr_below}
+use Rattle.std.proofs.lemmas.Bool.{leb-true, ltb-true, eqb-true, eqb-false, and_parts}
+use Rattle.item_defs.proofs.NumberBits.{digit_small}
 use Rattle.item_defs.specs.Bits.{bit, digit}
 use Rattle.plane_defs.specs.declared.entries.Entry.{Entry}
 use Rattle.plane_defs.specs.declared.entries.Entry.TheVariants.{Bit, Word}
 use Rattle.plane_defs.specs.declared.stages.Stage.TheVariants as stages
 use Rattle.plane_defs.specs.Spans.{span}
 use Rattle.plane_defs.specs.Sets.{magnitude, significant, coded, refined, shift}
-use Rattle.plane_defs.specs.declared.sets.Set.TheVariants.{Descendants, Family}
 use Rattle.plane_defs.specs.Laws.{IsMultiple}
-use Rattle.plane_defs.specs.Entries.{negative, twos_bit, stage_number, block_entries}
+use Rattle.plane_defs.specs.Entries.{negative, stage_number, block_entries}
 use Rattle.plane_defs.specs.Steps.{Step, step, free, bit_at, block_steps, refinement_steps}
 use Rattle.plane_defs.specs.StepLaws.{entries_of, IsAc, AcsAlike}
 use Rattle.plane_defs.proofs.Determined.{still_significant}
@@ -22,9 +23,9 @@ use Rattle.plane_defs.proofs.ReadingTexts.{steps_entries}
 use Rattle.plane_texts.specs.Candidates.{EntriesChoose, step_at, Replaces, AboveSame, BlockChosen, MayChoose}
 use Rattle.plane_texts.proofs.EntryChoices.{entries_as, StepLocated, locate_step}
 use Rattle.plane_texts.proofs.BlockChoice.{acs_above}
-use Rattle.plane_texts.proofs.DcBitChoice.{digit_small, digit_back, shift_low, set_multiple}
+use Rattle.plane_texts.proofs.DcBitChoice.{digit_back, shift_low, set_multiple}
 use Rattle.plane_texts.proofs.StageParts.{SeenAt, map_filter_flat, parents_kept, children_kept, grandchildren_kept, sets_seen}
-use Rattle.plane_texts.proofs.SmallFacts.{both, le_from, lt_from, equal_from, unequal, set_at}
+use Rattle.plane_texts.proofs.SmallFacts.{set_at}
 use Rattle.plane_texts.proofs.Completions.{significant_same}
 
 -- ---- stages before the refinement
@@ -33,12 +34,7 @@ use Rattle.plane_texts.proofs.Completions.{significant_same}
 pub stages_kept : (u v : List ℤ) (d : ℕ) (weights : List ℕ) (b q : ℕ) → AcsAlike u v weights b → ((p : ℕ) → IsAc p → SeenAt u v b p) → get_or u 0 (pos 0) ≡ get_or v 0 (pos 0) → (i : ℕ) → i < 4 →
     block_entries (stage_number i) u d weights b q ≡ block_entries (stage_number i) v d weights b q
 unfolding block_entries
-stages_kept u v d weights b q alike seen dc zero lt = ap (λ z. cond (coded weights b 0 && nat_lt b q) (Bit (twos_bit z b) ∷ []) []) dc
-stages_kept u v d weights b q alike seen dc (suc zero) lt = ap (λ l. cond (nat_lt b d) l []) (parents_kept u v weights b alike (λ p ac low. seen p ac))
-stages_kept u v d weights b q alike seen dc (suc (suc zero)) lt =
-    ap (λ l. cond (nat_lt b d) l []) (children_kept u v weights b alike (sets_seen u v weights b alike seen Descendants tt) (λ i lt. sets_seen u v weights b alike seen (Family i) lt) (λ p ac low high. seen p ac))
-stages_kept u v d weights b q alike seen dc (suc (suc (suc zero))) lt = ap (λ l. cond (nat_lt b d) l []) (grandchildren_kept u v weights b alike seen)
-stages_kept u v d weights b q alike seen dc (suc (suc (suc (suc i)))) lt = absurd (omega arith)
+stages_kept u v d weights b q alike seen dc i lt = grind (arith, nat_tests, parents_kept, children_kept, sets_seen, grandchildren_kept)
 
 -- ---- a number with another bit
 
@@ -52,13 +48,11 @@ with_size (negsuc a) m = negsuc (m - 1)
 
 with_size_is : (z : ℤ) (m : ℕ) → 1 ≤ m → unsigned_abs (with_size z m) ≡ m
 unfolding with_size
-with_size_is (pos a) m some = refl
-with_size_is (negsuc a) m some = let e : suc (m - 1) ≡ m = omega arith in e
+with_size_is z m some = grind (arith, nat_tests)
 
 with_size_sign : (z : ℤ) (m : ℕ) → negative z ≡ negative (with_size z m)
 unfolding with_size
-with_size_sign (pos a) m = refl
-with_size_sign (negsuc a) m = refl
+with_size_sign z m = grind (arith, nat_tests)
 
 module _ (m b x : ℕ) (lt : x < 2) where
   size_shifted : refined_size m b x / 2 ^ b ≡ 2 * (m / 2 ^ (b + 1)) + x
@@ -72,29 +66,15 @@ module _ (m b x : ℕ) (lt : x < 2) where
       halved a = omega (arith, lt)
 
   size_bit : bit (refined_size m b x) b ≡ (x == 1)
-  size_bit = ap (λ n. n % 2 == 1) size_shifted ∙ ap (λ n. n == 1) (rest (m / 2 ^ (b + 1)))
-    where
-      rest : (a : ℕ) → (2 * a + x) % 2 ≡ x
-      rest a = omega (arith, lt)
+  size_bit = grind (arith, nat_tests, size_shifted)
 
   size_some : 2 ^ (b + 1) ≤ m → 1 ≤ refined_size m b x
   unfolding refined_size
-  size_some le =
-      let a : 1 ≤ m / 2 ^ (b + 1) = over (2 ^ (b + 1)) (pow_pos (b + 1)) le in
-      grown (m / 2 ^ (b + 1)) (2 ^ b) a (pow_pos b)
-    where
-      over : (w : ℕ) → 1 ≤ w → w ≤ m → 1 ≤ m / w
-      over w some le = grind (arith, some)
-
-      grown : (a w : ℕ) → 1 ≤ a → 1 ≤ w → 1 ≤ (2 * a + x) * w
-      grown a w s t = grind (arith, s, t)
+  size_some le = grind (arith, nat_tests, pow_pos)
 
   size_times : (s : ℕ) → s ≤ b → refined_size m b x ≡ 2 ^ s * (2 ^ (b - s) * (2 * (m / 2 ^ (b + 1)) + x))
   unfolding refined_size
-  size_times s le = ap (λ w. (2 * (m / 2 ^ (b + 1)) + x) * w) ((let z : b ≡ s + (b - s) = omega arith in ap (λ n. 2 ^ n) z) ∙ pow-add 2 s (b - s)) ∙ turned (2 * (m / 2 ^ (b + 1)) + x) (2 ^ s) (2 ^ (b - s))
-    where
-      turned : (x a b : ℕ) → x * (a * b) ≡ a * (b * x)
-      turned x a b = omega arith
+  size_times s le = grind (arith, nat_tests, pow-add)
 
   size_below : (d : ℕ) → b < d → m < 2 ^ d → refined_size m b x < 2 ^ d
   unfolding refined_size
@@ -181,10 +161,7 @@ module _ (u : List ℤ) (d : ℕ) (weights : List ℕ) (b q : ℕ) (long : lengt
 
     reached_is : significant u (b + 1) p ≡ true
     unfolding significant
-    reached_is = test (2 ^ (b + 1)) (magnitude u p) reached
-      where
-        test : (w n : ℕ) → w ≤ n → nat_le w n ≡ true
-        test w n le = grind (arith, nat_tests)
+    reached_is = grind (arith, nat_tests)
 
     here_same : significant u b p ≡ significant v b p
     here_same = still_significant u b p reached_is ∙ sym (still_significant v b p (sym (acs_above u v b above (b + 1) (omega arith) p (first, last)) ∙ reached_is))
@@ -194,9 +171,9 @@ module _ (u : List ℤ) (d : ℕ) (weights : List ℕ) (b q : ℕ) (long : lengt
       where
         test : (t : Bool) → (n == p) ≡ t → SeenAt u v b n
         test true e =
-            let same = equal_from n p e in
+            let same = eqb-true n p e in
             subst (SeenAt u v b) (sym same) (record { here = here_same; sign = λ s. z_sign ∙ ap negative (sym new) })
-        test false e = let kept = sym (other n (unequal n p e)) in record { here = significant_same u v b n kept; sign = λ s. ap negative kept }
+        test false e = let kept = sym (other n (eqb-false n p e)) in record { here = significant_same u v b n kept; sign = λ s. ap negative kept }
 
     reached_new : significant v (b + 1) p ≡ true
     reached_new = sym (acs_above u v b above (b + 1) (omega arith) p (first, last)) ∙ reached_is
@@ -207,9 +184,7 @@ module _ (u : List ℤ) (d : ℕ) (weights : List ℕ) (b q : ℕ) (long : lengt
 
     sends_new : sends v weights b p ≡ step free (bit_at p) (Bit x) ∷ []
     unfolding sends significant
-    sends_new =
-        ap (λ t. cond (t && coded weights b p) (step free (bit_at p) (Bit (bit (magnitude v p) b)) ∷ []) []) reached_new
-        ∙ ap (λ t. cond t (step free (bit_at p) (Bit (bit (magnitude v p) b)) ∷ []) []) is_coded ∙ ap (λ y. step free (bit_at p) (Bit y) ∷ []) bit_new
+    sends_new = grind (arith, nat_tests, v, reached_new, bit_new)
 
     sends_other : (i : ℕ) → (i ≡ p → ⊥) → sends u weights b i ≡ sends v weights b i
     unfolding sends
@@ -229,7 +204,7 @@ module _ (u : List ℤ) (d : ℕ) (weights : List ℕ) (b q : ℕ) (long : lengt
           v = v;
           whole = v_long;
           multiple = multiple;
-          below = λ n some. by_place n (λ y. unsigned_abs y < 2 ^ d) (λ e. subst (λ k. k < 2 ^ d) (sym z_size) (size_below (magnitude u p) b (digit x) (digit_small x) d (lt_from b d deep) (below p first))) (below n some);
+          below = λ n some. by_place n (λ y. unsigned_abs y < 2 ^ d) (λ e. subst (λ k. k < 2 ^ d) (sym z_size) (size_below (magnitude u p) b (digit x) (digit_small x) d (ltb-true b d deep) (below p first))) (below n some);
           dc = λ c le. ap (λ y. int_shr y c) (other 0 (λ e. omega (arith, e, first)));
           above = above;
           before = λ i lt. stages_kept u v d weights b q alike seen (sym (other 0 (λ e. omega (arith, e, first)))) i lt;
@@ -252,8 +227,8 @@ module _ (u : List ℤ) (d : ℕ) (weights : List ℕ) (b q : ℕ) (long : lengt
       at_number j e l true h (suc c) at lt r = absurd (omega (arith, lt))
       at_number j (Word w) l true h zero at lt r = absurd r.kind
       at_number j (Bit x) l true h zero at lt r =
-          let parts = both _ _ h in
-          chosen l.at l.low (omega (arith, l.high)) x (le_from (2 ^ (b + 1)) (magnitude u l.at) parts.0) parts.1 j l refl at
+          let parts = and_parts _ _ h in
+          chosen l.at l.low (omega (arith, l.high)) x (leb-true (2 ^ (b + 1)) (magnitude u l.at) parts.0) parts.1 j l refl at
 
 pub refinement_choice : MayChoose 4
 refinement_choice u d weights b q j e long m below lt replaces = by_depth (nat_lt b d) refl

@@ -2,6 +2,7 @@
 use Rattle.std.proofs.Common.{◌≡◌, ℕ, zero, suc, ◌+◌, ◌≤◌, Bool, true, false, cond, List, [], ◌∷◌, map, refl, arith, ℤ, pos, get_or}
 use Rattle.std.specs.Prelude.{filter, nat_lt, not, ◌&&◌}
 use Rattle.std.specs.List.{flat_map, AllByRecursion}
+use Rattle.std.proofs.lemmas.Bool.Decides.{nat_tests}
 use Rattle.item_defs.specs.Bits.{bit}
 use Rattle.plane_defs.specs.declared.sets.Set.TheVariants.{Descendants, Family, Grandchildren, Quad}
 use Rattle.plane_defs.specs.declared.stages.Stage.{Stage}
@@ -58,8 +59,7 @@ anything P each [] = tt
 anything P each (x ∷ xs) = (each x, anything P each xs)
 
 not_above : (a b : Bool) → (not a && b) ≡ true → a ≡ false
-not_above true b e = cc
-not_above false b e = refl
+not_above a b e = grind (arith, nat_tests)
 
 module _ (block : List ℤ) (weights : List ℕ) (plane : ℕ) where
   due_typed : (p : ℕ) → 1 ≤ p → type_due block weights plane p ≡ true → IsTyped block plane p
@@ -100,8 +100,7 @@ module _ (block : List ℤ) (weights : List ℕ) (plane : ℕ) where
       (all_filter (λ p. Bit (bit (magnitude block p) plane) ≡ Bit (bit_there block plane p)) (refined block weights plane) (span 1 63) (all_span _ 1 63 (λ p low high. there p low)))
     where
       there : (p : ℕ) → 1 ≤ p → Bit (bit (magnitude block p) plane) ≡ Bit (bit_there block plane p)
-      there zero low = absurd (omega arith)
-      there (suc p) low = refl
+      there p low = grind (arith, nat_tests)
 
 sent_say : (block : List ℤ) (plane : ℕ) (b : Bool) (steps : List Step) → AllSay block plane steps → AllSay block plane (cond b steps [])
 sent_say block plane true steps all = all

@@ -1,10 +1,11 @@
 -- What a reading gives of the blocks if it has reached one block of a stage: all that precedes, the whole steps of this block,
 -- and nothing of what follows.
-use Rattle.std.proofs.Common.{◌≡◌, ℕ, zero, suc, ◌+◌, ◌-◌, ◌*◌, ◌/◌, ◌<◌, ◌≤◌, inl, inr, Bool, true, false, List, [], ◌++◌, length, refl, ap, sym, ◌∙◌, subst, arith, get_or, zero-add}
+use Rattle.std.proofs.Common.{◌≡◌, ℕ, zero, suc, ◌+◌, ◌-◌, ◌*◌, ◌/◌, ◌<◌, ◌≤◌, inl, inr, List, [], ◌++◌, length, ap, sym, ◌∙◌, subst, arith, get_or, zero-add}
 use Rattle.std.specs.Prelude.{◌||◌}
 use Rattle.std.specs.List.{flat_map}
 use Rattle.std.proofs.lemmas.Bool.{cases_lt}
 use Rattle.std.proofs.lemmas.List.Folds.{list_any-append}
+use Rattle.std.proofs.Math.Bool.{or-false}
 use Rattle.base_122.specs.declared.book.Book.{Book}
 use Rattle.plane_defs.specs.Spans.{span}
 use Rattle.plane_defs.specs.Entries.{stage_number}
@@ -35,13 +36,9 @@ alike_then ss ts us f g = record { bits = λ n. f.bits n ∙ g.bits n; signs = �
 -- steps after others that report nothing
 none_after : (ss ts : List Step) → TellsNone ts → TellAlike (ss ++ ts) ss
 none_after ss ts none = record {
-  bits = λ n. list_any-append (λ s. tells_bit n s.tells) ss ts ∙ ap (λ b. has_bit_in ss n || b) (none n).0 ∙ no_more (has_bit_in ss n);
-  signs = λ n. list_any-append (λ s. tells_sign n s.tells) ss ts ∙ ap (λ b. has_sign_in ss n || b) (none n).1 ∙ no_more (has_sign_in ss n);
+  bits = λ n. list_any-append (λ s. tells_bit n s.tells) ss ts ∙ ap (λ b. has_bit_in ss n || b) (none n).0 ∙ or-false (has_bit_in ss n);
+  signs = λ n. list_any-append (λ s. tells_sign n s.tells) ss ts ∙ ap (λ b. has_sign_in ss n || b) (none n).1 ∙ or-false (has_sign_in ss n);
 }
-  where
-    no_more : (b : Bool) → (b || false) ≡ b
-    no_more true = refl
-    no_more false = refl
 
 first_told : (f : ℕ → List Step) (k n : ℕ) → k ≤ n → ((j : ℕ) → k ≤ j → j < n → TellsNone (f j)) → TellAlike (flat_map f (span 0 n)) (flat_map f (span 0 k))
 first_told f k zero le none = let z : 0 ≡ k = omega (arith, le) in alike_equal _ _ (ap (λ m. flat_map f (span 0 m)) z)

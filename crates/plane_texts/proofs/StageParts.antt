@@ -2,15 +2,15 @@
 use Rattle.std.proofs.Common.{◌≡◌, ℕ, ◌+◌, ◌<◌, ◌≤◌, Bool, true, false, cond, List, [], ◌∷◌, ◌++◌, refl, ap, sym, ◌∙◌, arith, ℤ, pos, get_or}
 use Rattle.std.specs.Prelude.{map, filter}
 use Rattle.std.specs.List.{flat_map, AllByRecursion}
-use Rattle.std.proofs.lemmas.Bool.{and_parts}
-use Rattle.plane_defs.proofs.Seen.{flat_equal}
+use Rattle.std.proofs.lemmas.Bool.Decides.{nat_tests}
+use Rattle.plane_defs.proofs.Seen.{flat_equal, passed, newly_here}
 use Rattle.plane_defs.specs.declared.sets.Set.{Set}
 use Rattle.plane_defs.specs.declared.sets.Set.TheVariants.{Descendants, Family, Grandchildren, Quad}
 use Rattle.plane_defs.specs.declared.entries.Entry.{Entry}
 use Rattle.plane_defs.specs.declared.entries.Entry.TheVariants.{Bit}
 use Rattle.plane_defs.specs.Spans.{span}
-use Rattle.plane_defs.specs.Sets.{significant, members, set_significant, enclosing_significant, type_due, flag_due, newly_significant, IsKnown, children_of, quad_of}
-use Rattle.plane_defs.specs.Entries.{word, types, flags, signs, typed, negative, children_types, quads_types, quads, all_quads, children, grandchildren, parents}
+use Rattle.plane_defs.specs.Sets.{significant, members, set_significant, enclosing_significant, newly_significant, IsKnown, quad_of}
+use Rattle.plane_defs.specs.Entries.{word, types, flags, signs, typed, negative, quads_types, quads, all_quads, children, grandchildren, parents}
 use Rattle.plane_defs.specs.Laws.{three_families}
 use Rattle.plane_defs.specs.Steps.{Check, typed_steps, three_grandchildren}
 use Rattle.plane_defs.specs.StepLaws.{entry_of, entries_of, IsAc, AcsAlike}
@@ -18,7 +18,6 @@ use Rattle.plane_defs.proofs.Alike.{all_filter, filter_same}
 use Rattle.plane_defs.proofs.ReadingTexts.{map_map}
 use Rattle.plane_defs.proofs.Above.{all_zip, all_span, members_acs, any_alike, due_filter, types_filter, newly_same}
 use Rattle.plane_defs.proofs.AlikeSteps.{all_both}
-use Rattle.plane_texts.proofs.SmallFacts.{passed}
 use Rattle.plane_defs.proofs.AlikeSteps.{map_equal}
 
 -- ---- chosen parts of a list
@@ -32,15 +31,10 @@ filter_flat {X} f t (x ∷ xs) = by_test (t x) (filter_flat f t xs)
     by_test false e = e
 
 pub map_flat_one : {X A : Type 0} (f : X → A) (xs : List X) → map f xs ≡ flat_map (λ x. f x ∷ []) xs
-map_flat_one f [] = refl
-map_flat_one f (x ∷ xs) = ap (λ l. f x ∷ l) (map_flat_one f xs)
+map_flat_one f xs = grind (arith, nat_tests)
 
 pub map_filter_flat : {X A : Type 0} (f : X → A) (t : X → Bool) (xs : List X) → map f (filter t xs) ≡ flat_map (λ x. cond (t x) (f x ∷ []) []) xs
 map_filter_flat f t xs = map_flat_one f (filter t xs) ∙ filter_flat (λ x. f x ∷ []) t xs
-
-pub newly_here : (block : List ℤ) (weights : List ℕ) (plane p : ℕ) → newly_significant block weights plane p ≡ true → significant block plane p ≡ true
-unfolding newly_significant
-newly_here block weights plane p h = (and_parts (type_due block weights plane p) (significant block plane p) h).1
 
 pub typed_entries : (block : List ℤ) (weights : List ℕ) (plane : ℕ) (check : Check) (ps : List ℕ) → entries_of (typed_steps block weights plane check ps) ≡ typed block weights plane ps
 typed_entries block weights plane check ps = ap (λ l. word (types block weights plane ps) ∷ l) (map_map entry_of _ _)
@@ -58,10 +52,7 @@ module _ (u v : List ℤ) (weights : List ℕ) (b : ℕ) (alike : AcsAlike u v w
   acs_of ps all = all_zip {P = λ p. IsAc p × SeenAt u v b p} ps (λ p h. h.0) all
 
   pub types_kept : (ps : List ℕ) → AllSeen ps → types u weights b ps ≡ types v weights b ps
-  types_kept ps all =
-      map_equal (significant u b) (significant v b) (filter (type_due u weights b) ps)
-      (all_filter (λ p. significant u b p ≡ significant v b p) (type_due u weights b) ps (all_zip {P = λ p. IsAc p × SeenAt u v b p} ps (λ p h. h.1.here) all))
-      ∙ ap (map (significant v b)) (types_filter u v weights b alike ps (acs_of ps all))
+  types_kept ps all = grind (arith, nat_tests, map_equal, all_filter, all_zip, types_filter, acs_of)
 
   pub signs_kept : (ps : List ℕ) → AllSeen ps → signs u weights b ps ≡ signs v weights b ps
   signs_kept ps all =
@@ -80,10 +71,7 @@ module _ (u v : List ℤ) (weights : List ℕ) (b : ℕ) (alike : AcsAlike u v w
   SetSeen s = IsKnown s × (enclosing_significant u b s ≡ enclosing_significant v b s) × (set_significant u b s ≡ set_significant v b s)
 
   pub flags_kept : (sets : List Set) → AllByRecursion SetSeen sets → flags u weights b sets ≡ flags v weights b sets
-  flags_kept sets all =
-      map_equal (set_significant u b) (set_significant v b) (filter (flag_due u weights b) sets)
-      (all_filter (λ s. set_significant u b s ≡ set_significant v b s) (flag_due u weights b) sets (all_zip {P = SetSeen} sets (λ s h. h.2) all))
-      ∙ ap (map (set_significant v b)) (due_filter u v weights b alike sets (all_zip {P = SetSeen} sets (λ s h. h.0) all) (all_zip {P = SetSeen} sets (λ s h. h.1) all))
+  flags_kept sets all = grind (arith, nat_tests, map_equal, all_filter, all_zip, due_filter)
 
   -- the parts of a list whose sets are significant
   pub parts_kept : (start count : ℕ) (set_of : ℕ → Set) (f g : ℕ → List Entry) → ((i : ℕ) → start ≤ i → i < start + count → set_significant u b (set_of i) ≡ set_significant v b (set_of i)) →
@@ -120,13 +108,7 @@ module _ (u v : List ℤ) (weights : List ℕ) (b : ℕ) (alike : AcsAlike u v w
     families_kept = flags_kept three_families ((omega arith, descendants, families 0 (omega arith)), ((omega arith, descendants, families 1 (omega arith)), ((omega arith, descendants, families 2 (omega arith)), tt)))
 
     pub children_kept : ((p : ℕ) → IsAc p → 4 ≤ p → p < 16 → SeenAt u v b p) → children u weights b ≡ children v weights b
-    children_kept seen =
-        let third : children_types u weights b ≡ children_types v weights b =
-        parts_kept 0 3 Family (λ i. typed u weights b (span (children_of i) 4)) (λ i. typed v weights b (span (children_of i) 4)) (λ i low high. families i (omega arith))
-        (λ i low high e. typed_kept (span (children_of i) 4) (span_seen (children_of i) 4 (omega arith) (omega arith) (λ p ac from to. seen p ac (omega arith) (omega arith)))) in
-        ap (λ l. map Bit l ++ word (flags u weights b three_families) ∷ children_types u weights b) descendants_kept
-        ∙ ap (λ l. map Bit (flags v weights b (Descendants ∷ [])) ++ word l ∷ children_types u weights b) families_kept
-        ∙ ap (λ l. map Bit (flags v weights b (Descendants ∷ [])) ++ word (flags v weights b three_families) ∷ l) third
+    children_kept seen = grind (arith, nat_tests, parts_kept, typed_kept, span_seen, descendants_kept, families_kept)
 
     module _ (grandchildren_same : (i : ℕ) → i < 3 → set_significant u b (Grandchildren i) ≡ set_significant v b (Grandchildren i)) where
       pub grandchildren_flags_kept : flags u weights b three_grandchildren ≡ flags v weights b three_grandchildren

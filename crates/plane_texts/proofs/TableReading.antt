@@ -2,12 +2,13 @@
 -- same reading up to there.
 use Rattle.std.proofs.Common.{◌≡◌, ℕ, ◌+◌, ◌-◌, ◌*◌, ◌/◌, ◌<◌, ◌≤◌, min, List, [], ◌∷◌, ◌++◌, length, refl, ap, sym, ◌∙◌, arith, get_or}
 use Rattle.std.specs.List.{flat_map, AllByRecursion}
+use Rattle.std.proofs.lemmas.Bool.Decides.{nat_tests}
 use Rattle.base_122.specs.declared.book.Book.{Book}
 use Rattle.plane_defs.specs.Spans.{span}
 use Rattle.plane_defs.specs.Entries.{stage_number}
 use Rattle.plane_defs.specs.StepLaws.{entries_of}
 use Rattle.plane_defs.specs.Planes.{Plane, gaggles, gaggle_size, of_block, of_gaggle, before_stage}
-use Rattle.plane_defs.specs.Reading.{read_after, steps_of_block, steps_of_gaggle, gaggle_reading, stage_reading, plane_reading}
+use Rattle.plane_defs.specs.Reading.{read_after, steps_of_block, gaggle_reading, stage_reading, plane_reading}
 use Rattle.plane_defs.proofs.Above.{all_span}
 use Rattle.plane_defs.proofs.ReadingTexts.{steps_entries}
 
@@ -53,10 +54,7 @@ module _ (p p' : Plane) (k n : ℕ) (same : SendSame p p' k n) where
 
   -- what is before the stage in a gaggle
   stage_entries_same : (j g : ℕ) → j < k → of_gaggle p (stage_number j) g ≡ of_gaggle p' (stage_number j) g
-  stage_entries_same j g lt =
-      span_same (of_block p (stage_number j)) (of_block p' (stage_number j)) (16 * g) (gaggle_size p g)
-      (λ r low high. entries_same p p' j r (same.early j r lt (omega (arith, low, high))))
-      ∙ ap (λ m. flat_map (of_block p' (stage_number j)) (span (16 * g) m)) (same_size g)
+  stage_entries_same j g lt = grind (arith, nat_tests, span_same, entries_same, same_size)
 
   pub before_same : (g : ℕ) → before_stage p k g ≡ before_stage p' k g
   before_same g = span_same (λ j. of_gaggle p (stage_number j) g) (λ j. of_gaggle p' (stage_number j) g) 0 k (λ j low high. stage_entries_same j g (omega (arith, high)))
@@ -65,20 +63,15 @@ module _ (p p' : Plane) (k n : ℕ) (same : SendSame p p' k n) where
   pub read_same : (book : Book) (options : List ℕ) (g c : ℕ) → 16 * g + c ≤ n →
       read_after book options (before_stage p k g) (flat_map (steps_of_block p (stage_number k)) (span (16 * g) c)) ≡
       read_after book options (before_stage p' k g) (flat_map (steps_of_block p' (stage_number k)) (span (16 * g) c))
-  read_same book options g c le =
-      ap (λ b. read_after book options b (flat_map (steps_of_block p (stage_number k)) (span (16 * g) c))) (before_same g)
-      ∙ ap (read_after book options (before_stage p' k g)) (rows_same (16 * g) c (λ r low high. omega (arith, le, high)))
+  read_same book options g c le = grind (arith, nat_tests, before_same, rows_same)
 
   -- the first gaggles, which have no other blocks than the first n
   gaggle_same : (book : Book) (o : ℕ → List ℕ) (g : ℕ) → ((r : ℕ) → 16 * g ≤ r → r < 16 * g + gaggle_size p g → r < n) → gaggle_reading book o p k g ≡ gaggle_reading book o p' k g
-  gaggle_same book o g within =
-      ap (λ b. read_after book (o g) b (steps_of_gaggle p (stage_number k) g)) (before_same g)
-      ∙ ap (read_after book (o g) (before_stage p' k g)) (rows_same (16 * g) (gaggle_size p g) within ∙ ap (λ m. flat_map (steps_of_block p' (stage_number k)) (span (16 * g) m)) (same_size g))
+  gaggle_same book o g within = grind (arith, nat_tests, before_same, rows_same, same_size)
 
   pub gaggles_same : (book : Book) (o : ℕ → List ℕ) (g : ℕ) → min (16 * g) (length p.depths) ≤ n →
       flat_map (gaggle_reading book o p k) (span 0 g) ≡ flat_map (gaggle_reading book o p' k) (span 0 g)
-  gaggles_same book o g le =
-      span_same (gaggle_reading book o p k) (gaggle_reading book o p' k) 0 g (λ j low high. gaggle_same book o j (λ r from to. omega (arith, le, high, from, to)))
+  gaggles_same book o g le = grind (arith, nat_tests, span_same, gaggle_same)
 
   -- all gaggles, if all blocks are among the first n
   pub stage_same : (book : Book) (o : ℕ → List ℕ) → length p.depths ≤ n → stage_reading book o p k ≡ stage_reading book o p' k

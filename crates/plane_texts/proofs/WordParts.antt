@@ -1,10 +1,11 @@
 -- The bits of a word, spread over the places that are due.
-use Rattle.std.proofs.Common.{◌≡◌, ℕ, zero, suc, ◌+◌, ◌-◌, ◌^◌, ◌<◌, ◌≤◌, Bool, true, false, not, cond, List, [], ◌∷◌, ◌++◌, length, take, map, refl, ap, sym, ◌∙◌, subst, arith, get_or, add-one, length-append, append-nil}
+use Rattle.std.proofs.Common.{◌≡◌, ℕ, zero, suc, ◌+◌, ◌-◌, ◌^◌, ◌<◌, ◌≤◌, Bool, true, false, not, cond, List, [], ◌∷◌, ◌++◌, length, take, map, refl, ap, sym, ◌∙◌, arith, get_or, add-one, length-append, append-nil}
 use Rattle.std.specs.Prelude.{filter, ◌||◌, ◌&&◌}
 use Rattle.std.specs.List.{list_any, AllByRecursion}
 use Rattle.std.proofs.lemmas.List.{map-append, take_more, take_all}
 use Rattle.std.proofs.Math.Nat.{mod-eq_of_lt}
 use Rattle.std.proofs.lemmas.Bool.{or_right}
+use Rattle.std.proofs.lemmas.Bool.Decides.{nat_tests}
 use Rattle.item_defs.specs.Bits.{bits_of, copies}
 use Rattle.item_defs.proofs.NumberBits.{length-bits_of, value_of-bits_of, bits_of_zero, same_number}
 use Rattle.plane_defs.specs.declared.entries.Entry.TheVariants.{Word}
@@ -28,17 +29,7 @@ module _ (start : ℕ) (due : ℕ → Bool) (bits : List Bool) where
   one_more : (n : ℕ) (t : Bool) → due (start + n) ≡ t → length (filter due (span start (suc n))) ≤ length bits →
       (length (filter due (span start n)) ≤ length bits → map (spread start due bits) (filter due (span start n)) ≡ take (length (filter due (span start n))) bits) →
       map (spread start due bits) (filter due (span start (suc n))) ≡ take (length (filter due (span start (suc n)))) bits
-  one_more n true e le before =
-      let L : List ℕ = filter due (span start n) in
-      let more : filter due (span start (suc n)) ≡ L ++ (start + n) ∷ [] = filter_more due start n ∙ ap (λ t. L ++ cond t ((start + n) ∷ []) []) e in
-      let long : length (filter due (span start (suc n))) ≡ length L + 1 = ap length more ∙ length-append L ((start + n) ∷ []) in
-      ap (map (spread start due bits)) more ∙ map-append (spread start due bits) L ((start + n) ∷ [])
-      ∙ ap (λ l. l ++ spread start due bits (start + n) ∷ []) (before (omega (arith, le, long))) ∙ ap (λ x. take (length L) bits ++ x ∷ []) (spread_at n)
-      ∙ sym (take_more bits (length L) false (omega (arith, le, long))) ∙ ap (λ k. take k bits) (sym long)
-  one_more n false e le before =
-      let L : List ℕ = filter due (span start n) in
-      let more : filter due (span start (suc n)) ≡ L = filter_more due start n ∙ ap (λ t. L ++ cond t ((start + n) ∷ []) []) e ∙ append-nil L in
-      ap (map (spread start due bits)) more ∙ before (subst (λ l. length l ≤ length bits) more le) ∙ ap (λ l. take (length l) bits) (sym more)
+  one_more n t e le before = grind (arith, nat_tests, filter_more, length-append, spread, map-append, spread_at, take_more, append-nil)
 
   spread_front : (n : ℕ) → length (filter due (span start n)) ≤ length bits → map (spread start due bits) (filter due (span start n)) ≡ take (length (filter due (span start n))) bits
   unfolding span
@@ -49,8 +40,7 @@ module _ (start : ℕ) (due : ℕ → Bool) (bits : List Bool) where
   spread_is n same = spread_front n (omega (arith, same)) ∙ ap (λ k. take k bits) (sym same) ∙ take_all (length bits) bits (omega arith)
 
 pub word_is : (n x : ℕ) → x < 2 ^ n → word (bits_of n x) ≡ Word (record { value = x; count = n })
-word_is n x lt =
-    ap (λ v. Word (record { value = v; count = length (bits_of n x) })) (value_of-bits_of n x ∙ mod-eq_of_lt lt) ∙ ap (λ k. Word (record { value = x; count = k })) (length-bits_of n x)
+word_is n x lt = grind (arith, nat_tests, value_of-bits_of, mod-eq_of_lt, length-bits_of)
 
 -- a word that is not 0 has a one
 no_one : (bits : List Bool) → list_any (λ b. b) bits ≡ false → bits ≡ copies (length bits) false
@@ -91,11 +81,7 @@ wants_had want has [] e = tt
 wants_had want has (x ∷ xs) e = (first (want x) (has x) _ e, wants_had want has xs (rest (want x) (has x) _ e))
   where
     first : (w h r : Bool) → ((w && not h) || r) ≡ false → w ≡ true → h ≡ true
-    first true true r e f = refl
-    first true false r e f = cc
-    first false h r e f = cc
+    first w h r e f = grind (arith, nat_tests)
 
     rest : (w h r : Bool) → ((w && not h) || r) ≡ false → r ≡ false
-    rest true true r e = e
-    rest true false r e = cc
-    rest false h r e = e
+    rest w h r e = grind (arith, nat_tests)

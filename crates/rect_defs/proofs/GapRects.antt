@@ -1,8 +1,8 @@
 -- The rectangles of all gaps are those of the missing blocks.
-use Rattle.std.proofs.Common.{◌≡◌, ◌⊎◌, inl, inr, ◌≤◌, ◌<◌, ◌+◌, ◌-◌, ◌*◌, ◌/◌, ◌%◌, ℕ, zero, suc, Bool, true, false, List, [], ◌∷◌, ◌++◌, map, refl, sym, ap, ◌∙◌, arith}
-use Rattle.std.specs.Prelude.{cond, ◌==◌, ◌&&◌, ◌||◌, not, nat_lt, filter}
+use Rattle.std.proofs.Common.{◌≡◌, ◌⊎◌, inl, inr, ◌≤◌, ◌<◌, ◌+◌, ◌-◌, ◌*◌, ◌/◌, ℕ, zero, suc, Bool, true, false, List, [], ◌∷◌, ◌++◌, map, refl, sym, ap, ◌∙◌, arith}
+use Rattle.std.specs.Prelude.{◌&&◌, nat_lt, filter}
 use Rattle.std.specs.List.{range_with_len, flat_map}
-use Rattle.std.proofs.lemmas.Bool.{cases_lt}
+use Rattle.std.proofs.lemmas.Bool.{cases_lt, or_left, and_from, lt-ltb}
 use Rattle.std.proofs.lemmas.Bool.Decides.{nat_tests}
 use Rattle.std.proofs.lemmas.Nat.{div-add-mod'}
 use Rattle.std.proofs.lemmas.List.{append-nil}
@@ -13,7 +13,6 @@ use Rattle.rect_defs.specs.declared.gap.Gap.{Gap}
 use Rattle.rect_defs.specs.declared.rect.Rect.{Rect}
 use Rattle.rect_defs.specs.Rects.{begins_run, rect_from, has_pixels, rects_before, rects_of}
 use Rattle.rect_defs.specs.Gaps.{AreAll, AreGaps, gap_rects, lost_below}
-use Rattle.rect_defs.proofs.Tests.{both, by_lt}
 use Rattle.rect_defs.proofs.SameLost.{rects_same}
 use Rattle.rect_defs.proofs.GapRows.{made, after, past, lost_none, gap_whole}
 
@@ -33,27 +32,7 @@ module _ (rows width : ℕ) (lost : ℕ → Bool) (m : ℕ) (some : 0 < width) w
 
   -- a gap begins a run
   starts : (a : ℕ) (gap : Gap) → AreAll lost false a gap.first → lost gap.first ≡ true → a ≤ gap.first → (a ≡ 0) ⊎ (lost (a - 1) ≡ false) → begins_run c lost gap.first ≡ true
-  starts a gap clear here low before =
-      both (lost gap.first) ((gap.first % c == 0) || not (lost (gap.first - 1))) here (elim (cases_lt a gap.first) [
-        | inl later ↦ last_or (gap.first % c == 0) (lost (gap.first - 1)) (clear.at (gap.first - 1) (omega (arith, later)) (omega (arith, later)))
-        | inr same ↦ let e : gap.first ≡ a = omega (arith, same, low) in elim before [
-          | inl none ↦ first_or (gap.first % c == 0) (not (lost (gap.first - 1))) (let z : gap.first ≡ 0 = omega (arith, e, none) in ap (λ n. n % c == 0) z ∙ zero_mod)
-          | inr kept ↦ last_or (gap.first % c == 0) (lost (gap.first - 1)) (ap (λ n. lost (n - 1)) e ∙ kept)
-        ]
-      ])
-    where
-      last_or : (x y : Bool) → y ≡ false → (x || not y) ≡ true
-      last_or true y e = refl
-      last_or false y e = ap not e
-
-      first_or : (x y : Bool) → x ≡ true → (x || y) ≡ true
-      first_or x y e = ap (λ b. b || y) e
-
-      zero_mod : (0 % c == 0) ≡ true
-      zero_mod =
-          let e = div-add-mod' 0 c in
-          let none : 0 % c ≡ 0 = omega (arith, e) in
-          grind (arith, nat_tests)
+  starts a gap clear here low before = grind (arith, nat_tests, and_from, or_left, div-add-mod')
 
   all_from : (gaps : List Gap) (a e : ℕ) → AreGaps lost a gaps e → (a ≡ 0) ⊎ (lost (a - 1) ≡ false) → e ≤ m → AreAll lost false e m → from a ≡ flat_map (gap_rects rows width) gaps
   all_from [] a e are before le rest =
@@ -86,15 +65,7 @@ module _ (rows width : ℕ) (lost : ℕ → Bool) (m : ℕ) (some : 0 < width) w
   -- one more such block
   none_more : (a : ℕ) (rest : List ℕ) → (begins_run c lost a ≡ false) ⊎ (has_pixels rows width (rect_from rows width lost a) ≡ false) → made rows width lost m some rest ≡ [] → made rows width lost m some (a ∷ rest) ≡ []
   unfolding made_of
-  none_more a rest none later = by (begins_run c lost a) none
-    where
-      some_of : (b : Bool) → has_pixels rows width (rect_from rows width lost a) ≡ false → made_of (cond b (a ∷ filter (begins_run c lost) rest) (filter (begins_run c lost) rest)) ≡ []
-      some_of false pixels = later
-      some_of true pixels = ap (λ b. cond b (rect_from rows width lost a ∷ made rows width lost m some rest) (made rows width lost m some rest)) pixels ∙ later
-
-      by : (b : Bool) → (b ≡ false) ⊎ (has_pixels rows width (rect_from rows width lost a) ≡ false) → made_of (cond b (a ∷ filter (begins_run c lost) rest) (filter (begins_run c lost) rest)) ≡ []
-      by b (inl e) = ap (λ b. made_of (cond b (a ∷ filter (begins_run c lost) rest) (filter (begins_run c lost) rest))) e ∙ later
-      by b (inr pixels) = some_of b pixels
+  none_more a rest none later = grind (arith, nat_tests, made_of, made)
 
   made_none : (n a : ℕ) → ((block : ℕ) → a ≤ block → block < a + n → (begins_run c lost block ≡ false) ⊎ (has_pixels rows width (rect_from rows width lost block) ≡ false)) →
       made rows width lost m some (range_with_len a n) ≡ []
@@ -136,7 +107,7 @@ gaps_give rows width block_rows passed lost gaps some few unseen are =
       | inl early ↦ inr (below _ (8 * (block / block_count width) - 21) (unseen block low early))
       | inr late ↦ inl (lost_none rows width known m some block (ap (λ b. b && lost block) (let no : nat_lt block passed ≡ false = grind (arith, nat_tests) in no)))
     ])
-    ∙ rects_same rows width block_rows known lost some (λ block lt. ap (λ b. b && lost block) (by_lt block passed (omega (arith, lt, few))))
+    ∙ rects_same rows width block_rows known lost some (λ block lt. ap (λ b. b && lost block) (lt-ltb block passed (omega (arith, lt, few))))
   where
     below : (y : Bool) (n : ℕ) → rows ≤ n → (nat_lt n rows && y) ≡ false
     below y n le = ap (λ b. b && y) (let no : nat_lt n rows ≡ false = grind (arith, nat_tests) in no)

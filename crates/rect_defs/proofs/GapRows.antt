@@ -1,17 +1,18 @@
 -- The runs of missing blocks that begin from a block on, one after another.
-use Rattle.std.proofs.Common.{◌≡◌, ◌⊎◌, inl, inr, ◌≤◌, ◌<◌, ◌+◌, ◌-◌, ◌*◌, ◌/◌, ◌%◌, ℕ, zero, suc, Bool, true, false, List, [], ◌∷◌, ◌++◌, map, refl, sym, ap, subst, ◌∙◌, arith, append_assoc}
+use Rattle.std.proofs.Common.{◌≡◌, ◌⊎◌, inl, inr, ◌≤◌, ◌<◌, ◌+◌, ◌-◌, ◌*◌, ◌/◌, ◌%◌, ℕ, zero, suc, Bool, true, false, List, [], ◌∷◌, ◌++◌, map, sym, ap, subst, ◌∙◌, arith, append_assoc}
 use Rattle.std.specs.Prelude.{cond, ◌==◌, ◌&&◌, ◌||◌, not, max, min, filter}
 use Rattle.std.specs.List.{range_with_len, prefix_len}
-use Rattle.std.proofs.lemmas.Bool.{cases_lt, false≢true}
+use Rattle.std.proofs.lemmas.Bool.{cases_lt, false≢true, and_from}
 use Rattle.std.proofs.lemmas.Bool.Decides.{nat_tests}
 use Rattle.std.proofs.lemmas.Nat.{div-add-mod', mod_below, div-mul-add, mod-mul-add}
 use Rattle.std.proofs.Math.Nat.{mul-le-mul_right}
+use Rattle.std.proofs.Math.Bool.{and-false}
 use Rattle.base_122.specs.Sizes.{block_count}
 use Rattle.rect_defs.specs.declared.gap.Gap.{Gap}
 use Rattle.rect_defs.specs.declared.rect.Rect.{Rect}
 use Rattle.rect_defs.specs.Rects.{begins_run, run_length, reach_of, rect_from, has_pixels}
 use Rattle.rect_defs.specs.Gaps.{AreAll, gap_rect}
-use Rattle.rect_defs.proofs.Tests.{both, prefix_least, prefix_most, prefix_all}
+use Rattle.rect_defs.proofs.Tests.{prefix_least, prefix_most, prefix_all}
 
 -- if a test fails at a number, the numbers that pass end before it
 prefix_ends : (p : ℕ → Bool) (a n k : ℕ) → p (a + k) ≡ false → prefix_len p (range_with_len a n) ≤ k
@@ -22,8 +23,7 @@ prefix_ends p a n k e = elim (cases_lt k (prefix_len p (range_with_len a n))) [
 
 -- a list of one more
 one_more : {A : Type 0} (b : Bool) (y : A) (ys : List A) → cond b (y ∷ ys) ys ≡ cond b (y ∷ []) [] ++ ys
-one_more true y ys = refl
-one_more false y ys = refl
+one_more b y ys = grind (arith, nat_tests)
 
 -- a number in a row of this length
 in_row : (columns r k : ℕ) → r * columns ≤ k → k < (r + 1) * columns → (k / columns ≡ r) × (k % columns ≡ k - r * columns)
@@ -62,9 +62,7 @@ module _ (rows width : ℕ) (lost : ℕ → Bool) (m : ℕ) (some : 0 < width) w
 
   -- one that begins none
   past_one : (a : ℕ) → a < m → begins a ≡ false → after a ≡ after (a + 1)
-  past_one a lt e =
-      let rest = range_with_len (a + 1) (m - (a + 1)) in
-      ap made (range_of a lt) ∙ ap (λ b. kept (map (rect_from rows width lost) (cond b (a ∷ filter begins rest) (filter begins rest)))) e
+  past_one a lt e = grind (arith, nat_tests, range_of)
 
   -- and some
   pub past : (k a : ℕ) → a + k ≤ m → ((block : ℕ) → a ≤ block → block < a + k → begins block ≡ false) → after a ≡ after (a + k)
@@ -76,26 +74,14 @@ module _ (rows width : ℕ) (lost : ℕ → Bool) (m : ℕ) (some : 0 < width) w
 
   -- one that begins a run
   first_one : (a : ℕ) → a < m → begins a ≡ true → after a ≡ kept (rect_from rows width lost a ∷ []) ++ after (a + 1)
-  first_one a lt e =
-      let rest = range_with_len (a + 1) (m - (a + 1)) in
-      let rect = rect_from rows width lost a in
-      ap made (range_of a lt)
-      ∙ ap (λ b. kept (map (rect_from rows width lost) (cond b (a ∷ filter begins rest) (filter begins rest)))) e
-      ∙ one_more (has_pixels rows width rect) rect (made rest)
+  first_one a lt e = grind (arith, nat_tests, range_of, one_more)
 
   -- a block that isn't missing begins none, nor does one after a missing one in its row
   pub lost_none : (block : ℕ) → lost block ≡ false → begins block ≡ false
   lost_none block e = ap (λ x. x && ((block % c == 0) || not (lost (block - 1)))) e
 
   inner_none : (r block : ℕ) → r * c < block → block < (r + 1) * c → lost (block - 1) ≡ true → begins block ≡ false
-  inner_none r block low high e =
-      let at = (in_row c r block (omega (arith, low)) high).1 in
-      let there : (block % c == 0) ≡ false = let more : 0 < block % c = omega (arith, at, low) in grind (arith, nat_tests) in
-      ap (λ x. lost block && (x || not (lost (block - 1)))) there ∙ ap (λ x. lost block && not x) e ∙ none_of (lost block)
-    where
-      none_of : (b : Bool) → (b && false) ≡ false
-      none_of true = refl
-      none_of false = refl
+  inner_none r block low high e = grind (arith, nat_tests, in_row, and-false)
 
   -- ---- a run
 
@@ -110,19 +96,7 @@ module _ (rows width : ℕ) (lost : ℕ → Bool) (m : ℕ) (some : 0 < width) w
     pub within : q < m
 
   run_is : (r p q : ℕ) → Piece r p q → run_length c lost p ≡ q + 1 - p
-  run_is r p q x =
-      let at = (in_row c r p x.low (omega (arith, x.order, x.high))).1 in
-      let high = x.high in
-      let low = x.low in
-      let next = next_row r in
-      let order = x.order in
-      let least : q + 1 - p ≤ run_length c lost p =
-      prefix_least lost p (c - p % c) (q + 1 - p) (omega (arith, at, high, low, next)) (λ k from to. x.missing.at k from (omega (arith, to, order))) in
-      let most : run_length c lost p ≤ q + 1 - p = elim x.ends [
-        | inl whole ↦ let all = prefix_most lost p (c - p % c) in omega (arith, all, at, whole, next, low)
-        | inr stop ↦ prefix_ends lost p (c - p % c) (q + 1 - p) (let e : p + (q + 1 - p) ≡ q + 1 = omega (arith, order) in ap lost e ∙ stop)
-      ] in
-      omega (arith, least, most)
+  run_is r p q x = grind (arith, nat_tests, in_row, next_row, prefix_least, prefix_most, prefix_ends)
 
   piece : (r p q : ℕ) → Piece r p q → after p ≡ kept (reach_of rows width r (p - r * c) (q - r * c) ∷ []) ++ after (q + 1)
   piece r p q x =
@@ -163,10 +137,7 @@ module _ (rows width : ℕ) (lost : ℕ → Bool) (m : ℕ) (some : 0 < width) w
   last_low gap = let e = div-add-mod' gap.last c in omega (arith, e)
 
   last_high : (gap : Gap) → gap.last < (gap.last / c + 1) * c
-  last_high gap =
-      let e = div-add-mod' gap.last c in
-      let few = mod_below gap.last c wide in
-      omega (arith, e, few, next_row (gap.last / c))
+  last_high gap = grind (arith, nat_tests, div-add-mod', mod_below, wide, next_row)
 
   -- the last block of the part
   last_in : (gap : Gap) (r : ℕ) → ℕ
@@ -177,8 +148,7 @@ module _ (rows width : ℕ) (lost : ℕ → Bool) (m : ℕ) (some : 0 < width) w
 
   part_here : (gap : Gap) (r p q : ℕ) → p ≡ max gap.first (r * c) → q ≡ min gap.last (r * c + c - 1) → after p ≡ kept (reach_of rows width r (p - r * c) (q - r * c) ∷ []) ++ after (q + 1) →
       after p ≡ kept (gap_rect rows width gap r ∷ []) ++ after (q + 1)
-  part_here gap r p q first last e =
-      e ∙ ap (λ n. kept (reach_of rows width r (n - r * c) (q - r * c) ∷ []) ++ after (q + 1)) first ∙ ap (λ n. kept (reach_of rows width r (max gap.first (r * c) - r * c) (n - r * c) ∷ []) ++ after (q + 1)) last
+  part_here gap r p q first last e = grind (arith, nat_tests)
 
   pub rows_of_gap : (gap : Gap) (k r p : ℕ) → IsGap gap → PartAt gap k r p → after p ≡ kept (map (gap_rect rows width gap) (range_with_len r (suc k))) ++ after (gap.last + 1)
   rows_of_gap gap zero r p is at =
@@ -227,7 +197,7 @@ module _ (rows width : ℕ) (lost : ℕ → Bool) (m : ℕ) (some : 0 < width) w
         high = omega (arith, over, some_c);
         first = omega (arith, first, high);
         inside = far;
-        begins_it = both (lost p') ((p' % c == 0) || not (lost (p' - 1))) there (ap (λ b. b || not (lost (p' - 1))) column);
+        begins_it = and_from (lost p') ((p' % c == 0) || not (lost (p' - 1))) there (ap (λ b. b || not (lost (p' - 1))) column);
         last = let last = at.last in omega (arith, last);
       } in
       one

@@ -1,10 +1,11 @@
 -- The rectangles have exactly the pixels that missing blocks reach.
-use Rattle.std.proofs.Common.{◌≡◌, ◌≤◌, ◌<◌, ◌+◌, ◌-◌, ◌*◌, ◌/◌, ◌%◌, ℕ, Bool, true, false, List, map, sym, ap, subst, ◌∙◌, refl, arith}
-use Rattle.std.specs.Prelude.{ℤ, ◌==◌, ◌&&◌, ◌||◌, not, nat_le, nat_lt, min, filter, Option}
+use Rattle.std.proofs.Common.{◌≡◌, ◌≤◌, ◌<◌, ◌+◌, ◌-◌, ◌*◌, ◌/◌, ◌%◌, ℕ, Bool, true, false, List, sym, ap, subst, ◌∙◌, refl, arith}
+use Rattle.std.specs.Prelude.{ℤ, ◌==◌, ◌&&◌, ◌||◌, not, nat_le, nat_lt, min, Option}
 use Rattle.std.specs.List.{range_with_len, list_any}
-use Rattle.std.proofs.lemmas.Bool.{false≢true}
+use Rattle.std.proofs.lemmas.Bool.{false≢true, and_from, leb-true, le-leb, lt-ltb}
 use Rattle.std.proofs.lemmas.Nat.{div-add-mod', mod_below, div_below}
 use Rattle.std.proofs.Math.Nat.{mul-le-mul_right}
+use Rattle.std.proofs.lemmas.Bool.Decides.{nat_tests}
 use Rattle.base_122.specs.Sizes.{block_count}
 use Rattle.base_122.specs.declared.geometry.Geometry.{Geometry}
 use Rattle.wave_defs.specs.Reach.{reaches}
@@ -14,7 +15,7 @@ use Rattle.stream_defs.proofs.DamageLaws.{whole_damage}
 use Rattle.rect_defs.specs.declared.rect.Rect.{Rect}
 use Rattle.rect_defs.specs.Rects.{begins_run, run_length, reach_of, rect_from, has_pixels, rects_before, rects_of, rects, is_lost}
 use Rattle.rect_defs.specs.RectLaws.{has_pixel, has_some, is_reached}
-use Rattle.rect_defs.proofs.Tests.{and_first, and_second, both, same_tests, le_by, by_le, by_lt, any_map, any_filter, Hit, any_some, any_hit, prefix_least, prefix_most, prefix_all}
+use Rattle.rect_defs.proofs.Tests.{and_first, and_second, same_tests, any_map, any_filter, Hit, any_some, any_hit, prefix_least, prefix_most, prefix_all}
 use Rattle.rect_defs.proofs.Runs.{in_row, run_of, run_long}
 
 -- ---- the reach of columns c to d of block row r
@@ -35,24 +36,14 @@ is_in rows width r c d i j e =
     let right = nat_le j rect.last_column in
     let rows_are = and_first (up && down) (left && right) e in
     let columns_are = and_second (up && down) (left && right) e in
-    let a = le_by rect.first_row i (and_first up down rows_are) in
-    let b = le_by i rect.last_row (and_second up down rows_are) in
-    let x = le_by rect.first_column j (and_first left right columns_are) in
-    let y = le_by j rect.last_column (and_second left right columns_are) in
+    let a = leb-true rect.first_row i (and_first up down rows_are) in
+    let b = leb-true i rect.last_row (and_second up down rows_are) in
+    let x = leb-true rect.first_column j (and_first left right columns_are) in
+    let y = leb-true j rect.last_column (and_second left right columns_are) in
     record { row_low = omega (arith, a); row_high = omega (arith, b); column_low = omega (arith, x); column_high = omega (arith, y) }
 
 put_in : (rows width r c d i j : ℕ) → i < rows → j < width → c ≤ d → IsIn r c d i j → (has_pixels rows width (reach_of rows width r c d) && has_pixel i j (reach_of rows width r c d)) ≡ true
-put_in rows width r c d i j inside across rising is =
-    let rect = reach_of rows width r c d in
-    let a = is.row_low in
-    let b = is.row_high in
-    let x = is.column_low in
-    let y = is.column_high in
-    both (has_pixels rows width rect) (has_pixel i j rect)
-    (both (nat_lt rect.first_row rows) (nat_lt rect.first_column width) (by_lt rect.first_row rows (omega (arith, a, inside))) (by_lt rect.first_column width (omega (arith, x, across))))
-    (both (nat_le rect.first_row i && nat_le i rect.last_row) (nat_le rect.first_column j && nat_le j rect.last_column)
-    (both (nat_le rect.first_row i) (nat_le i rect.last_row) (by_le rect.first_row i (omega (arith, a))) (by_le i rect.last_row (omega (arith, b, inside))))
-    (both (nat_le rect.first_column j) (nat_le j rect.last_column) (by_le rect.first_column j (omega (arith, x))) (by_le j rect.last_column (omega (arith, y, across)))))
+put_in rows width r c d i j inside across rising is = grind (arith, nat_tests, and_from, lt-ltb, le-leb)
 
 -- a column among c to d that reaches a pixel in it
 record Nearest (c d j : ℕ) : Type 0 where
@@ -70,13 +61,13 @@ nearest c d j rising low high = record {
 }
 
 reaches_by : (b i : ℕ) → 8 * b ≤ i + 21 → i ≤ 8 * b + 29 → reaches b i ≡ true
-reaches_by b i low high = both (nat_le (8 * b) (i + 21)) (nat_le i (8 * b + 29)) (by_le (8 * b) (i + 21) low) (by_le i (8 * b + 29) high)
+reaches_by b i low high = and_from (nat_le (8 * b) (i + 21)) (nat_le i (8 * b + 29)) (le-leb (8 * b) (i + 21) low) (le-leb i (8 * b + 29) high)
 
 reaches_low : (b i : ℕ) → reaches b i ≡ true → 8 * b ≤ i + 21
-reaches_low b i e = le_by (8 * b) (i + 21) (and_first (nat_le (8 * b) (i + 21)) (nat_le i (8 * b + 29)) e)
+reaches_low b i e = leb-true (8 * b) (i + 21) (and_first (nat_le (8 * b) (i + 21)) (nat_le i (8 * b + 29)) e)
 
 reaches_high : (b i : ℕ) → reaches b i ≡ true → i ≤ 8 * b + 29
-reaches_high b i e = le_by i (8 * b + 29) (and_second (nat_le (8 * b) (i + 21)) (nat_le i (8 * b + 29)) e)
+reaches_high b i e = leb-true i (8 * b + 29) (and_second (nat_le (8 * b) (i + 21)) (nat_le i (8 * b + 29)) e)
 
 reaches_same : (a b i : ℕ) → a ≡ b → reaches b i ≡ true → reaches a i ≡ true
 reaches_same a b i same e = ap (λ n. reaches n i) same ∙ e
@@ -97,11 +88,7 @@ module _ (rows width block_rows : ℕ) (lost : ℕ → Bool) (i j : ℕ) (inside
 
   flat : has_some (rects_of rows width block_rows lost) i j ≡ list_any is_chosen (range_with_len 0 (block_rows * columns))
   unfolding rects_before
-  flat =
-      let blocks = range_with_len 0 (block_rows * columns) in
-      any_filter (has_pixel i j) (has_pixels rows width) (map (rect_from rows width lost) (filter (begins_run columns lost) blocks))
-      ∙ any_map (λ r. has_pixels rows width r && has_pixel i j r) (rect_from rows width lost) (filter (begins_run columns lost) blocks)
-      ∙ any_filter (λ b. has_pixels rows width (rect b) && has_pixel i j (rect b)) (begins_run columns lost) blocks
+  flat = grind (arith, nat_tests, any_filter, any_map)
 
   some : 0 < columns
   some = omega (arith, across)
@@ -128,9 +115,9 @@ module _ (rows width block_rows : ℕ) (lost : ℕ → Bool) (i j : ℕ) (inside
       let next : (r + 1) * columns ≤ block_rows * columns = mul-le-mul_right columns (omega (arith, low)) in
       let more : (r + 1) * columns ≡ r * columns + columns = grind arith in
       any_hit reaches_it 0 (block_rows * columns) (b + u) (omega arith) (omega (arith, next, more, whole, near.within, most, few, one))
-      (both (lost (b + u)) (reaches ((b + u) / columns) i && reaches ((b + u) % columns) j)
+      (and_from (lost (b + u)) (reaches ((b + u) / columns) i && reaches ((b + u) % columns) j)
       (prefix_all lost b (columns - c) u (omega (arith, near.within, one)))
-      (both (reaches ((b + u) / columns) i) (reaches ((b + u) % columns) j)
+      (and_from (reaches ((b + u) / columns) i) (reaches ((b + u) % columns) j)
       (reaches_same ((b + u) / columns) r i at.row (reaches_by r i is.row_low is.row_high))
       (reaches_same ((b + u) % columns) (c + u) j at.column_is (reaches_by (c + u) j near.low near.high))))
 
@@ -158,13 +145,11 @@ module _ (rows width block_rows : ℕ) (lost : ℕ → Bool) (i j : ℕ) (inside
         column_high = omega (arith, at.column_is, reaches_high s j column, run.most, run.least, long);
       } in
       any_hit is_chosen 0 (block_rows * columns) a (omega arith) (omega (arith, run.most, h.most))
-      (both (begins_run columns lost a) (has_pixels rows width (rect a) && has_pixel i j (rect a)) run.begins
+      (and_from (begins_run columns lost a) (has_pixels rows width (rect a) && has_pixel i j (rect a)) run.begins
       (put_in rows width (a / columns) (a % columns) (a % columns + m - 1) i j inside across (omega (arith, long, run.most)) is))
 
   pub covers : has_some (rects_of rows width block_rows lost) i j ≡ is_reached block_rows columns lost i j
-  covers =
-      flat ∙ same_tests (list_any is_chosen (range_with_len 0 (block_rows * columns))) (list_any reaches_it (range_with_len 0 (block_rows * columns)))
-      (λ e. there (any_some is_chosen 0 (block_rows * columns) e)) (λ e. back (any_some reaches_it 0 (block_rows * columns) e))
+  covers = grind (arith, nat_tests, flat, same_tests, there, any_some, back)
 
 -- ---- and the damaged rows
 
@@ -191,9 +176,9 @@ module _ (g : Geometry) (received : ℕ → Option (List (List ℤ))) (n i j : �
       let whole : t * width_in + s ≡ b = div-add-mod' b width_in in
       let low : t < height_in = div_below b width_in height_in wide (omega (arith, h.most)) in
       let missing : is_missing g received t ≡ true = any_hit (λ column. is_lost g received (t * width_in + column)) 0 width_in s (omega arith) (omega (arith, mod_below b width_in wide)) (ap (is_lost g received) whole ∙ e) in
-      both (nat_lt i (height g n)) (list_any (λ r. reaches r i) (missing_rows g received n)) (by_lt i (height g n) inside)
+      and_from (nat_lt i (height g n)) (list_any (λ r. reaches r i) (missing_rows g received n)) (lt-ltb i (height g n) inside)
       (any_filter (λ r. reaches r i) (is_missing g received) (range_with_len 0 height_in)
-      ∙ any_hit (λ r. is_missing g received r && reaches r i) 0 height_in t (omega arith) (omega (arith, low)) (both (is_missing g received t) (reaches t i) missing row))
+      ∙ any_hit (λ r. is_missing g received r && reaches r i) 0 height_in t (omega arith) (omega (arith, low)) (and_from (is_missing g received t) (reaches t i) missing row))
 
   pub undamaged : is_covered (damage g received n) i ≡ false → has_some (rects g received n) i j ≡ false
   undamaged e = covers (height g n) g.width height_in (is_lost g received) i j inside across ∙ by (is_reached height_in width_in (is_lost g received) i j) refl

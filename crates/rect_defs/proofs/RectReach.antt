@@ -1,7 +1,7 @@
 -- No pixel outside the rectangles depends on what was lost.
 use Rattle.std.proofs.Common.{◌≡◌, ◌≤◌, ◌<◌, ◌+◌, ◌-◌, ◌*◌, ◌/◌, ◌%◌, ℕ, ℤ, Bool, true, false, List, inl, inr, refl, sym, ap, ◌∙◌, arith}
 use Rattle.std.specs.Prelude.{◌&&◌, ◌||◌, not, nat_le, Option, is_some}
-use Rattle.std.proofs.lemmas.Bool.{false≢true}
+use Rattle.std.proofs.lemmas.Bool.{false≢true, or_parts, and_from, leb-true}
 use Rattle.std.proofs.lemmas.Bool.Decides.{nat_tests}
 use Rattle.std.proofs.lemmas.Nat.{div-mul-add, mod-mul-add}
 use Rattle.std.proofs.Math.Nat.{mul-le-mul_right}
@@ -19,7 +19,7 @@ use Rattle.stream_defs.proofs.BandPlaces.{same_block}
 use Rattle.stream_defs.proofs.PlacedLaws.{is_open, is_not_open, within_not}
 use Rattle.rect_defs.specs.Rects.{rects, is_lost}
 use Rattle.rect_defs.specs.RectLaws.{has_some, SameWhereReceived, SameOutsideRects}
-use Rattle.rect_defs.proofs.Tests.{and_first, both, le_by, any_hit}
+use Rattle.rect_defs.proofs.Tests.{and_first, any_hit}
 use Rattle.rect_defs.proofs.RectCovers.{covers}
 
 -- How many block rows the bands have, and which of them can't be seen: those after the first block rows are below all rows that are given.
@@ -68,26 +68,18 @@ module _ (g : Geometry) (received : ℕ → Option (List (List ℤ))) (n : ℕ) 
   bands numbers = pyramid_with numbers c g.weights.shifts
 
   not_lost : (b : Bool) → not b ≡ false → b ≡ true
-  not_lost true e = refl
-  not_lost false e = absurd (false≢true (sym e))
-
-  neither : (a b : Bool) → (a || b) ≡ false → (a ≡ false) × (b ≡ false)
-  neither true b e = absurd (false≢true (sym e))
-  neither false b e = (refl, e)
+  not_lost b e = grind (arith, nat_tests, false≢true)
 
   below : (t : ℕ) → nat_le r t ≡ false → t < r
   below t e = grind (arith, nat_tests)
 
   low : (t s : ℕ) → t < r → s < c → t * c + s < r * c
-  low t s under few =
-      let next : (t + 1) * c ≤ r * c = mul-le-mul_right c (omega (arith, under)) in
-      let more : (t + 1) * c ≡ t * c + c = grind arith in
-      omega (arith, next, more, few)
+  low t s under few = grind (arith, nat_tests, mul-le-mul_right)
 
   same_received : SameReceived free (band_rows g n) c (bands p) (bands q)
   same_received = record {
     block = λ t s tall few kept.
-        let two = neither (is_lost g received (t * c + s)) (nat_le r t) kept in
+        let two = or_parts (is_lost g received (t * c + s)) (nat_le r t) kept in
         same_block p q c g.weights.shifts t s (λ i small. same.at (t * c + s) i (low t s (below t two.1) few) small (not_lost (is_some (received ((t * c + s) / g.segment))) two.0));
   }
 
@@ -96,16 +88,16 @@ module _ (g : Geometry) (received : ℕ → Option (List (List ℤ))) (n : ℕ) 
   unreached i j t s inside across none tall few gone row column = by (is_lost g received (t * c + s)) (nat_le r t) refl refl gone
     where
       near : 8 * t ≤ i + 21
-      near = le_by (8 * t) (i + 21) (and_first (nat_le (8 * t) (i + 21)) (nat_le i (8 * t + 29)) row)
+      near = leb-true (8 * t) (i + 21) (and_first (nat_le (8 * t) (i + 21)) (nat_le i (8 * t + 29)) row)
 
       by : (a b : Bool) → is_lost g received (t * c + s) ≡ a → nat_le r t ≡ b → (a || b) ≡ true → ⊥
       by false false is past e = false≢true e
-      by a true is past e = (are_tall g n range).unseen t i tall (le_by r t past) inside near
+      by a true is past e = (are_tall g n range).unseen t i tall (leb-true r t past) inside near
       by true false is past e =
           let b = t * c + s in
           let hits : (is_lost g received b && (reaches (b / c) i && reaches (b % c) j)) ≡ true =
-          both (is_lost g received b) (reaches (b / c) i && reaches (b % c) j) is
-          (both (reaches (b / c) i) (reaches (b % c) j) (ap (λ n. reaches n i) (div-mul-add t c s few) ∙ row) (ap (λ n. reaches n j) (mod-mul-add t c s few) ∙ column)) in
+          and_from (is_lost g received b) (reaches (b / c) i && reaches (b % c) j) is
+          (and_from (reaches (b / c) i) (reaches (b % c) j) (ap (λ n. reaches n i) (div-mul-add t c s few) ∙ row) (ap (λ n. reaches n j) (mod-mul-add t c s few) ∙ column)) in
           let hit = any_hit (λ block. is_lost g received block && (reaches (block / c) i && reaches (block % c) j)) 0 (r * c) b (omega arith) (omega (arith, low t s (below t past) few)) hits in
           false≢true (sym none ∙ covers (height g n) g.width r (is_lost g received) i j inside across ∙ hit)
 

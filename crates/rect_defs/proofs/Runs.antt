@@ -1,11 +1,11 @@
 -- Each missing block is in a run of its block row.
 use Rattle.std.proofs.Common.{◌≡◌, ◌≤◌, ◌<◌, ◌+◌, ◌-◌, ◌*◌, ◌/◌, ◌%◌, ℕ, zero, suc, Bool, true, false, inl, inr, ap, ◌∙◌, refl, arith}
 use Rattle.std.specs.Prelude.{◌==◌, ◌||◌, not}
-use Rattle.std.proofs.lemmas.Bool.{cases_lt}
+use Rattle.std.proofs.lemmas.Bool.{cases_lt, and_from}
 use Rattle.std.proofs.lemmas.Bool.Decides.{nat_tests}
 use Rattle.std.proofs.lemmas.Nat.{div-add-mod', div-mul-add, mod-mul-add, mod_below}
 use Rattle.rect_defs.specs.Rects.{begins_run, run_length}
-use Rattle.rect_defs.proofs.Tests.{both, prefix_least}
+use Rattle.rect_defs.proofs.Tests.{prefix_least}
 
 -- a place of the same block row
 pub record SameRow (columns block other column : ℕ) : Type 0 where
@@ -34,7 +34,7 @@ module _ (columns : ℕ) (lost : ℕ → Bool) where
   here : (block : ℕ) → lost block ≡ true → ((block % columns == 0) || not (lost (block - 1))) ≡ true → RunOf block
   here block e begins = record {
     first = block;
-    begins = both (lost block) ((block % columns == 0) || not (lost (block - 1))) e begins;
+    begins = and_from (lost block) ((block % columns == 0) || not (lost (block - 1))) e begins;
     most = omega arith;
     least = omega arith;
     going = λ k low high. let same : k ≡ block = omega (arith, low, high) in ap lost same ∙ e;
@@ -54,8 +54,7 @@ module _ (columns : ℕ) (lost : ℕ → Bool) where
   }
 
   or_not : (a b : Bool) → b ≡ false → (a || not b) ≡ true
-  or_not true b e = refl
-  or_not false b e = ap not e
+  or_not a b e = grind (arith, nat_tests)
 
   pub run_of : (column block : ℕ) → 0 < columns → block % columns ≡ column → lost block ≡ true → RunOf block
   run_of zero block some at e =

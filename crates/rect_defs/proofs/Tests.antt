@@ -1,39 +1,22 @@
 -- Tests over lists of numbers.
 use Rattle.std.proofs.Common.{◌≡◌, ◌≤◌, ◌<◌, ◌+◌, ℕ, zero, suc, Bool, true, false, List, [], ◌∷◌, map, refl, sym, ap, ◌∙◌, inl, inr, arith}
-use Rattle.std.specs.Prelude.{cond, ◌&&◌, ◌||◌, filter, nat_le, nat_lt}
+use Rattle.std.specs.Prelude.{cond, ◌&&◌, ◌||◌, filter}
 use Rattle.std.specs.List.{range_with_len, list_any, prefix_len}
-use Rattle.std.proofs.lemmas.Bool.{cases_lt, false≢true}
-use Rattle.std.proofs.lemmas.Bool.Decides.{nat_tests}
+use Rattle.std.proofs.lemmas.Bool.{cases_lt, false≢true, and_from, leb-true, le-leb, lt-ltb, or_right, or_left}
 use Rattle.std.proofs.lemmas.List.FromFn.{length-range_with_len, get_or-range_with_len}
 use Rattle.std.proofs.lemmas.List.Sums.{prefix_len-le-length, prefix_len_passes}
+use Rattle.std.proofs.lemmas.Bool.Decides.{nat_tests}
 
 -- ---- two tests
 
 pub and_first : (a b : Bool) → (a && b) ≡ true → a ≡ true
-and_first true b e = refl
-and_first false b e = e
+and_first a b e = grind (arith, nat_tests)
 
 pub and_second : (a b : Bool) → (a && b) ≡ true → b ≡ true
-and_second true b e = e
-and_second false b e = absurd (false≢true e)
-
-pub both : (a b : Bool) → a ≡ true → b ≡ true → (a && b) ≡ true
-both true b e h = h
-both false b e h = e
+and_second a b e = grind (arith, nat_tests, false≢true)
 
 pub same_tests : (a b : Bool) → (a ≡ true → b ≡ true) → (b ≡ true → a ≡ true) → a ≡ b
-same_tests true b there back = sym (there refl)
-same_tests false true there back = back refl
-same_tests false false there back = refl
-
-pub le_by : (m n : ℕ) → nat_le m n ≡ true → m ≤ n
-le_by m n e = grind (arith, nat_tests)
-
-pub by_le : (m n : ℕ) → m ≤ n → nat_le m n ≡ true
-by_le m n le = grind (arith, nat_tests)
-
-pub by_lt : (m n : ℕ) → m < n → nat_lt m n ≡ true
-by_lt m n lt = grind (arith, nat_tests)
+same_tests a b there back = grind (arith, nat_tests)
 
 -- ---- one of some passes
 
@@ -69,17 +52,9 @@ any_some f a (suc n) e = by (f a) refl (any_some f (a + 1) n) e
 pub any_hit : (f : ℕ → Bool) (a n i : ℕ) → a ≤ i → i < a + n → f i ≡ true → list_any f (range_with_len a n) ≡ true
 any_hit f a zero i low high e = absurd (omega (arith, low, high))
 any_hit f a (suc n) i low high e = elim (cases_lt a i) [
-  | inl later ↦ or_true (f a) (list_any f (range_with_len (a + 1) n)) (any_hit f (a + 1) n i (omega (arith, later)) (omega (arith, high)) e)
-  | inr here ↦ let same : i ≡ a = omega (arith, here, low) in true_or (f a) (list_any f (range_with_len (a + 1) n)) (sym (ap f same) ∙ e)
+  | inl later ↦ or_right (f a) (list_any f (range_with_len (a + 1) n)) (any_hit f (a + 1) n i (omega (arith, later)) (omega (arith, high)) e)
+  | inr here ↦ let same : i ≡ a = omega (arith, here, low) in or_left (f a) (list_any f (range_with_len (a + 1) n)) (sym (ap f same) ∙ e)
 ]
-  where
-    or_true : (a b : Bool) → b ≡ true → (a || b) ≡ true
-    or_true true b e = refl
-    or_true false b e = e
-
-    true_or : (a b : Bool) → a ≡ true → (a || b) ≡ true
-    true_or true b e = refl
-    true_or false b e = absurd (false≢true e)
 
 -- ---- how many from a on pass one after another
 

@@ -1,11 +1,11 @@
 -- Which of some packets of an image are kept.
 use Rattle.std.proofs.Common.{◌≡◌, ◌⊎◌, inl, inr, ◌≤◌, ◌<◌, ◌+◌, ℕ, zero, suc, ℤ, List, [], ◌∷◌, ◌++◌, map, refl, sym, ap, subst, ◌∙◌, arith}
-use Rattle.std.specs.Prelude.{Bool, true, false, ◌==◌, ◌&&◌, if◌then◌else◌, Some}
-use Rattle.std.specs.List.{range_with_len, flat_map}
-use Rattle.std.proofs.lemmas.Bool.{cases_lt}
+use Rattle.std.specs.Prelude.{Bool, true, false, ◌==◌, if◌then◌else◌, Some}
+use Rattle.std.proofs.lemmas.Bool.{cases_lt, ne_eqb, eq-eqb}
 use Rattle.std.proofs.lemmas.Bool.Decides.{nat_tests}
 use Rattle.std.proofs.lemmas.Grind.{flat_map-append}
 use Rattle.std.proofs.lemmas.List.{append-nil}
+use Rattle.std.proofs.Math.Bool.{and-false}
 use Rattle.base_122.specs.declared.setting.Setting.{Setting}
 use Rattle.stream_defs.specs.declared.fate.Fate.TheVariants.{Kept, OutOfPlace}
 use Rattle.stream_defs.specs.declared.fate.LastPart.{LastPart}
@@ -31,7 +31,7 @@ kept_past : (apid : ℕ) (st : FateState) (packet : List ℕ) (packets : List (L
 unfolding kept
 kept_past apid st packet packets e = rw e refl
 
-kept_none : (apid : ℕ) (st : FateState) → kept apid st [] ≡ []
+pub kept_none : (apid : ℕ) (st : FateState) → kept apid st [] ≡ []
 unfolding kept
 kept_none apid st = refl
 
@@ -43,10 +43,7 @@ kept_one apid st packet packets e = rw e refl
 append_one : (apid : ℕ) (st : FateState) (x : List ℕ) (xs ys : List (List ℕ)) (b : Bool) → is_kept (fate apid st x) ≡ b →
     kept apid (after apid st x) (xs ++ ys) ≡ kept apid (after apid st x) xs ++ kept apid (after_all apid (after apid st x) xs) ys →
     kept apid st (x ∷ (xs ++ ys)) ≡ kept apid st (x ∷ xs) ++ kept apid (after_all apid (after apid st x) xs) ys
-append_one apid st x xs ys true e rest = kept_one apid st x (xs ++ ys) e ∙ ap (λ zs. x ∷ zs) rest
-    ∙ ap (λ zs. zs ++ kept apid (after_all apid (after apid st x) xs) ys) (sym (kept_one apid st x xs e))
-append_one apid st x xs ys false e rest = kept_past apid st x (xs ++ ys) e ∙ rest
-    ∙ ap (λ zs. zs ++ kept apid (after_all apid (after apid st x) xs) ys) (sym (kept_past apid st x xs e))
+append_one apid st x xs ys b e rest = grind (arith, nat_tests, kept_one, kept_past)
 
 pub kept-append : (apid : ℕ) (st : FateState) (xs ys : List (List ℕ)) → kept apid st (xs ++ ys) ≡ kept apid st xs ++ kept apid (after_all apid st xs) ys
 kept-append apid st [] ys = ap (λ zs. zs ++ kept apid st ys) (sym (kept_none apid st))
@@ -56,25 +53,15 @@ pub after_all-append : (apid : ℕ) (st : FateState) (xs ys : List (List ℕ)) �
 after_all-append apid st [] ys = refl
 after_all-append apid st (x ∷ xs) ys = after_all-append apid (after apid st x) xs ys
 
-apart : (m n : ℕ) → (m ≡ n → ⊥) → (m == n) ≡ false
-apart m n e = grind (arith, nat_tests)
-
-equal : (m n : ℕ) → m ≡ n → (m == n) ≡ true
-equal m n e = grind (arith, nat_tests)
-
 kept_is : (apid : ℕ) (st : FateState) (packet : List ℕ) → fate apid st packet ≡ OutOfPlace → is_kept (fate apid st packet) ≡ false
 kept_is apid st packet e = rw e refl
 
 -- a part that doesn't follow
 far_part : (last : LastPart) (index part : ℕ) (told_last : Bool) (s : Setting) → last.part < part → follows (Some last) (written_at told_last s index (part + 1)) ≡ false
-far_part last index part told_last s far = let e : (part + 1 == last.part + 1) ≡ false = apart (part + 1) (last.part + 1) (λ e. omega (arith, e, far)) in rw e (and_false (index == last.index))
-  where
-    and_false : (b : Bool) → (b && false) ≡ false
-    and_false true = refl
-    and_false false = refl
+far_part last index part told_last s far = let e : (part + 1 == last.part + 1) ≡ false = ne_eqb (part + 1) (last.part + 1) (λ e. omega (arith, e, far)) in rw e (and-false (index == last.index))
 
 far_index : (last : LastPart) (index part : ℕ) (told_last : Bool) (s : Setting) → last.index < index → follows (Some last) (written_at told_last s index part) ≡ false
-far_index last index part told_last s far = let e : (index == last.index) ≡ false = apart index last.index (λ e. omega (arith, e, far)) in rw e refl
+far_index last index part told_last s far = let e : (index == last.index) ≡ false = ne_eqb index last.index (λ e. omega (arith, e, far)) in rw e refl
 
 -- ---- one segment
 
@@ -82,9 +69,6 @@ module _ (told_last : Bool) (s : Setting) (all : List (List ℤ)) (coded : AreCo
   -- the state after part k
   abbrev after_part : ℕ → FateState
   after_part k = state_by told_last s (place_at s all index k)
-
-  packets_of_parts : List ℕ → List (List ℕ)
-  packets_of_parts ks = map (packet_at told_last s all index) ks
 
   -- parts after a gap are dropped, and change nothing
   gap_drops : (st : FateState) (least : ℕ) (ks : List ℕ) → 1 ≤ least → IsRising least (parts_of s all index) ks →
@@ -116,7 +100,7 @@ module _ (told_last : Bool) (s : Setting) (all : List (List ℤ)) (coded : AreCo
   takes_next k ks few rest =
       let packet = packet_at told_last s all index (k + 1) in
       let leaves = next_leaves told_last s all coded index k lt few in
-      let here : (k + 1 == k + 1) ≡ true = equal (k + 1) (k + 1) refl in (
+      let here : (k + 1 == k + 1) ≡ true = eq-eqb (k + 1) (k + 1) refl in (
         kept_more s.apid (after_part k) packet (map (packet_at told_last s all index) ks) (next_kept told_last s all coded index k lt few)
             ∙ ap (λ t. packet ∷ kept s.apid t (map (packet_at told_last s all index) ks)) leaves
             ∙ ap (λ ps. packet ∷ ps) rest.0
@@ -190,7 +174,7 @@ module _ (told_last : Bool) (s : Setting) (all : List (List ℤ)) (coded : AreCo
         inr (place_at s all index rest.1.0, ap (λ t. after_all s.apid t (map (packet_at told_last s all index) ks)) leaves ∙ rest.1.2, inl (omega arith)),
       )
   segment_kept st (suc k ∷ ks) left rising =
-      let zero_not : (suc k == 0) ≡ false = apart (suc k) 0 (λ e. omega (arith, e)) in
+      let zero_not : (suc k == 0) ≡ false = ne_eqb (suc k) 0 (λ e. omega (arith, e)) in
       let dropped = gap_drops st (suc k) (suc k ∷ ks) (omega arith) ((omega arith), rising.1, rising.2) (λ m later. before_parts st (m + 1) left) in (
         dropped.0 ∙ ap (λ b. map (packet_at told_last s all index) (if b then suc k ∷ run (0 + 1) ks else [])) (sym zero_not),
         subst (LeftBefore told_last s (index + 1) 0) (sym dropped.1) (before_next st left),
@@ -212,10 +196,7 @@ module _ (told_last : Bool) (s : Setting) (all : List (List ℤ)) (coded : AreCo
 
   pub chosen_more : (p : ℕ → List ℕ) (n : ℕ) → chosen told_last s all p (n + 1) ≡ chosen told_last s all p n ++ map (packet_at told_last s all n) (p n)
   unfolding chosen
-  chosen_more p n =
-      let f = λ (index : ℕ). map (packet_at told_last s all index) (p index) in
-      ap (flat_map f) (range_with_len-more 0 n ∙ ap (λ k. range_with_len 0 n ++ k ∷ []) (let t : 0 + n ≡ n = omega arith in t))
-      ∙ flat_map-append f (range_with_len 0 n) (n ∷ []) ∙ ap (λ r. flat_map f (range_with_len 0 n) ++ r) (append-nil (f n))
+  chosen_more p n = grind (arith, nat_tests, range_with_len-more, flat_map-append, append-nil)
 
   -- of the chosen packets exactly those are kept that continue from part 0 in their segment
   pub chosen_kept : (n : ℕ) → n ≤ segments_of s →

@@ -1,9 +1,10 @@
 -- The ranges of damaged rows cover exactly these, and have a row between them.
-use Rattle.std.proofs.Common.{◌≡◌, inl, inr, ◌≤◌, ◌<◌, ◌+◌, ◌-◌, ℕ, zero, suc, List, [], ◌∷◌, length, map, take, refl, sym, ap, subst, ◌∙◌, arith}
+use Rattle.std.proofs.Common.{◌≡◌, inl, inr, ◌≤◌, ◌<◌, ◌+◌, ◌-◌, ℕ, zero, suc, List, [], ◌∷◌, length, map, refl, sym, ap, subst, ◌∙◌, arith}
 use Rattle.std.specs.Prelude.{Bool, true, false, ◌==◌, ◌&&◌, ◌||◌, not, nat_le, nat_lt, filter, take_while}
-use Rattle.std.specs.List.{range_with_len, prefix_len}
-use Rattle.std.proofs.lemmas.Bool.{cases_lt}
+use Rattle.std.specs.List.{range_with_len}
+use Rattle.std.proofs.lemmas.Bool.{cases_lt, or_left, and_left}
 use Rattle.std.proofs.lemmas.Bool.Decides.{nat_tests}
+use Rattle.std.proofs.Math.Bool.{and-true}
 use Rattle.stream_defs.specs.declared.range.RowRange.{RowRange}
 use Rattle.stream_defs.specs.Damage.{is_damaged, begins_range, run_length, range_from, ranges, is_covered, Covers, LieApart}
 
@@ -17,14 +18,11 @@ below first last row low = grind (arith, nat_tests)
 above : (first last row : ℕ) → last < row → (nat_le first row && nat_le row last) ≡ false
 above first last row high = grind (arith, nat_tests)
 
-true_or : (a b : Bool) → a ≡ true → (a || b) ≡ true
-true_or a b e = rw e refl
-
-false_or : (a b c : Bool) → a ≡ false → b ≡ c → (a || b) ≡ c
+pub false_or : (a b c : Bool) → a ≡ false → b ≡ c → (a || b) ≡ c
 false_or a b c e f = rw e f
 
 -- ranges that are separate from a row on are so from an earlier one
-apart_earlier : (m n : ℕ) (rs : List RowRange) → m ≤ n → LieApart n rs → LieApart m rs
+pub apart_earlier : (m n : ℕ) (rs : List RowRange) → m ≤ n → LieApart n rs → LieApart m rs
 apart_earlier m n [] le a = tt
 apart_earlier m n (r ∷ rs) le a = let low = a.0 in ((omega (arith, low, le)), a.1, a.2)
 
@@ -53,26 +51,14 @@ module _ (rows : ℕ) (missing : List ℕ) where
 
   going_on : (a n : ℕ) → is_damaged rows missing a ≡ true → going a (suc n) ≡ suc (going (a + 1) n)
   unfolding going
-  going_on a n e =
-      let rest = range_with_len (a + 1) n in
-      let m = prefix_len (is_damaged rows missing) rest in
-      let one : 1 + m ≡ suc m = omega arith in
-      rw e (ap (λ k. length (take k (a ∷ rest))) one)
+  going_on a n e = grind (arith, nat_tests)
 
   going_ends : (a n : ℕ) → is_damaged rows missing a ≡ false → going a (suc n) ≡ 0
   unfolding going
   going_ends a n e = rw e refl
 
-  begins_by : (a b c : Bool) → a ≡ true → b ≡ false → (a && (c || not b)) ≡ true
-  begins_by a b true x y = rw x refl
-  begins_by a b false x y = rw (x, y) refl
-
   not_begins : (a b c : Bool) → b ≡ true → c ≡ false → (a && (c || not b)) ≡ false
-  not_begins true b c x y = rw (x, y) refl
-  not_begins false b c x y = refl
-
-  undamaged : (a c : Bool) → a ≡ false → (a && c) ≡ false
-  undamaged a c e = rw e refl
+  not_begins a b c x y = grind (arith, nat_tests)
 
   -- If a range may begin at a: what the ranges from there on cover, and that they are separate.
   record Fresh (a n : ℕ) : Type 0 where
@@ -87,30 +73,17 @@ module _ (rows : ℕ) (missing : List ℕ) where
     from : (row : ℕ) → a + going a n ≤ row → is_covered (some_ranges a n) row ≡ is_damaged rows missing row
     apart : LieApart (a + going a n + 1) (some_ranges a n)
 
-  and_true : (b : Bool) → (b && true) ≡ b
-  and_true true = refl
-  and_true false = refl
-
   fresh_after : (a : ℕ) → is_damaged rows missing a ≡ false → begins_range rows missing (a + 1) ≡ is_damaged rows missing (a + 1)
-  fresh_after a e =
-      let back : a + 1 - 1 ≡ a = omega arith in
-      let zero_not : (a + 1 == 0) ≡ false = grind (arith, nat_tests) in
-      ap (λ m. is_damaged rows missing (a + 1) && ((a + 1 == 0) || not (is_damaged rows missing m))) back
-      ∙ ap (λ b. is_damaged rows missing (a + 1) && ((a + 1 == 0) || not b)) e
-      ∙ ap (λ b. is_damaged rows missing (a + 1) && (b || true)) zero_not
-      ∙ and_true (is_damaged rows missing (a + 1))
+  fresh_after a e = grind (arith, nat_tests, and-true)
 
   fresh_start : begins_range rows missing 0 ≡ is_damaged rows missing 0
-  fresh_start = and_true (is_damaged rows missing 0)
+  fresh_start = and-true (is_damaged rows missing 0)
 
   past_a : (a n : ℕ) → is_damaged rows missing a ≡ false → some_ranges a (suc n) ≡ some_ranges (a + 1) n
-  past_a a n e = step_past a n (undamaged (is_damaged rows missing a) _ e)
+  past_a a n e = step_past a n (and_left (is_damaged rows missing a) _ e)
 
   from_a : (a n : ℕ) → is_damaged rows missing a ≡ false → Fresh (a + 1) n → (row : ℕ) → a ≤ row → is_covered (some_ranges a (suc n)) row ≡ is_damaged rows missing row
-  from_a a n e f row le = ap (λ rs. is_covered rs row) (past_a a n e) ∙ elim (cases_lt a row) [
-    | inl more ↦ f.from row (omega (arith, more))
-    | inr same ↦ f.before row (omega (arith, same)) ∙ sym e ∙ ap (is_damaged rows missing) (let h : a ≡ row = omega (arith, same, le) in h)
-  ]
+  from_a a n e f row le = grind (arith, nat_tests, past_a)
 
   fresh_past : (a n : ℕ) → is_damaged rows missing a ≡ false → Fresh (a + 1) n → Fresh a (suc n)
   fresh_past a n e f = record {
@@ -143,7 +116,7 @@ module _ (rows : ℕ) (missing : List ℕ) where
             ∙ false_or _ _ _ (below a (range_from rows missing a).last row lt) (w.before row (omega (arith, lt)));
         from = λ row le. ap (λ rs. is_covered rs row) all ∙ elim (cases_lt (a + g) row) [
           | inl more ↦ false_or _ _ _ (above a (range_from rows missing a).last row (omega (arith, more, last))) (w.from row (omega (arith, more)))
-          | inr here ↦ true_or _ _ (inside a (range_from rows missing a).last row le (omega (arith, here, last))) ∙ sym (elim (cases_lt a row) [
+          | inr here ↦ or_left _ _ (inside a (range_from rows missing a).last row le (omega (arith, here, last))) ∙ sym (elim (cases_lt a row) [
             | inl later ↦ w.gone row (omega (arith, later)) (omega (arith, here))
             | inr same ↦ ap (is_damaged rows missing) (let h : row ≡ a = omega (arith, same, le) in h) ∙ e
           ])

@@ -1,9 +1,9 @@
 -- The fates of an image's packets.
-use Rattle.std.proofs.Common.{◌≡◌, ◌⊎◌, inl, inr, ◌≤◌, ◌<◌, ◌+◌, ◌-◌, ◌*◌, ◌/◌, ◌%◌, ◌^◌, ℕ, ℤ, List, [], ◌∷◌, min, refl, sym, ap, subst, ◌∙◌, arith}
+use Rattle.std.proofs.Common.{◌≡◌, ◌⊎◌, inl, inr, ◌≤◌, ◌<◌, ◌+◌, ◌-◌, ◌*◌, ◌/◌, ◌%◌, ◌^◌, ℕ, ℤ, List, [], ◌∷◌, min, refl, sym, ap, ◌∙◌, arith}
 use Rattle.std.specs.Prelude.{Bool, true, false, ◌==◌, ◌&&◌, ◌||◌, not, nat_le, nat_lt, if◌then◌else◌, Option, Some, None, Ok, unwrap_or}
 use Rattle.std.specs.Option.{option_map}
 use Rattle.std.specs.Str.{bytes_eq}
-use Rattle.std.proofs.lemmas.Bool.{cases_lt}
+use Rattle.std.proofs.lemmas.Bool.{eq-eqb, ne_eqb, lt-leb, lt-ltb, le-leb, eqb-true, and_right}
 use Rattle.std.proofs.Math.Nat.{mul-le-mul_left, mul-div_cancel_left, mul-mod_right}
 use Rattle.std.proofs.lemmas.Bool.Decides.{nat_tests}
 use Rattle.base_122.specs.declared.range.FieldRange.{FieldRange}
@@ -27,8 +27,8 @@ use Rattle.stream_defs.specs.declared.fate.Fate.TheVariants.{Kept, Foreign, Late
 use Rattle.stream_defs.specs.declared.fate.LastPart.{LastPart}
 use Rattle.stream_defs.specs.declared.fate.FateState.{FateState}
 use Rattle.stream_defs.specs.Output.{head_for, image_part, segments_of}
-use Rattle.stream_defs.specs.Agreement.{geometry_for, same_flag, is_of_image, has_blocks, ends_where_told, pads_as_told, may_have_blocks, may_end, disagreement, head_refusal, geometry_past}
-use Rattle.stream_defs.specs.Fates.{fresh, tells_rows, is_past, differs, is_foreign, is_late, begins, follows, is_out_of_place, refusal_in, fate, is_kept, geometry_with, geometry_after, part_in, after_kept, after}
+use Rattle.stream_defs.specs.Agreement.{geometry_for, same_flag, is_of_image, has_blocks, ends_where_told, pads_as_told, may_have_blocks, may_end, disagreement, geometry_past}
+use Rattle.stream_defs.specs.Fates.{fresh, tells_rows, is_past, differs, is_foreign, is_late, begins, follows, is_out_of_place, refusal_in, fate, is_kept, geometry_after, part_in, after_kept, after}
 use Rattle.stream_defs.specs.Places.{parts_of, packet_at, place_at, AreCoded}
 use Rattle.stream_defs.specs.StreamLaws.{geometry_by}
 use Rattle.stream_defs.proofs.OutPackets.{written_at, some_blocks, block_before, part_reads, part_begins, part_closes}
@@ -68,15 +68,6 @@ after_as_other apid st packet e = rw e refl
 within : (range : FieldRange) (n : ℕ) → IsWithin range n → is_within range n ≡ true
 within range n both = let low = both.0 in let high = both.1 in grind (arith, nat_tests)
 
-equal : (m n : ℕ) → m ≡ n → (m == n) ≡ true
-equal m n e = grind (arith, nat_tests)
-
-apart : (m n : ℕ) → (m ≡ n → ⊥) → (m == n) ≡ false
-apart m n e = grind (arith, nat_tests)
-
-not_least : (m n : ℕ) → n < m → nat_le m n ≡ false
-not_least m n e = grind (arith, nat_tests)
-
 own_tests : (a b c d : Bool) → a ≡ true → b ≡ true → c ≡ true → d ≡ false → (not a || (not b || (not c || d))) ≡ false
 own_tests a b c d x y z u = rw (x, y, z, u) refl
 
@@ -84,12 +75,11 @@ same_tests : (a b c d e : Bool) → a ≡ true → b ≡ true → c ≡ true →
 same_tests a b c d e x y z u v = rw (x, y, z, u, v) refl
 
 flag_same : (b : Bool) → same_flag b b ≡ true
-flag_same true = refl
-flag_same false = refl
+flag_same b = grind (arith, nat_tests)
 
 bytes_same : (xs : List ℕ) → bytes_eq xs xs ≡ true
 bytes_same [] = refl
-bytes_same (x ∷ xs) = rw (equal x x refl) (bytes_same xs)
+bytes_same (x ∷ xs) = rw (eq-eqb x x refl) (bytes_same xs)
 
 -- ---- what packets before a place leave
 
@@ -110,11 +100,10 @@ abbrev geometry_first : (told_last : Bool) → Setting → Geometry
 geometry_first told_last s = image_geometry s (if told_last then 0 else s.rows)
 
 not_late : (last : LastPart) (a : Ancillary) → IsEarlier last a.index a.part → is_late (Some last) a ≡ false
-not_late last a (inl before) = grind (arith, nat_tests)
-not_late last a (inr here) = let same = here.0 in let more = here.1 in grind (arith, nat_tests)
+not_late last a h2 = grind (arith, nat_tests)
 
 first_placed : (last : Option LastPart) (flags : ℕ) (a : Ancillary) → a.part ≡ 0 → begins flags ≡ true → is_out_of_place last flags a ≡ false
-first_placed last flags a first flag = rw (equal a.part 0 first, flag) refl
+first_placed last flags a first flag = rw (eq-eqb a.part 0 first, flag) refl
 
 next_placed : (last : LastPart) (flags : ℕ) (a : Ancillary) → (a.part == 0) ≡ false → begins flags ≡ false → follows (Some last) a ≡ true → is_out_of_place (Some last) flags a ≡ false
 next_placed last flags a next flag here = rw (next, flag, here) refl
@@ -123,7 +112,7 @@ gap_misplaced : (last : Option LastPart) (flags : ℕ) (a : Ancillary) → (a.pa
 gap_misplaced last flags a next flag gap = rw (next, flag, gap) refl
 
 follows_so : (last : LastPart) (a : Ancillary) → a.index ≡ last.index → a.part ≡ last.part + 1 → last.closed ≡ false → follows (Some last) a ≡ true
-follows_so last a index part unclosed = rw (equal a.index last.index index, equal a.part (last.part + 1) part, unclosed) refl
+follows_so last a index part unclosed = rw (eq-eqb a.index last.index index, eq-eqb a.part (last.part + 1) part, unclosed) refl
 
 same_last : {a b : LastPart} → a.index ≡ b.index → a.part ≡ b.part → a.closed ≡ b.closed → a ≡ b
 same_last index part closed = λ i. record { index = index i; part = part i; closed = closed i }
@@ -135,55 +124,31 @@ same_state geometry told last = λ i. record { geometry = geometry i; told_last 
 
 -- a segment is the last one exactly if its blocks end the image's
 last_by_blocks : (total S index : ℕ) → 0 < S → index < segments total S → (index + 1 == segments total S) ≡ (index * S + min S (total - index * S) == total)
-last_by_blocks total S index some lt =
-    let before = first_block-lt total S index some lt in
-    elim (cases_lt (index + 1) (segments total S)) [
-      | inl more ↦
-          let next : (index + 1) * S < total = first_block-lt total S (index + 1) some more in
-          apart (index + 1) (segments total S) (λ e. omega (arith, e, more)) ∙ sym (apart (index * S + min S (total - index * S)) total (λ e. omega (arith, e, next, before)))
-      | inr last ↦
-          let e : index + 1 ≡ segments total S = omega (arith, last, lt) in
-          let whole : total ≤ (index + 1) * S = subst (λ k. total ≤ k * S) (sym e) (total-le-segments total S some) in
-          equal (index + 1) (segments total S) e ∙ sym (equal (index * S + min S (total - index * S)) total (omega (arith, whole, before)))
-    ]
+last_by_blocks total S index some lt = grind (arith, nat_tests, first_block-lt, ne_eqb, total-le-segments, eq-eqb)
 
 pads_last : (b : Bool) (n : ℕ) → (not b || ((if b then n else 0) == n)) ≡ true
-pads_last true n = equal n n refl
-pads_last false n = refl
+pads_last b n = grind (arith, nat_tests, eq-eqb)
 
 both : (a b : Bool) → a ≡ true → b ≡ true → (a && b) ≡ true
 both a b x y = rw (x, y) refl
 
-below : (m n : ℕ) → m < n → nat_lt m n ≡ true
-below m n lt = grind (arith, nat_tests)
-
-least : (m n : ℕ) → m ≤ n → nat_le m n ≡ true
-least m n le = grind (arith, nat_tests)
-
 image_agrees : (s : Setting) (rows : ℕ) → is_of_image (image_geometry s rows) (image_part s) ≡ true
-image_agrees s rows = rw (flag_same s.signed, equal s.depth s.depth refl, equal s.width s.width refl, equal s.word s.word refl) (bytes_same s.weights.shifts)
+image_agrees s rows = rw (flag_same s.signed, eq-eqb s.depth s.depth refl, eq-eqb s.width s.width refl, eq-eqb s.word s.word refl) (bytes_same s.weights.shifts)
 
 -- a head that agrees isn't refused
 refusal_at : (standing : Option Geometry) (packet : List ℕ) (a : Ancillary) (head : SegmentHead) → ancillary_in packet ≡ a → a.part ≡ 0 → head_read (text_in packet) ≡ Ok head →
     disagreement (geometry_for standing a head.image) a head ≡ None → refusal_in standing packet ≡ None
-refusal_at standing packet a head says first read agree =
-    let test : ((ancillary_in packet).part == 0) ≡ true = ap (λ a. a.part == 0) says ∙ equal a.part 0 first in
-    rw test (ap (λ b. head_refusal standing b (head_read (text_in packet))) says ∙ ap (head_refusal standing a) read ∙ agree)
+refusal_at standing packet a head says first read agree = grind (arith, nat_tests, eq-eqb)
 
 -- and it makes the geometry, or leaves it unchanged
 geometry_at : (standing : Option Geometry) (packet : List ℕ) (a : Ancillary) (head : SegmentHead) → ancillary_in packet ≡ a → a.part ≡ 0 → head_read (text_in packet) ≡ Ok head →
     geometry_after standing packet ≡ Some (geometry_past (geometry_for standing a head.image) a head)
-geometry_at standing packet a head says first read =
-    let test : ((ancillary_in packet).part == 0) ≡ true = ap (λ a. a.part == 0) says ∙ equal a.part 0 first in
-    rw test (ap (λ b. geometry_with standing b (head_read (text_in packet))) says ∙ ap (geometry_with standing a) read)
+geometry_at standing packet a head says first read = grind (arith, nat_tests, eq-eqb)
 
 -- ---- the height that the last head tells
 
 more_after : (m n : ℕ) → m < n → (m + 1 == n) ≡ false → m + 1 < n
 more_after m n lt e = grind (arith, nat_tests)
-
-equal_so : (m n : ℕ) → (m == n) ≡ true → m ≡ n
-equal_so m n e = grind (arith, nat_tests)
 
 -- the last segment ends the image's block rows, and these without the padding rows are its height
 ends_rows : (columns rows : ℕ) → 0 < columns → (columns * block_count rows) % columns ≡ 0 × (8 * ((columns * block_count rows) / columns) - (padded_size rows - rows) ≡ rows)
@@ -211,9 +176,9 @@ module _ (s : Setting) (all : List (List ℤ)) (coded : AreCoded s all) (index :
       let before = block_before s all coded index lt in
       none_first (not (same_flag head.first (index == 0))) _ _ (ap not (flag_same (index == 0)))
       ∙ none_first (not (has_blocks g a head)) _ _
-      (ap not (both _ _ (below (index * s.segment) (total_blocks s.width s.rows) before) (equal head.blocks (min s.segment (total_blocks s.width s.rows - index * s.segment)) blocks_are)))
+      (ap not (both _ _ (lt-ltb (index * s.segment) (total_blocks s.width s.rows) before) (eq-eqb head.blocks (min s.segment (total_blocks s.width s.rows - index * s.segment)) blocks_are)))
       ∙ none_first (not (ends_where_told g a head)) _ _ (ap not (ap (same_flag head.last) (sym last_is) ∙ flag_same (index + 1 == segments_of s)))
-      ∙ none_first (not (index % 256 == index % 256)) _ _ (ap not (equal (index % 256) (index % 256) refl))
+      ∙ none_first (not (index % 256 == index % 256)) _ _ (ap not (eq-eqb (index % 256) (index % 256) refl))
       ∙ none_first (not (pads_as_told g head)) _ _ (ap not (pads_last (index + 1 == segments_of s) (padded_size s.rows - s.rows)))
       ∙ none_first (not (is_of_image g head.image)) (BadValue Image) [] (ap not (image_agrees s s.rows))
 
@@ -222,14 +187,14 @@ module _ (s : Setting) (all : List (List ℤ)) (coded : AreCoded s all) (index :
   told_blocks true e =
       let before = block_before s all coded index lt in
       let some = some_blocks s all coded in
-      both _ _ (least 1 (head_for s all index).blocks (omega (arith, blocks_are, before, some))) (least (head_for s all index).blocks s.segment (omega (arith, blocks_are)))
+      both _ _ (le-leb 1 (head_for s all index).blocks (omega (arith, blocks_are, before, some))) (le-leb (head_for s all index).blocks s.segment (omega (arith, blocks_are)))
   told_blocks false e =
       let more : index + 1 < segments_of s = more_after index (segments_of s) lt e in
       let next : (index + 1) * s.segment < total_blocks s.width s.rows = first_block-lt (total_blocks s.width s.rows) s.segment (index + 1) (some_blocks s all coded) more in
-      equal (head_for s all index).blocks s.segment (omega (arith, blocks_are, next))
+      eq-eqb (head_for s all index).blocks s.segment (omega (arith, blocks_are, next))
 
   ends_last : (index + 1 == segments_of s) ≡ true → index * s.segment + (head_for s all index).blocks ≡ block_count s.width * block_count s.rows
-  ends_last e = equal_so (index * s.segment + (head_for s all index).blocks) (total_blocks s.width s.rows) (sym last_is ∙ e)
+  ends_last e = eqb-true (index * s.segment + (head_for s all index).blocks) (total_blocks s.width s.rows) (sym last_is ∙ e)
 
   height_told : (index + 1 == segments_of s) ≡ true → 8 * ((index * s.segment + (head_for s all index).blocks) / block_count s.width) - (padded_size s.rows - s.rows) ≡ s.rows
   height_told e = ap (λ n. 8 * (n / block_count s.width) - (padded_size s.rows - s.rows)) (ends_last e) ∙ (ends_rows (block_count s.width) s.rows some_columns).1
@@ -241,14 +206,14 @@ module _ (s : Setting) (all : List (List ℤ)) (coded : AreCoded s all) (index :
       else nat_lt (index * s.segment + s.segment) (32768 * block_count s.width)) ≡ true
   told_end true e =
       both _ _
-      (equal ((index * s.segment + (head_for s all index).blocks) % block_count s.width) 0 (ap (λ n. n % block_count s.width) (ends_last e) ∙ (ends_rows (block_count s.width) s.rows some_columns).0))
+      (eq-eqb ((index * s.segment + (head_for s all index).blocks) % block_count s.width) 0 (ap (λ n. n % block_count s.width) (ends_last e) ∙ (ends_rows (block_count s.width) s.rows some_columns).0))
       (ap (is_within rows_range) (height_told e) ∙ within rows_range s.rows coded.rows)
   told_end false e =
       let more : index + 1 < segments_of s = more_after index (segments_of s) lt e in
       let next : (index + 1) * s.segment < total_blocks s.width s.rows = first_block-lt (total_blocks s.width s.rows) s.segment (index + 1) (some_blocks s all coded) more in
       let tall : block_count s.rows ≤ 2 ^ 15 = block_count-rows s.rows coded.rows in
       let most : block_count s.width * block_count s.rows ≤ block_count s.width * 2 ^ 15 = mul-le-mul_left (block_count s.width) tall in
-      below (index * s.segment + s.segment) (32768 * block_count s.width) (omega (arith, next, most))
+      lt-ltb (index * s.segment + s.segment) (32768 * block_count s.width) (omega (arith, next, most))
 
   agrees_last : disagreement (image_geometry s 0) (written_at true s index 0) (head_for s all index) ≡ None
   unfolding disagreement
@@ -259,81 +224,58 @@ module _ (s : Setting) (all : List (List ℤ)) (coded : AreCoded s all) (index :
       none_first (not (same_flag head.first (index == 0))) _ _ (ap not (flag_same (index == 0)))
       ∙ none_first (not (may_have_blocks g head)) _ _ (ap not (told_blocks (index + 1 == segments_of s) refl))
       ∙ none_first (not (may_end g a head)) _ _ (ap not (told_end (index + 1 == segments_of s) refl))
-      ∙ none_first (not (index % 256 == index % 256)) _ _ (ap not (equal (index % 256) (index % 256) refl))
+      ∙ none_first (not (index % 256 == index % 256)) _ _ (ap not (eq-eqb (index % 256) (index % 256) refl))
       ∙ none_first (not (true || pads_as_told g head)) (BadValue PadRows) (when (not (is_of_image g head.image)) (BadValue Image) ∷ []) refl
       ∙ none_first (not (is_of_image g head.image)) (BadValue Image) [] (ap not (image_agrees s 0))
 
   pub agrees : (told_last : Bool) → disagreement (geometry_first told_last s) (written_at told_last s index 0) (head_for s all index) ≡ None
-  agrees true = agrees_last
-  agrees false = agrees_told
+  agrees told_last = grind (arith, nat_tests, agrees_last, agrees_told)
 
   -- the geometry once the head is kept
   past_by : (last : Bool) → (index + 1 == segments_of s) ≡ last →
       (if last then image_geometry s (8 * ((index * s.segment + (head_for s all index).blocks) / block_count s.width) - (if last then padded_size s.rows - s.rows else 0)) else image_geometry s 0)
       ≡ image_geometry s (if not last then 0 else s.rows)
-  past_by true e = ap (image_geometry s) (height_told e)
-  past_by false e = refl
+  past_by last e = grind (arith, nat_tests, height_told)
 
   pub past : (told_last : Bool) → geometry_past (geometry_first told_last s) (written_at told_last s index 0) (head_for s all index) ≡ geometry_by told_last s index
-  past true = past_by (index + 1 == segments_of s) refl
-  past false = refl
+  past told_last = grind (arith, nat_tests, past_by)
 
 module _ (told_last : Bool) (s : Setting) (all : List (List ℤ)) (coded : AreCoded s all) where
   tells : (told : Bool) → (if told then (if told then 0 else s.rows) == 0 else is_within rows_range (if told then 0 else s.rows)) ≡ true
-  tells true = equal 0 0 refl
-  tells false = within rows_range s.rows coded.rows
+  tells told = grind (arith, nat_tests, eq-eqb, within)
 
   -- the rows field is as before, and the block isn't past the last one
   same_rows : (told over : Bool) → ((if told then 0 else s.rows) == (if told then 0 else (if told && over then 0 else s.rows))) ≡ true
-  same_rows true over = equal 0 0 refl
-  same_rows false over = equal s.rows s.rows refl
+  same_rows told over = grind (arith, nat_tests, eq-eqb)
 
   not_past : (over : Bool) (index part : ℕ) → index < segments_of s → is_past (image_geometry s (if over then 0 else s.rows)) (written_at told_last s index part) ≡ false
   not_past true index part lt = refl
   not_past false index part lt =
-      let far = not_least (total_blocks s.width s.rows) (index * s.segment) (block_before s all coded index lt) in
-      and_false (not (s.rows == 0)) _ far
-    where
-      and_false : (a b : Bool) → b ≡ false → (a && b) ≡ false
-      and_false true b e = e
-      and_false false b e = refl
+      let far = lt-leb (total_blocks s.width s.rows) (index * s.segment) (block_before s all coded index lt) in
+      and_right (not (s.rows == 0)) _ far
 
   own : (st : FateState) (index part : ℕ) → index < segments_of s → LeftBefore told_last s index part st → is_foreign st (written_at told_last s index part) ≡ false
   own st index part lt left =
       let range = coded.setting in
       let a = written_at told_last s index part in
       own_tests (tells_rows a) (is_within segment_range s.segment) (index * s.segment == index * s.segment) (differs st.geometry st.told_last a)
-      (tells told_last) (within segment_range s.segment range.segment) (equal (index * s.segment) (index * s.segment) refl)
+      (tells told_last) (within segment_range s.segment range.segment) (eq-eqb (index * s.segment) (index * s.segment) refl)
       (elim left [
         | inl none ↦ ap (λ st. differs st.geometry st.told_last a) none
         | inr kept ↦
             let over = told_last && not (kept.0.index + 1 == segments_of s) in
             ap (λ st. differs st.geometry st.told_last a) kept.1
             ∙ same_tests (same_flag told_last told_last) (s.image == s.image) _ (s.segment == s.segment) _
-            (flag_same told_last) (equal s.image s.image refl) (same_rows told_last (not (kept.0.index + 1 == segments_of s))) (equal s.segment s.segment refl)
+            (flag_same told_last) (eq-eqb s.image s.image refl) (same_rows told_last (not (kept.0.index + 1 == segments_of s))) (eq-eqb s.segment s.segment refl)
             (not_past over index part lt)
       ])
 
   early : (st : FateState) (index part : ℕ) → LeftBefore told_last s index part st → is_late st.last (written_at told_last s index part) ≡ false
-  early st index part left = elim left [
-    | inl none ↦ ap (λ st. is_late st.last (written_at told_last s index part)) none
-    | inr kept ↦ ap (λ st. is_late st.last (written_at told_last s index part)) kept.1 ∙ not_late kept.0 (written_at told_last s index part) kept.2
-  ]
+  early st index part left = grind (arith, nat_tests, written_at, not_late)
 
   -- the geometry for the head of a segment is the one before the last segment
   geometry_here : (st : FateState) (index : ℕ) → index < segments_of s → LeftBefore told_last s index 0 st → geometry_for st.geometry (written_at told_last s index 0) (image_part s) ≡ geometry_first told_last s
-  geometry_here st index lt left = elim left [
-    | inl none ↦ ap (λ st. geometry_for st.geometry (written_at told_last s index 0) (image_part s)) none
-    | inr kept ↦ ap (λ st. geometry_for st.geometry (written_at told_last s index 0) (image_part s)) kept.1 ∙ by_place kept.0 kept.2
-  ]
-    where
-      before_last : (last : LastPart) → last.index < index → (told : Bool) → geometry_by told s last.index ≡ geometry_first told s
-      before_last last less true = let e : (last.index + 1 == segments_of s) ≡ false = apart (last.index + 1) (segments_of s) (λ e. omega (arith, e, less, lt)) in ap (λ b. image_geometry s (if not b then 0 else s.rows)) e
-      before_last last less false = refl
-
-      by_place : (last : LastPart) → IsEarlier last index 0 → geometry_by told_last s last.index ≡ geometry_first told_last s
-      by_place last (inl less) = before_last last less told_last
-      by_place last (inr here) = absurd (let none = here.1 in omega (arith, none))
+  geometry_here st index lt left = grind (arith, nat_tests, written_at, ne_eqb)
 
   -- ---- the fates
 
@@ -350,7 +292,7 @@ module _ (told_last : Bool) (s : Setting) (all : List (List ℤ)) (coded : AreCo
       kept_by s.apid st packet reads.mine
       (ap (is_foreign st) says ∙ own st index 0 lt left)
       (ap (is_late st.last) says ∙ early st index 0 left)
-      (first_placed st.last (flags_in packet) (ancillary_in packet) (ap (λ a. a.part) says) (part_begins told_last s all coded index 0 lt some ∙ equal 0 0 refl))
+      (first_placed st.last (flags_in packet) (ancillary_in packet) (ap (λ a. a.part) says) (part_begins told_last s all coded index 0 lt some ∙ eq-eqb 0 0 refl))
       head
 
   -- a further part is kept if it follows
@@ -362,9 +304,9 @@ module _ (told_last : Bool) (s : Setting) (all : List (List ℤ)) (coded : AreCo
       let reads = part_reads told_last s all coded index (part + 1) lt few in
       let says = reads.ancillary_is in
       let left : LeftBefore told_last s index (part + 1) st = inr (place_at s all index part, refl, inr (refl, omega arith)) in
-      let zero : (part + 1 == 0) ≡ false = apart (part + 1) 0 (λ e. omega (arith, e)) in
+      let zero : (part + 1 == 0) ≡ false = ne_eqb (part + 1) 0 (λ e. omega (arith, e)) in
       let further : ((ancillary_in packet).part == 0) ≡ false = ap (λ a. a.part == 0) says ∙ zero in
-      let unclosed : (part + 1 == parts_of s all index) ≡ false = apart (part + 1) (parts_of s all index) (λ e. omega (arith, e, few)) in
+      let unclosed : (part + 1 == parts_of s all index) ≡ false = ne_eqb (part + 1) (parts_of s all index) (λ e. omega (arith, e, few)) in
       kept_by s.apid st packet reads.mine
       (ap (is_foreign st) says ∙ own st index (part + 1) lt left)
       (ap (is_late st.last) says ∙ early st index (part + 1) left)
@@ -379,7 +321,7 @@ module _ (told_last : Bool) (s : Setting) (all : List (List ℤ)) (coded : AreCo
       let packet = packet_at told_last s all index (part + 1) in
       let reads = part_reads told_last s all coded index (part + 1) lt few in
       let says = reads.ancillary_is in
-      let zero : (part + 1 == 0) ≡ false = apart (part + 1) 0 (λ e. omega (arith, e)) in
+      let zero : (part + 1 == 0) ≡ false = ne_eqb (part + 1) 0 (λ e. omega (arith, e)) in
       misplaced_by s.apid st packet reads.mine
       (ap (is_foreign st) says ∙ own st index (part + 1) lt left)
       (ap (is_late st.last) says ∙ early st index (part + 1) left)
@@ -410,5 +352,5 @@ module _ (told_last : Bool) (s : Setting) (all : List (List ℤ)) (coded : AreCo
       let packet = packet_at told_last s all index (part + 1) in
       let st = state_by told_last s (place_at s all index part) in
       let says = (part_reads told_last s all coded index (part + 1) lt few).ancillary_is in
-      let further : ((ancillary_in packet).part == 0) ≡ false = ap (λ a. a.part == 0) says ∙ apart (part + 1) 0 (λ e. omega (arith, e)) in
+      let further : ((ancillary_in packet).part == 0) ≡ false = ap (λ a. a.part == 0) says ∙ ne_eqb (part + 1) 0 (λ e. omega (arith, e)) in
       after_as_kept s.apid st packet (next_kept index part lt few) ∙ same_state (rw further refl) (ap (λ a. a.told_last) says) (ap Some (same_part index (part + 1) lt few))

@@ -86,14 +86,7 @@ module _ (s : Setting) (range : IsInRange s) (open_rows : s.rows ≡ 0) (k : ℕ
       ]
 
   near_settled : (rows index : ℕ) → IsNear s k rows index → is_settled true (sized s rows) k index ≡ true
-  near_settled rows index n =
-      let S = s.segment in
-      let total = total_blocks s.width rows in
-      let whole = n.whole in
-      let blocks : segment_blocks total S index ≡ S = omega (arith, whole) in
-      let near : 8 * last_block_row (sized s rows) index + 28 < k = subst (λ m. 8 * ((index * S + m - 1) / block_count s.width) + 28 < k) (sym blocks) n.near in
-      let e : nat_lt (8 * last_block_row (sized s rows) index + 28) k ≡ true = grind (arith, nat_tests) in
-      e
+  near_settled rows index n = grind (arith, nat_tests)
 
   module _ (rows lines : ℕ) (height : IsHeight s rows) (other : IsHeight s lines) (le : k ≤ rows) (le' : k ≤ lines) where
     few : settled true (sized s rows) k ≤ segments_of (sized s rows)
@@ -187,12 +180,7 @@ module _ (s : Setting) (range : IsInRange s) (open_rows : s.rows ≡ 0) (k : ℕ
           ∙ ap (λ segment. used_before B (image_blocks B y) n + length (coded s.book (head_of B n (used_before B (image_blocks B y) n) segment) segment)) (segment_same n lt)
 
       text_same : (n : ℕ) → n < settled true A k → segment_text A (image_blocks A x) n ≡ segment_text B (image_blocks B y) n
-      text_same n lt =
-          let used = used_before B (image_blocks B y) n in
-          let xs = segment_of A (image_blocks A x) n in
-          ap (λ used. text_with A (image_blocks A x) n used) (used_same n (omega (arith, lt)))
-          ∙ ap (λ head. coded s.book head xs) (head_same n used xs lt)
-          ∙ ap (λ segment. coded s.book (head_of B n used segment) segment) (segment_same n lt)
+      text_same n lt = grind (arith, nat_tests, used_same, head_same, segment_same)
 
       pub before_same : (n : ℕ) → n ≤ settled true A k → packets_before A (image_blocks A x) n ≡ packets_before B (image_blocks B y) n
       before_same zero most = packets_before-none A (image_blocks A x) ∙ sym (packets_before-none B (image_blocks B y))

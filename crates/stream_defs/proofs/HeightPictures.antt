@@ -1,14 +1,15 @@
 -- The first rows of a picture, whatever the height, and how the blocks that aren't received change them.
-use Rattle.std.proofs.Common.{◌≡◌, ◌≤◌, ◌<◌, ◌+◌, ◌-◌, ◌*◌, ℕ, zero, suc, ℤ, List, map, ◌++◌, refl, sym, ap, ◌∙◌, arith}
+use Rattle.std.proofs.Common.{◌≡◌, ◌≤◌, ◌<◌, ◌+◌, ◌-◌, ◌*◌, ℕ, zero, suc, ℤ, List, map, ◌++◌, refl, ap, ◌∙◌, arith}
 use Rattle.std.specs.Prelude.{Option}
 use Rattle.std.specs.List.{range_with_len, flat_map}
+use Rattle.std.proofs.lemmas.Bool.Decides.{nat_tests}
 use Rattle.base_122.specs.Sizes.{block_count}
 use Rattle.base_122.specs.Ranges.{IsWithin, rows_range}
 use Rattle.base_122.specs.declared.geometry.Geometry.{Geometry}
-use Rattle.raster_rows.specs.Pixels.{clamped, raster_octets, pixel_octets}
+use Rattle.raster_rows.specs.Pixels.{raster_octets, pixel_octets}
 use Rattle.wave_defs.proofs.ReachLaws.{rising-reach}
 use Rattle.stream_defs.specs.Begun.{band_rows, placed, placed_rows}
-use Rattle.stream_defs.specs.Picture.{number_at, pyramid_with, picture_of, picture_with, whole_with}
+use Rattle.stream_defs.specs.Picture.{number_at, picture_of, picture_with, whole_with}
 use Rattle.stream_defs.proofs.PlacedLaws.{is_open, placed_open}
 
 -- ---- octets
@@ -42,10 +43,7 @@ column_within width j lt = omega (arith, lt)
 pub heights_alike : (g : Geometry) (numbers : ℕ → ℕ → ℤ) (r r' n i j : ℕ) → 2 ≤ block_count g.width → n ≤ r → n ≤ r' → i < 8 * n - 21 → j < g.width →
     picture_of g numbers r i j ≡ picture_of g numbers r' i j
 unfolding picture_of
-heights_alike g numbers r r' n i j wide least least' low across =
-    let c = block_count g.width in
-    let p = pyramid_with numbers c g.weights.shifts in
-    ap (clamped g.depth g.signed) (rising-reach p p r r' c n i j least least' wide (omega (arith, low)) (column_within g.width j across) (λ t s row column. record { at = λ k small. refl }))
+heights_alike g numbers r r' n i j wide least least' low across = grind (arith, nat_tests, rising-reach, column_within)
 
 -- the height in a geometry doesn't matter
 pub sized_same : (g : Geometry) (rows : ℕ) (numbers : ℕ → ℕ → ℤ) (r : ℕ) → picture_of (record g { rows = rows }) numbers r ≡ picture_of g numbers r
@@ -63,21 +61,11 @@ band_open g n e = rw (is_open g.rows e) refl
 module _ (g : Geometry) (numbers : ℕ → ℕ → ℤ) (untold : g.rows ≡ 0) (wide : 2 ≤ block_count g.width) (n k : ℕ) (low : k ≤ 8 * n - 21) where
   -- while the height isn't reported they are those of the tallest image
   pub placed_pixels : n ≤ block_count (placed_rows g) → (i j : ℕ) → i < k → j < g.width → whole_with (placed g) numbers i j ≡ picture_with g numbers n i j
-  placed_pixels few i j row column =
-      ap (λ (f : ℕ → ℕ → ℤ). f i j) (sized_same g (placed_rows g) numbers (block_count (placed_rows g)))
-      ∙ heights_alike g numbers (block_count (placed_rows g)) (band_rows g n) n i j wide few (omega (arith, band_open g n untold)) (omega (arith, row, low)) column
+  placed_pixels few i j row column = grind (arith, nat_tests, sized_same, heights_alike, band_open)
 
   pub placed_octets : n ≤ block_count (placed_rows g) → raster_octets g.depth k g.width (whole_with (placed g) numbers) ≡ raster_octets g.depth k g.width (picture_with g numbers n)
   placed_octets few = raster_same g.depth k g.width (whole_with (placed g) numbers) (picture_with g numbers n) (placed_pixels few)
 
   -- and those of the image, once it is
   pub sized_pixels : (rows : ℕ) → IsWithin rows_range rows → n ≤ block_count rows → (i j : ℕ) → i < k → j < g.width → whole_with (placed g) numbers i j ≡ whole_with (record g { rows = rows }) numbers i j
-  sized_pixels rows within few i j row column =
-      let most : block_count rows ≤ block_count (placed_rows g) = let high = within.1 in omega (arith, high, placed_open g untold) in
-      ap (λ (f : ℕ → ℕ → ℤ). f i j) (sized_same g (placed_rows g) numbers (block_count (placed_rows g)))
-      ∙ heights_alike g numbers (block_count (placed_rows g)) (block_count rows) n i j wide (omega (arith, few, most)) few (omega (arith, row, low)) column
-      ∙ sym (ap (λ (f : ℕ → ℕ → ℤ). f i j) (sized_same g rows numbers (block_count rows)))
-
-  pub sized_octets : (rows : ℕ) → IsWithin rows_range rows → n ≤ block_count rows →
-      raster_octets g.depth k g.width (whole_with (placed g) numbers) ≡ raster_octets g.depth k g.width (whole_with (record g { rows = rows }) numbers)
-  sized_octets rows within few = raster_same g.depth k g.width (whole_with (placed g) numbers) (whole_with (record g { rows = rows }) numbers) (sized_pixels rows within few)
+  sized_pixels rows within few i j row column = grind (arith, nat_tests, placed_open, sized_same, heights_alike)

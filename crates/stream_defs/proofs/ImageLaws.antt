@@ -1,13 +1,12 @@
 -- The first rows of an image determine the packets of the segments that they settle.
 use Rattle.std.proofs.Common.{◌≡◌, ◌≤◌, ◌<◌, ◌+◌, ◌-◌, ◌*◌, ◌/◌, ◌%◌, ℕ, zero, suc, ℤ, List, [], length, refl, sym, subst, ◌∙◌, arith, min, get_or}
-use Rattle.std.specs.Prelude.{Bool, true, false, ◌==◌, ◌||◌, nat_lt, cond}
+use Rattle.std.specs.Prelude.{Bool, true, false, ◌==◌, cond}
 use Rattle.std.specs.List.{count_by, range_with_len}
 use Rattle.std.proofs.lemmas.Bool.Decides.{nat_tests}
 use Rattle.std.proofs.lemmas.List.{same_lists}
 use Rattle.std.proofs.lemmas.List.Sums.{sum_by-cons}
 use Rattle.std.proofs.Math.Nat.{div-lt_iff_lt-mul}
 use Rattle.wave_defs.specs.Held.{SameWithin}
-use Rattle.wave_defs.specs.Reach.{SameBlock}
 use Rattle.wave_defs.specs.Pyramid.{padded, pyramid}
 use Rattle.wave_defs.specs.Blocks.{block}
 use Rattle.wave_defs.proofs.BlockLaws.{length-blocks, get_or-blocks}
@@ -19,61 +18,35 @@ use Rattle.base_122.specs.Sizes.{block_count, total_blocks}
 use Rattle.base_122.specs.declared.setting.Setting.{Setting}
 use Rattle.base_122.proofs.SizeBounds.{three-le-block_count}
 use Rattle.stream_defs.specs.Output.{image_blocks, segments_of}
-use Rattle.stream_defs.specs.Settled.{last_block_row, is_settled, settled, BlocksAgree}
+use Rattle.stream_defs.specs.Settled.{is_settled, settled, BlocksAgree}
 
 -- ---- the blocks
 
 pub length-image_blocks : (s : Setting) (x : ℕ → ℕ → ℤ) → length (image_blocks s x) ≡ total_blocks s.width s.rows
 unfolding image_blocks
-length-image_blocks s x =
-    let r = block_count s.rows in
-    let c = block_count s.width in
-    let total : r * c ≡ c * r = grind arith in
-    length-blocks (pyramid (padded x s.rows s.width) r c) s.weights.shifts r c ∙ total
+length-image_blocks s x = grind (arith, nat_tests, length-blocks)
 
 -- a block of an image by its row and column
 pub image_block : (s : Setting) (x : ℕ → ℕ → ℤ) (b : ℕ) (d : List ℤ) → b < total_blocks s.width s.rows →
     get_or (image_blocks s x) b d
     ≡ block (pyramid (padded x s.rows s.width) (block_count s.rows) (block_count s.width)) s.weights.shifts (b / block_count s.width) (b % block_count s.width)
 unfolding image_blocks
-image_block s x b d lt =
-    let r = block_count s.rows in
-    let c = block_count s.width in
-    let total : r * c ≡ c * r = grind arith in
-    get_or-blocks (pyramid (padded x s.rows s.width) r c) s.weights.shifts r c b d (omega (arith, total, lt))
+image_block s x b d lt = grind (arith, nat_tests, get_or-blocks)
 
 module _ (s : Setting) (range : IsInRange s) (tall : IsWithin rows_range s.rows) where
   some_columns : 3 ≤ block_count s.width
   some_columns = three-le-block_count s.width range.width.0
 
   row_below : (b : ℕ) → b < total_blocks s.width s.rows → b / block_count s.width < block_count s.rows
-  row_below b lt =
-      let c = block_count s.width in
-      let some : 0 < c = omega (arith, some_columns) in
-      let total : c * block_count s.rows ≡ block_count s.rows * c = grind arith in
-      (div-lt_iff_lt-mul {k = c} {x = b} {y = block_count s.rows} some).1 (omega (arith, lt, total))
+  row_below b lt = grind (arith, nat_tests, some_columns, div-lt_iff_lt-mul)
 
   pub total_above : (b : ℕ) → b / block_count s.width < block_count s.rows → b < total_blocks s.width s.rows
-  total_above b lt =
-      let c = block_count s.width in
-      let some : 0 < c = omega (arith, some_columns) in
-      let total : c * block_count s.rows ≡ block_count s.rows * c = grind arith in
-      let below = (div-lt_iff_lt-mul {k = c} {x = b} {y = block_count s.rows} some).0 lt in
-      omega (arith, below, total)
+  total_above b lt = grind (arith, nat_tests, some_columns, div-lt_iff_lt-mul)
 
   -- a block row that the first k rows determine
   pub blocks_known : (k : ℕ) (x y : ℕ → ℕ → ℤ) (b : ℕ) → k ≤ s.rows → SameWithin k s.width x y → 8 * (b / block_count s.width) + 28 < k →
       get_or (image_blocks s x) b [] ≡ get_or (image_blocks s y) b []
-  blocks_known k x y b le same near =
-      let r = block_count s.rows in
-      let c = block_count s.width in
-      let three = some_columns in
-      let lt = total_above b (omega (arith, near, le)) in
-      let column : b % c < c = omega (arith, three) in
-      let width = range.width.0 in
-      let block_same : SameBlock (pyramid (padded x s.rows s.width) r c) (pyramid (padded y s.rows s.width) r c) (b / c) (b % c) =
-      images-known x y s.rows s.rows s.width k r r c (b / c) (b % c) le le (omega (arith, width)) (omega arith) (omega arith) (omega (arith, three)) column near same in
-      image_block s x b [] lt ∙ block-same _ _ s.weights.shifts (b / c) (b % c) block_same ∙ sym (image_block s y b [] lt)
+  blocks_known k x y b le same near = grind (arith, nat_tests, some_columns, total_above, images-known, image_block, block-same)
 
   -- all of them
   padded_whole : (x y : ℕ → ℕ → ℤ) → SameWithin s.rows s.width x y → SameWithin (8 * block_count s.rows) (8 * block_count s.width) (padded x s.rows s.width) (padded y s.rows s.width)
@@ -137,19 +110,7 @@ count_all p (suc n) a each =
 
 pub settled_rises : (told_last : Bool) (s : Setting) (k l : ℕ) → k ≤ l → l ≤ s.rows → settled told_last s k ≤ settled told_last s l
 unfolding settled
-settled_rises told_last s k l le most = count_rises (is_settled told_last s k) (is_settled told_last s l) (segments_of s) 0 (λ i e. later i told_last e)
-  where
-    far : (i : ℕ) (a : Bool) → nat_lt (8 * last_block_row s i + 28) k ≡ true → (a || nat_lt (8 * last_block_row s i + 28) l) ≡ true
-    far i true h = refl
-    far i false h = grind (arith, nat_tests)
-
-    by_rows : (i : ℕ) (a : Bool) → (k == s.rows) ≡ a → (a || nat_lt (8 * last_block_row s i + 28) k) ≡ true → ((l == s.rows) || nat_lt (8 * last_block_row s i + 28) l) ≡ true
-    by_rows i true e f = let h : (l == s.rows) ≡ true = grind (arith, nat_tests) in rw h refl
-    by_rows i false e f = far i (l == s.rows) f
-
-    later : (i : ℕ) (told : Bool) → is_settled told s k i ≡ true → is_settled told s l i ≡ true
-    later i true e = far i false e
-    later i false e = by_rows i (k == s.rows) refl e
+settled_rises told_last s k l le most = grind (arith, nat_tests, count_rises)
 
 pub settled_whole : (s : Setting) → settled false s s.rows ≡ segments_of s
 unfolding settled

@@ -2,8 +2,9 @@
 use Rattle.std.proofs.Common.{◌≡◌, ◌⊎◌, inl, inr, ◌≤◌, ◌<◌, ◌+◌, ℕ, List, [], ◌∷◌, ◌++◌, refl, sym, ap, subst, ◌∙◌, arith}
 use Rattle.std.specs.Prelude.{Bool, true, false, ◌==◌, ◌&&◌, ◌||◌, not, nat_le, nat_lt, if◌then◌else◌, Option, Some, None, unwrap_or}
 use Rattle.std.specs.Option.{option_map}
-use Rattle.std.proofs.lemmas.Bool.{false≢true, cases_lt}
+use Rattle.std.proofs.lemmas.Bool.{false≢true, cases_lt, eq-eqb, ne_eqb}
 use Rattle.std.proofs.lemmas.Bool.Decides.{nat_tests}
+use Rattle.stream_defs.proofs.ChosenLaws.{kept_none}
 use Rattle.packet_defs.specs.declared.ancillary.Ancillary.{Ancillary}
 use Rattle.packet_defs.specs.declared.packet.Skip.{Skip}
 use Rattle.packet_defs.specs.Reading.{skip_of, flags_in, ancillary_in}
@@ -20,12 +21,7 @@ use Rattle.stream_defs.proofs.FateLaws.{after_as_kept, after_as_other}
 -- ---- the tests that a kept packet passes
 
 pub is_kept_so : (f : Fate) → is_kept f ≡ true → f ≡ Kept
-is_kept_so Kept e = refl
-is_kept_so (Skipped skip) e = absurd (false≢true e)
-is_kept_so Foreign e = absurd (false≢true e)
-is_kept_so Late e = absurd (false≢true e)
-is_kept_so OutOfPlace e = absurd (false≢true e)
-is_kept_so (BadHead fault) e = absurd (false≢true e)
+is_kept_so f e = grind (arith, nat_tests, false≢true)
 
 pub record PassesTests (apid : ℕ) (s : FateState) (packet : List ℕ) : Type 0 where
   pub mine : skip_of apid packet ≡ None
@@ -85,18 +81,13 @@ later_index : (i j part last : ℕ) → (nat_lt i j || ((i == j) && nat_le part 
 later_index i j part last e first = grind (arith, nat_tests)
 
 begins_later : (last : Option LastPart) (a : Ancillary) → is_late last a ≡ false → a.part ≡ 0 → (l : LastPart) → last ≡ Some l → l.index < a.index
-begins_later None a early first l e = absurd (let no : None ≡ Some l = e in cc)
-begins_later (Some last) a early first l e =
-    let same : last ≡ l = cc in
-    subst (λ (l : LastPart). l.index < a.index) same (later_index a.index last.index a.part last.part early first)
+begins_later last a early first l e = grind (arith, nat_tests, later_index)
 
 next_part : (i j part next : ℕ) (closed : Bool) → ((i == j) && ((part == next) && not closed)) ≡ true → (i ≡ j) × (part ≡ next) × (closed ≡ false)
 next_part i j part next true e = absurd (let no : ((i == j) && ((part == next) && false)) ≡ true = e in none (i == j) (part == next) no)
   where
     none : (a b : Bool) → (a && (b && false)) ≡ true → ⊥
-    none true true e = false≢true e
-    none true false e = false≢true e
-    none false b e = false≢true e
+    none a b e = grind (arith, nat_tests, false≢true)
 next_part i j part next false e =
     let first : i ≡ j = grind (arith, nat_tests) in
     let second : part ≡ next = grind (arith, nat_tests) in
@@ -108,9 +99,7 @@ follows_last None a e = absurd (false≢true e)
 follows_last (Some l) a e = let t = next_part a.index l.index a.part (l.part + 1) l.closed e in (l, refl, t.0, t.1, t.2)
 
 pub or_second : (a b : Bool) → (a || not b) ≡ false → b ≡ true
-or_second true b e = absurd (false≢true (sym e))
-or_second false true e = refl
-or_second false false e = absurd (false≢true (sym e))
+or_second a b e = grind (arith, nat_tests, false≢true)
 
 is_zero : (n : ℕ) → (n == 0) ≡ true → n ≡ 0
 is_zero n e = grind (arith, nat_tests)
@@ -147,23 +136,17 @@ does apid s x = by_kept (is_kept (fate apid s x)) refl
 
 -- ---- the packets of one segment
 
-equal : (m n : ℕ) → m ≡ n → (m == n) ≡ true
-equal m n e = grind (arith, nat_tests)
-
-apart : (m n : ℕ) → (m ≡ n → ⊥) → (m == n) ≡ false
-apart m n e = grind (arith, nat_tests)
-
 pub at_none : (index : ℕ) → packets_at index [] ≡ []
 unfolding packets_at
 at_none index = refl
 
 pub at_same : (index : ℕ) (x : List ℕ) (xs : List (List ℕ)) → index_in x ≡ index → packets_at index (x ∷ xs) ≡ x ∷ packets_at index xs
 unfolding packets_at
-at_same index x xs e = rw (equal (index_in x) index e) refl
+at_same index x xs e = rw (eq-eqb (index_in x) index e) refl
 
 pub at_other : (index : ℕ) (x : List ℕ) (xs : List (List ℕ)) → (index_in x ≡ index → ⊥) → packets_at index (x ∷ xs) ≡ packets_at index xs
 unfolding packets_at
-at_other index x xs e = rw (apart (index_in x) index e) refl
+at_other index x xs e = rw (ne_eqb (index_in x) index e) refl
 
 pub at_both : (index : ℕ) (xs ys : List (List ℕ)) → packets_at index (xs ++ ys) ≡ packets_at index xs ++ packets_at index ys
 unfolding packets_at
@@ -174,10 +157,6 @@ at_both index (x ∷ xs) ys = by (index_in x == index) (at_both index xs ys)
         (if b then x ∷ packets_at index (xs ++ ys) else packets_at index (xs ++ ys)) ≡ (if b then x ∷ packets_at index xs else packets_at index xs) ++ packets_at index ys
     by true e = ap (λ zs. x ∷ zs) e
     by false e = e
-
-kept_none : (apid : ℕ) (s : FateState) → kept apid s [] ≡ []
-unfolding kept
-kept_none apid s = refl
 
 some_same : {a b : LastPart} → Some a ≡ Some b → a ≡ b
 some_same e = cc

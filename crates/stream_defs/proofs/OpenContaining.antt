@@ -1,8 +1,8 @@
 -- No pixel of the first rows outside the damage depends on what was lost, while the height isn't reported.
 use Rattle.std.proofs.Common.{◌≡◌, inl, inr, ◌≤◌, ◌<◌, ◌+◌, ◌-◌, ◌*◌, ◌/◌, ℕ, zero, suc, ℤ, List, ◌∷◌, refl, sym, ap, ◌∙◌, arith}
-use Rattle.std.specs.Prelude.{Bool, true, false, ◌&&◌, ◌||◌, not, nat_le, nat_lt, if◌then◌else◌, Option, is_some, filter}
+use Rattle.std.specs.Prelude.{Bool, true, false, ◌||◌, not, nat_le, nat_lt, if◌then◌else◌, Option, is_some, filter}
 use Rattle.std.specs.List.{range_with_len, list_any}
-use Rattle.std.proofs.lemmas.Bool.{false≢true, cases_lt}
+use Rattle.std.proofs.lemmas.Bool.{false≢true, cases_lt, or_right, and_from, or_parts}
 use Rattle.std.proofs.lemmas.Bool.Decides.{nat_tests}
 use Rattle.std.proofs.Math.Nat.{mul-le-mul_right}
 use Rattle.base_122.specs.Sizes.{block_count}
@@ -26,17 +26,6 @@ pub record AreWithin (g : Geometry) (received : ℕ → Option (List (List ℤ))
 or_left : (a b : Bool) → a ≡ true → (a || b) ≡ true
 or_left a b e = rw e refl
 
-or_right : (a b : Bool) → b ≡ true → (a || b) ≡ true
-or_right true b e = refl
-or_right false b e = e
-
-both : (a b : Bool) → a ≡ true → b ≡ true → (a && b) ≡ true
-both a b x y = rw (x, y) refl
-
-neither : (a b : Bool) → (a || b) ≡ false → (a ≡ false) × (b ≡ false)
-neither true b e = absurd (false≢true (sym e))
-neither false b e = (refl, e)
-
 -- one passes
 any_passes : (f : ℕ → Bool) (n a i : ℕ) → a ≤ i → i < a + n → f i ≡ true → list_any f (range_with_len a n) ≡ true
 any_passes f zero a i low high e = absurd (omega (arith, low, high))
@@ -46,7 +35,7 @@ any_passes f (suc n) a i low high e = elim (cases_lt a i) [
 ]
 
 -- one of those chosen passes
-any_chosen : (f p : ℕ → Bool) (n a i : ℕ) → a ≤ i → i < a + n → p i ≡ true → f i ≡ true → list_any f (filter p (range_with_len a n)) ≡ true
+pub any_chosen : (f p : ℕ → Bool) (n a i : ℕ) → a ≤ i → i < a + n → p i ≡ true → f i ≡ true → list_any f (filter p (range_with_len a n)) ≡ true
 any_chosen f p zero a i low high e h = absurd (omega (arith, low, high))
 any_chosen f p (suc n) a i low high e h = elim (cases_lt a i) [
   | inl later ↦ past (p a) (any_chosen f p n (a + 1) i (omega (arith, later)) (omega (arith, high)) e h)
@@ -83,7 +72,7 @@ module _ (g : Geometry) (received : ℕ → Option (List (List ℤ))) (numbers :
 
   block_same : (t k : ℕ) → k < c → lost t ≡ false → SameBlock (pyramid_with numbers c g.weights.shifts) (pyramid_with (number_at g received) c g.weights.shifts) t k
   block_same t k lt kept =
-      let known = neither (is_missing g received t) (nat_le n t) kept in
+      let known = or_parts (is_missing g received t) (nat_le n t) kept in
       let low : t < n = below (nat_le n t) refl known.1 in
       let next : (t + 1) * c ≤ n * c = mul-le-mul_right c (omega (arith, low)) in
       let more : (t + 1) * c ≡ t * c + c = grind arith in
@@ -111,7 +100,7 @@ module _ (g : Geometry) (received : ℕ → Option (List (List ℤ))) (numbers :
           let rows : nat_lt i (height g n) ≡ true = grind (arith, nat_tests) in
           let undamaged : is_damaged (height g n) (missing_rows g received n) i ≡ false = sym ((whole_damage (height g n) (missing_rows g received n)).0.each i) ∙ uncovered in
           let some = any_chosen (λ t. reaches t i) (is_missing g received) (block_rows g n) 0 t (omega arith) (omega (arith, low)) is reached in
-          false≢true (sym undamaged ∙ both (nat_lt i (height g n)) (list_any (λ t. reaches t i) (missing_rows g received n)) rows some)
+          false≢true (sym undamaged ∙ and_from (nat_lt i (height g n)) (list_any (λ t. reaches t i) (missing_rows g received n)) rows some)
 
   -- Whatever numbers are put in lost blocks, no pixel of the first rows outside the damage changes.
   pub contained_open : (i j : ℕ) → i < height g n → j < g.width → is_covered (damage g received n) i ≡ false → picture_with g numbers n i j ≡ picture g received n i j

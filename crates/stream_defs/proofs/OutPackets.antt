@@ -1,8 +1,8 @@
 -- The fields of a packet of an image, by its place.
-use Rattle.std.proofs.Common.{inl, inr, ◌≡◌, ◌≤◌, ◌<◌, ◌+◌, ◌-◌, ◌*◌, ◌/◌, ◌^◌, ℕ, ℤ, List, length, drop, refl, ap, ◌∙◌, arith, length-take}
-use Rattle.std.specs.Prelude.{Bool, true, false, ◌==◌, if◌then◌else◌}
-use Rattle.std.proofs.lemmas.Bool.{cases_lt}
+use Rattle.std.proofs.Common.{◌≡◌, ◌≤◌, ◌<◌, ◌+◌, ◌-◌, ◌*◌, ◌^◌, ℕ, ℤ, List, length, drop, ap, ◌∙◌, arith, length-take}
+use Rattle.std.specs.Prelude.{Bool, ◌==◌, if◌then◌else◌}
 use Rattle.std.proofs.Math.Nat.{div-mul-le_self, mul-le-mul_left, mul-le-mul_right}
+use Rattle.std.proofs.lemmas.Bool.Decides.{nat_tests}
 use Rattle.base_122.specs.Ranges.{IsWithin, rows_range}
 use Rattle.base_122.specs.Sizes.{total_blocks}
 use Rattle.base_122.specs.declared.setting.Setting.{Setting}
@@ -22,35 +22,17 @@ abbrev pub written_at : (told_last : Bool) → Setting → (index part : ℕ) �
 written_at told_last s index part = record (ancillary_of told_last s index) { part = part }
 
 flags_say : (first last : Bool) → begins ((if first then 1 else 0) + (if last then 2 else 0)) ≡ first
-flags_say true true = refl
-flags_say true false = refl
-flags_say false true = refl
-flags_say false false = refl
+flags_say first last = grind (arith, nat_tests)
 
 flags_close : (first last : Bool) → closes ((if first then 1 else 0) + (if last then 2 else 0)) ≡ last
-flags_close true true = refl
-flags_close true false = refl
-flags_close false true = refl
-flags_close false false = refl
+flags_close first last = grind (arith, nat_tests)
 
 flags_few : (first last : Bool) → (if first then 1 else 0) + (if last then 2 else 0) < 4
-flags_few true true = omega arith
-flags_few true false = omega arith
-flags_few false true = omega arith
-flags_few false false = omega arith
+flags_few first last = grind (arith, nat_tests)
 
 -- there are no more parts than octets
 few_parts : (size octets : ℕ) → 0 < size → part_count size octets ≤ octets
-few_parts size octets some =
-    let q = (octets + size - 1) / size in
-    elim (cases_lt octets q) [
-      | inl more ↦
-          let most : q * size ≤ octets + size - 1 = div-mul-le_self (octets + size - 1) size in
-          let least : (octets + 1) * size ≤ q * size = mul-le-mul_right size (omega (arith, more)) in
-          let each : octets * 1 ≤ octets * size = mul-le-mul_left {m = 1} {n = size} octets (omega (arith, some)) in
-          absurd (omega (arith, most, least, each, some))
-      | inr few ↦ few
-    ]
+few_parts size octets some = grind (arith, nat_tests, div-mul-le_self, mul-le-mul_right, mul-le-mul_left)
 
 module _ (s : Setting) (all : List (List ℤ)) (coded : AreCoded s all) where
   pub some_blocks : 0 < s.segment
@@ -61,8 +43,7 @@ module _ (s : Setting) (all : List (List ℤ)) (coded : AreCoded s all) where
 
 module _ (told_last : Bool) (s : Setting) (all : List (List ℤ)) (coded : AreCoded s all) where
   rows_fit : (told : Bool) → IsWithin rows_range s.rows → (if told then 0 else s.rows) < 2 ^ 32
-  rows_fit true rows = omega arith
-  rows_fit false rows = omega (arith, rows)
+  rows_fit told rows = grind (arith, nat_tests)
 
   fits : (index part : ℕ) → index < segments_of s → part < parts_of s all index → IsAncillary (written_at told_last s index part)
   fits index part lt few =

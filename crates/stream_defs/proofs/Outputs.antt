@@ -6,6 +6,7 @@ use Rattle.std.proofs.lemmas.Grind.{flat_map-append}
 use Rattle.std.proofs.lemmas.List.{append-nil, length-map}
 use Rattle.std.proofs.lemmas.List.Sums.{sum_by_push}
 use Rattle.std.proofs.lemmas.List.FromFn.{length-range_with_len}
+use Rattle.std.proofs.lemmas.Bool.Decides.{nat_tests}
 use Rattle.base_122.specs.declared.setting.Setting.{Setting}
 use Rattle.packet_defs.specs.Packets.{part_count, part_size, text_packets}
 use Rattle.stream_defs.specs.Output.{packets_before, packets_of, segment_packets, segment_text, used_before}
@@ -57,9 +58,7 @@ used_before-more s all n = let e : n + 1 ≡ suc n = omega arith in ap (used_bef
 pub length-segment_packets : (told_last : Bool) (s : Setting) (all : List (List ℤ)) (n : ℕ) →
     length (segment_packets told_last s all n) ≡ part_count (part_size s.packet) (length (segment_text s all n))
 unfolding text_packets
-length-segment_packets told_last s all n =
-    let count = part_count (part_size s.packet) (length (segment_text s all n)) in
-    length-map (range_with_len 0 count) _ ∙ length-range_with_len 0 count
+length-segment_packets told_last s all n = grind (arith, nat_tests, length-map, length-range_with_len)
 
 pub length-packets_of : (told_last : Bool) (s : Setting) (all : List (List ℤ)) (n : ℕ) → length (packets_of told_last s all n) ≡ packets_before s all n
 length-packets_of told_last s all zero = ap length (packets_of-none told_last s all) ∙ sym (packets_before-none s all)

@@ -1,8 +1,7 @@
 -- The geometry by which blocks are placed, and the rows that the kept heads reach, while the height isn't reported.
-use Rattle.std.proofs.Common.{◌≡◌, ◌⊎◌, inl, inr, ◌≤◌, ◌<◌, ◌+◌, ◌*◌, ℕ, refl, ap, ◌∙◌, arith}
+use Rattle.std.proofs.Common.{◌≡◌, ◌⊎◌, inl, inr, ◌≤◌, ◌<◌, ◌*◌, ℕ, refl, ap, ◌∙◌, arith}
 use Rattle.std.specs.Prelude.{Bool, true, false, ◌==◌, max, ◌-◌, if◌then◌else◌}
 use Rattle.std.specs.Int.{div_ceil}
-use Rattle.std.proofs.lemmas.Bool.{cases_lt}
 use Rattle.std.proofs.lemmas.Bool.Decides.{nat_tests}
 use Rattle.std.proofs.lemmas.Grind.{div_ceil_times}
 use Rattle.std.proofs.Math.Nat.{mul-le-mul_right}
@@ -46,20 +45,10 @@ placed_least g (inr known) = rw (is_not_open g.rows (within_not g.rows known)) k
 -- ---- rows that the kept heads reach
 
 ceil_most : (n columns rows : ℕ) → 0 < columns → n ≤ columns * rows → div_ceil n columns ≤ rows
-ceil_most n columns rows some few = elim (cases_lt rows (div_ceil n columns)) [
-  | inl more ↦
-      let high : (rows + 1) * columns ≤ div_ceil n columns * columns = mul-le-mul_right columns (omega (arith, more)) in
-      let next : (rows + 1) * columns ≡ columns * rows + columns = grind arith in
-      let up = (div_ceil_times n columns some).1 in
-      absurd (omega (arith, high, next, up, few))
-  | inr least ↦ least
-]
+ceil_most n columns rows some few = grind (arith, nat_tests, mul-le-mul_right, div_ceil_times)
 
 ceil_rises : (m n columns : ℕ) → 0 < columns → m ≤ n → div_ceil m columns ≤ div_ceil n columns
-ceil_rises m n columns some le =
-    let up = (div_ceil_times n columns some).0 in
-    let turned : columns * div_ceil n columns ≡ div_ceil n columns * columns = grind arith in
-    ceil_most m columns (div_ceil n columns) some (omega (arith, up, turned, le))
+ceil_rises m n columns some le = grind (arith, nat_tests, div_ceil_times, ceil_most)
 
 -- if the height is known they are all
 pub reached_known : (g : Geometry) (n : ℕ) → (g.rows ≡ 0 → ⊥) → rows_reached g n ≡ g.rows
@@ -81,7 +70,4 @@ reached_rises g m n some le = by (g.rows == 0)
 
 -- blocks of an image reach no more rows than it has
 pub reached_few : (g : Geometry) (rows n : ℕ) → g.rows ≡ 0 → 0 < block_count g.width → IsWithin rows_range rows → n ≤ total_blocks g.width rows → rows_reached g n ≤ rows
-reached_few g rows n untold some within few =
-    let most : div_ceil n (block_count g.width) ≤ block_count rows = ceil_most n (block_count g.width) (block_count rows) some few in
-    let least = within.0 in
-    omega (arith, most, least, reached_open g n untold)
+reached_few g rows n untold some within few = grind (arith, nat_tests, ceil_most, reached_open)

@@ -1,9 +1,10 @@
 -- Damaged rows depend only on the missing block rows that can reach them.
-use Rattle.std.proofs.Common.{◌≡◌, ◌≤◌, ◌<◌, ◌+◌, ◌-◌, ◌*◌, ℕ, List, [], ◌∷◌, length, map, refl, sym, ap, ◌∙◌, arith}
+use Rattle.std.proofs.Common.{◌≡◌, ◌≤◌, ◌<◌, ◌+◌, ◌-◌, ◌*◌, ℕ, List, [], ◌∷◌, length, map, refl, ap, ◌∙◌, arith}
 use Rattle.std.specs.Prelude.{Bool, true, false, ◌==◌, ◌&&◌, ◌||◌, not, nat_lt, filter, take_while}
 use Rattle.std.specs.List.{range_with_len, list_any}
-use Rattle.std.proofs.lemmas.Bool.{false≢true}
+use Rattle.std.proofs.lemmas.Bool.{false≢true, eqb-true, or_left, or_right, ltb-true}
 use Rattle.std.proofs.lemmas.Bool.Decides.{nat_tests}
+use Rattle.plane_defs.proofs.Chosen.{equal_self}
 use Rattle.wave_defs.specs.Reach.{reaches}
 use Rattle.stream_defs.specs.declared.range.RowRange.{RowRange}
 use Rattle.stream_defs.specs.Damage.{is_damaged, ranges}
@@ -14,19 +15,6 @@ use Rattle.stream_defs.specs.Damage.{is_damaged, ranges}
 abbrev pub is_among : List ℕ → ℕ → Bool
 is_among xs r = list_any (λ k. k == r) xs
 
-equal : (n : ℕ) → (n == n) ≡ true
-equal n = grind (arith, nat_tests)
-
-equal_so : (m n : ℕ) → (m == n) ≡ true → m ≡ n
-equal_so m n e = grind (arith, nat_tests)
-
-or_left : (a b : Bool) → a ≡ true → (a || b) ≡ true
-or_left a b e = rw e refl
-
-or_right : (a b : Bool) → b ≡ true → (a || b) ≡ true
-or_right true b e = refl
-or_right false b e = e
-
 -- one of them passes a test
 some_passes : (p : ℕ → Bool) (xs : List ℕ) → list_any p xs ≡ true → (r : ℕ) × (p r ≡ true) × (is_among xs r ≡ true)
 some_passes p [] e = absurd (false≢true e)
@@ -34,7 +22,7 @@ some_passes p (x ∷ xs) e = by (some_passes p xs) (p x) refl e
   where
     by : (list_any p xs ≡ true → (r : ℕ) × (p r ≡ true) × (is_among xs r ≡ true)) → (b : Bool) → p x ≡ b → (b || list_any p xs) ≡ true →
         (r : ℕ) × (p r ≡ true) × (is_among (x ∷ xs) r ≡ true)
-    by rest true is e = (x, is, or_left (x == x) _ (equal x))
+    by rest true is e = (x, is, or_left (x == x) _ (equal_self x))
     by rest false is e = let some = rest e in (some.0, some.1, or_right (x == some.0) _ some.2)
 
 passes_some : (p : ℕ → Bool) (xs : List ℕ) (r : ℕ) → p r ≡ true → is_among xs r ≡ true → list_any p xs ≡ true
@@ -42,19 +30,12 @@ passes_some p [] r passes e = absurd (false≢true e)
 passes_some p (x ∷ xs) r passes e = by (passes_some p xs r passes) (x == r) refl e
   where
     by : (is_among xs r ≡ true → list_any p xs ≡ true) → (b : Bool) → (x == r) ≡ b → (b || is_among xs r) ≡ true → (p x || list_any p xs) ≡ true
-    by rest true is e = or_left (p x) _ (ap p (equal_so x r is) ∙ passes)
+    by rest true is e = or_left (p x) _ (ap p (eqb-true x r is) ∙ passes)
     by rest false is e = or_right (p x) _ (rest e)
 
 -- a test that only numbers below a bound pass is the same for lists with the same numbers below it
 any_below : (p : ℕ → Bool) (n : ℕ) (xs ys : List ℕ) → ((r : ℕ) → p r ≡ true → r < n) → ((r : ℕ) → r < n → is_among xs r ≡ is_among ys r) → list_any p xs ≡ list_any p ys
-any_below p n xs ys low same = by (list_any p xs) (list_any p ys) refl refl
-  where
-    by : (a b : Bool) → list_any p xs ≡ a → list_any p ys ≡ b → list_any p xs ≡ list_any p ys
-    by true b here there = let some = some_passes p xs here in here ∙ sym (passes_some p ys some.0 some.1 (sym (same some.0 (low some.0 some.1)) ∙ some.2))
-    by false true here there =
-        let some = some_passes p ys there in
-        absurd (false≢true (sym here ∙ passes_some p xs some.0 some.1 (same some.0 (low some.0 some.1) ∙ some.2)))
-    by false false here there = here ∙ sym there
+any_below p n xs ys low same = grind (arith, nat_tests, some_passes, passes_some, false≢true)
 
 -- ---- damaged rows
 
@@ -63,10 +44,7 @@ reaches_low : (n r row : ℕ) → row + 21 < 8 * n → reaches r row ≡ true �
 reaches_low n r row low e = grind (arith, nat_tests)
 
 row_low : (rows n row : ℕ) → rows ≤ 8 * n - 21 → nat_lt row rows ≡ true → row + 21 < 8 * n
-row_low rows n row most e = let lt : row < rows = below row rows e in omega (arith, lt, most)
-  where
-    below : (m n : ℕ) → nat_lt m n ≡ true → m < n
-    below m n e = grind (arith, nat_tests)
+row_low rows n row most e = let lt : row < rows = ltb-true row rows e in omega (arith, lt, most)
 
 damaged_below : (rows n : ℕ) (xs ys : List ℕ) → rows ≤ 8 * n - 21 → ((r : ℕ) → r < n → is_among xs r ≡ is_among ys r) → (row : ℕ) → is_damaged rows xs row ≡ is_damaged rows ys row
 damaged_below rows n xs ys most same row = by (nat_lt row rows) refl

@@ -3,10 +3,8 @@ use Rattle.std.proofs.Common.{◌≡◌, ◌+◌, ℕ, zero, suc, List, [], ◌�
 use Rattle.std.specs.Prelude.{Bool, true, false, ◌==◌, if◌then◌else◌}
 use Rattle.std.specs.List.{range_with_len}
 use Rattle.std.proofs.lemmas.Bool.Decides.{nat_tests}
+use Rattle.std.proofs.lemmas.Bool.{eq-eqb}
 use Rattle.stream_defs.specs.Chosen.{IsRising, run}
-
-equal : (m n : ℕ) → m ≡ n → (m == n) ≡ true
-equal m n e = grind (arith, nat_tests)
 
 -- a range rises
 pub range_rises : (least n : ℕ) → IsRising least (least + n) (range_with_len least n)
@@ -18,7 +16,7 @@ range_rises least (suc n) =
 -- and its numbers are consecutive
 pub run-range : (next n : ℕ) → run next (range_with_len next n) ≡ range_with_len next n
 run-range next zero = refl
-run-range next (suc n) = rw (equal next next refl) (ap (λ ks. next ∷ ks) (run-range (next + 1) n))
+run-range next (suc n) = rw (eq-eqb next next refl) (ap (λ ks. next ∷ ks) (run-range (next + 1) n))
 
 -- a run rises
 pub run_rises : (least next below : ℕ) (ks : List ℕ) → IsRising least below ks → IsRising least below (run next ks)

@@ -1,8 +1,8 @@
 -- The packets of settled segments are determined by the blocks that the rows so far determine.
-use Rattle.std.proofs.Common.{◌≡◌, inl, inr, ◌≤◌, ◌<◌, ◌+◌, ◌-◌, ◌*◌, ◌/◌, ℕ, zero, suc, ℤ, List, [], length, take, drop, refl, sym, ap, subst, ◌∙◌, arith, length-take, length-drop}
+use Rattle.std.proofs.Common.{◌≡◌, ◌≤◌, ◌<◌, ◌+◌, ◌-◌, ◌*◌, ◌/◌, ℕ, zero, suc, ℤ, List, [], length, take, drop, refl, sym, ap, subst, ◌∙◌, arith, length-take, length-drop}
 use Rattle.std.specs.Prelude.{Bool, true, false, ◌==◌, ◌&&◌, ◌||◌, not, nat_lt, cond}
 use Rattle.std.specs.List.{count_by, range_with_len}
-use Rattle.std.proofs.lemmas.Bool.{cases_lt, false≢true}
+use Rattle.std.proofs.lemmas.Bool.{false≢true}
 use Rattle.std.proofs.lemmas.Bool.Decides.{nat_tests}
 use Rattle.std.proofs.lemmas.List.{ext_get_or, get_or-take, get_or-drop}
 use Rattle.std.proofs.lemmas.List.Sums.{sum_by-cons}
@@ -63,9 +63,7 @@ not_settled told_last s k i e = by_tests (not told_last && (k == s.rows)) (nat_l
     by_tests false false x y z = (x, grind (arith, nat_tests))
 
 unsettled_so : (told_last : Bool) (s : Setting) (k i : ℕ) → (not told_last && (k == s.rows)) ≡ false → k ≤ 8 * last_block_row s i + 28 → is_settled told_last s k i ≡ false
-unsettled_so told_last s k i a far =
-    let b : nat_lt (8 * last_block_row s i + 28) k ≡ false = grind (arith, nat_tests) in
-    rw (a, b) refl
+unsettled_so told_last s k i a far = grind (arith, nat_tests)
 
 module _ (told_last : Bool) (s : Setting) (range : IsInRange s) where
   some_blocks : 0 < s.segment
@@ -75,23 +73,11 @@ module _ (told_last : Bool) (s : Setting) (range : IsInRange s) where
   some_columns = let width = range.width in let three = three-le-block_count s.width width.0 in omega (arith, three)
 
   last_rises : (i j : ℕ) → i ≤ j → j < segments_of s → last_block_row s i ≤ last_block_row s j
-  last_rises i j le lt =
-      let total = total_blocks s.width s.rows in
-      let S = s.segment in
-      let before : j * S < total = first_block-lt total S j some_blocks lt in
-      let ends : i * S + segment_blocks total S i - 1 ≤ j * S + segment_blocks total S j - 1 = elim (cases_lt i j) [
-        | inl less ↦ let next : (i + 1) * S ≤ j * S = mul-le-mul_right S (omega (arith, less)) in omega (arith, next, before, some_blocks)
-        | inr same ↦ let e : i ≡ j = omega (arith, same, le) in let f = ap (λ m. m * S + segment_blocks total S m - 1) e in omega (arith, f)
-      ] in
-      rows_rise (i * S + segment_blocks total S i - 1) (j * S + segment_blocks total S j - 1) (block_count s.width) some_columns ends
+  last_rises i j le lt = grind (arith, nat_tests, first_block-lt, some_blocks, mul-le-mul_right, rows_rise, some_columns)
 
   -- a segment that isn't settled is followed by none that is
   none_later : (k i j : ℕ) → is_settled told_last s k i ≡ false → i ≤ j → j < segments_of s → is_settled told_last s k j ≡ false
-  none_later k i j e le lt =
-      let not = not_settled told_last s k i e in
-      let rise = last_rises i j le lt in
-      let far = not.1 in
-      unsettled_so told_last s k j not.0 (omega (arith, far, rise))
+  none_later k i j e le lt = grind (arith, nat_tests, not_settled, last_rises, unsettled_so)
 
   pub settled_first : (k i : ℕ) → i < settled told_last s k → is_settled told_last s k i ≡ true
   unfolding settled

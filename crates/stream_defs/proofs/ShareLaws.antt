@@ -4,13 +4,11 @@ use Rattle.std.specs.Prelude.{Bool, true, false, ◌==◌}
 use Rattle.std.proofs.lemmas.Bool.Decides.{nat_tests}
 use Rattle.std.proofs.lemmas.Nat.{le-div}
 use Rattle.std.proofs.Math.Nat.{div-mul-le_self, mul-mod_left, mul-le-mul_left}
-use Rattle.item_defs.specs.Bits.{octets_of}
-use Rattle.item_defs.specs.Padding.{padded}
 use Rattle.base_122.specs.Ranges.{IsInRange, HasTotal, limit_range}
 use Rattle.base_122.specs.declared.setting.Setting.{Setting}
 use Rattle.base_122.specs.declared.book.Book.{Book}
 use Rattle.segment_defs.specs.declared.head.SegmentHead.{SegmentHead}
-use Rattle.segment_defs.specs.Coded.{coded, coded_bits}
+use Rattle.segment_defs.specs.Coded.{coded}
 use Rattle.segment_defs.specs.Text.{text_octets}
 use Rattle.stream_defs.specs.Output.{segment_of, segments_of, share, head_of, text_with, used_before}
 use Rattle.stream_defs.specs.Shares.{CanBeSaid}
@@ -18,19 +16,11 @@ use Rattle.stream_defs.specs.Shares.{CanBeSaid}
 -- a text is no longer than its limit
 pub coded_within : (book : Book) (head : SegmentHead) (blocks : List (List ℤ)) → head.limit ≢ 0 → length (coded book head blocks) ≤ head.limit
 unfolding coded text_octets
-coded_within book head blocks some =
-    let octets = octets_of (padded head.image.word head.limit head.fill (coded_bits book head blocks)) in
-    let e : (head.limit == 0) ≡ false = grind (arith, nat_tests) in
-    rw e (let n = length-take head.limit octets in omega (arith, n))
+coded_within book head blocks some = grind (arith, nat_tests, length-take)
 
 -- 36 octets are whole code words
 words_hold : (q word : ℕ) → 1 ≤ word → word ≤ 4 → 36 ≤ q → 36 ≤ q / word * word
-words_hold q zero least most some = absurd (omega (arith, least))
-words_hold q (suc zero) least most some = omega (arith, some)
-words_hold q (suc (suc zero)) least most some = omega (arith, some)
-words_hold q (suc (suc (suc zero))) least most some = omega (arith, some)
-words_hold q (suc (suc (suc (suc zero)))) least most some = omega (arith, some)
-words_hold q (suc (suc (suc (suc (suc word))))) least most some = absurd (omega (arith, most))
+words_hold q word least most some = grind (arith, nat_tests)
 
 module _ (s : Setting) (range : IsInRange s) (some : s.total ≢ 0) where
   has : HasTotal s
@@ -45,18 +35,10 @@ module _ (s : Setting) (range : IsInRange s) (some : s.total ≢ 0) where
   share_is index used = let e : (s.total == 0) ≡ false = grind (arith, nat_tests) in rw e refl
 
   pub share_most : (index used : ℕ) → share s index used ≤ parted index used
-  share_most index used =
-      let m = min (parted index used) limit_range.most in
-      let e = share_is index used in
-      let f : m / s.word * s.word ≤ m = div-mul-le_self m s.word in
-      omega (arith, e, f)
+  share_most index used = grind (arith, nat_tests, parted, share_is, div-mul-le_self)
 
   pub share_least : (index used : ℕ) → 36 ≤ parted index used → 36 ≤ share s index used
-  share_least index used enough =
-      let word = range.word in
-      let e = share_is index used in
-      let f = words_hold (min (parted index used) limit_range.most) s.word word.0 word.1 (omega (arith, enough)) in
-      omega (arith, e, f)
+  share_least index used enough = grind (arith, nat_tests, share_is, words_hold, parted)
 
   -- each of the parts of what is left has at least 36 octets
   enough : (index used : ℕ) → index < segments_of s → used + 36 * (segments_of s - index) ≤ s.total → 36 ≤ parted index used
@@ -99,9 +81,7 @@ module _ (s : Setting) (range : IsInRange s) (some : s.total ≢ 0) where
   -- a text, of whatever blocks, is within its share
   pub segment_within : (segment : List (List ℤ)) (index used : ℕ) → index < segments_of s → used + 36 * (segments_of s - index) ≤ s.total →
       length (coded s.book (head_of s index used segment) segment) ≤ share s index used
-  segment_within segment index used lt left =
-      let least : 36 ≤ share s index used = share_least index used (enough index used lt left) in
-      coded_within s.book (head_of s index used segment) segment (λ none. omega (arith, none, least))
+  segment_within segment index used lt left = grind (arith, nat_tests, share_least, enough, coded_within)
 
   pub text_within : (all : List (List ℤ)) (index used : ℕ) → index < segments_of s → used + 36 * (segments_of s - index) ≤ s.total →
       length (text_with s all index used) ≤ share s index used

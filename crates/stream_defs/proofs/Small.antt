@@ -1,8 +1,9 @@
 -- The bounds on pixels and weighted coefficients.
-use Rattle.std.proofs.Common.{◌≤◌, ◌<◌, ◌-◌, ◌^◌, ℕ, ℤ, pos, negsuc, Bool, true, false, arith}
+use Rattle.std.proofs.Common.{◌≤◌, ◌<◌, ◌-◌, ◌^◌, ℕ, ℤ, Bool, true, false, arith}
 use Rattle.std.specs.Prelude.{unsigned_abs}
 use Rattle.std.proofs.Math.Pow.{pow_mono}
 use Rattle.std.proofs.lemmas.Int.{ints}
+use Rattle.std.proofs.lemmas.Bool.Decides.{nat_tests}
 use Rattle.wave_defs.specs.Within.{IsWithin}
 use Rattle.raster_rows.specs.Pixels.{IsPixel}
 
@@ -17,5 +18,4 @@ pixel_small depth false z some most p =
 
 -- a coefficient with the greatest weight is below 2 ^ 27 in magnitude
 pub within_small : (z : ℤ) → IsWithin 128000000 z → unsigned_abs z < 2 ^ 27
-within_small (pos a) h = omega (arith, ints, h.above, h.below)
-within_small (negsuc a) h = omega (arith, ints, h.above, h.below)
+within_small z h = grind (arith, nat_tests)

@@ -1,15 +1,15 @@
 -- The segments that a sub-list of an image's packets carries.
-use Rattle.std.proofs.Common.{◌≡◌, inl, inr, ◌≤◌, ◌<◌, ◌+◌, ◌-◌, ◌*◌, ◌/◌, ℕ, zero, suc, ℤ, List, [], ◌∷◌, ◌++◌, length, take, map, refl, sym, ap, subst, ◌∙◌, arith}
+use Rattle.std.proofs.Common.{◌≡◌, inl, inr, ◌≤◌, ◌<◌, ◌+◌, ◌-◌, ◌*◌, ℕ, zero, suc, ℤ, List, [], ◌∷◌, ◌++◌, take, map, refl, sym, ap, subst, ◌∙◌, arith}
 use Rattle.std.specs.Prelude.{Bool, true, false, ◌==◌, if◌then◌else◌, slice_index_or, Ok}
 use Rattle.std.specs.List.{range_with_len, flat_map, filter}
-use Rattle.std.proofs.lemmas.Bool.Decides.{nat_tests}
 use Rattle.std.proofs.lemmas.Grind.{flat_map-append}
 use Rattle.std.proofs.lemmas.List.{append-nil, length-map, map-append, take_all}
 use Rattle.std.proofs.lemmas.List.Elements.{filter-append}
 use Rattle.std.proofs.lemmas.List.FromFn.{length-range_with_len}
 use Rattle.std.proofs.Math.Seq.{take-add}
 use Rattle.std.proofs.Math.Nat.{lt-div-mul-add, add-mul-div_right}
-use Rattle.std.proofs.lemmas.Bool.{cases_lt}
+use Rattle.std.proofs.lemmas.Bool.{cases_lt, eq-eqb, ne_eqb, eqb-true}
+use Rattle.std.proofs.lemmas.Bool.Decides.{nat_tests}
 use Rattle.base_122.specs.declared.setting.Setting.{Setting}
 use Rattle.segment_defs.specs.Reading.{head_read}
 use Rattle.packet_defs.specs.Packets.{part_size}
@@ -24,19 +24,9 @@ use Rattle.stream_defs.proofs.OutPackets.{part_reads, part_closes}
 use Rattle.stream_defs.proofs.ChosenLaws.{chosen_more, chosen_kept}
 use Rattle.stream_defs.proofs.Runs.{range_rises, run-range, run_rises, run_whole}
 
-equal : (m n : ℕ) → m ≡ n → (m == n) ≡ true
-equal m n e = grind (arith, nat_tests)
-
-apart : (m n : ℕ) → (m ≡ n → ⊥) → (m == n) ≡ false
-apart m n e = grind (arith, nat_tests)
-
-equal_so : (m n : ℕ) → (m == n) ≡ true → m ≡ n
-equal_so m n e = grind (arith, nat_tests)
-
 -- nothing either way
 none_either : (b : Bool) → ◌≡◌ {A = List (List ℕ)} [] (if b then [] else [])
-none_either true = refl
-none_either false = refl
+none_either b = grind (arith, nat_tests)
 
 -- the last of a list that ends so
 last_of : List (List ℕ) → List ℕ
@@ -82,20 +72,10 @@ module _ (told_last : Bool) (s : Setting) (all : List (List ℤ)) (coded : AreCo
   -- ---- all parts of a segment
 
   some_parts : (index : ℕ) → index < segments_of s → 1 ≤ parts_of s all index
-  some_parts index lt =
-      let size = part_size s.packet in
-      let packet = coded.setting.packet in
-      let some = coded.some index lt in
-      let sum : length (segment_text s all index) + size - 1 ≡ (length (segment_text s all index) - 1) + 1 * size = omega (arith, some, packet) in
-      let more : parts_of s all index ≡ (length (segment_text s all index) - 1) / size + 1 =
-      ap (λ n. n / size) sum ∙ add-mul-div_right (length (segment_text s all index) - 1) 1 {z = size} (omega (arith, packet)) in
-      omega (arith, more)
+  some_parts index lt = grind (arith, nat_tests, add-mul-div_right)
 
   range_last : (n : ℕ) → range_with_len 0 (suc n) ≡ range_with_len 0 n ++ n ∷ []
-  range_last n =
-      let e : n + 1 ≡ suc n = omega arith in
-      let z : 0 + n ≡ n = omega arith in
-      ap (range_with_len 0) (sym e) ∙ range_with_len-more 0 n ∙ ap (λ k. range_with_len 0 n ++ k ∷ []) z
+  range_last n = grind (arith, nat_tests, range_with_len-more)
 
   last_packet : (index n : ℕ) → map (packet_at told_last s all index) (range_with_len 0 (suc n)) ≡ map (packet_at told_last s all index) (range_with_len 0 n) ++ packet_at told_last s all index n ∷ []
   last_packet index n = ap (map (packet_at told_last s all index)) (range_last n) ∙ map-append (packet_at told_last s all index) (range_with_len 0 n) (n ∷ [])
@@ -118,7 +98,7 @@ module _ (told_last : Bool) (s : Setting) (all : List (List ℤ)) (coded : AreCo
         parts_are = last_packet index n;
         numbers = numbers index 0 (range_with_len 0 (suc n)) lt rising
             ∙ ap (range_with_len 0) (sym (length-map (range_with_len 0 (suc n)) (packet_at told_last s all index) ∙ length-range_with_len 0 (suc n)));
-        closed = part_closes told_last s all coded index n lt few ∙ equal (n + 1) (parts_of s all index) (omega (arith, e));
+        closed = part_closes told_last s all coded index n lt few ∙ eq-eqb (n + 1) (parts_of s all index) (omega (arith, e));
       }
 
   complete_only_by : (index n : ℕ) → index < segments_of s → IsRising 0 (parts_of s all index) (range_with_len 0 n) → IsComplete (map (packet_at told_last s all index) (range_with_len 0 n)) → n ≡ parts_of s all index
@@ -131,15 +111,12 @@ module _ (told_last : Bool) (s : Setting) (all : List (List ℤ)) (coded : AreCo
       let few : n < parts_of s all index = rising_last 0 (parts_of s all index) n (range_with_len 0 n) (subst (IsRising 0 (parts_of s all index)) (range_last n) rising) in
       let same : c.closing ≡ packet_at told_last s all index n = last_is c.front (map (packet_at told_last s all index) (range_with_len 0 n)) c.closing (packet_at told_last s all index n) (sym c.parts_are ∙ last_packet index n) in
       let closed : (n + 1 == parts_of s all index) ≡ true = sym (part_closes told_last s all coded index n lt few) ∙ ap (λ p. closes (flags_in p)) (sym same) ∙ c.closed in
-      let e : n + 1 ≡ parts_of s all index = equal_so (n + 1) (parts_of s all index) closed in
+      let e : n + 1 ≡ parts_of s all index = eqb-true (n + 1) (parts_of s all index) closed in
       omega (arith, e)
 
   -- rising parts are complete only if they are all parts
   complete_only : (index : ℕ) (ks : List ℕ) → index < segments_of s → IsRising 0 (parts_of s all index) ks → IsComplete (map (packet_at told_last s all index) ks) → ks ≡ all_parts s all index
-  complete_only index ks lt rising c =
-      let range : ks ≡ range_with_len 0 (length ks) = sym (numbers index 0 ks lt rising) ∙ c.numbers ∙ ap (range_with_len 0) (length-map ks (packet_at told_last s all index)) in
-      let n = complete_only_by index (length ks) lt (subst (IsRising 0 (parts_of s all index)) range rising) (subst (λ zs. IsComplete (map (packet_at told_last s all index) zs)) range c) in
-      range ∙ ap (range_with_len 0) n
+  complete_only index ks lt rising c = grind (arith, nat_tests, numbers, length-map, complete_only_by)
 
   -- the text that they carry
   text_so_far : (index n : ℕ) → index < segments_of s → n ≤ parts_of s all index →
@@ -157,12 +134,7 @@ module _ (told_last : Bool) (s : Setting) (all : List (List ℤ)) (coded : AreCo
       ∙ sym (take-add (n * size) size text) ∙ ap (λ n. take n text) e
 
   whole_text : (index : ℕ) → index < segments_of s → text_of_parts (map (packet_at told_last s all index) (all_parts s all index)) ≡ segment_text s all index
-  whole_text index lt =
-      let size = part_size s.packet in
-      let packet = coded.setting.packet in
-      let octets = length (segment_text s all index) in
-      let most : octets + size - 1 < parts_of s all index * size + size = lt-div-mul-add {a = octets + size - 1} {b = size} (omega (arith, packet)) in
-      text_so_far index (parts_of s all index) lt (omega arith) ∙ take_all (parts_of s all index * size) (segment_text s all index) (omega (arith, most))
+  whole_text index lt = grind (arith, nat_tests, lt-div-mul-add, text_so_far, take_all)
 
   -- ---- the packets of one segment among those chosen of the first ones
 
@@ -172,7 +144,7 @@ module _ (told_last : Bool) (s : Setting) (all : List (List ℤ)) (coded : AreCo
     others at zero few far = refl
     others at (suc n) few far =
         let e : n + 1 ≡ suc n = omega arith in
-        let test : (n == at) ≡ false = apart n at (λ e. omega (arith, e, far)) in
+        let test : (n == at) ≡ false = ne_eqb n at (λ e. omega (arith, e, far)) in
         ap (λ m. packets_at at (chosen told_last s all parts m)) (sym e)
         ∙ ap (packets_at at) (chosen_more told_last s all coded parts choice parts n)
         ∙ filter-append (λ packet. index_in packet == at) (chosen told_last s all parts n) (map (packet_at told_last s all n) (parts n))
@@ -193,11 +165,11 @@ module _ (told_last : Bool) (s : Setting) (all : List (List ℤ)) (coded : AreCo
         ∙ ap (λ zs. front ++ zs) (picks at n 0 (parts n) (omega (arith, few)) (choice.each n (omega (arith, few)))) in
         elim (cases_lt at n) [
           | inl before ↦
-              let test : (n == at) ≡ false = apart n at (λ e. omega (arith, e, before)) in
+              let test : (n == at) ≡ false = ne_eqb n at (λ e. omega (arith, e, before)) in
               parted ∙ ap (λ b. front ++ (if b then map (packet_at told_last s all n) (parts n) else [])) test ∙ append-nil front ∙ picked at n (omega (arith, few)) before
           | inr last ↦
               let same : n ≡ at = omega (arith, last, lt) in
-              let test : (n == at) ≡ true = equal n at same in
+              let test : (n == at) ≡ true = eq-eqb n at same in
               parted ∙ ap (λ b. front ++ (if b then map (packet_at told_last s all n) (parts n) else [])) test
               ∙ ap (λ zs. zs ++ map (packet_at told_last s all n) (parts n)) (others at n (omega (arith, few)) (omega (arith, same)))
               ∙ ap (λ m. map (packet_at told_last s all m) (parts m)) same

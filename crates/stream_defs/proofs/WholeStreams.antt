@@ -1,6 +1,7 @@
 -- All packets of an image, and some of them.
 use Rattle.std.proofs.Common.{◌≡◌, ◌<◌, ◌+◌, ℕ, zero, suc, ℤ, List, ◌++◌, length, refl, sym, ap, subst, ◌∙◌, arith}
 use Rattle.std.specs.Prelude.{Bool}
+use Rattle.std.proofs.lemmas.Bool.Decides.{nat_tests}
 use Rattle.base_122.specs.declared.setting.Setting.{Setting}
 use Rattle.segment_defs.specs.Coded.{coded}
 use Rattle.packet_defs.specs.Packets.{part_count, part_size, text_packets}
@@ -50,9 +51,7 @@ used_same s xs ys (suc n) same =
     ∙ ap (λ (segment : List (List ℤ)). used_before s ys n + length (coded s.book (head_of s n (used_before s ys n) segment) segment)) (same n (omega arith))
 
 text_same : (s : Setting) (xs ys : List (List ℤ)) (n : ℕ) → ((index : ℕ) → index < n + 1 → segment_of s xs index ≡ segment_of s ys index) → segment_text s xs n ≡ segment_text s ys n
-text_same s xs ys n same =
-    ap (λ used. text_with s xs n used) (used_same s xs ys n (λ index lt. same index (omega (arith, lt))))
-    ∙ ap (λ (segment : List (List ℤ)). coded s.book (head_of s n (used_before s ys n) segment) segment) (same n (omega arith))
+text_same s xs ys n same = grind (arith, nat_tests, used_same)
 
 before_same : (s : Setting) (xs ys : List (List ℤ)) (n : ℕ) → ((index : ℕ) → index < n → segment_of s xs index ≡ segment_of s ys index) → packets_before s xs n ≡ packets_before s ys n
 before_same s xs ys zero same = packets_before-none s xs ∙ sym (packets_before-none s ys)

@@ -1,10 +1,11 @@
 -- All stages of a plane report each bit and sign of a block that the plane has.
 use Rattle.std.proofs.Common.{◌≡◌, ℕ, ◌+◌, ◌^◌, ◌<◌, ◌≤◌, inl, inr, Bool, true, false, cond, List, [], ◌∷◌, refl, ap, sym, ◌∙◌, arith, ℤ, pos, get_or}
-use Rattle.std.specs.Prelude.{filter, nat_lt, nat_le, not, ◌&&◌}
+use Rattle.std.specs.Prelude.{filter, nat_lt, not, ◌&&◌}
 use Rattle.std.specs.List.{flat_map, list_any}
-use Rattle.std.proofs.lemmas.Bool.{cases_lt}
-use Rattle.std.proofs.lemmas.Bool.Decides.{nat_tests}
+use Rattle.std.proofs.lemmas.Bool.{cases_lt, lt-ltb, leb-true}
 use Rattle.std.proofs.Math.Pow.{pow_mono}
+use Rattle.std.proofs.lemmas.Bool.Decides.{nat_tests}
+use Rattle.plane_defs.proofs.Chosen.{equal_self}
 use Rattle.item_defs.specs.Bits.{bit}
 use Rattle.plane_defs.specs.declared.entries.Entry.TheVariants.{Bit}
 use Rattle.plane_defs.specs.Spans.{span}
@@ -16,7 +17,7 @@ use Rattle.plane_defs.specs.Steps.{Check, free, bit_at, Step, step, parents_step
 use Rattle.plane_texts.specs.Given.{tells_bit, tells_sign}
 use Rattle.plane_texts.proofs.NothingTold.{any_bit, any_sign}
 use Rattle.text_defs.proofs.SameTold.{bit_reached}
-use Rattle.text_defs.proofs.Sent.{has_span, has_filter, any_flat, any_map, itself, bit_coded, typed_tells, typed_signs, child_sent, grandchild_sent}
+use Rattle.text_defs.proofs.Sent.{has_span, has_filter, any_flat, any_map, bit_coded, typed_tells, typed_signs, child_sent, grandchild_sent}
 
 abbrev pub all_stages : List ℤ → ℕ → List ℕ → (plane q : ℕ) → List Step
 all_stages block d weights plane q = flat_map (λ k. block_steps (stage_number k) block d weights plane q) (span 0 5)
@@ -25,25 +26,14 @@ in_stage : (t : Step → Bool) (block : List ℤ) (d : ℕ) (weights : List ℕ)
 in_stage t block d weights plane q k lt e = any_flat t (λ k. block_steps (stage_number k) block d weights plane q) k (span 0 5) (has_span 0 5 k (omega arith) (omega arith)) e
 
 where_deep : (t : Step → Bool) (b : Bool) (steps : List Step) → b ≡ true → list_any t steps ≡ true → list_any t (cond b steps []) ≡ true
-where_deep t true steps e h = h
-where_deep t false steps e h = absurd cc
+where_deep t b steps e h = grind (arith, nat_tests)
 
 below_depth : (plane d n : ℕ) → 2 ^ plane ≤ n → n < 2 ^ d → nat_lt plane d ≡ true
-below_depth plane d n low high =
-    elim (cases_lt plane d) [
-      | inl lt ↦ less plane d lt
-      | inr deep ↦ let m : 2 ^ d ≤ 2 ^ plane = pow_mono deep in absurd (omega (arith, low, high, m))
-    ]
-  where
-    less : (a b : ℕ) → a < b → nat_lt a b ≡ true
-    less a b lt = grind (arith, nat_tests)
+below_depth plane d n low high = grind (arith, nat_tests, lt-ltb, pow_mono)
 
 reached_from : (block : List ℤ) (plane p : ℕ) → significant block plane p ≡ true → 2 ^ plane ≤ magnitude block p
 unfolding significant
-reached_from block plane p e = within (2 ^ plane) (magnitude block p) e
-  where
-    within : (a b : ℕ) → nat_le a b ≡ true → a ≤ b
-    within a b e = grind (arith, nat_tests)
+reached_from block plane p e = leb-true (2 ^ plane) (magnitude block p) e
 
 higher : (block : List ℤ) (plane p : ℕ) → significant block (plane + 1) p ≡ true → 2 ^ plane ≤ magnitude block p
 higher block plane p e = let m : 2 ^ plane ≤ 2 ^ (plane + 1) = pow_mono (omega arith) in omega (arith, m, reached_from block (plane + 1) p e)
@@ -89,7 +79,7 @@ module _ (block : List ℤ) (d : ℕ) (weights : List ℕ) (plane q : ℕ) where
           in_stage (λ s. tells_bit p s.tells) block d weights plane q 4 (omega arith)
           (where_deep (λ s. tells_bit p s.tells) (nat_lt plane d) (refinement_steps block weights plane) (below_depth plane d (magnitude block p) (higher block plane p some) small)
           (any_map (λ s. tells_bit p s.tells) (λ p. step free (bit_at p) (Bit (bit (magnitude block p) plane))) p (filter (refined block weights plane) (span 1 63))
-          (has_filter (refined block weights plane) p (span 1 63) (has_span 1 63 p ac.0 ac.1) (refined_from p some is_coded)) (itself p)))
+          (has_filter (refined block weights plane) p (span 1 63) (has_span 1 63 p ac.0 ac.1) (refined_from p some is_coded)) (equal_self p)))
 
   pub sign_sent : (p : ℕ) → IsMultiple block weights → IsAc p → magnitude block p < 2 ^ d → significant block plane p ≡ true → significant block (plane + 1) p ≡ false → any_sign p (all_stages block d weights plane q) ≡ true
   sign_sent p whole ac small here none =
@@ -101,7 +91,4 @@ module _ (block : List ℤ) (d : ℕ) (weights : List ℕ) (plane q : ℕ) where
   dc_sent c lt =
       in_stage (λ s. tells_bit 0 s.tells) block d weights plane q 0 (omega arith)
       (where_deep (λ s. tells_bit 0 s.tells) (coded weights plane 0 && nat_lt plane q) (step free (bit_at 0) (Bit (twos_bit (get_or block 0 (pos 0)) plane)) ∷ [])
-      (ap (λ a. a && nat_lt plane q) c ∙ less plane q lt) refl)
-    where
-      less : (a b : ℕ) → a < b → nat_lt a b ≡ true
-      less a b lt = grind (arith, nat_tests)
+      (ap (λ a. a && nat_lt plane q) c ∙ lt-ltb plane q lt) refl)

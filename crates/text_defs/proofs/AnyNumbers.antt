@@ -19,29 +19,7 @@ itself x = grind (arith, nat_tests)
 
 -- a reference may have any form in two's complement
 any_reference : (signed : Bool) (N said : ℕ) → 1 ≤ N → said < 2 ^ N → complement N (number_at signed N ((said + negatives signed N) % 2 ^ N)) ≡ said
-any_reference signed N said some lt =
-    sym (complement_is signed N ((said + negatives signed N) % 2 ^ N) some (mod_below (said + negatives signed N) (2 ^ N) (pow_pos N))) ∙ turned signed
-  where
-    turned : (signed : Bool) → ((said + negatives signed N) % 2 ^ N + negatives signed N) % 2 ^ N ≡ said
-    turned false =
-        let z : said + 0 ≡ said = omega arith in
-        let e : (said + 0) % 2 ^ N ≡ said = ap (λ n. n % 2 ^ N) z ∙ mod-eq_of_lt lt in
-        let w : (said + 0) % 2 ^ N + 0 ≡ said = omega (arith, e) in
-        ap (λ n. n % 2 ^ N) w ∙ mod-eq_of_lt lt
-    turned true =
-        let n : ℕ = 2 ^ (N - 1) in
-        let twice : 2 ^ N ≡ 2 * n = half N some in
-        elim (cases_lt said n) [
-          | inl under ↦
-              let s : (said + n) % 2 ^ N ≡ said + n = mod-eq_of_lt (omega (arith, under, twice)) in
-              let w : (said + n) % 2 ^ N + n ≡ 1 * 2 ^ N + said = omega (arith, s, twice) in
-              ap (λ k. k % 2 ^ N) w ∙ mod_low 1 N said lt
-          | inr over ↦
-              let z : said + n ≡ 1 * 2 ^ N + (said - n) = omega (arith, over, twice) in
-              let s : (said + n) % 2 ^ N ≡ said - n = ap (λ k. k % 2 ^ N) z ∙ mod_low 1 N (said - n) (omega (arith, lt)) in
-              let w : (said + n) % 2 ^ N + n ≡ said = omega (arith, s, over) in
-              ap (λ k. k % 2 ^ N) w ∙ mod-eq_of_lt lt
-        ]
+any_reference signed N said some lt = grind (arith, nat_tests, complement_is, mod_below, pow_pos, mod-eq_of_lt, half, mod_low)
 
 module _ (kind : Kind) (some : 1 ≤ kind.bits) (xs : List ℕ) (few : (i : ℕ) → get_or xs i 0 < 2 ^ kind.bits) (o : ℕ → ℕ) where
   record GaggleChosen (g k said : ℕ) : Type 0 where

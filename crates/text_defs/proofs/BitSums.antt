@@ -2,9 +2,9 @@
 use Rattle.std.proofs.Common.{◌≡◌, ℕ, zero, suc, ◌+◌, ◌-◌, ◌*◌, ◌/◌, ◌%◌, ◌^◌, ◌<◌, cond, List, [], ◌∷◌, ◌++◌, refl, ap, sym, ◌∙◌, arith, ℤ, pos, negsuc}
 use Rattle.std.specs.Prelude.{◌==◌, sum_by, ◌+ℤ◌, ◌*ℤ◌}
 use Rattle.std.specs.Int.{int_shr}
-use Rattle.std.proofs.lemmas.Int.{ints}
 use Rattle.std.proofs.lemmas.Nat.{pow_pos, pow-add, mod_below, shr_split}
 use Rattle.std.proofs.lemmas.List.Sums.{sum_by-append}
+use Rattle.std.proofs.lemmas.Bool.Decides.{nat_tests}
 use Rattle.item_defs.specs.Bits.{bit}
 use Rattle.number_defs.specs.Ranges.{complement}
 use Rattle.plane_defs.specs.Spans.{span}
@@ -24,7 +24,7 @@ sum_none f = refl
 above : (n w : ℕ) → n % 2 ^ suc w ≡ n / 2 ^ w % 2 * 2 ^ w + n % 2 ^ w
 above n w = let z : suc w ≡ 1 + w = omega arith in ap (λ k. n % 2 ^ k) z ∙ pow.mod-pow-add n 1 w
 
-doubled : (w : ℕ) → 2 ^ suc w ≡ 2 * 2 ^ w
+pub doubled : (w : ℕ) → 2 ^ suc w ≡ 2 * 2 ^ w
 doubled w = let z : suc w ≡ 1 + w = omega arith in ap (λ k. 2 ^ k) z ∙ pow-add 2 1 w
 
 pub sum_bits : (n w : ℕ) → sum_by (λ b. cond (bit n b) (2 ^ b) 0) (span 0 w) ≡ n % 2 ^ w
@@ -64,5 +64,4 @@ sum_low (negsuc n) w = minus w
 
 -- the high part and the low bits make the number
 pub parts_whole : (z : ℤ) (q : ℕ) → (int_shr z q *ℤ pos (2 ^ q)) +ℤ pos (complement q z) ≡ z
-parts_whole (pos n) q = let e = shr_split n q in omega (arith, ints, e)
-parts_whole (negsuc n) q = let e = shr_split n q in let l = mod_below n (2 ^ q) (pow_pos q) in omega (arith, ints, e, l)
+parts_whole z q = grind (arith, nat_tests, shr_split, mod_below, pow_pos)

@@ -119,9 +119,7 @@ one_bit (suc d) = negsuc 0
 
 one_bit_says : (d : ℕ) → d < 2 → complement 1 (one_bit d) ≡ d
 unfolding one_bit
-one_bit_says zero lt = refl
-one_bit_says (suc zero) lt = refl
-one_bit_says (suc (suc d)) lt = absurd (omega arith)
+one_bit_says d lt = grind (arith, nat_tests)
 
 one_bit_fits : (d : ℕ) → IsInRange true 1 (one_bit d)
 unfolding one_bit

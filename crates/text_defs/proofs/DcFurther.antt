@@ -1,8 +1,9 @@
 -- A reading that stops within the DC part continues by one item.
-use Rattle.std.proofs.Common.{◌≡◌, ℕ, zero, suc, ◌*◌, ◌^◌, ◌<◌, ◌≤◌, Bool, true, false, cond, List, [], ◌∷◌, ◌++◌, length, take, map, refl, ap, sym, ◌∙◌, subst, arith, ℤ, pos, get_or, length-append}
+use Rattle.std.proofs.Common.{◌≡◌, ℕ, zero, suc, ◌*◌, ◌^◌, ◌<◌, ◌≤◌, Bool, cond, List, [], ◌∷◌, ◌++◌, length, take, map, refl, ap, sym, ◌∙◌, subst, arith, ℤ, pos, get_or, length-append}
 use Rattle.std.specs.Prelude.{unsigned_abs}
 use Rattle.std.proofs.lemmas.List.{length-map, get_or-map, append-nil}
 use Rattle.std.proofs.lemmas.Nat.{pow_pos}
+use Rattle.std.proofs.lemmas.Bool.Decides.{nat_tests}
 use Rattle.item_defs.specs.Items.{Item, spelling}
 use Rattle.item_defs.specs.Readings.{AreItems, item_at}
 use Rattle.number_defs.specs.DcPart.{dc_items}
@@ -61,8 +62,7 @@ lone_multiple zs weights r times = record { part = part; whole = each }
     part (suc p) = 0
 
     each : (p : ℕ) → magnitude (get_or (map lone zs) r []) p ≡ 2 ^ shift weights p * part p
-    each zero = lone_dc zs r ∙ times.1
-    each (suc p) = lone_zero zs r (suc p) (omega arith) ∙ omega arith
+    each p = grind (arith, nat_tests, lone_dc, lone_zero)
 
 lone_spellable : (head : SegmentHead) (xs : List (List ℤ)) (ds : List ℕ) (zs : List ℤ) → IsSpellable head xs ds → length zs ≡ length xs → DcsFit head.depth_dc head.depth_ac (dc_shift head) zs →
     ((i : ℕ) → IsTimes (shift head.image.weights.shifts 0) (get_or zs i (pos 0))) → IsSpellable head (map lone zs) ds
@@ -88,17 +88,7 @@ after_dc head blocks depths options = cond head.stop.dc [] (items_after_dc head 
 
 segment_parts : (head : SegmentHead) (blocks : List (List ℤ)) (depths : List ℕ) (options : Options) → segment_items head blocks depths options ≡ dc_part_items head blocks options ++ after_dc head blocks depths options
 unfolding segment_items after_dc
-segment_parts head blocks depths options = by_stop head.stop.dc
-  where
-    D : List Item
-    D = dc_part_items head blocks options
-
-    A : List Item
-    A = items_after_dc head blocks depths options
-
-    by_stop : (t : Bool) → cond t D (D ++ A) ≡ D ++ cond t [] A
-    by_stop true = sym (append-nil D)
-    by_stop false = refl
+segment_parts head blocks depths options = grind (arith, nat_tests, append-nil)
 
 dc_times : (weights : List ℕ) (blocks : List (List ℤ)) → ((r : ℕ) → IsMultiple (get_or blocks r []) weights) → (i : ℕ) → IsTimes (shift weights 0) (get_or (dcs_of blocks) i (pos 0))
 dc_times weights [] each i = (0, omega arith)

@@ -1,11 +1,12 @@
 -- The DC numbers that the first items of two readings give are the same.
-use Rattle.std.proofs.Common.{◌≡◌, ◌⊎◌, ℕ, zero, suc, ◌+◌, ◌-◌, ◌*◌, ◌<◌, ◌≤◌, inl, inr, Bool, true, false, cond, eqb, List, [], ◌∷◌, length, map, refl, ap, sym, ◌∙◌, subst, arith, ℤ, pos, negsuc, get_or, length-append}
+use Rattle.std.proofs.Common.{◌≡◌, ◌⊎◌, ℕ, zero, suc, ◌+◌, ◌-◌, ◌*◌, ◌<◌, ◌≤◌, inl, inr, Bool, true, false, cond, eqb, List, [], ◌∷◌, length, map, refl, ap, sym, ◌∙◌, subst, arith, ℤ, pos, get_or, length-append}
 use Rattle.std.specs.Prelude.{nat_le, nat_lt, ◌&&◌}
 use Rattle.std.specs.Int.{int_shr}
-use Rattle.std.proofs.lemmas.Bool.{cases_lt, and_parts}
+use Rattle.std.proofs.lemmas.Bool.{cases_lt, and_parts, ltb-true, leb-true, lt-leb}
 use Rattle.std.proofs.lemmas.Bool.Decides.{nat_tests}
-use Rattle.std.proofs.lemmas.Int.{ints}
 use Rattle.std.proofs.lemmas.List.{get_or-map, length-map}
+use Rattle.std.proofs.Math.Bool.{and-false}
+use Rattle.text_defs.proofs.SameTold.{nothing}
 use Rattle.item_defs.specs.Items.{Item}
 use Rattle.number_defs.specs.Ranges.{IsInRange, shifted_height, number_at, complement}
 use Rattle.number_defs.specs.Gaggles.{number_items}
@@ -59,18 +60,11 @@ planes_said q vs ws same (suc count) k n r e lt within le =
 pub dc_long : (head : SegmentHead) (blocks : List (List ℤ)) (options : Options) →
     length (dc_part_items head blocks options) ≡ high_count head blocks options + dc_planes head.depth_dc head.depth_ac (dc_shift head) * length blocks
 unfolding dc_items
-dc_long head blocks options =
-    let dcs = dcs_of blocks in
-    let high = high_items (dc_bits head.depth_dc head.depth_ac (dc_shift head)) (q_of head) dcs options.dcs in
-    let planes = dc_planes head.depth_dc head.depth_ac (dc_shift head) in
-    length-append high (planes_before (q_of head) dcs planes) ∙ ap (λ n. length high + n) (planes_long (q_of head) dcs planes) ∙ ap (λ l. length high + planes * l) (length-map blocks dc_of)
+dc_long head blocks options = grind (arith, nat_tests, length-append, planes_long, length-map)
 
 -- a number of one bit is known from that bit
 one_bit : (a b : ℤ) → IsInRange true 1 a → IsInRange true 1 b → complement 1 a ≡ complement 1 b → a ≡ b
-one_bit (pos a) (pos b) h k e = omega (arith, ints, h.low, h.high, k.low, k.high)
-one_bit (pos a) (negsuc b) h k e = absurd (omega (arith, ints, h.low, h.high, k.low, k.high, e))
-one_bit (negsuc a) (pos b) h k e = absurd (omega (arith, ints, h.low, h.high, k.low, k.high, e))
-one_bit (negsuc a) (negsuc b) h k e = omega (arith, ints, h.low, h.high, k.low, k.high)
+one_bit a b h k e = grind (arith, nat_tests)
 
 -- the high part of a number
 through_by : (N q : ℕ) (vs ws : List ℤ) (o u : ℕ → ℕ) (m r : ℕ) → ((i : ℕ) → i < length vs → IsInRange true N (int_shr (get_or vs i (pos 0)) q)) → ((i : ℕ) → i < length ws → IsInRange true N (int_shr (get_or ws i (pos 0)) q)) →
@@ -97,26 +91,10 @@ through_by N q vs ws o u m r fit also same within = by_bits (eqb N 1) refl
 
 -- whether a bit of the planes is given
 given_from : (h n len r m planes : ℕ) → (nat_lt n planes && nat_le (h + n * len + r + 1) m) ≡ true → (n < planes) × (h + n * len + r + 1 ≤ m)
-given_from h n len r m planes e = (lt_from n planes (and_parts (nat_lt n planes) _ e).0, le_from (h + n * len + r + 1) m (and_parts (nat_lt n planes) _ e).1)
-  where
-    lt_from : (a b : ℕ) → nat_lt a b ≡ true → a < b
-    lt_from a b e = grind (arith, nat_tests)
-
-    le_from : (a b : ℕ) → nat_le a b ≡ true → a ≤ b
-    le_from a b e = grind (arith, nat_tests)
+given_from h n len r m planes e = (ltb-true n planes (and_parts (nat_lt n planes) _ e).0, leb-true (h + n * len + r + 1) m (and_parts (nat_lt n planes) _ e).1)
 
 not_given : (h n len r m planes : ℕ) → m < h → (nat_lt n planes && nat_le (h + n * len + r + 1) m) ≡ false
-not_given h n len r m planes lt = ap (λ b. nat_lt n planes && b) (above (h + n * len + r + 1) m (omega arith)) ∙ none (nat_lt n planes)
-  where
-    above : (a b : ℕ) → b < a → nat_le a b ≡ false
-    above a b lt = grind (arith, nat_tests)
-
-    none : (a : Bool) → (a && false) ≡ false
-    none true = refl
-    none false = refl
-
-false_true : {X : Type 0} → false ≡ true → X
-false_true e = absurd cc
+not_given h n len r m planes lt = ap (λ b. nat_lt n planes && b) (lt-leb (h + n * len + r + 1) m (omega arith)) ∙ and-false (nat_lt n planes)
 
 module _ (head : SegmentHead) (xs ys : List (List ℤ)) (ds es : List ℕ) (o u : Options) (p : IsSpellable head xs ds) (q : IsSpellable head ys es) (m : ℕ)
     (said : SaySame m (dc_part_items head xs o) (dc_part_items head ys u)) where
@@ -162,7 +140,7 @@ module _ (head : SegmentHead) (xs ys : List (List ℤ)) (ds es : List ℕ) (o u 
           | inl early ↦
               let left = not_given (length (high xs o)) n (length xs) r m planes early.first in
               let right = not_given (length (high ys u)) n (length ys) r m planes early.second in
-              (left ∙ sym right, λ e. false_true (sym left ∙ e))
+              (left ∙ sym right, λ e. nothing (sym left ∙ e))
           | inr past ↦ (
             ap (λ h. nat_lt n planes && nat_le (h + n * length xs + r + 1) m) past.long ∙ ap (λ l. nat_lt n planes && nat_le (length (high ys u) + n * l + r + 1) m) (p.blocks_all ∙ sym q.blocks_all),
             λ e.

@@ -142,8 +142,7 @@ blank_multiple blocks weights r whole = record { part = part; whole = each }
     part (suc p) = 0
 
     each : (p : ℕ) → magnitude (get_or (map blank blocks) r []) p ≡ 2 ^ shift weights p * part p
-    each zero = blank_dc blocks r ∙ whole.whole 0
-    each (suc p) = blank_zero blocks r (suc p) (omega arith) ∙ omega arith
+    each p = grind (arith, nat_tests, blank_dc, blank_zero)
 
 blank_spellable : (head : SegmentHead) (xs : List (List ℤ)) (ds es : List ℕ) → IsSpellable head xs ds → length es ≡ length ds → ((i : ℕ) → get_or es i 0 < 2 ^ depth_bits head.depth_ac) → IsSpellable head (map blank xs) es
 unfolding blank

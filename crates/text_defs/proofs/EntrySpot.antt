@@ -3,6 +3,7 @@ use Rattle.std.proofs.Common.{◌≡◌, ◌⊎◌, ℕ, zero, suc, ◌+◌, ◌
 use Rattle.std.specs.Prelude.{◌==◌, ◌||◌, None, Some, nat_lt}
 use Rattle.std.specs.List.{list_any, list_all}
 use Rattle.std.proofs.lemmas.Bool.Decides.{nat_tests}
+use Rattle.std.proofs.lemmas.Bool.{eqb-true, ltb-true}
 use Rattle.item_defs.specs.Bits.{digit}
 use Rattle.item_defs.specs.Items.{Item, raw, plain, code, false_flag, IsSaid}
 use Rattle.item_defs.specs.Readings.{item_at}
@@ -24,7 +25,6 @@ use Rattle.plane_texts.specs.Candidates.{Replaces}
 use Rattle.text_defs.proofs.OptionsRead.{named}
 use Rattle.text_defs.proofs.ValueChoice.{MaySay}
 use Rattle.text_defs.proofs.Choices.{Chooses}
-use Rattle.plane_texts.proofs.SmallFacts.{equal_from}
 
 -- ---- words and their symbols
 
@@ -49,14 +49,11 @@ words_below (suc (suc (suc zero))) low high = refl
 words_below (suc (suc (suc (suc zero)))) low high = refl
 words_below (suc (suc (suc (suc (suc n))))) low high = absurd (omega arith)
 
-below_from : (m n : ℕ) → nat_lt m n ≡ true → m < n
-below_from m n e = grind (arith, nat_tests)
-
 symbol-word : (n s : ℕ) → 2 ≤ n → n ≤ 4 → s < 2 ^ n → symbol n (word_of n s) ≡ s
-symbol-word n s low high lt = equal_from (symbol n (word_of n s)) s (list_all-span-zero (λ s. symbol n (word_of n s) == s) (2 ^ n) s (words_again n low high) lt)
+symbol-word n s low high lt = eqb-true (symbol n (word_of n s)) s (list_all-span-zero (λ s. symbol n (word_of n s) == s) (2 ^ n) s (words_again n low high) lt)
 
 word-small : (n s : ℕ) → 2 ≤ n → n ≤ 4 → s < 2 ^ n → word_of n s < 2 ^ n
-word-small n s low high lt = below_from (word_of n s) (2 ^ n) (list_all-span-zero (λ s. below (2 ^ n) (word_of n s)) (2 ^ n) s (words_below n low high) lt)
+word-small n s low high lt = ltb-true (word_of n s) (2 ^ n) (list_all-span-zero (λ s. below (2 ^ n) (word_of n s)) (2 ^ n) s (words_below n low high) lt)
 
 -- all options are the same except that of this length
 abbrev pub Elsewhere : ℕ → List ℕ → List ℕ → Type 0
@@ -80,8 +77,7 @@ module _ (book : Book) where
     pub chosen : (u : List ℕ) → Elsewhere n o u → option_of u n ≡ option → Chooses c said (entry_reading book o before check x) (entry_reading book u before check x)
 
   passed : (b : Bool) → cond b (Some false_flag) None ≡ None → b ≡ false
-  passed true e = cc
-  passed false e = refl
+  passed b e = grind (arith, nat_tests)
 
   -- an option of this name
   some_option : (n said k : ℕ) → list_any (λ option. identifier_number n option == said) (span 0 k) ≡ true → (option : ℕ) × (option < k) × (identifier_number n option ≡ said)
@@ -96,13 +92,12 @@ module _ (book : Book) where
       list_any-more k = (let z : suc k ≡ k + 1 = omega arith in ap (λ m. list_any (λ option. identifier_number n option == said) (span 0 m)) z) ∙ list_any-span-suc (λ option. identifier_number n option == said) 0 k
 
       early : (a : Bool) → (a || false) ≡ true → a ≡ true
-      early true e = refl
-      early false e = e
+      early a e = grind (arith, nat_tests)
 
       by_last : (list_any (λ option. identifier_number n option == said) (span 0 k) ≡ true → (option : ℕ) × (option < k) × (identifier_number n option ≡ said)) →
           (t : Bool) → (identifier_number n (0 + k) == said) ≡ t → (list_any (λ option. identifier_number n option == said) (span 0 k) || (identifier_number n (0 + k) == said)) ≡ true →
           (option : ℕ) × (option < suc k) × (identifier_number n option ≡ said)
-      by_last again true h e = (k, (omega arith), (ap (identifier_number n) (sym (zero-add k)) ∙ equal_from (identifier_number n (0 + k)) said h))
+      by_last again true h e = (k, (omega arith), (ap (identifier_number n) (sym (zero-add k)) ∙ eqb-true (identifier_number n (0 + k)) said h))
       by_last again false h e =
           let r = again (early _ (sym (ap (λ b. list_any (λ option. identifier_number n option == said) (span 0 k) || b) h) ∙ e)) in
           (r.0, (omega (arith, r.1)), r.2)
@@ -160,8 +155,7 @@ module _ (book : Book) where
   items_are : (o : List ℕ) (before : List Entry) (check : Check) (n v : ℕ) (none one opened : Bool) → eqb n 0 ≡ none → eqb n 1 ≡ one → list_any (is_word_of n) before ≡ opened →
       entry_reading book o before check (WordOf n v) ≡ Items none one opened o check n v
   unfolding entry_reading
-  items_are o before check n v none one opened e f g =
-      ap (λ t. Items t (eqb n 1) (list_any (is_word_of n) before) o check n v) e ∙ ap (λ t. Items none t (list_any (is_word_of n) before) o check n v) f ∙ ap (λ t. Items none one t o check n v) g
+  items_are o before check n v none one opened e f g = grind (arith, nat_tests)
 
   module _ (o : List ℕ) (known : AreOptionsOf o) (before : List Entry) (check : Check) (n v : ℕ) (most : n ≤ 4) (small : v < 2 ^ n) (c said : ℕ) where
     -- another word
@@ -230,8 +224,6 @@ module _ (book : Book) where
       inl (record { e = Bit (said == 1); replaces = record { kind = tt; fit = tt; passes = allowed; has_bits = tt }; chosen = one_only (raw (digit b)) (raw (digit (said == 1))) c said low (digit_of said (omega (arith, small))) })
     where
       digit_of : (d : ℕ) → d < 2 → digit (d == 1) ≡ d
-      digit_of zero lt = refl
-      digit_of (suc zero) lt = refl
-      digit_of (suc (suc d)) lt = absurd (omega arith)
+      digit_of d lt = grind (arith, nat_tests)
   entry_spot o known before check (Word bits) c said fit allowed lt may =
       by_count o known before check bits.count bits.value fit.0 fit.1 c said (eqb bits.count 0) (eqb bits.count 1) (list_any (is_word_of bits.count) before) refl refl refl lt may

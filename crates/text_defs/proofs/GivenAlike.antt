@@ -3,10 +3,11 @@ use Rattle.std.proofs.Common.{◌≡◌, ◌⊎◌, ℕ, zero, suc, ◌+◌, ◌
 use Rattle.std.specs.Prelude.{nat_le, nat_lt, ◌&&◌, ◌||◌, ◌==◌, sum_by, neg_ℤ, ◌+ℤ◌, ◌*ℤ◌}
 use Rattle.std.specs.Int.{int_shr}
 use Rattle.std.specs.List.{list_any, AllByRecursion}
-use Rattle.std.proofs.lemmas.Bool.{cases_lt}
+use Rattle.std.proofs.lemmas.Bool.{cases_lt, leb-true, lt-ltb}
 use Rattle.std.proofs.lemmas.Bool.Decides.{nat_tests}
 use Rattle.std.proofs.lemmas.List.{get_or-map, length-map}
 use Rattle.std.proofs.lemmas.List.Sums.{sum_by-cons}
+use Rattle.plane_defs.proofs.AlikeSteps.{any_equal}
 use Rattle.item_defs.specs.Bits.{bit}
 use Rattle.item_defs.specs.Readings.{AreItems}
 use Rattle.number_defs.specs.Ranges.{complement}
@@ -39,53 +40,22 @@ use Rattle.text_defs.proofs.DcTold.{through_told, bits_told, dc_long}
 -- ---- tests that have the same result
 
 or_and : (a a' b b' c c' : Bool) → a ≡ a' → b ≡ b' → (a ≡ true → c ≡ c') → (b ≡ true → c ≡ c') → ((a || b) && c) ≡ ((a' || b') && c')
-or_and a a' b b' c c' p q f g = ap (λ x. (x || b) && c) p ∙ ap (λ x. (a' || x) && c) q ∙ by_tests a' b' (λ e. f (p ∙ e)) (λ e. g (q ∙ e))
-  where
-    by_tests : (a b : Bool) → (a ≡ true → c ≡ c') → (b ≡ true → c ≡ c') → ((a || b) && c) ≡ ((a || b) && c')
-    by_tests true b f g = f refl
-    by_tests false true f g = g refl
-    by_tests false false f g = refl
+or_and a a' b b' c c' p q f g = grind (arith, nat_tests)
 
 first_and : (a a' b b' c c' : Bool) → a ≡ a' → (a ≡ true → c ≡ c') → (a ≡ false → b ≡ false) → (a ≡ false → b' ≡ false) → ((a || b) && c) ≡ ((a' || b') && c')
-first_and true true b b' c c' p f g h = f refl
-first_and true false b b' c c' p f g h = absurd cc
-first_and false true b b' c c' p f g h = absurd cc
-first_and false false b b' c c' p f g h = ap (λ x. x && c) (g refl) ∙ sym (ap (λ x. x && c') (h refl))
+first_and a a' b b' c c' p f g h = grind (arith, nat_tests)
 
 none_and : (a b c c' : Bool) → c ≡ false → c' ≡ false → (a && c) ≡ (b && c')
-none_and a b c c' e f = ap (λ x. a && x) e ∙ none a ∙ sym (none b) ∙ sym (ap (λ x. b && x) f)
-  where
-    none : (a : Bool) → (a && false) ≡ false
-    none true = refl
-    none false = refl
+none_and a b c c' e f = grind (arith, nat_tests)
 
 both_and : (a a' c c' : Bool) → a ≡ a' → (a ≡ true → c ≡ c') → (a && c) ≡ (a' && c')
-both_and true true c c' p f = f refl
-both_and true false c c' p f = absurd cc
-both_and false true c c' p f = absurd cc
-both_and false false c c' p f = refl
+both_and a a' c c' p f = grind (arith, nat_tests)
 
 where_both : {X : Type 0} (a a' : Bool) (x x' d : X) → a ≡ a' → (a ≡ true → x ≡ x') → cond a x d ≡ cond a' x' d
-where_both true true x x' d p f = f refl
-where_both true false x x' d p f = absurd cc
-where_both false true x x' d p f = absurd cc
-where_both false false x x' d p f = refl
+where_both a a' x x' d p f = grind (arith, nat_tests)
 
 one_test : (a b m : ℕ) → (a ≤ m → b ≤ m) → (b ≤ m → a ≤ m) → nat_le a m ≡ nat_le b m
-one_test a b m f g =
-    elim (cases_lt m a) [
-      | inl over ↦ elim (cases_lt m b) [ inl also ↦ above a m over ∙ sym (above b m also) | inr under ↦ absurd (omega (arith, over, g under)) ]
-      | inr le ↦ within a m le ∙ sym (within b m (f le))
-    ]
-  where
-    above : (a m : ℕ) → m < a → nat_le a m ≡ false
-    above a m lt = grind (arith, nat_tests)
-
-    within : (a m : ℕ) → a ≤ m → nat_le a m ≡ true
-    within a m le = grind (arith, nat_tests)
-
-le_from : (a m : ℕ) → nat_le a m ≡ true → a ≤ m
-le_from a m e = grind (arith, nat_tests)
+one_test a b m f g = grind (arith, nat_tests)
 
 -- ---- sums, tests and lists over a span
 
@@ -96,10 +66,6 @@ sum_alike f g (x ∷ xs) all = sum_by-cons f x xs ∙ ap (λ n. n + sum_by f xs)
 pub map_alike : {X : Type 0} (f g : ℕ → X) (xs : List ℕ) → AllByRecursion (λ x. f x ≡ g x) xs → map f xs ≡ map g xs
 map_alike f g [] all = refl
 map_alike f g (x ∷ xs) all = ap (λ y. y ∷ map f xs) all.0 ∙ ap (λ l. g x ∷ l) (map_alike f g xs all.1)
-
-any_same : (f g : ℕ → Bool) (xs : List ℕ) → AllByRecursion (λ x. f x ≡ g x) xs → list_any f xs ≡ list_any g xs
-any_same f g [] all = refl
-any_same f g (x ∷ xs) all = ap (λ b. b || list_any f xs) all.0 ∙ ap (λ b. g x || b) (any_same f g xs all.1)
 
 from_any : {Q : Type 0} (f : ℕ → Bool) (xs : List ℕ) → AllByRecursion (λ x. f x ≡ true → Q) xs → list_any f xs ≡ true → Q
 from_any f [] all e = absurd cc
@@ -189,9 +155,6 @@ module _ (head : SegmentHead) (fits : IsHead head) (xs ys : List (List ℤ)) (ds
       above : (a m : ℕ) → nat_le a m ≡ false → m < a
       above a m e = grind (arith, nat_tests)
 
-      below : (a b : ℕ) → a < b → nat_lt a b ≡ true
-      below a b lt = grind (arith, nat_tests)
-
       second : (a b : Bool) → a ≡ true → (a && b) ≡ false → b ≡ false
       second true b e f = f
       second false b e f = absurd cc
@@ -201,7 +164,7 @@ module _ (head : SegmentHead) (fits : IsHead head) (xs ys : List (List ℤ)) (ds
           let d : ℕ = planes - (n + 1) in
           let whole : planes ≡ n + 1 + d = omega arith in
           let counted : planes * len ≡ n * len + len + d * len = let e : planes * len ≡ (n + 1 + d) * len = ap (λ c. c * len) whole in omega (arith, e) in
-          let over : m < h + n * len + r + 1 = above (h + n * len + r + 1) m (second (nat_lt n planes) _ (below n planes lt) none) in
+          let over : m < h + n * len + r + 1 = above (h + n * len + r + 1) m (second (nat_lt n planes) _ (lt-ltb n planes lt) none) in
           omega (arith, over, counted, within)
 
   low_same : given_low head xs ds o m r ≡ given_low head ys es u m r
@@ -229,7 +192,7 @@ module _ (head : SegmentHead) (fits : IsHead head) (xs ys : List (List ℤ)) (ds
       where_both (nat_le (dc_through head xs o r) m) (nat_le (dc_through head ys u r) m) _ _ (pos 0)
       (one_test (dc_through head xs o r) (dc_through head ys u r) m (λ le. (there le).0) (λ le. (through_told head ys xs es ds u o q p m (sym dc_said) r inside le).0))
       (λ e.
-      ap (λ z. (z *ℤ pos (2 ^ q_of head)) +ℤ pos (given_low head xs ds o m r)) (ap (λ z. int_shr z (q_of head)) (sym dc_x) ∙ (there (le_from _ m e)).1 ∙ ap (λ z. int_shr z (q_of head)) dc_y)
+      ap (λ z. (z *ℤ pos (2 ^ q_of head)) +ℤ pos (given_low head xs ds o m r)) (ap (λ z. int_shr z (q_of head)) (sym dc_x) ∙ (there (leb-true _ m e)).1 ∙ ap (λ z. int_shr z (q_of head)) dc_y)
       ∙ ap (λ n. (int_shr (dc_of Y) (q_of head) *ℤ pos (2 ^ q_of head)) +ℤ pos n) low_same)
     where
       there : dc_through head xs o r ≤ m → (dc_through head ys u r ≤ m) × (int_shr (get_or (dcs_of xs) r (pos 0)) (q_of head) ≡ int_shr (get_or (dcs_of ys) r (pos 0)) (q_of head))
@@ -255,7 +218,7 @@ module _ (head : SegmentHead) (fits : IsHead head) (xs ys : List (List ℤ)) (ds
       minus : (has_sign head xs ds o m r n && negative (get_or X n (pos 0))) ≡ (has_sign head ys es u m r n && negative (get_or Y n (pos 0)))
       minus =
           both_and (has_sign head xs ds o m r n) (has_sign head ys es u m r n) _ _
-          (any_same _ _ (span 0 head.depth_ac) (all_span _ 0 head.depth_ac (λ b low high. (told b (omega arith)).signs n)))
+          (any_equal _ _ (span 0 head.depth_ac) (all_span _ 0 head.depth_ac (λ b low high. (told b (omega arith)).signs n)))
           (from_any (λ b. any_sign n (given_in head xs ds o m r b)) (span 0 head.depth_ac) (all_span _ 0 head.depth_ac (λ b low high e. (told b (omega arith)).sign_same n e)))
 
   pub block_same : given_block head xs ds o m r ≡ given_block head ys es u m r

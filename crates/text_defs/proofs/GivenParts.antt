@@ -14,7 +14,7 @@ use Rattle.std.proofs.Math.Nat.{mul-le-mul_right, mul-sub}
 use Rattle.std.proofs.Math.Pow.{pow_mono}
 use Rattle.item_defs.specs.Bits.{bit}
 use Rattle.number_defs.specs.Ranges.{IsInRange, complement}
-use Rattle.number_defs.specs.DcPart.{depth_q, dc_q, dc_bits}
+use Rattle.number_defs.specs.DcPart.{dc_q, dc_bits}
 use Rattle.base_122.specs.declared.book.Book.{Book}
 use Rattle.plane_defs.specs.Spans.{span}
 use Rattle.plane_defs.proofs.SpanLists.{get_or-map-span}
@@ -29,7 +29,7 @@ use Rattle.text_defs.specs.Given.{has_bit, has_sign, is_dc_bit_given, dc_through
 use Rattle.text_defs.specs.Outcomes.{Holds}
 use Rattle.text_defs.proofs.GivesAll.{span_long, span_at}
 use Rattle.plane_texts.proofs.LowBits.{even_part, halves, none_below}
-use Rattle.text_defs.proofs.BitSums.{sum_span, sum_none}
+use Rattle.text_defs.proofs.BitSums.{sum_span, sum_none, doubled}
 
 -- a multiple of 2 ^ s, by at most 2 ^ 27 in magnitude
 pub record IsPart (s : ℕ) (z : ℤ) : Type 0 where
@@ -49,10 +49,7 @@ abbrev IsBitFrom : (s b n : ℕ) → Type 0
 IsBitFrom s b n = (n ≡ 0) ⊎ ((n ≡ 2 ^ b) × (s ≤ b))
 
 one_more : (s w n m : ℕ) → BitsFrom s w n → IsBitFrom s w m → BitsFrom s (suc w) (n + m)
-one_more s w n m x (inl none) = let twice : 2 ^ suc w ≡ 2 * 2 ^ w = pow_more w in record { part = x.part; whole = omega (arith, none, x.whole); few = omega (arith, none, x.few, twice) }
-  where
-    pow_more : (w : ℕ) → 2 ^ suc w ≡ 2 * 2 ^ w
-    pow_more w = let z : suc w ≡ 1 + w = omega arith in ap (λ k. 2 ^ k) z ∙ pow-add 2 1 w
+one_more s w n m x (inl none) = let twice : 2 ^ suc w ≡ 2 * 2 ^ w = doubled w in record { part = x.part; whole = omega (arith, none, x.whole); few = omega (arith, none, x.few, twice) }
 one_more s w n m x (inr one) =
     let z : suc w ≡ 1 + w = omega arith in
     let twice : 2 ^ suc w ≡ 2 * 2 ^ w = ap (λ k. 2 ^ k) z ∙ pow-add 2 1 w in
@@ -104,12 +101,7 @@ signed_part s k n false le e few = plus_part s k n e few
 
 -- a number of N bits above q bits has at most 28 bits
 high_few : (depth_dc depth_ac shift : ℕ) → 1 ≤ depth_dc → depth_dc ≤ 28 → shift ≤ 3 → dc_bits depth_dc depth_ac shift - 1 + dc_q depth_dc depth_ac shift ≤ 27
-high_few depth_dc depth_ac shift low high few =
-    let below : depth_q depth_dc depth_ac < depth_dc = q_below in
-    omega (arith, below)
-  where
-    q_below : depth_q depth_dc depth_ac < depth_dc
-    q_below = grind (arith, nat_tests)
+high_few depth_dc depth_ac shift low high few = grind (arith, nat_tests)
 
 module _ (s q N k low : ℕ) (small : s ≤ 3) (over : s ≤ q) (some : 1 ≤ N) (few : N - 1 + q ≤ 27) (whole : low ≡ 2 ^ s * k) (below : low < 2 ^ q) where
   split : 2 ^ q ≡ 2 ^ s * 2 ^ (q - s)
@@ -158,11 +150,7 @@ module _ (s q N k low : ℕ) (small : s ≤ 3) (over : s ≤ q) (some : 1 ≤ N)
 -- ---- the numbers of a block
 
 pub shift_low : (shifts : List ℕ) (k : ℕ) → All (λ shift. shift ≤ 3) shifts → get_or shifts k 0 ≤ 3
-shift_low shifts k each =
-    elim (cases_lt k (length shifts)) [
-      | inl lt ↦ each k 0 lt
-      | inr ge ↦ let none = get_or_past shifts k 0 ge in omega (arith, none)
-    ]
+shift_low shifts k each = grind (arith, nat_tests, get_or_past)
 
 dc_shift_is : (head : SegmentHead) → dc_shift head ≡ shift head.image.weights.shifts 0
 unfolding place_of
@@ -211,7 +199,7 @@ module _ (head : SegmentHead) (blocks : List (List ℤ)) (depths : List ℕ) (op
           (high_few head.depth_dc head.depth_ac s ok.depth_dc.0 ok.depth_dc.1 few) low_bits.whole low_bits.few (int_shr dc (q_of head)) range)
       by false = plus_part (shift weights 0) 0 0 (omega arith) (omega arith)
 
-  block_part : (i : ℕ) → i < 64 → IsPart (shift weights i) (get_or (given_block head blocks depths options m r) i (pos 0))
+  pub block_part : (i : ℕ) → i < 64 → IsPart (shift weights i) (get_or (given_block head blocks depths options m r) i (pos 0))
   block_part zero few = dc_is_part
   block_part (suc i) few =
       let at : get_or (span 1 63) i 0 ≡ 1 + i = span_at 1 63 i (omega (arith, few)) in

@@ -1,9 +1,9 @@
 -- All items of a segment without a stop give all of its numbers.
-use Rattle.std.proofs.Common.{◌≡◌, ◌⊎◌, ℕ, zero, suc, ◌+◌, ◌-◌, ◌*◌, ◌/◌, ◌^◌, ◌<◌, ◌≤◌, min, inl, inr, Bool, true, false, cond, eqb, List, [], ◌∷◌, ◌++◌, length, map, refl, ap, sym, ◌∙◌, subst, arith, ℤ, pos, negsuc, get_or, length-append}
-use Rattle.std.specs.Prelude.{nat_le, nat_lt, ◌&&◌, ◌||◌, ◌==◌, neg_ℤ, ◌+ℤ◌, ◌*ℤ◌, unsigned_abs}
+use Rattle.std.proofs.Common.{◌≡◌, ◌⊎◌, ℕ, zero, suc, ◌+◌, ◌-◌, ◌*◌, ◌/◌, ◌^◌, ◌<◌, ◌≤◌, min, inl, inr, Bool, true, false, cond, eqb, List, [], ◌∷◌, ◌++◌, length, map, refl, ap, sym, ◌∙◌, subst, arith, ℤ, pos, get_or, length-append}
+use Rattle.std.specs.Prelude.{nat_le, nat_lt, ◌&&◌, ◌||◌, ◌==◌, neg_ℤ, unsigned_abs}
 use Rattle.std.specs.Int.{int_shr}
 use Rattle.std.specs.List.{range_with_len}
-use Rattle.std.proofs.lemmas.Bool.{cases_lt}
+use Rattle.std.proofs.lemmas.Bool.{cases_lt, le-leb, lt-ltb, lt-leb}
 use Rattle.std.proofs.lemmas.Bool.Decides.{nat_tests}
 use Rattle.std.proofs.lemmas.List.{get_or_past, length-map, get_or-map, get_or_append_left}
 use Rattle.std.proofs.Math.Seq.{get_or-append_seam}
@@ -11,9 +11,9 @@ use Rattle.std.proofs.Math.Nat.{mod-eq_of_lt}
 use Rattle.std.proofs.Math.Pow.{pow_mono}
 use Rattle.std.proofs.lemmas.List.FromFn.{length-range_with_len}
 use Rattle.item_defs.specs.Bits.{bit}
-use Rattle.number_defs.specs.Ranges.{shifted_height, complement}
-use Rattle.number_defs.specs.Gaggles.{Kind, uncoded, first_place, places, uncoded_value, unary_part, rest_part, value_items, lead_items, gaggle_items, items_before, gaggle_count, number_items}
-use Rattle.number_defs.specs.DcPart.{dc_bits, dc_kind, dc_bit, dc_planes, high_items}
+use Rattle.number_defs.specs.Ranges.{complement}
+use Rattle.number_defs.specs.Gaggles.{Kind, uncoded, first_place, places, value_items, lead_items, gaggle_items, items_before, gaggle_count, number_items}
+use Rattle.number_defs.specs.DcPart.{dc_planes}
 use Rattle.plane_defs.specs.Spans.{span}
 use Rattle.plane_defs.specs.Sets.{magnitude, significant, coded}
 use Rattle.plane_defs.specs.Laws.{IsMultiple}
@@ -21,7 +21,7 @@ use Rattle.plane_defs.specs.Entries.{negative}
 use Rattle.plane_defs.proofs.Above.{all_span}
 use Rattle.plane_defs.proofs.SpanLists.{length-map-span, get_or-map-span}
 use Rattle.segment_defs.specs.declared.head.SegmentHead.{SegmentHead}
-use Rattle.segment_defs.specs.Depths.{dc_of, dcs_of}
+use Rattle.segment_defs.specs.Depths.{dc_of}
 use Rattle.segment_defs.specs.SegmentItems.{Options, dc_shift, q_of, dc_part_items, segment_items}
 use Rattle.wave_defs.specs.Blocks as wave_blocks
 use Rattle.text_defs.specs.Spellable.{IsSpellable, block_of}
@@ -42,25 +42,12 @@ use Rattle.text_defs.proofs.WholeGiven.{segment_long, given_whole}
 
 -- ---- tests
 
-within_test : (a b : ℕ) → a ≤ b → nat_le a b ≡ true
-within_test a b le = grind (arith, nat_tests)
-
-less_test : (a b : ℕ) → a < b → nat_lt a b ≡ true
-less_test a b lt = grind (arith, nat_tests)
-
-past_test : (a b : ℕ) → b < a → nat_le a b ≡ false
-past_test a b lt = grind (arith, nat_tests)
-
 -- a condition that holds whenever a bit is 1 does not change the bit
 absorbs : (h c : Bool) → (c ≡ true → h ≡ true) → (h && c) ≡ c
-absorbs true c f = refl
-absorbs false true f = f refl
-absorbs false false f = refl
+absorbs h c f = grind (arith, nat_tests)
 
 either_true : (a b : Bool) → (a ≡ true) ⊎ (b ≡ true) → (a || b) ≡ true
-either_true true b h = refl
-either_true false b (inl e) = absurd cc
-either_true false b (inr e) = e
+either_true a b h = grind (arith, nat_tests)
 
 pub span_long : (a n : ℕ) → length (span a n) ≡ n
 unfolding span
@@ -84,14 +71,7 @@ span_at a (suc n) i lt =
 values_fit : (kind : Kind) (heights : List ℕ) (option a n i : ℕ) → a ≤ i → i < a + n →
     cond (eqb option (uncoded kind.bits) || eqb option 0) 0 n + (i - a + 1) ≤ length (value_items kind heights option (range_with_len a n))
 unfolding value_items
-values_fit kind heights option a n i low high = by_option (eqb option (uncoded kind.bits)) (eqb option 0)
-  where
-    by_option : (t z : Bool) → cond (t || z) 0 n + (i - a + 1) ≤
-        length (cond t (map (uncoded_value kind heights) (range_with_len a n)) (map (unary_part kind heights option) (range_with_len a n) ++ cond z [] (map (rest_part kind heights option) (range_with_len a n))))
-    by_option true z = omega (arith, map_long (uncoded_value kind heights) a n)
-    by_option false true = omega (arith, map_long (unary_part kind heights option) a n, length-append (map (unary_part kind heights option) (range_with_len a n)) [])
-    by_option false false =
-        omega (arith, map_long (unary_part kind heights option) a n, map_long (rest_part kind heights option) a n, length-append (map (unary_part kind heights option) (range_with_len a n)) (map (rest_part kind heights option) (range_with_len a n)))
+values_fit kind heights option a n i low high = grind (arith, nat_tests, map_long, length-append)
 
 gaggle_long : (kind : Kind) (heights : List ℕ) (option g : ℕ) → length (gaggle_items kind heights option g) ≡ 1 + (length (lead_items kind heights g) + length (value_items kind heights option (places (length heights) g)))
 unfolding gaggle_items
@@ -129,14 +109,10 @@ top (suc w) n some lt =
     ]
 
 signed : (z : ℤ) (s : Bool) (size : ℕ) → size ≡ unsigned_abs z → (negative z ≡ true → s ≡ true) → cond (s && negative z) (neg_ℤ (pos size)) (pos size) ≡ z
-signed (pos a) true size e f = ap pos e
-signed (pos a) false size e f = ap pos e
-signed (negsuc a) true size e f = ap (λ n. neg_ℤ (pos n)) e
-signed (negsuc a) false size e f = absurd (let h = f refl in cc)
+signed z s size e f = grind (arith, nat_tests)
 
 some_size : (z : ℤ) → negative z ≡ true → 1 ≤ unsigned_abs z
-some_size (pos a) e = absurd cc
-some_size (negsuc a) e = omega arith
+some_size z e = grind (arith, nat_tests)
 
 module _ (head : SegmentHead) (blocks : List (List ℤ)) (depths : List ℕ) (options : Options) (p : IsSpellable head blocks depths) (goes_on : head.stop.dc ≡ false) (low_plane : head.stop.plane ≡ 0) (last_stage : head.stop.stage ≡ 3)
     (deep : (r : ℕ) → r < length depths → get_or depths r 0 ≤ head.depth_ac) (r : ℕ) (inside : r < head.blocks) where
@@ -167,11 +143,11 @@ module _ (head : SegmentHead) (blocks : List (List ℤ)) (depths : List ℕ) (op
 
   reached : (b n : ℕ) → 2 ^ b ≤ magnitude B n → significant B b n ≡ true
   unfolding significant
-  reached b n le = within_test (2 ^ b) (magnitude B n) le
+  reached b n le = le-leb (2 ^ b) (magnitude B n) le
 
   missed : (b n : ℕ) → magnitude B n < 2 ^ b → significant B b n ≡ false
   unfolding significant
-  missed b n lt = past_test (2 ^ b) (magnitude B n) lt
+  missed b n lt = lt-leb (2 ^ b) (magnitude B n) lt
 
   minus : (n : ℕ) → 1 ≤ n → n < 64 → negative (get_or B n (pos 0)) ≡ true → has_sign head blocks depths options m r n ≡ true
   minus n first last e =
@@ -194,17 +170,7 @@ module _ (head : SegmentHead) (blocks : List (List ℤ)) (depths : List ℕ) (op
   part_within = omega (arith, segment_long head blocks depths options goes_on low_plane last_stage)
 
   through : dc_through head blocks options r ≤ m
-  through = omega (arith, by_bits (dc_bits head.depth_dc head.depth_ac shift), dc_long head blocks options, part_within)
-    where
-      by_bits : (N : ℕ) → cond (eqb N 1) (r + 1) (numbers_through (dc_kind N) (map (shifted_height true N (q_of head)) (dcs_of blocks)) options.dcs r) ≤ length (high_items N (q_of head) (dcs_of blocks) options.dcs)
-      by_bits N = by_one (eqb N 1)
-        where
-          by_one : (t : Bool) → cond t (r + 1) (numbers_through (dc_kind N) (map (shifted_height true N (q_of head)) (dcs_of blocks)) options.dcs r)
-              ≤ length (cond t (map (dc_bit (q_of head)) (dcs_of blocks)) (number_items (dc_kind N) (map (shifted_height true N (q_of head)) (dcs_of blocks)) options.dcs))
-          by_one true = omega (arith, length-map (dcs_of blocks) (dc_bit (q_of head)), length-map blocks dc_of, counted, inside)
-          by_one false =
-              numbers_fit (dc_kind N) (map (shifted_height true N (q_of head)) (dcs_of blocks)) options.dcs r
-              (omega (arith, length-map (dcs_of blocks) (shifted_height true N (q_of head)), length-map blocks dc_of, counted, inside))
+  through = grind (arith, nat_tests, dc_long, part_within, length-map, counted, numbers_fit)
 
   below_shift : (b : ℕ) → b < shift → (complement 1 (int_shr (dc_of B) b) == 1) ≡ false
   unfolding wave_blocks.place_of
@@ -212,18 +178,14 @@ module _ (head : SegmentHead) (blocks : List (List ℤ)) (depths : List ℕ) (op
 
   dc_coded : (b : ℕ) → shift ≤ b → coded head.image.weights.shifts b 0 ≡ true
   unfolding coded wave_blocks.place_of
-  dc_coded b le = within_test shift b le
+  dc_coded b le = le-leb shift b le
 
   -- a low bit that is not 0 is given
   bit_given : (b : ℕ) → b < q_of head → (complement 1 (int_shr (dc_of B) b) == 1) ≡ true → (is_dc_bit_given head blocks options m r b || has_bit head blocks depths options m r 0 b) ≡ true
   bit_given b lt e = by_shift (cases_lt b shift) (cases_lt b head.depth_ac)
     where
       there : (h n len planes size m : ℕ) → n < planes → r < len → size ≡ h + planes * len → size ≤ m → (nat_lt n planes && nat_le (h + n * len + r + 1) m) ≡ true
-      there h n len planes size m lt within e le =
-          let d : ℕ = planes - (n + 1) in
-          let whole : planes ≡ n + 1 + d = omega arith in
-          let long : planes * len ≡ n * len + len + d * len = let f : planes * len ≡ (n + 1 + d) * len = ap (λ c. c * len) whole in omega (arith, f) in
-          ap (λ t. t && nat_le (h + n * len + r + 1) m) (less_test n planes lt) ∙ within_test (h + n * len + r + 1) m (omega (arith, e, le, long, within))
+      there h n len planes size m lt within e le = grind (arith, nat_tests, size, within, lt-ltb, le-leb)
 
       not_both : (a : Bool) → a ≡ true → a ≡ false → ⊥
       not_both a x y = cc
@@ -245,9 +207,7 @@ module _ (head : SegmentHead) (blocks : List (List ℤ)) (depths : List ℕ) (op
       ∙ sum_low (dc_of B) (q_of head)
 
   dc_given : given_dc head blocks depths options m r ≡ dc_of B
-  dc_given =
-      ap (λ t. cond t ((int_shr (dc_of B) (q_of head) *ℤ pos (2 ^ q_of head)) +ℤ pos (given_low head blocks depths options m r)) (pos 0)) (within_test (dc_through head blocks options r) m through)
-      ∙ ap (λ n. (int_shr (dc_of B) (q_of head) *ℤ pos (2 ^ q_of head)) +ℤ pos n) low_given ∙ parts_whole (dc_of B) (q_of head)
+  dc_given = grind (arith, nat_tests, le-leb, through, low_given, parts_whole)
 
   -- ---- a block
 

@@ -19,7 +19,7 @@ use Rattle.plane_defs.specs.declared.entries.Entry.TheVariants.{Bit, Word}
 use Rattle.plane_defs.specs.Spans.{span}
 use Rattle.plane_defs.specs.Entries.{IsEntry, stage_number}
 use Rattle.plane_defs.specs.Codes as codes
-use Rattle.plane_defs.specs.Codes.{symbol, table, table_place, is_book_sound, codes_of, code_bits, code_at, word_item, option_item, identifier_width}
+use Rattle.plane_defs.specs.Codes.{symbol, is_book_sound, codes_of, code_bits, code_at, word_item, option_item, identifier_width}
 use Rattle.plane_defs.specs.Spelled.{is_word_of, option_of, opening}
 use Rattle.plane_defs.specs.Steps.{Check, refuses, Step}
 use Rattle.plane_defs.specs.Planes.{Plane, gaggles, gaggle_size, before_stage}
@@ -63,11 +63,7 @@ fixed_long : (w n : ℕ) → 1 ≤ w → 1 ≤ length (bits_of w n)
 fixed_long w n some = omega (arith, some, length-bits_of w n)
 
 unary_long : (limit n : ℕ) → 1 ≤ limit → 1 ≤ length (copies n false ++ cond (eqb n limit) [] (true ∷ []))
-unary_long limit n some = by_end (eqb n limit) refl
-  where
-    by_end : (t : Bool) → eqb n limit ≡ t → 1 ≤ length (copies n false ++ cond t [] (true ∷ []))
-    by_end true e = let same : n ≡ limit = grind (arith, nat_tests) in omega (arith, same, some, length-append (copies n false) [], length-copies n false)
-    by_end false e = omega (arith, length-append (copies n false) (true ∷ []))
+unary_long limit n some = grind (arith, nat_tests, length-append, length-copies)
 
 -- ---- numbers
 
@@ -148,8 +144,7 @@ depths_long depth_ac depths options le = by_depth (eqb depth_ac 0) (eqb depth_ac
 -- ---- words
 
 code_long : (book : Book) (n option s : ℕ) → is_book_sound book ≡ true → 2 ≤ n → n ≤ 4 → option + 1 < n → s < 2 ^ n → 1 ≤ (code_at book n option s).len
-code_long book n option s sound low high more lt =
-    (table_len (table book (table_place n option)) (2 ^ n) s (sound_table book n option sound low high more) lt).0
+code_long book n option s sound low high more lt = grind (arith, nat_tests, table_len, sound_table)
 
 module _ (book : Book) (sound : is_book_sound book ≡ true) where
   word_long : (n option value : ℕ) → 2 ≤ n → n ≤ 4 → option < n → IsLong (word_item book n option value)

@@ -1,14 +1,12 @@
 -- Numbers by differences may be chosen so that the next item says any number that it does not refuse.
-use Rattle.std.proofs.Common.{◌≡◌, ℕ, zero, suc, ◌+◌, ◌*◌, ◌-◌, ◌/◌, ◌%◌, ◌^◌, ◌<◌, ◌≤◌, min, List, [], ◌∷◌, ◌++◌, length, map, get_or, Bool, true, false, eqb, cond, refl, sym, ap, subst, ◌∙◌, arith, inl, inr}
+use Rattle.std.proofs.Common.{◌≡◌, ℕ, zero, suc, ◌+◌, ◌*◌, ◌-◌, ◌/◌, ◌%◌, ◌^◌, ◌<◌, ◌≤◌, min, List, [], ◌∷◌, ◌++◌, length, map, get_or, Bool, true, false, eqb, cond, refl, sym, ap, ◌∙◌, arith}
 use Rattle.std.specs.List.{range_with_len}
-use Rattle.std.proofs.lemmas.Bool.{cases_lt}
 use Rattle.std.proofs.lemmas.Bool.Decides.{nat_tests}
 use Rattle.std.proofs.lemmas.List.{map-append, get_or_past}
 use Rattle.std.proofs.lemmas.Nat.{pow_pos}
 use Rattle.item_defs.specs.Items.{Item}
 use Rattle.item_defs.specs.Readings.{item_at}
 use Rattle.item_defs.specs.Laws.{said_of}
-use Rattle.number_defs.specs.Ranges.{number_at, complement}
 use Rattle.number_defs.specs.Mapping.{mapped, unmapped}
 use Rattle.number_defs.specs.Gaggles.{Kind, uncoded, value_at, first_place, places, uncoded_value, unary_part, rest_part, value_items, lead_items, gaggle_items, items_before}
 use Rattle.number_defs.proofs.MappingLaws.{mapped_below, unmapped_below, unmapped_back}
@@ -16,8 +14,7 @@ use Rattle.plane_defs.specs.Spans.{span}
 use Rattle.plane_defs.proofs.SpanLists.{length-map-span, get_or-map-span}
 
 pub said_both : (is js is' js' : List Item) → said_of is ≡ said_of js → said_of is' ≡ said_of js' → said_of (is ++ is') ≡ said_of (js ++ js')
-said_both is js is' js' e f =
-    map-append (λ i. i.said) is is' ∙ ap (λ l. l ++ said_of is') e ∙ ap (λ l. said_of js ++ l) f ∙ sym (map-append (λ i. i.said) js js')
+said_both is js is' js' e f = grind (arith, nat_tests, map-append)
 
 pub map_said : (f h : ℕ → Item) (a n : ℕ) → ((i : ℕ) → a ≤ i → i < a + n → (f i).said ≡ (h i).said) → said_of (map f (range_with_len a n)) ≡ said_of (map h (range_with_len a n))
 map_said f h a zero same = refl
@@ -53,11 +50,7 @@ module _ (kind : Kind) (xs : List ℕ) (few : (i : ℕ) → get_or xs i 0 < 2 ^ 
 
   with_below : (j : ℕ) → value_with j < 2 ^ kind.bits
   unfolding value_with
-  with_below j = by_place (eqb j i)
-    where
-      by_place : (t : Bool) → cond t v (value_at kind.bits xs j) < 2 ^ kind.bits
-      by_place true = low_value
-      by_place false = mapped_below kind.bits (get_or xs (j - 1) 0) (get_or xs j 0) (few (j - 1)) (few j)
+  with_below j = grind (arith, nat_tests, mapped_below)
 
   chain_below : (j : ℕ) → chain j < 2 ^ kind.bits
   unfolding chain
@@ -77,11 +70,7 @@ module _ (kind : Kind) (xs : List ℕ) (few : (i : ℕ) → get_or xs i 0 < 2 ^ 
   with_at j lt = get_or-map-span chain (length xs) j 0 lt
 
   pub with_few : (j : ℕ) → get_or with_value j 0 < 2 ^ kind.bits
-  with_few j =
-      elim (cases_lt j (length xs)) [
-        | inl lt ↦ subst (λ n. n < 2 ^ kind.bits) (sym (with_at j lt)) (chain_below j)
-        | inr past ↦ let none : get_or with_value j 0 ≡ 0 = get_or_past with_value j 0 (omega (arith, past, with_long)) in omega (arith, none, pow_pos kind.bits)
-      ]
+  with_few j = grind (arith, nat_tests, with_at, chain_below, with_value, get_or_past, with_long, pow_pos)
 
   pub with_first : 0 < length xs → get_or with_value 0 0 ≡ first
   unfolding chain
@@ -98,18 +87,11 @@ module _ (kind : Kind) (xs : List ℕ) (few : (i : ℕ) → get_or xs i 0 < 2 ^ 
 
   pub value_here : 1 ≤ i → i < length xs → value_at kind.bits with_value i ≡ v
   unfolding value_with
-  value_here some lt = with_values i some lt ∙ ap (λ t. cond t v (value_at kind.bits xs i)) (itself i)
-    where
-      itself : (x : ℕ) → eqb x x ≡ true
-      itself x = grind (arith, nat_tests)
+  value_here some lt = grind (arith, nat_tests, with_values)
 
   pub value_there : (j : ℕ) → 1 ≤ j → j < length xs → (j ≡ i → ⊥) → value_at kind.bits xs j ≡ value_at kind.bits with_value j
   unfolding value_with
-  value_there j some lt other = sym (with_values j some lt ∙ ap (λ t. cond t v (value_at kind.bits xs j)) (apart (eqb j i) refl))
-    where
-      apart : (t : Bool) → eqb j i ≡ t → eqb j i ≡ false
-      apart false e = e
-      apart true e = let same : j ≡ i = grind (arith, nat_tests) in absurd (other same)
+  value_there j some lt other = grind (arith, nat_tests, with_values)
 
 -- ---- what the items before say
 
@@ -131,8 +113,7 @@ module _ (kind : Kind) (xs ys : List ℕ) (long : length ys ≡ length xs) where
           (map_said (rest_part kind xs option) (rest_part kind ys option) a n (λ j low high. ap (λ w. w % 2 ^ option) (same j low high)))
 
   pub lead_said : (g : ℕ) → get_or xs 0 0 ≡ get_or ys 0 0 → said_of (lead_items kind xs g) ≡ said_of (lead_items kind ys g)
-  lead_said zero e = ap (λ h. complement kind.bits (number_at kind.signed kind.bits h) ∷ []) e
-  lead_said (suc g) e = refl
+  lead_said g e = grind (arith, nat_tests)
 
   pub before_said : (o u : ℕ → ℕ) (g : ℕ) → (1 ≤ g → get_or xs 0 0 ≡ get_or ys 0 0) → ((j : ℕ) → j < g → o j ≡ u j) → ((j : ℕ) → 1 ≤ j → j < 16 * g → j < length xs → value_at kind.bits xs j ≡ value_at kind.bits ys j) →
       said_of (items_before kind xs o g) ≡ said_of (items_before kind ys u g)

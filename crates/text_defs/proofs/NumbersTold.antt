@@ -60,16 +60,7 @@ unary_of kind option n = cond (eqb option (uncoded kind.bits) || eqb option 0) 0
 module _ (kind : Kind) (xs ys : List ℕ) (p : (i : ℕ) → get_or xs i 0 < 2 ^ kind.bits) (q : (i : ℕ) → get_or ys i 0 < 2 ^ kind.bits) where
   values_long : (option a n : ℕ) → length (value_items kind xs option (range_with_len a n)) ≡ length (value_items kind ys option (range_with_len a n))
   unfolding value_items
-  values_long option a n = by_option (eqb option (uncoded kind.bits)) (eqb option 0)
-    where
-      both : (is js is' js' : List Item) → length is ≡ length js → length is' ≡ length js' → length (is ++ is') ≡ length (js ++ js')
-      both is js is' js' e f = length-append is is' ∙ ap (λ n. n + length is') e ∙ ap (λ n. length js + n) f ∙ sym (length-append js js')
-
-      by_option : (t z : Bool) → length (cond t (map (uncoded_value kind xs) (range_with_len a n)) (map (unary_part kind xs option) (range_with_len a n) ++ cond z [] (map (rest_part kind xs option) (range_with_len a n))))
-          ≡ length (cond t (map (uncoded_value kind ys) (range_with_len a n)) (map (unary_part kind ys option) (range_with_len a n) ++ cond z [] (map (rest_part kind ys option) (range_with_len a n))))
-      by_option true z = map_long _ a n ∙ sym (map_long _ a n)
-      by_option false true = both (map (unary_part kind xs option) (range_with_len a n)) (map (unary_part kind ys option) (range_with_len a n)) [] [] (map_long _ a n ∙ sym (map_long _ a n)) refl
-      by_option false false = both (map (unary_part kind xs option) (range_with_len a n)) (map (unary_part kind ys option) (range_with_len a n)) _ _ (map_long _ a n ∙ sym (map_long _ a n)) (map_long _ a n ∙ sym (map_long _ a n))
+  values_long option a n = grind (arith, nat_tests, length-append, map_long)
 
   value_told : (option a n k i : ℕ) → SaySame k (value_items kind xs option (range_with_len a n)) (value_items kind ys option (range_with_len a n)) → a ≤ i → i < a + n →
       unary_of kind option n + (i - a + 1) ≤ k → value_at kind.bits xs i ≡ value_at kind.bits ys i
@@ -103,8 +94,7 @@ module _ (kind : Kind) (xs ys : List ℕ) (p : (i : ℕ) → get_or xs i 0 < 2 ^
       (stepping.same_number kind xs ys p q (a + d) (walk a d low e (λ j from to. values j from (omega arith))) (values (a + d) (omega arith) (omega arith)))
 
   lead_long : (g : ℕ) → length (lead_items kind xs g) ≡ length (lead_items kind ys g)
-  lead_long zero = refl
-  lead_long (suc g) = refl
+  lead_long g = grind (arith, nat_tests)
 
 pub before_parts : (kind : Kind) (heights : List ℕ) (options : ℕ → ℕ) (count g : ℕ) → g < count → Parts (items_before kind heights options count) (items_before kind heights options g) (gaggle_items kind heights (options g) g)
 unfolding items_before
@@ -184,8 +174,7 @@ module _ (kind : Kind) (xs ys : List ℕ) (p : (i : ℕ) → get_or xs i 0 < 2 ^
       ]
     where
       at_least : (t : Bool) → cond t (lead_of xs o (i / 16)) (lead_of xs o (i / 16) + unary_of kind (o (i / 16)) (length (places (length xs) (i / 16))) + (i - first_place (i / 16) + 1)) ≤ m → lead_of xs o (i / 16) ≤ m
-      at_least true le = le
-      at_least false le = omega (arith, le)
+      at_least t le = grind (arith, nat_tests)
 
       by_zero : (t : Bool) → eqb i 0 ≡ t → length (items_before kind xs o (i / 16)) ≤ m → length (items_before kind xs o (i / 16)) ≡ length (items_before kind ys u (i / 16)) →
           NumbersGiven (i / 16) (m - length (items_before kind xs o (i / 16))) →

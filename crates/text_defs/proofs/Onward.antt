@@ -10,6 +10,7 @@ use Rattle.number_defs.specs.Ranges.{IsInRange}
 use Rattle.number_defs.specs.DcPart.{dc_q, dc_bits}
 use Rattle.number_defs.specs.Depths.{depth_bits}
 use Rattle.std.specs.Int.{int_shr}
+use Rattle.std.proofs.lemmas.Bool.Decides.{nat_tests}
 use Rattle.number_defs.proofs.DcRange.{dc_fits}
 use Rattle.number_defs.proofs.Heights.{half}
 use Rattle.base_122.specs.declared.book.Book.{Book}
@@ -81,9 +82,7 @@ said_from (coded codes) n lt = lt
 
 said_to : (s : Shape) (n : ℕ) → IsSaid s n → n < bound_of s
 unfolding bound_of
-said_to (fixed w) n says = says
-said_to (zeros_to limit) n says = omega (arith, says)
-said_to (coded codes) n says = says
+said_to s n says = grind (arith, nat_tests)
 
 pub next : (s : Shape) (bits : List Bool) → Follows s bits ⊎ Lacks s bits
 next s bits =

@@ -1,6 +1,7 @@
 -- Options of numbers whose identifiers were read exist; so numbers continue by one item.
-use Rattle.std.proofs.Common.{◌≡◌, ℕ, zero, suc, ◌-◌, ◌^◌, ◌<◌, ◌≤◌, Bool, true, false, not, cond, List, [], ◌∷◌, ◌++◌, length, take, get_or, refl, ap, sym, ◌∙◌, subst, arith, length-append}
+use Rattle.std.proofs.Common.{◌≡◌, ℕ, zero, suc, ◌-◌, ◌^◌, ◌<◌, ◌≤◌, Bool, true, not, cond, List, [], ◌∷◌, ◌++◌, length, take, get_or, refl, ap, sym, ◌∙◌, subst, arith, length-append}
 use Rattle.std.specs.Prelude.{None, Some}
+use Rattle.std.proofs.lemmas.Bool.Decides.{nat_tests}
 use Rattle.item_defs.specs.Items.{Item, bad_option, identifier}
 use Rattle.item_defs.specs.Readings.{IsItem, AreItems, item_at}
 use Rattle.number_defs.specs.Gaggles.{Kind, identifier_bits, is_option, gaggle_items, items_before, gaggle_count, number_items}
@@ -16,8 +17,7 @@ are_at (suc m) zero (i ∷ is) all lt within = all.0
 are_at (suc m) (suc k) (i ∷ is) all lt within = are_at m k is all.1 (omega (arith, lt)) (omega (arith, within))
 
 pub named : (b : Bool) → cond (not b) (Some bad_option) None ≡ None → b ≡ true
-named true e = refl
-named false e = cc
+named b e = grind (arith, nat_tests)
 
 module _ (kind : Kind) (xs : List ℕ) (o : ℕ → ℕ) where
   first_of : (g : ℕ) (rest : List Item) → item_at (gaggle_items kind xs (o g) g ++ rest) 0 ≡ identifier (identifier_bits kind.bits) (is_option kind.bits) (o g)

@@ -2,6 +2,7 @@
 use Rattle.std.proofs.Common.{◌≡◌, ◌⊎◌, ℕ, ◌+◌, ◌*◌, ◌/◌, ◌≤◌, inl, inr, Bool, cond, List, ◌++◌, length, take, refl, ap, sym, ◌∙◌, subst, arith, ℤ, length-append}
 use Rattle.std.proofs.lemmas.Bool.{cases_lt}
 use Rattle.std.proofs.Math.Seq.{take-length}
+use Rattle.std.proofs.lemmas.Bool.Decides.{nat_tests}
 use Rattle.item_defs.specs.Items.{Item, Refusal, text}
 use Rattle.item_defs.specs.Padding.{rounded}
 use Rattle.base_122.specs.declared.book.Book.{Book}
@@ -93,35 +94,16 @@ Cause head rest is m more name =
 
 -- two causes that end in the same way have one name
 off_once : (octets wanted : ℕ) (a b : SegmentRefusal) → IsOff octets wanted a → IsOff octets wanted b → a ≡ b
-off_once octets wanted (at_item name) b p q = absurd p
-off_once octets wanted short_segment (at_item name) p q = absurd q
-off_once octets wanted short_segment short_segment p q = refl
-off_once octets wanted short_segment overlong p q = absurd (omega (arith, p, q))
-off_once octets wanted overlong (at_item name) p q = absurd q
-off_once octets wanted overlong short_segment p q = absurd (omega (arith, p, q))
-off_once octets wanted overlong overlong p q = refl
+off_once octets wanted a b p q = grind (arith, nat_tests)
 
 limit_once : (head : SegmentHead) (rest : List ℕ) (a b : SegmentRefusal) → IsOffLimit head rest a → IsOffLimit head rest b → a ≡ b
-limit_once head rest (at_item name) b p q = absurd p
-limit_once head rest short_segment (at_item name) p q = absurd q
-limit_once head rest short_segment short_segment p q = refl
-limit_once head rest short_segment overlong (inl none) q = absurd (q.0 none)
-limit_once head rest short_segment overlong (inr short) q = absurd (omega (arith, short, q.1))
-limit_once head rest overlong (at_item name) p q = absurd q
-limit_once head rest overlong short_segment p (inl none) = absurd (p.0 none)
-limit_once head rest overlong short_segment p (inr short) = absurd (omega (arith, short, p.1))
-limit_once head rest overlong overlong p q = refl
+limit_once head rest a b p q = grind (arith, nat_tests)
 
 not_off : (octets wanted : ℕ) (a : SegmentRefusal) → octets ≡ wanted → IsOff octets wanted a → ⊥
-not_off octets wanted (at_item name) e p = p
-not_off octets wanted short_segment e p = omega (arith, p)
-not_off octets wanted overlong e p = omega (arith, p)
+not_off octets wanted a e p = grind (arith, nat_tests)
 
 not_off_limit : (head : SegmentHead) (rest : List ℕ) (a : SegmentRefusal) → IsCut head rest → IsOffLimit head rest a → ⊥
-not_off_limit head rest (at_item name) cut p = p
-not_off_limit head rest short_segment cut (inl none) = cut.limited none
-not_off_limit head rest short_segment cut (inr short) = omega (arith, cut.full, short)
-not_off_limit head rest overlong cut p = omega (arith, cut.full, p.1)
+not_off_limit head rest a cut p = grind (arith, nat_tests)
 
 -- the ends are different
 is_given : End → Type 0

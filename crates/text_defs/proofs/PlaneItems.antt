@@ -1,8 +1,9 @@
 -- No item of a plane of values that can be coded is refused.
-use Rattle.std.proofs.Common.{◌≡◌, ℕ, zero, suc, ◌*◌, ◌^◌, ◌<◌, ◌≤◌, Bool, true, false, cond, eqb, List, [], ◌∷◌, ◌++◌, refl, ap, ◌∙◌, subst, arith, get_or}
+use Rattle.std.proofs.Common.{◌≡◌, ℕ, zero, suc, ◌*◌, ◌^◌, ◌<◌, ◌≤◌, Bool, true, false, cond, eqb, List, [], ◌∷◌, ◌++◌, refl, subst, arith, get_or}
 use Rattle.std.specs.Prelude.{◌==◌, None, Some, nat_lt}
 use Rattle.std.specs.List.{flat_map, list_any, list_all, AllByRecursion}
 use Rattle.std.proofs.lemmas.Bool.Decides.{nat_tests}
+use Rattle.std.proofs.lemmas.Bool.{ltb-true}
 use Rattle.item_defs.specs.Bits.{digit}
 use Rattle.item_defs.specs.Items.{Item, raw, plain, code, false_flag, IsSaid, refused_where}
 use Rattle.item_defs.specs.Readings.{IsItem, AreItems}
@@ -57,11 +58,8 @@ symbols_below (suc (suc (suc zero))) low high = refl
 symbols_below (suc (suc (suc (suc zero)))) low high = refl
 symbols_below (suc (suc (suc (suc (suc n))))) low high = absurd (omega arith)
 
-below_from : (m n : ℕ) → nat_lt m n ≡ true → m < n
-below_from m n e = grind (arith, nat_tests)
-
 symbol_below : (n v : ℕ) → 2 ≤ n → n ≤ 4 → v < 2 ^ n → symbol n v < 2 ^ n
-symbol_below n v low high lt = below_from (symbol n v) (2 ^ n) (list_all-span-zero (λ v. nat_lt (symbol n v) (2 ^ n)) (2 ^ n) v (symbols_below n low high) lt)
+symbol_below n v low high lt = ltb-true (symbol n v) (2 ^ n) (list_all-span-zero (λ v. nat_lt (symbol n v) (2 ^ n)) (2 ^ n) v (symbols_below n low high) lt)
 
 -- ---- lists of parts
 
@@ -88,12 +86,10 @@ module _ (book : Book) (sound : is_book_sound book ≡ true) where
       said false = omega (arith, symbol_below n value low high lt, length-map-span (λ s. code_bits (code_at book n option s)) (2 ^ n))
 
       taken : (b : Bool) → refused_where (λ k. refuses check (cond b k (word_of n k))) false_flag (cond b (plain n value) (code (codes_of book n option) (symbol n value))).said ≡ None
-      taken true = allowed (refuses check value) passes
-      taken false = allowed (refuses check (word_of n (symbol n value))) (ap (refuses check) (word_of-symbol n value low high lt) ∙ passes)
+      taken b = grind (arith, nat_tests, allowed, word_of-symbol)
 
   digit_below : (b : Bool) → digit b < 2 ^ 1
-  digit_below true = omega arith
-  digit_below false = omega arith
+  digit_below b = grind (arith, nat_tests)
 
   entry_are_items : (options : List ℕ) → AreOptionsOf options → (before : List Entry) (check : Check) (e : Entry) → IsEntry e → refuses check (value_of_entry e) ≡ false → AreItems (entry_reading book options before check e)
   unfolding entry_reading

@@ -4,6 +4,7 @@ use Rattle.std.specs.Prelude.{◌||◌}
 use Rattle.std.specs.List.{flat_map, list_any}
 use Rattle.std.proofs.lemmas.Bool.{cases_lt}
 use Rattle.std.proofs.lemmas.List.Folds.{list_any-append}
+use Rattle.plane_texts.proofs.TableReading.{span_same}
 use Rattle.base_122.specs.declared.book.Book.{Book}
 use Rattle.plane_defs.proofs.Alike.{all_of}
 use Rattle.item_defs.specs.Readings.{item_at}
@@ -32,13 +33,6 @@ use Rattle.text_defs.proofs.EntrySpot.{Elsewhere}
 use Rattle.text_defs.proofs.StepSpot.{StepSpot, spot, read_options}
 use Rattle.plane_texts.proofs.SmallFacts.{neither_left, neither_right}
 use Rattle.text_defs.proofs.PlaneItems.{flat_allowed}
-
-flat_equal : {A : Type 0} (f g : ℕ → List A) (start n : ℕ) → ((j : ℕ) → start ≤ j → j < start + n → f j ≡ g j) → flat_map f (span start n) ≡ flat_map g (span start n)
-unfolding span
-flat_equal f g start zero same = refl
-flat_equal f g start (suc n) same =
-    flat_more f start n ∙ ap (λ l. l ++ f (start + n)) (flat_equal f g start n (λ j low high. same j low (omega (arith, high)))) ∙ ap (λ l. flat_map g (span start n) ++ l) (same (start + n) (omega arith) (omega arith))
-    ∙ sym (flat_more g start n)
 
 -- steps that say the same are read the same
 read_same : (book : Book) (o : List ℕ) (before : List Entry) (ss ts : List Step) → SameSteps ss ts → entries_of ss ≡ entries_of ts → read_after book o before ss ≡ read_after book o before ts
@@ -92,10 +86,10 @@ module _ (book : Book) (xs : List (List ℤ)) (depths weights : List ℕ) (numbe
     gaggle_alike i g le = flat_steps (Steps xs i) (Steps ys i) (span (16 * g) (gaggle_size (plane_with xs) g)) (all_of (span (16 * g) (gaggle_size (plane_with xs) g)) (alike i le))
 
     gaggle_said : (i g : ℕ) → i < k → of_gaggle (plane_with xs) (stage_number i) g ≡ of_gaggle (plane_with ys) (stage_number i) g
-    gaggle_said i g lt = flat_equal (of_block (plane_with xs) (stage_number i)) (of_block (plane_with ys) (stage_number i)) (16 * g) (gaggle_size (plane_with xs) g) (λ s low high. differs.early i lt s)
+    gaggle_said i g lt = span_same (of_block (plane_with xs) (stage_number i)) (of_block (plane_with ys) (stage_number i)) (16 * g) (gaggle_size (plane_with xs) g) (λ s low high. differs.early i lt s)
 
     sent_before : (i g : ℕ) → i ≤ k → before_stage (plane_with xs) i g ≡ before_stage (plane_with ys) i g
-    sent_before i g le = flat_equal (λ n. of_gaggle (plane_with xs) (stage_number n) g) (λ n. of_gaggle (plane_with ys) (stage_number n) g) 0 i (λ n low high. gaggle_said n g (omega (arith, high)))
+    sent_before i g le = span_same (λ n. of_gaggle (plane_with xs) (stage_number n) g) (λ n. of_gaggle (plane_with ys) (stage_number n) g) 0 i (λ n low high. gaggle_said n g (omega (arith, high)))
 
     module _ (o : ℕ → List ℕ) where
       early_gaggle : (i g : ℕ) → i < k → gaggle_reading book o (plane_with xs) i g ≡ gaggle_reading book o (plane_with ys) i g
@@ -105,7 +99,7 @@ module _ (book : Book) (xs : List (List ℤ)) (depths weights : List ℕ) (numbe
           (gaggle_entries book o (plane_with xs) (stage_number i) g ∙ gaggle_said i g lt ∙ sym (gaggle_entries book o (plane_with ys) (stage_number i) g))
 
       pub early_stage : (i : ℕ) → i < k → stage_reading book o (plane_with xs) i ≡ stage_reading book o (plane_with ys) i
-      early_stage i lt = flat_equal (gaggle_reading book o (plane_with xs) i) (gaggle_reading book o (plane_with ys) i) 0 (gaggles (plane_with xs)) (λ g low high. early_gaggle i g lt)
+      early_stage i lt = span_same (gaggle_reading book o (plane_with xs) i) (gaggle_reading book o (plane_with ys) i) 0 (gaggles (plane_with xs)) (λ g low high. early_gaggle i g lt)
 
       -- gaggles before that of block r
       pub gaggle_before : (g : ℕ) → 16 * g + 16 ≤ r → gaggle_reading book o (plane_with xs) k g ≡ gaggle_reading book o (plane_with ys) k g
@@ -113,7 +107,7 @@ module _ (book : Book) (xs : List (List ℤ)) (depths weights : List ℕ) (numbe
           ap (λ b. read_after book (o g) b (steps_of_gaggle (plane_with xs) (stage_number k) g)) (sent_before k g (omega arith))
           ∙ read_same book (o g) (before_stage (plane_with ys) k g) _ _ (gaggle_alike k g (omega arith))
           (gaggle_entries book o (plane_with xs) (stage_number k) g
-          ∙ flat_equal (of_block (plane_with xs) (stage_number k)) (of_block (plane_with ys) (stage_number k)) (16 * g) (gaggle_size (plane_with xs) g) (λ s low high. differs.others s (omega (arith, high, le)))
+          ∙ span_same (of_block (plane_with xs) (stage_number k)) (of_block (plane_with ys) (stage_number k)) (16 * g) (gaggle_size (plane_with xs) g) (λ s low high. differs.others s (omega (arith, high, le)))
           ∙ sym (gaggle_entries book o (plane_with ys) (stage_number k) g))
 
       pub gaggle_chosen : (g place c said : ℕ) → (spot : StepSpot book (o g) (before_stage (plane_with xs) k g) (steps_of_gaggle (plane_with xs) (stage_number k) g) c said) → spot.e ≡ e →
@@ -195,7 +189,7 @@ module _ (book : Book) (xs : List (List ℤ)) (depths weights : List ℕ) (numbe
         stage_options : (k g n : ℕ) (u : ℕ → List ℕ) → ((h : ℕ) → (h ≡ g → ⊥) → o h ≡ u h) → Elsewhere n (o g) (u g) → list_any (is_word_of n) (before_stage (plane_with xs) k g) ≡ false → (i : ℕ) → i < k →
             stage_reading book o (plane_with xs) i ≡ stage_reading book u (plane_with xs) i
         stage_options k g n u same elsewhere none i lt =
-            flat_equal (gaggle_reading book o (plane_with xs) i) (gaggle_reading book u (plane_with xs) i) 0 (gaggles (plane_with xs)) (λ h low high.
+            span_same (gaggle_reading book o (plane_with xs) i) (gaggle_reading book u (plane_with xs) i) 0 (gaggles (plane_with xs)) (λ h low high.
             elim (cases_lt h g) [
               | inl before ↦ other_gaggle u g same i h (λ e. omega (arith, e, before))
               | inr more ↦ elim (cases_lt g h) [

@@ -3,12 +3,13 @@ use Rattle.std.proofs.Common.{◌≡◌, ℕ, zero, suc, ◌+◌, ◌-◌, ◌^�
 use Rattle.std.specs.Int.{int_shr}
 use Rattle.std.proofs.lemmas.Bool.Decides.{nat_tests}
 use Rattle.std.proofs.lemmas.List.{length-map, get_or-set_same}
+use Rattle.std.proofs.lemmas.Bool.{ne_eqb}
+use Rattle.plane_defs.proofs.Chosen.{equal_self}
 use Rattle.item_defs.specs.Items.{raw, spelling}
 use Rattle.item_defs.specs.Readings.{item_at}
 use Rattle.item_defs.specs.Laws.{said_of}
-use Rattle.number_defs.specs.Ranges.{IsInRange, height_of, shifted_height, complement}
-use Rattle.number_defs.specs.Gaggles.{number_items}
-use Rattle.number_defs.specs.DcPart.{dc_q, dc_bits, dc_kind, dc_bit, high_items, planes_before, dc_planes, dc_items}
+use Rattle.number_defs.specs.Ranges.{IsInRange, complement}
+use Rattle.number_defs.specs.DcPart.{dc_q, dc_bits, dc_bit, planes_before, dc_items}
 use Rattle.number_defs.specs.Depths.{depth_items}
 use Rattle.base_122.specs.declared.book.Book.{Book}
 use Rattle.plane_defs.specs.declared.entries.Entry.{Entry}
@@ -30,7 +31,7 @@ use Rattle.text_defs.proofs.ValueChoice.{MaySay, may_same}
 use Rattle.text_defs.proofs.Choices.{Chooses, choose_right, further_from}
 use Rattle.text_defs.proofs.SegmentAlike.{sent_most}
 use Rattle.text_defs.proofs.DcChoice.{choose_as}
-use Rattle.plane_texts.proofs.SmallFacts.{itself, not_equal, set_at}
+use Rattle.plane_texts.proofs.SmallFacts.{set_at}
 use Rattle.text_defs.proofs.FlatChoice.{locate}
 use Rattle.plane_texts.specs.Candidates.{EntriesChoose, BlockChosen, MayChoose}
 use Rattle.text_defs.proofs.EntrySpot.{Elsewhere}
@@ -55,15 +56,7 @@ planes_same q (suc n) vs ws long le same =
 pub dc_same : (depth_dc depth_ac shift : ℕ) (vs ws : List ℤ) (o : ℕ → ℕ) → length ws ≡ length vs →
     ((i c : ℕ) → min depth_ac (dc_q depth_dc depth_ac shift) ≤ c → int_shr (get_or vs i (pos 0)) c ≡ int_shr (get_or ws i (pos 0)) c) → dc_items depth_dc depth_ac shift vs o ≡ dc_items depth_dc depth_ac shift ws o
 unfolding dc_items
-dc_same depth_dc depth_ac shift vs ws o long same =
-    let N : ℕ = dc_bits depth_dc depth_ac shift in
-    let q : ℕ = dc_q depth_dc depth_ac shift in
-    let n : ℕ = dc_planes depth_dc depth_ac shift in
-    let at_q : (i : ℕ) → int_shr (get_or vs i (pos 0)) q ≡ int_shr (get_or ws i (pos 0)) q = λ i. same i q (omega arith) in
-    let high : high_items N q vs o ≡ high_items N q ws o =
-    ap (λ l. cond (eqb N 1) l (number_items (dc_kind N) (map (shifted_height true N q) vs) o)) (map_at (dc_bit q) vs ws long (λ i. ap (λ x. raw (complement 1 x)) (at_q i)))
-    ∙ ap (λ l. cond (eqb N 1) (map (dc_bit q) ws) (number_items (dc_kind N) l o)) (map_at (shifted_height true N q) vs ws long (λ i. ap (height_of true N) (at_q i))) in
-    ap (λ l. l ++ planes_before q vs n) high ∙ ap (λ l. high_items N q ws o ++ l) (planes_same q n vs ws long (omega arith) (λ i c low below. same i c (omega (arith, low, below))))
+dc_same depth_dc depth_ac shift vs ws o long same = grind (arith, nat_tests, map_at, planes_same)
 
 -- ---- another option
 
@@ -75,28 +68,19 @@ with_option o n option = renamed o n option 2 ∷ renamed o n option 3 ∷ renam
 
 option_with : (o : List ℕ) (n option l : ℕ) → 2 ≤ l → l ≤ 4 → option_of (with_option o n option) l ≡ renamed o n option l
 unfolding with_option
-option_with o n option zero low high = absurd (omega arith)
-option_with o n option (suc zero) low high = absurd (omega arith)
-option_with o n option (suc (suc zero)) low high = refl
-option_with o n option (suc (suc (suc zero))) low high = refl
-option_with o n option (suc (suc (suc (suc zero)))) low high = refl
-option_with o n option (suc (suc (suc (suc (suc l))))) low high = absurd (omega arith)
+option_with o n option l low high = grind (arith, nat_tests)
 
 option_here : (o : List ℕ) (n option : ℕ) → 2 ≤ n → n ≤ 4 → option_of (with_option o n option) n ≡ option
 unfolding renamed
-option_here o n option low high = option_with o n option n low high ∙ ap (λ t. cond t option (option_of o n)) (itself n)
+option_here o n option low high = option_with o n option n low high ∙ ap (λ t. cond t option (option_of o n)) (equal_self n)
 
 option_elsewhere : (o : List ℕ) (n option : ℕ) → Elsewhere n o (with_option o n option)
 unfolding renamed
-option_elsewhere o n option l low high apart = sym (option_with o n option l low high ∙ ap (λ t. cond t option (option_of o l)) (not_equal l n apart))
+option_elsewhere o n option l low high apart = sym (option_with o n option l low high ∙ ap (λ t. cond t option (option_of o l)) (ne_eqb l n apart))
 
 option_small : (o : List ℕ) (n option l : ℕ) → option < n → option_of o l < l → 2 ≤ l → l ≤ 4 → option_of (with_option o n option) l < l
 unfolding renamed
-option_small o n option l lt small low high = subst (λ x. x < l) (sym (option_with o n option l low high)) (by_test (eqb l n) refl)
-  where
-    by_test : (t : Bool) → eqb l n ≡ t → cond t option (option_of o l) < l
-    by_test true e = let same : l ≡ n = grind (arith, nat_tests) in omega (arith, same, lt)
-    by_test false e = small
+option_small o n option l lt small low high = grind (arith, nat_tests, option_with)
 
 -- the words of gaggle g in plane b
 in_gaggle : (ℕ → List ℕ) → ℕ → List ℕ → ℕ → List ℕ
@@ -110,8 +94,7 @@ in_plane w b g new c = cond (eqb c b) (in_gaggle (w c) g new) (w c)
 pub planes_are : (head : SegmentHead) (blocks : List (List ℤ)) (depths : List ℕ) (options : Options) → head.stop.dc ≡ false →
     segment_items head blocks depths options ≡ dc_part_items head blocks options ++ (depth_items head.depth_ac depths options.depths ++ planes_items head blocks depths options head.depth_ac)
 unfolding segment_items
-planes_are head blocks depths options e =
-    ap (λ t. cond t (dc_part_items head blocks options) (dc_part_items head blocks options ++ (depth_items head.depth_ac depths options.depths ++ planes_items head blocks depths options head.depth_ac))) e
+planes_are head blocks depths options e = grind (arith, nat_tests)
 
 pub record PlanesChosen (head : SegmentHead) (xs : List (List ℤ)) (ds : List ℕ) (o : Options) (c said : ℕ) : Type 0 where
   pub ys : List (List ℤ)
@@ -207,15 +190,7 @@ module _ (head : SegmentHead) (xs : List (List ℤ)) (ds : List ℕ) (p : IsSpel
 
   in_plane_small : (o : Options) → AreWordOptions o → (b g n option : ℕ) → option < n → (c h l : ℕ) → 2 ≤ l → l ≤ 4 → option_of (in_plane o.words b g (with_option (o.words b g) n option) c h) l < l
   unfolding in_plane in_gaggle
-  in_plane_small o known b g n option lt c h l low high = by_tests (eqb c b) (eqb h g)
-    where
-      by_tests : (s t : Bool) → option_of ((cond s (λ i. cond (eqb i g) (with_option (o.words b g) n option) (o.words c i)) (o.words c)) h) l < l
-      by_tests false t = known.at c h l low high
-      by_tests true t = by_gaggle (eqb h g)
-        where
-          by_gaggle : (t : Bool) → option_of (cond t (with_option (o.words b g) n option) (o.words c h)) l < l
-          by_gaggle true = option_small (o.words b g) n option l lt (known.at b g l low high) low high
-          by_gaggle false = known.at c h l low high
+  in_plane_small o known b g n option lt c h l low high = grind (arith, nat_tests, with_option, option_small)
 
   pub planes_chosen : IsHead head → (o : Options) → AreWordOptions o → ((k : ℕ) → k < 5 → MayChoose k) → (c said : ℕ) → c < length (planes_items head xs ds o head.depth_ac) → MaySay (item_at (planes_items head xs ds o head.depth_ac) c) said → PlanesChosen head xs ds o c said
   unfolding other_option in_plane in_gaggle
@@ -256,15 +231,15 @@ module _ (head : SegmentHead) (xs : List (List ℤ)) (ds : List ℕ) (p : IsSpel
               chosen =
                   l.chosen (nth_plane_items head xs ds u)
                   (λ m low high.
-                  let other : eqb (nth_plane head m) b ≡ false = not_equal (nth_plane head m) b (λ e. omega (arith, e, high, l.high)) in
+                  let other : eqb (nth_plane head m) b ≡ false = ne_eqb (nth_plane head m) b (λ e. omega (arith, e, high, l.high)) in
                   ap (λ w. said_of (plane_reading o.book w (plane_at head xs ds (nth_plane head m)) (stages_sent head (nth_plane head m))))
                   (sym (ap (λ t. cond t (in_gaggle (o.words (nth_plane head m)) s.g (with_option (o.words b s.g) s.n s.option)) (o.words (nth_plane head m))) other)))
                   (subst (λ w. Chooses l.rest said (plane_reading o.book (o.words b) (plane_at head xs ds b) stages) (plane_reading o.book w (plane_at head xs ds b) stages))
-                  (sym (ap (λ t. cond t (in_gaggle (o.words b) s.g (with_option (o.words b s.g) s.n s.option)) (o.words b)) (itself b)))
+                  (sym (ap (λ t. cond t (in_gaggle (o.words b) s.g (with_option (o.words b s.g) s.n s.option)) (o.words b)) (equal_self b)))
                   (s.chosen (in_gaggle (o.words b) s.g (with_option (o.words b s.g) s.n s.option))
-                  (λ h apart. sym (ap (λ t. cond t (with_option (o.words b s.g) s.n s.option) (o.words b h)) (not_equal h s.g apart)))
-                  (subst (λ w. Elsewhere s.n (o.words b s.g) w) (sym (ap (λ t. cond t (with_option (o.words b s.g) s.n s.option) (o.words b s.g)) (itself s.g))) (option_elsewhere (o.words b s.g) s.n s.option))
-                  (ap (λ t. option_of (cond t (with_option (o.words b s.g) s.n s.option) (o.words b s.g)) s.n) (itself s.g) ∙ option_here (o.words b s.g) s.n s.option s.two s.four)));
+                  (λ h apart. sym (ap (λ t. cond t (with_option (o.words b s.g) s.n s.option) (o.words b h)) (ne_eqb h s.g apart)))
+                  (subst (λ w. Elsewhere s.n (o.words b s.g) w) (sym (ap (λ t. cond t (with_option (o.words b s.g) s.n s.option) (o.words b s.g)) (equal_self s.g))) (option_elsewhere (o.words b s.g) s.n s.option))
+                  (ap (λ t. option_of (cond t (with_option (o.words b s.g) s.n s.option) (o.words b s.g)) s.n) (equal_self s.g) ∙ option_here (o.words b s.g) s.n s.option s.two s.four)));
             }
       ]
 

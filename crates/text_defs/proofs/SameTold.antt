@@ -1,12 +1,13 @@
 -- Two lists of steps that report the same of two blocks.
-use Rattle.std.proofs.Common.{◌≡◌, ℕ, zero, suc, ◌+◌, ◌-◌, ◌*◌, ◌/◌, ◌%◌, ◌^◌, ◌<◌, ◌≤◌, inl, inr, Bool, true, false, cond, List, [], ◌∷◌, ◌++◌, length, map, refl, ap, sym, ◌∙◌, subst, arith, ℤ, pos, get_or}
+use Rattle.std.proofs.Common.{◌≡◌, ℕ, ◌+◌, ◌-◌, ◌*◌, ◌/◌, ◌%◌, ◌^◌, ◌<◌, inl, inr, Bool, true, false, cond, List, [], ◌∷◌, ◌++◌, length, map, refl, ap, sym, ◌∙◌, subst, arith, ℤ, pos, get_or}
 use Rattle.std.specs.Prelude.{nat_le, ◌||◌, ◌==◌}
 use Rattle.std.specs.List.{flat_map, list_any, AllByRecursion}
 use Rattle.std.proofs.lemmas.List.{length-map}
-use Rattle.std.proofs.lemmas.Bool.{or_cases, cases_lt}
-use Rattle.std.proofs.lemmas.Bool.Decides.{nat_tests}
+use Rattle.std.proofs.lemmas.Bool.{or_cases, cases_lt, leb-false, le-leb, lt-leb, eqb-true}
 use Rattle.std.proofs.lemmas.Nat.{pow-add, div-mul-add}
 use Rattle.std.proofs.lemmas.List.Folds.{list_any-append}
+use Rattle.std.proofs.Math.Bool.{or-false}
+use Rattle.std.proofs.lemmas.Bool.Decides.{nat_tests}
 use Rattle.item_defs.specs.Bits.{bit}
 use Rattle.base_122.specs.declared.book.Book.{Book}
 use Rattle.plane_defs.specs.declared.entries.Entry.{Entry}
@@ -29,7 +30,7 @@ pub record SameTold (u v : List ℤ) (plane : ℕ) (ss ts : List Step) : Type 0 
   pub bit_same : (p : ℕ) → any_bit p ss ≡ true → bit_there u plane p ≡ bit_there v plane p
   pub sign_same : (p : ℕ) → any_sign p ss ≡ true → negative (get_or u p (pos 0)) ≡ negative (get_or v p (pos 0))
 
-nothing : {X : Type 0} → false ≡ true → X
+pub nothing : {X : Type 0} → false ≡ true → X
 nothing e = absurd cc
 
 pub none_told : (u v : List ℤ) (plane : ℕ) → SameTold u v plane [] []
@@ -60,32 +61,19 @@ pub bit_reached : (u : List ℤ) (plane p : ℕ) → significant u (plane + 1) p
 unfolding significant
 bit_reached u plane p e = by_size (magnitude u p) (2 ^ plane) (2 ^ (plane + 1)) (omega (arith, pow-add 2 plane 1)) e
   where
-    small : (b n : ℕ) → nat_le b n ≡ false → n < b
-    small b n e = grind (arith, nat_tests)
-
-    reached : (a n : ℕ) → a ≤ n → nat_le a n ≡ true
-    reached a n le = grind (arith, nat_tests)
-
-    missed : (a n : ℕ) → n < a → nat_le a n ≡ false
-    missed a n lt = grind (arith, nat_tests)
-
     by_size : (n a b : ℕ) → b ≡ 2 * a → nat_le b n ≡ false → (n / a % 2 == 1) ≡ nat_le a n
     by_size n a b double e =
-        let lt : n < b = small b n e in
+        let lt : n < b = leb-false b n e in
         elim (cases_lt n a) [
-          | inl low ↦ let f : n ≡ 0 * a + n = omega arith in ap (λ k. k / a % 2 == 1) f ∙ ap (λ k. k % 2 == 1) (div-mul-add 0 a n low) ∙ sym (missed a n low)
-          | inr high ↦ let f : n ≡ 1 * a + (n - a) = omega arith in ap (λ k. k / a % 2 == 1) f ∙ ap (λ k. k % 2 == 1) (div-mul-add 1 a (n - a) (omega arith)) ∙ sym (reached a n high)
+          | inl low ↦ let f : n ≡ 0 * a + n = omega arith in ap (λ k. k / a % 2 == 1) f ∙ ap (λ k. k % 2 == 1) (div-mul-add 0 a n low) ∙ sym (lt-leb a n low)
+          | inr high ↦ let f : n ≡ 1 * a + (n - a) = omega arith in ap (λ k. k / a % 2 == 1) f ∙ ap (λ k. k % 2 == 1) (div-mul-add 1 a (n - a) (omega arith)) ∙ sym (le-leb a n high)
         ]
-
-same_place : (q p : ℕ) → (q == p) ≡ true → q ≡ p
-same_place q p e = grind (arith, nat_tests)
 
 bit_inside : (a b : Bool) → Bit a ≡ Bit b → a ≡ b
 bit_inside a b e = cc
 
 there_reached : (u : List ℤ) (plane p : ℕ) → IsTyped u plane p → bit_there u plane p ≡ significant u plane p
-there_reached u plane zero h = absurd (omega (arith, h.0))
-there_reached u plane (suc p) h = bit_reached u plane (suc p) h.1
+there_reached u plane p h = grind (arith, nat_tests, bit_reached)
 
 typed_same : (u v : List ℤ) (plane p : ℕ) (ps : List ℕ) → AllByRecursion (IsTyped u plane) ps → AllByRecursion (IsTyped v plane) ps → map (significant u plane) ps ≡ map (significant v plane) ps →
     list_any (λ q. q == p) ps ≡ true → bit_there u plane p ≡ bit_there v plane p
@@ -94,7 +82,7 @@ typed_same u v plane p (q ∷ ps) a b e here =
     elim (or_cases (q == p) (list_any (λ q. q == p) ps) here) [
       | inl at ↦
           let same : bit_there u plane q ≡ bit_there v plane q = there_reached u plane q a.0 ∙ head_same _ _ _ _ e ∙ sym (there_reached v plane q b.0) in
-          subst (λ k. bit_there u plane k ≡ bit_there v plane k) (same_place q p at) same
+          subst (λ k. bit_there u plane k ≡ bit_there v plane k) (eqb-true q p at) same
       | inr later ↦ typed_same u v plane p ps a.1 b.1 (tail_same _ _ _ _ e) later
     ]
 
@@ -104,13 +92,13 @@ one_bit u v plane p (types_at ps) e x y h =
     let words : word (map (significant u plane) ps) ≡ word (map (significant v plane) ps) = sym x.0 ∙ y.0 in
     typed_same u v plane p ps x.1 y.1 (same_bits (map (significant u plane) ps) (map (significant v plane) ps) (length-map ps (significant u plane) ∙ sym (length-map ps (significant v plane))) (ap value_of_entry words)) h
 one_bit u v plane p (sign_at q) e x y h = nothing h
-one_bit u v plane p (bit_at q) e x y h = subst (λ k. bit_there u plane k ≡ bit_there v plane k) (same_place q p h) (bit_inside (bit_there u plane q) (bit_there v plane q) (sym x ∙ y))
+one_bit u v plane p (bit_at q) e x y h = subst (λ k. bit_there u plane k ≡ bit_there v plane k) (eqb-true q p h) (bit_inside (bit_there u plane q) (bit_there v plane q) (sym x ∙ y))
 
 one_sign : (u v : List ℤ) (plane p : ℕ) (a : Told) (e : Entry) → Tells u plane a e → Tells v plane a e → tells_sign p a ≡ true → negative (get_or u p (pos 0)) ≡ negative (get_or v p (pos 0))
 one_sign u v plane p flags_alone e x y h = nothing h
 one_sign u v plane p (types_at ps) e x y h = nothing h
 one_sign u v plane p (sign_at q) e x y h =
-    subst (λ k. negative (get_or u k (pos 0)) ≡ negative (get_or v k (pos 0))) (same_place q p h) (bit_inside (negative (get_or u q (pos 0))) (negative (get_or v q (pos 0))) (sym x ∙ y))
+    subst (λ k. negative (get_or u k (pos 0)) ≡ negative (get_or v k (pos 0))) (eqb-true q p h) (bit_inside (negative (get_or u q (pos 0))) (negative (get_or v q (pos 0))) (sym x ∙ y))
 one_sign u v plane p (bit_at q) e x y h = nothing h
 
 single : (u v : List ℤ) (plane : ℕ) (s t : Step) → s.tells ≡ t.tells → s.entry ≡ t.entry → Says u plane s → Says v plane t → SameTold u v plane (s ∷ []) (t ∷ [])
@@ -119,13 +107,9 @@ single u v plane s t a e x y =
     record {
       bits = λ p. ap (λ k. tells_bit p k || false) a;
       signs = λ p. ap (λ k. tells_sign p k || false) a;
-      bit_same = λ p h. one_bit u v plane p s.tells s.entry x z (sym (or_none (tells_bit p s.tells)) ∙ h);
-      sign_same = λ p h. one_sign u v plane p s.tells s.entry x z (sym (or_none (tells_sign p s.tells)) ∙ h);
+      bit_same = λ p h. one_bit u v plane p s.tells s.entry x z (sym (or-false (tells_bit p s.tells)) ∙ h);
+      sign_same = λ p h. one_sign u v plane p s.tells s.entry x z (sym (or-false (tells_sign p s.tells)) ∙ h);
     }
-  where
-    or_none : (b : Bool) → (b || false) ≡ b
-    or_none true = refl
-    or_none false = refl
 
 pub from_alike : (u v : List ℤ) (plane : ℕ) (ss ts : List Step) → ToldAlike ss ts → AllSay u plane ss → AllSay v plane ts → SameTold u v plane ss ts
 from_alike u v plane [] [] same a b = none_told u v plane

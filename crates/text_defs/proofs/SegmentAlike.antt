@@ -1,6 +1,5 @@
 -- Two lists of values that can be coded have items of one form for as long as the items say the same and none is refused.
 use Rattle.std.proofs.Common.{◌≡◌, ◌⊎◌, ℕ, zero, suc, ◌+◌, ◌-◌, ◌^◌, ◌<◌, ◌≤◌, inl, inr, Bool, true, false, cond, List, [], ◌∷◌, ◌++◌, length, refl, ap, sym, ◌∙◌, subst, arith, ℤ, get_or, add-one, zero-add}
-use Rattle.std.specs.Prelude.{nat_le}
 use Rattle.std.specs.List.{flat_map}
 use Rattle.std.proofs.lemmas.Bool.{cases_lt}
 use Rattle.std.proofs.lemmas.Bool.Decides.{nat_tests}
@@ -50,10 +49,7 @@ list_same (x ∷ xs) (y ∷ ys) d long same =
 
 none_reached : (w : List ℤ) (plane d p : ℕ) → d ≤ plane → magnitude w p < 2 ^ d → significant w plane p ≡ false
 unfolding significant
-none_reached w plane d p deep small = let m : 2 ^ d ≤ 2 ^ plane = pow_mono deep in below (2 ^ plane) (magnitude w p) (omega arith)
-  where
-    below : (a b : ℕ) → b < a → nat_le a b ≡ false
-    below a b lt = grind (arith, nat_tests)
+none_reached w plane d p deep small = grind (arith, nat_tests, pow_mono)
 
 -- ---- the planes
 

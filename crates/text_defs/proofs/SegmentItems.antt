@@ -2,8 +2,8 @@
 use Rattle.std.proofs.Common.{◌≡◌, ℕ, ◌<◌, ◌≤◌, Bool, true, false, cond, List, ◌++◌, length, refl, ◌∙◌, subst, arith, ℤ, get_or}
 use Rattle.std.specs.Prelude.{nat_le}
 use Rattle.std.specs.List.{list_all}
-use Rattle.std.proofs.lemmas.Bool.Decides.{nat_tests}
 use Rattle.std.proofs.lemmas.List.{length-map}
+use Rattle.std.proofs.lemmas.Bool.{leb-true}
 use Rattle.item_defs.specs.Readings.{AreItems}
 use Rattle.item_defs.proofs.ReadingLaws.{are_append}
 use Rattle.number_defs.specs.Gaggles.{gaggle_count}
@@ -22,11 +22,8 @@ depths_fit : list_all (λ d. nat_le (depth_bits d) 10) (span 0 28) ≡ true
 unfolding span
 depths_fit = refl
 
-le_from : (a b : ℕ) → nat_le a b ≡ true → a ≤ b
-le_from a b e = grind (arith, nat_tests)
-
 pub depth_bits_few : (depth_ac : ℕ) → depth_ac ≤ 27 → depth_bits depth_ac ≤ 10
-depth_bits_few depth_ac le = le_from (depth_bits depth_ac) 10 (list_all-span-zero (λ d. nat_le (depth_bits d) 10) 28 depth_ac depths_fit (omega arith))
+depth_bits_few depth_ac le = leb-true (depth_bits depth_ac) 10 (list_all-span-zero (λ d. nat_le (depth_bits d) 10) 28 depth_ac depths_fit (omega arith))
 
 pub segment_are_items : (head : SegmentHead) (blocks : List (List ℤ)) (depths : List ℕ) (options : Options) → IsHead head → IsSpellable head blocks depths → AreWordOptions options → AreNumberOptions head options →
     ((r : ℕ) → r < length depths → get_or depths r 0 ≤ head.depth_ac) → AreItems (segment_items head blocks depths options)

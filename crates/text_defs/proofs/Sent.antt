@@ -1,11 +1,12 @@
 -- The steps of a number's block report its bits and its sign.
 use Rattle.std.proofs.Common.{◌≡◌, ℕ, zero, suc, ◌+◌, ◌-◌, ◌*◌, ◌/◌, ◌%◌, ◌^◌, ◌<◌, ◌≤◌, inl, inr, Bool, true, false, cond, List, [], ◌∷◌, ◌++◌, map, ap, ◌∙◌, arith, ℤ, pos, get_or}
-use Rattle.std.specs.Prelude.{filter, nat_le, ◌==◌}
+use Rattle.std.specs.Prelude.{filter, ◌==◌}
 use Rattle.std.specs.List.{flat_map, list_any}
-use Rattle.std.proofs.lemmas.Bool.{cases_lt, or_cases, or_left, or_right}
+use Rattle.std.proofs.lemmas.Bool.{cases_lt, or_cases, or_left, or_right, eqb-true, le-leb}
 use Rattle.std.proofs.lemmas.Bool.Decides.{nat_tests}
 use Rattle.std.proofs.lemmas.Nat.{pow_pos}
 use Rattle.std.proofs.lemmas.List.Folds.{list_any-append}
+use Rattle.plane_defs.proofs.Chosen.{equal_self}
 use Rattle.item_defs.specs.Bits.{bit}
 use Rattle.plane_defs.specs.declared.sets.Set.TheVariants.{Descendants, Family, Grandchildren, Quad}
 use Rattle.plane_defs.specs.declared.entries.Entry.TheVariants.{Bit}
@@ -23,12 +24,6 @@ use Rattle.plane_texts.proofs.LowBits.{even_part, halves}
 abbrev pub Has : ℕ → List ℕ → Type 0
 Has x xs = list_any (λ y. y == x) xs ≡ true
 
-pub itself : (x : ℕ) → (x == x) ≡ true
-itself x = grind (arith, nat_tests)
-
-same_place : (q p : ℕ) → (q == p) ≡ true → q ≡ p
-same_place q p e = grind (arith, nat_tests)
-
 left_any : {X : Type 0} (t : X → Bool) (xs ys : List X) → list_any t xs ≡ true → list_any t (xs ++ ys) ≡ true
 left_any t xs ys e = list_any-append t xs ys ∙ or_left (list_any t xs) (list_any t ys) e
 
@@ -43,14 +38,14 @@ has_span start (suc count) x low high =
       | inl early ↦ left_any (λ y. y == x) (span start count) ((start + count) ∷ []) (has_span start count x low early)
       | inr last ↦
           let same : x ≡ start + count = omega arith in
-          right_any (λ y. y == x) (span start count) ((start + count) ∷ []) (or_left (start + count == x) false (ap (λ y. start + count == y) same ∙ itself (start + count)))
+          right_any (λ y. y == x) (span start count) ((start + count) ∷ []) (or_left (start + count == x) false (ap (λ y. start + count == y) same ∙ equal_self (start + count)))
     ]
 
 pub has_filter : (p : ℕ → Bool) (x : ℕ) (xs : List ℕ) → Has x xs → p x ≡ true → Has x (filter p xs)
 has_filter p x [] h e = h
 has_filter p x (y ∷ xs) h e =
     elim (or_cases (y == x) (list_any (λ y. y == x) xs) h) [
-      | inl here ↦ let same : y ≡ x = same_place y x here in ap (λ b. list_any (λ y. y == x) (cond b (y ∷ filter p xs) (filter p xs))) (ap p same ∙ e) ∙ or_left (y == x) _ here
+      | inl here ↦ let same : y ≡ x = eqb-true y x here in ap (λ b. list_any (λ y. y == x) (cond b (y ∷ filter p xs) (filter p xs))) (ap p same ∙ e) ∙ or_left (y == x) _ here
       | inr later ↦ by_test (p y) (has_filter p x xs later e)
     ]
   where
@@ -62,7 +57,7 @@ pub any_flat : {X : Type 0} (t : X → Bool) (f : ℕ → List X) (x : ℕ) (xs 
 any_flat t f x [] h e = absurd cc
 any_flat t f x (y ∷ xs) h e =
     elim (or_cases (y == x) (list_any (λ y. y == x) xs) h) [
-      | inl here ↦ left_any t (f y) (flat_map f xs) (ap (λ z. list_any t (f z)) (same_place y x here) ∙ e)
+      | inl here ↦ left_any t (f y) (flat_map f xs) (ap (λ z. list_any t (f z)) (eqb-true y x here) ∙ e)
       | inr later ↦ right_any t (f y) (flat_map f xs) (any_flat t f x xs later e)
     ]
 
@@ -70,7 +65,7 @@ pub any_map : {X : Type 0} (t : X → Bool) (f : ℕ → X) (x : ℕ) (xs : List
 any_map t f x [] h e = absurd cc
 any_map t f x (y ∷ xs) h e =
     elim (or_cases (y == x) (list_any (λ y. y == x) xs) h) [
-      | inl here ↦ or_left (t (f y)) _ (ap (λ z. t (f z)) (same_place y x here) ∙ e)
+      | inl here ↦ or_left (t (f y)) _ (ap (λ z. t (f z)) (eqb-true y x here) ∙ e)
       | inr later ↦ or_right (t (f y)) _ (any_map t f x xs later e)
     ]
 
@@ -79,7 +74,7 @@ pub some_member : (t : ℕ → Bool) (x : ℕ) (xs : List ℕ) → Has x xs → 
 some_member t x [] h e = absurd cc
 some_member t x (y ∷ xs) h e =
     elim (or_cases (y == x) (list_any (λ y. y == x) xs) h) [
-      | inl here ↦ or_left (t y) _ (ap t (same_place y x here) ∙ e)
+      | inl here ↦ or_left (t y) _ (ap t (eqb-true y x here) ∙ e)
       | inr later ↦ or_right (t y) _ (some_member t x xs later e)
     ]
 
@@ -92,14 +87,11 @@ bit_coded block weights plane p whole e =
     elim (cases_lt plane (shift weights p)) [
       | inl under ↦ let none : magnitude block p / 2 ^ plane % 2 ≡ 0 = even_part (2 ^ plane) (2 ^ (shift weights p - plane - 1)) (whole.part p) (magnitude block p) (pow_pos plane) (whole.whole p ∙ ap (λ x. x * whole.part p) (halves plane (shift weights p) under)) in
           absurd (not_one (magnitude block p / 2 ^ plane % 2) none e)
-      | inr over ↦ within (shift weights p) plane over
+      | inr over ↦ le-leb (shift weights p) plane over
     ]
   where
     not_one : (a : ℕ) → a ≡ 0 → (a == 1) ≡ true → ⊥
     not_one a z e = grind (arith, nat_tests)
-
-    within : (a b : ℕ) → a ≤ b → nat_le a b ≡ true
-    within a b le = grind (arith, nat_tests)
 
 module _ (block : List ℤ) (weights : List ℕ) (plane : ℕ) where
   -- a word of types reports those that are due, and their signs follow it
@@ -109,7 +101,7 @@ module _ (block : List ℤ) (weights : List ℕ) (plane : ℕ) where
   pub typed_signs : (check : Check) (start count p : ℕ) → start ≤ p → p < start + count → newly_significant block weights plane p ≡ true → any_sign p (typed_steps block weights plane check (span start count)) ≡ true
   typed_signs check start count p low high new =
       any_map (λ s. tells_sign p s.tells) (λ p. step free (sign_at p) (Bit (negative (get_or block p (pos 0))))) p (filter (newly_significant block weights plane) (span start count))
-      (has_filter (newly_significant block weights plane) p (span start count) (has_span start count p low high) new) (itself p)
+      (has_filter (newly_significant block weights plane) p (span start count) (has_span start count p low high) new) (equal_self p)
 
   -- the sets that a number is in
   in_family : (i p : ℕ) → Has p (members (Family i)) → significant block plane p ≡ true → set_significant block plane (Family i) ≡ true

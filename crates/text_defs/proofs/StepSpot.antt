@@ -1,18 +1,17 @@
 -- The next item of some steps says any number that it does not refuse, by another entry of one step or by another option.
-use Rattle.std.proofs.Common.{◌≡◌, ◌⊎◌, ℕ, suc, ◌-◌, ◌<◌, ◌≤◌, inl, inr, Bool, true, false, cond, eqb, List, [], ◌∷◌, ◌++◌, length, refl, ap, sym, ◌∙◌, subst, arith, length-append}
+use Rattle.std.proofs.Common.{◌≡◌, ◌⊎◌, ℕ, suc, ◌-◌, ◌<◌, ◌≤◌, inl, inr, Bool, false, cond, List, [], ◌∷◌, ◌++◌, length, refl, ap, sym, ◌∙◌, subst, arith, length-append}
 use Rattle.std.specs.Prelude.{◌||◌}
 use Rattle.std.specs.List.{list_any, AllByRecursion}
-use Rattle.std.proofs.lemmas.Bool.{cases_lt}
+use Rattle.std.proofs.lemmas.Bool.{cases_lt, eqb-false}
 use Rattle.std.proofs.lemmas.Bool.Decides.{nat_tests}
 use Rattle.std.proofs.lemmas.List.Folds.{list_any-append}
+use Rattle.std.proofs.Math.Bool.{or-false}
 use Rattle.item_defs.specs.Items.{Item, raw}
 use Rattle.item_defs.specs.Readings.{item_at}
 use Rattle.item_defs.specs.Laws.{said_of}
 use Rattle.base_122.specs.declared.book.Book.{Book}
 use Rattle.plane_defs.specs.declared.entries.Entry.{Entry}
-use Rattle.plane_defs.specs.declared.entries.Entry.TheVariants.{Bit, Word}
 use Rattle.plane_defs.specs.Entries.{IsEntry}
-use Rattle.plane_defs.specs.Codes.{option_item}
 use Rattle.plane_defs.specs.Spelled.{is_word_of, option_of, opening}
 use Rattle.plane_defs.specs.Steps.{Check, refuses, Step}
 use Rattle.plane_defs.specs.StepLaws.{entries_of, SameSteps, IsAllowed}
@@ -24,11 +23,7 @@ use Rattle.text_defs.proofs.ValueChoice.{MaySay, may_same}
 use Rattle.text_defs.proofs.Choices.{Chooses, choose_left, choose_right}
 use Rattle.plane_texts.specs.Candidates.{EntriesChoose, step_at, Replaces}
 use Rattle.text_defs.proofs.EntrySpot.{Elsewhere, entry_spot}
-use Rattle.plane_texts.proofs.SmallFacts.{neither_left, neither_right, unequal}
-
-or_false : (b : Bool) → (b || false) ≡ b
-or_false true = refl
-or_false false = refl
+use Rattle.plane_texts.proofs.SmallFacts.{neither_left, neither_right}
 
 module _ (book : Book) where
   -- ---- options of other lengths
@@ -39,16 +34,7 @@ module _ (book : Book) where
 
   pub entry_options : (n : ℕ) (o u : List ℕ) → Elsewhere n o u → (before : List Entry) (check : Check) (x : Entry) → IsEntry x → is_word_of n x ≡ false → entry_reading book o before check x ≡ entry_reading book u before check x
   unfolding entry_reading
-  entry_options n o u same before check (Bit b) fit other = refl
-  entry_options n o u same before check (Word bits) fit other = by_count (eqb bits.count 0) (eqb bits.count 1) refl refl
-    where
-      by_count : (none one : Bool) → eqb bits.count 0 ≡ none → eqb bits.count 1 ≡ one → Items none one o before check bits.count bits.value ≡ Items none one u before check bits.count bits.value
-      by_count true one e f = refl
-      by_count false true e f = refl
-      by_count false false e f =
-          let two : 2 ≤ bits.count = grind (arith, nat_tests) in
-          ap (λ option. cond (list_any (is_word_of bits.count) before) [] (option_item bits.count option ∷ []) ++ checked_word book bits.count option bits.value check ∷ [])
-          (same bits.count two fit.0 (unequal bits.count n other))
+  entry_options n o u same before check x fit other = grind (arith, nat_tests, eqb-false)
 
   pub read_options : (n : ℕ) (o u : List ℕ) → Elsewhere n o u → (before : List Entry) (ss : List Step) → Fits ss → list_any (is_word_of n) (entries_of ss) ≡ false → read_after book o before ss ≡ read_after book u before ss
   read_options n o u same before [] fit none = refl
@@ -129,7 +115,7 @@ module _ (book : Book) where
                   none = neither_left (list_any (is_word_of r.n) before) _ parts;
                   chosen = λ u same here.
                       choose_right c said first (step_reading book u before s) rest (read_after book u (before ++ s.entry ∷ []) ss) late
-                      (ap said_of (entry_options r.n o u same before s.check s.entry fit.0 (sym (or_false (is_word_of r.n s.entry)) ∙ neither_right (list_any (is_word_of r.n) before) _ parts)))
+                      (ap said_of (entry_options r.n o u same before s.check s.entry fit.0 (sym (or-false (is_word_of r.n s.entry)) ∙ neither_right (list_any (is_word_of r.n) before) _ parts)))
                       (r.chosen u same here);
                 })
           ]

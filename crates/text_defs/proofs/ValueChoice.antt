@@ -37,38 +37,22 @@ module _ (kind : Kind) (xs : List ℕ) (few : (i : ℕ) → get_or xs i 0 < 2 ^ 
   value_below j = mapped_below kind.bits (get_or xs (j - 1) 0) (get_or xs j 0) (few (j - 1)) (few j)
 
   fewer_zeros : (said : ℕ) (r : Option Refusal) → said ≤ 2 ^ (kind.bits - option) → cond (eqb said (2 ^ (kind.bits - option))) (Some bad_delta) r ≡ None → said < 2 ^ (kind.bits - option)
-  fewer_zeros said r le e = by_test (eqb said (2 ^ (kind.bits - option))) refl e
-    where
-      by_test : (t : Bool) → eqb said (2 ^ (kind.bits - option)) ≡ t → cond t (Some bad_delta) r ≡ None → said < 2 ^ (kind.bits - option)
-      by_test true q e = absurd (some_none e)
-        where
-          some_none : Some bad_delta ≡ None → ⊥
-          some_none e = cc
-      by_test false q e = grind (arith, nat_tests)
+  fewer_zeros said r le e = grind (arith, nat_tests)
 
   -- the option leaves some bits for the unary part
   parts : eqb option (uncoded kind.bits) ≡ false → 2 ^ kind.bits ≡ 2 ^ (kind.bits - option) * 2 ^ option
-  parts e =
-      let le : option ≤ kind.bits = grind (arith, nat_tests) in
-      let z : kind.bits ≡ kind.bits - option + option = omega arith in
-      ap (λ w. 2 ^ w) z ∙ pow-add 2 (kind.bits - option) option
+  parts e = grind (arith, nat_tests, pow-add)
 
   divided : (q s : ℕ) → s < 2 ^ option → (q * 2 ^ option + s) / 2 ^ option ≡ q
   divided q s lt = div-mul-add q (2 ^ option) s lt
 
   under : (q s p w m : ℕ) → m ≡ p * w → q < p → s < w → q * w + s < m
-  under q s p w m e lt small =
-      let d : ℕ = p - (q + 1) in
-      let whole : p ≡ q + 1 + d = omega arith in
-      let f : p * w ≡ (q + 1 + d) * w = ap (λ x. x * w) whole in
-      omega (arith, e, f, small)
+  under q s p w m e lt small = grind (arith, nat_tests)
 
   items_are : (zs : List ℕ) (t z : Bool) → eqb option (uncoded kind.bits) ≡ t → eqb option 0 ≡ z → value_items kind zs option (range_with_len a n) ≡
       cond t (map (uncoded_value kind zs) (range_with_len a n)) (map (unary_part kind zs option) (range_with_len a n) ++ cond z [] (map (rest_part kind zs option) (range_with_len a n)))
   unfolding value_items
-  items_are zs t z e f =
-      ap (λ t. cond t (map (uncoded_value kind zs) (range_with_len a n)) (map (unary_part kind zs option) (range_with_len a n) ++ cond (eqb option 0) [] (map (rest_part kind zs option) (range_with_len a n)))) e
-      ∙ ap (λ z. cond t (map (uncoded_value kind zs) (range_with_len a n)) (map (unary_part kind zs option) (range_with_len a n) ++ cond z [] (map (rest_part kind zs option) (range_with_len a n)))) f
+  items_are zs t z e f = grind (arith, nat_tests)
 
   choose_as : (k said : ℕ) (is js is' js' : List Item) → is ≡ is' → js ≡ js' → Chooses k said is' js' → Chooses k said is js
   choose_as k said is js is' js' p q c = subst (λ x. Chooses k said x js) (sym p) (subst (λ x. Chooses k said is' x) (sym q) c)
@@ -162,10 +146,4 @@ module _ (kind : Kind) (xs : List ℕ) (few : (i : ℕ) → get_or xs i 0 < 2 ^ 
             where
               by_place : {i : ℕ} (t : Bool) → eqb i (a + (k - n)) ≡ t → (ys : List ℕ) → Same (a + (k - n)) ys → a ≤ i → i < a + n → value_at kind.bits ys (a + (k - n)) / 2 ^ option ≡ value_at kind.bits xs (a + (k - n)) / 2 ^ option →
                   value_at kind.bits xs i / 2 ^ option ≡ value_at kind.bits ys i / 2 ^ option
-              by_place {i} true e ys same lo hi at =
-                  let here : i ≡ a + (k - n) = grind (arith, nat_tests) in
-                  ap (λ x. value_at kind.bits xs x / 2 ^ option) here ∙ sym at ∙ sym (ap (λ x. value_at kind.bits ys x / 2 ^ option) here)
-              by_place {i} false e ys same lo hi at = ap (λ w. w / 2 ^ option) (same i lo hi (not_there i e))
-                where
-                  not_there : (i : ℕ) → eqb i (a + (k - n)) ≡ false → i ≡ a + (k - n) → ⊥
-                  not_there i e q = grind (arith, nat_tests)
+              by_place t e ys same lo hi at = grind (arith, nat_tests)

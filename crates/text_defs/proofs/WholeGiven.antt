@@ -1,5 +1,5 @@
 -- All items of a segment without a stop give all steps.
-use Rattle.std.proofs.Common.{◌≡◌, ℕ, ◌+◌, ◌-◌, ◌<◌, ◌≤◌, false, cond, List, [], ◌++◌, length, ap, ◌∙◌, arith, ℤ, get_or, length-append}
+use Rattle.std.proofs.Common.{◌≡◌, ℕ, ◌+◌, ◌-◌, ◌<◌, ◌≤◌, false, cond, List, [], length, ap, ◌∙◌, arith, ℤ, get_or, length-append}
 use Rattle.std.proofs.lemmas.Bool.Decides.{nat_tests}
 use Rattle.number_defs.specs.Depths.{depth_items}
 use Rattle.base_122.specs.declared.book.Book.{Book}
@@ -18,16 +18,13 @@ use Rattle.text_defs.proofs.AllSent.{all_stages}
 pub plane_whole : (book : Book) (options : ℕ → List ℕ) (blocks : List (List ℤ)) (depths weights : List ℕ) (number q m r : ℕ) →
     let p : Plane = record { blocks = blocks; depths = depths; weights = weights; number = number; q = q } in
     r < length depths → length (plane_reading book options p 5) ≤ m → steps_given book options p 5 m r ≡ all_stages (get_or blocks r []) (get_or depths r 0) weights number q
-plane_whole book options blocks depths weights number q m r within le =
-    given_all book options (record { blocks = blocks; depths = depths; weights = weights; number = number; q = q }) 5 m r within le
+plane_whole book options blocks depths weights number q m r within le = grind (arith, nat_tests, given_all)
 
 module _ (head : SegmentHead) (blocks : List (List ℤ)) (depths : List ℕ) (options : Options) (goes_on : head.stop.dc ≡ false) (low_plane : head.stop.plane ≡ 0) (last_stage : head.stop.stage ≡ 3) where
   pub segment_long : length (segment_items head blocks depths options) ≡
       length (dc_part_items head blocks options) + (length (depth_items head.depth_ac depths options.depths) + length (planes_items head blocks depths options head.depth_ac))
   unfolding segment_items
-  segment_long =
-      ap (λ t. length (cond t (dc_part_items head blocks options) (dc_part_items head blocks options ++ (depth_items head.depth_ac depths options.depths ++ planes_items head blocks depths options head.depth_ac)))) goes_on
-      ∙ length-append (dc_part_items head blocks options) _ ∙ ap (λ n. length (dc_part_items head blocks options) + n) (length-append (depth_items head.depth_ac depths options.depths) _)
+  segment_long = grind (arith, nat_tests, length-append)
 
   sent : (b : ℕ) → stages_sent head b ≡ 5
   sent b = grind (arith, nat_tests)

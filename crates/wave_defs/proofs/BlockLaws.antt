@@ -1,5 +1,5 @@
 -- The numbers of a block, by block and position.
-use Rattle.std.proofs.Common.{◌≡◌, ℕ, zero, suc, Bool, true, false, ◌+◌, ◌*◌, ◌/◌, ◌%◌, ◌^◌, ◌<◌, ◌≤◌, ℤ, pos, ◌*ℤ◌, List, length, get_or, map, refl, sym, ap, ◌∙◌, arith}
+use Rattle.std.proofs.Common.{◌≡◌, ℕ, zero, suc, Bool, true, ◌+◌, ◌*◌, ◌/◌, ◌%◌, ◌^◌, ◌<◌, ◌≤◌, ℤ, pos, ◌*ℤ◌, List, length, get_or, map, refl, ap, ◌∙◌, arith}
 use Rattle.std.specs.Prelude.{nat_lt, ◌&&◌, slice_index}
 use Rattle.std.specs.List.{range_with_len, list_all}
 use Rattle.std.proofs.lemmas.Bool.Decides.{nat_tests}
@@ -13,13 +13,11 @@ use Rattle.wave_defs.specs.Held.{Agrees, signal}
 use Rattle.wave_defs.proofs.LevelWithin.{EachWithin-more}
 use Rattle.std.proofs.lemmas.Int.{ints}
 use Rattle.std.proofs.lemmas.Nat.{rows}
+use Rattle.std.proofs.lemmas.Bool.{true_from_ne_false}
 
 -- a slice that agrees with a signal over its whole length is the signal's table
 pub table_of : (xs : List ℤ) (f : ℕ → ℤ) → Agrees (length xs) (signal xs) f → xs ≡ map f (range_with_len 0 (length xs))
-table_of xs f a =
-    let n = length xs in
-    same_lists xs (map f (range_with_len 0 n)) (sym (length-map-range_with_len f 0 n))
-    (λ k d h. get_or_default xs k d (pos 0) h ∙ a.at k h ∙ sym (get_or-map-range_with_len f 0 n k k d h (omega arith)))
+table_of xs f a = grind (arith, nat_tests, same_lists, length-map-range_with_len, get_or_default, get_or-map-range_with_len)
 
 -- ---- the lists of blocks
 
@@ -48,15 +46,11 @@ all_places : list_all (λ i. is_place (place_of i)) (range_with_len 0 64) ≡ tr
 unfolding place_of is_place
 all_places = refl
 
-not_false : (b : Bool) → (b ≡ false → ⊥) → b ≡ true
-not_false true k = refl
-not_false false k = absurd (k refl)
-
 pub passes : (p : ℕ → Bool) (n i : ℕ) → list_all p (range_with_len 0 n) ≡ true → i < n → p i ≡ true
 passes p n i all h =
     let long = length-range_with_len 0 n in
     let at : get_or (range_with_len 0 n) i 0 ≡ i = get_or-range_with_len 0 n i 0 h ∙ omega arith in
-    not_false (p i) (λ f. let g = list_all_at p (range_with_len 0 n) i 0 (omega arith) (ap p at ∙ f) in cc)
+    true_from_ne_false (p i) (λ f. let g = list_all_at p (range_with_len 0 n) i 0 (omega arith) (ap p at ∙ f) in cc)
 
 place_holds : (p : Place) → is_place p ≡ true → IsPlace p
 unfolding is_place

@@ -1,10 +1,10 @@
 -- Each place of a block has a position among its 64 numbers, so blocks that are the same have the same numbers in each band.
-use Rattle.std.proofs.Common.{◌≡◌, ℕ, zero, suc, Bool, true, ◌+◌, ◌*◌, ◌/◌, ◌%◌, ◌<◌, ◌≤◌, ◌==◌, if◌then◌else◌, refl, sym, ap, ◌∙◌, arith, List, ◌*ℤ◌, ℤ}
+use Rattle.std.proofs.Common.{◌≡◌, ℕ, zero, suc, Bool, true, ◌+◌, ◌*◌, ◌/◌, ◌%◌, ◌<◌, ◌≤◌, ◌==◌, if◌then◌else◌, refl, sym, ap, ◌∙◌, arith, List}
 use Rattle.std.specs.Prelude.{nat_lt, ◌&&◌, ◌||◌, not}
 use Rattle.std.specs.List.{range_with_len, list_all}
 use Rattle.std.proofs.lemmas.Bool.Decides.{nat_tests}
 use Rattle.wave_defs.specs.Pyramid.{Pyramid, band_of}
-use Rattle.wave_defs.specs.Blocks.{Place, IsPlace, place_of, block_side, coefficient, block, weight_at}
+use Rattle.wave_defs.specs.Blocks.{Place, IsPlace, place_of, block_side, coefficient, block}
 use Rattle.wave_defs.specs.Reach.{SameBlock}
 use Rattle.std.proofs.lemmas.Nat.{rows}
 use Rattle.wave_defs.specs.Held.{SameWithin, SamePyramid}
@@ -116,11 +116,7 @@ SamePyramid-block p q r c t s same ht hs = record {
 
 -- and the same weighted numbers
 pub block-same : (p q : Pyramid) (weights : List ℕ) (t s : ℕ) → SameBlock p q t s → block p weights t s ≡ block q weights t s
-block-same p q weights t s same =
-    same_lists (block p weights t s) (block q weights t s) (length-block p weights t s ∙ sym (length-block q weights t s))
-    (λ k d h.
-    let inside : k < 64 = omega (arith, length-block p weights t s) in
-    get_or-block p weights t s k d inside ∙ ap (λ (z : ℤ). z *ℤ weight_at weights k) (same.at k inside) ∙ sym (get_or-block q weights t s k d inside))
+block-same p q weights t s same = grind (arith, nat_tests, same_lists, length-block, get_or-block)
 
 -- each place of a block is that of a position
 pub position-there : (band row column : ℕ) → IsPlace (record { band = band; row = row; column = column }) → (i : ℕ) × (i < 64) × (place_of i ≡ record { band = band; row = row; column = column })

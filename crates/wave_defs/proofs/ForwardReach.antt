@@ -1,6 +1,7 @@
 -- The rows of an image that a block row is made from.
 use Rattle.std.proofs.Common.{◌≡◌, ℕ, ◌+◌, ◌-◌, ◌*◌, ◌<◌, ◌≤◌, ℤ, min, arith}
-use Rattle.wave_defs.specs.Line.{prediction, high_of, low_of, even_before, even_within}
+use Rattle.std.proofs.lemmas.Bool.Decides.{nat_tests}
+use Rattle.wave_defs.specs.Line.{prediction, high_of, low_of}
 use Rattle.wave_defs.specs.Level.{level, columns_low, columns_high}
 use Rattle.wave_defs.specs.Pyramid.{padded, pyramid, pyramid_of}
 use Rattle.wave_defs.specs.Held.{SameWithin, SameQuarters, SamePyramid}
@@ -12,15 +13,7 @@ use Rattle.wave_defs.proofs.BlockPlaces.{SamePyramid-block}
 -- a line of which the first m samples are known; high sample j needs sample 2 * j + 4
 pub high_of-known : (m n n' j : ℕ) (x y : ℕ → ℤ) → m ≤ 2 * n → m ≤ 2 * n' → 2 * j + 4 < m → ((k : ℕ) → k < m → x k ≡ y k) → high_of x n j ≡ high_of y n' j
 unfolding high_of prediction
-high_of-known m n n' j x y hn hn' h same =
-    let o = same (2 * j + 1) (omega arith) in
-    let e0 = same (2 * even_before j) (omega arith) in
-    let e1 = same (2 * j) (omega arith) in
-    let e2 = same (2 * even_within n (j + 1)) (omega arith) in
-    let e3 = same (2 * even_within n (j + 2)) (omega arith) in
-    let next : even_within n (j + 1) ≡ even_within n' (j + 1) = omega arith in
-    let second : even_within n (j + 2) ≡ even_within n' (j + 2) = omega arith in
-    cc
+high_of-known m n n' j x y hn hn' h same = grind (arith, nat_tests)
 
 pub low_of-known : (m n n' j : ℕ) (x y : ℕ → ℤ) → m ≤ 2 * n → m ≤ 2 * n' → 2 * j + 4 < m → ((k : ℕ) → k < m → x k ≡ y k) → low_of x n j ≡ low_of y n' j
 unfolding low_of

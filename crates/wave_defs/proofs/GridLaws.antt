@@ -5,6 +5,7 @@ use Rattle.std.proofs.lemmas.Nat.{rows}
 use Rattle.std.proofs.lemmas.List.{places}
 use borrow.Rule.Slice.PartMut.{put_mid}
 use Rattle.std.specs.List.{between}
+use Rattle.std.proofs.lemmas.Bool.Decides.{nat_tests}
 use Rattle.wave_defs.specs.Held.{Agrees, signal, grid, SameWithin}
 
 -- the row before the one at i ends where that one begins
@@ -39,14 +40,7 @@ SameWithin-put_row w i xs ys f room long above here = record {
 
 -- the rows of other places stay
 pub row_kept : (w i k j : ℕ) (xs ys : List ℤ) → i * w + w ≤ length xs → length ys ≡ w → k ≢ i → j < w → grid w (put_mid (i * w) w xs ys) k j ≡ grid w xs k j
-row_kept w i k j xs ys room long ne hj =
-    let before = λ (h : k < i).
-    let ends = row_ends i k w h in
-    part_below (i * w) w (k * w + j) xs ys (pos 0) (omega arith) (omega arith) in
-    let after = λ (h : i ≤ k).
-    let ends = row_ends k i w (omega arith) in
-    part_above (i * w) w (k * w + j) xs ys (pos 0) long (omega arith) (omega arith) in
-    ⊎_elim before after (cases_lt k i)
+row_kept w i k j xs ys room long ne hj = grind (arith, nat_tests, row_ends, part_below, part_above)
 
 -- the same as the code leaves it after a write to `s[i * w..i * w + w]`; m is the difference of the two bounds
 pub SameWithin-write_row : (w i m : ℕ) (xs ys : List ℤ) (f : ℕ → ℕ → ℤ) → m ≡ w → i * w + w ≤ length xs → length ys ≡ w → SameWithin i w (grid w xs) f → Agrees w (signal ys) (f i) → SameWithin (i + 1) w (grid w (put_mid (i * w) m xs ys)) f

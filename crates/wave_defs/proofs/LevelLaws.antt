@@ -1,6 +1,7 @@
 -- One level and its inverse undo each other in both orders.
 use mathlib.Core.Path.{fun_ext}
-use Rattle.std.proofs.Common.{◌≡◌, ℕ, ℤ, ap}
+use Rattle.std.proofs.Common.{◌≡◌, ℕ, ℤ, ap, arith}
+use Rattle.std.proofs.lemmas.Bool.Decides.{nat_tests}
 use Rattle.wave_defs.specs.Level.{Quarters, rows_low, rows_high, columns_low, columns_high, rows_merged, columns_merged, level, joined}
 use Rattle.wave_defs.proofs.LineLaws.{merged_of-forward, low_of-of_merged, high_of-of_merged}
 
@@ -35,7 +36,4 @@ columns_high-merged x y n = fun_ext (λ i. fun_ext (λ j. ap (λ (s : ℕ → �
 
 pub level-joined : (q : Quarters) (n m : ℕ) → level (joined q n m) n m ≡ q
 unfolding level joined
-level-joined q n m =
-    let l = rows_low-merged (columns_merged q.ll q.lh n) (columns_merged q.hl q.hh n) m in
-    let h = rows_high-merged (columns_merged q.ll q.lh n) (columns_merged q.hl q.hh n) m in
-    simp (l, h, columns_low-merged, columns_high-merged)
+level-joined q n m = grind (arith, nat_tests, rows_low-merged, rows_high-merged, columns_low-merged, columns_high-merged)

@@ -4,7 +4,7 @@ use Rattle.std.proofs.Common.{◌≡◌, ℕ, true, false, if◌then◌else◌, 
 use Rattle.std.proofs.lemmas.Int.{ints}
 use Rattle.std.proofs.lemmas.Bool.Decides.{nat_tests}
 use Rattle.std.proofs.lemmas.Bool.{cases_eq}
-use Rattle.wave_defs.specs.Line.{prediction, correction, high_of, low_of, even_of, odd_of, merged, even_before, even_within}
+use Rattle.wave_defs.specs.Line.{prediction, correction, high_of, low_of, even_of, odd_of, merged}
 use Rattle.wave_defs.specs.Held.{Agrees}
 
 put_back : (a b : ℤ) → (a -ℤ b) +ℤ b ≡ a
@@ -19,8 +19,7 @@ even_of-forward x n j = put_back (x (2 * j)) (correction (high_of x n (j - 1)) (
 
 pub odd_of-forward : (x : ℕ → ℤ) (n j : ℕ) → odd_of (low_of x n) (high_of x n) n j ≡ x (2 * j + 1)
 unfolding odd_of high_of
-odd_of-forward x n j =
-    ap (λ (e : ℕ → ℤ). high_of x n j +ℤ prediction e n j) (fun_ext (even_of-forward x n)) ∙ put_back (x (2 * j + 1)) (prediction (λ k. x (2 * k)) n j)
+odd_of-forward x n j = grind (arith, nat_tests, even_of-forward, put_back)
 
 -- the same in the other order
 pub even_of-merged : (c d : ℕ → ℤ) (n j : ℕ) → merged c d n (2 * j) ≡ even_of c d j
@@ -33,13 +32,11 @@ odd_of-merged c d n j = grind (arith, nat_tests)
 
 pub high_of-merged : (c d : ℕ → ℤ) (n j : ℕ) → high_of (merged c d n) n j ≡ d j
 unfolding high_of odd_of
-high_of-merged c d n j =
-    rw odd_of-merged (ap (λ (e : ℕ → ℤ). (d j +ℤ prediction (even_of c d) n j) -ℤ prediction e n j) (fun_ext (even_of-merged c d n)) ∙ taken_off (d j) (prediction (even_of c d) n j))
+high_of-merged c d n j = grind (arith, nat_tests, odd_of-merged, even_of-merged, taken_off)
 
 pub low_of-merged : (c d : ℕ → ℤ) (n j : ℕ) → low_of (merged c d n) n j ≡ c j
 unfolding low_of even_of
-low_of-merged c d n j =
-    simp (even_of-merged, high_of-merged, taken_off)
+low_of-merged c d n j = grind (arith, nat_tests, even_of-merged, high_of-merged, taken_off)
 
 -- a line by its even and its odd samples
 pub Agrees-merged : (x c d : ℕ → ℤ) (n : ℕ) → Agrees n (λ k. x (2 * k)) (even_of c d) → Agrees n (λ k. x (2 * k + 1)) (odd_of c d n) → Agrees (2 * n) x (merged c d n)
@@ -57,54 +54,29 @@ Agrees-merged x c d n even odd = record {
 
 pub prediction-same : (n j : ℕ) (e f : ℕ → ℤ) → 2 ≤ n → j < n → Agrees n e f → prediction e n j ≡ prediction f n j
 unfolding prediction
-prediction-same n j e f two h a =
-    let p = a.at (even_before j) (omega arith) in
-    let q = a.at j h in
-    let r = a.at (even_within n (j + 1)) (omega arith) in
-    let s = a.at (even_within n (j + 2)) (omega arith) in
-    cc
+prediction-same n j e f two h a = grind (arith, nat_tests)
 
 pub high_of-same : (n j : ℕ) (x y : ℕ → ℤ) → 2 ≤ n → j < n → Agrees (2 * n) x y → high_of x n j ≡ high_of y n j
 unfolding high_of
-high_of-same n j x y two h a =
-    let o = a.at (2 * j + 1) (omega arith) in
-    let p = prediction-same n j (λ k. x (2 * k)) (λ k. y (2 * k)) two h (record { at = λ k l. a.at (2 * k) (omega arith) }) in
-    cc
+high_of-same n j x y two h a = grind (arith, nat_tests, prediction-same)
 
 pub low_of-same : (n j : ℕ) (x y : ℕ → ℤ) → 2 ≤ n → j < n → Agrees (2 * n) x y → low_of x n j ≡ low_of y n j
 unfolding low_of
-low_of-same n j x y two h a =
-    let e = a.at (2 * j) (omega arith) in
-    let p = high_of-same n (j - 1) x y two (omega arith) a in
-    let q = high_of-same n j x y two h a in
-    cc
+low_of-same n j x y two h a = grind (arith, nat_tests, high_of-same)
 
 pub even_of-same : (n j : ℕ) (c c' d d' : ℕ → ℤ) → j < n → Agrees n c c' → Agrees n d d' → even_of c d j ≡ even_of c' d' j
 unfolding even_of
-even_of-same n j c c' d d' h a b =
-    let e = a.at j h in
-    let p = b.at (j - 1) (omega arith) in
-    let q = b.at j h in
-    cc
+even_of-same n j c c' d d' h a b = grind (arith, nat_tests)
 
 pub odd_of-same : (n j : ℕ) (c c' d d' : ℕ → ℤ) → 2 ≤ n → j < n → Agrees n c c' → Agrees n d d' → odd_of c d n j ≡ odd_of c' d' n j
 unfolding odd_of
-odd_of-same n j c c' d d' two h a b =
-    let q = b.at j h in
-    let p = prediction-same n j (even_of c d) (even_of c' d') two h (record { at = λ k l. even_of-same n k c c' d d' l a b }) in
-    cc
+odd_of-same n j c c' d d' two h a b = grind (arith, nat_tests, prediction-same, even_of-same)
 
 -- ---- the laws, as equations of signals
 
 pub merged_of-forward : (x : ℕ → ℤ) (n : ℕ) → merged (low_of x n) (high_of x n) n ≡ x
 unfolding merged
-merged_of-forward x n = fun_ext (λ i.
-    let y = merged (low_of x n) (high_of x n) n in
-    let e = even_of-forward x n (i / 2) in
-    let o = odd_of-forward x n (i / 2) in
-    let at_even = λ (z : i % 2 ≡ 0). let at : i ≡ 2 * (i / 2) = omega arith in let p = ap x at in let t : y i ≡ x i = grind (arith, nat_tests) in t in
-    let at_odd = λ (z : i % 2 ≡ 0 → ⊥). let at : i ≡ 2 * (i / 2) + 1 = omega arith in let p = ap x at in let t : y i ≡ x i = grind (arith, nat_tests) in t in
-    ⊎_elim at_even at_odd (cases_eq (i % 2) 0))
+merged_of-forward x n = grind (arith, nat_tests, even_of-forward, odd_of-forward)
 
 pub low_of-of_merged : (c d : ℕ → ℤ) (n : ℕ) → low_of (merged c d n) n ≡ c
 low_of-of_merged c d n = fun_ext (low_of-merged c d n)

@@ -1,7 +1,7 @@
 -- Why the mirror of the even samples in specs/Line.antt is the standard's on samples: sample -i is sample i, and sample
 -- 2 * n - 1 + i is sample 2 * n - 1 - i.
-use Rattle.std.proofs.Common.{◌≡◌, ℕ, ◌+◌, ◌-◌, ◌*◌, ◌<◌, ◌≤◌, ℤ, ◌-ℤ◌, ap, sym, ◌∙◌, ⊎_elim, arith}
-use Rattle.std.proofs.lemmas.Bool.{cases_lt}
+use Rattle.std.proofs.Common.{◌≡◌, ℕ, ◌+◌, ◌-◌, ◌*◌, ◌<◌, ◌≤◌, ℤ, ◌-ℤ◌, arith}
+use Rattle.std.proofs.lemmas.Bool.Decides.{nat_tests}
 use Rattle.wave_defs.specs.Line.{predicted, prediction, high_of, even_before, even_within}
 use Rattle.wave_defs.specs.Laws.{IsMirrored}
 
@@ -20,25 +20,11 @@ mirrored_after n k i h e = omega arith
 -- ---- the mirrored line at an even place, from the left and from the right
 
 at_left : (x y : ℕ → ℤ) (n j : ℕ) → 3 ≤ n → j < n → IsMirrored n x y → y (2 * j) ≡ x (2 * even_before j)
-at_left x y n j long h m =
-    let first = λ (z : j < 1). ap y (let e : 2 * j ≡ 2 - 2 = omega arith in e) ∙ m.left 2 (omega arith) ∙ ap x (let e : 2 ≡ 2 * even_before j = omega arith in e) in
-    let later = λ (z : 1 ≤ j). ap y (let e : 2 * j ≡ (2 * j - 2) + 2 = omega arith in e) ∙ m.inside (2 * j - 2) (omega arith) ∙ ap x (sym (mirrored_before j z)) in
-    ⊎_elim first later (cases_lt j 1)
+at_left x y n j long h m = grind (arith, nat_tests, mirrored_before)
 
 at_right : (x y : ℕ → ℤ) (n k : ℕ) → 3 ≤ n → k ≤ n + 1 → IsMirrored n x y → y (2 * k + 2) ≡ x (2 * even_within n k)
-at_right x y n k long h m =
-    let inside = λ (z : k < n). m.inside (2 * k) (omega arith) ∙ ap x (sym (mirrored_within n k z)) in
-    let after = λ (z : n ≤ k).
-    ap y (let e : 2 * k + 2 ≡ 2 * n + 1 + (2 * k + 1 - 2 * n) = omega arith in e)
-    ∙ m.right (2 * k + 1 - 2 * n) (omega arith)
-    ∙ ap x (sym (mirrored_after n k (2 * k + 1 - 2 * n) (omega arith) (omega arith))) in
-    ⊎_elim inside after (cases_lt k n)
+at_right x y n k long h m = grind (arith, nat_tests, mirrored_within, mirrored_after)
 
 pub high_of-mirrored : (x y : ℕ → ℤ) (n j : ℕ) → 3 ≤ n → j < n → IsMirrored n x y → high_of x n j ≡ x (2 * j + 1) -ℤ predicted (y (2 * j)) (y (2 * j + 2)) (y (2 * j + 4)) (y (2 * j + 6))
 unfolding high_of prediction
-high_of-mirrored x y n j long h m =
-    let a = at_left x y n j long h m in
-    let b = m.inside (2 * j) (omega arith) in
-    let c = ap y (let e : 2 * j + 4 ≡ 2 * (j + 1) + 2 = omega arith in e) ∙ at_right x y n (j + 1) long (omega arith) m in
-    let d = ap y (let e : 2 * j + 6 ≡ 2 * (j + 2) + 2 = omega arith in e) ∙ at_right x y n (j + 2) long (omega arith) m in
-    cc
+high_of-mirrored x y n j long h m = grind (arith, nat_tests, at_left, at_right)

@@ -1,6 +1,7 @@
 -- Three levels and their inverse: they undo each other, they depend only on the samples within, and these have bounds.
 use Rattle.std.proofs.Common.{◌≡◌, ℕ, ◌*◌, ◌^◌, ◌≤◌, ℤ, ap, ◌∙◌, arith}
-use Rattle.wave_defs.specs.Level.{Quarters, level, joined}
+use Rattle.std.proofs.lemmas.Bool.Decides.{nat_tests}
+use Rattle.wave_defs.specs.Level.{level, joined}
 use Rattle.wave_defs.specs.Pyramid.{Pyramid, pyramid, pyramid_of, rebuilt, first_of, second_of, third_of}
 use Rattle.wave_defs.specs.Within.{EachWithin, QuartersWithin, PyramidWithin}
 use Rattle.wave_defs.specs.Held.{SameWithin, SamePyramid}
@@ -19,13 +20,7 @@ rebuilt-pyramid a r c =
 
 pub pyramid-rebuilt : (p : Pyramid) (r c : ℕ) → pyramid (rebuilt p r c) r c ≡ p
 unfolding rebuilt pyramid pyramid_of first_of second_of third_of
-pyramid-rebuilt p r c =
-    let third : Quarters = record { ll = p.ll3; hl = p.hl3; lh = p.lh3; hh = p.hh3 } in
-    let second : Quarters = record { ll = joined third r c; hl = p.hl2; lh = p.lh2; hh = p.hh2 } in
-    let first : Quarters = record { ll = joined second (2 * r) (2 * c); hl = p.hl1; lh = p.lh1; hh = p.hh1 } in
-    ap (λ (q : Quarters). pyramid_of q (level q.ll (2 * r) (2 * c)) (level (level q.ll (2 * r) (2 * c)).ll r c)) (level-joined first (4 * r) (4 * c))
-    ∙ ap (λ (q : Quarters). pyramid_of first q (level q.ll r c)) (level-joined second (2 * r) (2 * c))
-    ∙ ap (λ (q : Quarters). pyramid_of first second q) (level-joined third r c)
+pyramid-rebuilt p r c = grind (arith, nat_tests, level-joined)
 
 -- ---- magnitudes
 

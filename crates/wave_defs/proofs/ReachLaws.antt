@@ -1,15 +1,14 @@
 -- The values in missing blocks change only the samples that these blocks reach.
-use Rattle.std.proofs.Common.{◌≡◌, ℕ, Bool, true, false, ◌+◌, ◌*◌, ◌<◌, ◌≤◌, ℤ, ◌⊎◌, inl, inr, ⊎_elim, refl, arith}
+use Rattle.std.proofs.Common.{◌≡◌, ℕ, Bool, true, false, ◌+◌, ◌*◌, ◌<◌, ◌≤◌, ℤ, ◌⊎◌, inl, refl, arith}
 use Rattle.std.proofs.lemmas.Bool.Decides.{nat_tests}
 use Rattle.wave_defs.specs.Line.{merged}
 use Rattle.wave_defs.specs.Pyramid.{Pyramid, rebuilt}
 use Rattle.wave_defs.specs.Reach.{Reaches, SameBlock, SameReceived}
-use Rattle.wave_defs.proofs.LineReach.{SameMirror-same, merged-reach}
+use Rattle.wave_defs.proofs.LineReach.{merged-reach}
 use Rattle.wave_defs.proofs.InverseReach.{rebuilt-reach}
 
 pub line-reach : (n i : ℕ) (c c' d d' : ℕ → ℤ) → 2 ≤ n → i < 2 * n → ((j : ℕ) → j < n → 2 * j ≤ i + 3 → i ≤ 2 * j + 3 → c j ≡ c' j) → ((j : ℕ) → j < n → 2 * j ≤ i + 3 → i ≤ 2 * j + 5 → d j ≡ d' j) → merged c d n i ≡ merged c' d' n i
-line-reach n i c c' d d' two h low high =
-    merged-reach n n i c c' d d' two h (λ e. SameMirror-same n n _ refl) (record { at = low }) (record { at = high })
+line-reach n i c c' d d' two h low high = grind (arith, nat_tests, merged-reach)
 
 pub sample-reach : (p q : Pyramid) (r c i j : ℕ) → 2 ≤ r → 2 ≤ c → i < 8 * r → j < 8 * c → ((t s : ℕ) → t < r → s < c → Reaches t i → Reaches s j → SameBlock p q t s) → rebuilt p r c i j ≡ rebuilt q r c i j
 sample-reach p q r c i j hr hc hi hj same = rebuilt-reach p q r r c i j hr hc (record { or_far = inl refl }) same hi hj
@@ -24,12 +23,10 @@ blocks-reach p q missing r c i j hr hc hi hj same away =
     received-or_missing (missing t s) (SameBlock p q t s) (same.block t s ht hs) (λ m. away t s ht hs m row column))
 
 pub rows-reach : (p q : Pyramid) (missing : ℕ → Bool) (r c i j : ℕ) → 2 ≤ r → 2 ≤ c → i < 8 * r → j < 8 * c → SameReceived (λ t s. missing t) r c p q → ((t : ℕ) → t < r → missing t ≡ true → Reaches t i → ⊥) → rebuilt p r c i j ≡ rebuilt q r c i j
-rows-reach p q missing r c i j hr hc hi hj same away =
-    blocks-reach p q (λ t s. missing t) r c i j hr hc hi hj same (λ t s ht hs m row column. away t ht m row)
+rows-reach p q missing r c i j hr hc hi hj same away = grind (arith, nat_tests, blocks-reach)
 
 pub columns-reach : (p q : Pyramid) (missing : ℕ → Bool) (r c i j : ℕ) → 2 ≤ r → 2 ≤ c → i < 8 * r → j < 8 * c → SameReceived (λ t s. missing s) r c p q → ((s : ℕ) → s < c → missing s ≡ true → Reaches s j → ⊥) → rebuilt p r c i j ≡ rebuilt q r c i j
-columns-reach p q missing r c i j hr hc hi hj same away =
-    blocks-reach p q (λ t s. missing s) r c i j hr hc hi hj same (λ t s ht hs m row column. away s hs m column)
+columns-reach p q missing r c i j hr hc hi hj same away = grind (arith, nat_tests, blocks-reach)
 
 -- ---- one block row, one block column, one block
 
@@ -40,29 +37,18 @@ to_last : (b i : ℕ) → Reaches b i → i ≤ 8 * b + 29
 to_last b i reaches = grind (arith, nat_tests)
 
 away : (b i : ℕ) → (i + 21 < 8 * b) ⊎ (8 * b + 29 < i) → Reaches b i → ⊥
-away b i outside reaches =
-    ⊎_elim (λ (h : i + 21 < 8 * b). omega (arith, from_first b i reaches)) (λ (h : 8 * b + 29 < i). omega (arith, to_last b i reaches)) outside
+away b i outside reaches = grind (arith, nat_tests, from_first, to_last)
 
 pub row-reach : (p q : Pyramid) (r c t i j : ℕ) → 2 ≤ r → 2 ≤ c → i < 8 * r → j < 8 * c → ((u s : ℕ) → u < r → s < c → (u ≡ t → ⊥) → SameBlock p q u s) → (i + 21 < 8 * t) ⊎ (8 * t + 29 < i) → rebuilt p r c i j ≡ rebuilt q r c i j
-row-reach p q r c t i j hr hc hi hj same outside =
-    sample-reach p q r c i j hr hc hi hj (λ u s hu hs row column.
-    same u s hu hs (λ e. away u i (rw e outside) row))
+row-reach p q r c t i j hr hc hi hj same outside = grind (arith, nat_tests, sample-reach, away)
 
 pub column-reach : (p q : Pyramid) (r c s i j : ℕ) → 2 ≤ r → 2 ≤ c → i < 8 * r → j < 8 * c → ((t u : ℕ) → t < r → u < c → (u ≡ s → ⊥) → SameBlock p q t u) → (j + 21 < 8 * s) ⊎ (8 * s + 29 < j) → rebuilt p r c i j ≡ rebuilt q r c i j
-column-reach p q r c s i j hr hc hi hj same outside =
-    sample-reach p q r c i j hr hc hi hj (λ t u ht hu row column.
-    same t u ht hu (λ e. away u j (rw e outside) column))
+column-reach p q r c s i j hr hc hi hj same outside = grind (arith, nat_tests, sample-reach, away)
 
 pub block-reach : (p q : Pyramid) (r c t s i j : ℕ) → 2 ≤ r → 2 ≤ c → i < 8 * r → j < 8 * c → ((u v : ℕ) → u < r → v < c → ((u ≡ t) × (v ≡ s) → ⊥) → SameBlock p q u v) → ((i + 21 < 8 * t) ⊎ (8 * t + 29 < i)) ⊎ ((j + 21 < 8 * s) ⊎ (8 * s + 29 < j)) → rebuilt p r c i j ≡ rebuilt q r c i j
-block-reach p q r c t s i j hr hc hi hj same outside =
-    sample-reach p q r c i j hr hc hi hj (λ u v hu hv row column.
-    same u v hu hv (λ e.
-    let below = λ (h : (i + 21 < 8 * t) ⊎ (8 * t + 29 < i)). away u i (rw e.0 h) row in
-    let beside = λ (h : (j + 21 < 8 * s) ⊎ (8 * s + 29 < j)). away v j (rw e.1 h) column in
-    ⊎_elim below beside outside))
+block-reach p q r c t s i j hr hc hi hj same outside = grind (arith, nat_tests, sample-reach, away)
 
 -- ---- the first rows, whatever the height is
 
 pub rising-reach : (p q : Pyramid) (r r' c n i j : ℕ) → n ≤ r → n ≤ r' → 2 ≤ c → i + 21 < 8 * n → j < 8 * c → ((t s : ℕ) → t < n → s < c → SameBlock p q t s) → rebuilt p r c i j ≡ rebuilt q r' c i j
-rising-reach p q r r' c n i j hr hr' hc hi hj same =
-    rebuilt-reach p q r r' c i j (omega arith) hc (record { or_far = inr (omega arith, omega arith) }) (λ t s ht hs row column. same t s (omega (arith, from_first t i row)) hs) (omega arith) hj
+rising-reach p q r r' c n i j hr hr' hc hi hj same = grind (arith, nat_tests, rebuilt-reach, from_first)

@@ -1,10 +1,9 @@
 -- How the open rows, and rows that are beside each other, are related to a level.
 use mathlib.Core.Path.{fun_ext}
 use Rattle.std.proofs.Common.{◌≡◌, ℕ, ◌+◌, ◌-◌, ◌*◌, ◌<◌, ◌≤◌, min, ℤ, refl, sym, ap, ◌∙◌, ⊎_elim, subst, arith}
-use Rattle.std.specs.Prelude.{nat_lt, if◌then◌else◌}
 use Rattle.std.proofs.lemmas.Bool.Decides.{nat_tests}
 use Rattle.std.proofs.lemmas.Bool.{cases_lt}
-use Rattle.wave_defs.specs.Line.{even_before, even_within, high_of, low_of, prediction}
+use Rattle.wave_defs.specs.Line.{high_of, low_of, prediction}
 use Rattle.wave_defs.specs.Level.{level, rows_low, rows_high, columns_low, columns_high}
 use Rattle.wave_defs.specs.Within.{IsWithin, AllWithin}
 use Rattle.wave_defs.specs.Held.{Agrees}
@@ -19,13 +18,7 @@ mirrored-inside a n i h = ap a (let e : min i (4 * n - 2 - i) ≡ i = omega arit
 -- the high and the low rows of a whole image are the open ones of its mirrored image
 pub open_high-mirrored : (a : ℕ → ℕ → ℤ) (n j c : ℕ) → 2 ≤ n → j < n → open_high (mirrored a n) j c ≡ columns_high a n j c
 unfolding open_high columns_high high_of prediction
-open_high-mirrored a n j c two h =
-    let o : min (2 * j + 1) (4 * n - 2 - (2 * j + 1)) ≡ 2 * j + 1 = omega arith in
-    let p : min (2 * even_before j) (4 * n - 2 - 2 * even_before j) ≡ 2 * even_before j = omega arith in
-    let q : min (2 * j) (4 * n - 2 - 2 * j) ≡ 2 * j = omega arith in
-    let r : min (2 * (j + 1)) (4 * n - 2 - 2 * (j + 1)) ≡ 2 * even_within n (j + 1) = omega arith in
-    let s : min (2 * (j + 2)) (4 * n - 2 - 2 * (j + 2)) ≡ 2 * even_within n (j + 2) = omega arith in
-    cc
+open_high-mirrored a n j c two h = grind (arith, nat_tests)
 
 -- a column of the high rows
 high_column : (a : ℕ → ℕ → ℤ) (n k c : ℕ) → columns_high a n k c ≡ high_of (λ r. a r c) n k
@@ -34,13 +27,7 @@ high_column a n k c = refl
 
 pub open_low-mirrored : (a : ℕ → ℕ → ℤ) (n j c : ℕ) → 2 ≤ n → j < n → open_low (mirrored a n) j c ≡ columns_low a n j c
 unfolding open_low columns_low low_of
-open_low-mirrored a n j c two h =
-    let q : min (2 * j) (4 * n - 2 - 2 * j) ≡ 2 * j = omega arith in
-    let b = open_high-mirrored a n (j - 1) c two (omega arith) in
-    let d = open_high-mirrored a n j c two h in
-    let e = high_column a n (j - 1) c in
-    let f = high_column a n j c in
-    cc
+open_low-mirrored a n j c two h = grind (arith, nat_tests, open_high-mirrored, high_column)
 
 -- ---- the four bands of a level, as the halves of the low and the high rows
 
@@ -50,9 +37,7 @@ parted-low x m c h = grind (arith, nat_tests)
 
 pub parted-high : (x : ℕ → ℤ) (m c d : ℕ) → d ≡ m + c → parted x m d ≡ high_of x m c
 unfolding parted
-parted-high x m c d h =
-    let e : d - m ≡ c = omega arith in
-    ap (λ (k : ℕ). if nat_lt d m then low_of x m d else high_of x m k) e ∙ grind (arith, nat_tests)
+parted-high x m c d h = grind (arith, nat_tests)
 
 beside-low : (a : ℕ → ℕ → ℤ) (m i c : ℕ) → c < m → beside a m i c ≡ rows_low a m i c
 unfolding rows_low

@@ -1,6 +1,7 @@
 -- The first rows of an image determine the first rows of its bands.
 use Rattle.std.proofs.Common.{◌≡◌, ℕ, ◌+◌, ◌-◌, ◌*◌, ◌<◌, ◌≤◌, ℤ, arith}
-use Rattle.wave_defs.specs.Line.{high_of, low_of, prediction, even_before, even_within}
+use Rattle.std.proofs.lemmas.Bool.Decides.{nat_tests}
+use Rattle.wave_defs.specs.Line.{high_of, low_of, prediction}
 use Rattle.wave_defs.specs.Level.{level, columns_low, columns_high}
 use Rattle.wave_defs.specs.Pyramid.{pyramid, pyramid_of}
 use Rattle.wave_defs.specs.Held.{SameWithin, SameQuarters}
@@ -11,25 +12,11 @@ use Rattle.wave_defs.proofs.PyramidLaws.{SameWithin-part}
 -- a column, of n and of k pairs, whose first samples are the same
 high_of-settled : (x y : ℕ → ℤ) (n k i : ℕ) → i + 2 < n → i + 2 < k → ((r : ℕ) → r < 2 * i + 5 → x r ≡ y r) → high_of x n i ≡ high_of y k i
 unfolding high_of prediction
-high_of-settled x y n k i hn hk s =
-    let o = s (2 * i + 1) (omega arith) in
-    let p = s (2 * even_before i) (omega arith) in
-    let q = s (2 * i) (omega arith) in
-    let r = s (2 * (i + 1)) (omega arith) in
-    let t = s (2 * (i + 2)) (omega arith) in
-    let n1 : even_within n (i + 1) ≡ i + 1 = omega arith in
-    let n2 : even_within n (i + 2) ≡ i + 2 = omega arith in
-    let k1 : even_within k (i + 1) ≡ i + 1 = omega arith in
-    let k2 : even_within k (i + 2) ≡ i + 2 = omega arith in
-    cc
+high_of-settled x y n k i hn hk s = grind (arith, nat_tests)
 
 low_of-settled : (x y : ℕ → ℤ) (n k i : ℕ) → i + 2 < n → i + 2 < k → ((r : ℕ) → r < 2 * i + 5 → x r ≡ y r) → low_of x n i ≡ low_of y k i
 unfolding low_of
-low_of-settled x y n k i hn hk s =
-    let e = s (2 * i) (omega arith) in
-    let before = high_of-settled x y n k (i - 1) (omega arith) (omega arith) (λ r h. s r (omega arith)) in
-    let after = high_of-settled x y n k i hn hk s in
-    cc
+low_of-settled x y n k i hn hk s = grind (arith, nat_tests, high_of-settled)
 
 columns_high-settled : (x y : ℕ → ℕ → ℤ) (n k j w : ℕ) → j + 2 < n → j + 2 < k → SameWithin (2 * j + 5) w x y → SameWithin (j + 1) w (columns_high x n) (columns_high y k)
 unfolding columns_high
