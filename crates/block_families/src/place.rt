@@ -18,6 +18,7 @@ pub struct Place {
 }
 
 // Returns the band of family 0, 1 or 2, which are HL, LH and HH, at a level.
+#[inline(always)]
 pub fn band_of(level: u8, family: u8) -> Band
     requires first { 1 ≤ level }
     requires last { level ≤ 3 }
@@ -69,6 +70,7 @@ fn grandchild_of(family: u8, child: u8, grandchild: u8, column: u32) -> Place
 }
 
 // Returns the band of the number at position 0, 1, 2 or 3.
+#[inline(always)]
 pub fn top_band(position: u8) -> Band
     requires { position < 4 }
     ensures { band_place result ≡ (numbered_place position).band }
@@ -81,6 +83,7 @@ pub fn top_band(position: u8) -> Band
 
 // Returns the first place of the square whose four numbers are from position 4 * square + 4 on: the children
 // of each family, and then the grandchildren below each child.
+#[inline(always)]
 pub fn square_of(square: u8, column: u32) -> Place
     requires square { square < 15 }
     requires column { column < 2 ^ 17 }

@@ -11,6 +11,7 @@ use crate::place::{Place, square_of, top_band};
 use base_122::Weights;
 
 // Returns a weighted number without its weight.
+#[inline(always)]
 fn unweighted(number: i32, shift: u8) -> i64
     requires { shift ≤ 3 }
     ensures { result ≡ floor_div number (2 ^ shift) }
@@ -19,6 +20,7 @@ fn unweighted(number: i32, shift: u8) -> i64
 }
 
 // Returns four weighted numbers without their weight.
+#[inline(always)]
 fn unweighted_square(from: &[i32], at: usize, shift: u8) -> [i64; 4]
     requires shift { shift ≤ 3 }
     requires room { at + 4 ≤ length from.now }

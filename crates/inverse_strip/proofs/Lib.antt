@@ -7,3 +7,4 @@ pub mod StripLemmas
 pub mod SampleLemmas
 pub mod NextLemmas
 pub mod SquareLemmas
+mod ZeroRows

@@ -19,6 +19,7 @@ pub struct BlockRow {
 }
 
 /// Returns the number of rows, and of columns, that a band has in one block.
+#[inline(always)]
 pub fn side_of(band: usize) -> usize
     ensures { result ≡ block_side band }
 {
@@ -32,6 +33,7 @@ pub fn side_of(band: usize) -> usize
 }
 
 /// Returns the number of numbers of a block that precede those of a band.
+#[inline(always)]
 fn numbers_before(band: usize) -> usize
     requires { band < 10 }
     ensures { result ≡ first_cell band }
@@ -74,6 +76,7 @@ impl BlockRow {
     }
 
     /// Returns where a row of a band begins.
+    #[inline(always)]
     fn start_of(&self, band: usize, row: usize) -> usize
         requires band { band < 10 }
         requires row { row < block_side band }
@@ -99,6 +102,7 @@ impl BlockRow {
     }
 
     // Makes a value the number at a place of a row of a band, which begins at `start`.
+    #[inline(always)]
     fn set_in_row(&mut self, band: usize, row: usize, start: usize, column: usize, value: i64)
         requires band { band < 10 }
         requires row { row < block_side band }
@@ -117,6 +121,7 @@ impl BlockRow {
     }
 
     /// Makes a value the number at a place.
+    #[inline(always)]
     pub fn set(&mut self, band: usize, row: usize, column: usize, value: i64)
         requires band { band < 10 }
         requires row { row < block_side band }
@@ -134,6 +139,7 @@ impl BlockRow {
     }
 
     /// Makes four values the numbers of a square of two rows and two columns, the upper two first.
+    #[inline(always)]
     pub fn set_square(&mut self, band: usize, row: usize, column: usize, values: [i64; 4])
         requires band { band < 10 }
         requires rows { row + 2 ≤ block_side band }

@@ -13,13 +13,13 @@ use std::alloc::{AllocError, Global};
 
 /// Computes even row j from low row j, high row j and the high row before it, which is the newest of the ring
 /// (docs/formats.md, "A line"). The first high row is used in place of the one before it.
-fn even_row(highs: &RowRing<i64>, j: usize, low: &[i64], high: &[i64], into: &mut [i64])
+fn even_row(highs: &RowRing<i32>, j: usize, low: &[i64], high: &[i32], into: &mut [i64])
     requires highs { AreRows 3 (length into.old) highs.now }
     requires wide_low { length low.now ≡ length into.old }
     requires wide_high { length high.now ≡ length into.old }
-    requires small_highs { RowsWithin (2 ^ 36) (length into.old) highs.now }
+    requires small_highs { RowsWithin (2 ^ 27) (length into.old) highs.now }
     requires small_low { AllWithin (2 ^ 36) (length into.old) (signal low.now) }
-    requires small_high { AllWithin (2 ^ 36) (length into.old) (signal high.now) }
+    requires small_high { AllWithin (2 ^ 27) (length into.old) (signal high.now) }
     ensures value { (c d : ℕ → ℕ → ℤ) → AreNewest d (length into.old) j highs.now
         → Agrees (length into.old) (signal low.now) (c j)
         → Agrees (length into.old) (signal high.now) (d j)
@@ -38,9 +38,10 @@ fn even_row(highs: &RowRing<i64>, j: usize, low: &[i64], high: &[i64], into: &mu
 
 /// Computes odd row k, if n pairs were taken and the even and the high rows that it needs are kept
 /// (docs/formats.md, "A line"). The line ends after the n pairs.
-fn odd_row(evens: &RowRing<i64>, highs: &RowRing<i64>, n: usize, k: usize, into: &mut [i64])
+fn odd_row(evens: &RowRing<i64>, highs: &RowRing<i32>, n: usize, k: usize, into: &mut [i64])
     requires rings { AreRings (length into.old) evens.now highs.now }
     requires small { AreSmall (2 ^ 36) (length into.old) evens.now highs.now }
+    requires narrow { RowsWithin (2 ^ 27) (length into.old) highs.now }
     requires inside { k < n }
     requires kept { n ≤ k + 3 }
     requires long { 3 ≤ n }
@@ -60,16 +61,17 @@ fn odd_row(evens: &RowRing<i64>, highs: &RowRing<i64>, n: usize, k: usize, into:
     );
 }
 
-/// The rows that are kept of the pairs of a low and a high row that were taken.
+/// The rows that are kept of the pairs of a low and a high row that were taken. The high rows have 32 bits, as those of the bands.
 #[derive(Drop)]
 pub struct Columns {
     pub width: usize,
     pub taken: usize,
     pub evens: RowRing<i64>,
-    pub highs: RowRing<i64>,
+    pub highs: RowRing<i32>,
     pub room: Vec<i64>,
     ghost stand: { AreRings width evens highs },
     ghost small: { AreSmall (2 ^ 36) width evens highs },
+    ghost narrow: { RowsWithin (2 ^ 27) width highs },
     ghost room_stands: { vec_len room ≡ width },
 }
 
@@ -100,12 +102,12 @@ impl Columns {
     }
 
     /// Takes the next pair.
-    pub fn push(&mut self, low: &[i64], high: &[i64])
+    pub fn push(&mut self, low: &[i64], high: &[i32])
         requires wide_low { length low.now ≡ self.old.width }
         requires wide_high { length high.now ≡ self.old.width }
         requires few { self.old.taken < 2 ^ 32 - 1 }
         requires small_low { AllWithin (2 ^ 36) self.old.width (signal low.now) }
-        requires small_high { AllWithin (2 ^ 36) self.old.width (signal high.now) }
+        requires small_high { AllWithin (2 ^ 27) self.old.width (signal high.now) }
         ensures width { self.new.width ≡ self.old.width }
         ensures taken { self.new.taken ≡ self.old.taken + 1 }
         ensures follows { (c d : ℕ → ℕ → ℤ) → Follow c d self.old

@@ -55,8 +55,8 @@ impl InverseLevel {
         })
     }
 
-    /// Takes the next row of each band. No row is left to give.
-    pub fn push(&mut self, ll: &[i64], hl: &[i64], lh: &[i64], hh: &[i64])
+    /// Takes the next row of each band. No row is left to give. The rows of the high bands have 32 bits.
+    pub fn push(&mut self, ll: &[i64], hl: &[i32], lh: &[i32], hh: &[i32])
         requires wide_ll { length ll.now ≡ self.old.left.width }
         requires wide_hl { length hl.now ≡ self.old.left.width }
         requires wide_lh { length lh.now ≡ self.old.left.width }
@@ -64,9 +64,9 @@ impl InverseLevel {
         requires few { self.old.left.taken < 2 ^ 32 - 1 }
         requires drained { IsDrained self.old.left.taken self.old.given }
         requires small_ll { AllWithin (2 ^ 36) self.old.left.width (signal ll.now) }
-        requires small_hl { AllWithin (2 ^ 36) self.old.left.width (signal hl.now) }
-        requires small_lh { AllWithin (2 ^ 36) self.old.left.width (signal lh.now) }
-        requires small_hh { AllWithin (2 ^ 36) self.old.left.width (signal hh.now) }
+        requires small_hl { AllWithin (2 ^ 27) self.old.left.width (signal hl.now) }
+        requires small_lh { AllWithin (2 ^ 27) self.old.left.width (signal lh.now) }
+        requires small_hh { AllWithin (2 ^ 27) self.old.left.width (signal hh.now) }
         ensures width { self.new.left.width ≡ self.old.left.width }
         ensures taken { self.new.left.taken ≡ self.old.left.taken + 1 }
         ensures given { self.new.given ≡ self.old.given }
@@ -84,10 +84,11 @@ impl InverseLevel {
             → IsSmallLevel m self.new }
     {
         self.left.push(ll, lh);
-        self.right.push(hl, hh);
+        widen(hl, &mut self.left_row);
+        self.right.push(&self.left_row, hh);
     }
 
-    /// Takes the next row of each band, like `push`, if the numbers have 32 bits.
+    /// Takes the next row of each band, like `push`, if all rows have 32 bits.
     pub fn push_narrow(&mut self, ll: &[i32], hl: &[i32], lh: &[i32], hh: &[i32])
         requires wide_ll { length ll.now ≡ self.old.left.width }
         requires wide_hl { length hl.now ≡ self.old.left.width }
@@ -96,9 +97,9 @@ impl InverseLevel {
         requires few { self.old.left.taken < 2 ^ 32 - 1 }
         requires drained { IsDrained self.old.left.taken self.old.given }
         requires small_ll { AllWithin (2 ^ 36) self.old.left.width (signal ll.now) }
-        requires small_hl { AllWithin (2 ^ 36) self.old.left.width (signal hl.now) }
-        requires small_lh { AllWithin (2 ^ 36) self.old.left.width (signal lh.now) }
-        requires small_hh { AllWithin (2 ^ 36) self.old.left.width (signal hh.now) }
+        requires small_hl { AllWithin (2 ^ 27) self.old.left.width (signal hl.now) }
+        requires small_lh { AllWithin (2 ^ 27) self.old.left.width (signal lh.now) }
+        requires small_hh { AllWithin (2 ^ 27) self.old.left.width (signal hh.now) }
         ensures width { self.new.left.width ≡ self.old.left.width }
         ensures taken { self.new.left.taken ≡ self.old.left.taken + 1 }
         ensures given { self.new.given ≡ self.old.given }
@@ -116,11 +117,9 @@ impl InverseLevel {
             → IsSmallLevel m self.new }
     {
         widen(ll, &mut self.left_row);
-        widen(lh, &mut self.right_row);
-        self.left.push(&self.left_row, &self.right_row);
+        self.left.push(&self.left_row, lh);
         widen(hl, &mut self.left_row);
-        widen(hh, &mut self.right_row);
-        self.right.push(&self.left_row, &self.right_row);
+        self.right.push(&self.left_row, hh);
     }
 
     /// Returns whether the next row can be given, if the bands have `height` rows in all.

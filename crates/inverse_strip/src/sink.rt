@@ -19,10 +19,12 @@ impl BandSink for StripInverse {
 
     ghost keeps_on = { Keeps-on };
 
+    #[inline(always)]
     fn set(&mut self, place: Place, value: i64) {
         self.put(place, value);
     }
 
+    #[inline(always)]
     fn set_square(&mut self, place: Place, values: [i64; 4]) {
         self.put_square(place, values);
     }

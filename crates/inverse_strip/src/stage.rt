@@ -5,20 +5,20 @@ ghost use Rattle.wave_defs.specs.Rings.{AreRows, RowsWithin};
 
 use crate::block_row::BlockRow;
 use crate::level::InverseLevel;
-use crate::wide::turn_wide;
 use line_rings::RowRing;
 use std::alloc::{AllocError, Global};
 
-/// A level, the newest rows of its three high bands, the number of rows that arrived, and room for a row.
+/// A level, the newest rows of its three high bands, the number of rows that arrived, and room for a row. The numbers of rows that
+/// wait have 32 bits.
 #[derive(Drop)]
 pub struct LevelStage {
     pub level: InverseLevel,
     pub low: Vec<i64>,
     pub kept: usize,
     pub came: usize,
-    pub hl: RowRing<i64>,
-    pub lh: RowRing<i64>,
-    pub hh: RowRing<i64>,
+    pub hl: RowRing<i32>,
+    pub lh: RowRing<i32>,
+    pub hh: RowRing<i32>,
     ghost low_room: { vec_len low ≡ level.left.width },
     ghost some: { 1 ≤ kept },
     ghost hl_stands: { AreRows kept level.left.width hl },
@@ -88,9 +88,9 @@ impl LevelStage {
             → Agrees self.old.level.left.width (signal hh.now) (q.hh self.old.came)
             → FollowStage q self.new }
     {
-        turn_wide(&mut self.hl, hl, &mut self.low);
-        turn_wide(&mut self.lh, lh, &mut self.low);
-        turn_wide(&mut self.hh, hh, &mut self.low);
+        self.hl.turn_copy(hl);
+        self.lh.turn_copy(lh);
+        self.hh.turn_copy(hh);
         self.came += 1;
     }
 

@@ -41,6 +41,7 @@ pub struct StripInverse {
 }
 
 // Returns the number of a band.
+#[inline(always)]
 fn number_of(band: Band) -> usize
     ensures { result ≡ band_place band }
 {
@@ -203,6 +204,7 @@ impl StripInverse {
     }
 
     /// Makes a value the number at a place of the block row that is set next, and changes nothing else.
+    #[inline(always)]
     pub fn put(&mut self, place: Place, value: i64)
         requires within { IsPlaceIn (columns_of self.old) (named place) }
         requires small { unsigned_abs value ≤ 2 ^ 27 }
@@ -221,6 +223,7 @@ impl StripInverse {
 
     /// Makes four values the numbers of a square of two rows and two columns from this place on, the upper two first, in the
     /// block row that is set next, and changes nothing else.
+    #[inline(always)]
     pub fn put_square(&mut self, place: Place, values: [i64; 4])
         requires rows { place.row + 2 ≤ block_side (band_place place.band) }
         requires inside { place.column + 2 ≤ block_side (band_place place.band) * columns_of self.old }

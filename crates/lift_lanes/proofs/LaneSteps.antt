@@ -56,24 +56,35 @@ module _ (w : Width) (n k : ℕ) (inside : k < n) where
   pub Lane-long : (lanes : List ℕ) (z : ℤ) → Lane w n lanes k z → length (map (to_z w) lanes) ≡ n
   Lane-long lanes z a = length-map lanes (to_z w) ∙ a.many
 
+-- a lane of 32 bits, continued in 64
+pub Lane-widened : (n k : ℕ) (lanes : List ℕ) (z : ℤ) → k < n → Lane w32 n lanes k z → Lane w64 n (map (λ a. of_z w64 (to_z w32 a)) lanes) k z
+Lane-widened n k lanes z h a =
+    let l = a.many in
+    let fits = a.fits.sfits in
+    record {
+      many = length-map lanes (λ a. of_z w64 (to_z w32 a)) ∙ a.many;
+      at = get_or-map (λ a. of_z w64 (to_z w32 a)) lanes k 0 0 (omega arith) ∙ ap (λ (v : ℕ). of_z w64 (to_z w32 v)) a.at ∙ ap (of_z w64) (to_z-of_z w32 z a.fits);
+      fits = record { sfits = omega (arith, fits) };
+    }
+
 -- bits below 2 ^ 32 that represent z
 same_bits : (w : Width) (a : ℕ) (z : ℤ) → a < 2 ^ bits w → to_z w a ≡ z → a ≡ of_z w z
 same_bits w a z h e = sym (of_z-to_z w a h) ∙ ap (of_z w) e
 
--- ---- the operators at 32 bits, in eight lanes
+-- ---- the operators at 32 bits
 
-module _ (k : ℕ) (h : k < 8) where
-  pub add_32 : (xs ys : List ℕ) (x y : ℤ) → Lane w32 8 xs k x → Lane w32 8 ys k y → SFits w32 (x +ℤ y) → Lane w32 8 (zip2 (λ a b. (a + b) % 2 ^ 32) xs ys) k (x +ℤ y)
+module _ (n k : ℕ) (h : k < n) where
+  pub add_32 : (xs ys : List ℕ) (x y : ℤ) → Lane w32 n xs k x → Lane w32 n ys k y → SFits w32 (x +ℤ y) → Lane w32 n (zip2 (λ a b. (a + b) % 2 ^ 32) xs ys) k (x +ℤ y)
   add_32 xs ys x y a b f =
-      Lane-zip2 w32 8 k h (λ a b. (a + b) % 2 ^ 32) xs ys x y (x +ℤ y) a b f (same_bits w32 _ _ (omega arith) (wrapping_add_is w32 x y a.fits b.fits ∙ int_wrap_fits w32 (x +ℤ y) f))
+      Lane-zip2 w32 n k h (λ a b. (a + b) % 2 ^ 32) xs ys x y (x +ℤ y) a b f (same_bits w32 _ _ (omega arith) (wrapping_add_is w32 x y a.fits b.fits ∙ int_wrap_fits w32 (x +ℤ y) f))
 
-  pub sub_32 : (xs ys : List ℕ) (x y : ℤ) → Lane w32 8 xs k x → Lane w32 8 ys k y → SFits w32 (x -ℤ y) → Lane w32 8 (zip2 (λ a b. (a + (2 ^ 32 - b)) % 2 ^ 32) xs ys) k (x -ℤ y)
+  pub sub_32 : (xs ys : List ℕ) (x y : ℤ) → Lane w32 n xs k x → Lane w32 n ys k y → SFits w32 (x -ℤ y) → Lane w32 n (zip2 (λ a b. (a + (2 ^ 32 - b)) % 2 ^ 32) xs ys) k (x -ℤ y)
   sub_32 xs ys x y a b f =
-      Lane-zip2 w32 8 k h (λ a b. (a + (2 ^ 32 - b)) % 2 ^ 32) xs ys x y (x -ℤ y) a b f (same_bits w32 _ _ (omega arith) (wrapping_sub_is w32 x y a.fits b.fits ∙ int_wrap_fits w32 (x -ℤ y) f))
+      Lane-zip2 w32 n k h (λ a b. (a + (2 ^ 32 - b)) % 2 ^ 32) xs ys x y (x -ℤ y) a b f (same_bits w32 _ _ (omega arith) (wrapping_sub_is w32 x y a.fits b.fits ∙ int_wrap_fits w32 (x -ℤ y) f))
 
-  pub mul_32 : (xs ys : List ℕ) (x y : ℤ) → Lane w32 8 xs k x → Lane w32 8 ys k y → SFits w32 (x *ℤ y) → Lane w32 8 (zip2 (λ a b. (a * b) % 2 ^ 32) xs ys) k (x *ℤ y)
+  pub mul_32 : (xs ys : List ℕ) (x y : ℤ) → Lane w32 n xs k x → Lane w32 n ys k y → SFits w32 (x *ℤ y) → Lane w32 n (zip2 (λ a b. (a * b) % 2 ^ 32) xs ys) k (x *ℤ y)
   mul_32 xs ys x y a b f =
-      Lane-zip2 w32 8 k h (λ a b. (a * b) % 2 ^ 32) xs ys x y (x *ℤ y) a b f (same_bits w32 _ _ (omega arith) (wrapping_mul_is w32 x y a.fits b.fits ∙ int_wrap_fits w32 (x *ℤ y) f))
+      Lane-zip2 w32 n k h (λ a b. (a * b) % 2 ^ 32) xs ys x y (x *ℤ y) a b f (same_bits w32 _ _ (omega arith) (wrapping_mul_is w32 x y a.fits b.fits ∙ int_wrap_fits w32 (x *ℤ y) f))
 
 -- ---- the operators at 64 bits, in four lanes
 

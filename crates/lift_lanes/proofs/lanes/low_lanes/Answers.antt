@@ -16,10 +16,10 @@ returns c =
     let e = Lane-of w32 8 k h c.args.even c.requires.many.0 (omega (arith, ints)) in
     let b = Lane-of w32 8 k h c.args.before c.requires.many.1 (omega (arith, ints)) in
     let a = Lane-of w32 8 k h c.args.after c.requires.many.2 (omega (arith, ints)) in
-    let both = add_32 k h _ _ _ _ b a (omega (arith, ints)) in
-    let less = sub_32 k h _ _ _ _ (Lane-splat w32 8 k h (pos 2) (omega (arith, ints))) both (omega (arith, ints)) in
+    let both = add_32 8 k h _ _ _ _ b a (omega (arith, ints)) in
+    let less = sub_32 8 k h _ _ _ _ (Lane-splat w32 8 k h (pos 2) (omega (arith, ints))) both (omega (arith, ints)) in
     let small = correction-within (2 ^ 26) _ _ (omega arith) rb ra in
-    sub_32 k h _ _ _ _ e (Lane-shr w32 8 k h 2 4 _ _ _ refl refl less (Lane-splat w32 8 k h (pos 2) (omega (arith, ints)))) (omega (arith, ints)) in
+    sub_32 8 k h _ _ _ _ e (Lane-shr w32 8 k h 2 4 _ _ _ refl refl less (Lane-splat w32 8 k h (pos 2) (omega (arith, ints)))) (omega (arith, ints)) in
     record {
       long = Lane-long w32 8 0 (omega arith) _ _ (lane 0 (omega arith));
       value = record { at = λ k h. Lane-value w32 8 k h _ _ (lane k h) };

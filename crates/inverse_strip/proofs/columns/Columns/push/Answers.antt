@@ -3,6 +3,8 @@ use Rattle.wave_defs.specs.Lifted.{columns_even}
 use Rattle.wave_defs.specs.Within.{AllWithin}
 use Rattle.wave_defs.specs.Held.{Agrees, signal}
 use Rattle.wave_defs.specs.Rings.{RowsWithin, AreNewest}
+use Rattle.wave_defs.proofs.LevelWithin.{IsWithin-more}
+use Rattle.wave_defs.proofs.RingLaws.{RowsWithin-turn}
 use Rattle.inverse_strip.specs.Kept.{half_more}
 use Rattle.inverse_strip.proofs.RingLemmas.{written_whole, AreRings-turn, HoldPairs-turn, AreSmall-turn}
 use Rattle.inverse_strip.proofs.columns.Columns.push.Goals as goal
@@ -15,16 +17,19 @@ invariant_of-self c =
     let wide : length out ≡ s.width = omega arith in
     let whole = written_whole s.room.len out s.room.items (omega arith) (omega arith) in
     let here = λ (P : ℕ → Type 0) (h : P s.width). subst P (sym long) h in
+    let high : AllWithin (2 ^ 36) s.width (signal c.args.high.now) = record { at = λ k l. IsWithin-more (2 ^ 27) (2 ^ 36) _ (omega arith) (c.requires.small_high.at k l) } in
+    let three = s.stand.highs.count_is in
     let even =
     c.even_row.ensures.small (2 ^ 36) (omega arith)
     (here (λ (w : ℕ). RowsWithin (2 ^ 36) w s.highs) s.small.highs)
     (here (λ (w : ℕ). AllWithin (2 ^ 36) w (signal c.args.low.now)) c.requires.small_low)
-    (here (λ (w : ℕ). AllWithin (2 ^ 36) w (signal c.args.high.now)) c.requires.small_high) in
+    (here (λ (w : ℕ). AllWithin (2 ^ 36) w (signal c.args.high.now)) high) in
     let four = s.stand.evens.count_is in
     let oldest : length c.turn_swap.new.row.items ≡ s.width = rw c.turn_swap.ensures.oldest (s.stand.evens.wide 0 (omega arith)) in
     record {
       stand = rw (c.turn_swap.ensures.rows, c.turn_copy.ensures, whole) (AreRings-turn s.width s.evens s.highs out c.args.high.now s.stand wide c.requires.wide_high);
-      small = rw (c.turn_swap.ensures.rows, c.turn_copy.ensures, whole) (AreSmall-turn s.width s.evens s.highs out c.args.high.now s.stand wide c.requires.wide_high (2 ^ 36) s.small (subst (λ (w : ℕ). AllWithin (half_more (2 ^ 36)) w (signal out)) long even) c.requires.small_high);
+      small = rw (c.turn_swap.ensures.rows, c.turn_copy.ensures, whole) (AreSmall-turn s.width s.evens s.highs out c.args.high.now s.stand wide c.requires.wide_high (2 ^ 36) s.small (subst (λ (w : ℕ). AllWithin (half_more (2 ^ 36)) w (signal out)) long even) high);
+      narrow = rw c.turn_copy.ensures (RowsWithin-turn (2 ^ 27) s.width s.highs c.args.high.now (omega arith) s.narrow c.requires.small_high);
       room_stands = omega (arith, oldest);
     }
 

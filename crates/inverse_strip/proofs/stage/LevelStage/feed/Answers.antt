@@ -9,17 +9,17 @@ use Rattle.inverse_strip.proofs.stage.LevelStage.feed.Goals as goal
 pub push-requires-clause-small_hl : goal.push-requires-clause-small_hl
 push-requires-clause-small_hl c =
     let s = c.args.self.now in
-    waiting-small (2 ^ 27) (2 ^ 36) s.level.left.width s.kept _ s.hl _ s.hl_stands c.at.ensures (omega arith) (omega arith) s.hl_small
+    waiting-small (2 ^ 27) (2 ^ 27) s.level.left.width s.kept _ s.hl _ s.hl_stands c.at.ensures (omega arith) (omega arith) s.hl_small
 
 pub push-requires-clause-small_lh : goal.push-requires-clause-small_lh
 push-requires-clause-small_lh c =
     let s = c.args.self.now in
-    waiting-small (2 ^ 27) (2 ^ 36) s.level.left.width s.kept _ s.lh _ s.lh_stands c.at-2.ensures (omega arith) (omega arith) s.lh_small
+    waiting-small (2 ^ 27) (2 ^ 27) s.level.left.width s.kept _ s.lh _ s.lh_stands c.at-2.ensures (omega arith) (omega arith) s.lh_small
 
 pub push-requires-clause-small_hh : goal.push-requires-clause-small_hh
 push-requires-clause-small_hh c =
     let s = c.args.self.now in
-    waiting-small (2 ^ 27) (2 ^ 36) s.level.left.width s.kept _ s.hh _ s.hh_stands c.at-3.ensures (omega arith) (omega arith) s.hh_small
+    waiting-small (2 ^ 27) (2 ^ 27) s.level.left.width s.kept _ s.hh _ s.hh_stands c.at-3.ensures (omega arith) (omega arith) s.hh_small
 
 pub returns-clause-follows : goal.returns-clause-follows
 returns-clause-follows c = λ b q n below more end same follow.
