@@ -1,6 +1,7 @@
 -- The numbers of bits of the parts of a head.
 use Rattle.std.proofs.Common.{◌≡◌, ◌+◌, ◌*◌, ◌≤◌, List, [], ◌∷◌, ◌++◌, length, Bool, true, false, if◌then◌else◌, refl, sym, ap, ◌∙◌, subst, arith}
 use Rattle.std.specs.List.{flat_map}
+use Rattle.segment_head.proofs.WrittenHeads.{octets_of_last}
 use Rattle.segment_defs.specs.declared.head.SegmentHead.{SegmentHead}
 use Rattle.segment_defs.specs.Head.{Field, field, reserved, field_bits, part_2, part_3, head_length}
 use Rattle.segment_head.specs.declared.carried.Carried.{Carried}
@@ -27,10 +28,6 @@ leave_room carried h two three = by_last h.last refl two three
         let most : (if last then 4 else 3) + 16 ≡ (if h.last then 20 else 19) = ap (λ b. (if b then 4 else 3) + 16) (sym e) ∙ octets_of_last h.last in
         omega (arith, most, length_first carried h last e, length_where two (part_2 h), most_2 two, length_where three (part_3 h), most_3 three)
       where
-        octets_of_last : (last : Bool) → (if last then 4 else 3) + 16 ≡ (if last then 20 else 19)
-        octets_of_last true = refl
-        octets_of_last false = refl
-
         most_2 : (b : Bool) → (if b then width_of (part_2 h) else 0) ≤ 40
         most_2 true = omega arith
         most_2 false = omega arith

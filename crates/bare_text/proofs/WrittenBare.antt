@@ -4,6 +4,7 @@ use Rattle.std.specs.Prelude.{Option, None, Some, Ok}
 use Rattle.std.specs.List.{flat_map}
 use Rattle.std.proofs.lemmas.List.{append-nil, take_at, drop_at}
 use Rattle.std.proofs.lemmas.Slice.Eq.{bytes_eq-Decides}
+use Rattle.std.proofs.Math.Bool.{or-true}
 use Rattle.item_defs.specs.Bits.{octets_of, bits_of_octets}
 use Rattle.item_defs.proofs.OctetBits.{length-octets_of}
 use Rattle.segment_defs.specs.declared.head.SegmentHead.{SegmentHead}
@@ -81,10 +82,6 @@ same_part xs ys e = (bytes_eq-Decides xs ys).0 (by_test (bytes_eq xs ys) e)
     by_test : (b : Bool) → not b ≡ false → b ≡ true
     by_test true e = refl
     by_test false e = absurd cc
-
-either_true : (b : Bool) → (b || true) ≡ true
-either_true true = refl
-either_true false = refl
 
 module _ (h : SegmentHead) (fits : IsHead h) (small : h.count < 256) (ten : length h.image.weights.shifts ≡ 10) (c : Carried) (force : PartsInForce)
     (second : c.part_2 ≡ false → second_in force.octets ≡ part_octets (part_2 h)) (third : c.part_3 ≡ false → third_in force.octets ≡ part_octets (part_3 h)) (fourth : c.part_4 ≡ false → fourth_in force.octets ≡ part_octets (part_4 h.image))
@@ -237,16 +234,16 @@ module _ (h : SegmentHead) (fits : IsHead h) (small : h.count < 256) (ten : leng
   read_after None = read_is h fits small ten all_carried (in_force None) not_true not_true not_true (refl, refl, refl)
   read_after (Some b) =
       read_is h fits small ten (carried_after (Some b) h) (in_force (Some b)) (λ e. second_of b ∙ same_part _ _ e) (λ e. third_of b ∙ same_part _ _ e) (λ e. fourth_of b ∙ same_part _ _ e)
-      (either_true _, either_true _, either_true _)
+      (or-true _, or-true _, or-true _)
 
   pub whole_after : (before : Option SegmentHead) → bare_length (bare_head before h) ≡ length (bare_head before h)
   whole_after None = whole_is h fits small ten all_carried (in_force None) not_true not_true not_true (refl, refl, refl)
   whole_after (Some b) =
       whole_is h fits small ten (carried_after (Some b) h) (in_force (Some b)) (λ e. second_of b ∙ same_part _ _ e) (λ e. third_of b ∙ same_part _ _ e) (λ e. fourth_of b ∙ same_part _ _ e)
-      (either_true _, either_true _, either_true _)
+      (or-true _, or-true _, or-true _)
 
   pub force_after : (before : Option SegmentHead) → parts_after (in_force before) (bare_head before h) ≡ in_force (Some h)
   force_after None = force_is h fits small ten all_carried (in_force None) not_true not_true not_true (refl, refl, refl)
   force_after (Some b) =
       force_is h fits small ten (carried_after (Some b) h) (in_force (Some b)) (λ e. second_of b ∙ same_part _ _ e) (λ e. third_of b ∙ same_part _ _ e) (λ e. fourth_of b ∙ same_part _ _ e)
-      (either_true _, either_true _, either_true _)
+      (or-true _, or-true _, or-true _)

@@ -1,11 +1,11 @@
 -- Items read one after another.
 use Rattle.std.proofs.Common.{◌≡◌, ℕ, ◌+◌, ◌<◌, ◌≤◌, List, ◌++◌, length, get_or, take, map, ap, ◌∙◌, arith, length-append}
-use Rattle.std.specs.Prelude.{Ok, Err, None, Some}
+use Rattle.std.specs.Prelude.{Ok, Err, None}
 use Rattle.std.proofs.Math.ListN.{set}
 use Rattle.std.proofs.lemmas.List.{take-append-le, take_all, take-map, length-map}
-use Rattle.item_defs.specs.Items.{Item, Form, Refusal, item_bits, text, spelling, IsSaid}
+use Rattle.item_defs.specs.Items.{Item, Form, Refusal, item_bits, text, spelling}
 use Rattle.item_defs.specs.Readings.{item_at, whole, ended, refused}
-use Rattle.item_defs.proofs.Texts.{text-append, text_past, item_at_past, item_at_before, text_more, text_more_set, item_at_map}
+use Rattle.item_defs.proofs.Texts.{text-append, text_past, item_at_past, item_at_before, text_more_set, item_at_map}
 use Rattle.bit_pipe.specs.Sources.{SourceOf}
 use Rattle.bit_pipe.specs.Coming.{Coming, Takes, EndsWithin, EndsItem}
 use Rattle.bit_pipe.specs.Reading.{Ending, stopped, failed, BreaksAt, RefusesAt, EndsReading, Reads, later_by, IsCut}
@@ -77,9 +77,6 @@ reads_whole p = record { ends = p }
 -- ---- a loop over the elements of a list, whose items have one form
 
 module _ {X : Type 0} (f : X → Item) (F : Form) (same : (x : X) → (f x).form ≡ F) (xs : List X) where
-  pub each_taken : {I : Type 0} {k : SourceOf I} (i : ℕ) (d : X) {a b c : Coming I} → i < length xs → Takes k a b (text (map f (take i xs))) → Takes k b c (item_bits (f (get_or xs i d))) → Takes k a c (text (map f (take (i + 1) xs)))
-  each_taken i d lt p q = rw (← text_more f xs i d lt) (takes_then p q)
-
   each_within : (i : ℕ) → i < length xs → i < length (map f xs)
   each_within i lt = omega (arith, length-map xs f)
 
@@ -99,17 +96,6 @@ module _ {X : Type 0} (f : X → Item) (F : Form) (same : (x : X) → (f x).form
 
   pub each_failed : {I : Type 0} {k : SourceOf I} (i : ℕ) (d : X) (e : InFault) {a b c : Coming I} → i < length xs → Takes k a b (text (map f (take i xs))) → EndsItem k F.shape (Err e) b c → Reads k (map f xs) (failed i e) a c
   each_failed i d e lt p q = record { ends = (each_breaks i d lt p q.0, fails_so_later p q.1) }
-
-  pub each_refused : {I : Type 0} {k : SourceOf I} (i n : ℕ) (d : X) (name : Refusal) {a b c : Coming I} → i < length xs → IsSaid F.shape n → F.refusal n ≡ Some name →
-      Takes k a b (text (map f (take i xs))) → Takes k b c (spelling F.shape n) → Reads k (map f xs) (stopped (refused i n name)) a c
-  each_refused i n d name lt said bad p q = record {
-    ends = record {
-      within = each_within i lt;
-      says = rw (each_form i d lt) said;
-      refuses = rw (each_form i d lt) bad;
-      taken = rw (each_form i d lt, take-map) (takes_then p q);
-    };
-  }
 
   pub each_whole : {I : Type 0} {k : SourceOf I} (i : ℕ) {a b : Coming I} → length xs ≤ i → Takes k a b (text (map f (take i xs))) → Reads k (map f xs) (stopped whole) a b
   each_whole i le p = let e : take i xs ≡ xs = take_all i xs le in reads_whole (rw e at p)

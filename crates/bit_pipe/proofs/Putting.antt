@@ -11,7 +11,7 @@ use Rattle.bit_pipe.specs.declared.fault.PutFault.TheVariants.{Stopped, WriteFau
 use Rattle.bit_pipe.proofs.Giving.{gives_none, gives_then, broke_then, broke_more}
 
 -- bits that are given in two parts
-regroup : (p xs ys o q r s : List Bool) → p ++ xs ≡ o ++ q → q ++ ys ≡ r ++ s → p ++ (xs ++ ys) ≡ (o ++ r) ++ s
+pub regroup : (p xs ys o q r s : List Bool) → p ++ xs ≡ o ++ q → q ++ ys ≡ r ++ s → p ++ (xs ++ ys) ≡ (o ++ r) ++ s
 regroup p xs ys o q r s e f =
     sym (append_assoc p xs ys) ∙ ap (λ k. k ++ ys) e ∙ append_assoc o q ys ∙ ap (λ k. o ++ k) f ∙ sym (append_assoc o r s)
 
@@ -118,10 +118,6 @@ ends_name : {S T : Type 0} (k : SinkOf S) (r : Result T PutFault) (a b : Standin
 ends_name k (Ok x) a b xs p = p.name
 ends_name k (Err Stopped) a b xs p = p.1.name
 ends_name k (Err WriteFault) a b xs p = p.name
-
--- the bits are given to the same sink as before
-pub puts_name : {S T : Type 0} {k : SinkOf S} {r : Result T PutFault} {a b : Standing S} {xs : List Bool} → Puts k r a b xs → b.name ≡ a.name
-puts_name {S} {T} {k} {r} {a} {b} {xs} p = ends_name k r a b xs p.ends
 
 -- after a call that put its bits, more may be put
 pub open_after : {S T : Type 0} {k : SinkOf S} {x : T} {a b : Standing S} {xs : List Bool} → IsOpen a → Puts k (Ok x) a b xs → IsOpen b

@@ -10,7 +10,7 @@ use Rattle.item_defs.proofs.OctetBits.{no_octets, octets_append}
 use Rattle.item_defs.proofs.Stopping.{whole_stops, ended_stops, refused_stops}
 use Rattle.bit_pipe.specs.Sources.{Tail, SourceOf, Comes, IsOver, Plainly}
 use Rattle.bit_pipe.specs.Coming.{Coming, Takes, IsEnd, bits_to_come}
-use Rattle.bit_pipe.specs.Reading.{stopped, EndsReading, Reads}
+use Rattle.bit_pipe.specs.Reading.{stopped, EndsReading}
 
 -- the octets that were read, and those that are left
 came : (old : Tail) (new : Option Tail) (octets : List ℕ) → Comes (Some old) new octets → (left : List ℕ) × (old.octets ≡ octets ++ left) × (IsOver new Plainly → left ≡ [])
@@ -53,6 +53,3 @@ module _ {I : Type 0} (k : SourceOf I) (a b : Coming I) (tail : Tail) (told : k.
       let t = taken_first bits p.taken in
       let last : bits_to_come a tail ≡ text (take m items) ++ (spelling (item_at items m).form.shape n ++ t.0) = t.1 ∙ append_assoc (text (take m items)) (spelling (item_at items m).form.shape n) t.0 in
       subst (λ r. Stops items r (refused m n name)) (sym last) (refused_stops items m n name t.0 p.within p.refuses p.says)
-
-  pub reads_stops : (items : List Item) (stop : Stop) → Reads k items (stopped stop) a b → Stops items (bits_to_come a tail) stop
-  reads_stops items stop p = reads_stops_by items stop p.ends

@@ -2,6 +2,7 @@
 use Rattle.std.proofs.Common.{◌≡◌, ℕ, ◌+◌, ◌-◌, ◌<◌, ◌≤◌, List, [], ◌∷◌, ◌++◌, length, Bool, inl, inr, refl, sym, ap, ◌∙◌, append_assoc, arith, length-append}
 use Rattle.std.specs.Prelude.{Option, None, Some, Ok, Err}
 use Rattle.std.proofs.lemmas.List.{append-nil}
+use Rattle.bit_pipe.proofs.Putting.{regroup}
 use Rattle.item_defs.specs.Bits.{bits_of, bits_of_octets}
 use Rattle.item_defs.proofs.NumberBits.{bits_none, length-bits_of}
 use Rattle.item_defs.proofs.OctetBits.{no_octets, octets_one, octets_append, octets_nil, octets_both, octet_alone}
@@ -38,11 +39,6 @@ takes_start k s h = record {
   went = k.went_none s.source;
   name = refl;
 }
-
--- bits that arrive in two parts
-regroup : (p o q xs n ys r : List Bool) → p ++ o ≡ xs ++ n → n ++ q ≡ ys ++ r → p ++ (o ++ q) ≡ (xs ++ ys) ++ r
-regroup p o q xs n ys r e f =
-    sym (append_assoc p o q) ∙ ap (λ k. k ++ q) e ∙ append_assoc xs n q ∙ ap (λ k. xs ++ k) f ∙ sym (append_assoc xs ys r)
 
 pub takes_then : {I : Type 0} {k : SourceOf I} {a b c : Coming I} {xs ys : List Bool} → Takes k a b xs → Takes k b c ys → Takes k a c (xs ++ ys)
 takes_then {I} {k} {a} {b} {c} {xs} {ys} p q = record {

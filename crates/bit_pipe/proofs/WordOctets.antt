@@ -12,7 +12,7 @@ use Rattle.item_defs.proofs.NumberBits.{bits_none, bits_of-mod, bits_of-split}
 use Rattle.item_defs.proofs.OctetBits.{no_octets, octets_first}
 use Rattle.bit_pipe.specs.Fills.{Fills}
 
-octets_wide : (k : ℕ) → 256 ^ k ≡ 2 ^ (8 * k)
+pub octets_wide : (k : ℕ) → 256 ^ k ≡ 2 ^ (8 * k)
 octets_wide zero = refl
 octets_wide (suc k) =
     let more : 8 * k + 8 ≡ 8 * suc k = omega arith in

@@ -1,8 +1,9 @@
 -- The options of a gaggle, and the flags that say which words it sent.
-use Rattle.std.proofs.Common.{◌≡◌, ◌≢◌, ℕ, zero, suc, ◌+◌, ◌-◌, ◌<◌, ◌≤◌, ℤ, inl, inr, Bool, true, false, List, [], ◌∷◌, ◌++◌, length, refl, ap, sym, ◌∙◌, subst, arith, get_or, set, get_or-set_same, get_or-set_other}
+use Rattle.std.proofs.Common.{◌≡◌, ◌≢◌, ℕ, ◌+◌, ◌-◌, ◌<◌, ◌≤◌, ℤ, inl, inr, Bool, true, false, List, [], ◌∷◌, ◌++◌, length, ap, sym, ◌∙◌, subst, arith, get_or, set, get_or-set_same, get_or-set_other}
 use Rattle.std.specs.Prelude.{◌==◌, ◌||◌}
 use Rattle.std.specs.List.{list_any}
 use Rattle.std.proofs.lemmas.List.Folds.{list_any-append}
+use Rattle.std.proofs.lemmas.Bool.Decides.{nat_tests}
 use Rattle.plane_defs.specs.declared.entries.Entry.{Entry}
 use Rattle.plane_defs.specs.declared.entries.Entry.TheVariants.{Word}
 use Rattle.plane_defs.specs.declared.entries.Bits.{Bits}
@@ -14,29 +15,18 @@ use Rattle.block_masks.specs.Stored.{Stores}
 use Rattle.block_masks.proofs.Marking.{same_or_other}
 
 pub option_known : (options : List ℕ) (n : ℕ) → AreOptions options → 2 ≤ n → n ≤ 4 → option_of options n < n
-option_known options zero known low high = absurd (omega arith)
-option_known options (suc zero) known low high = absurd (omega arith)
-option_known options (suc (suc zero)) known low high = known.two
-option_known options (suc (suc (suc zero))) known low high = known.three
-option_known options (suc (suc (suc (suc zero)))) known low high = known.four
-option_known options (suc (suc (suc (suc (suc n))))) known low high = absurd (omega arith)
+option_known options n known low high = grind (arith, nat_tests)
 
 -- ---- which flags agree after one more entry
 
 list_any-last : (p : Entry → Bool) (xs : List Entry) (y : Entry) → list_any p (xs ++ y ∷ []) ≡ (list_any p xs || p y)
-list_any-last p xs y = list_any-append p xs (y ∷ []) ∙ ap (λ b. list_any p xs || b) (or_false (p y))
-  where
-    or_false : (b : Bool) → (b || false) ≡ b
-    or_false true = refl
-    or_false false = refl
+list_any-last p xs y = grind (arith, nat_tests, list_any-append)
 
 or_no : (a b : Bool) → b ≡ false → a ≡ (a || b)
-or_no true b h = refl
-or_no false b h = sym h
+or_no a b h = grind (arith, nat_tests)
 
 or_true : (b : Bool) → true ≡ (b || true)
-or_true true = refl
-or_true false = refl
+or_true b = grind (arith, nat_tests)
 
 -- an entry that is no word of two bits or more changes nothing
 pub agrees_other : (sent : List Bool) (before : List Entry) (x : Entry) → ((n : ℕ) → 2 ≤ n → is_word_of n x ≡ false) → Agrees sent before → Agrees sent (before ++ x ∷ [])
@@ -45,8 +35,7 @@ agrees_other sent before x none agrees = record {
 }
 
 same_length : (there : Bool) (m n : ℕ) → (m ≡ n → there ≡ true) → there ≡ (there || (m == n))
-same_length true m n h = refl
-same_length false m n h = grind arith
+same_length there m n h = grind (arith, nat_tests)
 
 -- neither does a word whose length was sent before
 pub agrees_again : (sent : List Bool) (before : List Entry) (bits : Bits) → 2 ≤ bits.count → bits.count ≤ 4 → get_or sent (bits.count - 2) false ≡ true →
@@ -60,19 +49,7 @@ agrees_again sent before bits low high was agrees = record {
 
 opened : (sent : List Bool) (m n : ℕ) (there : Bool) → 2 ≤ m → m ≤ 4 → 2 ≤ n → n ≤ 4 → length sent ≡ 3 → get_or sent (n - 2) false ≡ there →
     get_or (set sent (m - 2) true) (n - 2) false ≡ (there || (m == n))
-opened sent m n there lm hm ln hn three e =
-    elim (m == n) as (λ b. (m == n) ≡ b → get_or (set sent (m - 2) true) (n - 2) false ≡ (there || b)) [
-      | true ↦ λ t.
-          let same : n ≡ m = grind arith in
-          let within : m - 2 < length sent = omega arith in
-          let now : get_or (set sent (m - 2) true) (m - 2) false ≡ true = rw get_or-set_same refl in
-          ap (λ k. get_or (set sent (m - 2) true) (k - 2) false) same ∙ now ∙ or_true there
-      | false ↦ λ f.
-          let apart : m ≢ n = grind arith in
-          let other : n - 2 ≢ m - 2 = omega arith in
-          let kept : get_or (set sent (m - 2) true) (n - 2) false ≡ get_or sent (n - 2) false = rw get_or-set_other refl in
-          kept ∙ e ∙ or_no there false refl
-    ] refl
+opened sent m n there lm hm ln hn three e = grind (arith, nat_tests, set, get_or-set_same, or_true, get_or-set_other, or_no)
 
 -- the first word of its length sets the flag
 pub agrees_first : (sent : List Bool) (before : List Entry) (bits : Bits) → 2 ≤ bits.count → bits.count ≤ 4 → length sent ≡ 3 →

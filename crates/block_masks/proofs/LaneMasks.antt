@@ -1,11 +1,12 @@
 -- From the lanes of sixteen numbers to a mask.
-use Rattle.std.proofs.Common.{◌≡◌, ℕ, ◌+◌, ◌-◌, ◌*◌, ◌/◌, ◌%◌, ◌<◌, ◌≤◌, ◌^◌, ℤ, pos, negsuc, Bool, true, false, cond, List, length, take, drop, map, get_or, replicate, ◌+ℤ◌, ◌*ℤ◌, ◌≤ℤ◌, ◌<ℤ◌, unsigned_abs, nat_lt, nat_le, FitsSigned, refl, ap, sym, ◌∙◌, subst, arith, w32}
+use Rattle.std.proofs.Common.{◌≡◌, ℕ, ◌+◌, ◌-◌, ◌*◌, ◌/◌, ◌%◌, ◌<◌, ◌≤◌, ◌^◌, ℤ, pos, negsuc, Bool, false, cond, List, length, take, drop, map, get_or, replicate, ◌+ℤ◌, ◌*ℤ◌, ◌≤ℤ◌, ◌<ℤ◌, unsigned_abs, nat_lt, nat_le, FitsSigned, ap, sym, ◌∙◌, subst, arith, w32}
 use Rattle.std.specs.Prelude.{◌==◌}
 use Rattle.std.specs.Simd.Lanes.{mask_l, top, zip2}
 use Rattle.std.proofs.lemmas.List.{get_or-map, get_or-take, get_or-drop, length-map, length-take, length-drop}
 use Rattle.std.proofs.lemmas.Simd.{bit_mask_l, mask_l-lt, mask_l-mod, zip2_splat, zip2_of_maps, splat_is_map, map-map}
 use Rattle.std.proofs.lemmas.Int.{ints, to_z-of_z, to_z_pos}
 use Rattle.std.proofs.Math.Pow.{pow_mono}
+use Rattle.std.proofs.lemmas.Bool.Decides.{nat_tests}
 use lib.Signed.{lt_z}
 use mir.Val.{of_z, to_z}
 use Rattle.plane_defs.specs.Entries.{negative}
@@ -13,8 +14,7 @@ use Rattle.item_defs.specs.Bits.{bit}
 use Rattle.block_masks.specs.Masks.{Shows}
 
 digit_is : (b : Bool) (n : ℕ) → n ≡ cond b 1 0 → (n == 1) ≡ b
-digit_is true n e = rw e refl
-digit_is false n e = rw e refl
+digit_is b n e = grind (arith, nat_tests)
 
 -- the lanes that are read from the start on
 abbrev pub lanes : List ℤ → ℕ → List ℕ
@@ -72,12 +72,10 @@ compared_sum less add y z f cells start within each =
 -- ---- one lane
 
 pub below_zero : (z : ℤ) → lt_z z (pos 0) ≡ negative z
-below_zero (pos n) = grind arith
-below_zero (negsuc n) = refl
+below_zero z = grind (arith, nat_tests)
 
 pub top_of : (b : Bool) → top 31 (cond b 4294967295 0) ≡ b
-top_of true = refl
-top_of false = refl
+top_of b = grind (arith, nat_tests)
 
 pub negative_lane : (z : ℤ) → FitsSigned w32 z → top 31 (cond (lt_z (to_z w32 (of_z w32 z)) (pos 0)) 4294967295 0) ≡ negative z
 negative_lane z fits = rw (to_z-of_z w32 z fits) (top_of (lt_z z (pos 0)) ∙ below_zero z)
@@ -91,19 +89,12 @@ least_and n small = grind (arith, ints)
 
 -- the least number and n, added in arithmetic that wraps, take -n to the least number and n to the 2n-th after it
 past : (n : ℕ) (z : ℤ) → n < 1073741824 → FitsSigned w32 z → lt_z (negsuc 2147483647 +ℤ pos (2 * n)) (to_z w32 ((of_z w32 z + (2147483648 + n)) % 4294967296)) ≡ nat_lt n (unsigned_abs z)
-past n (pos a) few fits = grind (arith, ints, fits.sfits)
-past n (negsuc a) few fits = grind (arith, ints, fits.sfits)
+past n z few fits = grind (arith, nat_tests)
 
 pub outside_lane : (m z : ℤ) → pos 0 ≤ℤ m → m <ℤ pos (2 ^ 30) → FitsSigned w32 z →
     top 31 (cond (lt_z (to_z w32 (of_z w32 (negsuc 2147483647 +ℤ to_z w32 (of_z w32 (pos 2 *ℤ to_z w32 (of_z w32 m))))))
     (to_z w32 ((of_z w32 z + of_z w32 (negsuc 2147483647 +ℤ to_z w32 (of_z w32 m))) % 4294967296))) 4294967295 0) ≡ nat_lt (unsigned_abs m) (unsigned_abs z)
-outside_lane (pos n) z low few fits =
-    let small : n < 1073741824 = grind (arith, few) in
-    let same : to_z w32 (of_z w32 (pos n)) ≡ pos n = omega (arith, ints) in
-    let twice : to_z w32 (of_z w32 (pos 2 *ℤ pos n)) ≡ pos (2 * n) = omega (arith, ints) in
-    rw (same, twice, over_least (2 * n) (omega arith), over_least n (omega arith), least_and (2 * n) (omega arith))
-    (top_of (lt_z (negsuc 2147483647 +ℤ pos (2 * n)) (to_z w32 ((of_z w32 z + (2147483648 + n)) % 4294967296))) ∙ past n z small fits)
-outside_lane (negsuc n) z low few fits = absurd (omega (arith, low))
+outside_lane m z low few fits = grind (arith, nat_tests, w32, over_least, least_and, top_of, past)
 
 -- ---- a mask in another form
 
@@ -114,12 +105,7 @@ pub reached : (m n plane : ℕ) → n + 1 ≡ 2 ^ plane → nat_lt n m ≡ nat_l
 reached m n plane e = grind arith
 
 pub below_half : (plane : ℕ) → plane < 31 → to_z w32 (1 * 2 ^ plane % 4294967296 - 1) <ℤ pos (2 ^ 30)
-below_half plane low =
-    let under : plane ≤ 30 = omega arith in
-    let from : 0 ≤ plane = omega arith in
-    let most : 2 ^ plane ≤ 2 ^ 30 = pow_mono under in
-    let some : 2 ^ 0 ≤ 2 ^ plane = pow_mono from in
-    omega (arith, ints)
+below_half plane low = grind (arith, nat_tests, pow_mono)
 
 pub one_less : (plane : ℕ) → plane < 31 → unsigned_abs (to_z w32 (1 * 2 ^ plane % 4294967296 - 1)) + 1 ≡ 2 ^ plane
 one_less plane low =

@@ -1,3 +1,4 @@
+pub mod Fours
 pub mod LaneMasks
 pub mod SizeLanes
 pub mod SettingLanes

@@ -1,7 +1,8 @@
 -- The parts of a block's state.
-use Rattle.std.proofs.Common.{◌≡◌, ℕ, ◌+◌, ◌*◌, ◌/◌, ◌%◌, ◌<◌, ℤ, pos, negsuc, Bool, true, false, List, [], ◌∷◌, length, refl, arith, get_or, ◌^◌, to_z, w32}
+use Rattle.std.proofs.Common.{◌≡◌, ℕ, ◌+◌, ◌*◌, ◌/◌, ◌%◌, ◌<◌, ℤ, pos, Bool, List, [], ◌∷◌, length, refl, arith, get_or, ◌^◌, to_z, w32}
 use Rattle.std.proofs.lemmas.Int.{to_z_pos}
 use Rattle.std.specs.Prelude.{◌==◌}
+use Rattle.std.proofs.lemmas.Bool.Decides.{nat_tests}
 use Rattle.item_defs.specs.Bits.{digit}
 use Rattle.item_defs.proofs.NumberBits.{digit_small}
 use Rattle.plane_defs.specs.Marks.{depth_of}
@@ -15,8 +16,7 @@ three_of (a ∷ b ∷ c ∷ []) d h = refl
 three_of (a ∷ b ∷ c ∷ e ∷ rest) d h = absurd (omega arith)
 
 bit_back : (n : ℕ) (b : Bool) → n ≡ digit b → (n == 1) ≡ b
-bit_back n true h = grind arith
-bit_back n false h = grind arith
+bit_back n b h = grind (arith, nat_tests)
 
 -- the number with these parts
 record Packed (n d a b c s t u : ℕ) : Type 0 where
@@ -73,12 +73,10 @@ mark_parts_z n d a b c s t u hd ha hb hc e =
 -- ---- other families
 
 low_below : (mark : ℤ) → low_bits mark < 8192
-low_below (pos a) = omega arith
-low_below (negsuc a) = omega arith
+low_below mark = grind (arith, nat_tests)
 
 depth_low : (mark : ℤ) → low_bits mark % 32 ≡ depth_of mark
-depth_low (pos a) = omega arith
-depth_low (negsuc a) = omega arith
+depth_low mark = grind (arith, nat_tests)
 
 with_families : (mark : ℤ) (n f : ℕ) → f < 8 → n ≡ low_bits mark + 8192 * f → Parts (pos n) (depth_of mark) (options_in mark) (sent_in mark) f
 unfolding options_in sent_in families_in

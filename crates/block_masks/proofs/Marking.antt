@@ -3,6 +3,7 @@ use Rattle.std.proofs.Common.{◌≡◌, ◌≢◌, ◌⊎◌, inl, inr, ℕ, �
 use Rattle.std.proofs.Math.ListN.{length-set, get_or-map}
 use Rattle.std.proofs.Math.Seq.{map-set_same}
 use Rattle.std.proofs.lemmas.List.{length-map}
+use Rattle.std.proofs.lemmas.Bool.Decides.{nat_tests}
 use Rattle.plane_defs.specs.Marks.{depth_of, depths_of}
 use Rattle.block_masks.specs.declared.gaggle.Gaggle.{Gaggle}
 use Rattle.block_masks.specs.Gaggles.{AreOptions, AreKnown, SameMarks, first_mark, options_in, sent_in, families_in, options_at}
@@ -22,12 +23,7 @@ same_or_other h g = grind arith
 -- a part of a state stays at each place if the state that is stored there has the same part
 kept_set : {A : Type 0} (f : ℤ → A) (marks : List ℤ) (r : ℕ) (mark : ℤ) → r < length marks → f mark ≡ f (get_or marks r (pos 0)) →
     (h : ℕ) → f (get_or (set marks r mark) h (pos 0)) ≡ f (get_or marks h (pos 0))
-kept_set f marks r mark within kept h =
-    elim (same_or_other h r) [
-      | inl e ↦
-          ap (λ i. f (get_or (set marks r mark) i (pos 0))) e ∙ ap f (get_or-set_same marks r mark (pos 0) within) ∙ kept ∙ ap (λ i. f (get_or marks i (pos 0))) (sym e)
-      | inr apart ↦ ap f (get_or-set_other marks r h mark (pos 0) apart)
-    ]
+kept_set f marks r mark within kept h = grind (arith, nat_tests, same_or_other, set, get_or-set_same, get_or-set_other)
 
 pub stored : (marks : List ℤ) (g : ℕ) (mark : ℤ) (gaggle : Gaggle) → 16 * g < length marks → depth_of mark ≡ depth_of (first_mark marks g) →
     options_in mark ≡ gaggle.options → sent_in mark ≡ gaggle.sent → families_in mark ≡ families_in (first_mark marks g) → Stores marks (set marks (16 * g) mark) g gaggle

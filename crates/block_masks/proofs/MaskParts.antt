@@ -1,5 +1,5 @@
 -- A mask without one of its positions, and a mask in two: its first position, and the others.
-use Rattle.std.proofs.Common.{◌≡◌, inl, inr, ℕ, ◌+◌, ◌-◌, ◌*◌, ◌/◌, ◌%◌, ◌<◌, ◌≤◌, ◌^◌, Bool, true, false, min, bit_and, bit_xor, refl, ap, sym, ◌∙◌, subst, arith}
+use Rattle.std.proofs.Common.{◌≡◌, inl, inr, ℕ, ◌+◌, ◌-◌, ◌*◌, ◌/◌, ◌%◌, ◌<◌, ◌≤◌, ◌^◌, true, false, min, bit_and, bit_xor, refl, ap, sym, ◌∙◌, subst, arith}
 use Rattle.std.specs.Prelude.{◌==◌, if◌then◌else◌, count_ones}
 use lib.Count.{ones_step, ones_cat}
 use Rattle.std.specs.Int.{w64, bit_at, trailing_zeros}
@@ -13,13 +13,7 @@ use Rattle.block_masks.specs.Places.{inside}
 use Rattle.block_masks.specs.Walk.{IsParted}
 
 pub fewer_left : (mask rest position : ℕ) → bit mask position ≡ true → bit (bit_and mask rest) position ≡ false → bit_and mask rest < mask
-fewer_left mask rest position here gone =
-    elim (cases_lt (bit_and mask rest) mask) [
-      | inl lt ↦ lt
-      | inr ge ↦
-          let e : bit_and mask rest ≡ mask = omega (arith, and_le_l mask rest, ge) in
-          absurd (true≢false (sym here ∙ ap (λ x. bit x position) (sym e) ∙ gone))
-    ]
+fewer_left mask rest position here gone = grind (arith, nat_tests, bit_and, and_le_l, true≢false)
 
 -- ---- a mask in two
 
@@ -113,11 +107,7 @@ module _ (n k : ℕ) (here : bit_at n k ≡ 1) (none : (i : ℕ) → i < k → b
       none_more = omega (arith, ones_le_self 0)
 
   alone_at : (i : ℕ) → bit_at (bit_xor n (bit_and n (n - 1))) i ≡ (if i == k then 1 else 0)
-  alone_at i = bit_at_xor n (bit_and n (n - 1)) i ∙ ap (λ b. (bit_at n i + b) % 2) (one_less i) ∙ by_place (i == k) refl
-    where
-      by_place : (t : Bool) → (i == k) ≡ t → (bit_at n i + (bit_at n i - (if t then 1 else 0))) % 2 ≡ (if t then 1 else 0)
-      by_place true e = let h : bit_at n i ≡ 1 = ap (bit_at n) (eqb-true i k e) ∙ here in rw h refl
-      by_place false e = let two : (b : ℕ) → (b + (b - 0)) % 2 ≡ 0 = λ b. omega arith in two (bit_at n i)
+  alone_at i = grind (arith, nat_tests, bit_at_xor, bit_and, one_less, eqb-true)
 
   first_is : bit_xor n (bit_and n (n - 1)) ≡ 2 ^ k
   first_is = same_from_bits (bit_xor n (bit_and n (n - 1))) (2 ^ k) (λ i. alone_at i ∙ elim (cases_eq i k) [

@@ -1,5 +1,5 @@
 -- Masks of masks, bit by bit.
-use Rattle.std.proofs.Common.{◌≡◌, ℕ, zero, suc, ◌+◌, ◌-◌, ◌*◌, ◌/◌, ◌%◌, ◌<◌, ◌≤◌, ◌^◌, inl, inr, min, max, Bool, true, false, not, ◌&&◌, ◌||◌, nat_eq, bit_and, bit_or, bit_xor, refl, ap, sym, ◌∙◌, subst, arith, w64, shr-shr, eq-zero-or-pos, add-one}
+use Rattle.std.proofs.Common.{◌≡◌, ℕ, zero, suc, ◌+◌, ◌-◌, ◌*◌, ◌/◌, ◌%◌, ◌<◌, ◌≤◌, ◌^◌, inl, inr, min, max, Bool, true, false, not, ◌&&◌, ◌||◌, nat_eq, bit_and, bit_or, bit_xor, ap, sym, ◌∙◌, subst, arith, w64, shr-shr, eq-zero-or-pos, add-one}
 use Rattle.std.specs.Prelude.{◌==◌}
 use Rattle.std.specs.Int.{trailing_zeros}
 use Rattle.std.specs.List.{list_any}
@@ -7,6 +7,7 @@ use Rattle.std.proofs.Math.Bool.{and-true}
 use Rattle.std.proofs.lemmas.Bool.{cases_lt}
 use Rattle.std.proofs.lemmas.Nat.{and_le_l, and_le_r, xor_lt, or_lt, and_mask, one_shl, mod_below, pow_pos, shl_whole, or_shifted, pow-add, mul-add-lt}
 use Rattle.std.proofs.lemmas.Nat.Bits.{bit_at_and, bit_at_xor, bit_at_or, bit_at_cat_low, bit_at_cat_high, bit_at-trailing_zeros, bit_at-zero, bit_at_ones, bit_at_above}
+use Rattle.std.proofs.lemmas.Bool.Decides.{nat_tests}
 use Rattle.item_defs.specs.Bits.{bit}
 use Rattle.plane_defs.specs.Spans.{span}
 use Rattle.plane_defs.proofs.SpanLists.{list_any-span-suc, list_any-span-none}
@@ -14,38 +15,22 @@ use Rattle.plane_defs.proofs.Determined.{list_any-span-here}
 use Rattle.block_masks.specs.Masks.{Shows}
 
 both_ones : (x y : ℕ) → x < 2 → y < 2 → (min x y == 1) ≡ ((x == 1) && (y == 1))
-both_ones zero y hx hy = grind arith
-both_ones (suc zero) zero hx hy = grind arith
-both_ones (suc zero) (suc zero) hx hy = refl
-both_ones (suc zero) (suc (suc y)) hx hy = absurd (omega arith)
-both_ones (suc (suc x)) y hx hy = absurd (omega arith)
+both_ones x y hx hy = grind (arith, nat_tests)
 
 only_second : (x y : ℕ) → x < 2 → y < 2 → ((y + min x y) % 2 == 1) ≡ (not (x == 1) && (y == 1))
-only_second zero zero hx hy = refl
-only_second zero (suc zero) hx hy = refl
-only_second (suc zero) zero hx hy = refl
-only_second (suc zero) (suc zero) hx hy = refl
-only_second x (suc (suc y)) hx hy = absurd (omega arith)
-only_second (suc (suc x)) y hx hy = absurd (omega arith)
+only_second x y hx hy = grind (arith, nat_tests)
 
-bit_both : (a b k : ℕ) → bit (bit_and a b) k ≡ (bit a k && bit b k)
+pub bit_both : (a b k : ℕ) → bit (bit_and a b) k ≡ (bit a k && bit b k)
 bit_both a b k = ap (λ n. n == 1) (bit_at_and a b k) ∙ both_ones (a / 2 ^ k % 2) (b / 2 ^ k % 2) (omega arith) (omega arith)
 
 either_one : (x y : ℕ) → x < 2 → y < 2 → (max x y == 1) ≡ ((x == 1) || (y == 1))
-either_one zero zero hx hy = refl
-either_one zero (suc zero) hx hy = refl
-either_one (suc zero) zero hx hy = refl
-either_one (suc zero) (suc zero) hx hy = refl
-either_one x (suc (suc y)) hx hy = absurd (omega arith)
-either_one (suc (suc x)) y hx hy = absurd (omega arith)
+either_one x y hx hy = grind (arith, nat_tests)
 
 pub bit_either : (a b k : ℕ) → bit (bit_or a b) k ≡ (bit a k || bit b k)
 bit_either a b k = ap (λ n. n == 1) (bit_at_or a b k) ∙ either_one (a / 2 ^ k % 2) (b / 2 ^ k % 2) (omega arith) (omega arith)
 
 bit_beside : (a b k : ℕ) → bit (bit_xor b (bit_and a b)) k ≡ (not (bit a k) && bit b k)
-bit_beside a b k =
-    ap (λ n. n == 1) (bit_at_xor b (bit_and a b) k) ∙ ap (λ n. (b / 2 ^ k % 2 + n) % 2 == 1) (bit_at_and a b k) ∙
-    only_second (a / 2 ^ k % 2) (b / 2 ^ k % 2) (omega arith) (omega arith)
+bit_beside a b k = grind (arith, nat_tests, bit_at_xor, bit_and, bit_at_and, only_second)
 
 module _ {a b start count : ℕ} {f g : ℕ → Bool} where
   pub shows_both : Shows a f start count → Shows b g start count → Shows (bit_and a b) (λ p. f p && g p) start count
@@ -72,7 +57,7 @@ bit_low : (m n k : ℕ) → k < n → bit (m % 2 ^ n) k ≡ bit m k
 bit_low m n k low = ap (λ x. bit x k) (sym (and_mask m n)) ∙ bit_both m (2 ^ n - 1) k ∙ ap (λ x. bit m k && (x == 1)) (bit_at_ones n k low) ∙ and-true (bit m k)
 
 -- the part as the code makes it
-part_is : (mask at n : ℕ) → n < 64 → bit_and (mask / 2 ^ at) ((1 * 2 ^ n) % 2 ^ 64 - 1) ≡ mask / 2 ^ at % 2 ^ n
+pub part_is : (mask at n : ℕ) → n < 64 → bit_and (mask / 2 ^ at) ((1 * 2 ^ n) % 2 ^ 64 - 1) ≡ mask / 2 ^ at % 2 ^ n
 part_is mask at n lt = ap (λ m. bit_and (mask / 2 ^ at) (m - 1)) (one_shl n 64 lt) ∙ and_mask (mask / 2 ^ at) n
 
 pub part_within : (mask at n : ℕ) → n < 64 → bit_and (mask / 2 ^ at) ((1 * 2 ^ n) % 2 ^ 64 - 1) < 2 ^ n
@@ -90,9 +75,7 @@ joined_is : {low high : ℕ} (at : ℕ) → at < 64 → low < 2 ^ at → high < 
 joined_is {low} {high} at lt fits room = ap (λ x. bit_or x low) (shl_whole high (64 - at) at 64 room (omega arith)) ∙ or_shifted high at low fits
 
 pub joined_within : {low high : ℕ} (at n : ℕ) → at < 64 → low < 2 ^ at → high < 2 ^ (64 - at) → high < 2 ^ n → bit_or ((high * 2 ^ at) % 2 ^ 64) low < 2 ^ (at + n)
-joined_within {low} {high} at n lt fits room small =
-    let power : 2 ^ (at + n) ≡ 2 ^ at * 2 ^ n = pow-add 2 at n in
-    rw (joined_is at lt fits room) (rw power (mul-add-lt high (2 ^ at) low (2 ^ n) small fits))
+joined_within at n lt fits room small = grind (arith, nat_tests, pow-add, joined_is, mul-add-lt)
 
 pub shows_joined : {low high start n : ℕ} {f : ℕ → Bool} (at : ℕ) → at < 64 → low < 2 ^ at → high < 2 ^ (64 - at) → Shows low f start at → Shows high f (start + at) n → Shows (bit_or ((high * 2 ^ at) % 2 ^ 64) low) f start (at + n)
 shows_joined {low} {high} {start} {n} {f} at lt fits room p q = record {

@@ -5,6 +5,7 @@ use Rattle.std.proofs.lemmas.Nat.Bits.{bit_at_above}
 use Rattle.std.proofs.Common.{◌≡◌, inl, inr, ◌≤◌, ◌-◌, ℕ, zero, suc, ◌+◌, ◌*◌, ◌/◌, ◌%◌, ◌^◌, ◌<◌, Bool, true, false, not, ◌&&◌, cond, List, [], ◌∷◌, ◌++◌, length, map, filter, nat_lt, slice_index_or, refl, ap, sym, ◌∙◌, subst, arith, length-append}
 use Rattle.std.specs.Prelude.{◌==◌, ◌||◌, count_ones}
 use Rattle.std.specs.List.{list_all}
+use Rattle.std.proofs.lemmas.Bool.Decides.{nat_tests}
 use Rattle.item_defs.specs.Bits.{bit, digit, value_of}
 use Rattle.item_defs.proofs.NumberBits.{digit_small}
 use Rattle.plane_defs.specs.Spans.{span}
@@ -12,7 +13,7 @@ use Rattle.plane_defs.proofs.SpanLists.{map-filter-span-suc, map-filter-span-pas
 use Rattle.plane_defs.proofs.Tables.{list_all-span-zero, and-left, and-right}
 use Rattle.block_masks.specs.Masks.{Shows}
 use Rattle.block_masks.specs.Picks.{packed, AreSpread}
-use Rattle.block_masks.specs.declared.picks.TheConstants.{PICKS, SPREADS}
+use Rattle.block_masks.specs.declared.picks.TheConstants.{PICKS, SPREADS, FIRST_SPREADS}
 
 abbrev entry : ℕ → ℕ → ℕ
 entry due bits = slice_index_or (slice_index_or PICKS due []) bits 0
@@ -42,17 +43,10 @@ abbrev four : Bool → Bool → Bool → Bool → ℕ
 four a b c d = digit a + 2 * digit b + 4 * digit c + 8 * digit d
 
 digit_of : (n : ℕ) (b : Bool) → n < 2 → (n == 1) ≡ b → n ≡ digit b
-digit_of zero b small e = ap digit e
-digit_of (suc zero) b small e = ap digit e
-digit_of (suc (suc n)) b small e = absurd (omega arith)
+digit_of n b small e = grind (arith, nat_tests)
 
 four_is : (m start : ℕ) (f : ℕ → Bool) → Shows m f start 4 → m ≡ four (f (start + 0)) (f (start + 1)) (f (start + 2)) (f (start + 3))
-four_is m start f p =
-    let a = digit_of (m / 1 % 2) (f (start + 0)) (omega arith) (p.at 0 (omega arith)) in
-    let b = digit_of (m / 2 % 2) (f (start + 1)) (omega arith) (p.at 1 (omega arith)) in
-    let c = digit_of (m / 4 % 2) (f (start + 2)) (omega arith) (p.at 2 (omega arith)) in
-    let d = digit_of (m / 8 % 2) (f (start + 3)) (omega arith) (p.at 3 (omega arith)) in
-    omega (arith, a, b, c, d, p.small)
+four_is m start f p = grind (arith, nat_tests, digit_of)
 
 -- ---- what is picked of four
 
@@ -78,8 +72,7 @@ abbrev each : (Bool → Bool) → Bool
 each p = p true && p false
 
 of_each : (p : Bool → Bool) → each p ≡ true → (b : Bool) → p b ≡ true
-of_each p all true = and-left (p true) (p false) all
-of_each p all false = and-right (p true) (p false) all
+of_each p all b = grind (arith, nat_tests, and-left, and-right)
 
 abbrev agrees : Bool → Bool → Bool → Bool → Bool → Bool → Bool → Bool → Bool
 agrees p q r s a b c d = entry (four p q r s) (four a b c d) == packed (chosen p q r s a b c d)
@@ -194,17 +187,13 @@ same_as true b = b
 same_as false b = not b
 
 from_same : (a b : Bool) → same_as a b ≡ true → a ≡ b
-from_same true true e = refl
-from_same true false e = sym e
-from_same false true e = e
-from_same false false e = refl
+from_same a b e = grind (arith, nat_tests)
 
 abbrev each_four : (Bool → Bool → Bool → Bool → Bool) → Bool
 each_four p = each (λ a. each (λ b. each (λ c. each (λ d. p a b c d))))
 
 of_each_four : (p : Bool → Bool → Bool → Bool → Bool) → each_four p ≡ true → (a b c d : Bool) → p a b c d ≡ true
-of_each_four p all a b c d =
-    of_each (λ d. p a b c d) (of_each (λ c. each (λ d. p a b c d)) (of_each (λ b. each (λ c. each (λ d. p a b c d))) (of_each (λ a. each (λ b. each (λ c. each (λ d. p a b c d)))) all a) b) c) d
+of_each_four p all a b c d = grind (arith, nat_tests, of_each)
 
 bit_zero : (a b c d : Bool) → bit (four a b c d) 0 ≡ a
 bit_zero a b c d = from_same (bit (four a b c d) 0) a (of_each_four (λ a b c d. same_as (bit (four a b c d) 0) a) refl a b c d)
@@ -297,8 +286,7 @@ unfolding lib.Count.ones
 all_ones = refl
 
 or_from : (a b : Bool) → (not a || b) ≡ true → a ≡ true → b ≡ true
-or_from true b e h = e
-or_from false b e h = absurd (false≢true h)
+or_from a b e h = grind (arith, nat_tests, false≢true)
 
 -- the bits that are at the due places
 abbrev pub placed : ℕ → ℕ → ℕ → Bool
@@ -359,13 +347,7 @@ are_spread due word four low = record {
 }
 
 chosen_length : (p q r s a b c d : Bool) → length (chosen p q r s a b c d) ≡ length (chosen p q r s false false false false)
-chosen_length p q r s a b c d =
-    one (((([] ++ due_there p a) ++ due_there q b) ++ due_there r c)) (((([] ++ due_there p false) ++ due_there q false) ++ due_there r false)) s d
-    (one (([] ++ due_there p a) ++ due_there q b) (([] ++ due_there p false) ++ due_there q false) r c (one ([] ++ due_there p a) ([] ++ due_there p false) q b (one [] [] p a refl)))
-  where
-    one : (xs ys : List Bool) (t x : Bool) → length xs ≡ length ys → length (xs ++ due_there t x) ≡ length (ys ++ due_there t false)
-    one xs ys true x e = length-append xs (x ∷ []) ∙ ap (λ n. n + 1) e ∙ sym (length-append ys (false ∷ []))
-    one xs ys false x e = length-append xs [] ∙ ap (λ n. n + 0) e ∙ sym (length-append ys [])
+chosen_length p q r s a b c d = grind (arith, nat_tests, length-append)
 
 -- the ones of a mask are its due positions
 pub ones_of : (due start count : ℕ) (f g : ℕ → Bool) → count ≤ 4 → Shows due g start count → count_ones due ≡ length (map f (filter g (span start count)))
@@ -374,3 +356,21 @@ ones_of due start count f g few p =
     let w = b (start + 0) in let x = b (start + 1) in let y = b (start + 2) in let z = b (start + 3) in
     ap count_ones (four_is due start b (wider due start count g few p)) ∙ eqb-true _ _ (of_each_four (λ p q r s. ones_there p q r s) all_ones w x y z) ∙
     sym (chosen_length w x y z (f (start + 0)) (f (start + 1)) (f (start + 2)) (f (start + 3))) ∙ sym (ap length (chosen_is f b start)) ∙ ap length (wider_choice f g start count few)
+
+-- ---- a word that is first in four bits
+
+abbrev pub first_entry : ℕ → ℕ → ℕ
+first_entry due bits = slice_index_or (slice_index_or FIRST_SPREADS due []) bits 0
+
+abbrev is_first : ℕ → ℕ → Bool
+is_first due bits = (spread_entry due (bits / 2 ^ (4 - count_ones due)) == first_entry due bits) && nat_lt (bits / 2 ^ (4 - count_ones due)) 16
+
+all_first : list_all (λ i. list_all (λ j. is_first i j) (span 0 16)) (span 0 16) ≡ true
+unfolding span lib.Count.ones
+all_first = refl
+
+pub first_spread : (due bits : ℕ) → due < 16 → bits < 16 → AreSpread due (bits / 2 ^ (4 - count_ones due)) (first_entry due bits)
+first_spread due bits four low =
+    let row = list_all-span-zero (λ i. list_all (λ j. is_first i j) (span 0 16)) 16 due all_first four in
+    let test = list_all-span-zero (λ j. is_first due j) 16 bits row low in
+    subst (AreSpread due (bits / 2 ^ (4 - count_ones due))) (eqb-true _ _ (and-left _ _ test)) (are_spread due (bits / 2 ^ (4 - count_ones due)) four (ltb-true _ _ (and-right _ _ test)))

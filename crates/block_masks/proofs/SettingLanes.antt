@@ -1,6 +1,6 @@
 -- Sixteen numbers that are given a bit and a sign.
-use Rattle.std.proofs.Common.{◌≡◌, inl, inr, ℕ, zero, suc, ◌+◌, ◌-◌, ◌*◌, ◌/◌, ◌%◌, ◌<◌, ◌≤◌, ◌^◌, ℤ, pos, negsuc, neg_ℤ, Bool, true, false, not, cond, List, [], ◌∷◌, length, map, get_or, replicate, unsigned_abs, bit_and, bit_or, FitsSigned, refl, ap, sym, ◌∙◌, subst, arith, w32, nat_eq}
-use Rattle.std.specs.Prelude.{◌==◌, ◌||◌, ◌&&◌, if◌then◌else◌}
+use Rattle.std.proofs.Common.{◌≡◌, inl, inr, ℕ, zero, suc, ◌+◌, ◌-◌, ◌*◌, ◌%◌, ◌<◌, ◌≤◌, ◌^◌, ℤ, pos, negsuc, neg_ℤ, Bool, true, false, not, cond, List, [], length, map, get_or, replicate, unsigned_abs, bit_and, bit_or, FitsSigned, refl, ap, sym, ◌∙◌, subst, arith, w32, nat_eq}
+use Rattle.std.specs.Prelude.{◌||◌, ◌&&◌, if◌then◌else◌}
 use Rattle.std.specs.List.{range_with_len}
 use Rattle.std.specs.Int.{bit_at}
 use Rattle.std.specs.Int.Bits.{bit_xor, or_add_and, xor_add_and, xor_zero_r, or_zero_r}
@@ -14,6 +14,7 @@ use Rattle.std.proofs.lemmas.Bool.{cases_lt}
 use Rattle.std.proofs.lemmas.List.{get_or_past}
 use Rattle.std.proofs.lemmas.List.FromFn.{get_or-map-range_with_len, length-map-range_with_len}
 use Rattle.std.proofs.lemmas.Simd.{zip2_splat, zip2_of_maps, splat_is_map, map-map, pick_l_whole}
+use Rattle.std.proofs.lemmas.Bool.Decides.{nat_tests}
 use mir.Val.{of_z, to_z}
 use Rattle.item_defs.specs.Bits.{bit}
 use Rattle.plane_defs.specs.Entries.{negative}
@@ -34,20 +35,13 @@ abbrev pub tested : (mask weight : ℕ) → ℤ
 tested mask weight = to_z w32 (cond (top 31 (cond (nat_eq (bit_and mask weight) weight) 4294967295 0)) 4294967295 0)
 
 filled : (b : Bool) → to_z w32 (cond (top 31 (cond b 4294967295 0)) 4294967295 0) ≡ all_or_none b
-filled true = refl
-filled false = refl
+filled b = grind (arith, nat_tests)
 
 tested_is : (mask k : ℕ) → tested mask (2 ^ k) ≡ all_or_none (bit mask k)
-tested_is mask k = filled (nat_eq (bit_and mask (2 ^ k)) (2 ^ k)) ∙ ap all_or_none (ap (λ m. nat_eq m (2 ^ k)) (and_pow mask k) ∙ told (mask / 2 ^ k % 2) (2 ^ k) (omega arith) (pow_pos k))
-  where
-    told : (d p : ℕ) → d < 2 → 0 < p → nat_eq (d * p) p ≡ (d == 1)
-    told zero p small some = grind arith
-    told (suc zero) p small some = grind arith
-    told (suc (suc d)) p small some = absurd (omega arith)
+tested_is mask k = grind (arith, nat_tests, filled, nat_eq, bit_and, and_pow, pow_pos)
 
 same_maps : (f g : ℕ → ℤ) (ks : List ℕ) → ((k : ℕ) → f k ≡ g k) → map f ks ≡ map g ks
-same_maps f g [] same = refl
-same_maps f g (k ∷ ks) same = λ i. same k i ∷ same_maps f g ks same i
+same_maps f g ks same = grind (arith, nat_tests)
 
 pub lanes_are : (mask : ℕ) → map (λ k. tested mask (2 ^ k)) (range_with_len 0 16) ≡ map (λ k. all_or_none (bit mask k)) (range_with_len 0 16)
 lanes_are mask = same_maps (λ k. tested mask (2 ^ k)) (λ k. all_or_none (bit mask k)) (range_with_len 0 16) (tested_is mask)
@@ -110,10 +104,7 @@ kept : (n : ℕ) → n < 2147483648 → to_z w32 (minus (bit_xor n 0) 0) ≡ pos
 kept n small = ap (λ m. to_z w32 (minus m 0)) (xor_zero_r n) ∙ grind (arith, ints)
 
 either_sign : (m t : Bool) → bit_or (of_z w32 (all_or_none m)) (cond t ones 0) ≡ cond (t || m) ones 0
-either_sign true true = refl
-either_sign true false = refl
-either_sign false true = refl
-either_sign false false = refl
+either_sign m t = grind (arith, nat_tests)
 
 sign_is : (z : ℤ) (m : Bool) → FitsSigned w32 z → bit_or (of_z w32 (all_or_none m)) (was (of_z w32 z)) ≡ cond (negative z || m) ones 0
 sign_is z m fits = ap (λ t. bit_or (of_z w32 (all_or_none m)) (cond t ones 0)) (negative_lane z fits) ∙ either_sign m (negative z)
@@ -125,17 +116,11 @@ other_lane weight z fits =
     ap (λ n. to_z w32 (minus (bit_xor n (cond (negative z || false) ones 0)) (cond (negative z || false) ones 0))) (or_zero_r (unsigned_abs z)) ∙ by_sign z fits
   where
     by_sign : (z : ℤ) → FitsSigned w32 z → to_z w32 (minus (bit_xor (unsigned_abs z) (cond (negative z || false) ones 0)) (cond (negative z || false) ones 0)) ≡ z
-    by_sign (pos n) fits = kept n fits.sfits
-    by_sign (negsuc n) fits = turned (suc n) (omega (arith, fits.sfits))
+    by_sign z fits = grind (arith, nat_tests, kept, turned)
 
 -- the weight of a bit that is missing
 pub missing : (n plane : ℕ) → bit_at n plane * 2 ^ plane + (if not (bit n plane) then 2 ^ plane else 0) ≡ 2 ^ plane
-missing n plane = by_bit (bit_at n plane) (omega arith)
-  where
-    by_bit : (b : ℕ) → b < 2 → b * 2 ^ plane + (if not (b == 1) then 2 ^ plane else 0) ≡ 2 ^ plane
-    by_bit zero lt = omega arith
-    by_bit (suc zero) lt = omega arith
-    by_bit (suc (suc b)) lt = absurd (omega (arith, lt))
+missing n plane = grind (arith, nat_tests)
 
 pub size_set : (n plane : ℕ) → bit_or n (2 ^ plane) ≡ n + (if not (bit n plane) then 2 ^ plane else 0)
 size_set n plane = omega (arith, or_add_and n (2 ^ plane), and_pow n plane, missing n plane)
@@ -152,8 +137,7 @@ named_lane plane z m low fits small =
     by_sign (unsigned_abs z + (if not (bit (unsigned_abs z) plane) then 2 ^ plane else 0)) (negative z || m) whole
   where
     by_sign : (n : ℕ) (t : Bool) → n < 2147483648 → to_z w32 (minus (bit_xor n (cond t ones 0)) (cond t ones 0)) ≡ (if t then neg_ℤ (pos n) else pos n)
-    by_sign n true less = turned n (omega arith)
-    by_sign n false less = kept n less
+    by_sign n t less = grind (arith, nat_tests, less, turned, kept)
 
 -- ---- sixteen of them
 

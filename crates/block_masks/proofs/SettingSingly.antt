@@ -6,6 +6,7 @@ use Rattle.std.proofs.lemmas.Bool.{cases_eq, true≢false}
 use Rattle.std.proofs.lemmas.Int.{ints, to_z-of_z}
 use Rattle.std.proofs.lemmas.List.{get_or-set_same, get_or-set_other, length-set}
 use Rattle.std.proofs.lemmas.Nat.{and_mask}
+use Rattle.std.proofs.lemmas.Bool.Decides.{nat_tests}
 use lib.Signed.{lt_z}
 use mir.Val.{SFits}
 use Rattle.item_defs.specs.Bits.{bit}
@@ -43,9 +44,7 @@ module _ (z : ℤ) (plane : ℕ) (minus : Bool) (small : unsigned_abs z < 2 ^ 30
   size_small = let mask : size_now ≡ bit_or (unsigned_abs z) (1 * 2 ^ plane % 4294967296) % 2147483648 = and_mask (bit_or (unsigned_abs z) (1 * 2 ^ plane % 4294967296)) 31 in omega (arith, mask)
 
   signed : (b : Bool) → (negative z || minus) ≡ b → (if b then neg_ℤ (pos size_now) else pos size_now) ≡ with_bit plane z minus
-  signed b e =
-      ap (λ n. if b then neg_ℤ (pos n) else pos n) (size_kept (unsigned_abs z) plane small low) ∙
-      ap (λ t. if t then neg_ℤ (pos (unsigned_abs z + (if not (bit (unsigned_abs z) plane) then 2 ^ plane else 0))) else pos (unsigned_abs z + (if not (bit (unsigned_abs z) plane) then 2 ^ plane else 0))) (sym e)
+  signed b e = grind (arith, nat_tests, neg_ℤ, size_kept)
 
   pub set_negative : (negative z || minus) ≡ true → to_z w32 (of_z w32 (pos 0 -ℤ to_z w32 size_now)) ≡ with_bit plane z minus
   set_negative e = taken_from_zero size_now size_small ∙ signed true e
@@ -104,6 +103,4 @@ single_step {plane} {bits} {minus} {left} {fewer} {at} {before} {now} a lt has g
     here = a.left_same at lt has
 
     named_at : magnitude before at < 2 ^ 30 → get_or (set now at number) at (pos 0) ≡ with_bit plane (get_or before at (pos 0)) (bit minus at)
-    named_at size =
-        get_or-set_same now at number (pos 0) (omega (arith, a.whole, lt)) ∙ is (subst (λ z. unsigned_abs z < 2 ^ 30) (sym here) size) ∙
-        ap (λ z. with_bit plane z (bit minus at)) here
+    named_at size = grind (arith, nat_tests, get_or-set_same, here)

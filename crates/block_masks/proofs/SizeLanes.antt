@@ -1,11 +1,11 @@
 -- The magnitudes of sixteen numbers, and their bits.
-use Rattle.std.proofs.Common.{◌≡◌, ℕ, zero, suc, ◌+◌, ◌-◌, ◌*◌, ◌/◌, ◌%◌, ◌<◌, ◌≤◌, ◌^◌, ℤ, pos, negsuc, Bool, not, cond, eqb, List, [], ◌∷◌, length, map, get_or, replicate, unsigned_abs, bit_and, FitsSigned, refl, ap, sym, ◌∙◌, subst, arith, w32}
-use Rattle.std.specs.Prelude.{◌==◌}
+use Rattle.std.proofs.Common.{◌≡◌, ℕ, ◌+◌, ◌-◌, ◌*◌, ◌%◌, ◌<◌, ◌≤◌, ◌^◌, ℤ, pos, Bool, not, cond, eqb, List, [], ◌∷◌, length, map, get_or, replicate, unsigned_abs, bit_and, FitsSigned, refl, ap, sym, ◌∙◌, subst, arith, w32}
 use Rattle.std.specs.Simd.Lanes.{mask_l, top, zip2, sel_l}
 use Rattle.std.proofs.Math.Pow.{pow_mono}
 use Rattle.std.proofs.lemmas.List.{map-id}
 use Rattle.std.proofs.lemmas.Nat.Bits.{and_pow}
 use Rattle.std.proofs.lemmas.Simd.{zip2_splat_left, zip2_of_maps, splat_is_map, map-map}
+use Rattle.std.proofs.lemmas.Bool.Decides.{nat_tests}
 use lib.Signed.{lt_z}
 use mir.Val.{of_z, to_z}
 use Rattle.item_defs.specs.Bits.{bit}
@@ -60,19 +60,10 @@ tested y f cells start within each =
 -- ---- one lane
 
 pub size_is : (z : ℤ) → FitsSigned w32 z → size (of_z w32 z) ≡ unsigned_abs z
-size_is (pos n) fits = rw (top_of (lt_z (to_z w32 n) (to_z w32 (minus 0 n)))) (grind (arith, fits.sfits))
-size_is (negsuc n) fits = rw (top_of (lt_z (to_z w32 (4294967296 - suc n)) (to_z w32 (minus 0 (4294967296 - suc n))))) (grind (arith, fits.sfits))
+size_is z fits = grind (arith, nat_tests, top_of, w32)
 
 some_bit : (n k : ℕ) → top 31 (apart (bit_and n (2 ^ k)) 0) ≡ bit n k
-some_bit n k =
-    let from : 0 ≤ k = omega arith in
-    let least : 2 ^ 0 ≤ 2 ^ k = pow_mono from in
-    top_of (not (eqb (bit_and n (2 ^ k)) 0)) ∙ ap (λ m. not (eqb m 0)) (and_pow n k) ∙ told (n / 2 ^ k % 2) (2 ^ k) (omega arith) (omega (arith, least))
-  where
-    told : (d p : ℕ) → d < 2 → 1 ≤ p → not (eqb (d * p) 0) ≡ (d == 1)
-    told zero p small least = grind arith
-    told (suc zero) p small least = grind arith
-    told (suc (suc d)) p small least = absurd (omega arith)
+some_bit n k = grind (arith, nat_tests, pow_mono, top_of, bit_and, and_pow)
 
 pub bit_lane : (plane : ℕ) (z : ℤ) → plane < 31 → FitsSigned w32 z → top 31 (apart (bit_and (size (of_z w32 z)) (1 * 2 ^ plane % 4294967296)) 0) ≡ bit (unsigned_abs z) plane
 bit_lane plane z low fits =

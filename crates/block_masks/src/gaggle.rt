@@ -44,6 +44,7 @@ pub fn families_of(mark: i32) -> u64
 }
 
 /// Returns what the state of a gaggle's first block has of the gaggle, in the eight bits above the depth.
+#[inline]
 #[tactic(auto, unfolding(crate::specs::Gaggles::options_in, crate::specs::Gaggles::sent_in))]
 pub fn gaggle_in(mark: i32) -> Gaggle
     ensures options { result.options ≡ options_in mark }
@@ -63,6 +64,7 @@ pub fn gaggle_in(mark: i32) -> Gaggle
     Gaggle { options, sent }
 }
 
+#[inline]
 fn digit_of(bit: bool) -> u32
     ensures value { result ≡ digit bit }
     ensures within { result < 2 }
@@ -71,6 +73,7 @@ fn digit_of(bit: bool) -> u32
 }
 
 // Returns a state with this depth, these options and these flags.
+#[inline]
 fn packed_mark(depth: u8, options: (u8, u8, u8), sent: (bool, bool, bool)) -> i32
     requires below { depth < 32 }
     requires two { options.0 < 2 }
@@ -89,6 +92,7 @@ fn packed_mark(depth: u8, options: (u8, u8, u8), sent: (bool, bool, bool)) -> i3
 
 /// Returns a state with this depth and this state of a gaggle, and no family. The depth is below 32, and the options for
 /// words of two, three and four bits are below 2, 3 and 4.
+#[inline]
 #[tactic(auto, using(crate::proofs::MarkParts::three_of))]
 pub fn mark_of(depth: u8, gaggle: Gaggle) -> i32
     requires below { depth < 32 }
@@ -117,6 +121,7 @@ pub fn with_families(mark: i32, families: u64) -> i32
 }
 
 /// Returns what the states keep of gaggle g.
+#[inline]
 pub fn load(marks: &[i32], g: usize) -> Gaggle
     requires { 16 * g < length marks.now }
     ensures options { result.options ≡ options_at marks.now g }
@@ -127,6 +132,7 @@ pub fn load(marks: &[i32], g: usize) -> Gaggle
 
 /// Stores the state of gaggle g in `marks`; their depths and families stay. There is a state for the first block of the
 /// gaggle, and the options for words of two, three and four bits are below 2, 3 and 4.
+#[inline]
 pub fn store(marks: &mut [i32], g: usize, gaggle: Gaggle)
     requires within { 16 * g < length marks.old }
     requires known { AreOptions gaggle.options }

@@ -1,6 +1,6 @@
 // The bits of four positions that are due, as a word and back.
 
-ghost use Rattle.std.specs.Prelude.{◌≡◌, ◌<◌, ◌≤◌, ◌/◌, ◌%◌, ◌^◌, ℕ, Bool, map, filter};
+ghost use Rattle.std.specs.Prelude.{◌≡◌, ◌<◌, ◌≤◌, ◌-◌, ◌/◌, ◌%◌, ◌^◌, ℕ, Bool, map, filter, count_ones};
 ghost use Rattle.plane_defs.specs.Spans.{span};
 ghost use Rattle.block_masks.specs.Masks.{Shows};
 ghost use Rattle.block_masks.specs.Picks.{packed, AreSpread};
@@ -99,4 +99,35 @@ pub fn spread(due: u64, word: u8) -> u64
     ensures { AreSpread due word result }
 {
     u64::from(SPREADS[due as usize][word as usize])
+}
+
+// The entry for each mask of what is due, and each four bits: the positions whose bit is 1, if the first of these bits are for them.
+const FIRST_SPREADS: [[u8; 16]; 16] = [
+    [0, 0, 0, 0, 0, 0, 0, 0, 0, 0, 0, 0, 0, 0, 0, 0],
+    [0, 0, 0, 0, 0, 0, 0, 0, 1, 1, 1, 1, 1, 1, 1, 1],
+    [0, 0, 0, 0, 0, 0, 0, 0, 2, 2, 2, 2, 2, 2, 2, 2],
+    [0, 0, 0, 0, 2, 2, 2, 2, 1, 1, 1, 1, 3, 3, 3, 3],
+    [0, 0, 0, 0, 0, 0, 0, 0, 4, 4, 4, 4, 4, 4, 4, 4],
+    [0, 0, 0, 0, 4, 4, 4, 4, 1, 1, 1, 1, 5, 5, 5, 5],
+    [0, 0, 0, 0, 4, 4, 4, 4, 2, 2, 2, 2, 6, 6, 6, 6],
+    [0, 0, 4, 4, 2, 2, 6, 6, 1, 1, 5, 5, 3, 3, 7, 7],
+    [0, 0, 0, 0, 0, 0, 0, 0, 8, 8, 8, 8, 8, 8, 8, 8],
+    [0, 0, 0, 0, 8, 8, 8, 8, 1, 1, 1, 1, 9, 9, 9, 9],
+    [0, 0, 0, 0, 8, 8, 8, 8, 2, 2, 2, 2, 10, 10, 10, 10],
+    [0, 0, 8, 8, 2, 2, 10, 10, 1, 1, 9, 9, 3, 3, 11, 11],
+    [0, 0, 0, 0, 8, 8, 8, 8, 4, 4, 4, 4, 12, 12, 12, 12],
+    [0, 0, 8, 8, 4, 4, 12, 12, 1, 1, 9, 9, 5, 5, 13, 13],
+    [0, 0, 8, 8, 4, 4, 12, 12, 2, 2, 10, 10, 6, 6, 14, 14],
+    [0, 8, 4, 12, 2, 10, 6, 14, 1, 9, 5, 13, 3, 11, 7, 15],
+];
+
+/// Returns the positions of a word that is first in four bits: those among up to four due ones whose bit is 1, if the highest of
+/// the four bits is for the first of them.
+#[inline(always)]
+pub fn spread_first(due: u64, bits: u8) -> u64
+    requires due { due < 16 }
+    requires bits { bits < 16 }
+    ensures { AreSpread due (bits / 2 ^ (4 - count_ones due)) result }
+{
+    u64::from(FIRST_SPREADS[due as usize][bits as usize])
 }

@@ -2,6 +2,7 @@
 
 ghost use Rattle.std.specs.Prelude.{◌<◌, ◌+◌, ◌*◌, ◌≤◌, ◌≡◌, ℕ, Bool, ◌||◌};
 ghost use Rattle.std.specs.List.{list_any};
+ghost use Rattle.item_defs.specs.Bits.{bit};
 ghost use Rattle.plane_defs.specs.Spans.{span};
 ghost use Rattle.block_masks.specs.Masks.{Shows};
 ghost use Rattle.block_masks.specs.SetMasks.{AreSets, AreQuads};
@@ -72,4 +73,20 @@ pub fn quads_of(mask: u64, i: u8) -> u64
         is_any_of(mask, start + 8, 4),
         is_any_of(mask, start + 12, 4),
     )
+}
+
+/// Returns which fours of positions have a member in a mask: bit j is for the four positions from `at` + 4j on.
+#[inline(always)]
+pub fn fours_of(mask: u64, at: u8) -> u64
+    requires { at < 64 }
+    ensures within { result < 16 }
+    ensures told { (j : ℕ) → j < 4 → bit result j ≡ list_any (bit mask) (span (at + 4 * j) 4) }
+{
+    let here = mask >> at;
+    let pairs = here | (here >> 1);
+    let any = pairs | (pairs >> 2);
+    // The first bit of each four is kept, and these four bits are moved together.
+    let firsts = any & 0x1111;
+    let near = firsts | (firsts >> 3);
+    (near | (near >> 6)) & 15
 }

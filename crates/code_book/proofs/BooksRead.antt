@@ -1,6 +1,7 @@
 -- A book that was read whole, and which books are read.
 use Rattle.std.proofs.Common.{◌≡◌, ◌<◌, ℕ, Bool, true, false, List, [], length, refl, sym, ap, ◌∙◌, subst, arith, Option, None, Some, IfSome, IfOk, IfErr, IsTrue, Result, Ok, Err, if◌then◌else◌}
 use Rattle.std.proofs.lemmas.List.{take_all}
+use Rattle.std.proofs.lemmas.Bool.Decides.{nat_tests}
 use Rattle.port_122.specs.Outside.{Outside, Exchange}
 use Rattle.base_122.specs.declared.book.Book.{Book}
 use Rattle.plane_defs.specs.Codes.{is_book_sound}
@@ -70,12 +71,10 @@ unfolding book_read
 read_marked octets book mark is = rw (mark, is) refl
 
 sound_or : (book : Book) (o : Option BookFault) → Ok tt ≡ refusal o → Ok book ≡ book_or book o
-sound_or book None e = refl
-sound_or book (Some fault) e = absurd cc
+sound_or book o e = grind (arith, nat_tests)
 
 unsound_or : (book : Book) (o : Option BookFault) (fault : BookFault) → Err fault ≡ refusal o → Err fault ≡ book_or book o
-unsound_or book None fault e = absurd cc
-unsound_or book (Some first) fault e = let same : fault ≡ first = cc in rw same refl
+unsound_or book o fault e = grind (arith, nat_tests)
 
 pub read_sound : (octets : List ℕ) (book : Book) → has_mark octets ≡ true → book ≡ book_in octets → Ok tt ≡ book_check book → Ok book ≡ book_read octets
 read_sound octets book mark is e = sound_or book (fault_from book 0 6) e ∙ read_marked octets book mark is

@@ -42,15 +42,10 @@ or_else_none None rest e = (refl, e)
 or_else_none (Some fault) rest e = absurd (let no : Some fault ≡ None = e in cc)
 
 room_full : (n : ℕ) (fault : BookFault) → (if n == 256 then None else Some fault) ≡ None → n ≡ 256
-room_full n fault e = by (n == 256) refl e
-  where
-    by : (b : Bool) → (n == 256) ≡ b → (if b then None else Some fault) ≡ None → n ≡ 256
-    by true f e = grind (arith, nat_tests)
-    by false f e = absurd (let no : Some fault ≡ None = e in cc)
+room_full n fault e = grind (arith, nat_tests)
 
 not_false : (b : Bool) → not b ≡ false → b ≡ true
-not_false true e = refl
-not_false false e = absurd (false≢true (sym e))
+not_false b e = grind (arith, nat_tests, false≢true)
 
 code_from : (c : Code) → has_length c ≡ true → fits c ≡ true → IsCode c
 code_from c long fit = record { some = (let e : 1 ≤ c.len = grind (arith, nat_tests) in e); few = (let e : c.len ≤ 8 = grind (arith, nat_tests) in e); fits = (let e : c.bits < 2 ^ c.len = grind (arith, nat_tests) in e) }
@@ -99,8 +94,7 @@ module _ (t : ℕ) (codes : List Code) (count : ℕ) where
       none_each (λ k. clashes (entry codes s) (entry codes k)) (s + 1) (count - (s + 1)) r (none_clash 0 count s none (omega arith) (omega (arith, less, lt))) (omega (arith, less)) (omega (arith, less, lt))
 
   apart_none : AreApart codes count → clash_from t codes count 0 count ≡ None
-  apart_none apart =
-      clash_none 0 count (λ s low high. each_none (λ k. clashes (entry codes s) (entry codes k)) (s + 1) (count - (s + 1)) (λ r least most. apart s r (omega (arith, least)) (omega (arith, high, most))))
+  apart_none apart = grind (arith, nat_tests, clash_none, each_none)
 
   passes : table_fault t codes count ≡ None → Passes codes count
   unfolding table_fault
@@ -122,16 +116,7 @@ module _ (t : ℕ) (codes : List Code) (count : ℕ) where
 
   pub no_fault : IsTableSound codes count → table_fault t codes count ≡ None
   unfolding table_fault
-  no_fault sound =
-      let tests = tests_from codes count sound in
-      let are = sound.codes in
-      let long : bad_length codes count ≡ None = each_none (λ s. not (has_length (entry codes s))) 0 count (λ s low high. ap not (has_length_so (entry codes s) (are.each s (omega (arith, high))))) in
-      let fit : bad_bits codes count ≡ None = each_none (λ s. not (fits (entry codes s))) 0 count (λ s low high. ap not (fits_so (entry codes s) (are.each s (omega (arith, high))))) in
-      let full : (room_of codes count == 256) ≡ true = (let f = tests.1 in grind (arith, nat_tests)) in
-      ap (λ o. named (BadLength t) o (named (BadBits t) (bad_bits codes count) (or_else (clash_from t codes count 0 count) (if room_of codes count == 256 then None else Some (Incomplete t))))) long
-      ∙ ap (λ o. named (BadBits t) o (or_else (clash_from t codes count 0 count) (if room_of codes count == 256 then None else Some (Incomplete t)))) fit
-      ∙ ap (λ o. or_else o (if room_of codes count == 256 then None else Some (Incomplete t))) (apart_none tests.0)
-      ∙ ap (λ b. if b then None else Some (Incomplete t)) full
+  no_fault sound = grind (arith, nat_tests, tests_from, each_none, has_length_so, fits_so, apart_none)
 
 -- ---- a book
 
@@ -190,14 +175,12 @@ module _ (t : ℕ) (codes : List Code) (count : ℕ) where
   pub fault_room : bad_length codes count ≡ None → bad_bits codes count ≡ None → clash_from t codes count 0 count ≡ None → (room_of codes count == 256) ≡ false →
       table_fault t codes count ≡ Some (Incomplete t)
   unfolding table_fault
-  fault_room long fit clash room = ap (λ o. named (BadLength t) o after_length) long ∙ ap (λ o. named (BadBits t) o after_bits) fit ∙ ap (λ o. or_else o after_clash) clash
-      ∙ ap (λ b. if b then None else Some (Incomplete t)) room
+  fault_room long fit clash room = grind (arith, nat_tests)
 
   pub fault_none : bad_length codes count ≡ None → bad_bits codes count ≡ None → clash_from t codes count 0 count ≡ None → (room_of codes count == 256) ≡ true →
       table_fault t codes count ≡ None
   unfolding table_fault
-  fault_none long fit clash room = ap (λ o. named (BadLength t) o after_length) long ∙ ap (λ o. named (BadBits t) o after_bits) fit ∙ ap (λ o. or_else o after_clash) clash
-      ∙ ap (λ b. if b then None else Some (Incomplete t)) room
+  fault_none long fit clash room = grind (arith, nat_tests)
 
   pub lengths_from : bad_length codes count ≡ None → (s : ℕ) → s < count → (entry codes s).len ≤ 8
   lengths_from long s lt =
@@ -207,21 +190,13 @@ module _ (t : ℕ) (codes : List Code) (count : ℕ) where
 -- ---- tables, one after another
 
 pub symbols_at : (i : ℕ) → i < 6 → slice_index_or (4 ∷ 8 ∷ 8 ∷ 16 ∷ 16 ∷ 16 ∷ []) i 0 ≡ symbols_of i
-symbols_at zero lt = refl
-symbols_at (suc zero) lt = refl
-symbols_at (suc (suc zero)) lt = refl
-symbols_at (suc (suc (suc zero))) lt = refl
-symbols_at (suc (suc (suc (suc zero)))) lt = refl
-symbols_at (suc (suc (suc (suc (suc zero))))) lt = refl
-symbols_at (suc (suc (suc (suc (suc (suc i)))))) lt = absurd (omega (arith, lt))
+symbols_at i lt = grind (arith, nat_tests)
 
 or_else_some : (o rest : Option BookFault) → is_some o ≡ true → or_else o rest ≡ o
-or_else_some None rest e = absurd (false≢true e)
-or_else_some (Some fault) rest e = refl
+or_else_some o rest e = grind (arith, nat_tests, false≢true)
 
 or_else_past : (o rest : Option BookFault) → is_some o ≡ false → or_else o rest ≡ rest
-or_else_past None rest e = refl
-or_else_past (Some fault) rest e = absurd (false≢true (sym e))
+or_else_past o rest e = grind (arith, nat_tests, false≢true)
 
 fault_step : (book : Book) (i n m : ℕ) → n ≡ suc m → fault_from book i n ≡ or_else (table_fault i (table book i) (symbols_of i)) (fault_from book (i + 1) m)
 unfolding fault_from

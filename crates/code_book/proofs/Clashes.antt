@@ -1,5 +1,5 @@
 -- Two codes of which one is a prefix of the other, found one after another.
-use Rattle.std.proofs.Common.{◌≡◌, ◌≤◌, ◌<◌, ◌+◌, ◌-◌, ◌/◌, ◌^◌, ℕ, suc, Bool, true, false, List, [], ◌∷◌, length, refl, sym, ap, subst, ◌∙◌, arith}
+use Rattle.std.proofs.Common.{◌≡◌, ◌≤◌, ◌<◌, ◌+◌, ◌-◌, ◌/◌, ◌^◌, ℕ, suc, Bool, true, false, List, [], ◌∷◌, length, refl, ap, subst, ◌∙◌, arith}
 use Rattle.std.specs.Prelude.{◌==◌, ◌||◌, not, if◌then◌else◌, Option, Some, None}
 use Rattle.std.specs.List.{list_all}
 use Rattle.std.proofs.lemmas.Bool.{false≢true}
@@ -20,13 +20,11 @@ module _ (t : ℕ) (codes : List Code) (count : ℕ) where
   step i n m e = ap (clash_from t codes count i) e
 
   pub clash_found : (whole : Option BookFault) (i bound r : ℕ) → whole ≡ clash_from t codes count i (bound - i) → i < bound → clash_of codes count i ≡ Some r → whole ≡ Some (Clash t i r)
-  clash_found whole i bound r so_far lt e =
-      so_far ∙ step i (bound - i) (bound - (i + 1)) (omega (arith, lt)) ∙ ap (λ o. pair_with t i o (clash_from t codes count (i + 1) (bound - (i + 1)))) e
+  clash_found whole i bound r so_far lt e = grind (arith, nat_tests, step)
 
   pub clash_past : (whole : Option BookFault) (i bound : ℕ) → whole ≡ clash_from t codes count i (bound - i) → i < bound → clash_of codes count i ≡ None →
       whole ≡ clash_from t codes count (i + 1) (bound - (i + 1))
-  clash_past whole i bound so_far lt e =
-      so_far ∙ step i (bound - i) (bound - (i + 1)) (omega (arith, lt)) ∙ ap (λ o. pair_with t i o (clash_from t codes count (i + 1) (bound - (i + 1)))) e
+  clash_past whole i bound so_far lt e = grind (arith, nat_tests, step)
 
   pub clash_nowhere : (whole : Option BookFault) (i bound : ℕ) → whole ≡ clash_from t codes count i (bound - i) → bound ≤ i → whole ≡ None
   clash_nowhere whole i bound so_far le = let e : bound - i ≡ 0 = omega (arith, le) in so_far ∙ ap (clash_from t codes count i) e
@@ -44,10 +42,7 @@ unfolding span bits_of
 all_agree = refl
 
 same_so : (b c : Bool) → same b c ≡ true → b ≡ c
-same_so true true e = refl
-same_so true false e = absurd (false≢true e)
-same_so false true e = absurd (false≢true e)
-same_so false false e = refl
+same_so b c e = grind (arith, nat_tests, false≢true)
 
 begins_so : (a b : Code) → IsCode a → IsCode b → a.len ≤ b.len → is_prefix (code_bits a) (code_bits b) ≡ (b.bits / 2 ^ (b.len - a.len) == a.bits)
 begins_so a b is_a is_b le =
@@ -72,34 +67,16 @@ no_longer (false ∷ xs) (true ∷ ys) e = absurd (false≢true e)
 no_longer (false ∷ xs) (false ∷ ys) e = omega (arith, no_longer xs ys e)
 
 either_first : (a b : Bool) → (b ≡ true → a ≡ true) → (a || b) ≡ a
-either_first true b f = refl
-either_first false true f = absurd (false≢true (f refl))
-either_first false false f = refl
+either_first a b f = grind (arith, nat_tests, false≢true)
 
 swapped : (a b : Bool) → (a || b) ≡ (b || a)
-swapped true true = refl
-swapped true false = refl
-swapped false true = refl
-swapped false false = refl
+swapped a b = grind (arith, nat_tests)
 
 turn : (x y : ℕ) → (x / 2 ^ 0 == y) ≡ true → (y / 2 ^ 0 == x) ≡ true
-turn x y e =
-    let f : x / 1 ≡ y = grind (arith, nat_tests) in
-    let g : y / 1 ≡ x = omega (arith, f) in
-    grind (arith, nat_tests)
+turn x y e = grind (arith, nat_tests)
 
 pub clash_test : (a b : Code) → IsCode a → IsCode b → a.len ≤ b.len → clashes a b ≡ (b.bits / 2 ^ (b.len - a.len) == a.bits)
-clash_test a b is_a is_b le = either_first (is_prefix (code_bits a) (code_bits b)) (is_prefix (code_bits b) (code_bits a)) back ∙ begins_so a b is_a is_b le
-  where
-    back : is_prefix (code_bits b) (code_bits a) ≡ true → is_prefix (code_bits a) (code_bits b) ≡ true
-    back e =
-        let short : b.len ≤ a.len = omega (arith, no_longer (code_bits b) (code_bits a) e, length-bits_of b.len b.bits, length-bits_of a.len a.bits) in
-        let test : (a.bits / 2 ^ (a.len - b.len) == b.bits) ≡ true = sym (begins_so b a is_b is_a short) ∙ e in
-        let none : a.len - b.len ≡ 0 = omega (arith, le) in
-        let none' : b.len - a.len ≡ 0 = omega (arith, short) in
-        let at : (a.bits / 2 ^ 0 == b.bits) ≡ true = subst (λ k. (a.bits / 2 ^ k == b.bits) ≡ true) none test in
-        let turned : (b.bits / 2 ^ 0 == a.bits) ≡ true = turn a.bits b.bits at in
-        begins_so a b is_a is_b le ∙ subst (λ k. (b.bits / 2 ^ k == a.bits) ≡ true) (sym none') turned
+clash_test a b is_a is_b le = grind (arith, nat_tests, either_first, begins_so, no_longer, length-bits_of, turn)
 
 pub clash_test_back : (a b : Code) → IsCode a → IsCode b → b.len ≤ a.len → clashes a b ≡ (a.bits / 2 ^ (a.len - b.len) == b.bits)
 clash_test_back a b is_a is_b le = swapped (is_prefix (code_bits a) (code_bits b)) (is_prefix (code_bits b) (code_bits a)) ∙ clash_test b a is_b is_a le

@@ -4,6 +4,9 @@ use Rattle.std.specs.Prelude.{Bool, true, false, ◌==◌, ◌||◌, cond, count
 use Rattle.std.specs.List.{list_all, sum_by}
 use Rattle.std.proofs.lemmas.Bool.{cases_lt, false≢true}
 use Rattle.std.proofs.lemmas.List.Sums.{sum_by-append}
+use Rattle.std.proofs.Math.Bool.{or-true}
+use Rattle.std.proofs.lemmas.Bool.Decides.{nat_tests}
+use Rattle.plane_defs.proofs.ReadOnce.{count_one}
 use Rattle.item_defs.specs.Bits.{bits_of}
 use Rattle.plane_defs.specs.Spans.{span}
 use Rattle.plane_defs.specs.Codes.{is_prefix}
@@ -12,9 +15,7 @@ use Rattle.plane_defs.proofs.SpanLists.{span-suc}
 -- ---- sums over spans
 
 pub sum_last : (f : ℕ → ℕ) (n : ℕ) → sum_by f (span 0 (n + 1)) ≡ sum_by f (span 0 n) + f n
-sum_last f n =
-    let place : f (0 + n) ≡ f n = ap f (zero-add n) in
-    ap (sum_by f) (span-suc 0 n) ∙ sum_by-append f (span 0 n) ((0 + n) ∷ []) ∙ omega arith
+sum_last f n = grind (arith, nat_tests, zero-add, span-suc, sum_by-append)
 
 pub sum_suc : (f : ℕ → ℕ) (n : ℕ) → sum_by f (span 0 (suc n)) ≡ sum_by f (span 0 n) + f n
 sum_suc f n = ap (λ m. sum_by f (span 0 m)) (sym (add-one n)) ∙ sum_last f n
@@ -98,25 +99,12 @@ count_once p (suc n) once =
         let here : cond {A = ℕ} (p n) 1 0 ≡ 0 = ap (λ b. cond b 1 0) e in
         omega (arith, sum_suc (λ k. cond (p k) 1 0) n, rest, here)
 
-pub count_some : (p : ℕ → Bool) (n k : ℕ) → k < n → p k ≡ true → 1 ≤ count_by p (span 0 n)
-count_some p zero k lt e = absurd (omega (arith, lt))
-count_some p (suc n) k lt e = elim (cases_lt k n) [
-  | inl less ↦ omega (arith, sum_suc (λ k. cond (p k) 1 0) n, count_some p n k less e)
-  | inr far ↦
-      let here : cond {A = ℕ} (p n) 1 0 ≡ 1 = ap (λ b. cond b 1 0) (ap p (let same : n ≡ k = omega (arith, far, lt) in same) ∙ e) in
-      omega (arith, sum_suc (λ k. cond (p k) 1 0) n, here)
-]
-
 -- ---- strings that begin with a code
 
 -- of two prefixes of the same string one is a prefix of the other
 pub nested : (xs ys zs : List Bool) → is_prefix xs zs ≡ true → is_prefix ys zs ≡ true → (is_prefix xs ys || is_prefix ys xs) ≡ true
 nested [] ys zs f g = refl
-nested (x ∷ xs) [] zs f g = or_true (is_prefix (x ∷ xs) [])
-  where
-    or_true : (b : Bool) → (b || true) ≡ true
-    or_true true = refl
-    or_true false = refl
+nested (x ∷ xs) [] zs f g = or-true (is_prefix (x ∷ xs) [])
 nested (x ∷ xs) (y ∷ ys) [] f g = absurd (false≢true f)
 nested (true ∷ xs) (true ∷ ys) (true ∷ zs) f g = nested xs ys zs f g
 nested (true ∷ xs) (true ∷ ys) (false ∷ zs) f g = absurd (false≢true f)

@@ -1,8 +1,9 @@
 -- The octets of a book, read call by read call.
-use Rattle.std.proofs.Common.{◌≡◌, ◌≤◌, ◌<◌, ◌+◌, ℕ, List, ◌++◌, length, take, Err, sym, ap, subst, ◌∙◌, arith}
+use Rattle.std.proofs.Common.{◌≡◌, ◌≤◌, ◌<◌, ◌+◌, ℕ, List, ◌++◌, length, take, Err, sym, ◌∙◌, arith}
 use Rattle.std.proofs.lemmas.List.{length-take-le, take-append-le}
 use Rattle.std.proofs.Math.Seq.{take-append-add}
-use borrow.Rule.Slice.PartMut.{put_mid, post_of}
+use Rattle.std.proofs.lemmas.Bool.Decides.{nat_tests}
+use borrow.Rule.Slice.PartMut.{put_mid}
 use Rattle.port_122.specs.Outside.{Outside, Read, ReadFailed}
 use Rattle.port_122.proofs.ReadCalls.{since_read, since_unread, since_end, unread_rose}
 use Rattle.port_122.proofs.Stretches.{since_start}
@@ -16,12 +17,7 @@ fill_start now piece room = record { room = room; within = omega arith; since = 
 -- the octets so far, and those of a read
 taken_more : (piece read : List ℕ) (count n k : ℕ) → count ≤ length piece → n ≤ length read →
     take (count + n) (put_mid count k piece read) ≡ take count piece ++ take n read
-taken_more piece read count n k le room =
-    let size : length (take count piece) ≡ count = length-take-le count piece le in
-    let parts : take (length (take count piece) + n) (take count piece ++ (read ++ post_of count k piece)) ≡ take count piece ++ take n (read ++ post_of count k piece) =
-    take-append-add (take count piece) (read ++ post_of count k piece) n in
-    subst (λ m. take (m + n) (take count piece ++ (read ++ post_of count k piece)) ≡ take count piece ++ take n (read ++ post_of count k piece)) size parts ∙
-    ap (λ zs. take count piece ++ zs) (take-append-le n read (post_of count k piece) room)
+taken_more piece read count n k le room = grind (arith, nat_tests, length-take-le, take-append-add, take-append-le)
 
 -- so many octets were taken
 size_of : {old now : Outside} {piece : List ℕ} {count : ℕ} → FilledTo old now piece count → length (take count piece) ≡ count

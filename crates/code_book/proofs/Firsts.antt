@@ -1,18 +1,15 @@
 -- The first number that passes a test, found one after another.
-use Rattle.std.proofs.Common.{◌≡◌, ◌≤◌, ◌<◌, ◌+◌, ◌-◌, ℕ, zero, suc, refl, ap, ◌∙◌, arith}
+use Rattle.std.proofs.Common.{◌≡◌, ◌≤◌, ◌<◌, ◌+◌, ◌-◌, ℕ, suc, ap, ◌∙◌, arith}
 use Rattle.std.specs.Prelude.{Bool, true, false, Option, Some, None}
+use Rattle.std.proofs.lemmas.Bool.Decides.{nat_tests}
 use Rattle.code_book.specs.Tests.{first_from}
 
 module _ (test : ℕ → Bool) where
   here : (i n : ℕ) → 0 < n → test i ≡ true → first_from test i n ≡ Some i
-  here i zero some e = absurd (omega (arith, some))
-  here i (suc n) some e = rw e refl
+  here i n some e = grind (arith, nat_tests)
 
   next : (i n m : ℕ) → n ≡ suc m → test i ≡ false → first_from test i n ≡ first_from test (i + 1) m
-  next i n m e f = ap (first_from test i) e ∙ step
-    where
-      step : first_from test i (suc m) ≡ first_from test (i + 1) m
-      step = rw f refl
+  next i n m e f = grind (arith, nat_tests)
 
   none : (i n : ℕ) → n ≡ 0 → first_from test i n ≡ None
   none i n e = ap (first_from test i) e

@@ -1,10 +1,11 @@
 -- A table whose codes are free of prefixes is sound exactly if they leave no room.
-use Rattle.std.proofs.Common.{◌≡◌, inl, inr, ◌≤◌, ◌<◌, ◌+◌, ◌-◌, ◌^◌, ℕ, zero, suc, List, [], ◌∷◌, refl, sym, ap, subst, ◌∙◌, arith}
-use Rattle.std.specs.Prelude.{Bool, true, false, ◌==◌, ◌&&◌, ◌||◌, cond, count_by, nat_le}
+use Rattle.std.proofs.Common.{◌≡◌, inl, inr, ◌≤◌, ◌<◌, ◌+◌, ◌-◌, ◌^◌, ℕ, zero, suc, List, [], ◌∷◌, refl, sym, subst, ◌∙◌, arith}
+use Rattle.std.specs.Prelude.{Bool, true, false, ◌==◌, ◌&&◌, ◌||◌, count_by, nat_le}
 use Rattle.std.specs.List.{list_all, sum_by}
-use Rattle.std.proofs.lemmas.Bool.{cases_lt, false≢true}
+use Rattle.std.proofs.lemmas.Bool.{cases_lt, false≢true, eqb-true, eq-eqb, or_left, or_right}
 use Rattle.std.proofs.lemmas.Bool.Decides.{nat_tests}
 use Rattle.std.proofs.lemmas.List.Folds.{list_all-append}
+use Rattle.plane_defs.proofs.ReadOnce.{count_one, counted_somewhere}
 use Rattle.item_defs.specs.Bits.{bits_of}
 use Rattle.base_122.specs.declared.book.Code.{Code}
 use Rattle.plane_defs.specs.Spans.{span}
@@ -12,13 +13,7 @@ use Rattle.plane_defs.specs.Codes.{code_bits, entry, is_prefix, is_table_sound}
 use Rattle.plane_defs.proofs.Tables.{list_all-span-at, list_all-span-zero}
 use Rattle.code_book.specs.Sound.{IsCode, AreCodes, IsTableSound}
 use Rattle.code_book.specs.Tests.{clashes, room, room_of}
-use Rattle.code_book.proofs.Counting.{counted_twice, count_once, count_some, sum_suc, sum_same, sum_full, sum_ones, nested, leaves_room, rooms}
-
-equal_so : (m n : ℕ) → (m == n) ≡ true → m ≡ n
-equal_so m n e = grind (arith, nat_tests)
-
-equal : (m n : ℕ) → m ≡ n → (m == n) ≡ true
-equal m n e = grind (arith, nat_tests)
+use Rattle.code_book.proofs.Counting.{counted_twice, count_once, sum_same, sum_full, sum_ones, nested, leaves_room, rooms}
 
 least : (m n : ℕ) → m ≤ n → nat_le m n ≡ true
 least m n le = grind (arith, nat_tests)
@@ -42,19 +37,7 @@ code_room c is =
     let place : 1 + (c.len - 1) ≡ c.len = omega (arith, some) in
     let at : leaves_room (1 + (c.len - 1)) ≡ true = list_all-span-at leaves_room 1 8 (c.len - 1) rooms (omega (arith, some, few)) in
     let here : leaves_room c.len ≡ true = subst (λ n. leaves_room n ≡ true) place at in
-    equal_so _ (2 ^ (8 - c.len)) (list_all-span-zero (λ bits. count_by (λ v. is_prefix (bits_of c.len bits) (bits_of 8 v)) (span 0 256) == 2 ^ (8 - c.len)) (2 ^ c.len) c.bits here is.fits)
-
--- if some are counted, there is one
-somewhere : (p : ℕ → Bool) (n : ℕ) → 1 ≤ count_by p (span 0 n) → (k : ℕ) × (k < n) × (p k ≡ true)
-unfolding span
-somewhere p zero some = absurd (omega (arith, some))
-somewhere p (suc n) some = by_last (p n) refl (λ more. let rest = somewhere p n more in (rest.0, omega (arith, rest.1), rest.2))
-  where
-    by_last : (b : Bool) → p n ≡ b → (1 ≤ count_by p (span 0 n) → (k : ℕ) × (k < suc n) × (p k ≡ true)) → (k : ℕ) × (k < suc n) × (p k ≡ true)
-    by_last true e rest = (n, omega arith, e)
-    by_last false e rest =
-        let none : cond {A = ℕ} (p n) 1 0 ≡ 0 = ap (λ b. cond b 1 0) e in
-        rest (omega (arith, some, sum_suc (λ k. cond (p k) 1 0) n, none))
+    eqb-true _ (2 ^ (8 - c.len)) (list_all-span-zero (λ bits. count_by (λ v. is_prefix (bits_of c.len bits) (bits_of 8 v)) (span 0 256) == 2 ^ (8 - c.len)) (2 ^ c.len) c.bits here is.fits)
 
 module _ (codes : List Code) (count : ℕ) where
   abbrev begins : ℕ → ℕ → Bool
@@ -83,13 +66,6 @@ module _ (codes : List Code) (count : ℕ) where
   few_begun : AreApart → (v : ℕ) → begun v ≤ 1
   few_begun apart v = count_once (λ s. begins s v) count (λ j k hj hk f g. once_apart apart v j k hj hk f g)
 
-  left_true : (a b : Bool) → a ≡ true → (a || b) ≡ true
-  left_true a b e = rw e refl
-
-  right_true : (a b : Bool) → b ≡ true → (a || b) ≡ true
-  right_true true b e = refl
-  right_true false b e = e
-
   -- without room left each string of 8 bits begins with one code
   one_begun : AreCodes codes count → AreApart → room_of codes count ≡ 256 → (v : ℕ) → v < 256 → begun v ≡ 1
   one_begun are apart full v lt = sum_full begun 256 v (λ k lt. few_begun apart k) (all_begun are ∙ full) lt
@@ -98,13 +74,13 @@ module _ (codes : List Code) (count : ℕ) where
   sound_from are apart full = record {
     codes = are;
     apart = λ s r hs hr f. elim (cases_lt s r) [
-      | inl less ↦ absurd (false≢true (sym (apart s r less hr) ∙ left_true _ _ f))
+      | inl less ↦ absurd (false≢true (sym (apart s r less hr) ∙ or_left _ _ f))
       | inr rest ↦ elim (cases_lt r s) [
-        | inl more ↦ absurd (false≢true (sym (apart r s more hs) ∙ right_true _ _ f))
+        | inl more ↦ absurd (false≢true (sym (apart r s more hs) ∙ or_right _ _ f))
         | inr least ↦ omega (arith, rest, least)
       ]
     ];
-    whole = λ v lt. let one = one_begun are apart full v lt in somewhere (λ s. begins s v) count (omega (arith, one));
+    whole = λ v lt. let one = one_begun are apart full v lt in counted_somewhere (λ s. begins s v) count (omega (arith, one));
   }
 
   pub usable_from : AreCodes codes count → AreApart → room_of codes count ≡ 256 → is_table_sound codes count ≡ true
@@ -116,7 +92,7 @@ module _ (codes : List Code) (count : ℕ) where
       let some = is.some in
       let few = is.few in
       both _ _ (least 1 (entry codes s).len some) (least (entry codes s).len 8 few)))
-      (all_span (λ v. begun v == 1) 256 (λ v lt. equal (begun v) 1 (one_begun are apart full v lt)))
+      (all_span (λ v. begun v == 1) 256 (λ v lt. eq-eqb (begun v) 1 (one_begun are apart full v lt)))
     where
       both : (a b : Bool) → a ≡ true → b ≡ true → (a && b) ≡ true
       both a b x y = rw (x, y) refl
@@ -129,12 +105,10 @@ module _ (codes : List Code) (count : ℕ) where
       none a b x y = rw (x, y) refl
 
       first : (b : Bool) → is_prefix (code_bits (entry codes s)) (code_bits (entry codes r)) ≡ b → is_prefix (code_bits (entry codes s)) (code_bits (entry codes r)) ≡ false
-      first true e = absurd (let same = sound.apart s r (omega (arith, less, lt)) lt e in omega (arith, same, less))
-      first false e = e
+      first b e = grind (arith, nat_tests)
 
       second : (b : Bool) → is_prefix (code_bits (entry codes r)) (code_bits (entry codes s)) ≡ b → is_prefix (code_bits (entry codes r)) (code_bits (entry codes s)) ≡ false
-      second true e = absurd (let same = sound.apart r s lt (omega (arith, less, lt)) e in omega (arith, same, less))
-      second false e = e
+      second b e = grind (arith, nat_tests)
 
   full_so : IsTableSound codes count → room_of codes count ≡ 256
   full_so sound =
@@ -142,7 +116,7 @@ module _ (codes : List Code) (count : ℕ) where
       ∙ sum_ones begun 256 (λ v lt.
       let few = few_begun (apart_so sound) v in
       let at = sound.whole v lt in
-      let some = count_some (λ s. begins s v) count at.0 at.1 at.2 in
+      let some = count_one (λ s. begins s v) count at.0 at.1 at.2 in
       omega (arith, few, some))
 
   pub tests_from : IsTableSound codes count → AreApart × (room_of codes count ≡ 256)

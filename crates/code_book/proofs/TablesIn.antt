@@ -1,8 +1,9 @@
 -- A table's codes, read code by code.
-use Rattle.std.proofs.Common.{◌≡◌, ◌≢◌, ◌<◌, ◌+◌, ◌*◌, ◌∙◌, inl, inr, ℕ, List, true, length, refl, sym, ap, nat_lt, if◌then◌else◌, get_or, set, get_or-set_same, get_or-set_other, arith}
+use Rattle.std.proofs.Common.{◌≡◌, ◌≢◌, ◌<◌, ◌+◌, ◌*◌, ◌∙◌, inl, inr, ℕ, List, length, sym, ap, nat_lt, if◌then◌else◌, get_or, set, get_or-set_same, get_or-set_other, arith}
 use Rattle.std.proofs.lemmas.List.{ext_get_or, length-set}
 use Rattle.std.proofs.lemmas.List.FromFn.{get_or-map-range_with_len, length-map-range_with_len}
 use Rattle.std.proofs.lemmas.Bool.{cases_eq}
+use Rattle.std.proofs.lemmas.Bool.Decides.{nat_tests}
 use Rattle.base_122.specs.declared.book.Code.{Code}
 use Rattle.base_122.specs.Profile.{no_code}
 use Rattle.code_book.specs.Reading.{code_in, table_from}
@@ -20,14 +21,10 @@ unfolding table_from
 long octets start count = length-map-range_with_len (code_of octets start count) 0 16
 
 here : (octets : List ℕ) (start k : ℕ) → code_of octets start (k + 1) k ≡ code_in octets (start + 2 * k)
-here octets start k =
-    let less : nat_lt k (k + 1) ≡ true = grind arith in
-    rw less refl
+here octets start k = grind (arith, nat_tests, nat_lt)
 
 there : (octets : List ℕ) (start k s : ℕ) → s ≢ k → code_of octets start k s ≡ code_of octets start (k + 1) s
-there octets start k s other =
-    let same : nat_lt s (k + 1) ≡ nat_lt s k = grind arith in
-    rw same refl
+there octets start k s other = grind (arith, nat_tests, nat_lt)
 
 pub table_next : (octets : List ℕ) (start k : ℕ) → k < 16 → set (table_from octets start k) k (code_in octets (start + 2 * k)) ≡ table_from octets start (k + 1)
 table_next octets start k lt =

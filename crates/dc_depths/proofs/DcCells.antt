@@ -3,7 +3,7 @@ use Rattle.std.proofs.Common.{◌≡◌, ℕ, ◌+◌, ◌*◌, ◌<◌, ◌≤�
 use Rattle.std.specs.Prelude.{nat_lt}
 use Rattle.std.specs.Int.{div_ceil}
 use Rattle.std.proofs.Math.ListN.{set}
-use Rattle.std.proofs.lemmas.Bool.{cases_lt, cases_eq}
+use Rattle.std.proofs.lemmas.Bool.{cases_eq}
 use Rattle.std.proofs.lemmas.Bool.Decides.{nat_tests}
 use Rattle.std.proofs.lemmas.List.{get_or-set_same, get_or-set_other, length-set}
 use Rattle.number_defs.specs.Cells.{cell_at}
@@ -49,17 +49,7 @@ clear_more {old} i lt s = dcs_set (cleared i old) (cleared (i + 1) old) i (pos 0
     here = (let t : nat_lt i (i + 1) ≡ true = grind (arith, nat_tests) in rw t refl)
 
     there : (r : ℕ) → (r ≡ i → ⊥) → cleared (i + 1) old r ≡ cleared i old r
-    there r ne = elim (cases_lt r i) [
-      | inl less ↦
-          (let t : nat_lt r (i + 1) ≡ true = grind (arith, nat_tests) in
-          let u : nat_lt r i ≡ true = grind (arith, nat_tests) in
-          rw (t, u) refl)
-      | inr more ↦
-          (let past : i < r = omega (arith, more, ne) in
-          let t : nat_lt r (i + 1) ≡ false = grind (arith, nat_tests) in
-          let u : nat_lt r i ≡ false = grind (arith, nat_tests) in
-          rw (t, u) refl)
-    ]
+    there r ne = grind (arith, nat_tests)
 
 pub clear_all : {old new : List ℤ} (i : ℕ) → div_ceil (length old) 64 ≤ i → SetsDcs (cleared i old) old new → SetsDcs zero_dc old new
 clear_all {old} i le s = dcs_as (cleared i old) zero_dc (λ r lt. let less : r < i = omega (arith, lt, le) in let t : nat_lt r i ≡ true = grind (arith, nat_tests) in rw t refl) s

@@ -1,10 +1,10 @@
 -- A DC as a number times 2 ^ q and its low bits.
-use Rattle.std.proofs.Common.{◌≡◌, ℕ, suc, ◌+◌, ◌-◌, ◌*◌, ◌/◌, ◌%◌, ◌^◌, ◌<◌, ◌≤◌, ℤ, pos, negsuc, ◌+ℤ◌, ◌*ℤ◌, refl, sym, ap, subst, ◌∙◌, arith}
+use Rattle.std.proofs.Common.{◌≡◌, ℕ, ◌+◌, ◌-◌, ◌*◌, ◌/◌, ◌%◌, ◌^◌, ◌<◌, ◌≤◌, ℤ, pos, negsuc, ◌+ℤ◌, ◌*ℤ◌, refl, sym, ap, subst, ◌∙◌, arith}
 use Rattle.std.specs.Int.{int_shr}
 use Rattle.std.proofs.Math.IntN.{negsuc-*ℤ-pos, pos-*ℤ-pos}
-use Rattle.std.proofs.lemmas.Int.{ints}
 use Rattle.std.proofs.Math.Nat.{mul-le-mul_right, mul-mod_left, div-div-eq-div-mul}
 use Rattle.std.proofs.lemmas.Nat.{pow-add, pow_pos, div-mul-add, div-add-mod', mod_below, div_below}
+use Rattle.std.proofs.lemmas.Bool.Decides.{nat_tests}
 use Rattle.number_defs.specs.Ranges.{complement}
 
 -- the DC of this number and these low bits
@@ -13,17 +13,14 @@ dc_with q z low = (z *ℤ pos (2 ^ q)) +ℤ pos low
 
 -- below 0 the low bits count up from the number
 below_zero : (m h low : ℕ) → low < m → (negsuc h *ℤ pos m) +ℤ pos low ≡ negsuc (h * m + (m - 1 - low))
-below_zero m h low lt =
-    let t : suc h * m ≡ h * m + m = grind arith in
-    rw (negsuc-*ℤ-pos h m) (omega (arith, ints, t, lt))
+below_zero m h low lt = grind (arith, nat_tests, negsuc-*ℤ-pos)
 
 from_zero : (m h low : ℕ) → (pos h *ℤ pos m) +ℤ pos low ≡ pos (h * m + low)
 from_zero m h low = ap (λ x. x +ℤ pos low) (pos-*ℤ-pos h m) ∙ refl
 
 -- the number is what is above the low bits
 pub number_stays : (q : ℕ) (z : ℤ) (low : ℕ) → low < 2 ^ q → int_shr (dc_with q z low) q ≡ z
-number_stays q (pos h) low lt = ap (λ x. int_shr x q) (from_zero (2 ^ q) h low) ∙ ap pos (div-mul-add h (2 ^ q) low lt)
-number_stays q (negsuc h) low lt = ap (λ x. int_shr x q) (below_zero (2 ^ q) h low lt) ∙ ap negsuc (div-mul-add h (2 ^ q) (2 ^ q - 1 - low) (omega (arith, lt)))
+number_stays q z low lt = grind (arith, nat_tests, from_zero, div-mul-add, below_zero)
 
 -- ---- the low bits in two's complement
 
@@ -96,10 +93,7 @@ module _ (low p bit : ℕ) (small : bit < 2) (none : low % 2 ^ (p + 1) ≡ 0) wh
   two = pow-add 2 p 1
 
   bit_less : bit * 2 ^ p < 2 ^ (p + 1)
-  bit_less =
-      let le : bit * 2 ^ p ≤ 1 * 2 ^ p = mul-le-mul_right (2 ^ p) (omega arith) in
-      let some = pow_pos p in
-      omega (arith, two, le, some)
+  bit_less = grind (arith, nat_tests, mul-le-mul_right, pow_pos, two)
 
   pub bits_above : (b : ℕ) → p < b → (low + bit * 2 ^ p) / 2 ^ b % 2 ≡ low / 2 ^ b % 2
   bits_above b lt =

@@ -1,9 +1,10 @@
 -- Block depths as numbers of a range.
-use Rattle.std.proofs.Common.{◌≡◌, ℕ, suc, ◌+◌, ◌*◌, ◌^◌, ◌<◌, ℤ, pos, negsuc, ◌+ℤ◌, List, [], ◌∷◌, length, get_or, map, false, refl, sym, ap, ◌∙◌, arith}
+use Rattle.std.proofs.Common.{◌≡◌, ℕ, suc, ◌+◌, ◌*◌, ◌^◌, ◌<◌, ℤ, pos, List, [], ◌∷◌, length, get_or, map, false, refl, sym, ap, ◌∙◌, arith}
 use Rattle.std.specs.Prelude.{nat_abs}
 use Rattle.std.specs.List.{range_with_len}
 use Rattle.std.specs.Int.{int_shr, div_ceil}
 use Rattle.std.proofs.lemmas.Int.{ints}
+use Rattle.std.proofs.lemmas.Bool.Decides.{nat_tests}
 use Rattle.number_defs.specs.Ranges.{shifted_height}
 use Rattle.number_defs.specs.Cells.{cell_at, strided, AreInRange}
 use Rattle.dc_depths.specs.Marks.{depths_of, AreDepths}
@@ -23,17 +24,13 @@ every_cell xs =
     rw n (by_places (cell_at 1 xs) 0 xs (λ k lt. let e : k ≡ (0 + k) * 1 = omega arith in ap (λ i. get_or xs i (pos 0)) e))
 
 unshifted : (z : ℤ) → int_shr z 0 ≡ z
-unshifted (pos a) = ap pos (omega arith)
-unshifted (negsuc a) = ap negsuc (omega arith)
+unshifted z = grind (arith, nat_tests)
 
 same_height : (N : ℕ) (z : ℤ) → shifted_height false N 0 z ≡ nat_abs z
-same_height N z =
-    let e : int_shr z 0 +ℤ pos 0 ≡ z = (let f : z +ℤ pos 0 ≡ z = omega (arith, ints) in ap (λ y. y +ℤ pos 0) (unshifted z) ∙ f) in
-    ap nat_abs e
+same_height N z = grind (arith, nat_tests, unshifted)
 
 same_heights : (N : ℕ) (xs : List ℤ) → map (shifted_height false N 0) xs ≡ map nat_abs xs
-same_heights N [] = refl
-same_heights N (x ∷ xs) = ap (λ h. h ∷ map (shifted_height false N 0) xs) (same_height N x) ∙ ap (λ hs. nat_abs x ∷ hs) (same_heights N xs)
+same_heights N xs = grind (arith, nat_tests, same_height)
 
 -- the heights that a writer of numbers reads from the states of blocks
 pub heights_are : (N : ℕ) (marks : List ℤ) → map (shifted_height false N 0) (strided 1 marks) ≡ depths_of marks

@@ -1,11 +1,12 @@
 -- Numbers as single bits.
-use Rattle.std.proofs.Common.{◌≡◌, ℕ, suc, ◌-◌, ◌/◌, ◌%◌, ◌^◌, ◌<◌, ◌≤◌, ℤ, pos, negsuc, List, [], ◌∷◌, length, get_or, eqb, refl, ap, sym, ◌∙◌, arith}
+use Rattle.std.proofs.Common.{◌≡◌, ℕ, ◌-◌, ◌/◌, ◌%◌, ◌^◌, ◌<◌, ◌≤◌, ℤ, pos, List, [], ◌∷◌, length, get_or, eqb, ap, sym, ◌∙◌, arith}
 use Rattle.std.specs.Prelude.{bit_and, nat_abs, ◌≤ℤ◌}
 use Rattle.std.specs.Int.{int_shr, div_ceil}
 use mir.Val.{to_z, of_z, SFits}
 use mir.Syntax.{w32}
-use Rattle.std.proofs.lemmas.Int.{ints, to_z-of_z}
+use Rattle.std.proofs.lemmas.Int.{to_z-of_z}
 use Rattle.std.proofs.lemmas.Nat.{and_mask, shr_le}
+use Rattle.std.proofs.lemmas.Bool.Decides.{nat_tests}
 use Rattle.item_defs.specs.Bits.{bit, bits_of}
 use Rattle.item_defs.proofs.NumberBits.{bits_cons, bits_none}
 use Rattle.number_defs.specs.Ranges.{complement}
@@ -22,29 +23,17 @@ low_bit n m e lt =
     ap (λ k. eqb k 1) (mask ∙ e ∙ sym same)
 
 shifted_bit : (z : ℤ) (plane : ℕ) → SFits w32 z → eqb (bit_and (of_z w32 (int_shr z plane)) 1) 1 ≡ bit (complement 1 (int_shr z plane)) 0
-shifted_bit (pos a) plane fits = low_bit (a / 2 ^ plane) (a / 2 ^ plane % 2 ^ 1) refl (omega arith)
-shifted_bit (negsuc a) plane fits =
-    let n = a / 2 ^ plane in
-    let small : n ≤ a = shr_le a plane in
-    let most : a < 2 ^ 31 = fits.sfits in
-    low_bit (2 ^ 32 - suc n) (2 ^ 1 - 1 - n % 2 ^ 1) (omega arith) (omega arith)
+shifted_bit z plane fits = grind (arith, nat_tests, low_bit, shr_le)
 
 -- what the code tests of a cell
 pub plane_bit : (z : ℤ) (plane : ℕ) → SFits w32 z → eqb (bit_and (of_z w32 (int_shr (to_z w32 (of_z w32 z)) plane)) 1) 1 ∷ [] ≡ bits_of 1 (complement 1 (int_shr z plane))
-plane_bit z plane fits =
-    ap (λ y. eqb (bit_and (of_z w32 (int_shr y plane)) 1) 1 ∷ []) (to_z-of_z w32 z fits)
-    ∙ ap (λ b. b ∷ []) (shifted_bit z plane fits) ∙ sym (one_bit (complement 1 (int_shr z plane)))
+plane_bit z plane fits = grind (arith, nat_tests, to_z-of_z, shifted_bit, one_bit)
 
 -- a depth of 0 or 1
 pub depth_bit : (z : ℤ) → pos 0 ≤ℤ z → z ≤ℤ pos 1 → eqb (of_z w32 z) 1 ∷ [] ≡ bits_of 1 (nat_abs z)
-depth_bit (pos a) low high =
-    let most : a ≤ 1 = omega (arith, ints, high) in
-    let same : a / 2 ^ 0 % 2 ≡ a = omega arith in
-    ap (λ k. eqb k 1 ∷ []) (sym same) ∙ sym (one_bit a)
-depth_bit (negsuc a) low high = absurd (omega (arith, ints, low))
+depth_bit z low high = grind (arith, nat_tests, one_bit)
 
 -- the same for one of the DCs in blocks
 pub block_bit : (blocks : List ℤ) (block plane : ℕ) → block < div_ceil (length blocks) 64 → SFits w32 (cell_at 64 blocks block) →
     eqb (bit_and (of_z w32 (int_shr (to_z w32 (of_z w32 (cell_at 64 blocks block))) plane)) 1) 1 ∷ [] ≡ bits_of 1 (complement 1 (int_shr (get_or (strided 64 blocks) block (pos 0)) plane))
-block_bit blocks block plane lt fits =
-    plane_bit (cell_at 64 blocks block) plane fits ∙ ap (λ y. bits_of 1 (complement 1 (int_shr y plane))) (sym (strided_at 64 blocks block lt))
+block_bit blocks block plane lt fits = grind (arith, nat_tests, plane_bit, strided_at)

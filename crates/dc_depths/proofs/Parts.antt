@@ -25,17 +25,11 @@ depths_none depth_ac depths options e = let t : eqb depth_ac 0 ≡ true = grind 
 
 pub depths_raw : (depth_ac : ℕ) (depths : List ℕ) (options : ℕ → ℕ) → depth_ac ≡ 1 → depth_items depth_ac depths options ≡ map raw depths
 unfolding depth_items
-depths_raw depth_ac depths options e =
-    let t : eqb depth_ac 0 ≡ false = grind (arith, nat_tests) in
-    let u : eqb depth_ac 1 ≡ true = grind (arith, nat_tests) in
-    rw (t, u) refl
+depths_raw depth_ac depths options e = grind (arith, nat_tests)
 
 pub depths_coded : (depth_ac : ℕ) (depths : List ℕ) (options : ℕ → ℕ) → 2 ≤ depth_ac → depth_items depth_ac depths options ≡ number_items (depth_kind depth_ac) depths options
 unfolding depth_items
-depths_coded depth_ac depths options low =
-    let t : eqb depth_ac 0 ≡ false = grind (arith, nat_tests) in
-    let u : eqb depth_ac 1 ≡ false = grind (arith, nat_tests) in
-    rw (t, u) refl
+depths_coded depth_ac depths options low = grind (arith, nat_tests)
 
 module _ (depth_dc depth_ac shift : ℕ) (dcs : List ℤ) (options : ℕ → ℕ) where
   dc_text : text (dc_items depth_dc depth_ac shift dcs options)

@@ -2,9 +2,10 @@
 use Rattle.std.proofs.Common.{◌≡◌, ℕ, zero, suc, ◌+◌, ◌*◌, ◌<◌, ◌≤◌, ℤ, pos, ◌+ℤ◌, ◌*ℤ◌, List, length, map, take, get_or, Ok, Err, refl, sym, ap, ◌∙◌, arith, inl, inr, unsigned_abs}
 use Rattle.std.specs.Prelude.{Some, None}
 use Rattle.std.proofs.Math.ListN.{set, replicate}
-use Rattle.std.proofs.lemmas.Bool.{cases_lt, cases_eq}
+use Rattle.std.proofs.lemmas.Bool.{cases_eq}
 use Rattle.std.proofs.lemmas.Int.{ints}
 use Rattle.std.proofs.lemmas.List.{get_or-set_same, get_or-set_other, length-set, length-replicate, get_or-replicate, get_or_past}
+use Rattle.std.proofs.lemmas.Bool.Decides.{nat_tests}
 use Rattle.item_defs.specs.Items.{fixed, raw, text}
 use Rattle.item_defs.specs.Readings.{whole, ended}
 use Rattle.bit_pipe.specs.declared.fault.InFault.{InFault}
@@ -32,10 +33,7 @@ pub nothing_added : (z w : ℤ) → z +ℤ (pos 0 *ℤ w) ≡ z
 nothing_added z w = omega (arith, ints)
 
 zeros : (n r : ℕ) → get_or (replicate {A = ℕ} n 0) r 0 ≡ 0
-zeros n r = elim (cases_lt r n) [
-  | inl lt ↦ get_or-replicate n r 0 0 lt
-  | inr ge ↦ get_or_past (replicate {A = ℕ} n 0) r 0 (omega (arith, ge, length-replicate {A = ℕ} n 0))
-]
+zeros n r = grind (arith, nat_tests, get_or-replicate, get_or_past, replicate, length-replicate)
 
 bit_abs : (n : ℕ) (w : ℤ) → n < 2 → unsigned_abs (pos n *ℤ w) ≤ unsigned_abs w
 bit_abs zero w lt = omega (arith, ints)
@@ -62,12 +60,7 @@ module _ {I : Type 0} {k : SourceOf I} where
 
   pub bit_fits : {a b : Coming I} {before now : List ℤ} (weight : ℤ) (i n : ℕ) (z : ℤ) → i * 64 < length before → n < 2 → z ≡ pos n *ℤ weight → HasRoom weight before → BitsSoFar k weight i a b before now →
       unsigned_abs (cell_at 64 now i +ℤ z) < 2147483648
-  bit_fits {before = before} {now = now} weight i n z lt less e room s =
-      let same : cell_at 64 now i ≡ cell_at 64 before i = bit_here weight i lt s in
-      let fits = room.at i lt in
-      let one = bit_abs n weight less in
-      let sum = abs_sum (cell_at 64 before i) (pos n *ℤ weight) in
-      rw (same, e) (omega (arith, fits, one, sum))
+  bit_fits {before = before} {now = now} weight i n z lt less e room s = grind (arith, nat_tests, bit_here, bit_abs, abs_sum)
 
   pub bits_more : {a b c : Coming I} {before now : List ℤ} (weight : ℤ) (i n : ℕ) (z : ℤ) → i * 64 < length before → z ≡ pos n *ℤ weight → BitsSoFar k weight i a b before now → EndsItem k (fixed 1) (Ok (Some n)) b c →
       BitsSoFar k weight (i + 1) a c before (set now (i * 64) (cell_at 64 now i +ℤ z))

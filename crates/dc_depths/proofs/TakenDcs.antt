@@ -10,12 +10,12 @@ use Rattle.std.proofs.lemmas.Int.{ints}
 use Rattle.std.proofs.lemmas.List.FromFn.{length-map-range_with_len, get_or-map-range_with_len}
 use Rattle.std.proofs.lemmas.Nat.{pow_pos}
 use Rattle.item_defs.specs.Items.{text}
-use Rattle.item_defs.specs.Readings.{whole, ended, refused}
+use Rattle.item_defs.specs.Readings.{whole}
 use Rattle.bit_pipe.specs.declared.fault.Part.{Part}
 use Rattle.bit_pipe.specs.declared.fault.TextFault.{TextFault}
 use Rattle.bit_pipe.specs.Sources.{SourceOf}
 use Rattle.bit_pipe.specs.Coming.{Coming, IsIn, Takes}
-use Rattle.bit_pipe.specs.Reading.{Ending, stopped, failed, Reads, later_by, IsCut}
+use Rattle.bit_pipe.specs.Reading.{Ending, stopped, Reads, later_by, IsCut}
 use Rattle.bit_pipe.specs.Answers.{items_read}
 use Rattle.bit_pipe.proofs.ItemReading.{reads_then, reads_cut}
 use Rattle.number_defs.specs.Ranges.{IsInRange, complement}
@@ -26,7 +26,7 @@ use Rattle.dc_depths.specs.DcReading.{block_count, HasNumbers, HasBits, high_par
 use Rattle.dc_depths.proofs.DcCells.{dcs_as, dcs_then}
 use Rattle.dc_depths.proofs.DcNumbers.{dc_with, number_stays, low_bit, no_bit_below}
 use Rattle.dc_depths.proofs.TakenPlanes.{planes_long}
-use Rattle.bit_pipe.proofs.Endings.{later_answer, in_whole}
+use Rattle.bit_pipe.proofs.Endings.{later_answer, in_whole, cut_read}
 
 -- ---- DCs of numbers and low parts
 
@@ -51,17 +51,8 @@ no_low z = omega (arith, ints)
 
 -- ---- how many items were read
 
-pub cut_same : (c d : ℕ) (e : Ending) → IsCut e → items_read c e ≡ items_read d e
-cut_same c d (stopped whole) cut = absurd cut
-cut_same c d (stopped (ended m)) cut = refl
-cut_same c d (stopped (refused m s name)) cut = refl
-cut_same c d (failed m e) cut = refl
-
 pub later_items : (n d c : ℕ) (e : Ending) → c ≡ n + d → items_read c (later_by n e) ≡ n + items_read d e
-later_items n d c (stopped whole) h = h
-later_items n d c (stopped (ended m)) h = refl
-later_items n d c (stopped (refused m s name)) h = refl
-later_items n d c (failed m e) h = refl
+later_items n d c e h = grind (arith, nat_tests)
 
 -- a bit that is not given is below the last plane, or after what was read
 not_given : (n planes high rest m count r : ℕ) → (nat_lt n planes && nat_le (high + n * count + r + 1) m) ≡ false → m ≡ high + rest → (planes ≤ n) ⊎ (rest ≤ n * count + r)
@@ -102,7 +93,7 @@ module _ {I : Type 0} {k : SourceOf I} {a b : Coming I} {before mid : List ℤ} 
         answer = h.answer;
         given = h.given;
         given_are = λ r lt. subst (λ m. (r < h.given → dc_through N q dcs h.options r ≤ m) × (dc_through N q dcs h.options r ≤ m → r < h.given))
-            (cut_same (length (high_items N q dcs h.options)) (length (high_items N q dcs h.options ++ planes_before q dcs (dc_planes depth_dc depth_ac shift))) h.ending cut)
+            (cut_read (length (high_items N q dcs h.options)) (length (high_items N q dcs h.options ++ planes_before q dcs (dc_planes depth_dc depth_ac shift))) h.ending cut)
             (h.given_are dcs numbers r (omega (arith, lt, long)));
         bits = λ r bit lt less none. bits.at r bit (omega (arith, lt, long)) less (omega arith) ∙ no_bit_below 0 q bit (zero-mod (2 ^ q)) less;
         cells = dcs_as (high_parts q h.given h.number) (given_dcs h.given dcs)

@@ -2,12 +2,12 @@
 use Rattle.std.proofs.Common.{◌≡◌, ℕ, ◌+◌, ◌*◌, ◌^◌, ◌<◌, ◌≤◌, ℤ, pos, ◌*ℤ◌, List, length, map, take, get_or, Bool, true, false, cond, Ok, Err, refl, sym, ap, subst, ◌∙◌, arith, inl, inr, length-take}
 use Rattle.std.specs.Prelude.{Result, Some, None, ◌==◌, nat_abs, nat_lt}
 use Rattle.std.proofs.Math.ListN.{set}
-use Rattle.std.proofs.lemmas.Bool.{cases_lt, cases_eq}
+use Rattle.std.proofs.lemmas.Bool.{cases_lt, cases_eq, ltb-false}
 use Rattle.std.proofs.lemmas.Bool.Decides.{nat_tests}
 use Rattle.std.proofs.lemmas.Int.{ints}
 use Rattle.std.proofs.lemmas.List.{get_or-set_same, get_or-set_other, get_or-take, map-set, length-map, get_or-map, get_or_past}
 use Rattle.item_defs.specs.Items.{fixed, raw, text}
-use Rattle.item_defs.specs.Readings.{whole, ended, refused}
+use Rattle.item_defs.specs.Readings.{whole, ended}
 use Rattle.bit_pipe.specs.declared.fault.InFault.{InFault}
 use Rattle.bit_pipe.specs.declared.fault.Part.{Part}
 use Rattle.bit_pipe.specs.declared.fault.Part.TheVariants.{Whole, Ended}
@@ -70,10 +70,7 @@ pub record RawSoFar {I : Type 0} (k : SourceOf I) (i : ℕ) (old new : Coming I)
   pub so_far : Takes k old new (text (map raw (take i (depths_of now))))
 
 depth_at : (now : List ℤ) (j : ℕ) → get_or (depths_of now) j 0 ≡ nat_abs (get_or now j (pos 0))
-depth_at now j = elim (cases_lt j (length now)) [
-  | inl lt ↦ get_or-map nat_abs now j (pos 0) 0 lt
-  | inr ge ↦ get_or_past (depths_of now) j 0 (omega (arith, ge, length-map now nat_abs)) ∙ sym (ap nat_abs (get_or_past now j (pos 0) ge))
-]
+depth_at now j = grind (arith, nat_tests, get_or-map, get_or_past, length-map)
 
 module _ {I : Type 0} {k : SourceOf I} where
   pub raw_start : (a : Coming I) (now : List ℤ) → IsIn a → ((i : ℕ) → get_or now i (pos 0) ≡ pos 0) → RawSoFar k 0 a a now
@@ -125,10 +122,7 @@ module _ {I : Type 0} {k : SourceOf I} where
       rest_none i le = depth_at now i ∙ ap nat_abs (s.none i le)
 
       either : (i : ℕ) → cond (nat_lt i (items_read (length (map raw (depths_of now))) e)) (get_or (depths_of now) i 0) 0 ≡ get_or (depths_of now) i 0
-      either i = elim (cases_lt i (items_read (length (map raw (depths_of now))) e)) [
-        | inl lt ↦ (let t : nat_lt i (items_read (length (map raw (depths_of now))) e) ≡ true = grind (arith, nat_tests) in rw t refl)
-        | inr ge ↦ (let t : nat_lt i (items_read (length (map raw (depths_of now))) e) ≡ false = grind (arith, nat_tests) in rw t (sym (rest_none i (omega (arith, ge, at)))))
-      ]
+      either i = grind (arith, nat_tests, rest_none)
 
   pub raw_ended : {a b c : Coming I} (i : ℕ) (now : List ℤ) → i < length now → RawSoFar k i a b now → EndsItem k (fixed 1) (Ok None) b c → TakesDepths k 1 (Ok Ended) a c now
   raw_ended i now lt s p = raw_result now (stopped (ended i)) s refl (each_ended raw (raw 0).form (λ x. refl) (depths_of now) i 0 (omega (arith, lt, length-map now nat_abs)) s.so_far p) refl
@@ -145,16 +139,10 @@ module _ {I : Type 0} {k : SourceOf I} where
 -- ---- numbers
 
 pub part_ok : (e : Ending) (given : ℕ) (p : Part × ℕ) → Ok p ≡ numbers_answer e given → Ok p.0 ≡ part_answer e
-part_ok (stopped whole) given p h = ap Ok (ap (λ q. q.0) (same_parts h))
-part_ok (stopped (ended m)) given p h = ap Ok (ap (λ q. q.0) (same_parts h))
-part_ok (stopped (refused m s name)) given p h = absurd cc
-part_ok (failed m e) given p h = absurd cc
+part_ok e given p h = grind (arith, nat_tests, same_parts)
 
 pub part_err : (e : Ending) (given : ℕ) (fault : TextFault) → Err fault ≡ numbers_answer e given → Err fault ≡ part_answer e
-part_err (stopped whole) given fault h = absurd cc
-part_err (stopped (ended m)) given fault h = absurd cc
-part_err (stopped (refused m s name)) given fault h = ap Err cc
-part_err (failed m e) given fault h = ap Err cc
+part_err e given fault h = grind (arith, nat_tests)
 
 number_is : (N h : ℕ) → number_at false N h *ℤ pos (2 ^ 0) ≡ pos h
 number_is N h = omega (arith, ints)
@@ -177,7 +165,7 @@ coded_depths {now = now} depth_ac N answer low bits same_size like t =
       answer = like t.ending t.given t.answer;
       given = t.given;
       given_are = λ i lt. rw (z, o) (t.given_are i lt);
-      low = λ i lt within. not_above depth_ac (get_or t.heights i 0) (t.allowed i lt within);
+      low = λ i lt within. ltb-false depth_ac (get_or t.heights i 0) (t.allowed i lt within);
       marks = λ i lt.
           let place : i * 1 ≡ i = omega arith in
           let at : get_or now i (pos 0) ≡ given_number (record { signed = false; bits = N }) 0 (take t.given t.heights) i =
@@ -185,17 +173,5 @@ coded_depths {now = now} depth_ac N answer low bits same_size like t =
           at ∙ mark_is t.heights t.given i (omega (arith, lt, count));
     }
   where
-    not_above : (a b : ℕ) → nat_lt a b ≡ false → b ≤ a
-    not_above a b e = grind (arith, nat_tests)
-
     mark_is : (hs : List ℕ) (given i : ℕ) → i < length hs → given_number (record { signed = false; bits = N }) 0 (take given hs) i ≡ pos (cond (nat_lt i given) (get_or hs i 0) 0)
-    mark_is hs given i lt = elim (cases_lt i given) [
-      | inl less ↦
-          (let t : nat_lt i (length (take given hs)) ≡ true = (let q : i < length (take given hs) = omega (arith, length-take given hs, lt, less) in grind (arith, nat_tests)) in
-          let u : nat_lt i given ≡ true = grind (arith, nat_tests) in
-          rw (t, u, get_or-take given hs i 0 less) (number_is N (get_or hs i 0)))
-      | inr more ↦
-          (let t : nat_lt i (length (take given hs)) ≡ false = (let q : length (take given hs) ≤ i = omega (arith, length-take given hs, more) in grind (arith, nat_tests)) in
-          let u : nat_lt i given ≡ false = grind (arith, nat_tests) in
-          rw (t, u) refl)
-    ]
+    mark_is hs given i lt = grind (arith, nat_tests, length-take, get_or-take, number_is)

@@ -40,14 +40,10 @@ raw_range N (suc zero) e lt = rw e (record { low = omega (arith, ints); high = o
 raw_range N (suc (suc bit)) e lt = absurd (omega arith)
 
 raw_bit : (bit : ℕ) → bit < 2 → complement 1 (neg_ℤ (pos bit)) ≡ bit
-raw_bit zero lt = refl
-raw_bit (suc zero) lt = refl
-raw_bit (suc (suc bit)) lt = absurd (omega arith)
+raw_bit bit lt = grind (arith, nat_tests)
 
 raw_part : (m bit : ℕ) (z : ℤ) → bit < 2 → z ≡ pos 0 → z +ℤ (pos bit *ℤ neg_ℤ (pos m)) ≡ neg_ℤ (pos bit) *ℤ pos m
-raw_part m zero z lt e = omega (arith, ints, e)
-raw_part m (suc zero) z lt e = omega (arith, ints, e)
-raw_part m (suc (suc bit)) z lt e = absurd (omega arith)
+raw_part m bit z lt e = grind (arith, nat_tests)
 
 no_part : (m bit : ℕ) (z : ℤ) → bit ≡ 0 → z ≡ pos 0 → z +ℤ (pos bit *ℤ neg_ℤ (pos m)) ≡ pos 0
 no_part m bit z none e = rw none (omega (arith, ints, e))

@@ -1,13 +1,13 @@
 -- How many items make numbers whole.
-use Rattle.std.proofs.Common.{◌≡◌, ℕ, zero, suc, ◌+◌, ◌-◌, ◌*◌, ◌/◌, ◌<◌, ◌≤◌, min, max, List, [], ◌∷◌, ◌++◌, length, map, get_or, Bool, true, false, cond, eqb, refl, ap, ◌∙◌, arith, inl, inr, length-append, add-one}
+use Rattle.std.proofs.Common.{◌≡◌, ℕ, zero, suc, ◌+◌, ◌-◌, ◌*◌, ◌<◌, ◌≤◌, min, List, [], ◌++◌, length, get_or, Bool, true, false, cond, refl, ap, ◌∙◌, arith, inl, inr, length-append, add-one}
 use Rattle.std.specs.Prelude.{◌||◌, ◌==◌, nat_lt}
 use Rattle.std.specs.List.{range_with_len}
 use Rattle.std.proofs.lemmas.Bool.{cases_lt}
 use Rattle.std.proofs.lemmas.Bool.Decides.{nat_tests}
 use Rattle.std.proofs.lemmas.List.FromFn.{length-range_with_len}
-use Rattle.number_defs.specs.Gaggles.{Kind, uncoded, places, first_place, reference, lead_items, uncoded_value, unary_part, rest_part, value_items, gaggle_items, items_before}
+use Rattle.number_defs.specs.Gaggles.{Kind, uncoded, value_items, gaggle_items, items_before}
 use Rattle.number_defs.specs.Given.{numbers_through}
-use Rattle.gaggle_codes.specs.Taken.{option_item, given_in}
+use Rattle.gaggle_codes.specs.Taken.{given_in}
 use Rattle.gaggle_codes.proofs.RangeItems.{range_long}
 use Rattle.gaggle_codes.proofs.GaggleRead.{values_same}
 
@@ -31,22 +31,11 @@ through_in N option size (suc g) j = 1 + cond (whole_alone N option) 0 size + (j
 module _ (kind : Kind) (xs : List ℕ) where
   pub value_count : (option a n : ℕ) → length (value_items kind xs option (range_with_len a n)) ≡ value_total kind.bits option n
   unfolding value_items
-  value_count option a n = by_tests (eqb option (uncoded kind.bits)) (eqb option 0)
-    where
-      by_tests : (t z : Bool) →
-          length (cond t (map (uncoded_value kind xs) (range_with_len a n)) (map (unary_part kind xs option) (range_with_len a n) ++ cond z [] (map (rest_part kind xs option) (range_with_len a n)))) ≡ cond (t || z) n (n + n)
-      by_tests true z = range_long (uncoded_value kind xs) a n
-      by_tests false true = omega (arith, range_long (unary_part kind xs option) a n, length-append (map (unary_part kind xs option) (range_with_len a n)) [])
-      by_tests false false = omega (arith, range_long (unary_part kind xs option) a n, range_long (rest_part kind xs option) a n, length-append (map (unary_part kind xs option) (range_with_len a n)) (map (rest_part kind xs option) (range_with_len a n)))
+  value_count option a n = grind (arith, nat_tests, range_long, length-append)
 
   pub gaggle_count_is : (option g size : ℕ) → min (length xs) (16 * g + 16) - 16 * g ≡ size → 1 ≤ size → length (gaggle_items kind xs option g) ≡ gaggle_total kind.bits option size g
   unfolding gaggle_items
-  gaggle_count_is option zero size e some =
-      let n : min (length xs) (16 * 0 + 16) - max (16 * 0) 1 ≡ size - 1 = omega (arith, e) in
-      omega (arith, value_count option 1 (min (length xs) (16 * 0 + 16) - 1), ap (value_total kind.bits option) n)
-  gaggle_count_is option (suc g) size e some =
-      let n : min (length xs) (16 * suc g + 16) - max (16 * suc g) 1 ≡ size = omega (arith, e) in
-      omega (arith, value_count option (max (16 * suc g) 1) (min (length xs) (16 * suc g + 16) - max (16 * suc g) 1), ap (value_total kind.bits option) n)
+  gaggle_count_is option g size e some = grind (arith, nat_tests, value_count)
 
   pub before_more : (o : ℕ → ℕ) (g : ℕ) → length (items_before kind xs o (g + 1)) ≡ length (items_before kind xs o g) + length (gaggle_items kind xs (o g) g)
   unfolding items_before
@@ -62,21 +51,7 @@ module _ (kind : Kind) (xs : List ℕ) where
 
   -- the number of items up to the end of the number at a place
   pub through_is : (o : ℕ → ℕ) (g j size : ℕ) → min (length xs) (16 * g + 16) - 16 * g ≡ size → j < size → j < 16 → numbers_through kind xs o (16 * g + j) ≡ length (items_before kind xs o g) + through_in kind.bits (o g) size g j
-  through_is o g j size e lt few = (let q : (16 * g + j) / 16 ≡ g = omega arith in rw q (by_gaggle g j e lt))
-    where
-      by_gaggle : (g j : ℕ) → min (length xs) (16 * g + 16) - 16 * g ≡ size → j < size →
-          cond (eqb (16 * g + j) 0) (length (items_before kind xs o g) + 1 + length (lead_items kind xs g))
-          (length (items_before kind xs o g) + 1 + length (lead_items kind xs g) + cond (whole_alone kind.bits (o g)) 0 (length (places (length xs) g)) + (16 * g + j - first_place g + 1)) ≡
-          length (items_before kind xs o g) + through_in kind.bits (o g) size g j
-      by_gaggle zero zero e lt = omega arith
-      by_gaggle zero (suc j) e lt =
-          let t : eqb (16 * 0 + suc j) 0 ≡ false = grind (arith, nat_tests) in
-          let n : length (places (length xs) 0) ≡ size - 1 = length-range_with_len 1 (min (length xs) (16 * 0 + 16) - max (16 * 0) 1) ∙ omega (arith, e) in
-          rw (t, n) (omega arith)
-      by_gaggle (suc g) j e lt =
-          let t : eqb (16 * suc g + j) 0 ≡ false = grind (arith, nat_tests) in
-          let n : length (places (length xs) (suc g)) ≡ size = length-range_with_len (max (16 * suc g) 1) (min (length xs) (16 * suc g + 16) - max (16 * suc g) 1) ∙ omega (arith, e) in
-          rw (t, n) (omega arith)
+  through_is o g j size e lt few = grind (arith, nat_tests, length-range_with_len)
 
 -- ---- within one gaggle
 
@@ -86,24 +61,14 @@ first_through size t (suc j) = 2 + cond t 0 (size - 1) + (j + 1)
 
 module _ (N option size : ℕ) where
   pub given_whole : (g : ℕ) → 1 ≤ size → given_in N option size g (gaggle_total N option size g) ≡ size
-  given_whole zero some = by_test (whole_alone N option)
-    where
-      by_test : (t : Bool) → cond (nat_lt (2 + cond t (size - 1) (size - 1 + (size - 1))) 2) 0 (1 + cond t (2 + cond t (size - 1) (size - 1 + (size - 1)) - 2) (2 + cond t (size - 1) (size - 1 + (size - 1)) - 2 - (size - 1))) ≡ size
-      by_test true = let t : nat_lt (2 + (size - 1)) 2 ≡ false = grind (arith, nat_tests) in rw t (omega arith)
-      by_test false = let t : nat_lt (2 + (size - 1 + (size - 1))) 2 ≡ false = grind (arith, nat_tests) in rw t (omega arith)
-  given_whole (suc g) some = by_test (whole_alone N option)
-    where
-      by_test : (t : Bool) → cond t (1 + cond t size (size + size) - 1) (1 + cond t size (size + size) - 1 - size) ≡ size
-      by_test true = omega arith
-      by_test false = omega arith
+  given_whole g some = grind (arith, nat_tests)
 
   -- a number is given if its items are given
   pub given_where : (g j m : ℕ) → j < size → (j < given_in N option size g m → through_in N option size g j ≤ m) × (through_in N option size g j ≤ m → j < given_in N option size g m)
   given_where zero j m lt = by_test (whole_alone N option) j lt
     where
       too_few : (t : Bool) (j : ℕ) → m < 2 → first_through size t j ≤ m → ⊥
-      too_few t zero less h = omega (arith, less, h)
-      too_few t (suc j) less h = omega (arith, less, h)
+      too_few t j less h = grind (arith, nat_tests)
 
       by_both : (t : Bool) (j : ℕ) → 2 ≤ m → (j < 1 + cond t (m - 2) (m - 2 - (size - 1)) → first_through size t j ≤ m) × (first_through size t j ≤ m → j < 1 + cond t (m - 2) (m - 2 - (size - 1)))
       by_both t zero more = (λ h. more, λ h. omega arith)
@@ -136,36 +101,14 @@ module _ (N option size : ℕ) where
       by_test false = (omega arith, omega arith)
 
   pub given_few : (g m : ℕ) → m ≤ gaggle_total N option size g → 1 ≤ size → given_in N option size g m ≤ size
-  given_few zero m le some = by_test (whole_alone N option) le
-    where
-      few_by : (t : Bool) (n : ℕ) → 1 + n ≤ size → cond t 0 (1 + n) ≤ size
-      few_by true n le = omega arith
-      few_by false n le = le
-
-      by_test : (t : Bool) → m ≤ 2 + cond t (size - 1) (size - 1 + (size - 1)) → cond (nat_lt m 2) 0 (1 + cond t (m - 2) (m - 2 - (size - 1))) ≤ size
-      by_test true le = few_by (nat_lt m 2) (m - 2) (omega arith)
-      by_test false le = few_by (nat_lt m 2) (m - 2 - (size - 1)) (omega arith)
-  given_few (suc g) m le some = by_test (whole_alone N option) le
-    where
-      by_test : (t : Bool) → m ≤ 1 + cond t size (size + size) → cond t (m - 1) (m - 1 - size) ≤ size
-      by_test true le = omega arith
-      by_test false le = omega arith
+  given_few g m le some = grind (arith, nat_tests)
 
 -- ---- lists that have the same first numbers
 
 module _ (kind : Kind) (xs ys : List ℕ) (long : length xs ≡ length ys) where
   pub gaggle_same : (option g : ℕ) → ((i : ℕ) → i < 16 * g + 16 → get_or xs i 0 ≡ get_or ys i 0) → gaggle_items kind xs option g ≡ gaggle_items kind ys option g
   unfolding gaggle_items
-  gaggle_same option g same =
-      let n = min (length xs) (16 * g + 16) - first_place g in
-      let values = values_same kind option xs ys (first_place g) (first_place g) n (λ i lt. same (first_place g + i - 1) (omega (arith, lt))) (λ i lt. same (first_place g + i) (omega (arith, lt))) in
-      let count : n ≡ min (length ys) (16 * g + 16) - first_place g = omega (arith, long) in
-      let all = values ∙ ap (λ c. value_items kind ys option (range_with_len (first_place g) c)) count in
-      ap (λ l. option_item kind.bits option ∷ (lead_items kind xs g ++ l)) all ∙ ap (λ l. option_item kind.bits option ∷ (l ++ value_items kind ys option (places (length ys) g))) (lead g same)
-    where
-      lead : (g : ℕ) → ((i : ℕ) → i < 16 * g + 16 → get_or xs i 0 ≡ get_or ys i 0) → lead_items kind xs g ≡ lead_items kind ys g
-      lead zero same = ap (λ c. reference kind c ∷ []) (same 0 (omega arith))
-      lead (suc g) same = refl
+  gaggle_same option g same = grind (arith, nat_tests, values_same)
 
   pub before_same : (o u : ℕ → ℕ) (g : ℕ) → ((i : ℕ) → i < 16 * g → get_or xs i 0 ≡ get_or ys i 0) → ((h : ℕ) → h < g → o h ≡ u h) → items_before kind xs o g ≡ items_before kind ys u g
   unfolding items_before

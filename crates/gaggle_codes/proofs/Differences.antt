@@ -1,6 +1,6 @@
 -- The items of mapped values, in the order in which they are read.
-use Rattle.std.proofs.Common.{◌≡◌, ◌⊎◌, ℕ, ◌+◌, ◌-◌, ◌^◌, ◌<◌, List, [], ◌∷◌, ◌++◌, length, map, take, Bool, true, false, cond, eqb, Ok, Err, refl, sym, ap, subst, ◌∙◌, arith, inl, inr, length-append}
-use Rattle.std.specs.Prelude.{Result, ◌||◌}
+use Rattle.std.proofs.Common.{◌≡◌, ◌⊎◌, ℕ, ◌+◌, ◌-◌, ◌^◌, ◌<◌, List, [], ◌∷◌, ◌++◌, length, map, take, true, Ok, Err, refl, sym, ap, subst, ◌∙◌, arith, length-append}
+use Rattle.std.specs.Prelude.{Result}
 use Rattle.std.specs.List.{range_with_len}
 use Rattle.std.proofs.lemmas.Bool.Decides.{nat_tests}
 use Rattle.std.proofs.lemmas.List.{append-nil}
@@ -16,7 +16,7 @@ use Rattle.bit_pipe.specs.Answers.{part_answer, items_read}
 use Rattle.bit_pipe.proofs.Taking.{in_later}
 use Rattle.bit_pipe.proofs.Endings.{whole_ending, cut_within, later_read, later_answer, ended_differs, err_differs, cut_from, of_part, of_fault, cut_read}
 use Rattle.bit_pipe.proofs.ItemReading.{reads_then, reads_cut}
-use Rattle.number_defs.specs.Gaggles.{Kind, uncoded, is_option, uncoded_value, unary_part, rest_part, value_items}
+use Rattle.number_defs.specs.Gaggles.{Kind, uncoded, is_option, unary_part, value_items}
 use Rattle.gaggle_codes.specs.Taken.{whole_item, whole_items, whole_of, difference_items, TakesZeros, TakesWhole, TakesDifferences}
 use Rattle.gaggle_codes.proofs.RangeItems.{range_same, range_long}
 use Rattle.gaggle_codes.proofs.Wholes.{chain_none, fill}
@@ -27,42 +27,18 @@ module _ (kind : Kind) (option : ℕ) (xs : List ℕ) where
   -- the items, if each makes a number whole
   pub alone : (n : ℕ) → (option ≡ 0) ⊎ (option ≡ uncoded kind.bits) → difference_items kind option n xs ≡ whole_items kind option n xs
   unfolding value_items
-  alone n h = by_tests (eqb option (uncoded kind.bits)) (eqb option 0) refl refl h
-    where
-      by_tests : (t z : Bool) → eqb option (uncoded kind.bits) ≡ t → eqb option 0 ≡ z → (option ≡ 0) ⊎ (option ≡ uncoded kind.bits) → value_items kind xs option (range_with_len 1 n) ≡ whole_items kind option n xs
-      by_tests true z e f h =
-          let each : (i : ℕ) → i < n → uncoded_value kind xs (1 + i) ≡ whole_item kind option xs (1 + i) = λ i lt. rw e refl in
-          rw e (range_same (uncoded_value kind xs) (whole_item kind option xs) 1 1 n each)
-      by_tests false true e f h =
-          let each : (i : ℕ) → i < n → unary_part kind xs option (1 + i) ≡ whole_item kind option xs (1 + i) = λ i lt. rw (e, f) refl in
-          rw (e, f) (append-nil (map (unary_part kind xs option) (range_with_len 1 n)) ∙ range_same (unary_part kind xs option) (whole_item kind option xs) 1 1 n each)
-      by_tests false false e f (inl h) = absurd (let q : eqb option 0 ≡ true = grind (arith, nat_tests) in let r : false ≡ true = sym f ∙ q in cc)
-      by_tests false false e f (inr h) = absurd (let q : eqb option (uncoded kind.bits) ≡ true = grind (arith, nat_tests) in let r : false ≡ true = sym e ∙ q in cc)
+  alone n h = grind (arith, nat_tests, range_same, append-nil)
 
   -- the items, if all unary parts are first
   pub split : (n : ℕ) → (option ≡ uncoded kind.bits → ⊥) → (option ≡ 0 → ⊥) → difference_items kind option n xs ≡ map (unary_part kind xs option) (range_with_len 1 n) ++ whole_items kind option n xs
   unfolding value_items
-  split n a b =
-      let t : eqb option (uncoded kind.bits) ≡ false = grind (arith, nat_tests) in
-      let z : eqb option 0 ≡ false = grind (arith, nat_tests) in
-      let each : (i : ℕ) → i < n → rest_part kind xs option (1 + i) ≡ whole_item kind option xs (1 + i) = λ i lt. rw (t, z) refl in
-      let rests = range_same (rest_part kind xs option) (whole_item kind option xs) 1 1 n each in
-      let first : value_items kind xs option (range_with_len 1 n) ≡ map (unary_part kind xs option) (range_with_len 1 n) ++ map (rest_part kind xs option) (range_with_len 1 n) = rw (t, z) refl in
-      first ∙ ap (λ l. map (unary_part kind xs option) (range_with_len 1 n) ++ l) rests
+  split n a b = grind (arith, nat_tests, range_same)
 
   pub whole_alone : (n m : ℕ) → (option ≡ 0) ⊎ (option ≡ uncoded kind.bits) → whole_of kind.bits option n m ≡ m
-  whole_alone n m (inl h) = (let z : eqb option 0 ≡ true = grind (arith, nat_tests) in by_test (eqb option (uncoded kind.bits)) z)
-    where
-      by_test : (t : Bool) → eqb option 0 ≡ true → cond (t || eqb option 0) m (m - n) ≡ m
-      by_test true z = refl
-      by_test false z = rw z refl
-  whole_alone n m (inr h) = (let t : eqb option (uncoded kind.bits) ≡ true = grind (arith, nat_tests) in rw t refl)
+  whole_alone n m h2 = grind (arith, nat_tests)
 
   pub whole_split : (n m : ℕ) → (option ≡ uncoded kind.bits → ⊥) → (option ≡ 0 → ⊥) → whole_of kind.bits option n m ≡ m - n
-  whole_split n m a b =
-      let t : eqb option (uncoded kind.bits) ≡ false = grind (arith, nat_tests) in
-      let z : eqb option 0 ≡ false = grind (arith, nat_tests) in
-      rw (t, z) refl
+  whole_split n m a b = grind (arith, nat_tests)
 
 -- ---- the results of calls
 

@@ -1,5 +1,5 @@
 -- The parts of a gaggle, read one after another.
-use Rattle.std.proofs.Common.{◌≡◌, ℕ, zero, suc, ◌+◌, ◌-◌, ◌*◌, ◌^◌, ◌<◌, ◌≤◌, min, max, List, [], ◌∷◌, ◌++◌, length, map, take, get_or, true, false, cond, eqb, Ok, Err, refl, sym, ap, subst, ◌∙◌, arith, add-one}
+use Rattle.std.proofs.Common.{◌≡◌, ℕ, zero, suc, ◌+◌, ◌-◌, ◌^◌, ◌<◌, ◌≤◌, List, [], ◌∷◌, ◌++◌, length, map, take, get_or, true, cond, eqb, Ok, Err, refl, sym, ap, subst, ◌∙◌, arith, add-one}
 use Rattle.std.specs.Prelude.{Result, Option, Some, None, nat_lt}
 use Rattle.std.proofs.lemmas.Bool.Decides.{nat_tests}
 use Rattle.std.proofs.lemmas.Nat.{pow_pos}
@@ -15,7 +15,7 @@ use Rattle.bit_pipe.specs.Reading.{Ending, stopped, failed, Reads, IsCut, later_
 use Rattle.bit_pipe.specs.Answers.{part_answer, item_answer, items_read, TakesOne}
 use Rattle.bit_pipe.proofs.Taking.{in_later}
 use Rattle.bit_pipe.proofs.ItemReading.{reads_then, reads_cut}
-use Rattle.number_defs.specs.Gaggles.{Kind, uncoded, places, uncoded_value, unary_part, rest_part, value_items, reference, gaggle_items}
+use Rattle.number_defs.specs.Gaggles.{Kind, uncoded, uncoded_value, unary_part, rest_part, value_items, reference, gaggle_items}
 use Rattle.gaggle_codes.specs.Taken.{whole_of, difference_items, IsOption, option_item, TakesReference, TakesDifferences, given_in, HasGaggle, TakesGaggle}
 use Rattle.gaggle_codes.proofs.RangeItems.{range_same}
 use Rattle.bit_pipe.proofs.Endings.{later_read, later_answer, cut_within}
@@ -46,8 +46,7 @@ fault_from (failed m e) w fault h = (tt, cc)
 
 module _ (kind : Kind) (option : ℕ) (xs ys : List ℕ) (a b n : ℕ) (before : (i : ℕ) → i < n → get_or xs (a + i - 1) 0 ≡ get_or ys (b + i - 1) 0) (here : (i : ℕ) → i < n → get_or xs (a + i) 0 ≡ get_or ys (b + i) 0) where
   each_same : (f : List ℕ → ℕ → Item) → ((zs : List ℕ) (i : ℕ) → f zs i ≡ f (get_or zs (i - 1) 0 ∷ get_or zs i 0 ∷ []) 1) → map (f xs) (range_with_len a n) ≡ map (f ys) (range_with_len b n)
-  each_same f looks = range_same (f xs) (f ys) a b n (λ i lt.
-      looks xs (a + i) ∙ ap (λ p. f (p ∷ get_or xs (a + i) 0 ∷ []) 1) (before i lt) ∙ ap (λ c. f (get_or ys (b + i - 1) 0 ∷ c ∷ []) 1) (here i lt) ∙ sym (looks ys (b + i)))
+  each_same f looks = grind (arith, nat_tests, range_same)
 
   pub values_same : value_items kind xs option (range_with_len a n) ≡ value_items kind ys option (range_with_len b n)
   unfolding value_items
@@ -67,37 +66,14 @@ module _ (kind : Kind) (option size : ℕ) where
 
   pub next_same : (g p : ℕ) (heights xs : List ℕ) → HasGaggle (g + 1) p size heights xs → gaggle_items kind xs option (g + 1) ≡ next_items p heights
   unfolding gaggle_items next_items
-  next_same g p heights xs h =
-      let from : max (16 * (g + 1)) 1 ≡ 16 * (g + 1) = omega arith in
-      let count : min (length xs) (16 * (g + 1) + 16) - max (16 * (g + 1)) 1 ≡ size = omega (arith, from, h.size_is) in
-      let values = values_same kind option xs (p ∷ heights) (16 * (g + 1)) 1 size (λ i lt. before_at i lt) (λ i lt. here_at i lt) in
-      let lead : gaggle_items kind xs option (g + 1) ≡ option_item kind.bits option ∷ value_items kind xs option (places (length xs) (g + 1)) = rw add-one refl in
-      lead ∙ ap (λ l. option_item kind.bits option ∷ l) (ap (λ c. value_items kind xs option (range_with_len (max (16 * (g + 1)) 1) c)) count ∙ ap (λ f. value_items kind xs option (range_with_len f size)) from ∙ values)
-    where
-      before_at : (i : ℕ) → i < size → get_or xs (16 * (g + 1) + i - 1) 0 ≡ get_or (p ∷ heights) (1 + i - 1) 0
-      before_at zero lt = let z : 16 * (g + 1) + 0 - 1 ≡ 16 * (g + 1) - 1 = omega arith in ap (λ n. get_or xs n 0) z ∙ h.before (omega arith)
-      before_at (suc i) lt =
-          let z : 16 * (g + 1) + suc i - 1 ≡ 16 * (g + 1) + i = omega arith in
-          let y : suc i ≡ 1 + suc i - 1 = omega arith in
-          ap (λ n. get_or xs n 0) z ∙ h.here i (omega arith) ∙ ap (λ n. get_or (p ∷ heights) n 0) y
-
-      here_at : (i : ℕ) → i < size → get_or xs (16 * (g + 1) + i) 0 ≡ get_or (p ∷ heights) (1 + i) 0
-      here_at i lt = h.here i lt ∙ (let y : suc i ≡ 1 + i = omega arith in ap (λ n. get_or (p ∷ heights) n 0) y)
+  next_same g p heights xs h = grind (arith, nat_tests, values_same)
 
   pub first_items : List ℕ → List Item
   first_items heights = option_item kind.bits option ∷ reference kind (get_or heights 0 0) ∷ difference_items kind option (size - 1) heights
 
   pub first_same : (p : ℕ) (heights xs : List ℕ) → 1 ≤ size → HasGaggle 0 p size heights xs → gaggle_items kind xs option 0 ≡ first_items heights
   unfolding gaggle_items first_items
-  first_same p heights xs some h =
-      let count : min (length xs) (16 * 0 + 16) - 1 ≡ size - 1 = omega (arith, h.size_is) in
-      let values = values_same kind option xs heights 1 1 (size - 1) (λ i lt. at (1 + i - 1) (omega arith)) (λ i lt. at (1 + i) (omega arith)) in
-      ap (λ c. option_item kind.bits option ∷ reference kind (get_or xs 0 0) ∷ value_items kind xs option (range_with_len 1 c)) count
-      ∙ ap (λ l. option_item kind.bits option ∷ reference kind (get_or xs 0 0) ∷ l) values
-      ∙ ap (λ c. option_item kind.bits option ∷ reference kind c ∷ difference_items kind option (size - 1) heights) (at 0 (omega arith))
-    where
-      at : (j : ℕ) → j < size → get_or xs j 0 ≡ get_or heights j 0
-      at j lt = let z : j ≡ 16 * 0 + j = omega arith in ap (λ n. get_or xs n 0) z ∙ h.here j lt
+  first_same p heights xs some h = grind (arith, nat_tests, values_same)
 
 -- ---- the results of calls
 
@@ -127,10 +103,7 @@ first_none : (N option size m : ℕ) → m < 2 → given_in N option size 0 m �
 first_none N option size m lt = let t : nat_lt m 2 ≡ true = grind (arith, nat_tests) in rw t refl
 
 first_some : (N option size m : ℕ) → given_in N option size 0 (2 + m) ≡ 1 + whole_of N option (size - 1) m
-first_some N option size m =
-    let t : nat_lt (2 + m) 2 ≡ false = grind (arith, nat_tests) in
-    let z : 2 + m - 2 ≡ m = omega arith in
-    rw (t, z) refl
+first_some N option size m = grind (arith, nat_tests)
 
 none_given : {n : ℕ} (heights : List ℕ) → n ≡ 0 → [] ≡ take n heights
 none_given heights e = rw e refl
@@ -245,8 +218,7 @@ module _ {I : Type 0} {k : SourceOf I} (kind : Kind) where
       }
     where
       few_at : (h : ℕ) → h < 2 ^ kind.bits → (i : ℕ) → get_or (h ∷ zeros (size - 1)) i 0 < 2 ^ kind.bits
-      few_at h small zero = small
-      few_at h small (suc i) = rw zeros_at (pow_pos kind.bits)
+      few_at h small i = grind (arith, nat_tests, zeros_at, pow_pos)
 
   pub first_read : {r : Result Part TextFault} {a b c d : Coming I} {then now : List ℕ} (p size option height : ℕ) → 1 ≤ size → TakesOne k (IsOption kind.bits) (option_item kind.bits) (Ok (Some option)) a b →
       TakesReference k kind (Ok (Some height)) b c [] then → TakesDifferences k kind option height (size - 1) r c d then now → TakesGaggle k kind 0 p size r a d now
@@ -280,8 +252,7 @@ module _ {I : Type 0} {k : SourceOf I} (kind : Kind) where
       }
     where
       few_at : {h : ℕ} (hs : List ℕ) → h < 2 ^ kind.bits → ((i : ℕ) → get_or hs i 0 < 2 ^ kind.bits) → (i : ℕ) → get_or (h ∷ hs) i 0 < 2 ^ kind.bits
-      few_at hs small few zero = small
-      few_at hs small few (suc i) = few i
+      few_at hs small few i = grind (arith, nat_tests)
 
   -- more may be taken
   pub in_after_option : {a b : Coming I} {option : ℕ} → IsIn a → TakesOne k (IsOption kind.bits) (option_item kind.bits) (Ok (Some option)) a b → IsIn b

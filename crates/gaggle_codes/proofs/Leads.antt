@@ -1,11 +1,11 @@
 -- The option of a gaggle, and the first number of all.
-use Rattle.std.proofs.Common.{◌≡◌, ℕ, ◌+◌, ◌-◌, ◌*◌, ◌%◌, ◌^◌, ◌<◌, ◌≤◌, List, [], ◌∷◌, ◌++◌, Bool, true, false, cond, Ok, Err, refl, sym, ap, subst, ◌∙◌, arith, inl, inr}
+use Rattle.std.proofs.Common.{◌≡◌, ℕ, ◌+◌, ◌-◌, ◌*◌, ◌%◌, ◌^◌, ◌<◌, ◌≤◌, List, [], ◌∷◌, ◌++◌, Bool, true, false, cond, Ok, Err, refl, sym, ap, subst, ◌∙◌, arith}
 use Rattle.std.specs.Prelude.{Some, None, not, nat_lt}
-use Rattle.std.proofs.lemmas.Bool.{cases_lt}
 use Rattle.std.proofs.lemmas.Bool.Decides.{nat_tests}
 use Rattle.std.proofs.lemmas.List.{append-nil}
 use Rattle.std.proofs.lemmas.Nat.{pow_pos, mod_below, one_shl}
 use Rattle.std.proofs.Math.Nat.{mod-eq_of_lt, add-mul-mod_self_right}
+use Rattle.number_defs.proofs.Chosen.{uncoded_is}
 use Rattle.item_defs.specs.Bits.{bits_of}
 use Rattle.item_defs.specs.Items.{fixed, bad_option, bad_depth, spelling}
 use Rattle.item_defs.specs.Readings.{whole, ended, refused}
@@ -23,9 +23,6 @@ use Rattle.number_defs.specs.Gaggles.{Kind, identifier_bits, uncoded, is_option,
 use Rattle.gaggle_codes.specs.Taken.{IsBound, IsOption, option_item, TakesReference}
 
 -- ---- options
-
-pub uncoded_is : (N : ℕ) → is_option N (uncoded N) ≡ true
-uncoded_is N = grind (arith, nat_tests)
 
 if_none : (b : Bool) → b ≡ false → cond (not b) (Some bad_option) None ≡ Some bad_option
 if_none b e = rw e refl
@@ -71,27 +68,10 @@ module _ {I : Type 0} {k : SourceOf I} (N : ℕ) {a b : Coming I} where
 
 -- half of the numbers added twice
 twice : (m h c : ℕ) → m ≡ 2 * h → c < m → ((c + h) % m + h) % m ≡ c
-twice m h c e lt = elim (cases_lt c h) [
-  | inl low ↦
-      let first : (c + h) % m ≡ c + h = mod-eq_of_lt (omega arith) in
-      let back : c + h + h ≡ c + 1 * m = omega arith in
-      ap (λ n. (n + h) % m) first ∙ ap (λ n. n % m) back ∙ around c 1 m lt
-  | inr high ↦
-      let r : c + h ≡ (c - h) + 1 * m = omega arith in
-      let first : (c + h) % m ≡ c - h = ap (λ n. n % m) r ∙ around (c - h) 1 m (omega arith) in
-      let back : c - h + h ≡ c = omega arith in
-      ap (λ n. (n + h) % m) first ∙ ap (λ n. n % m) back ∙ mod-eq_of_lt lt
-]
-  where
-    around : (c q m : ℕ) → c < m → (c + q * m) % m ≡ c
-    around c q m lt = add-mul-mod_self_right c q m ∙ mod-eq_of_lt lt
+twice m h c e lt = grind (arith, nat_tests, mod-eq_of_lt, add-mul-mod_self_right)
 
 again_by : (signed : Bool) (N c : ℕ) → 1 ≤ N → c < 2 ^ N → ((c + negatives signed N) % 2 ^ N + negatives signed N) % 2 ^ N ≡ c
-again_by true N c some lt = twice (2 ^ N) (2 ^ (N - 1)) c (half N some) lt
-again_by false N c some lt =
-    let z : c + 0 ≡ c = omega arith in
-    let first : (c + 0) % 2 ^ N ≡ c = ap (λ n. n % 2 ^ N) z ∙ mod-eq_of_lt lt in
-    ap (λ n. (n + 0) % 2 ^ N) first ∙ first
+again_by signed N c some lt = grind (arith, nat_tests, twice, half, mod-eq_of_lt)
 
 module _ (kind : Kind) (c : ℕ) (some : 1 ≤ kind.bits) (lt : c < 2 ^ kind.bits) where
   height : ℕ

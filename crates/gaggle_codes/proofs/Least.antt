@@ -41,10 +41,7 @@ uncoded_bits N values = let e : eqb (uncoded N) (uncoded N) ≡ true = grind (ar
 
 split_bits : (N : ℕ) (values : List ℕ) (k : ℕ) → 2 ≤ N → N ≤ 10 → k ≤ N - 2 → sum_by (λ v. (v / 2 ^ k + 1) + k) values ≡ coded_bits N values k
 unfolding coded_bits
-split_bits N values k low high le =
-    let above : N - 2 < uncoded N = uncoded_above N low high in
-    let e : eqb k (uncoded N) ≡ false = grind (arith, nat_tests) in
-    rw e refl
+split_bits N values k low high le = grind (arith, nat_tests, uncoded_above)
 
 named_k : (N k : ℕ) → k < 15 → named N k ≡ k
 named_k N k lt = let e : eqb k 15 ≡ false = grind (arith, nat_tests) in rw e refl
@@ -85,9 +82,7 @@ module _ (N : ℕ) (values : List ℕ) where
       }
 
   least_where : (o : ℕ) → coded_bits N values o ≤ coded_bits N values (uncoded N) → ((j : ℕ) → j < N - 1 → coded_bits N values o ≤ coded_bits N values j) → is_least N values o ≡ true
-  least_where o p h =
-      let a : leb (coded_bits N values o) (coded_bits N values (uncoded N)) ≡ true = grind (arith, nat_tests) in
-      rw a (all_of_range _ 0 (N - 1) (λ j le lt. let q = h j (omega arith) in let s : leb (coded_bits N values o) (coded_bits N values j) ≡ true = grind (arith, nat_tests, q) in s))
+  least_where o p h = grind (arith, nat_tests, all_of_range)
 
   not_least_where : (o j : ℕ) → j < N - 1 → coded_bits N values j < coded_bits N values o → is_least N values o ≡ false
   not_least_where o j lt less =

@@ -1,7 +1,6 @@
 -- Numbers that are not too great.
-use Rattle.std.proofs.Common.{◌≡◌, ℕ, ◌^◌, ◌<◌, ◌≤◌, inl, inr, Bool, false, List, [], ◌∷◌, ◌++◌, length, get_or, sym, ap, ◌∙◌, subst, arith, nat_lt, length-append}
-use Rattle.std.proofs.lemmas.Bool.{cases_lt}
-use Rattle.std.proofs.lemmas.Bool.Decides.{nat_tests}
+use Rattle.std.proofs.Common.{◌≡◌, ℕ, ◌^◌, ◌<◌, ◌≤◌, inl, inr, Bool, false, List, [], ◌∷◌, ◌++◌, length, get_or, sym, ap, ◌∙◌, subst, arith, length-append}
+use Rattle.std.proofs.lemmas.Bool.{cases_lt, le-ltb}
 use Rattle.std.proofs.lemmas.List.{get_or_append_left, get_or_past}
 use Rattle.std.proofs.Math.Seq.{get_or-append_seam}
 use Rattle.gaggle_codes.specs.Taken.{IsBound, AreLow, StayLow}
@@ -31,7 +30,4 @@ low_more {xs} {ys} most height s le e = subst (StayLow most xs) (sym e) (record 
 
 -- no test of a bound refuses them
 pub low_allowed : {most N : ℕ} (too_great : ℕ → Bool) → IsBound most N too_great → {xs : List ℕ} → AreLow most xs → ((i : ℕ) → get_or xs i 0 < 2 ^ N) → (i : ℕ) → i < length xs → too_great (get_or xs i 0) ≡ false
-low_allowed {most} {N} too_great bound {xs} low few i lt = bound.at (get_or xs i 0) (few i) ∙ not_above most (get_or xs i 0) (low.at i)
-  where
-    not_above : (a b : ℕ) → b ≤ a → nat_lt a b ≡ false
-    not_above a b le = grind (arith, nat_tests)
+low_allowed {most} {N} too_great bound {xs} low few i lt = bound.at (get_or xs i 0) (few i) ∙ le-ltb most (get_or xs i 0) (low.at i)

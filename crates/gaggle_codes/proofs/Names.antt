@@ -1,5 +1,5 @@
 -- Options by the number that represents them.
-use Rattle.std.proofs.Common.{◌≡◌, ℕ, zero, suc, ◌-◌, ◌^◌, ◌<◌, ◌≤◌, true, false, refl, sym, arith, eqb, cond}
+use Rattle.std.proofs.Common.{◌≡◌, ℕ, zero, suc, ◌-◌, ◌^◌, ◌<◌, ◌≤◌, true, refl, arith}
 use Rattle.std.proofs.lemmas.Bool.Decides.{nat_tests}
 use Rattle.item_defs.specs.Bits.{bits_of}
 use Rattle.number_defs.specs.Gaggles.{identifier_bits, uncoded, is_option}
@@ -13,15 +13,10 @@ pub uncoded_small : (N : ℕ) → uncoded N ≤ 15
 uncoded_small N = grind (arith, nat_tests)
 
 pub name_k : (N k : ℕ) → 2 ≤ N → N ≤ 10 → k ≤ N - 2 → k ≡ name_of N k
-name_k N k low high le =
-    let above : N - 2 < uncoded N = uncoded_above N low high in
-    let e : eqb k (uncoded N) ≡ false = grind (arith, nat_tests) in
-    rw e refl
+name_k N k low high le = grind (arith, nat_tests, uncoded_above)
 
 pub name_uncoded : (N : ℕ) → 15 ≡ name_of N (uncoded N)
-name_uncoded N =
-    let e : eqb (uncoded N) (uncoded N) ≡ true = grind (arith, nat_tests) in
-    rw e refl
+name_uncoded N = grind (arith, nat_tests)
 
 pub name_small : (N option : ℕ) → N ≤ 10 → is_option N option ≡ true → name_of N option ≤ 15
 name_small N option high is = grind (arith, nat_tests)
@@ -41,8 +36,4 @@ few_identifier_bits N = grind (arith, nat_tests)
 
 -- an identifier's bits are those of the number that represents the option
 pub name_bits : (N option : ℕ) → bits_of (identifier_bits N) option ≡ bits_of (identifier_bits N) (name_of N option)
-name_bits N option =
-    elim (eqb option (uncoded N)) as (λ t. eqb option (uncoded N) ≡ t → bits_of (identifier_bits N) option ≡ bits_of (identifier_bits N) (cond t 15 option)) [
-      | true ↦ λ e. let same : option ≡ uncoded N = grind (arith, nat_tests) in rw same (sym (ones (identifier_bits N) (few_identifier_bits N)))
-      | false ↦ λ e. refl
-    ] refl
+name_bits N option = grind (arith, nat_tests, ones, few_identifier_bits)

@@ -1,5 +1,5 @@
 -- Numbers, read gaggle by gaggle.
-use Rattle.std.proofs.Common.{◌≡◌, ℕ, zero, suc, ◌+◌, ◌-◌, ◌*◌, ◌/◌, ◌%◌, ◌^◌, ◌<◌, ◌≤◌, min, ℤ, List, [], ◌++◌, length, map, take, get_or, Bool, true, false, cond, eqb, Ok, Err, refl, sym, ap, subst, ◌∙◌, append_assoc, arith, inl, inr, length-append, length-take, add-one}
+use Rattle.std.proofs.Common.{◌≡◌, ℕ, zero, suc, ◌+◌, ◌-◌, ◌*◌, ◌/◌, ◌%◌, ◌^◌, ◌<◌, ◌≤◌, min, ℤ, List, [], ◌++◌, length, map, take, get_or, Bool, true, false, cond, eqb, Ok, Err, refl, sym, ap, subst, ◌∙◌, append_assoc, arith, inl, inr, length-append, length-take}
 use Rattle.std.specs.Prelude.{Result}
 use Rattle.std.specs.List.{range_with_len}
 use Rattle.std.specs.Int.{div_ceil}
@@ -9,15 +9,16 @@ use Rattle.std.proofs.lemmas.Nat.{pow_pos}
 use Rattle.std.proofs.lemmas.List.{append-nil, take_all, get_or_append_left, get_or-append-add, get_or_past, get_or-take, get_or_default, same_lists}
 use Rattle.item_defs.proofs.BitLists.{take_past}
 use Rattle.std.proofs.lemmas.List.FromFn.{length-map-range_with_len, get_or-map-range_with_len}
+use Rattle.number_defs.proofs.Chosen.{uncoded_is}
 use Rattle.item_defs.specs.Items.{Item, text}
-use Rattle.item_defs.specs.Readings.{whole, ended, refused}
+use Rattle.item_defs.specs.Readings.{whole}
 use Rattle.item_defs.proofs.Texts.{text-append}
 use Rattle.bit_pipe.specs.declared.fault.Part.{Part}
 use Rattle.bit_pipe.specs.declared.fault.Part.TheVariants.{Whole, Ended}
 use Rattle.bit_pipe.specs.declared.fault.TextFault.{TextFault}
 use Rattle.bit_pipe.specs.Sources.{SourceOf}
 use Rattle.bit_pipe.specs.Coming.{Coming, IsIn, Takes}
-use Rattle.bit_pipe.specs.Reading.{Ending, stopped, failed, Reads, IsCut, later_by}
+use Rattle.bit_pipe.specs.Reading.{Ending, stopped, Reads, IsCut, later_by}
 use Rattle.bit_pipe.specs.Answers.{part_answer, items_read}
 use Rattle.bit_pipe.proofs.Taking.{takes_start, takes_then, in_later}
 use Rattle.bit_pipe.proofs.ItemReading.{reads_then, reads_cut, reads_whole}
@@ -27,8 +28,7 @@ use Rattle.gaggle_codes.specs.declared.range.NumberRange.{NumberRange}
 use Rattle.gaggle_codes.specs.Written.{kind_of}
 use Rattle.gaggle_codes.specs.Given.{SetsCells}
 use Rattle.gaggle_codes.specs.Taken.{IsOption, given_in, HasGaggle, TakesGaggle, TakesNumbers, numbers_answer}
-use Rattle.bit_pipe.proofs.Endings.{of_fault, ended_differs, err_differs, whole_ending, cut_from, cut_within}
-use Rattle.gaggle_codes.proofs.Leads.{uncoded_is}
+use Rattle.bit_pipe.proofs.Endings.{of_fault, ended_differs, err_differs, whole_ending, cut_from, cut_within, read_later}
 use Rattle.number_defs.specs.Gaggles.{uncoded}
 use Rattle.gaggle_codes.proofs.Setting.{sets_as}
 use Rattle.gaggle_codes.proofs.Counting.{gaggle_total, through_in, gaggle_count_is, before_more, before_grows, through_is, given_whole, given_where, through_within, given_few, before_same}
@@ -40,10 +40,7 @@ same_fault : {f h : TextFault} → of_fault f ≡ of_fault h → f ≡ h
 same_fault e = cc
 
 front_few : (bound n : ℕ) (xs : List ℕ) → 0 < bound → ((i : ℕ) → get_or xs i 0 < bound) → (i : ℕ) → get_or (take n xs) i 0 < bound
-front_few bound n xs some few i = elim (cases_lt i n) [
-  | inl lt ↦ rw (get_or-take n xs i 0 lt) (few i)
-  | inr ge ↦ rw (get_or_past (take n xs) i 0 (omega (arith, length-take n xs, ge))) some
-]
+front_few bound n xs some few i = grind (arith, nat_tests, get_or-take, get_or_past, length-take)
 
 -- ---- lists of this number of numbers, of which the last may be 0
 
@@ -59,10 +56,7 @@ unfolding padded
 padded_at count hs i lt = get_or-map-range_with_len (λ i. get_or hs i 0) 0 count i i 0 lt (omega arith)
 
 padded_few : (bound count : ℕ) (hs : List ℕ) → 0 < bound → ((i : ℕ) → get_or hs i 0 < bound) → (i : ℕ) → get_or (padded count hs) i 0 < bound
-padded_few bound count hs some few i = elim (cases_lt i count) [
-  | inl lt ↦ rw (padded_at count hs i lt) (few i)
-  | inr ge ↦ rw (get_or_past (padded count hs) i 0 (omega (arith, length-padded count hs, ge))) some
-]
+padded_few bound count hs some few i = grind (arith, nat_tests, padded_at, get_or_past, padded, length-padded)
 
 both_few : (bound : ℕ) (xs ys : List ℕ) → ((i : ℕ) → get_or xs i 0 < bound) → ((i : ℕ) → get_or ys i 0 < bound) → (i : ℕ) → get_or (xs ++ ys) i 0 < bound
 both_few bound xs ys few more i = elim (cases_lt i (length xs)) [
@@ -109,12 +103,6 @@ take_padded count n xs within fits =
     same_lists (take n (padded count xs)) (take n xs) (a ∙ sym b) (λ k d h.
     let lt : k < n = omega (arith, h, a) in
     get_or_default (take n (padded count xs)) k d 0 h ∙ get_or-take n (padded count xs) k 0 lt ∙ padded_at count xs k (omega arith) ∙ sym (get_or-take n xs k 0 lt) ∙ sym (get_or_default (take n xs) k d 0 (omega (arith, lt, b))))
-
-cut_later : (n n' b : ℕ) (e : Ending) → IsCut e → items_read n (later_by b e) ≡ b + items_read n' e
-cut_later n n' b (stopped whole) cut = absurd cut
-cut_later n n' b (stopped (ended m)) cut = refl
-cut_later n n' b (stopped (refused m s name)) cut = refl
-cut_later n n' b (failed m e) cut = refl
 
 -- what follows the first gaggles
 gaggles_rest : (kind : Kind) (xs : List ℕ) (o : ℕ → ℕ) (g d : ℕ) → (more : List Item) × (items_before kind xs o (g + d) ≡ items_before kind xs o g ++ more)
@@ -194,11 +182,7 @@ module _ {I : Type 0} {k : SourceOf I} (range : NumberRange) (too_great : ℕ �
       with_more : items_before (kind_of range too_great) (padded count (s.heights ++ t.heights)) (with_option s.options g t.option) (g + 1) ≡
           items_before (kind_of range too_great) (padded count (s.heights ++ t.heights)) (with_option s.options g t.option) g ++ t.items
       unfolding items_before
-      with_more =
-          let kind = kind_of range too_great in
-          let xs = padded count (s.heights ++ t.heights) in
-          let o = with_option s.options g t.option in
-          ap (items_before kind xs o) (add-one g) ∙ ap (λ p. items_before kind xs o g ++ gaggle_items kind xs p g) (with_here s.options g t.option) ∙ ap (λ l. items_before kind xs o g ++ l) here_items
+      with_more = grind (arith, nat_tests, padded, with_option, with_here, here_items)
 
       kind : Kind
       kind = kind_of range too_great
@@ -273,7 +257,7 @@ module _ {I : Type 0} {k : SourceOf I} (range : NumberRange) (too_great : ℕ �
               let parts : i ≡ 16 * q + j = omega arith in
               let j_few : j < size_i = omega (arith, length-padded count (s.heights ++ t.heights), less) in
               let base = length (items_before kind list options g) in
-              let read = cut_later (length (number_items kind list options)) (length t.items) base t.ending cut in
+              let read = read_later (length (number_items kind list options)) (length t.items) base t.ending cut in
               let through = ap (numbers_through kind list options) parts ∙ through_is kind list options q j size_i refl j_few (omega arith) in
               let inside = through_within range.bits (options q) size_i q j j_few in
               let of_q = before_more kind list options q in
@@ -313,9 +297,7 @@ module _ {I : Type 0} {k : SourceOf I} (range : NumberRange) (too_great : ℕ �
 
         pub got_all : got ≡ t.heights
         unfolding m
-        got_all =
-            let n : items_read (length t.items) t.ending ≡ gaggle_total range.bits t.option size g = ap (items_read (length t.items)) whole_here ∙ total in
-            t.whole ∙ ap (λ c. take (given_in range.bits t.option size g c) t.heights) n ∙ ap (λ c. take c t.heights) (given_whole range.bits t.option size g some_size) ∙ take_all size t.heights (omega (arith, t.all))
+        got_all = grind (arith, nat_tests, gaggle_total, whole_here, total, given_whole, some_size, take_all)
 
         pub got_few : (i : ℕ) → get_or got i 0 < 2 ^ range.bits
         got_few i = rw got_all (t.few i)
@@ -398,16 +380,10 @@ module _ {I : Type 0} {k : SourceOf I} (range : NumberRange) (too_great : ℕ �
 -- ---- the result of the code
 
 pub err_like : {r : Result Part TextFault} {fault : TextFault} → r ≡ Err fault → (given : ℕ) (e : Ending) (n : ℕ) → r ≡ part_answer e → Err fault ≡ numbers_answer (later_by n e) given
-err_like p given (stopped whole) n q = absurd (err_differs _ (sym q ∙ p))
-err_like p given (stopped (ended m)) n q = absurd (no_part _ (sym q ∙ p))
-err_like p given (stopped (refused m s name)) n q = ap Err (same_fault (sym p ∙ q))
-err_like p given (failed m e) n q = ap Err (same_fault (sym p ∙ q))
+err_like p given e n q = grind (arith, nat_tests, err_differs, no_part, same_fault)
 
 pub ended_like : {r : Result Part TextFault} → r ≡ Ok Ended → (given : ℕ) (e : Ending) (n : ℕ) → r ≡ part_answer e → Ok (record { 0 = Ended; 1 = given }) ≡ numbers_answer (later_by n e) given
-ended_like p given (stopped whole) n q = absurd (ended_differs (sym q ∙ p))
-ended_like p given (stopped (ended m)) n q = refl
-ended_like p given (stopped (refused m s name)) n q = absurd (no_part _ (sym p ∙ q))
-ended_like p given (failed m e) n q = absurd (no_part _ (sym p ∙ q))
+ended_like p given e n q = grind (arith, nat_tests, ended_differs, no_part)
 
 pub err_cuts : {r : Result Part TextFault} {fault : TextFault} → r ≡ Err fault → (e : Ending) → r ≡ part_answer e → IsCut e
 err_cuts {r} {fault} p e q = cut_from e (λ w. err_differs fault (w ∙ sym q ∙ p))

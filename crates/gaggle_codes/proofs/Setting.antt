@@ -1,5 +1,5 @@
 -- Numbers that are written into every `stride`-th cell.
-use Rattle.std.proofs.Common.{subst, ◌≡◌, ◌⊎◌, ℕ, ◌+◌, ◌*◌, ◌/◌, ◌%◌, ◌^◌, ◌<◌, ◌≤◌, ℤ, pos, ◌*ℤ◌, List, [], ◌∷◌, ◌++◌, length, get_or, true, false, refl, sym, ap, ◌∙◌, arith, inl, inr, length-append}
+use Rattle.std.proofs.Common.{subst, ◌≡◌, ℕ, ◌+◌, ◌*◌, ◌^◌, ◌<◌, ◌≤◌, ℤ, pos, ◌*ℤ◌, List, [], ◌∷◌, ◌++◌, length, get_or, true, false, refl, ap, ◌∙◌, arith, inl, inr, length-append}
 use Rattle.std.specs.Prelude.{nat_lt}
 use Rattle.std.proofs.Math.ListN.{set}
 use Rattle.std.proofs.Math.Nat.{mul-le-mul_right}
@@ -16,37 +16,11 @@ use Rattle.gaggle_codes.specs.Given.{given_number, SetsCells}
 
 -- places that differ are in cells that differ
 apart : (m n stride : ℕ) → 1 ≤ stride → m * stride ≡ n * stride → m ≡ n
-apart m n stride low e = elim (cases_lt m n) [
-  | inl lt ↦ absurd (further m n stride low lt e)
-  | inr ge ↦ elim (cases_lt n m) [
-    | inl lt ↦ absurd (further n m stride low lt (sym e))
-    | inr le ↦ omega arith
-  ]
-]
-  where
-    further : (m n stride : ℕ) → 1 ≤ stride → m < n → m * stride ≡ n * stride → ⊥
-    further m n stride low lt e = let more : (m + 1) * stride ≤ n * stride = mul-le-mul_right stride (omega arith) in omega (arith, more, e)
+apart m n stride low e = grind (arith, nat_tests, mul-le-mul_right)
 
 -- a place within the slice is among those that are counted
 pub places_before : (n stride m : ℕ) → 1 ≤ stride → m * stride < n → m < div_ceil n stride
-places_before n stride m low lt = elim (cases_lt m (div_ceil n stride)) [
-  | inl below ↦ below
-  | inr ge ↦
-      let whole = div-add-mod' n stride in
-      let rest = mod_below n stride (omega arith) in
-      let more : div_ceil n stride * stride ≤ m * stride = mul-le-mul_right stride ge in
-      absurd (too_far whole rest more lt (cases_lt 0 (n % stride)))
-]
-  where
-    too_far : n / stride * stride + n % stride ≡ n → n % stride < stride → div_ceil n stride * stride ≤ m * stride → m * stride < n → (0 < n % stride) ⊎ (n % stride ≤ 0) → ⊥
-    too_far whole rest more lt (inl some) =
-        let up : div_ceil n stride ≡ n / stride + 1 = omega arith in
-        let e : (n / stride + 1) * stride ≡ div_ceil n stride * stride = ap (λ d. d * stride) (sym up) in
-        omega (arith, whole, rest, more, lt, e)
-    too_far whole rest more lt (inr none) =
-        let up : div_ceil n stride ≡ n / stride = omega arith in
-        let e : n / stride * stride ≡ div_ceil n stride * stride = ap (λ d. d * stride) (sym up) in
-        omega (arith, whole, rest, more, lt, e, none)
+places_before n stride m low lt = grind (arith, nat_tests, div-add-mod', mod_below, mul-le-mul_right)
 
 -- the cells of the places before this one are 0
 pub record Clears (stride i : ℕ) (old new : List ℤ) : Type 0 where

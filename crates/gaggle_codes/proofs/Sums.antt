@@ -1,16 +1,16 @@
 -- Heights as sums of 32 bits.
-use Rattle.std.proofs.Common.{◌≡◌, ℕ, ◌^◌, ◌≤◌, ℤ, pos, negsuc, ◌+ℤ◌, ap, ◌∙◌, arith, Bool}
+use Rattle.std.proofs.Common.{◌≡◌, ℕ, ◌^◌, ◌≤◌, ℤ, pos, ◌+ℤ◌, ap, ◌∙◌, arith, Bool}
 use Rattle.std.specs.Int.{int_shr}
 use mir.Val.{to_z, of_z, SFits}
 use mir.Syntax.{w32}
 use Rattle.std.proofs.lemmas.Int.{ints, to_z-of_z}
 use Rattle.std.proofs.Math.Pow.{pow_mono}
+use Rattle.std.proofs.lemmas.Bool.Decides.{nat_tests}
 use Rattle.number_defs.specs.Ranges.{negatives, IsInRange, height_of}
 use Rattle.number_defs.proofs.Heights.{height_below, negatives_fit}
 
 sum_is : (signed : Bool) (N : ℕ) (z : ℤ) → IsInRange signed N z → z +ℤ pos (negatives signed N) ≡ pos (height_of signed N z)
-sum_is signed N (pos a) h = omega (arith, ints, h.low)
-sum_is signed N (negsuc a) h = omega (arith, ints, h.low)
+sum_is signed N z h = grind (arith, nat_tests)
 
 small_fits : (n : ℕ) → n ≤ 1024 → SFits w32 (pos n)
 small_fits n le = omega (arith, ints)

@@ -20,16 +20,10 @@ module _ (N name : ℕ) (values : List ℕ) where
   bits_uncoded e = let t : eqb name 15 ≡ true = grind (arith, nat_tests) in rw t refl
 
   pub bits_whole : name ≢ 15 → name ≡ 0 → value_bits N name values ≡ flat_map (unary_bits name) values
-  bits_whole ne z =
-      let t : eqb name 15 ≡ false = differ _ _ ne in
-      let s : eqb name 0 ≡ true = grind (arith, nat_tests) in
-      rw (t, s) (append-nil (flat_map (unary_bits name) values))
+  bits_whole ne z = grind (arith, nat_tests, differ, append-nil)
 
   pub bits_split : name ≢ 15 → name ≢ 0 → value_bits N name values ≡ flat_map (unary_bits name) values ++ flat_map (rest_bits name) values
-  bits_split ne nz =
-      let t : eqb name 15 ≡ false = differ _ _ ne in
-      let s : eqb name 0 ≡ false = differ _ _ nz in
-      rw (t, s) refl
+  bits_split ne nz = grind (arith, nat_tests, differ)
 
   -- both parts were put
   pub split_then : {S T : Type 0} {k : SinkOf S} {r : Result T PutFault} {a b c : Standing S} → name ≢ 15 → name ≢ 0 → Adds k a b (flat_map (unary_bits name) values) → Puts k r b c (flat_map (rest_bits name) values) → Puts k r a c (value_bits N name values)

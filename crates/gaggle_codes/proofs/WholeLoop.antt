@@ -1,5 +1,5 @@
 -- The result of a loop that reads the numbers of a gaggle.
-use Rattle.std.proofs.Common.{◌≡◌, ℕ, ◌+◌, ◌-◌, ◌*◌, ◌/◌, ◌^◌, ◌<◌, ◌≤◌, List, [], ◌∷◌, ◌++◌, length, map, take, get_or, Bool, true, false, eqb, Ok, Err, refl, sym, ap, subst, ◌∙◌, append_assoc, arith, inl, inr}
+use Rattle.std.proofs.Common.{◌≡◌, ℕ, ◌+◌, ◌-◌, ◌/◌, ◌^◌, ◌<◌, ◌≤◌, List, [], ◌∷◌, ◌++◌, length, map, take, get_or, Bool, true, Ok, Err, refl, sym, ap, subst, ◌∙◌, append_assoc, arith, inl, inr}
 use Rattle.std.specs.Prelude.{Some, None}
 use Rattle.std.specs.List.{range_with_len}
 use Rattle.std.proofs.lemmas.Bool.Decides.{nat_tests}
@@ -35,20 +35,11 @@ pub record WholeSoFar {I : Type 0} (k : SourceOf I) (range : NumberRange) (optio
 -- the items of the first numbers, before others
 front_items : (kind : Kind) (option p : ℕ) (heights more : List ℕ) (i : ℕ) → i ≤ length heights →
     map (whole_item kind option (p ∷ (heights ++ more))) (range_with_len 1 i) ≡ map (whole_item kind option (p ∷ heights)) (range_with_len 1 i)
-front_items kind option p heights more i le =
-    range_same (whole_item kind option (p ∷ (heights ++ more))) (whole_item kind option (p ∷ heights)) 1 1 i (λ j lt.
-    let a = front_at kind.bits option p [] heights more (1 + j - 1) (omega arith) in
-    let b = front_at kind.bits option p [] heights more (1 + j) (omega arith) in
-    ap (λ n. item_after kind option n (get_or (p ∷ (heights ++ more)) (1 + j) 0)) a ∙ ap (item_after kind option (get_or (p ∷ heights) (1 + j - 1) 0)) b)
+front_items kind option p heights more i le = grind (arith, nat_tests, range_same, front_at, item_after)
 
 -- the zeros of a value's unary part
 zeros_of : (N option zeros said v : ℕ) → whole_value N option zeros said ≡ v → IsSaid (whole_shape N option) said → (option ≡ uncoded N → ⊥) → (option ≡ 0 → ⊥) → v / 2 ^ option ≡ zeros
-zeros_of N option zeros said v w h a b =
-    let t : eqb option (uncoded N) ≡ false = grind (arith, nat_tests) in
-    let z : eqb option 0 ≡ false = grind (arith, nat_tests) in
-    let q : zeros * 2 ^ option + said ≡ v = rw (t, z) at w in
-    let small : said < 2 ^ option = rw (t, z) at h in
-    rw (← q) (div-mul-add zeros (2 ^ option) said small)
+zeros_of N option zeros said v w h a b = grind (arith, nat_tests, div-mul-add)
 
 module _ {I : Type 0} {k : SourceOf I} (range : NumberRange) (option p : ℕ) (zeros : List ℕ) where
   pub whole_start : (first : List ℕ) (a : Coming I) → IsIn a → p < 2 ^ range.bits → WholeSoFar k range option p zeros 0 p a a first first

@@ -1,5 +1,5 @@
 -- The values that items make whole.
-use Rattle.std.proofs.Common.{◌≡◌, ℕ, ◌+◌, ◌-◌, ◌*◌, ◌%◌, ◌^◌, ◌<◌, ◌≤◌, true, false, eqb, Ok, Err, refl, sym, ap, ◌∙◌, arith}
+use Rattle.std.proofs.Common.{◌≡◌, ℕ, ◌+◌, ◌-◌, ◌*◌, ◌%◌, ◌^◌, ◌<◌, ◌≤◌, true, Ok, Err, sym, ◌∙◌, arith}
 use Rattle.std.specs.Prelude.{Option, Some, None, Result}
 use Rattle.std.proofs.lemmas.Nat.{pow-add, mul-add-lt, pow_pos}
 use Rattle.std.proofs.Math.Pow.{pow_mono}
@@ -24,38 +24,23 @@ value_as {I} {k} {s} {t} {f} {g} {low} {high} {r} {a} {b} e same le p = record {
 
 module _ (N option : ℕ) where
   pub shape_unary : (option ≡ uncoded N → ⊥) → option ≡ 0 → zeros_to (2 ^ (N - option)) ≡ whole_shape N option
-  shape_unary not_all e =
-      let t : eqb option (uncoded N) ≡ false = grind (arith, nat_tests) in
-      let z : eqb option 0 ≡ true = grind (arith, nat_tests) in
-      rw (t, z) refl
+  shape_unary not_all e = grind (arith, nat_tests)
 
   pub value_unary : (zeros : ℕ) → (option ≡ uncoded N → ⊥) → option ≡ 0 → (n : ℕ) → n ≡ whole_value N option zeros n
-  value_unary zeros not_all e n =
-      let t : eqb option (uncoded N) ≡ false = grind (arith, nat_tests) in
-      let z : eqb option 0 ≡ true = grind (arith, nat_tests) in
-      rw (t, z) refl
+  value_unary zeros not_all e n = grind (arith, nat_tests)
 
   pub shape_rest : (option ≡ uncoded N → ⊥) → (option ≡ 0 → ⊥) → fixed option ≡ whole_shape N option
-  shape_rest not_all some =
-      let t : eqb option (uncoded N) ≡ false = grind (arith, nat_tests) in
-      let z : eqb option 0 ≡ false = grind (arith, nat_tests) in
-      rw (t, z) refl
+  shape_rest not_all some = grind (arith, nat_tests)
 
   pub value_rest : (zeros n : ℕ) → (option ≡ uncoded N → ⊥) → (option ≡ 0 → ⊥) → whole_value N option zeros n ≡ zeros * 2 ^ option + n
-  value_rest zeros n not_all some =
-      let t : eqb option (uncoded N) ≡ false = grind (arith, nat_tests) in
-      let z : eqb option 0 ≡ false = grind (arith, nat_tests) in
-      rw (t, z) refl
+  value_rest zeros n not_all some = grind (arith, nat_tests)
 
   pub k_below : is_option N option ≡ true → (option ≡ uncoded N → ⊥) → option ≤ N
   k_below known not_all = grind (arith, nat_tests)
 
   -- zeros and a rest make a value of N bits
   pub parts_below : (zeros rest : ℕ) → option ≤ N → zeros < 2 ^ (N - option) → rest < 2 ^ option → zeros * 2 ^ option + rest < 2 ^ N
-  parts_below zeros rest le p q =
-      let whole : option + (N - option) ≡ N = omega arith in
-      let split : 2 ^ N ≡ 2 ^ option * 2 ^ (N - option) = ap (λ w. 2 ^ w) (sym whole) ∙ pow-add 2 option (N - option) in
-      rw split (mul-add-lt zeros (2 ^ option) rest (2 ^ (N - option)) p q)
+  parts_below zeros rest le p q = grind (arith, nat_tests, pow-add, mul-add-lt)
 
   -- what the code computes from them
   pub parts_code : (zeros : ℕ) → N ≤ 10 → option ≤ N → zeros < 2 ^ (N - option) → zeros * 2 ^ option % 65536 ≡ zeros * 2 ^ option

@@ -5,7 +5,7 @@ use Rattle.std.proofs.lemmas.Bool.Decides.{nat_tests}
 use Rattle.std.proofs.lemmas.List.{append-nil, get_or_append_left, get_or_past}
 use Rattle.std.proofs.lemmas.Nat.{pow_pos, div-mul-add}
 use Rattle.std.proofs.Math.Seq.{get_or-append_seam}
-use Rattle.number_defs.specs.Mapping.{mapped, unmapped}
+use Rattle.number_defs.specs.Mapping.{unmapped}
 use Rattle.number_defs.proofs.MappingLaws.{unmapped_below, unmapped_back}
 use Rattle.number_defs.specs.Gaggles.{uncoded, is_option, value_at}
 use Rattle.gaggle_codes.specs.Taken.{whole_value}
@@ -38,17 +38,10 @@ module _ (N option p : ℕ) (zeros : List ℕ) where
 
   -- the mapped value of the next number
   pub next_value : {i last : ℕ} {heights : List ℕ} (v : ℕ) → Chained N option p zeros i last heights → v < 2 ^ N → value_at N (p ∷ (heights ++ unmapped N last v ∷ [])) (1 + i) ≡ v
-  next_value {i} {last} {heights} v h small =
-      let before : get_or (p ∷ (heights ++ unmapped N last v ∷ [])) (1 + i - 1) 0 ≡ last =
-      (let z : 1 + i - 1 ≡ i = omega arith in ap (λ n. get_or (p ∷ (heights ++ unmapped N last v ∷ [])) n 0) z) ∙ front_at heights (unmapped N last v ∷ []) i (omega (arith, h.count)) ∙ sym h.last_is in
-      let here = next_at heights (unmapped N last v) i h.count in
-      ap (λ b. mapped N b (get_or (p ∷ (heights ++ unmapped N last v ∷ [])) (1 + i) 0)) before ∙ ap (mapped N last) here ∙ unmapped_back N last v h.small small
+  next_value v h small = grind (arith, nat_tests, front_at, next_at, unmapped_back)
 
   pub same_values : (heights more : List ℕ) (j : ℕ) → j < length heights → value_at N (p ∷ (heights ++ more)) (1 + j) ≡ value_at N (p ∷ heights) (1 + j)
-  same_values heights more j lt =
-      let a = front_at heights more (1 + j - 1) (omega arith) in
-      let b = front_at heights more (1 + j) (omega arith) in
-      ap (λ n. mapped N n (get_or (p ∷ (heights ++ more)) (1 + j) 0)) a ∙ ap (mapped N (get_or (p ∷ heights) (1 + j - 1) 0)) b
+  same_values heights more j lt = grind (arith, nat_tests, front_at)
 
   pub chain_more : {i last : ℕ} {heights : List ℕ} (v : ℕ) → Chained N option p zeros i last heights → v < 2 ^ N → ((option ≡ uncoded N → ⊥) → (option ≡ 0 → ⊥) → v / 2 ^ option ≡ get_or zeros i 0) →
       Chained N option p zeros (i + 1) (unmapped N last v) (heights ++ unmapped N last v ∷ [])

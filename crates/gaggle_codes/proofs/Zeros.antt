@@ -1,5 +1,5 @@
 -- The zeros of unary parts, read one after another.
-use Rattle.std.proofs.Common.{◌≡◌, ℕ, ◌+◌, ◌-◌, ◌/◌, ◌^◌, ◌<◌, ◌≤◌, List, length, map, get_or, Bool, Ok, Err, true, false, eqb, refl, sym, subst, ◌∙◌, arith, inl, inr}
+use Rattle.std.proofs.Common.{◌≡◌, ℕ, ◌+◌, ◌-◌, ◌/◌, ◌^◌, ◌<◌, ◌≤◌, List, length, map, get_or, Bool, Ok, Err, eqb, refl, sym, subst, ◌∙◌, arith, inl, inr}
 use Rattle.std.specs.Prelude.{Some, None}
 use Rattle.std.specs.List.{range_with_len}
 use Rattle.std.proofs.Math.ListN.{set}
@@ -39,9 +39,7 @@ part_shape N option i kind heights e = rw e refl
 
 -- too many zeros are refused there
 refusal_there : (N option i : ℕ) (kind : Kind) (heights : List ℕ) (limit : ℕ) → kind.bits ≡ N → limit ≡ 2 ^ (N - option) → (unary_part kind heights option (1 + i)).form.refusal limit ≡ Some bad_delta
-refusal_there N option i kind heights limit e f =
-    let t : eqb limit (2 ^ (kind.bits - option)) ≡ true = (let g : limit ≡ 2 ^ (kind.bits - option) = rw e f in grind (arith, nat_tests)) in
-    rw t refl
+refusal_there N option i kind heights limit e f = grind (arith, nat_tests)
 
 before : {I : Type 0} {k : SourceOf I} (N option : ℕ) (zeros : List ℕ) (i : ℕ) {a b : Coming I} → i < length zeros → ZerosSoFar k N option zeros i a b → (kind : Kind) (heights : List ℕ) → kind.bits ≡ N →
     ((j : ℕ) → j < length zeros → value_at N heights (1 + j) / 2 ^ option ≡ get_or zeros j 0) → Takes k a b (text (map (unary_part kind heights option) (range_with_len 1 i)))
@@ -73,8 +71,7 @@ module _ {I : Type 0} {k : SourceOf I} (N option : ℕ) where
       other j ne = get_or-set_other zeros i j z 0 ne
 
       few_at : (j : ℕ) (t : Bool) → eqb j i ≡ t → get_or (set zeros i z) j 0 < 2 ^ (N - option)
-      few_at j true e = let q : j ≡ i = grind (arith, nat_tests) in rw (q, here) small
-      few_at j false e = let q : j ≡ i → ⊥ = grind (arith, nat_tests) in rw (other j q) (s.few j)
+      few_at j t e = grind (arith, nat_tests, here, other)
 
   module _ (zeros : List ℕ) (i : ℕ) {a b c : Coming I} (lt : i < length zeros) (s : ZerosSoFar k N option zeros i a b) where
     pub zeros_ended : EndsItem k (zeros_to (2 ^ (N - option))) (Ok None) b c → TakesZeros k N option zeros (Ok Ended) a c

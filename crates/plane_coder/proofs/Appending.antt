@@ -1,7 +1,8 @@
 -- Entries that are added one after another, and put together.
-use Rattle.std.proofs.Common.{◌≡◌, ℕ, zero, suc, ◌+◌, ◌*◌, ◌-◌, ◌/◌, ◌%◌, ◌<◌, ◌≤◌, ◌⊎◌, inl, inr, Bool, true, false, cond, ◌||◌, List, [], ◌∷◌, ◌++◌, length, map, nat_lt, get_or, set, refl, ap, sym, ◌∙◌, subst, arith, append_assoc, append-nil}
+use Rattle.std.proofs.Common.{◌≡◌, ℕ, zero, suc, ◌+◌, ◌*◌, ◌-◌, ◌/◌, ◌%◌, ◌<◌, ◌≤◌, Bool, true, false, cond, ◌||◌, List, [], ◌∷◌, ◌++◌, length, map, nat_lt, get_or, set, refl, ap, sym, ◌∙◌, subst, arith, append_assoc, append-nil}
 use Rattle.std.specs.Prelude.{Result, if◌then◌else◌}
 use Rattle.std.specs.List.{list_any, flat_map}
+use Rattle.std.proofs.lemmas.Bool.Decides.{nat_tests}
 use Rattle.plane_defs.specs.Spans.{span}
 use Rattle.plane_defs.proofs.SpanLists.{flat_map-span-suc, flat_map-span-none}
 use Rattle.item_defs.specs.Bits.{bits_of}
@@ -15,7 +16,7 @@ use Rattle.base_122.specs.declared.book.Book.{Book}
 use Rattle.plane_defs.specs.declared.entries.Entry.{Entry}
 use Rattle.plane_defs.specs.declared.entries.Entry.TheVariants.{Bit, Word}
 use Rattle.plane_defs.specs.declared.entries.Bits.{Bits}
-use Rattle.plane_defs.specs.Codes.{word_item, option_item, identifier_width}
+use Rattle.plane_defs.specs.Codes.{option_item, identifier_width}
 use Rattle.plane_defs.specs.Spelled.{is_word_of, option_of, entry_items, spelled_after, opening}
 use Rattle.plane_defs.proofs.SpelledLists.{spelled_after-append}
 use Rattle.block_masks.specs.declared.gaggle.Gaggle.{Gaggle}
@@ -81,8 +82,7 @@ pub silent_said : (a : PendingBits) → a.count ≡ 0 → said a ≡ []
 silent_said a silent = ap (λ n. bits_of n a.value) silent ∙ bits_none a.value
 
 one_less : (b : Bool) (n : ℕ) → (if b then 0 else n) ≤ n
-one_less true n = omega arith
-one_less false n = omega arith
+one_less b n = grind (arith, nat_tests)
 
 few_unopened : (sent : List Bool) → unopened sent ≤ 5
 few_unopened sent = omega (arith, one_less (get_or sent 0 false) 1, one_less (get_or sent 1 false) 2, one_less (get_or sent 2 false) 2)
@@ -138,24 +138,14 @@ opens_already (suc (suc n)) a high is =
 
 -- an identifier is due
 pub is_long : (n : ℕ) (a : PendingBits) → get_or a.opened n false ≡ false → 2 ≤ n
-is_long zero a is = let no : true ≡ false = sym (ap (λ l. get_or l zero false) a.opened_told) ∙ is in cc
-is_long (suc zero) a is = let no : true ≡ false = sym (ap (λ l. get_or l (suc zero) false) a.opened_told) ∙ is in cc
-is_long (suc (suc n)) a is = omega arith
+is_long n a is = grind (arith, nat_tests)
 
 pub is_due : (n : ℕ) (a : PendingBits) → get_or a.opened n false ≡ false → get_or a.gaggle.sent (n - 2) false ≡ false
-is_due zero a is = let no : true ≡ false = sym (ap (λ l. get_or l zero false) a.opened_told) ∙ is in cc
-is_due (suc zero) a is = let no : true ≡ false = sym (ap (λ l. get_or l (suc zero) false) a.opened_told) ∙ is in cc
-is_due (suc (suc n)) a is =
-    let back : suc (suc n) - 2 ≡ n = omega arith in
-    ap (λ m. get_or a.gaggle.sent m false) back ∙ sym (ap (λ l. get_or l (suc (suc n)) false) a.opened_told) ∙ is
+is_due n a is = grind (arith, nat_tests)
 
 -- the identifier was sent
 pub opened_there : (n : ℕ) (opened sent : List Bool) → 2 ≤ n → opened ≡ true ∷ true ∷ sent → set opened n true ≡ true ∷ true ∷ set sent (n - 2) true
-opened_there zero opened sent low is = absurd (omega arith)
-opened_there (suc zero) opened sent low is = absurd (omega arith)
-opened_there (suc (suc n)) opened sent low is =
-    let back : suc (suc n) - 2 ≡ n = omega arith in
-    ap (λ l. set l (suc (suc n)) true) is ∙ ap (λ m. true ∷ true ∷ set sent m true) (sym back)
+opened_there n opened sent low is = grind (arith, nat_tests, set)
 
 pub opens_first : (n : ℕ) (a b : PendingBits) → 2 ≤ n → n ≤ 4 → length a.gaggle.sent ≡ 3 → get_or a.gaggle.sent (n - 2) false ≡ false →
     said b ≡ said a ++ item_bits (option_item n (option_of a.gaggle.options n)) → b.gaggle.sent ≡ set a.gaggle.sent (n - 2) true → b.gaggle.options ≡ a.gaggle.options → Opens n a b
@@ -173,27 +163,7 @@ opens_first n a b low high three was put sent same = record {
 
 module _ (book : Book) (options : List ℕ) (before : List Entry) where
   said_text : (w : Bits) → text (spelled_after book options before (Word w ∷ [])) ≡ text (identified options before w.count) ++ word_bits book w.count (option_for options w.count) w.value
-  said_text w =
-      ap text (append-nil (entry_items book options before (Word w))) ∙
-      elim (short_or_long w.count) [
-        | inl short ↦
-            short_text book options before w short ∙
-            sym (ap (λ b. text (if b then [] else opening options before w.count) ++ (if b then bits_of w.count w.value else item_bits (word_item book w.count (if b then 0 else option_of options w.count) w.value))) (less w.count short))
-        | inr long ↦
-            long_text long (list_any (is_word_of w.count) before) refl ∙
-            sym (ap (λ b. text (if b then [] else opening options before w.count) ++ (if b then bits_of w.count w.value else item_bits (word_item book w.count (if b then 0 else option_of options w.count) w.value))) (no_less w.count long))
-      ]
-    where
-      short_or_long : (n : ℕ) → (n < 2) ⊎ (2 ≤ n)
-      short_or_long n = grind arith
-
-      long_text : 2 ≤ w.count → (b : Bool) → list_any (is_word_of w.count) before ≡ b →
-          text (entry_items book options before (Word w)) ≡ text (opening options before w.count) ++ item_bits (word_item book w.count (option_of options w.count) w.value)
-      long_text long true is = again_text book options before w long is ∙ sym (ap (λ b. text (if b then [] else option_item w.count (option_of options w.count) ∷ []) ++ item_bits (word_item book w.count (option_of options w.count) w.value)) is)
-      long_text long false is =
-          first_text book options before w long is ∙
-          sym (ap (λ b. text (if b then [] else option_item w.count (option_of options w.count) ∷ []) ++ item_bits (word_item book w.count (option_of options w.count) w.value)) is ∙
-          ap (λ l. l ++ item_bits (word_item book w.count (option_of options w.count) w.value)) (append-nil (item_bits (option_item w.count (option_of options w.count)))))
+  said_text w = grind (arith, nat_tests, append-nil, short_text, less, no_less, again_text, first_text)
 
 pub appends_word : (book : Book) (a b c : PendingBits) (word : ℕ) → Opens (word / 16) a b → load b ≡ load a → load c ≤ load b + 8 →
     said c ≡ said b ++ word_bits book (word / 16) (option_for a.gaggle.options (word / 16)) (word % 16) → c.gaggle ≡ b.gaggle → Appends book a c (word_of word ∷ []) 8

@@ -1,7 +1,8 @@
 -- One block of many.
-use Rattle.std.proofs.Common.{◌≡◌, ℕ, ◌+◌, ◌-◌, ◌*◌, ◌/◌, ◌<◌, ◌≤◌, ℤ, pos, List, [], length, take, drop, ap, sym, ◌∙◌, arith, get_or}
+use Rattle.std.proofs.Common.{◌≡◌, ℕ, ◌+◌, ◌-◌, ◌*◌, ◌<◌, ◌≤◌, ℤ, pos, List, [], length, take, drop, arith, get_or}
 use Rattle.std.specs.List.{slice_range}
 use Rattle.std.proofs.lemmas.List.FromFn.{get_or-map-range_with_len}
+use Rattle.std.proofs.lemmas.Bool.Decides.{nat_tests}
 use Rattle.plane_defs.specs.declared.stages.Stage.{Stage}
 use Rattle.plane_defs.specs.Entries.{block_entries}
 use Rattle.wave_defs.specs.Held.{blocks_in}
@@ -10,16 +11,9 @@ use Rattle.block_masks.proofs.Marking.{depth_there}
 
 block_there : (cells : List ℤ) (r : ℕ) → 64 * r + 64 ≤ length cells → get_or (blocks_in cells) r [] ≡ take 64 (drop (64 * r) cells)
 unfolding blocks_in
-block_there cells r within =
-    let below : r < length cells / 64 = omega arith in
-    get_or-map-range_with_len (λ b. take 64 (drop (64 * b) cells)) 0 (length cells / 64) r r [] below (omega arith)
+block_there cells r within = grind (arith, nat_tests, get_or-map-range_with_len)
 
 pub stage_there : (stage : Stage) (cells marks : List ℤ) (weights : List ℕ) (plane q r d : ℕ) → length cells ≡ 64 * length marks → r < length marks →
     d ≡ depth_of (get_or marks r (pos 0)) →
     block_entries stage (slice_range cells (64 * r) (64 * r + 64)) d weights plane q ≡ block_entries stage (get_or (blocks_in cells) r []) (get_or (depths_of marks) r 0) weights plane q
-stage_there stage cells marks weights plane q r d whole within is =
-    let many : (64 * r + 64) - 64 * r ≡ 64 = omega arith in
-    let block : slice_range cells (64 * r) (64 * r + 64) ≡ get_or (blocks_in cells) r [] =
-    ap (λ n. take n (drop (64 * r) cells)) many ∙ sym (block_there cells r (omega arith)) in
-    ap (λ b. block_entries stage b d weights plane q) block ∙
-    ap (λ n. block_entries stage (get_or (blocks_in cells) r []) n weights plane q) (is ∙ sym (depth_there marks r))
+stage_there stage cells marks weights plane q r d whole within is = grind (arith, nat_tests, block_there, depth_there)

@@ -3,6 +3,7 @@ use Rattle.std.proofs.Common.{◌≡◌, ℕ, zero, suc, ◌+◌, ◌*◌, ◌-�
 use Rattle.std.specs.List.{flat_map, list_any}
 use Rattle.std.proofs.lemmas.List.{map-append}
 use Rattle.std.proofs.lemmas.List.Elements.{filter-append}
+use Rattle.std.proofs.lemmas.Bool.Decides.{nat_tests}
 use Rattle.item_defs.specs.Bits.{bit}
 use Rattle.plane_defs.specs.declared.sets.Set.TheVariants.{Family, Grandchildren, Quad}
 use Rattle.plane_defs.specs.declared.entries.Entry.{Entry}
@@ -46,10 +47,7 @@ module _ (block : List ℤ) (weights : List ℕ) (plane : ℕ) where
   children_are = sym (filtered (λ i. typed block weights plane (span (children_of i) 4)) (λ i. set_significant block plane (Family i)) (span 0 3))
 
   pub of_children_is : (b : Bool) (i : ℕ) → b ≡ set_significant block plane (Family (0 + i)) → cond b (typed block weights plane (span (4 + 4 * i) 4)) [] ≡ of_children (0 + i)
-  of_children_is b i same =
-      let e : i ≡ 0 + i = omega arith in
-      ap (λ x. cond x (typed block weights plane (span (4 + 4 * i) 4)) []) same ∙
-      ap (λ n. cond (set_significant block plane (Family (0 + i))) (typed block weights plane (span (4 + 4 * n) 4)) []) e
+  of_children_is b i same = grind (arith, nat_tests)
 
   -- what a set of four grandchildren sends
   abbrev pub of_quad : ℕ → ℕ → List Entry
@@ -59,10 +57,7 @@ module _ (block : List ℤ) (weights : List ℕ) (plane : ℕ) where
   quads_are i = sym (filtered (λ j. typed block weights plane (span (quad_of i j) 4)) (λ j. set_significant block plane (Quad i j)) (span 0 4))
 
   pub of_quad_is : (b : Bool) (i j : ℕ) → b ≡ set_significant block plane (Quad i (0 + j)) → cond b (typed block weights plane (span (16 + 16 * i + 4 * j) 4)) [] ≡ of_quad i (0 + j)
-  of_quad_is b i j same =
-      let e : j ≡ 0 + j = omega arith in
-      ap (λ x. cond x (typed block weights plane (span (16 + 16 * i + 4 * j) 4)) []) same ∙
-      ap (λ n. cond (set_significant block plane (Quad i (0 + j))) (typed block weights plane (span (16 + 16 * i + 4 * n) 4)) []) e
+  of_quad_is b i j same = grind (arith, nat_tests)
 
   -- what family i sends of its grandchildren
   abbrev pub of_family : ℕ → List Entry
@@ -72,9 +67,7 @@ module _ (block : List ℤ) (weights : List ℕ) (plane : ℕ) where
   families_are = sym (filtered (quads block weights plane) (λ i. set_significant block plane (Grandchildren i)) (span 0 3))
 
   pub of_family_is : (b : Bool) (i : ℕ) → b ≡ set_significant block plane (Grandchildren (0 + i)) → cond b (quads block weights plane i) [] ≡ of_family (0 + i)
-  of_family_is b i same =
-      let e : i ≡ 0 + i = omega arith in
-      ap (λ x. cond x (quads block weights plane i) []) same ∙ ap (λ n. cond (set_significant block plane (Grandchildren (0 + i))) (quads block weights plane n) []) e
+  of_family_is b i same = grind (arith, nat_tests)
 
   -- ---- refinement
 

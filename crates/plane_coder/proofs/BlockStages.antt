@@ -1,5 +1,5 @@
 -- The stages of a block by its depth.
-use Rattle.std.proofs.Common.{◌≡◌, ℕ, ◌<◌, ◌≤◌, ℤ, true, false, cond, pos, List, [], ◌++◌, length, ◌+◌, ◌*◌, get_or, nat_lt, refl, ap, sym, ◌∙◌, subst, arith}
+use Rattle.std.proofs.Common.{◌≡◌, ℕ, ◌<◌, ◌≤◌, ℤ, true, false, cond, pos, List, [], ◌++◌, length, ◌+◌, ◌*◌, get_or, nat_lt, ap, sym, ◌∙◌, subst, arith}
 use Rattle.std.specs.Prelude.{Result}
 use Rattle.bit_pipe.specs.Sinks.{SinkOf}
 use Rattle.bit_pipe.specs.Standing.{Standing}
@@ -13,8 +13,8 @@ use Rattle.block_masks.specs.declared.gaggle.Gaggle.{Gaggle}
 use Rattle.block_masks.specs.declared.plan.CodedPlane.{CodedPlane}
 use Rattle.plane_coder.specs.Spells.{Spells}
 use Rattle.std.specs.List.{slice_range}
+use Rattle.std.proofs.lemmas.Bool.Decides.{nat_tests}
 use Rattle.wave_defs.specs.Held.{blocks_in}
-use Rattle.plane_defs.specs.Planes.{Plane, of_block}
 use Rattle.plane_defs.specs.Marks.{depth_of, depths_of}
 use Rattle.plane_coder.specs.Chosen.{words_of_block}
 use Rattle.plane_coder.proofs.BlockReads.{stage_there}
@@ -47,11 +47,7 @@ deep_refinement block weights plane q d lt = ap (λ b. cond b (refinement block 
 
 pub shallow : (stage : Stage) (block : List ℤ) (weights : List ℕ) (plane q d : ℕ) → (stage ≡ stages.DcBits → ⊥) → d ≤ plane → block_entries stage block d weights plane q ≡ []
 unfolding block_entries
-shallow stages.DcBits block weights plane q d other le = absurd (other refl)
-shallow stages.Parents block weights plane q d other le = ap (λ b. cond b (parents block weights plane) []) (not_below plane d le)
-shallow stages.Children block weights plane q d other le = ap (λ b. cond b (children block weights plane) []) (not_below plane d le)
-shallow stages.Grandchildren block weights plane q d other le = ap (λ b. cond b (grandchildren block weights plane) []) (not_below plane d le)
-shallow stages.Refinement block weights plane q d other le = ap (λ b. cond b (refinement block weights plane) []) (not_below plane d le)
+shallow stage block weights plane q d other le = grind (arith, nat_tests, not_below)
 
 module _ {S : Type 0} {k : SinkOf S} {book : Book} {a c : Gaggle} {r : Result (Unit {0}) PutFault} {s t : Standing S} where
   pub spells_deep : (f : List ℤ → List ℕ → ℕ → List Entry) (stage : Stage) (block block' : List ℤ) (plan plan' : CodedPlane) (d : ℕ) → Deep stage f → block' ≡ block → plan' ≡ plan → plan.plane < d →
@@ -63,29 +59,15 @@ module _ {S : Type 0} {k : SinkOf S} {book : Book} {a c : Gaggle} {r : Result (U
 
 pub deep_words : (block : List ℤ) (weights : List ℕ) (plane q d : ℕ) → plane < d → parents block weights plane ++ (children block weights plane ++ grandchildren block weights plane) ≡
     block_entries stages.Parents block d weights plane q ++ (block_entries stages.Children block d weights plane q ++ block_entries stages.Grandchildren block d weights plane q)
-deep_words block weights plane q d lt =
-    ap (λ l. l ++ (children block weights plane ++ grandchildren block weights plane)) (deep_parents block weights plane q d lt) ∙
-    ap (λ l. block_entries stages.Parents block d weights plane q ++ (l ++ grandchildren block weights plane)) (deep_children block weights plane q d lt) ∙
-    ap (λ l. block_entries stages.Parents block d weights plane q ++ (block_entries stages.Children block d weights plane q ++ l)) (deep_grandchildren block weights plane q d lt)
+deep_words block weights plane q d lt = grind (arith, nat_tests, deep_parents, deep_children, deep_grandchildren)
 
 pub shallow_words : (block : List ℤ) (weights : List ℕ) (plane q d : ℕ) → d ≤ plane →
     [] ≡ block_entries stages.Parents block d weights plane q ++ (block_entries stages.Children block d weights plane q ++ block_entries stages.Grandchildren block d weights plane q)
-shallow_words block weights plane q d le =
-    let a = shallow stages.Parents block weights plane q d (λ e. absurd cc) le in
-    let b = shallow stages.Children block weights plane q d (λ e. absurd cc) le in
-    let c = shallow stages.Grandchildren block weights plane q d (λ e. absurd cc) le in
-    sym (ap (λ l. l ++ (block_entries stages.Children block d weights plane q ++ block_entries stages.Grandchildren block d weights plane q)) a ∙
-    ap (λ l. l ++ block_entries stages.Grandchildren block d weights plane q) b ∙ c)
+shallow_words block weights plane q d le = grind (arith, nat_tests, shallow)
 
 -- the words of block r of many
 pub words_there : (cells marks : List ℤ) (weights : List ℕ) (plane q r d : ℕ) → length cells ≡ 64 * length marks → r < length marks → d ≡ depth_of (get_or marks r (pos 0)) →
     block_entries stages.Parents (slice_range cells (64 * r) (64 * r + 64)) d weights plane q ++ (block_entries stages.Children (slice_range cells (64 * r) (64 * r + 64)) d weights plane q ++
     block_entries stages.Grandchildren (slice_range cells (64 * r) (64 * r + 64)) d weights plane q)
     ≡ words_of_block (record { blocks = blocks_in cells; depths = depths_of marks; weights = weights; number = plane; q = q }) r
-words_there cells marks weights plane q r d whole within is =
-    let block = slice_range cells (64 * r) (64 * r + 64) in
-    let p : Plane = record { blocks = blocks_in cells; depths = depths_of marks; weights = weights; number = plane; q = q } in
-    let one = λ (s : Stage). stage_there s cells marks weights plane q r d whole within is in
-    ap (λ l. l ++ (block_entries stages.Children block d weights plane q ++ block_entries stages.Grandchildren block d weights plane q)) (one stages.Parents) ∙
-    ap (λ l. of_block p stages.Parents r ++ (l ++ block_entries stages.Grandchildren block d weights plane q)) (one stages.Children) ∙
-    ap (λ l. of_block p stages.Parents r ++ (of_block p stages.Children r ++ l)) (one stages.Grandchildren)
+words_there cells marks weights plane q r d whole within is = grind (arith, nat_tests, stage_there)

@@ -1,10 +1,11 @@
 -- The options of one gaggle after another.
 use Rattle.std.proofs.Common.{◌≡◌, ◌⊎◌, inl, inr, ℕ, suc, ◌+◌, ◌*◌, ◌^◌, ◌<◌, ◌≤◌, ℤ, false, List, [], ◌∷◌, ◌++◌, length, refl, ap, sym, ◌∙◌, subst, arith, get_or}
-use Rattle.std.specs.Prelude.{sum, count_by, map}
+use Rattle.std.specs.Prelude.{sum}
 use Rattle.std.specs.List.{flat_map}
 use Rattle.std.proofs.lemmas.List.Sums.{sum_by-cons}
 use Rattle.std.specs.Int.{div_ceil}
 use Rattle.std.proofs.lemmas.List.{same_lists, append-nil}
+use Rattle.std.proofs.lemmas.Bool.Decides.{nat_tests}
 use Rattle.base_122.specs.declared.book.Book.{Book}
 use Rattle.plane_defs.specs.declared.entries.Entry.{Entry}
 use Rattle.plane_defs.specs.Spans.{span}
@@ -30,22 +31,11 @@ length-counts : (t : Tally) (n : ℕ) → length (counts_in t n) ≡ 16
 length-counts t n = length-map-span (count_at t n) 16
 
 counts_are : (t : Tally) (xs : List Entry) (n : ℕ) → 2 ≤ n → n ≤ 4 → CountsOf t xs → counts_in t n ≡ symbol_counts n xs
-counts_are t xs n low high p =
-    let f = λ (s : ℕ). count_by (has_symbol n s) xs in
-    let g = count_at t n in
-    same_lists (map g (span 0 16)) (map f (span 0 16)) (length-map-span g 16 ∙ sym (length-map-span f 16))
-    (λ s d h.
-    let below : s < 16 = omega (arith, length-map-span g 16) in
-    get_or-map-span g 16 s d below ∙ p.at n s low high below ∙ sym (get_or-map-span f 16 s d below))
+counts_are t xs n low high p = grind (arith, nat_tests, same_lists, length-map-span, get_or-map-span)
 
 pub options_are : (book : Book) (p : Plane) (g : ℕ) (t : Tally) (options : List ℕ) → CountsOf t (counted p g) →
     options ≡ cheapest book 2 (counts_in t 2) ∷ cheapest book 3 (counts_in t 3) ∷ cheapest book 4 (counts_in t 4) ∷ [] → options ≡ chosen book p g
-options_are book p g t options counts is =
-    is ∙
-    ap (λ l. cheapest book 2 l ∷ cheapest book 3 (counts_in t 3) ∷ cheapest book 4 (counts_in t 4) ∷ []) (counts_are t (counted p g) 2 (omega arith) (omega arith) counts) ∙
-    ap (λ l. cheapest book 2 (symbol_counts 2 (counted p g)) ∷ cheapest book 3 l ∷ cheapest book 4 (counts_in t 4) ∷ []) (counts_are t (counted p g) 3 (omega arith) (omega arith) counts) ∙
-    ap (λ l. cheapest book 2 (symbol_counts 2 (counted p g)) ∷ cheapest book 3 (symbol_counts 3 (counted p g)) ∷ cheapest book 4 l ∷ [])
-    (counts_are t (counted p g) 4 (omega arith) (omega arith) counts)
+options_are book p g t options counts is = grind (arith, nat_tests, counts_are)
 
 -- few words have a small sum
 sum_small : (xs : List ℕ) (m : ℕ) → ((k : ℕ) → k < length xs → get_or xs k 0 ≤ m) → sum xs ≤ length xs * m
@@ -118,11 +108,7 @@ one_counted {a} {b} {c} p start n first next =
 -- the words of stages 1 to 3 are counted
 pub counted_is : (p : Plane) (g : ℕ) → so_far p (16 * g) (gaggle_size p g) ≡ counted p g
 unfolding span
-counted_is p g =
-    let z = flat_map (of_block p Grandchildren) (span (16 * g) (gaggle_size p g)) in
-    let y = flat_map (of_block p Children) (span (16 * g) (gaggle_size p g)) in
-    let x = flat_map (of_block p Parents) (span (16 * g) (gaggle_size p g)) in
-    ap (λ l. x ++ (y ++ l)) (sym (append-nil z))
+counted_is p g = grind (arith, nat_tests, append-nil)
 
 has_later : (view : View) (depths : List ℕ) (old new : List ℤ) (h : ℕ) → first_mark new h ≡ first_mark old h → HasOptions view depths old h → HasOptions view depths new h
 has_later view depths old new h same p = record {

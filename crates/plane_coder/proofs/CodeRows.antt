@@ -2,6 +2,7 @@
 use Rattle.std.proofs.Common.{◌≡◌, true, false, ◌/◌, ℕ, zero, suc, ◌+◌, ◌*◌, ◌%◌, ◌<◌, ◌≤◌, ◌^◌, List, [], ◌∷◌, replicate, nat_lt, refl, ap, sym, ◌∙◌, arith, get_or, cond}
 use Rattle.std.proofs.Math.Pow.{pow_mono}
 use Rattle.std.proofs.lemmas.Nat.{one_shl}
+use Rattle.std.proofs.lemmas.Bool.Decides.{nat_tests}
 use Rattle.item_defs.specs.Bits.{bits_of}
 use Rattle.item_defs.specs.Items.{item_bits}
 use Rattle.item_defs.proofs.NumberBits.{bits_none}
@@ -65,10 +66,7 @@ raw_coded book rest (suc (suc v)) below = absurd (omega arith)
 
 -- there are at most sixteen words of four bits
 pub word_within : (length word : ℕ) → length ≤ 4 → word < 1 * 2 ^ length % 256 → word < 16
-word_within length word few below =
-    let whole : 1 * 2 ^ length % 256 ≡ 2 ^ length = one_shl length 8 (omega arith) in
-    let most : 2 ^ length ≤ 2 ^ 4 = pow_mono few in
-    omega (arith, whole, most)
+word_within length word few below = grind (arith, nat_tests, one_shl, pow_mono)
 
 pub all_words : (length word v : ℕ) → length ≤ 4 → 1 * 2 ^ length % 256 ≤ word → v < 2 ^ length → v < word
 all_words length word v few all below =
@@ -81,20 +79,10 @@ abbrev rows : List ℕ → List ℕ
 rows options = 0 ∷ 1 ∷ (2 + get_or options 0 0) ∷ (4 + get_or options 1 0) ∷ (7 + get_or options 2 0) ∷ []
 
 pub rows_chosen : (options : List ℕ) (n : ℕ) → n ≤ 4 → get_or (rows options) n 0 ≡ row_of n (option_for options n)
-rows_chosen options zero le = refl
-rows_chosen options (suc zero) le = refl
-rows_chosen options (suc (suc zero)) le = refl
-rows_chosen options (suc (suc (suc zero))) le = refl
-rows_chosen options (suc (suc (suc (suc zero)))) le = refl
-rows_chosen options (suc (suc (suc (suc (suc n))))) le = absurd (omega arith)
+rows_chosen options n le = grind (arith, nat_tests)
 
 pub rows_within : (options : List ℕ) → AreOptions options → (n : ℕ) → n ≤ 4 → get_or (rows options) n 0 < 11
-rows_within options known zero le = omega arith
-rows_within options known (suc zero) le = omega arith
-rows_within options known (suc (suc zero)) le = omega (arith, known.two)
-rows_within options known (suc (suc (suc zero))) le = omega (arith, known.three)
-rows_within options known (suc (suc (suc (suc zero)))) le = omega (arith, known.four)
-rows_within options known (suc (suc (suc (suc (suc n))))) le = absurd (omega arith)
+rows_within options known n le = grind (arith, nat_tests)
 
 pub word_of_length : (options : List ℕ) (word : ℕ) → AreOptions options → IsPacked word → IsWordOf (word / 16) (option_for options (word / 16)) (word % 16)
 word_of_length options word known packed = record {

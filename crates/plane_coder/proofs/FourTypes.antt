@@ -3,6 +3,7 @@ use Rattle.std.proofs.Common.{◌≡◌, ℕ, zero, suc, ◌+◌, ◌-◌, ◌*�
 use Rattle.std.specs.Prelude.{◌==◌}
 use Rattle.std.specs.List.{list_all, list_any}
 use Rattle.std.proofs.lemmas.Bool.{eqb-true, ltb-true, lt-ltb, false≢true}
+use Rattle.std.proofs.lemmas.Bool.Decides.{nat_tests}
 use Rattle.item_defs.specs.Bits.{bit, digit, value_of}
 use Rattle.plane_defs.specs.declared.entries.Entry.{Entry}
 use Rattle.plane_defs.specs.Spans.{span}
@@ -54,17 +55,10 @@ abbrev four : Bool → Bool → Bool → Bool → ℕ
 four a b c d = digit a + 2 * digit b + 4 * digit c + 8 * digit d
 
 digit_of : (n : ℕ) (b : Bool) → n < 2 → (n == 1) ≡ b → n ≡ digit b
-digit_of zero b small e = ap digit e
-digit_of (suc zero) b small e = ap digit e
-digit_of (suc (suc n)) b small e = absurd (omega arith)
+digit_of n b small e = grind (arith, nat_tests)
 
 four_is : (m start : ℕ) (f : ℕ → Bool) → Shows m f start 4 → m ≡ four (f (start + 0)) (f (start + 1)) (f (start + 2)) (f (start + 3))
-four_is m start f p =
-    let a = digit_of (m / 1 % 2) (f (start + 0)) (omega arith) (p.at 0 (omega arith)) in
-    let b = digit_of (m / 2 % 2) (f (start + 1)) (omega arith) (p.at 1 (omega arith)) in
-    let c = digit_of (m / 4 % 2) (f (start + 2)) (omega arith) (p.at 2 (omega arith)) in
-    let d = digit_of (m / 8 % 2) (f (start + 3)) (omega arith) (p.at 3 (omega arith)) in
-    omega (arith, a, b, c, d, p.small)
+four_is m start f p = grind (arith, nat_tests, digit_of)
 
 abbrev due_there : Bool → Bool → List Bool
 due_there due b = cond due (b ∷ []) []
@@ -91,8 +85,7 @@ abbrev each : (Bool → Bool) → Bool
 each p = p true && p false
 
 of_each : (p : Bool → Bool) → each p ≡ true → (b : Bool) → p b ≡ true
-of_each p all true = and-left (p true) (p false) all
-of_each p all false = and-right (p true) (p false) all
+of_each p all b = grind (arith, nat_tests, and-left, and-right)
 
 abbrev each_eight : (Bool → Bool → Bool → Bool → Bool → Bool → Bool → Bool → Bool) → Bool
 each_eight t = each (λ p. each (λ q. each (λ r. each (λ s. each (λ a. each (λ b. each (λ c. each (λ d. t p q r s a b c d))))))))
@@ -130,16 +123,10 @@ abbrev plain_of : Bool → Bool → Bool → Bool
 plain_of d f n = not ((d && f) && n) && d
 
 one_due : (d f n : Bool) → due_there (plain_of d f n || (d && f)) (d && f) ≡ due_there d f
-one_due true true true = refl
-one_due true true false = refl
-one_due true false n = refl
-one_due false f n = refl
+one_due d f n = grind (arith, nat_tests)
 
 one_sign : (d f n : Bool) → due_there (d && f) (not (plain_of d f n)) ≡ due_there (d && f) n
-one_sign true true true = refl
-one_sign true true false = refl
-one_sign true false n = refl
-one_sign false f n = refl
+one_sign d f n = grind (arith, nat_tests)
 
 pub picked : (d f n : ℕ → Bool) (start i j : ℕ) (t : Typed) → t.word ≡ entry WORDS i j → t.signs ≡ entry SIGNS i j →
     Shows i (λ p. not ((d p && f p) && n p) && d p) start 4 → Shows j (λ p. d p && f p) start 4 → ArePicked d f n start t
@@ -175,14 +162,10 @@ unfolding span
 fills_small = refl
 
 same_bit : (a b : Bool) → ((a && b) || (not a && not b)) ≡ true → a ≡ b
-same_bit true true h = refl
-same_bit true false h = absurd (false≢true h)
-same_bit false true h = absurd (false≢true h)
-same_bit false false h = refl
+same_bit a b h = grind (arith, nat_tests, false≢true)
 
 or_from : (a b : Bool) → (not a || b) ≡ true → a ≡ true → b ≡ true
-or_from true b e h = e
-or_from false b e h = absurd (false≢true h)
+or_from a b e h = grind (arith, nat_tests, false≢true)
 
 pub shows_filled : (m count start : ℕ) (f : ℕ → Bool) → m < 16 → count ≤ 4 → Shows m f 0 count → Shows (filling m) (λ p. f ((p - start) / 4)) start (4 * count)
 shows_filled m count start f low few p = record {
@@ -231,17 +214,7 @@ somes_small o low = ltb-true _ _ (and-right _ _ (and-right _ _ (some_test o low)
 module _ (o at : ℕ) (f : ℕ → Bool) (low : o < 256) (p : Shows o f at 8) where
   -- the set from a position of the octet on
   some_there : (from s : ℕ) → from ≤ 4 → s ≡ at + from → some_of o from ≡ list_any f (span s 4)
-  some_there from s few is =
-      let bits = λ (k : ℕ) (lt : k < 4). p.at (from + k) (omega arith) ∙ ap f (place k) in
-      let a = bits 0 (omega arith) in
-      let b = bits 1 (omega arith) in
-      let c = bits 2 (omega arith) in
-      let d = bits 3 (omega arith) in
-      let whole : some_of o from ≡ ((((false || f (s + 0)) || f (s + 1)) || f (s + 2)) || f (s + 3)) = rw (a, b, c, d) refl in
-      whole ∙ sym (any_of_four f s)
-    where
-      place : (k : ℕ) → at + (from + k) ≡ s + k
-      place k = omega (arith, is)
+  some_there from s few is = grind (arith, nat_tests, any_of_four)
 
   pub shows_some : Shows (somes o) (λ j. list_any f (span (at + 4 * j) 4)) 0 2
   shows_some = record { at = each_set; small = somes_small o low }

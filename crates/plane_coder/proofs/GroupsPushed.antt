@@ -1,15 +1,16 @@
 -- What is picked, as entries.
-use Rattle.std.proofs.Common.{◌≡◌, ℕ, ◌/◌, ◌%◌, ◌<◌, ◌≤◌, ◌^◌, ℤ, pos, Bool, true, false, cond, List, [], ◌∷◌, length, map, filter, get_or, refl, ap, sym, ◌∙◌, arith}
+use Rattle.std.proofs.Common.{◌≡◌, ℕ, ◌/◌, ◌%◌, ◌<◌, ◌≤◌, ◌^◌, ℤ, pos, Bool, true, false, cond, List, [], ◌∷◌, length, map, filter, get_or, refl, ap, ◌∙◌, arith}
 use Rattle.std.proofs.Math.Pow.{pow_mono}
-use Rattle.item_defs.specs.Bits.{bit, bits_of, value_of}
+use Rattle.item_defs.specs.Bits.{bit, value_of}
 use Rattle.item_defs.proofs.NumberBits.{value_below, bits_of-value_of}
 use Rattle.plane_defs.specs.declared.sets.Set.{Set}
-use Rattle.plane_defs.specs.declared.entries.Entry.TheVariants.{Bit, Word}
+use Rattle.plane_defs.specs.declared.entries.Entry.TheVariants.{Bit}
 use Rattle.plane_defs.specs.Spans.{span}
 use Rattle.plane_defs.specs.Sets.{magnitude, newly_significant, significant, set_significant, type_due, flag_due, refined}
 use Rattle.plane_defs.specs.Entries.{word, types, signs, typed, flags, negative}
 use Rattle.plane_defs.proofs.SpanLists.{length-chosen}
 use Rattle.std.proofs.lemmas.Simd.{map-map}
+use Rattle.std.proofs.lemmas.Bool.Decides.{nat_tests}
 use Rattle.block_masks.specs.Picks.{packed}
 use Rattle.plane_coder.specs.declared.plane_masks.Typed.{Typed}
 use Rattle.plane_coder.specs.Picked.{word_of, raws_of, entries_of, IsPacked}
@@ -23,14 +24,10 @@ unpacked bits few =
     (omega (arith, small, below), omega (arith, small, below))
 
 pub word_is : (n : ℕ) (bits : List Bool) → length bits ≤ 4 → n ≡ packed bits → word_of n ≡ word bits
-word_is n bits few is =
-    let parts = unpacked bits few in
-    ap word_of is ∙ ap (λ v. Word (record { value = v; count = packed bits / 16 })) parts.1 ∙ ap (λ c. Word (record { value = value_of bits; count = c })) parts.0
+word_is n bits few is = grind (arith, nat_tests, unpacked)
 
 pub raws_are : (n : ℕ) (bits : List Bool) → length bits ≤ 4 → n ≡ packed bits → raws_of n ≡ map Bit bits
-raws_are n bits few is =
-    let parts = unpacked bits few in
-    ap raws_of is ∙ ap (λ v. map Bit (bits_of (packed bits / 16) v)) parts.1 ∙ ap (λ c. map Bit (bits_of c (value_of bits))) parts.0 ∙ ap (map Bit) (bits_of-value_of bits)
+raws_are n bits few is = grind (arith, nat_tests, unpacked, bits_of-value_of)
 
 pub is_packed : (n : ℕ) → n < 80 → n % 16 < 2 ^ (n / 16) → IsPacked n
 is_packed n most fits = record { length = omega arith; value = fits }
@@ -72,11 +69,7 @@ module _ (block : List ℤ) (weights : List ℕ) (plane : ℕ) where
       one false rest = rest
 
   pub flags_word : (S : ℕ → Set) (n count : ℕ) → count ≤ 4 → n ≡ packed (flags_by S count) → word_of n ≡ word (flags block weights plane (map S (span 0 count)))
-  flags_word S n count few is =
-      let some = length-chosen (λ i. set_significant block plane (S i)) (λ i. flag_due block weights plane (S i)) 0 count in
-      word_is n (flags_by S count) (omega (arith, some)) is ∙ ap word (sym (by_number (set_significant block plane) (flag_due block weights plane) S (span 0 count)))
+  flags_word S n count few is = grind (arith, nat_tests, length-chosen, word_is, by_number)
 
   pub flags_raw : (S : ℕ → Set) (n count : ℕ) → count ≤ 4 → n ≡ packed (flags_by S count) → raws_of n ≡ map Bit (flags block weights plane (map S (span 0 count)))
-  flags_raw S n count few is =
-      let some = length-chosen (λ i. set_significant block plane (S i)) (λ i. flag_due block weights plane (S i)) 0 count in
-      raws_are n (flags_by S count) (omega (arith, some)) is ∙ ap (map Bit) (sym (by_number (set_significant block plane) (flag_due block weights plane) S (span 0 count)))
+  flags_raw S n count few is = grind (arith, nat_tests, length-chosen, raws_are, by_number)

@@ -3,16 +3,13 @@ use Rattle.std.proofs.Common.{◌≡◌, ℕ, ◌+◌, ◌*◌, ◌%◌, ◌^◌
 use Rattle.std.proofs.Math.Nat.{mod-eq_of_lt, mul-le-mul_right}
 use Rattle.std.proofs.Math.Pow.{pow_mono}
 use Rattle.std.proofs.lemmas.Nat.{or_shifted, and_mask, pow-add}
+use Rattle.std.proofs.lemmas.Bool.Decides.{nat_tests}
 use Rattle.item_defs.specs.Bits.{bits_of}
 use Rattle.item_defs.proofs.NumberBits.{bits_join, bits_of-mod, bits_of-split}
 
 module _ (a b m n : ℕ) (fits : a < 2 ^ m) (small : b < 2 ^ n) where
   pub joined_below : a * 2 ^ n + b < 2 ^ (m + n)
-  joined_below =
-      let wide : (a + 1) * 2 ^ n ≤ 2 ^ m * 2 ^ n = mul-le-mul_right (2 ^ n) (omega arith) in
-      let power : 2 ^ (m + n) ≡ 2 ^ m * 2 ^ n = pow-add 2 m n in
-      let one : (a + 1) * 2 ^ n ≡ a * 2 ^ n + 2 ^ n = grind arith in
-      omega (arith, wide, power, one)
+  joined_below = grind (arith, nat_tests, mul-le-mul_right, pow-add)
 
   pub joined : m + n ≤ 64 → bit_or (a * 2 ^ n % 18446744073709551616) b ≡ a * 2 ^ n + b
   joined room =

@@ -1,7 +1,8 @@
 -- A first stage in which no block sends a bit.
-use Rattle.std.proofs.Common.{◌≡◌, ℕ, zero, suc, add-one, ◌+◌, ◌*◌, ◌&&◌, nat_lt, false, cond, List, [], ◌∷◌, ◌++◌, ap, sym, ◌∙◌, subst, append-nil, ℤ, pos, get_or}
+use Rattle.std.proofs.Common.{◌≡◌, ℕ, zero, suc, add-one, ◌+◌, ◌*◌, ◌&&◌, nat_lt, false, cond, List, [], ◌∷◌, ◌++◌, ap, sym, ◌∙◌, subst, append-nil, ℤ, pos, get_or, arith}
 use Rattle.std.specs.Prelude.{Ok}
 use Rattle.std.specs.List.{flat_map}
+use Rattle.std.proofs.lemmas.Bool.Decides.{nat_tests}
 use Rattle.item_defs.specs.Items.{text}
 use Rattle.bit_pipe.specs.Sinks.{SinkOf}
 use Rattle.bit_pipe.specs.Standing.{Standing, IsOpen, Adds, Puts}
@@ -12,8 +13,7 @@ use Rattle.plane_defs.specs.declared.stages.Stage.TheVariants.{DcBits}
 use Rattle.plane_defs.specs.Spans.{span}
 use Rattle.plane_defs.specs.Sets.{coded}
 use Rattle.plane_defs.specs.Entries.{block_entries, twos_bit}
-use Rattle.plane_defs.specs.Spelled.{spelled_after}
-use Rattle.plane_defs.specs.Planes.{Plane, gaggles, gaggle_size, of_block, of_gaggle, before_stage, gaggle_items, stage_items}
+use Rattle.plane_defs.specs.Planes.{Plane, gaggle_size, of_block, of_gaggle, before_stage, stage_items}
 use Rattle.plane_defs.proofs.SpanLists.{flat_map-span-suc, flat_map-span-none}
 use Rattle.block_masks.specs.Gaggles.{Agrees, AllAgree, sent_at}
 use Rattle.plane_coder.proofs.Sending.{before_more}
@@ -33,8 +33,7 @@ module _ (p : Plane) (none : (coded p.weights p.number 0 && nat_lt p.number p.q)
   quiet_gaggle g = nothing (of_block p DcBits) (16 * g) (gaggle_size p g) quiet_block
 
   quiet_items : (book : Book) (options : ℕ → List ℕ) → stage_items book options p 0 ≡ []
-  quiet_items book options =
-      nothing (gaggle_items book options p 0) 0 (gaggles p) (λ g. ap (spelled_after book (options g) (before_stage p 0 g)) (quiet_gaggle g))
+  quiet_items book options = grind (arith, nat_tests, nothing, quiet_gaggle)
 
   pub quiet_puts : {S : Type 0} {k : SinkOf S} (book : Book) (options : ℕ → List ℕ) (j : ℕ) (s : Standing S) → j ≡ 0 → IsOpen s →
       Puts {T = Unit {0}} k (Ok tt) s s (text (stage_items book options p j))

@@ -1,7 +1,8 @@
 -- Items put one stretch of a span after another.
-use Rattle.std.proofs.Common.{◌≡◌, ℕ, zero, suc, add-one, ◌+◌, ◌-◌, ◌*◌, ◌/◌, ◌<◌, ℤ, false, List, [], ◌∷◌, ◌++◌, length, refl, ap, sym, ◌∙◌, subst, arith, append_assoc, zero-add, get_or}
+use Rattle.std.proofs.Common.{◌≡◌, ℕ, zero, suc, add-one, ◌+◌, ◌-◌, ◌*◌, ◌/◌, ◌<◌, ℤ, false, List, [], ◌∷◌, ◌++◌, length, ap, sym, ◌∙◌, subst, arith, append_assoc, zero-add, get_or}
 use Rattle.std.specs.Prelude.{Result, Ok, Err, OnOk}
 use Rattle.std.specs.List.{flat_map, list_any}
+use Rattle.std.proofs.lemmas.Bool.Decides.{nat_tests}
 use Rattle.base_122.specs.declared.weights.Weights.{Weights}
 use Rattle.item_defs.specs.Items.{Item, text}
 use Rattle.item_defs.proofs.Texts.{text-append}
@@ -82,14 +83,11 @@ module _ {S : Type 0} {k : SinkOf S} (f : ℕ → List Item) where
 -- ---- one gaggle in its stage
 
 pub before_more : (p : Plane) (j g : ℕ) → before_stage p j g ++ of_gaggle p (stage_number j) g ≡ before_stage p (j + 1) g
-before_more p j g =
-    let f = λ (i : ℕ). of_gaggle p (stage_number i) g in
-    more_of_span f 0 j (of_gaggle p (stage_number j) g) (ap f (sym (zero-add j)))
+before_more p j g = grind (arith, nat_tests, more_of_span, zero-add)
 
 gaggle_there : (view : View) (d0 d1 : List ℕ) (stage : Stage) (j g : ℕ) → d1 ≡ d0 → stage ≡ stage_number j →
     of_gaggle (plane_in view d1) stage g ≡ of_gaggle (plane_in view d0) (stage_number j) g
-gaggle_there view d0 d1 stage j g same is =
-    ap (λ d. of_gaggle (plane_in view d) stage g) same ∙ ap (λ (x : Stage). of_gaggle (plane_in view d0) x g) is
+gaggle_there view d0 d1 stage j g same is = grind (arith, nat_tests)
 
 module _ {S : Type 0} {k : SinkOf S} {book : Book} (view : View) (d0 d1 : List ℕ) (options : ℕ → List ℕ) (stage : Stage) (j g : ℕ) {a b : Gaggle} {r : Result (Unit {0}) PutFault} {s t : Standing S} where
   pub gaggle_puts : d1 ≡ d0 → stage ≡ stage_number j → a.options ≡ options g → Agrees a.sent (before_stage (plane_in view d0) j g) →
@@ -120,23 +118,15 @@ flat_map-span-below {A} f f' start (suc count) each =
     subst (λ n. flat_map f (span start n) ≡ flat_map f' (span start n)) (add-one count) step
 
 pub stage_same : (book : Book) (o o' : ℕ → List ℕ) (p : Plane) (j : ℕ) → ((g : ℕ) → g < gaggles p → o g ≡ o' g) → stage_items book o p j ≡ stage_items book o' p j
-stage_same book o o' p j same =
-    flat_map-span-below (gaggle_items book o p j) (gaggle_items book o' p j) 0 (gaggles p)
-    (λ g below. ap (λ c. spelled_after book c (before_stage p j (0 + g)) (of_gaggle p (stage_number j) (0 + g))) (moved g below))
-  where
-    moved : (g : ℕ) → g < gaggles p → o (0 + g) ≡ o' (0 + g)
-    moved g below = ap o (zero-add g) ∙ same g below ∙ ap o' (sym (zero-add g))
+stage_same book o o' p j same = grind (arith, nat_tests, flat_map-span-below, zero-add)
 
 pub plane_same : (book : Book) (o o' : ℕ → List ℕ) (p : Plane) (stages : ℕ) → ((g : ℕ) → g < gaggles p → o g ≡ o' g) → plane_items book o p stages ≡ plane_items book o' p stages
-plane_same book o o' p stages same =
-    flat_map-span-below (stage_items book o p) (stage_items book o' p) 0 stages (λ n below. stage_same book o o' p (0 + n) same)
+plane_same book o o' p stages same = grind (arith, nat_tests, flat_map-span-below, stage_same)
 
 -- a stage with the states as they are now is the stage with the states before
 pub stage_moved : (view : View) (book : Book) (m0 m1 : List ℤ) (j : ℕ) → SameMarks m0 m1 →
     stage_items book (options_at m1) (plane_in view (depths_of m1)) j ≡ stage_items book (options_at m0) (plane_in view (depths_of m0)) j
-stage_moved view book m0 m1 j same =
-    stage_same book (options_at m1) (options_at m0) (plane_in view (depths_of m1)) j (λ g below. same.options g) ∙
-    ap (λ d. stage_items book (options_at m0) (plane_in view d) j) same.depths
+stage_moved view book m0 m1 j same = grind (arith, nat_tests, stage_same)
 
 pub agree_moved : (view : View) (m0 m1 m2 : List ℤ) (j : ℕ) → SameMarks m0 m1 → AllAgree (plane_in view (depths_of m1)) j m2 → AllAgree (plane_in view (depths_of m0)) j m2
 agree_moved view m0 m1 m2 j same agree = subst (λ d. AllAgree (plane_in view d) j m2) same.depths agree
@@ -147,10 +137,7 @@ agree_back view m0 m1 m2 j same agree = subst (λ d. AllAgree (plane_in view d) 
 -- ---- the start and the end of a plane
 
 no_flags : (n : ℕ) → get_or (false ∷ false ∷ false ∷ []) n false ≡ false
-no_flags zero = refl
-no_flags (suc zero) = refl
-no_flags (suc (suc zero)) = refl
-no_flags (suc (suc (suc n))) = refl
+no_flags n = grind (arith, nat_tests)
 
 pub gaggle_below : (marks : List ℤ) (g : ℕ) → g < (length (depths_of marks) + 15) / 16 → 16 * g < length marks
 gaggle_below marks g below = omega (arith, length-depths_of marks)
@@ -180,10 +167,7 @@ plane_whole view m0 m1 last chooses =
 -- the same plane by equal fields
 pub plane_fields : (cells : List ℤ) (depths : List ℕ) (plan : PlanePlan) (weights : Weights) (number q : ℕ) → weights ≡ plan.weights → number ≡ plan.plane → q ≡ plan.q →
     record { blocks = blocks_in cells; depths = depths; weights = weights.shifts; number = number; q = q } ≡ plane_of cells depths plan
-plane_fields cells depths plan weights number q w n e =
-    ap (λ (x : Weights). record { blocks = blocks_in cells; depths = depths; weights = x.shifts; number = number; q = q }) w ∙
-    ap (λ x. record { blocks = blocks_in cells; depths = depths; weights = plan.weights.shifts; number = x; q = q }) n ∙
-    ap (λ x. record { blocks = blocks_in cells; depths = depths; weights = plan.weights.shifts; number = plan.plane; q = x }) e
+plane_fields cells depths plan weights number q w n e = grind (arith, nat_tests)
 
 pub plane_puts : {S : Type 0} {k : SinkOf S} (book : Book) (r : Result (Unit {0}) PutFault) (s t : Standing S) (p p' : Plane) (last : ℕ) → p ≡ p' →
     Puts k r s t (text (chosen_items book p last)) → Puts k r s t (text (chosen_items book p' last))

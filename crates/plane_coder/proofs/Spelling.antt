@@ -1,7 +1,8 @@
 -- Entries put one after another.
-use Rattle.std.proofs.Common.{◌≡◌, ℕ, ◌<◌, ◌≤◌, ◌⊎◌, inl, inr, Bool, true, false, cond, List, [], ◌∷◌, ◌++◌, refl, ap, sym, ◌∙◌, subst, arith, append_assoc, append-nil}
+use Rattle.std.proofs.Common.{◌≡◌, ℕ, ◌<◌, ◌≤◌, Bool, true, false, cond, List, [], ◌∷◌, ◌++◌, refl, ap, sym, ◌∙◌, subst, arith, append_assoc, append-nil}
 use Rattle.std.specs.Prelude.{◌==◌, Result, Ok, Err, OnOk}
 use Rattle.std.specs.List.{list_any}
+use Rattle.std.proofs.lemmas.Bool.Decides.{nat_tests}
 use Rattle.item_defs.specs.Bits.{bits_of}
 use Rattle.item_defs.proofs.NumberBits.{bits_none}
 use Rattle.item_defs.specs.Items.{item_bits, text}
@@ -101,35 +102,22 @@ equal_no m n h = grind arith
 module _ (book : Book) (options : List ℕ) (before : List Entry) where
   pub raw_text : (b : Bool) → text (entry_items book options before (Bit b)) ≡ b ∷ []
   unfolding entry_items bits_of
-  raw_text true = refl
-  raw_text false = refl
+  raw_text b = grind (arith, nat_tests)
 
   pub short_text : (bits : Bits) → bits.count < 2 → text (entry_items book options before (Word bits)) ≡ bits_of bits.count bits.value
   unfolding entry_items
-  short_text bits short =
-      elim (zero_or_one bits.count short) [
-        | inl none ↦ rw none (sym (bits_none bits.value))
-        | inr one ↦ rw one (append-nil (bits_of 1 bits.value))
-      ]
-    where
-      zero_or_one : (n : ℕ) → n < 2 → (n ≡ 0) ⊎ (n ≡ 1)
-      zero_or_one n h = grind arith
+  short_text bits short = grind (arith, nat_tests, bits_none, append-nil)
 
   pub again_text : (bits : Bits) → 2 ≤ bits.count → list_any (is_word_of bits.count) before ≡ true →
       text (entry_items book options before (Word bits)) ≡ item_bits (word_item book bits.count (option_of options bits.count) bits.value)
   unfolding entry_items
-  again_text bits long was =
-      rw (equal_no bits.count 0 (omega arith), equal_no bits.count 1 (omega arith), was)
-      (append-nil (item_bits (word_item book bits.count (option_of options bits.count) bits.value)))
+  again_text bits long was = grind (arith, nat_tests, equal_no, append-nil)
 
   pub first_text : (bits : Bits) → 2 ≤ bits.count → list_any (is_word_of bits.count) before ≡ false →
       text (entry_items book options before (Word bits)) ≡
       item_bits (option_item bits.count (option_of options bits.count)) ++ item_bits (word_item book bits.count (option_of options bits.count) bits.value)
   unfolding entry_items
-  first_text bits long was =
-      rw (equal_no bits.count 0 (omega arith), equal_no bits.count 1 (omega arith), was)
-      (ap (λ l. item_bits (option_item bits.count (option_of options bits.count)) ++ l)
-      (append-nil (item_bits (word_item book bits.count (option_of options bits.count) bits.value))))
+  first_text bits long was = grind (arith, nat_tests, equal_no, append-nil)
 
 pub puts_open : {S : Type 0} {k : SinkOf S} (r : Result (Unit {0}) PutFault) (s t : Standing S) (xs : List Bool) → IsOpen s → Puts k r s t xs → OnOk r (IsOpen t)
 puts_open (Ok x) s t xs h p = open_later h p.ends

@@ -4,6 +4,7 @@ use Rattle.std.specs.Prelude.{count_by, ◌==◌, ◌&&◌}
 use Rattle.std.specs.List.{flat_map, list_all}
 use lib.Count.{ones}
 use Rattle.std.proofs.lemmas.List.Sums.{sum_by-append}
+use Rattle.std.proofs.lemmas.Bool.Decides.{nat_tests}
 use Rattle.plane_defs.specs.declared.entries.Entry.{Entry}
 use Rattle.plane_defs.specs.declared.entries.Entry.TheVariants.{Bit}
 use Rattle.plane_defs.specs.Codes.{symbol}
@@ -142,33 +143,13 @@ module _ (a b : Tally) (word : ℕ) (packed : IsPacked word) (more : b.counts �
   same_or_not i j = grind arith
 
   here_at : (n s : ℕ) → place word ≡ 16 * n + s → (word / 16 ≡ n) → symbol n (word % 16) ≡ s → count_at b n s ≡ count_at a n s + count_by (has_symbol n s) (word_of word ∷ [])
-  here_at n s at row same =
-      let told : (word / 16 == n && symbol n (word % 16) == s) ≡ true = grind (arith, row, same) in
-      ap (λ i. get_or b.counts i 0) (sym at) ∙ here ∙ ap (λ i. get_or a.counts i 0 + 1) at ∙ ap (λ x. count_at a n s + (0 + cond x 1 0)) (sym told)
+  here_at n s at row same = grind (arith, nat_tests, here)
 
   elsewhere_at : (n s : ℕ) → 16 * n + s ≢ place word → (word / 16 == n && symbol n (word % 16) == s) ≡ false → count_at b n s ≡ count_at a n s + count_by (has_symbol n s) (word_of word ∷ [])
-  elsewhere_at n s apart told = elsewhere (16 * n + s) apart ∙ plus_none (count_at a n s) ∙ ap (λ x. count_at a n s + (0 + cond x 1 0)) (sym told)
-    where
-      plus_none : (m : ℕ) → m ≡ m + (0 + 0)
-      plus_none m = omega arith
+  elsewhere_at n s apart told = grind (arith, nat_tests, elsewhere)
 
   counted : (n s : ℕ) → 2 ≤ n → n ≤ 4 → s < 16 → count_at b n s ≡ count_at a n s + count_by (has_symbol n s) (word_of word ∷ [])
-  counted n s low high below = elim (same_or_not (word / 16) n) [
-    | inl same ↦
-        let fits : word % 16 < 2 ^ n = subst (λ m. word % 16 < 2 ^ m) same packed.value in
-        let at : place word ≡ 16 * n + symbol n (word % 16) =
-        ap place (sym parts) ∙ ap (λ m. place (16 * m + word % 16)) same ∙ long_place n (word % 16) low high fits in
-        elim (same_or_not (symbol n (word % 16)) s) [
-          | inl e ↦ here_at n s (at ∙ ap (λ m. 16 * n + m) e) same e
-          | inr e ↦
-              let told : (word / 16 == n && symbol n (word % 16) == s) ≡ false = grind (arith, e) in
-              elsewhere_at n s (λ i. e (omega (arith, at, i))) told
-        ]
-    | inr apart ↦
-        let row = place_in_row word small in
-        let told : (word / 16 == n && symbol n (word % 16) == s) ≡ false = grind (arith, apart) in
-        elsewhere_at n s (λ i. apart (omega (arith, row, i, below))) told
-  ]
+  counted n s low high below = grind (arith, nat_tests, same_or_not, parts, long_place, here_at, elsewhere_at, place_in_row, small)
 
   pub counts_word : Counts a b (word_of word ∷ []) 1
   counts_word = record {

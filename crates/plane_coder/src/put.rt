@@ -5,7 +5,7 @@ ghost use Rattle.std.specs.Bool.{OnTrue};
 ghost use Rattle.bit_pipe.specs.Standing.{stand, IsReady};
 ghost use Rattle.plane_defs.specs.declared.sets.Set.TheVariants.{Grandchildren};
 ghost use Rattle.plane_defs.specs.Sets.{significant, set_significant, coded};
-ghost use Rattle.plane_defs.specs.Entries.{twos_bit, dc_bits, parents, children, quads, all_quads, grandchildren, refinement, block_entries};
+ghost use Rattle.plane_defs.specs.Entries.{twos_bit, dc_bits, parents, children, quads, all_quads, grandchildren, refinement, block_entries, stage_number};
 ghost use Rattle.block_masks.specs.Gaggles.{AreOptions};
 ghost use Rattle.block_masks.specs.SetMasks.{AreSets};
 ghost use Rattle.plane_coder.specs.Spells.{Spells};
@@ -19,7 +19,6 @@ use crate::pushes::{push_children, push_parents, push_quads, push_refinement};
 use crate::view::View;
 use bit_pipe::{BitOut, OctetOut, PutFault};
 use block_masks::{CodedPlane, Sets, has, is_any_of};
-use plane_defs::Stage;
 
 // Returns the bit of weight 2^place of a two's complement form.
 fn twos_bit_at(number: i32, place: u8) -> bool
@@ -58,6 +57,7 @@ fn put_dc_bit<O: OctetOut>(
     out.put(twos_bit_at(block[0], plan.plane))
 }
 
+#[inline(always)]
 fn put_parents<O: OctetOut>(
     out: &mut BitOut<O>,
     pending: &mut PendingBits,
@@ -74,6 +74,7 @@ fn put_parents<O: OctetOut>(
     pending.put(out)
 }
 
+#[inline(always)]
 fn put_children<O: OctetOut>(
     out: &mut BitOut<O>,
     pending: &mut PendingBits,
@@ -137,6 +138,7 @@ fn put_all_quads<O: OctetOut>(
     put_quads(out, pending, option_codes, plane_masks, has(families, 2), 2)
 }
 
+#[inline(always)]
 fn put_grandchildren<O: OctetOut>(
     out: &mut BitOut<O>,
     pending: &mut PendingBits,
@@ -154,6 +156,7 @@ fn put_grandchildren<O: OctetOut>(
     put_all_quads(out, pending, option_codes, plane_masks, plane_masks.sets())
 }
 
+#[inline(always)]
 fn put_refinement<O: OctetOut>(
     out: &mut BitOut<O>,
     pending: &mut PendingBits,
@@ -177,42 +180,32 @@ fn put_refinement<O: OctetOut>(
     pending.put(out)
 }
 
-// Puts one stage of block r, which has this depth.
-#[inline]
-pub(crate) fn put_block_stage<O: OctetOut>(
+// Puts the stage of this number of block r, which has this depth. The number is known to the compiler, so each stage has code of its own.
+#[inline(always)]
+pub(crate) fn put_block_stage<O: OctetOut, const STAGE: u8>(
     out: &mut BitOut<O>,
     pending: &mut PendingBits,
     option_codes: &OptionCodes,
-    stage: Stage,
     view: &View,
     depth: u8,
     r: usize,
 ) -> Result<(), PutFault>
     requires open { IsReady O.sink out.old }
+    requires stage { STAGE < 5 }
     requires within { 64 * r + 64 ≤ length view.now.blocks.now }
     requires same { option_codes.now.options ≡ pending.old.gaggle.options }
     requires silent { pending.old.count ≡ 0 }
     ensures spells { Spells O.sink option_codes.now.tables.now.book pending.old.gaggle pending.new.gaggle result (stand O.sink out.old) (stand O.sink out.new)
-        (block_entries stage (slice_range view.now.blocks.now (64 * r) (64 * r + 64)) depth view.now.plan.now.weights.shifts view.now.plan.now.plane view.now.plan.now.q) }
+        (block_entries (stage_number STAGE) (slice_range view.now.blocks.now (64 * r) (64 * r + 64)) depth view.now.plan.now.weights.shifts view.now.plan.now.plane view.now.plan.now.q) }
     ensures silent { pending.new.count ≡ 0 }
 {
     let is_deep = view.plan.plane < depth;
-    match stage {
-        Stage::DcBits => put_dc_bit(out, &view.blocks[64 * r..64 * r + 64], view.plan),
-        Stage::Parents if is_deep => put_parents(out, pending, option_codes, &view.plane_masks(r)),
-        Stage::Children if is_deep => put_children(
-            out,
-            pending,
-            option_codes,
-            &view.plane_masks(r),
-        ),
-        Stage::Grandchildren if is_deep => put_grandchildren(
-            out,
-            pending,
-            option_codes,
-            &view.plane_masks(r),
-        ),
-        Stage::Refinement if is_deep => put_refinement(out, pending, &view.plane_masks(r)),
+    match STAGE {
+        0 => put_dc_bit(out, &view.blocks[64 * r..64 * r + 64], view.plan),
+        1 if is_deep => put_parents(out, pending, option_codes, &view.plane_masks(r)),
+        2 if is_deep => put_children(out, pending, option_codes, &view.plane_masks(r)),
+        3 if is_deep => put_grandchildren(out, pending, option_codes, &view.plane_masks(r)),
+        4 if is_deep => put_refinement(out, pending, &view.plane_masks(r)),
         _ => Ok(()),
     }
 }

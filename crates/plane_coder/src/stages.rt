@@ -4,6 +4,7 @@ ghost use Rattle.std.specs.Prelude.{◌≡◌, ◌+◌, ◌*◌, ◌<◌, ◌≤
 ghost use Rattle.item_defs.specs.Items.{text};
 ghost use Rattle.bit_pipe.specs.Standing.{stand, Puts, IsReady, Writes};
 ghost use Rattle.plane_defs.specs.Planes.{of_block, of_gaggle, stage_items};
+ghost use Rattle.plane_defs.specs.Entries.{stage_number};
 ghost use Rattle.plane_defs.specs.Marks.{depths_of};
 ghost use Rattle.block_masks.specs.Gaggles.{AllAgree, AreOptions, AreKnown, SameMarks, options_at};
 ghost use Rattle.plane_coder.specs.Spells.{Spells};
@@ -14,75 +15,89 @@ use crate::pending::PendingBits;
 use crate::put::{is_quiet, put_block_stage};
 use crate::view::View;
 use bit_pipe::{BitOut, OctetOut, PutFault};
-use block_masks::{depth_of, load, stage_at, store};
-use plane_defs::Stage;
+use block_masks::{depth_of, load, store};
 
-// Puts a stage of block r.
+// Puts the stage of this number of block r.
 #[inline(always)]
-fn put_block_at<O: OctetOut>(
+fn put_block_at<O: OctetOut, const STAGE: u8>(
     out: &mut BitOut<O>,
     pending: &mut PendingBits,
     option_codes: &OptionCodes,
-    stage: Stage,
     view: &View,
     marks: &[i32],
     r: usize,
 ) -> Result<(), PutFault>
+    requires stage { STAGE < 5 }
     requires open { IsReady O.sink out.old }
     requires same { option_codes.now.options ≡ pending.old.gaggle.options }
     requires silent { pending.old.count ≡ 0 }
     requires tables { option_codes.now.tables.now ≡ view.now.tables.now }
     requires whole { length view.now.blocks.now ≡ 64 * length marks.now }
     requires within { r < length marks.now }
-    ensures spells { Spells O.sink view.now.tables.now.book pending.old.gaggle pending.new.gaggle result (stand O.sink out.old) (stand O.sink out.new) (of_block (plane_in view.now (depths_of marks.now)) stage r) }
+    ensures spells { Spells O.sink view.now.tables.now.book pending.old.gaggle pending.new.gaggle result (stand O.sink out.old) (stand O.sink out.new) (of_block (plane_in view.now (depths_of marks.now)) (stage_number STAGE) r) }
     ensures silent { pending.new.count ≡ 0 }
 {
-    put_block_stage(
-        out,
-        pending,
-        option_codes,
-        stage,
-        view,
-        depth_of(marks[r]),
-        r,
-    )
+    put_block_stage::<O, STAGE>(out, pending, option_codes, view, depth_of(marks[r]), r)
 }
 
-// Puts a stage of gaggle g.
-fn put_gaggle<O: OctetOut>(
+// Puts the stage of this number of gaggle g.
+#[inline(always)]
+fn put_gaggle<O: OctetOut, const STAGE: u8>(
     out: &mut BitOut<O>,
     pending: &mut PendingBits,
     option_codes: &OptionCodes,
-    stage: Stage,
     view: &View,
     marks: &[i32],
     g: usize,
 ) -> Result<(), PutFault>
+    requires stage { STAGE < 5 }
     requires open { IsReady O.sink out.old }
     requires same { option_codes.now.options ≡ pending.old.gaggle.options }
     requires silent { pending.old.count ≡ 0 }
     requires tables { option_codes.now.tables.now ≡ view.now.tables.now }
     requires whole { length view.now.blocks.now ≡ 64 * length marks.now }
     requires within { 16 * g < length marks.now }
-    ensures spells { Spells O.sink view.now.tables.now.book pending.old.gaggle pending.new.gaggle result (stand O.sink out.old) (stand O.sink out.new) (of_gaggle (plane_in view.now (depths_of marks.now)) stage g) }
+    ensures spells { Spells O.sink view.now.tables.now.book pending.old.gaggle pending.new.gaggle result (stand O.sink out.old) (stand O.sink out.new) (of_gaggle (plane_in view.now (depths_of marks.now)) (stage_number STAGE) g) }
     ensures silent { pending.new.count ≡ 0 }
 {
     let first = 16 * g;
     for place in 0..(marks.len() - first).min(16) {
-        put_block_at(
-            out,
-            pending,
-            option_codes,
-            stage,
-            view,
-            marks,
-            first + place,
-        )?;
+        put_block_at::<O, STAGE>(out, pending, option_codes, view, marks, first + place)?;
     }
     Ok(())
 }
 
-// Puts a stage of all blocks, with the options and flags that the states keep.
+// Puts the stage of this number of all blocks, gaggle by gaggle.
+#[inline(always)]
+fn put_gaggles<O: OctetOut, const STAGE: u8>(
+    out: &mut BitOut<O>,
+    view: &View,
+    marks: &mut [i32],
+) -> Result<(), PutFault>
+    requires open { IsReady O.sink out.old }
+    requires stage { STAGE < 5 }
+    requires whole { length view.now.blocks.now ≡ 64 * length marks.old }
+    requires known { AreKnown marks.old }
+    requires agree { AllAgree (plane_in view.now (depths_of marks.old)) STAGE marks.old }
+    ensures puts { Writes O.sink result out.old out.new (text (stage_items view.now.tables.now.book (options_at marks.old) (plane_in view.now (depths_of marks.old)) STAGE)) }
+    ensures is_open { OnOk result (IsReady O.sink out.new) }
+    ensures agree { OnOk result (AllAgree (plane_in view.now (depths_of marks.old)) (STAGE + 1) marks.new) }
+    ensures kept { SameMarks marks.old marks.new }
+{
+    if is_quiet(view.plan, STAGE) {
+        return Ok(());
+    }
+    for g in 0..marks.len().div_ceil(16) {
+        let mut pending = PendingBits::new(load(marks, g));
+        let option_codes = OptionCodes::new(view.tables, pending.gaggle.options);
+        put_gaggle::<O, STAGE>(out, &mut pending, &option_codes, view, marks, g)?;
+        store(marks, g, pending.gaggle);
+    }
+    Ok(())
+}
+
+// Puts a stage of all blocks, with the options and flags that the states keep. Each stage has a loop of its own, which is compiled for
+// this stage alone: no block tests the stage again.
 pub(crate) fn put_stage<O: OctetOut>(
     out: &mut BitOut<O>,
     number: u8,
@@ -99,22 +114,11 @@ pub(crate) fn put_stage<O: OctetOut>(
     ensures agree { OnOk result (AllAgree (plane_in view.now (depths_of marks.old)) (number + 1) marks.new) }
     ensures kept { SameMarks marks.old marks.new }
 {
-    if is_quiet(view.plan, number) {
-        return Ok(());
+    match number {
+        0 => put_gaggles::<O, 0>(out, view, marks),
+        1 => put_gaggles::<O, 1>(out, view, marks),
+        2 => put_gaggles::<O, 2>(out, view, marks),
+        3 => put_gaggles::<O, 3>(out, view, marks),
+        _ => put_gaggles::<O, 4>(out, view, marks),
     }
-    for g in 0..marks.len().div_ceil(16) {
-        let mut pending = PendingBits::new(load(marks, g));
-        let option_codes = OptionCodes::new(view.tables, pending.gaggle.options);
-        put_gaggle(
-            out,
-            &mut pending,
-            &option_codes,
-            stage_at(number),
-            view,
-            marks,
-            g,
-        )?;
-        store(marks, g, pending.gaggle);
-    }
-    Ok(())
 }

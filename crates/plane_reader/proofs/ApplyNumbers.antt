@@ -1,13 +1,13 @@
 -- The DC is given the bit of a plane.
-use Rattle.std.proofs.Common.{◌≡◌, inl, inr, ℕ, suc, ◌+◌, ◌-◌, ◌*◌, ◌%◌, ◌<◌, ◌≤◌, ◌^◌, ap, sym, ◌∙◌, arith, ℤ, pos, negsuc, ◌+ℤ◌, to_z, of_z, w32}
+use Rattle.std.proofs.Common.{◌≡◌, ℕ, ◌+◌, ◌-◌, ◌*◌, ◌%◌, ◌<◌, ◌≤◌, ◌^◌, ap, sym, ◌∙◌, arith, ℤ, pos, negsuc, ◌+ℤ◌, to_z, of_z, w32}
 use Rattle.std.proofs.Math.Pow.{pow_mono}
 use Rattle.std.proofs.lemmas.Int.{ints, to_z-of_z, wrapping_add-bits, int_wrap_fits, fits_signed_from_abs}
-use Rattle.std.proofs.lemmas.Bool.{cases_lt}
 use Rattle.std.proofs.Math.Nat.{mul-le-mul_left}
 use Rattle.std.specs.Int.{int_wrap}
 use Rattle.std.specs.Int.RustNames.{FitsSigned}
 use mir.Val.{SFits}
 use Rattle.std.proofs.lemmas.Nat.{pow_pos, pow-add}
+use Rattle.std.proofs.lemmas.Bool.Decides.{nat_tests}
 use Rattle.plane_reader.specs.Taken.{IsCleared}
 use Rattle.plane_reader.proofs.ToldNumbers.{pow_more}
 
@@ -16,11 +16,7 @@ as_positive n small = omega (arith, ints)
 
 -- above a multiple there is room for all below the next one
 room_above : (a k m : ℕ) → a * k < a * m → a * k + a ≤ a * m
-room_above a k m lt =
-    elim (cases_lt k m) [
-      | inl less ↦ let le : suc k ≤ m = omega arith in omega (arith, mul-le-mul_left a le)
-      | inr more ↦ absurd (omega (arith, mul-le-mul_left a more, lt))
-    ]
+room_above a k m lt = grind (arith, nat_tests, mul-le-mul_left)
 
 fits_still : (z : ℤ) (plane : ℕ) → SFits w32 z → plane < 27 → IsCleared plane z → FitsSigned w32 (z +ℤ pos (2 ^ plane))
 fits_still (pos n) plane fits low cleared =

@@ -1,8 +1,9 @@
 -- Raw bits of several positions, read at once.
-use Rattle.std.proofs.Common.{◌≡◌, ℕ, suc, ◌<◌, Bool, true, false, ◌&&◌, ◌||◌, ℤ, List, [], ◌∷◌, ◌++◌, length, refl, ap, sym, ◌∙◌, subst, append-nil, append_assoc}
+use Rattle.std.proofs.Common.{◌≡◌, ℕ, suc, ◌<◌, Bool, false, ◌&&◌, ◌||◌, ℤ, List, [], ◌∷◌, ◌++◌, length, refl, ap, sym, ◌∙◌, subst, append-nil, append_assoc, arith}
 use Rattle.std.specs.Prelude.{◌==◌, Ok, Some, map, filter}
 use Rattle.std.specs.List.{list_any}
 use Rattle.std.proofs.lemmas.List.Folds.{list_any-append}
+use Rattle.std.proofs.lemmas.Bool.Decides.{nat_tests}
 use Rattle.plane_defs.specs.Spans.{span}
 use Rattle.block_masks.specs.Places.{inside}
 use Rattle.plane_reader.proofs.TypePieces.{among}
@@ -153,12 +154,10 @@ none_any [] = refl
 none_any (p ∷ ps) = none_any ps
 
 any_same : (f g : ℕ → Bool) → ((p : ℕ) → f p ≡ g p) → (ps : List ℕ) → list_any f ps ≡ list_any g ps
-any_same f g same [] = refl
-any_same f g same (p ∷ ps) = ap (λ t. t || list_any f ps) (same p) ∙ ap (λ t. g p || t) (any_same f g same ps)
+any_same f g same ps = grind (arith, nat_tests)
 
 or_none : (t : Bool) → (t || false) ≡ t
-or_none true = refl
-or_none false = refl
+or_none t = grind (arith, nat_tests)
 
 module _ (tells : ℕ → Told) (reads : ℕ → Told → Bool) (due : ℕ → Bool) (start count : ℕ) (done : List Step) (bits : List Bool) (long : length bits ≡ length (filter due (span start count))) (q : ℕ) where
   -- of the positions that were read, and of those before

@@ -1,8 +1,9 @@
 -- A number that is given the bit of a plane has it, and a number that has it keeps its magnitude if it is given it again.
-use Rattle.std.proofs.Common.{◌≡◌, ℕ, zero, suc, ◌+◌, ◌<◌, ◌^◌, Bool, true, false, not, max, refl, ap, sym, ◌∙◌, arith, ℤ, pos, neg_ℤ}
+use Rattle.std.proofs.Common.{◌≡◌, ℕ, ◌+◌, ◌<◌, ◌^◌, Bool, true, not, max, ap, sym, ◌∙◌, arith, ℤ, pos, neg_ℤ}
 use Rattle.std.specs.Prelude.{◌==◌, ◌||◌, unsigned_abs, if◌then◌else◌}
 use Rattle.std.specs.Int.{bit_at}
 use Rattle.std.proofs.lemmas.Nat.Bits.{bit_at_or, bit_at-pow_same, bit_at_above}
+use Rattle.std.proofs.lemmas.Bool.Decides.{nat_tests}
 use Rattle.item_defs.specs.Bits.{bit}
 use Rattle.plane_defs.specs.Entries.{negative}
 use Rattle.block_masks.specs.BitsSet.{with_bit}
@@ -22,23 +23,16 @@ size_has_bit plane n =
     most b lt = omega arith
 
 some_size : (n plane : ℕ) → bit n plane ≡ true → 0 < n
-some_size zero plane has = absurd (never (sym has ∙ ap (λ x. x == 1) (bit_at_above 0 0 plane (omega arith) (omega arith))))
-  where
-    never : true ≡ false → ⊥
-    never e = cc
-some_size (suc n) plane has = omega arith
+some_size n plane has = grind (arith, nat_tests, bit_at_above)
 
 abbrev signed : Bool → ℕ → ℤ
 signed b n = if b then neg_ℤ (pos n) else pos n
 
 sign_is : (b : Bool) (n : ℕ) → 0 < n → negative (signed b n) ≡ b
-sign_is b zero some = absurd (omega (arith, some))
-sign_is true (suc n) some = refl
-sign_is false (suc n) some = refl
+sign_is b n some = grind (arith, nat_tests)
 
 or_more : (a b c : Bool) → ((a || b) || c) ≡ (a || (b || c))
-or_more true b c = refl
-or_more false b c = refl
+or_more a b c = grind (arith, nat_tests)
 
 module _ (plane : ℕ) (z : ℤ) (minus : Bool) where
   size_is : unsigned_abs (with_bit plane z minus) ≡ size_with plane (unsigned_abs z)
@@ -51,9 +45,4 @@ module _ (plane : ℕ) (z : ℤ) (minus : Bool) where
   sign_was = sign_is (negative z || minus) (size_with plane (unsigned_abs z)) (some_size _ plane (size_has_bit plane (unsigned_abs z)))
 
   pub bit_twice : (more : Bool) → with_bit plane (with_bit plane z minus) more ≡ with_bit plane z (minus || more)
-  bit_twice more =
-      ap (λ b. signed (negative (with_bit plane z minus) || more) (unsigned_abs (with_bit plane z minus) + (if not b then 2 ^ plane else 0))) has_bit ∙
-      ap (λ b. signed (b || more) (unsigned_abs (with_bit plane z minus) + 0)) sign_was ∙
-      ap (λ n. signed ((negative z || minus) || more) (n + 0)) size_is ∙
-      ap (λ b. signed b (size_with plane (unsigned_abs z) + 0)) (or_more (negative z) minus more) ∙
-      ap (signed (negative z || (minus || more))) (omega arith)
+  bit_twice more = grind (arith, nat_tests, has_bit, sign_was, size_is, or_more)

@@ -1,10 +1,10 @@
 -- A stage of a block that is not deep enough: nothing of it is sent.
-use Rattle.std.proofs.Common.{◌≡◌, ℕ, zero, suc, ◌<◌, ◌≤◌, false, cond, ℤ, List, [], refl, ap, sym, subst, arith, append-nil}
+use Rattle.std.proofs.Common.{◌≡◌, ℕ, ◌<◌, ◌≤◌, false, ℤ, List, [], refl, sym, subst, arith, append-nil}
 use Rattle.std.specs.Prelude.{Ok, nat_lt}
 use Rattle.std.proofs.lemmas.Bool.Decides.{nat_tests}
 use Rattle.item_defs.specs.Readings.{whole}
 use Rattle.base_122.specs.declared.book.Book.{Book}
-use Rattle.plane_defs.specs.Steps.{Step, parents_steps, children_steps, grandchildren_steps, refinement_steps, block_steps}
+use Rattle.plane_defs.specs.Steps.{Step, block_steps}
 use Rattle.block_masks.specs.declared.gaggle.Gaggle.{Gaggle}
 use Rattle.block_masks.specs.declared.plan.CodedPlane.{CodedPlane}
 use Rattle.block_masks.specs.Gaggles.{AreOptions, Agrees}
@@ -20,19 +20,11 @@ use Rattle.plane_reader.proofs.ToldBlocks.{told_none}
 
 module _ (f : Frame) (low : f.depth ≤ f.plane) (v : List ℤ) where
   not_deep : nat_lt f.plane f.depth ≡ false
-  not_deep = no f.plane f.depth low
-    where
-      no : (a b : ℕ) → b ≤ a → nat_lt a b ≡ false
-      no a b le = grind (arith, nat_tests)
+  not_deep = grind (arith, nat_tests)
 
   none_sent : (k : ℕ) → 1 ≤ k → k < 5 → steps_of f k v ≡ []
   unfolding block_steps
-  none_sent zero some below = absurd (omega (arith, some))
-  none_sent (suc zero) some below = ap (λ t. cond t (parents_steps v f.weights f.plane) []) not_deep
-  none_sent (suc (suc zero)) some below = ap (λ t. cond t (children_steps v f.weights f.plane) []) not_deep
-  none_sent (suc (suc (suc zero))) some below = ap (λ t. cond t (grandchildren_steps v f.weights f.plane) []) not_deep
-  none_sent (suc (suc (suc (suc zero)))) some below = ap (λ t. cond t (refinement_steps v f.weights f.plane) []) not_deep
-  none_sent (suc (suc (suc (suc (suc k))))) some below = absurd (omega (arith, below))
+  none_sent k some below = grind (arith, nat_tests, not_deep)
 
 pub stage_none : {I : Type 0} {k : SourceOf I} {book : Book} {f : Frame} {plan : CodedPlane} {depth stage : ℕ} {earlier : ℕ → List Step} {g : Gaggle} {mark : ℤ} {x : List ℤ} {a : Coming I} → AreOptions g.options → IsIn a → Takes k a a [] → 1 ≤ stage → stage < 5 → depth ≤ plan.plane →
     IsFrame f plan depth → StandsBefore f stage earlier mark x → StageTaken k book f stage earlier (Ok Whole) g g mark x a a
@@ -60,5 +52,4 @@ pub shallow : {depth told plane : ℕ} → told ≡ depth → told ≤ plane →
 shallow same le = omega (arith, same, le)
 
 pub first_or_later : (stage : ℕ) → (stage ≡ 0 → ⊥) → 1 ≤ stage
-first_or_later zero other = absurd (other refl)
-first_or_later (suc k) other = omega arith
+first_or_later stage other = grind (arith, nat_tests)

@@ -1,6 +1,6 @@
 -- A stage of a block that is deep enough: what is next, given what the block is above the plane and what was read of it.
 use Rattle.std.proofs.Common.{◌≡◌, ℕ, ◌+◌, ◌<◌, ◌≤◌, Bool, true, false, not, ◌&&◌, ◌||◌, cond, ℤ, List, [], ◌∷◌, refl, ap, sym, ◌∙◌, subst, arith, append-nil}
-use Rattle.std.specs.Prelude.{Result, Option, map, filter, nat_le, nat_lt}
+use Rattle.std.specs.Prelude.{Result, Option, map, filter, nat_lt}
 use Rattle.std.specs.List.{flat_map, list_any}
 use Rattle.std.proofs.lemmas.Bool.Decides.{nat_tests}
 use Rattle.std.proofs.lemmas.List.Folds.{list_any-append}
@@ -43,10 +43,7 @@ use Rattle.plane_reader.proofs.ToldBlocks.{told_above, told_here, told_still}
 
 module _ (f : Frame) (deep : f.plane < f.depth) (v : List ℤ) where
   is_deep : nat_lt f.plane f.depth ≡ true
-  is_deep = yes f.plane f.depth deep
-    where
-      yes : (a b : ℕ) → a < b → nat_lt a b ≡ true
-      yes a b lt = grind (arith, nat_tests)
+  is_deep = grind (arith, nat_tests)
 
   pub deep_parents : steps_of f 1 v ≡ parents_steps v f.weights f.plane
   unfolding block_steps
@@ -151,8 +148,7 @@ or_left : {a : Bool} (b : Bool) → a ≡ true → (a || b) ≡ true
 or_left b e = ap (λ t. t || b) e
 
 or_right : (a b : Bool) → b ≡ true → (a || b) ≡ true
-or_right true b e = refl
-or_right false b e = e
+or_right a b e = grind (arith, nat_tests)
 
 any_at : (P : ℕ → Bool) (n i : ℕ) → i < n → P i ≡ true → list_any P (span 0 n) ≡ true
 any_at P n i lt e = list_any-span-here P 0 n i lt (let z : i ≡ 0 + i = omega arith in ap P (sym z) ∙ e)
@@ -170,19 +166,7 @@ any_passed P t n i lt e h = any_filtered (span 0 n) ∙ any_at (λ j. t j && P j
 
 module _ (f : Frame) (v : List ℤ) (i p : ℕ) (lt : i < 3) (low : children_of i ≤ p) (high : p < children_of i + 4) (now : set_significant v f.plane (Family i) ≡ true) (due : type_due v f.weights f.plane p ≡ true) where
   told_typed : has_bit_in (typed_steps v f.weights f.plane (children_check v f.weights f.plane i) (span (children_of i) 4)) p ≡ true
-  told_typed = or_left _ (among (type_due v f.weights f.plane) (children_of i) 4 p ∙ both (nat_le (children_of i) p) (nat_lt p (children_of i + 4)) (type_due v f.weights f.plane p) (le (children_of i) p low) (less p (children_of i + 4) high) due)
-    where
-      both : (a b c : Bool) → a ≡ true → b ≡ true → c ≡ true → ((a && b) && c) ≡ true
-      both true true true e f g = refl
-      both true true false e f g = cc
-      both true false c e f g = cc
-      both false b c e f g = cc
-
-      le : (a b : ℕ) → a ≤ b → nat_le a b ≡ true
-      le a b e = grind (arith, nat_tests)
-
-      less : (a b : ℕ) → a < b → nat_lt a b ≡ true
-      less a b e = grind (arith, nat_tests)
+  told_typed = grind (arith, nat_tests, or_left, among)
 
   told_children : has_bit_in (children_steps v f.weights f.plane) p ≡ true
   told_children =

@@ -1,10 +1,11 @@
 -- What a block sends of its children, piece by piece.
-use Rattle.std.proofs.Common.{◌≡◌, ◌⊎◌, inl, inr, ℕ, ◌+◌, Bool, true, false, not, ◌&&◌, ◌||◌, cond, ℤ, List, [], ◌∷◌, ◌++◌, refl, ap, sym, ◌∙◌}
-use Rattle.std.specs.Prelude.{Ok, Some, Result, Option, map}
+use Rattle.std.proofs.Common.{◌≡◌, ◌⊎◌, ℕ, ◌+◌, Bool, true, false, not, ◌&&◌, ◌||◌, cond, ℤ, List, [], ◌∷◌, ◌++◌, ap, sym, ◌∙◌, arith}
+use Rattle.std.specs.Prelude.{Ok, Some, Result, Option}
+use Rattle.std.proofs.lemmas.Bool.Decides.{nat_tests}
 use Rattle.base_122.specs.declared.book.Book.{Book}
 use Rattle.plane_defs.specs.declared.entries.Entry.TheVariants.{Bit}
 use Rattle.plane_defs.specs.declared.sets.Set.TheVariants.{Descendants}
-use Rattle.plane_defs.specs.Sets.{set_significant, live, enclosing_significant, flag_due}
+use Rattle.plane_defs.specs.Sets.{set_significant, enclosing_significant, flag_due}
 use Rattle.plane_defs.specs.Steps.{free, flags_alone, Step, step}
 use Rattle.block_masks.specs.declared.gaggle.Gaggle.{Gaggle}
 use Rattle.block_masks.specs.Gaggles.{AreOptions}
@@ -26,17 +27,10 @@ use Rattle.plane_reader.proofs.SetFacts.{flag_is, set_now}
 module _ {f : Frame} {stage : ℕ} {earlier : ℕ → List Step} {done : List Step} {is_live was : Bool} {after : List ℤ → List Step} (next : DescendantsNext f stage earlier done is_live was after) where
   due_all : (v : List ℤ) → Sends f stage earlier done v → flag_due v f.weights f.plane Descendants ≡ (not was && is_live)
   unfolding enclosing_significant
-  due_all v s =
-      flag_is f v s.candidate Descendants tt ∙ and_true (not (set_significant f.block (f.plane + 1) Descendants) && live f.weights f.plane Descendants)
-      ∙ ap (λ t. not t && live f.weights f.plane Descendants) (sym next.was_is) ∙ ap (λ t. not was && t) (sym next.live_is)
-    where
-      and_true : (t : Bool) → (t && true) ≡ t
-      and_true true = refl
-      and_true false = refl
+  due_all v s = grind (arith, nat_tests, flag_is)
 
   as_one : (v : List ℤ) (t : Bool) → flag_due v f.weights f.plane Descendants ≡ t → descendants_steps f v ≡ cond t (step free flags_alone (Bit (set_significant v f.plane Descendants)) ∷ []) []
-  as_one v true e = ap (λ t. map (λ b. step free flags_alone (Bit b)) (map (set_significant v f.plane) (cond t (Descendants ∷ []) []))) e
-  as_one v false e = ap (λ t. map (λ b. step free flags_alone (Bit b)) (map (set_significant v f.plane) (cond t (Descendants ∷ []) []))) e
+  as_one v t e = grind (arith, nat_tests)
 
   all_now : (v : List ℤ) → Sends f stage earlier done v → set_significant v f.plane Descendants ≡ (was || ((not was && is_live) && set_significant v f.plane Descendants))
   all_now v s = set_now f v s.candidate Descendants tt ∙ ap (λ t. t || (flag_due v f.weights f.plane Descendants && set_significant v f.plane Descendants)) (sym next.was_is) ∙ ap (λ t. was || (t && set_significant v f.plane Descendants)) (due_all v s)
@@ -49,16 +43,10 @@ module _ {f : Frame} {stage : ℕ} {earlier : ℕ → List Step} {done : List St
         (found_nothing book f stage earlier was (AreDescendants f) done known i t next.possible (λ v s. all_now v s ∙ stays was is_live (set_significant v f.plane Descendants) none))
       where
         not_due : (w l : Bool) → (w ≡ true) ⊎ (l ≡ false) → (not w && l) ≡ false
-        not_due true l e = refl
-        not_due false true (inl e) = cc
-        not_due false true (inr e) = cc
-        not_due false false e = refl
+        not_due w l e = grind (arith, nat_tests)
 
         stays : (w l s : Bool) → (w ≡ true) ⊎ (l ≡ false) → (w || ((not w && l) && s)) ≡ w
-        stays true l s e = refl
-        stays false true s (inl e) = cc
-        stays false true s (inr e) = cc
-        stays false false s e = refl
+        stays w l s e = grind (arith, nat_tests)
 
     -- the flag is due
     pub descendants_read : was ≡ false → is_live ≡ true → {r : Result (Option Bool) TextFault} {b : Coming I} → TakesFlag k r a b → FoundPiece k book f stage earlier done (descendants_steps f) (AreDescendants f) r g g m m a b

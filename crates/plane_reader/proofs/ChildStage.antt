@@ -2,6 +2,7 @@
 use Rattle.std.proofs.Common.{◌≡◌, ℕ, ◌+◌, ◌*◌, ◌<◌, ◌^◌, Bool, true, false, not, ◌&&◌, ◌||◌, cond, ℤ, List, [], ◌∷◌, ◌++◌, refl, ap, sym, ◌∙◌, subst, arith, append_assoc, append-nil}
 use Rattle.std.specs.Prelude.{Ok, Err, Some, None, Result, Option}
 use Rattle.std.specs.List.{list_any}
+use Rattle.std.proofs.lemmas.Bool.Decides.{nat_tests}
 use Rattle.item_defs.specs.Bits.{bit}
 use Rattle.base_122.specs.declared.book.Book.{Book}
 use Rattle.plane_defs.specs.declared.sets.Set.TheVariants.{Descendants, Family, Grandchildren}
@@ -95,10 +96,7 @@ module _ {f : Frame} {stage : ℕ} {earlier : ℕ → List Step} {done : List St
     part1 = done ++ p.piece.part
 
     all_is : (v : List ℤ) → Sends f stage earlier (done ++ p.piece.part) v → set_significant v f.plane Descendants ≡ all
-    all_is v sends = let e = found_value p in e v sends
-      where
-        found_value : (q : FoundPiece k book f stage earlier done (descendants_steps f) (AreDescendants f) (Ok (Some all)) g g m n a b) → (v : List ℤ) → Sends f stage earlier (done ++ q.piece.part) v → set_significant v f.plane Descendants ≡ all
-        found_value q v s = let w = one_given q.piece.value all q.piece.ending q.piece.answer in q.piece.so w.0 v s ∙ sym w.1
+    all_is v sends = grind (arith, nat_tests, one_given)
 
     flag_due_is : (v : List ℤ) → Sends f stage earlier (done ++ p.piece.part) v → (i : ℕ) → i < 3 → flag_due v f.weights f.plane (Family i) ≡ family_due all i
     unfolding enclosing_significant

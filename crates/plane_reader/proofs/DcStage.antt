@@ -1,8 +1,8 @@
 -- The first stage of a block, whether its DC's bit was read or not.
-use Rattle.std.proofs.Common.{◌≡◌, ℕ, zero, suc, ◌-◌, ◌≤◌, Bool, true, false, ◌&&◌, cond, ℤ, pos, List, [], ◌∷◌, ◌++◌, get_or, refl, ap, sym, ◌∙◌, subst, arith, append-nil}
+use Rattle.std.proofs.Common.{◌≡◌, ℕ, ◌-◌, ◌≤◌, Bool, true, false, ◌&&◌, cond, ℤ, pos, List, [], ◌∷◌, ◌++◌, get_or, refl, ap, sym, ◌∙◌, subst, arith, append-nil}
 use Rattle.std.specs.Prelude.{Ok, Err, Some, None, Result, Option}
 use Rattle.std.specs.List.{list_any}
-use Rattle.item_defs.specs.Readings.{whole, ended, refused}
+use Rattle.std.proofs.lemmas.Bool.Decides.{nat_tests}
 use Rattle.base_122.specs.declared.book.Book.{Book}
 use Rattle.plane_defs.specs.declared.entries.Entry.{Entry}
 use Rattle.plane_defs.specs.Entries.{twos_bit}
@@ -17,7 +17,7 @@ use Rattle.bit_pipe.specs.declared.fault.Part.TheVariants.{Whole, Ended}
 use Rattle.bit_pipe.specs.declared.fault.TextFault.{TextFault}
 use Rattle.bit_pipe.specs.Sources.{SourceOf}
 use Rattle.bit_pipe.specs.Coming.{Coming}
-use Rattle.bit_pipe.specs.Reading.{Ending, stopped, failed, IsCut}
+use Rattle.bit_pipe.specs.Reading.{Ending, IsCut}
 use Rattle.bit_pipe.specs.Answers.{part_answer, item_answer}
 use Rattle.plane_reader.specs.Frames.{Frame, steps_of, Sends}
 use Rattle.plane_reader.specs.Pieces.{Knows, word_with, StopsAfter, ReadsSteps, Piece}
@@ -40,29 +40,13 @@ abbrev entries_with : (a b c : Bool) → List Entry
 entries_with a b c = flagged a 2 ∷ flagged b 3 ∷ flagged c 4 ∷ []
 
 is_two : (a b c : Bool) → a ≡ list_any (is_word_of 2) (entries_with a b c)
-is_two true b c = refl
-is_two false true true = refl
-is_two false true false = refl
-is_two false false true = refl
-is_two false false false = refl
+is_two a b c = grind (arith, nat_tests)
 
 is_three : (a b c : Bool) → b ≡ list_any (is_word_of 3) (entries_with a b c)
-is_three true true c = refl
-is_three false true c = refl
-is_three true false true = refl
-is_three true false false = refl
-is_three false false true = refl
-is_three false false false = refl
+is_three a b c = grind (arith, nat_tests)
 
 is_four : (a b c : Bool) → c ≡ list_any (is_word_of 4) (entries_with a b c)
-is_four true true true = refl
-is_four true true false = refl
-is_four true false true = refl
-is_four true false false = refl
-is_four false true true = refl
-is_four false true false = refl
-is_four false false true = refl
-is_four false false false = refl
+is_four a b c = grind (arith, nat_tests)
 
 abbrev some_entries : List Bool → List Entry
 some_entries flags = entries_with (get_or flags 0 false) (get_or flags 1 false) (get_or flags 2 false)
@@ -71,12 +55,7 @@ some_agree : (flags : List Bool) → Agrees flags (some_entries flags)
 some_agree flags = record { at = each }
   where
     each : (n : ℕ) → 2 ≤ n → n ≤ 4 → get_or flags (n - 2) false ≡ list_any (is_word_of n) (some_entries flags)
-    each zero low high = absurd (omega (arith, low))
-    each (suc zero) low high = absurd (omega (arith, low))
-    each (suc (suc zero)) low high = is_two (get_or flags 0 false) (get_or flags 1 false) (get_or flags 2 false)
-    each (suc (suc (suc zero))) low high = is_three (get_or flags 0 false) (get_or flags 1 false) (get_or flags 2 false)
-    each (suc (suc (suc (suc zero)))) low high = is_four (get_or flags 0 false) (get_or flags 1 false) (get_or flags 2 false)
-    each (suc (suc (suc (suc (suc n))))) low high = absurd (omega (arith, high))
+    each n low high = grind (arith, nat_tests, is_two, is_three, is_four)
 
 known_options : (g : Gaggle) → Knows g g.options
 known_options g = record { at = λ n low high e. refl }
@@ -90,24 +69,15 @@ none_before_cut true s next (x ∷ (y ∷ part)) more e = absurd cc
 none_before_cut false s next (x ∷ part) more e = absurd cc
 
 cut_before : (book : Book) (options : List ℕ) (sent : List Entry) (part : List Step) (ending : Ending) (t : Bool) (s : Step) → IsCut ending → StopsAfter book options sent part ending (cond t (s ∷ []) []) → part ≡ []
-cut_before book options sent part (stopped whole) t s cut stops = absurd cut
-cut_before book options sent part (stopped (ended m)) t s cut stops = none_before_cut t s stops.next part stops.more stops.parts
-cut_before book options sent part (stopped (refused m spelt name)) t s cut stops = none_before_cut t s stops.next part stops.more stops.parts
-cut_before book options sent part (failed m e) t s cut stops = none_before_cut t s stops.next part stops.more stops.parts
+cut_before book options sent part ending t s cut stops = grind (arith, nat_tests, none_before_cut)
 
 -- ---- how far a list was read, if a value of it is returned
 
 missing_part : {A : Type 0} (value : A) (ending : Ending) → Ok None ≡ item_answer value ending → Ok Ended ≡ part_answer ending
-missing_part value (stopped whole) e = absurd cc
-missing_part value (stopped (ended m)) e = refl
-missing_part value (stopped (refused m spelt name)) e = absurd cc
-missing_part value (failed m f) e = absurd cc
+missing_part value ending e = grind (arith, nat_tests)
 
 fault_part : {A : Type 0} (value : A) (fault : TextFault) (ending : Ending) → Err fault ≡ item_answer value ending → Err fault ≡ part_answer ending
-fault_part value fault (stopped whole) e = absurd cc
-fault_part value fault (stopped (ended m)) e = absurd cc
-fault_part value fault (stopped (refused m spelt name)) e = from_err e
-fault_part value fault (failed m f) e = from_err e
+fault_part value fault ending e = grind (arith, nat_tests, from_err)
 
 -- ---- the stage
 

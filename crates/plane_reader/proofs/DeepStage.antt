@@ -1,7 +1,7 @@
 -- A stage of a block that is deep enough: what its words give, put into the block.
 use Rattle.std.proofs.Common.{◌≡◌, ℕ, ◌<◌, ◌≤◌, ℤ, List, [], refl, ap, sym, subst, arith}
 use Rattle.std.specs.Prelude.{Ok, Err, Some, None, Result, Option}
-use Rattle.item_defs.specs.Readings.{whole, ended, refused}
+use Rattle.std.proofs.lemmas.Bool.Decides.{nat_tests}
 use Rattle.base_122.specs.declared.book.Book.{Book}
 use Rattle.plane_defs.specs.Steps.{Step}
 use Rattle.block_masks.specs.declared.gaggle.Gaggle.{Gaggle}
@@ -11,7 +11,7 @@ use Rattle.bit_pipe.specs.declared.fault.Part.TheVariants.{Whole, Ended}
 use Rattle.bit_pipe.specs.declared.fault.TextFault.{TextFault}
 use Rattle.bit_pipe.specs.Sources.{SourceOf}
 use Rattle.bit_pipe.specs.Coming.{Coming}
-use Rattle.bit_pipe.specs.Reading.{Ending, stopped, failed}
+use Rattle.bit_pipe.specs.Reading.{Ending}
 use Rattle.bit_pipe.specs.Answers.{item_answer, part_answer}
 use Rattle.plane_reader.specs.declared.found.Found.{Found}
 use Rattle.plane_reader.specs.Frames.{Frame, steps_of}
@@ -33,18 +33,10 @@ err_same : {A B : Type 0} {x y : TextFault} → err A x ≡ err A y → err B x 
 err_same {A} {B} {x} {y} e = let p : x ≡ y = cc in ap (err B) p
 
 fault_part : (fault : TextFault) (value : Unit {0}) (ending : Ending) → Err fault ≡ item_answer value ending → Err fault ≡ part_answer ending
-fault_part fault value (stopped whole) e = absurd cc
-fault_part fault value (stopped (ended m)) e = absurd cc
-fault_part fault value (stopped (refused m spelt name)) e = err_same e
-fault_part fault value (failed m f) e = err_same e
+fault_part fault value ending e = grind (arith, nat_tests, err_same)
 
 given_part : (read : Option (Unit {0})) (part : Part) → ((read ≡ Some tt → part ≡ Whole) × (read ≡ None → part ≡ Ended)) → (value : Unit {0}) (ending : Ending) → Ok read ≡ item_answer value ending → Ok part ≡ part_answer ending
-given_part (Some x) part is value (stopped whole) e = ap Ok (is.0 refl)
-given_part None part is value (stopped whole) e = absurd cc
-given_part (Some x) part is value (stopped (ended m)) e = absurd cc
-given_part None part is value (stopped (ended m)) e = ap Ok (is.1 refl)
-given_part read part is value (stopped (refused m spelt name)) e = absurd cc
-given_part read part is value (failed m f) e = absurd cc
+given_part read part is value ending e = grind (arith, nat_tests)
 
 -- ---- the stage
 

@@ -71,8 +71,7 @@ module _ {I : Type 0} {k : SourceOf I} (book : Book) (due : ℕ) (due_small : du
 
 pub one_bit : (b : Bool) → bits_of 1 (digit b) ≡ b ∷ []
 unfolding bits_of
-one_bit true = refl
-one_bit false = refl
+one_bit b = grind (arith, nat_tests)
 
 lacks_bit : Lacks (fixed 1) []
 unfolding bits_of

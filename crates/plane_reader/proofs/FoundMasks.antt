@@ -1,6 +1,6 @@
 -- A mask of some positions as one of all 64.
-use Rattle.std.proofs.Common.{◌≡◌, inl, inr, ℕ, ◌+◌, ◌-◌, ◌<◌, ◌≤◌, ◌^◌, Bool, true, false, ◌&&◌, refl, ap, sym, ◌∙◌, arith}
-use Rattle.std.specs.Prelude.{◌==◌, nat_le, nat_lt}
+use Rattle.std.proofs.Common.{◌≡◌, inl, inr, ℕ, ◌+◌, ◌-◌, ◌<◌, ◌≤◌, ◌^◌, Bool, true, false, ◌&&◌, ap, sym, ◌∙◌, arith}
+use Rattle.std.specs.Prelude.{◌==◌}
 use Rattle.std.proofs.Math.Pow.{pow_mono}
 use Rattle.std.proofs.lemmas.Bool.{cases_lt}
 use Rattle.std.proofs.lemmas.Bool.Decides.{nat_tests}
@@ -11,32 +11,13 @@ use Rattle.block_masks.specs.Masks.{Shows}
 use Rattle.block_masks.specs.Places.{inside}
 
 pub inside_at : (start count k : ℕ) → k < count → inside start count (start + k) ≡ true
-inside_at start count k lt = both (nat_le start (start + k)) (nat_lt (start + k) (start + count)) (le start k) (below start k count lt)
-  where
-    both : (a b : Bool) → a ≡ true → b ≡ true → (a && b) ≡ true
-    both a b e f = ap (λ x. x && b) e ∙ f
-
-    le : (a b : ℕ) → nat_le a (a + b) ≡ true
-    le a b = grind (arith, nat_tests)
-
-    below : (a b c : ℕ) → b < c → nat_lt (a + b) (a + c) ≡ true
-    below a b c lt = grind (arith, nat_tests)
+inside_at start count k lt = grind (arith, nat_tests)
 
 pub before_inside : (start count p : ℕ) → p < start → inside start count p ≡ false
-before_inside start count p lt = ap (λ x. x && nat_lt p (start + count)) (no start p lt)
-  where
-    no : (a b : ℕ) → b < a → nat_le a b ≡ false
-    no a b lt = grind (arith, nat_tests)
+before_inside start count p lt = grind (arith, nat_tests)
 
 pub past_inside : (start count p : ℕ) → start + count ≤ p → inside start count p ≡ false
-past_inside start count p le = right (nat_le start p) (nat_lt p (start + count)) (no p (start + count) le)
-  where
-    no : (a b : ℕ) → b ≤ a → nat_lt a b ≡ false
-    no a b le = grind (arith, nat_tests)
-
-    right : (a b : Bool) → b ≡ false → (a && b) ≡ false
-    right true b e = e
-    right false b e = refl
+past_inside start count p le = grind (arith, nat_tests)
 
 -- there is room above a start
 pub room_four : (mask start : ℕ) → start ≤ 60 → mask < 16 → mask < 2 ^ (64 - start)

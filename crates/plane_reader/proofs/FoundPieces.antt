@@ -1,7 +1,8 @@
 -- Pieces with what they found, put together with what their answers say.
-use Rattle.std.proofs.Common.{◌≡◌, ◌⊎◌, inl, inr, ℕ, Bool, false, ◌||◌, ◌&&◌, ℤ, pos, List, [], ◌∷◌, ◌++◌, get_or, refl, ap, sym, ◌∙◌, subst, append_assoc, append-nil}
-use Rattle.std.specs.Prelude.{Ok, Err, Some, None, Result, Option, true}
+use Rattle.std.proofs.Common.{◌≡◌, ◌⊎◌, inl, inr, ℕ, Bool, false, ◌||◌, ◌&&◌, ℤ, pos, List, [], ◌∷◌, ◌++◌, get_or, refl, ap, sym, ◌∙◌, subst, append_assoc, append-nil, arith}
+use Rattle.std.specs.Prelude.{Ok, Err, Some, None, Result, Option}
 use Rattle.std.proofs.lemmas.List.Folds.{list_any-append}
+use Rattle.std.proofs.lemmas.Bool.Decides.{nat_tests}
 use Rattle.item_defs.specs.Bits.{bit}
 use Rattle.item_defs.specs.Readings.{whole, ended, refused}
 use Rattle.base_122.specs.declared.book.Book.{Book}
@@ -32,8 +33,7 @@ whole_or_cut (stopped (refused m n name)) = inr tt
 whole_or_cut (failed m f) = inr tt
 
 or_none : (t : Bool) → (t || (false || false)) ≡ t
-or_none true = refl
-or_none false = refl
+or_none t = grind (arith, nat_tests)
 
 -- a step of flags reports nothing of numbers
 flags_find : (plane : ℕ) (done : List Step) (check : Check) (told : Entry) (v : List ℤ) (m : Found) → Finds plane done v m → Finds plane (done ++ step check flags_alone told ∷ []) v m

@@ -1,13 +1,14 @@
 -- What stays of the states and the blocks if a call reads one block.
-use Rattle.std.proofs.Common.{rules, ◌≡◌, ℕ, ◌+◌, ◌-◌, ◌*◌, ◌<◌, ◌≤◌, inl, inr, ℤ, pos, Bool, false, cond, List, [], ◌∷◌, length, get_or, set, take, drop, refl, ap, sym, ◌∙◌, subst, arith, get_or-set_same, get_or-set_other}
+use Rattle.std.proofs.Common.{rules, ◌≡◌, ℕ, ◌+◌, ◌-◌, ◌*◌, ◌<◌, ◌≤◌, inl, inr, ℤ, pos, false, cond, List, [], ◌∷◌, length, get_or, set, take, drop, refl, ap, sym, ◌∙◌, subst, arith, get_or-set_same, get_or-set_other}
 use borrow.Rule.Slice.PartMut.{put_mid}
 use Rattle.std.proofs.Math.ListN.{get_or-eq_default}
 use Rattle.std.proofs.Math.Seq.{map-set_same}
-use Rattle.std.proofs.lemmas.Bool.{cases_lt}
+use Rattle.std.proofs.lemmas.Bool.{cases_lt, ne_eqb}
 use Rattle.std.proofs.lemmas.Slice.{between_is, between-put_mid, take-put_mid_below, drop-put_mid, overwrites}
+use Rattle.std.proofs.lemmas.Bool.Decides.{nat_tests}
+use Rattle.plane_defs.proofs.Chosen.{equal_self}
 use Rattle.wave_defs.specs.Held.{block_at}
 use Rattle.plane_defs.specs.Marks.{depth_of, depths_of}
-use Rattle.plane_texts.proofs.SmallFacts.{itself, not_equal}
 use Rattle.block_masks.specs.declared.gaggle.Gaggle.{Gaggle}
 use Rattle.block_masks.specs.Gaggles.{AreOptions, options_in, sent_in}
 use Rattle.block_masks.proofs.Marking.{same_or_other}
@@ -17,16 +18,13 @@ use Rattle.plane_reader.specs.Progress.{kept, with_one, KeepsGaggles, IsClear, C
 -- ---- gaggles
 
 pub one_there : (gaggles : ℕ → Gaggle) (g : ℕ) (x : Gaggle) → with_one gaggles g x g ≡ x
-one_there gaggles g x = ap (λ t. cond t x (gaggles g)) (itself g)
+one_there gaggles g x = ap (λ t. cond t x (gaggles g)) (equal_self g)
 
 pub one_other : (gaggles : ℕ → Gaggle) (g : ℕ) (x : Gaggle) (h : ℕ) → (h ≡ g → ⊥) → with_one gaggles g x h ≡ gaggles h
-one_other gaggles g x h apart = ap (λ t. cond t x (gaggles h)) (not_equal h g apart)
+one_other gaggles g x h apart = ap (λ t. cond t x (gaggles h)) (ne_eqb h g apart)
 
 pub gaggle_same : (x y : Gaggle) → x.options ≡ y.options → x.sent ≡ y.sent → x ≡ y
-gaggle_same x y e f =
-    let first : List ℕ → Gaggle = λ o. record { options = o; sent = x.sent } in
-    let second : List Bool → Gaggle = λ s. record { options = y.options; sent = s } in
-    ap first e ∙ ap second f
+gaggle_same x y e f = grind (arith, nat_tests)
 
 pub kept_same : (old new : List ℤ) → KeepsGaggles old new → (h : ℕ) → kept new h ≡ kept old h
 kept_same old new keeps h = gaggle_same (kept new h) (kept old h) (keeps.options (16 * h)) (keeps.sent (16 * h))
@@ -50,11 +48,7 @@ keeps_one first marks r m within depth options sent keeps = record {
 }
   where
     same : {X : Type 0} (f : ℤ → X) → f m ≡ f (get_or marks r (pos 0)) → (i : ℕ) → f (get_or (set marks r m) i (pos 0)) ≡ f (get_or marks i (pos 0))
-    same f e i =
-        elim (same_or_other i r) [
-          | inl here ↦ ap (λ n. f (get_or (set marks r m) n (pos 0))) here ∙ ap f (get_or-set_same marks r m (pos 0) within) ∙ e ∙ ap (λ n. f (get_or marks n (pos 0))) (sym here)
-          | inr apart ↦ ap f (get_or-set_other marks r i m (pos 0) apart)
-        ]
+    same f e i = grind (arith, nat_tests, same_or_other, set, get_or-set_same, get_or-set_other)
 
 -- ---- states that keep nothing
 
@@ -106,18 +100,7 @@ module _ (cells : List ℤ) (r n : ℕ) (b : List ℤ) (within : 64 * r + 64 ≤
       ap (λ k. take k (drop (64 * r) (put_mid (64 * r) n cells b))) width ∙ between-put_mid (64 * r) n cells b (64 * r + 64) (omega arith) (omega arith)
 
   pub blocks_stay : (i : ℕ) → (i ≡ r → ⊥) → block_at (put_mid (64 * r) n cells b) i ≡ block_at cells i
-  blocks_stay i apart =
-      elim (cases_lt i r) [
-        | inl low ↦
-            block_between (put_mid (64 * r) n cells b) i ∙ ap (drop (64 * i)) (take-put_mid_below (64 * r) n cells b (64 * i + 64) (omega (arith, low)) (omega arith))
-            ∙ sym (block_between cells i)
-        | inr high ↦
-            let past : r < i = after high in
-            ap (take 64) (drop-put_mid (64 * r) n cells b (64 * i) (omega (arith, past)) (omega arith) (omega arith))
-      ]
-    where
-      after : r ≤ i → r < i
-      after le = grind (arith, apart)
+  blocks_stay i apart = grind (arith, nat_tests, block_between, take-put_mid_below, drop-put_mid)
 
   pub put_long : length (put_mid (64 * r) n cells b) ≡ length cells
   put_long = search (rules, overwrites)

@@ -1,11 +1,12 @@
 -- What a block sends of its sets of grandchildren: which are new, and which parts of a stage are sent.
-use Rattle.std.proofs.Common.{◌≡◌, ℕ, ◌+◌, ◌<◌, ◌^◌, Bool, true, false, not, ◌&&◌, ◌||◌, cond, ℤ, List, [], ◌∷◌, ◌++◌, refl, ap, sym, ◌∙◌, arith, zero-add}
+use Rattle.std.proofs.Common.{◌≡◌, ℕ, ◌+◌, ◌<◌, ◌^◌, Bool, not, ◌&&◌, cond, ℤ, List, [], ◌∷◌, ◌++◌, refl, ap, sym, ◌∙◌, arith, zero-add}
 use Rattle.std.specs.Prelude.{filter}
 use Rattle.std.specs.List.{flat_map, AllByRecursion}
+use Rattle.std.proofs.lemmas.Bool.Decides.{nat_tests}
 use Rattle.item_defs.specs.Bits.{bit}
 use Rattle.plane_defs.specs.declared.sets.Set.{Set}
 use Rattle.plane_defs.specs.Spans.{span}
-use Rattle.plane_defs.specs.Sets.{significant, coded, set_significant, live, enclosing_significant, type_due, flag_due, IsKnown}
+use Rattle.plane_defs.specs.Sets.{significant, coded, set_significant, type_due, flag_due, IsKnown}
 use Rattle.plane_defs.specs.Steps.{is_new}
 use Rattle.plane_defs.specs.StepLaws.{IsAc}
 use Rattle.plane_defs.proofs.Above.{all_span}
@@ -50,18 +51,7 @@ module _ (f : Frame) (v : List ℤ) (c : IsCandidate f.weights f.plane f.q f.dep
 
   -- a set is new if its flag is due and 1
   pub new_due : (s : Set) → IsKnown s → is_new v f.plane s ≡ (flag_due v f.weights f.plane s && set_significant v f.plane s)
-  new_due s known =
-      new_is s known
-      ∙ by_flag (set_significant f.block (f.plane + 1) s) (live f.weights f.plane s) (enclosing_significant v f.plane s) (flag_due v f.weights f.plane s) (set_significant v f.plane s) (flag_is f v c s known) (set_now f v c s known)
-    where
-      by_flag : (a l e d s : Bool) → d ≡ ((not a && l) && e) → s ≡ (a || (d && s)) → (s && not a) ≡ (d && s)
-      by_flag true l e true s is now = cc
-      by_flag true l e false true is now = refl
-      by_flag true l e false false is now = refl
-      by_flag false l e true true is now = refl
-      by_flag false l e false true is now = cc
-      by_flag false l e true false is now = refl
-      by_flag false l e false false is now = refl
+  new_due s known = grind (arith, nat_tests, new_is, flag_is, set_now)
 
 -- ---- types
 

@@ -1,7 +1,8 @@
 -- Groups that are read from a window.
-use Rattle.std.proofs.Common.{◌≡◌, ℕ, ◌+◌, ◌*◌, ◌/◌, ◌%◌, ◌^◌, Bool, List, [], sym, ap, subst, ◌∙◌}
+use Rattle.std.proofs.Common.{◌≡◌, ℕ, ◌+◌, ◌*◌, ◌/◌, ◌%◌, ◌^◌, Bool, List, [], subst, arith}
 use Rattle.std.proofs.lemmas.Nat.{mul-mod_first, pow-add}
 use Rattle.std.proofs.Math.Nat.{mul_assoc}
+use Rattle.std.proofs.lemmas.Bool.Decides.{nat_tests}
 use Rattle.item_defs.proofs.NumberBits.{bits_none}
 use Rattle.base_122.specs.declared.book.Book.{Book}
 use Rattle.plane_defs.specs.Steps.{Step}
@@ -19,9 +20,7 @@ use Rattle.plane_reader.proofs.Shadows.{found_back, found_forth, found_on, found
 
 -- the bits after some are a window too
 pub moved_on : (window len more rest : ℕ) → rest ≡ window * 2 ^ len % 2 ^ 64 → rest * 2 ^ more % 2 ^ 64 ≡ window * 2 ^ (len + more) % 2 ^ 64
-moved_on window len more rest e =
-    ap (λ n. n * 2 ^ more % 2 ^ 64) e ∙ mul-mod_first (window * 2 ^ len) (2 ^ more) (2 ^ 64)
-    ∙ ap (λ n. n % 2 ^ 64) (mul_assoc window (2 ^ len) (2 ^ more) ∙ ap (λ n. window * n) (sym (pow-add 2 len more)))
+moved_on window len more rest e = grind (arith, nat_tests, mul-mod_first, mul_assoc, pow-add)
 
 module _ {I : Type 0} {k : SourceOf I} {book : Book} {f : Frame} {stage : ℕ} {earlier : ℕ → List Step} {done : List Step} (first count : ℕ) (now wanted : ℕ → Bool) (mask : ℕ) {g h : Gaggle} {m : Found} {a b : Coming I} where
   -- before any bit

@@ -2,6 +2,7 @@
 use Rattle.std.proofs.Common.{◌≡◌, inl, inr, ℕ, zero, suc, ◌+◌, ◌-◌, ◌*◌, ◌<◌, ◌≤◌, Bool, true, false, ℤ, List, [], ap, sym, ◌∙◌, subst, refl, arith}
 use Rattle.std.specs.Prelude.{Ok, Err, Some, None, Result, Option}
 use Rattle.std.proofs.lemmas.Bool.{cases_lt}
+use Rattle.std.proofs.lemmas.Bool.Decides.{nat_tests}
 use Rattle.item_defs.specs.Bits.{bit}
 use Rattle.base_122.specs.declared.book.Book.{Book}
 use Rattle.plane_defs.specs.Spans.{span}
@@ -15,24 +16,20 @@ use Rattle.plane_reader.specs.declared.found.Found.{Found}
 use Rattle.plane_reader.specs.Frames.{Frame, group_steps, group_item, TypesNext, GroupsNext}
 use Rattle.plane_reader.specs.Pieces.{FoundPiece, Anything, SoFar}
 use Rattle.block_masks.specs.Walk.{IsParted}
-use Rattle.plane_reader.specs.Groups.{GroupsPassed}
+use Rattle.plane_reader.specs.Groups.{Covers, GroupsPassed}
 use Rattle.plane_reader.proofs.IndexPieces.{so_far_none}
+use Rattle.plane_reader.proofs.NothingDue.{none_due}
+use Rattle.plane_reader.proofs.SignPieces.{found_whole}
 use Rattle.plane_reader.proofs.GroupPieces.{group_skipped, group_call, group_read, group_missing, group_fault, groups_whole}
 use Rattle.plane_reader.proofs.SignsPassed.{bit_inside, no_bit, never}
 
 -- the first position of a mask is the place at which it is parted
 pub place_is : {mask first others : ℕ} (parts : IsParted mask first others) (j : ℕ) → j < 64 → bit mask j ≡ true → ((k : ℕ) → k < j → bit mask k ≡ false) → parts.place ≡ j
-place_is parts j within here none = elim (cases_lt parts.place j) [
-  | inl before ↦ absurd (never (sym parts.here ∙ none parts.place before))
-  | inr past ↦ elim (cases_lt j parts.place) [
-    | inl after ↦ absurd (never (sym here ∙ parts.none_before j after))
-    | inr near ↦ omega (arith, past, near)
-  ]
-]
+place_is parts j within here none = grind (arith, nat_tests, never)
 
-module _ {f : Frame} {stage : ℕ} {earlier : ℕ → List Step} {done : List Step} {first count : ℕ} {now wanted : ℕ → Bool} {due now_mask wanted_mask : ℕ} {after : List ℤ → List Step} (next : GroupsNext f stage earlier done first count now wanted due now_mask wanted_mask after) {I : Type 0} {k : SourceOf I} {book : Book} {g : Gaggle} {m : Found} {a : Coming I} where
+module _ {f : Frame} {stage : ℕ} {earlier : ℕ → List Step} {done : List Step} {first count : ℕ} {now wanted : ℕ → Bool} {due now_mask wanted_mask : ℕ} {after : List ℤ → List Step} (next : GroupsNext f stage earlier done first count now wanted due now_mask wanted_mask after) {mask : ℕ} (covers : Covers first count now wanted due mask) {I : Type 0} {k : SourceOf I} {book : Book} {g : Gaggle} {m : Found} {a : Coming I} where
   -- none was read yet
-  pub groups_start : AreOptions g.options → IsIn a → Takes k a a [] → GroupsPassed k book f stage earlier done first count now wanted now_mask now_mask g g m m a a
+  pub groups_start : AreOptions g.options → IsIn a → Takes k a a [] → GroupsPassed k book f stage earlier done first count now wanted mask mask g g m m a a
   groups_start known i t = record {
     n = 0;
     within = omega arith;
@@ -41,7 +38,15 @@ module _ {f : Frame} {stage : ℕ} {earlier : ℕ → List Step} {done : List St
     so_far = so_far_none book f stage earlier done (group_item f first now wanted) 0 known i t next.possible;
   }
 
-  module _ {left : ℕ} {h : Gaggle} {o : Found} {b : Coming I} (p : GroupsPassed k book f stage earlier done first count now wanted now_mask left g h m o a b) where
+  module _ {left : ℕ} {h : Gaggle} {o : Found} {b : Coming I} (p : GroupsPassed k book f stage earlier done first count now wanted mask left g h m o a b) where
+    -- past a group that is not in the mask
+    skip_one : (n : ℕ) → n < count → bit mask n ≡ false → (is_sent : Bool) → now n ≡ is_sent → SoFar k book f stage earlier done (group_item f first now wanted) 0 n g h m o a b → SoFar k book f stage earlier done (group_item f first now wanted) 0 (n + 1) g h m o a b
+    skip_one n lt off false e before = group_skipped next n lt before e
+    skip_one n lt off true e before =
+        let nothing = covers.others n lt off e in
+        group_read next n lt before e
+        (group_call next n lt before false (sym nothing.unwanted) e (λ f' stage' earlier' done' after' types_next. none_due before.piece.options types_next nothing.none (before.piece.is_in (found_whole before))))
+
     -- up to a place before which none is left
     skip_to : (more n : ℕ) → p.n + more ≡ n → n ≤ count → ((q : ℕ) → q < n → bit left q ≡ false) → SoFar k book f stage earlier done (group_item f first now wanted) 0 n g h m o a b
     skip_to zero n e high none = let same : p.n ≡ n = omega arith in subst (λ z. SoFar k book f stage earlier done (group_item f first now wanted) 0 z g h m o a b) same p.so_far
@@ -49,10 +54,9 @@ module _ {f : Frame} {stage : ℕ} {earlier : ℕ → List Step} {done : List St
         let last : (n - 1) + 1 ≡ n = omega arith in
         let lt : n - 1 < count = omega arith in
         let inside : n - 1 < 64 = omega (arith, lt, next.within) in
-        let place : 0 + (n - 1) ≡ n - 1 = omega arith in
-        let off : now (n - 1) ≡ false = ap now (sym place) ∙ sym (next.now_shown.at (n - 1) lt) ∙ sym (p.kept (n - 1) (omega arith) inside) ∙ none (n - 1) (omega arith) in
+        let off : bit mask (n - 1) ≡ false = sym (p.kept (n - 1) (omega arith) inside) ∙ none (n - 1) (omega arith) in
         let before = skip_to more (n - 1) (omega arith) (omega arith) (λ q low. none q (omega (arith, low))) in
-        subst (λ z. SoFar k book f stage earlier done (group_item f first now wanted) 0 z g h m o a b) last (group_skipped next (n - 1) lt before off)
+        subst (λ z. SoFar k book f stage earlier done (group_item f first now wanted) 0 z g h m o a b) last (skip_one (n - 1) lt off (now (n - 1)) refl before)
 
     -- none is left
     pub groups_all : left ≡ 0 → FoundPiece k book f stage earlier done (group_steps f first count now wanted) Anything (Ok (Some tt)) g h m o a b
@@ -62,19 +66,16 @@ module _ {f : Frame} {stage : ℕ} {earlier : ℕ → List Step} {done : List St
 
     module _ (j : ℕ) (high : j < 64) (here : bit left j ≡ true) (none : (q : ℕ) → q < j → bit left q ≡ false) where
       above : p.n ≤ j
-      above = elim (cases_lt j p.n) [
-        | inl lt ↦ absurd (never (sym here ∙ p.gone j lt))
-        | inr le ↦ le
-      ]
+      above = grind (arith, nat_tests, never)
 
-      in_mask : bit now_mask j ≡ true
+      in_mask : bit mask j ≡ true
       in_mask = sym (p.kept j above high) ∙ here
 
       pub group_below : j < count
-      group_below = bit_inside now_mask count j next.now_shown.small in_mask
+      group_below = bit_inside mask count j covers.small in_mask
 
       is_due : now j ≡ true
-      is_due = let place : 0 + j ≡ j = omega arith in ap now (sym place) ∙ sym (next.now_shown.at j group_below) ∙ in_mask
+      is_due = covers.sent j group_below in_mask
 
       before : SoFar k book f stage earlier done (group_item f first now wanted) 0 j g h m o a b
       before = let whole : p.n + (j - p.n) ≡ j = omega (arith, above) in skip_to (j - p.n) j whole (omega (arith, group_below)) none
@@ -83,7 +84,7 @@ module _ {f : Frame} {stage : ℕ} {earlier : ℕ → List Step} {done : List St
       module _ (flag : Bool) (is : flag ≡ wanted j) {i : Gaggle} {q : Found} {c : Coming I} {r : Result (Option (Unit {0})) TextFault}
           (types : (f : Frame) (stage : ℕ) (earlier : ℕ → List Step) (done : List Step) (after : List ℤ → List Step) → TypesNext f stage earlier done flag (first + 4 * j) 4 due after →
           FoundPiece k book f stage earlier done (λ v. typed_steps v f.weights f.plane (some_one_where flag) (span (first + 4 * j) 4)) Anything r h i o q b c) where
-        pub groups_more : r ≡ Ok (Some tt) → (rest : ℕ) → bit rest j ≡ false → ((q' : ℕ) → q' < 64 → (q' ≡ j → ⊥) → bit rest q' ≡ bit left q') → GroupsPassed k book f stage earlier done first count now wanted now_mask rest g i m q a c
+        pub groups_more : r ≡ Ok (Some tt) → (rest : ℕ) → bit rest j ≡ false → ((q' : ℕ) → q' < 64 → (q' ≡ j → ⊥) → bit rest q' ≡ bit left q') → GroupsPassed k book f stage earlier done first count now wanted mask rest g i m q a c
         groups_more e rest gone others = record {
           n = j + 1;
           within = omega (arith, group_below);

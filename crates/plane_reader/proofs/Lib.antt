@@ -33,6 +33,8 @@ pub mod FoundPieces
 pub mod SetFacts
 pub mod ChildPieces
 mod Dealing
+mod NothingDue
+mod SentGroups
 pub mod RefinePieces
 pub mod DcBitPieces
 pub mod ChildStage

@@ -2,6 +2,7 @@
 use Rattle.std.proofs.Common.{◌≡◌, ℕ, ◌+◌, ◌<◌, ℤ, List, [], ◌∷◌, ◌++◌, length, refl, ap, sym, ◌∙◌, subst, arith, append_assoc, append-nil, length-append}
 use Rattle.std.specs.Prelude.{Ok, Some, Result, Option}
 use Rattle.std.proofs.lemmas.List.{map-append}
+use Rattle.std.proofs.lemmas.Bool.Decides.{nat_tests}
 use Rattle.item_defs.specs.Items.{text}
 use Rattle.item_defs.specs.Readings.{whole, ended, refused}
 use Rattle.base_122.specs.declared.book.Book.{Book}
@@ -36,8 +37,7 @@ sends_front done part s = record { candidate = s.candidate; before = s.before; r
 module _ {f : Frame} {k : ℕ} {earlier : ℕ → List Step} where
   -- what was read of a piece is a prefix of what was to follow
   pub leads_rest : {next after : List ℤ → List Step} (done part : List Step) → Leads f k earlier done next after → (v : List ℤ) → (s : Sends f k earlier (done ++ part) v) → part ++ s.rest ≡ next v ++ after v
-  leads_rest {next} {after} done part l v s =
-      front_equal done (part ++ s.rest) (next v ++ after v) (sym (s.here ∙ append_assoc done part s.rest) ∙ l.at v (sends_front done part s))
+  leads_rest done part l v s = grind (arith, nat_tests, front_equal, append_assoc, sends_front)
 
   -- after a piece the next one follows
   pub leads_on : {next more after : List ℤ → List Step} (done part : List Step) → Leads f k earlier done (λ v. next v ++ more v) after → ((v : List ℤ) → Sends f k earlier (done ++ part) v → next v ≡ part) →

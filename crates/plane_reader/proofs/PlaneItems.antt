@@ -1,14 +1,14 @@
 -- The items and entries before a block of a plane, one block, gaggle and stage after another.
-use Rattle.std.proofs.Common.{◌≡◌, ℕ, ◌+◌, ◌-◌, ◌*◌, ◌<◌, ◌≤◌, min, inl, inr, List, [], ◌++◌, length, ap, sym, ◌∙◌, arith, append_assoc, append-nil}
+use Rattle.std.proofs.Common.{◌≡◌, ℕ, ◌+◌, ◌-◌, ◌*◌, ◌<◌, ◌≤◌, min, List, [], ◌++◌, length, ap, sym, ◌∙◌, arith, append_assoc, append-nil}
 use Rattle.std.specs.List.{flat_map}
-use Rattle.std.proofs.lemmas.Bool.{cases_lt}
+use Rattle.std.proofs.lemmas.Bool.Decides.{nat_tests}
 use Rattle.item_defs.specs.Items.{Item}
 use Rattle.base_122.specs.declared.book.Book.{Book}
 use Rattle.plane_defs.specs.declared.entries.Entry.{Entry}
 use Rattle.plane_defs.specs.Spans.{span}
 use Rattle.plane_defs.specs.Entries.{stage_number}
 use Rattle.plane_defs.specs.StepLaws.{entry_of, entries_of}
-use Rattle.plane_defs.specs.Planes.{Plane, gaggles, gaggle_size, of_block, of_gaggle, before_stage}
+use Rattle.plane_defs.specs.Planes.{Plane, gaggles, gaggle_size, of_block, before_stage}
 use Rattle.plane_defs.specs.Reading.{read_after, steps_of_block, gaggle_reading, plane_reading}
 use Rattle.plane_defs.proofs.SpanLists.{flat_map-span-suc, flat_map-span-none}
 use Rattle.plane_defs.proofs.ReadingTexts.{map_flat}
@@ -23,9 +23,7 @@ entries_before_block p k g c = before_stage p k g ++ flat_map (of_block p (stage
 
 -- the same, counted over all of the stage's blocks
 pub entries_here : (p : Plane) (k g c : ℕ) → c < 16 → 16 * g + c < length p.depths → entries_to p k (16 * g + c) g ≡ entries_before_block p k g c
-entries_here p k g c few within =
-    let count : min (16 * g + c - 16 * g) (min 16 (length p.depths - 16 * g)) ≡ c = omega arith in
-    ap (λ n. before_stage p k g ++ flat_map (of_block p (stage_number k)) (span (16 * g) n)) count
+entries_here p k g c few within = grind (arith, nat_tests)
 
 -- one more block adds to its own gaggle
 pub entries_more : (p : Plane) (k g c : ℕ) → c < 16 → 16 * g + c < length p.depths → entries_to p k (16 * g + (c + 1)) g ≡ entries_before_block p k g c ++ of_block p (stage_number k) (16 * g + c)
@@ -37,41 +35,19 @@ entries_more p k g c few within =
 
 -- and to no other gaggle
 pub entries_other : (p : Plane) (k g c h : ℕ) → c < 16 → (h ≡ g → ⊥) → entries_to p k (16 * g + (c + 1)) h ≡ entries_to p k (16 * g + c) h
-entries_other p k g c h few apart =
-    let count : min (16 * g + (c + 1) - 16 * h) (min 16 (length p.depths - 16 * h)) ≡ min (16 * g + c - 16 * h) (min 16 (length p.depths - 16 * h)) =
-    elim (cases_lt h g) [
-      | inl low ↦ omega (arith, low)
-      | inr high ↦ omega (arith, high, few, apart)
-    ] in
-    ap (λ n. before_stage p k h ++ flat_map (of_block p (stage_number k)) (span (16 * h) n)) count
+entries_other p k g c h few apart = grind (arith, nat_tests)
 
 -- past a gaggle's blocks the next one begins
 pub entries_gaggle : (p : Plane) (k g c h : ℕ) → min 16 (length p.depths - 16 * g) ≤ c → c ≤ 16 → entries_to p k (16 * (g + 1) + 0) h ≡ entries_to p k (16 * g + c) h
-entries_gaggle p k g c h all few =
-    let count : min (16 * (g + 1) + 0 - 16 * h) (min 16 (length p.depths - 16 * h)) ≡ min (16 * g + c - 16 * h) (min 16 (length p.depths - 16 * h)) = omega arith in
-    ap (λ n. before_stage p k h ++ flat_map (of_block p (stage_number k)) (span (16 * h) n)) count
+entries_gaggle p k g c h all few = grind (arith, nat_tests)
 
 -- past all of them the next stage begins
 pub entries_stage : (p : Plane) (k n h : ℕ) → length p.depths ≤ n → entries_to p (k + 1) (16 * 0 + 0) h ≡ entries_to p k n h
-entries_stage p k n h all =
-    let none : min (16 * 0 + 0 - 16 * h) (min 16 (length p.depths - 16 * h)) ≡ 0 = omega arith in
-    let each : min (n - 16 * h) (min 16 (length p.depths - 16 * h)) ≡ min 16 (length p.depths - 16 * h) = omega arith in
-    let f : ℕ → List Entry = λ j. of_gaggle p (stage_number j) h in
-    ap (λ m. before_stage p (k + 1) h ++ flat_map (of_block p (stage_number (k + 1))) (span (16 * h) m)) none
-    ∙ ap (λ l. before_stage p (k + 1) h ++ l) (flat_map-span-none (of_block p (stage_number (k + 1))) (16 * h)) ∙ append-nil (before_stage p (k + 1) h)
-    ∙ flat_map-span-suc f 0 k ∙ ap (λ j. before_stage p k h ++ f j) (zero_plus k)
-    ∙ ap (λ m. before_stage p k h ++ flat_map (of_block p (stage_number k)) (span (16 * h) m)) (sym each)
-  where
-    zero_plus : (k : ℕ) → 0 + k ≡ k
-    zero_plus k = omega arith
+entries_stage p k n h all = grind (arith, nat_tests, flat_map-span-none, append-nil, flat_map-span-suc)
 
 -- before the first stage there are none
 pub entries_none : (p : Plane) (h : ℕ) → entries_to p 0 (16 * 0 + 0) h ≡ []
-entries_none p h =
-    let none : min (16 * 0 + 0 - 16 * h) (min 16 (length p.depths - 16 * h)) ≡ 0 = omega arith in
-    ap (λ m. before_stage p 0 h ++ flat_map (of_block p (stage_number 0)) (span (16 * h) m)) none
-    ∙ ap (λ l. before_stage p 0 h ++ l) (flat_map-span-none (of_block p (stage_number 0)) (16 * h)) ∙ append-nil (before_stage p 0 h)
-    ∙ flat_map-span-none (λ j. of_gaggle p (stage_number j) h) 0
+entries_none p h = grind (arith, nat_tests, flat_map-span-none, append-nil)
 
 -- ---- items
 
@@ -81,60 +57,23 @@ items_here book o p k g c = read_after book (o g) (entries_before_block p k g c)
 
 module _ (book : Book) (o : ℕ → List ℕ) (p : Plane) where
   pub items_more : (k g c : ℕ) → items_to book o p k g (c + 1) ≡ items_to book o p k g c ++ items_here book o p k g c
-  items_more k g c =
-      let A = plane_reading book o p k in
-      let B = flat_map (gaggle_reading book o p k) (span 0 g) in
-      let b = before_stage p k g in
-      let f = steps_of_block p (stage_number k) in
-      let S = flat_map f (span (16 * g) c) in
-      let R = read_after book (o g) b S in
-      let N = items_here book o p k g c in
-      let same : b ++ entries_of S ≡ entries_before_block p k g c =
-      ap (λ l. b ++ l) (map_flat entry_of f (of_block p (stage_number k)) (block_entries_of p k) (span (16 * g) c)) in
-      let row : read_after book (o g) b (flat_map f (span (16 * g) (c + 1))) ≡ R ++ N =
-      ap (read_after book (o g) b) (flat_map-span-suc f (16 * g) c) ∙ read_append book (o g) b S (f (16 * g + c))
-      ∙ ap (λ e. R ++ read_after book (o g) e (f (16 * g + c))) same in
-      ap (λ l. A ++ (B ++ l)) row ∙ ap (λ l. A ++ l) (sym (append_assoc B R N)) ∙ sym (append_assoc A (B ++ R) N)
+  items_more k g c = grind (arith, nat_tests, map_flat, block_entries_of, flat_map-span-suc, read_append, append_assoc)
 
   no_row : (k g : ℕ) → read_after book (o g) (before_stage p k g) (flat_map (steps_of_block p (stage_number k)) (span (16 * g) 0)) ≡ []
   no_row k g = ap (read_after book (o g) (before_stage p k g)) (flat_map-span-none (steps_of_block p (stage_number k)) (16 * g))
 
   no_items : (k : ℕ) → flat_map (gaggle_reading book o p k) (span 0 0) ++ read_after book (o 0) (before_stage p k 0) (flat_map (steps_of_block p (stage_number k)) (span (16 * 0) 0)) ≡ []
-  no_items k =
-      let R = read_after book (o 0) (before_stage p k 0) (flat_map (steps_of_block p (stage_number k)) (span (16 * 0) 0)) in
-      ap (λ l. l ++ R) (flat_map-span-none (gaggle_reading book o p k) 0) ∙ no_row k 0
+  no_items k = grind (arith, nat_tests, flat_map-span-none, no_row)
 
   pub items_gaggle : (k g c : ℕ) → c ≡ gaggle_size p g → items_to book o p k (g + 1) 0 ≡ items_to book o p k g c
-  items_gaggle k g c all =
-      let A = plane_reading book o p k in
-      let B = flat_map (gaggle_reading book o p k) (span 0 g) in
-      let f = gaggle_reading book o p k in
-      ap (λ l. A ++ (flat_map f (span 0 (g + 1)) ++ l)) (no_row k (g + 1)) ∙ ap (λ l. A ++ l) (append-nil (flat_map f (span 0 (g + 1))) ∙ flat_map-span-suc f 0 g ∙ ap (λ j. B ++ f j) (zero_plus g))
-      ∙ ap (λ n. A ++ (B ++ read_after book (o g) (before_stage p k g) (flat_map (steps_of_block p (stage_number k)) (span (16 * g) n)))) (sym all)
-    where
-      zero_plus : (k : ℕ) → 0 + k ≡ k
-      zero_plus k = omega arith
+  items_gaggle k g c all = grind (arith, nat_tests, no_row, append-nil, flat_map-span-suc)
 
   pub items_stage : (k g : ℕ) → g ≡ gaggles p → items_to book o p (k + 1) 0 0 ≡ items_to book o p k g 0
-  items_stage k g all =
-      let A = plane_reading book o p k in
-      let f = gaggle_reading book o p k in
-      let B = plane_reading book o p (k + 1) in
-      ap (λ l. B ++ l) (no_items (k + 1)) ∙ append-nil B
-      ∙ flat_map-span-suc (λ j. flat_map (gaggle_reading book o p j) (span 0 (gaggles p))) 0 k
-      ∙ ap (λ j. A ++ flat_map (gaggle_reading book o p j) (span 0 (gaggles p))) (zero_plus k)
-      ∙ ap (λ n. A ++ flat_map f (span 0 n)) (sym all)
-      ∙ ap (λ l. A ++ l) (sym (append-nil (flat_map f (span 0 g))))
-      ∙ ap (λ l. A ++ (flat_map f (span 0 g) ++ l)) (sym (no_row k g))
-    where
-      zero_plus : (k : ℕ) → 0 + k ≡ k
-      zero_plus k = omega arith
+  items_stage k g all = grind (arith, nat_tests, no_items, append-nil, flat_map-span-suc, no_row)
 
   -- the stages before it precede a stage's first block
   pub items_whole : (k : ℕ) → items_to book o p k 0 0 ≡ plane_reading book o p k
-  items_whole k =
-      let B = plane_reading book o p k in
-      ap (λ l. B ++ l) (no_items k) ∙ append-nil B
+  items_whole k = grind (arith, nat_tests, no_items, append-nil)
 
   pub items_none : items_to book o p 0 0 0 ≡ []
   items_none = items_whole 0 ∙ flat_map-span-none (λ j. flat_map (gaggle_reading book o p j) (span 0 (gaggles p))) 0

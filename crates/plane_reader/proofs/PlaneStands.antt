@@ -1,11 +1,11 @@
 -- A block between two stages.
-use Rattle.std.proofs.Common.{◌≡◌, ℕ, ◌+◌, ℤ, List, [], ◌++◌, refl, ap, sym, ◌∙◌, subst, arith, append-nil}
+use Rattle.std.proofs.Common.{◌≡◌, ℕ, ◌+◌, ℤ, List, [], ◌++◌, refl, sym, ◌∙◌, subst, arith, append-nil}
 use Rattle.std.specs.Prelude.{Result}
+use Rattle.std.proofs.lemmas.Bool.Decides.{nat_tests}
 use Rattle.base_122.specs.declared.book.Book.{Book}
 use Rattle.plane_defs.specs.declared.entries.Entry.{Entry}
 use Rattle.plane_defs.specs.declared.sets.Set.TheVariants.{Family}
 use Rattle.plane_defs.specs.Sets.{set_significant}
-use Rattle.plane_defs.specs.Steps.{Step}
 use Rattle.plane_defs.proofs.SpanLists.{flat_map-span-suc}
 use Rattle.plane_texts.specs.Given.{Tells}
 use Rattle.plane_texts.proofs.TableReading.{span_same}
@@ -56,12 +56,7 @@ module _ {I : Type 0} {source : SourceOf I} {book : Book} {f : Frame} {k : ℕ} 
   }
 
   told_more : told_before (λ j. steps_of f j read_so) (k + 1) ≡ told_before (λ j. steps_of f j u) k ++ t.part
-  told_more =
-      let old : ℕ → List Step = λ j. steps_of f j u in
-      let new : ℕ → List Step = λ j. steps_of f j read_so in
-      let zero_plus : 0 + k ≡ k = omega arith in
-      flat_map-span-suc new 0 k ∙ ap (λ l. l ++ new (0 + k)) (span_same new old 0 k (λ j low high. t.possible.sends.before j (omega (arith, high)))) ∙ ap (λ j. told_before old k ++ new j) zero_plus
-      ∙ ap (λ l. told_before old k ++ l) (sends_part read_so t.possible.sends)
+  told_more = grind (arith, nat_tests, flat_map-span-suc, span_same, sends_part)
 
   pub stands_then : StandsBefore f (k + 1) (λ j. steps_of f j read_so) mark block
   stands_then = record {

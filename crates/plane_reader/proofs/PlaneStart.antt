@@ -1,8 +1,9 @@
 -- A plane of which nothing was read yet.
-use Rattle.std.proofs.Common.{◌≡◌, ℕ, zero, suc, ◌-◌, ◌<◌, ◌≤◌, ℤ, pos, negsuc, Bool, false, List, [], length, get_or, map, refl, ap, sym, subst, arith}
+use Rattle.std.proofs.Common.{◌≡◌, ℕ, ◌-◌, ◌<◌, ◌≤◌, ℤ, pos, Bool, false, List, [], length, get_or, map, refl, ap, sym, subst, arith}
 use Rattle.std.specs.List.{range_with_len}
 use Rattle.std.proofs.lemmas.Int.{ints}
 use Rattle.std.proofs.lemmas.List.FromFn.{get_or-map-range_with_len, length-map-range_with_len}
+use Rattle.std.proofs.lemmas.Bool.Decides.{nat_tests}
 use Rattle.item_defs.specs.Items.{text}
 use Rattle.wave_defs.specs.Held.{block_at}
 use Rattle.base_122.specs.declared.book.Book.{Book}
@@ -32,8 +33,7 @@ own_candidate weights plane q depth block h = record {
 
 -- a number stays if nothing is reported of it
 pub number_stays : (plane : ℕ) (z : ℤ) → z ≡ told_number plane z false false
-number_stays plane (pos n) = omega (arith, ints)
-number_stays plane (negsuc n) = omega (arith, ints)
+number_stays plane z = grind (arith, nat_tests)
 
 nothing_told : (plane : ℕ) (v block : List ℤ) → length block ≡ 64 → Tells plane [] v block block
 nothing_told plane v block whole = record {
@@ -49,12 +49,7 @@ pub record HasNone (flags : List Bool) : Type 0 where
   pub four : get_or flags 2 false ≡ false
 
 none_sent : (flags : List Bool) (n : ℕ) → HasNone flags → 2 ≤ n → n ≤ 4 → get_or flags (n - 2) false ≡ false
-none_sent flags zero none low high = absurd (omega arith)
-none_sent flags (suc zero) none low high = absurd (omega arith)
-none_sent flags (suc (suc zero)) none low high = none.two
-none_sent flags (suc (suc (suc zero))) none low high = none.three
-none_sent flags (suc (suc (suc (suc zero)))) none low high = none.four
-none_sent flags (suc (suc (suc (suc (suc n))))) none low high = absurd (omega arith)
+none_sent flags n none low high = grind (arith, nat_tests)
 
 module _ {I : Type 0} (source : SourceOf I) (book : Book) (s : Start) (from : Coming I) (now : Held I) (awaits : AwaitPlane s.weights s.plane s.q s.depths s.blocks) (blocks : now.blocks ≡ s.blocks)
     (depths : depths_of now.marks ≡ s.depths) (none : (h : ℕ) → HasNone (now.gaggles h).sent) (known : (h : ℕ) → AreOptions (now.gaggles h).options) (input : now.input ≡ from) (opened : IsIn from) where

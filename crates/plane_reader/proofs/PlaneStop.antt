@@ -3,6 +3,7 @@ use Rattle.std.proofs.Common.{◌≡◌, ℕ, suc, ◌+◌, ◌-◌, ◌*◌, �
 use Rattle.std.specs.Prelude.{Result, Ok, ◌&&◌, if◌then◌else◌}
 use Rattle.std.proofs.Math.ListN.{length-set}
 use Rattle.std.proofs.lemmas.Bool.{cases_lt}
+use Rattle.std.proofs.lemmas.Bool.Decides.{nat_tests}
 use Rattle.item_defs.specs.Bits.{bit}
 use Rattle.item_defs.specs.Items.{Item, text}
 use Rattle.item_defs.specs.Readings.{whole, ended, refused}
@@ -130,10 +131,7 @@ module _ {I : Type 0} {source : SourceOf I} {book : Book} {s : Start} {k : ℕ} 
 
   -- the block's place by its number
   by_number : {X : Type 0} (f : ℕ → ℕ → X) → f (r / 16) (r - 16 * (r / 16)) ≡ f g c
-  by_number f =
-      let gaggle : r / 16 ≡ g = omega (arith, few) in
-      let place : r - 16 * g ≡ c = omega arith in
-      ap (λ j. f j (r - 16 * j)) gaggle ∙ ap (f g) place
+  by_number f = grind (arith, nat_tests)
 
   abbrev before : List Item
   before = items_to book o p k g c

@@ -1,6 +1,7 @@
 -- What a significant set of sixteen grandchildren sends, piece by piece.
-use Rattle.std.proofs.Common.{◌≡◌, ℕ, ◌+◌, ◌*◌, ◌<◌, Bool, true, false, not, ◌&&◌, ◌||◌, ℤ, List, [], ◌∷◌, ◌++◌, refl, ap, sym, ◌∙◌, subst, arith}
+use Rattle.std.proofs.Common.{◌≡◌, ℕ, ◌+◌, ◌*◌, ◌<◌, Bool, not, ◌&&◌, ◌||◌, ℤ, List, [], ◌∷◌, ◌++◌, ap, sym, ◌∙◌, subst, arith}
 use Rattle.std.specs.Prelude.{Ok, Err, Some, None, Result, Option, map}
+use Rattle.std.proofs.lemmas.Bool.Decides.{nat_tests}
 use Rattle.item_defs.specs.Bits.{bit}
 use Rattle.base_122.specs.declared.book.Book.{Book}
 use Rattle.plane_defs.specs.declared.sets.Set.TheVariants.{Grandchildren, Quad}
@@ -46,11 +47,7 @@ module _ {f : Frame} {stage : ℕ} {earlier : ℕ → List Step} {done : List St
 
   due_is : (v : List ℤ) → Sends f stage earlier done v → (j : ℕ) → j < 4 → flag_due v f.weights f.plane (Quad i j) ≡ quad_due j
   unfolding enclosing_significant
-  due_is v s j lt = flag_is f v s.candidate (Quad i j) (known, lt) ∙ ap (λ t. quad_due j && t) (next.reached v s) ∙ and_true (quad_due j)
-    where
-      and_true : (t : Bool) → (t && true) ≡ t
-      and_true true = refl
-      and_true false = refl
+  due_is v s j lt = grind (arith, nat_tests, flag_is)
 
   parts : (v : List ℤ) → Sends f stage earlier done v → quads_steps v f.weights f.plane i ≡ word_of v ++ types_of v
   parts v s =

@@ -1,7 +1,7 @@
 -- The refinement bits of a block, one after another.
-use Rattle.std.proofs.Common.{◌≡◌, ◌⊎◌, inl, inr, ℕ, zero, suc, ◌+◌, ◌-◌, ◌<◌, ◌≤◌, Bool, true, false, ◌&&◌, ◌||◌, cond, ℤ, pos, List, [], ◌∷◌, ◌++◌, get_or, refl, ap, sym, ◌∙◌, subst, arith, append-nil}
+use Rattle.std.proofs.Common.{◌≡◌, inl, inr, ℕ, zero, suc, ◌+◌, ◌-◌, ◌<◌, ◌≤◌, Bool, true, false, ◌&&◌, ◌||◌, cond, ℤ, pos, List, [], ◌∷◌, ◌++◌, get_or, ap, sym, ◌∙◌, subst, arith, append-nil}
 use Rattle.std.specs.Prelude.{◌==◌, Ok, Err, Some, None, Result, Option, map}
-use Rattle.std.proofs.lemmas.Bool.{cases_eq, cases_lt}
+use Rattle.std.proofs.lemmas.Bool.{cases_lt}
 use Rattle.std.proofs.lemmas.Bool.Decides.{nat_tests}
 use Rattle.std.proofs.lemmas.List.Folds.{list_any-append}
 use Rattle.std.proofs.lemmas.Nat.Bits.{bit_at_above}
@@ -15,7 +15,7 @@ use Rattle.plane_defs.specs.Entries.{negative}
 use Rattle.plane_defs.specs.Steps.{free, bit_at, Step, step, refinement_steps}
 use Rattle.plane_defs.specs.StepLaws.{IsAc}
 use Rattle.plane_texts.specs.Candidates.{IsCandidate}
-use Rattle.plane_texts.specs.Given.{has_bit_in, has_sign_in, tells_bit, tells_sign}
+use Rattle.plane_texts.specs.Given.{has_bit_in, has_sign_in, tells_sign}
 use Rattle.plane_texts.proofs.BlockChoice.{acs_above}
 use Rattle.plane_texts.proofs.StageParts.{map_filter_flat}
 use Rattle.block_masks.specs.declared.gaggle.Gaggle.{Gaggle}
@@ -69,41 +69,7 @@ none_refined f v start (suc n) none =
 
 bit_shows : (done : List Step) (v : List ℤ) (plane p : ℕ) (x : Bool) (told : Entry) (q : ℕ) → bit (magnitude v p) plane ≡ x →
     ((has_bit_in done q && bit (magnitude v q) plane) || (inside p 1 q && x)) ≡ (has_bit_in (done ++ step free (bit_at p) told ∷ []) q && bit (magnitude v q) plane)
-bit_shows done v plane p x told q e =
-    by_place (cases_eq p q) ∙ sym (ap (λ t. t && bit (magnitude v q) plane) (list_any-append (λ s. tells_bit q s.tells) done (step free (bit_at p) told ∷ [])))
-  where
-    same : (a b : Bool) → ((a && b) || (true && b)) ≡ ((a || (true || false)) && b)
-    same true true = refl
-    same true false = refl
-    same false true = refl
-    same false false = refl
-
-    other : (a b c : Bool) → ((a && b) || (false && c)) ≡ ((a || (false || false)) && b)
-    other true true c = refl
-    other true false c = refl
-    other false true c = refl
-    other false false c = refl
-
-    equal_test : (p q : ℕ) → p ≡ q → (p == q) ≡ true
-    equal_test p q e = grind (arith, nat_tests)
-
-    other_test : (p q : ℕ) → (p ≡ q → ⊥) → (p == q) ≡ false
-    other_test p q ne = grind (arith, nat_tests)
-
-    outside : (p q : ℕ) → (p ≡ q → ⊥) → inside p 1 q ≡ false
-    outside p q ne = grind (arith, nat_tests)
-
-    within : (p q : ℕ) → p ≡ q → inside p 1 q ≡ true
-    within p q e = grind (arith, nat_tests)
-
-    by_place : ((p ≡ q) ⊎ (p ≡ q → ⊥)) → ((has_bit_in done q && bit (magnitude v q) plane) || (inside p 1 q && x)) ≡ ((has_bit_in done q || ((p == q) || false)) && bit (magnitude v q) plane)
-    by_place (inl h) =
-        let there : x ≡ bit (magnitude v q) plane = sym e ∙ ap (λ n. bit (magnitude v n) plane) h in
-        ap (λ t. (has_bit_in done q && bit (magnitude v q) plane) || (t && x)) (within p q h) ∙ ap (λ t. (has_bit_in done q && bit (magnitude v q) plane) || (true && t)) there
-        ∙ same (has_bit_in done q) (bit (magnitude v q) plane) ∙ ap (λ t. (has_bit_in done q || (t || false)) && bit (magnitude v q) plane) (sym (equal_test p q h))
-    by_place (inr h) =
-        ap (λ t. (has_bit_in done q && bit (magnitude v q) plane) || (t && x)) (outside p q h) ∙ other (has_bit_in done q) (bit (magnitude v q) plane) x
-        ∙ ap (λ t. (has_bit_in done q || (t || false)) && bit (magnitude v q) plane) (sym (other_test p q h))
+bit_shows done v plane p x told q e = grind (arith, nat_tests, list_any-append)
 
 -- ---- the positions that are left
 
@@ -144,11 +110,7 @@ module _ {f : Frame} {stage : ℕ} {earlier : ℕ → List Step} {done : List St
           sym (append-nil (pieces (refine_item f) 1 p.n v)) ∙ ap (λ l. pieces (refine_item f) 1 p.n v ++ l) (sym (skipped v)) ∙ pieces_both (refine_item f) 1 p.n (n - p.n) v ∙ ap (λ x. pieces (refine_item f) 1 x v) e) p.so_far
         where
           skipped : (v : List ℤ) → pieces (refine_item f) (1 + p.n) (n - p.n) v ≡ []
-          skipped v = none_refined f v (1 + p.n) (n - p.n) (λ q from to.
-              let above : p.n < q = omega (arith, from) in
-              let here : q ≤ n = omega (arith, from, to, low) in
-              let inside : q < 64 = omega (arith, here, high) in
-              sym (next.shown q (omega (arith, above), inside)) ∙ sym (p.kept q above inside) ∙ none q here)
+          skipped v = grind (arith, nat_tests, none_refined)
 
       -- nothing is left
       pub passed_all : left ≡ 0 → FoundPiece k book f stage earlier done (λ v. refinement_steps v f.weights f.plane) Anything (Ok (Some tt)) g g m o a b
@@ -156,13 +118,7 @@ module _ {f : Frame} {stage : ℕ} {earlier : ℕ → List Step} {done : List St
 
       module _ (position : ℕ) (high : position < 64) (here : bit left position ≡ true) (none : (q : ℕ) → q < position → bit left q ≡ false) where
         above : p.n < position
-        above = elim (cases_lt p.n position) [
-          | inl lt ↦ lt
-          | inr le ↦ absurd (never (sym here ∙ p.gone position le))
-        ]
-          where
-            never : true ≡ false → ⊥
-            never e = cc
+        above = grind (arith, nat_tests)
 
         before : SoFar k book f stage earlier done (refine_item f) 1 (position - 1) g g m o a b
         before = skip_to (position - 1) (omega (arith, above)) (omega (arith, high)) (λ q le. none q (omega (arith, le, above)))
@@ -204,8 +160,7 @@ module _ {f : Frame} {stage : ℕ} {earlier : ℕ → List Step} {done : List St
               }
                 where
                   or_none : (t : Bool) → (t || (false || false)) ≡ t
-                  or_none true = refl
-                  or_none false = refl
+                  or_none t = grind (arith, nat_tests)
 
                   no_sign : (p' : ℕ) → (has_sign_in (read_before ++ step free (bit_at position) told ∷ []) p' && negative (get_or v p' (pos 0))) ≡ (has_sign_in read_before p' && negative (get_or v p' (pos 0)))
                   no_sign p' = ap (λ t. t && negative (get_or v p' (pos 0))) (list_any-append (λ s. tells_sign p' s.tells) read_before (step free (bit_at position) told ∷ []) ∙ or_none (has_sign_in read_before p'))

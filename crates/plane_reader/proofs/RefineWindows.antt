@@ -1,15 +1,14 @@
 -- Refinement bits that are read at once, as many as a window has.
-use Rattle.std.proofs.Common.{◌≡◌, inl, inr, ℕ, zero, suc, ◌+◌, ◌-◌, ◌/◌, ◌<◌, ◌≤◌, ◌^◌, Bool, true, false, ◌&&◌, ◌||◌, cond, ℤ, pos, List, [], ◌∷◌, ◌++◌, length, get_or, refl, ap, sym, ◌∙◌, subst, arith, append_assoc}
-use Rattle.std.specs.Prelude.{Ok, Some, map, filter}
-use Rattle.std.proofs.lemmas.Bool.{cases_lt}
+use Rattle.std.proofs.Common.{◌≡◌, ℕ, zero, suc, ◌+◌, ◌-◌, ◌/◌, ◌<◌, ◌≤◌, ◌^◌, Bool, true, false, ◌&&◌, ◌||◌, cond, ℤ, pos, List, [], ◌∷◌, ◌++◌, length, get_or, refl, ap, sym, ◌∙◌, subst, arith, append_assoc}
+use Rattle.std.specs.Prelude.{Ok, Some, filter}
+use Rattle.std.proofs.lemmas.Bool.Decides.{nat_tests}
 use Rattle.item_defs.specs.Bits.{bit}
 use Rattle.item_defs.proofs.NumberBits.{length-bits_of}
 use Rattle.base_122.specs.declared.book.Book.{Book}
-use Rattle.plane_defs.specs.declared.entries.Entry.TheVariants.{Bit}
 use Rattle.plane_defs.specs.Spans.{span}
 use Rattle.plane_defs.specs.Sets.{magnitude, refined}
 use Rattle.plane_defs.specs.Entries.{negative}
-use Rattle.plane_defs.specs.Steps.{free, bit_at, Step, step}
+use Rattle.plane_defs.specs.Steps.{bit_at, Step}
 use Rattle.plane_defs.proofs.SpanLists.{filter-span-suc, filter-span-none}
 use Rattle.plane_texts.specs.Given.{has_bit_in, has_sign_in, tells_bit, tells_sign}
 use Rattle.plane_texts.proofs.StageParts.{map_filter_flat}
@@ -59,10 +58,7 @@ module _ {f : Frame} {stage : ℕ} {earlier : ℕ → List Step} {done : List St
 
   above : p.n < top
   unfolding top
-  above = elim (cases_lt p.n (d.end - 1)) [
-    | inl lt ↦ lt
-    | inr le ↦ absurd (never (sym d.last.1 ∙ p.gone (d.end - 1) le))
-  ]
+  above = grind (arith, nat_tests, never)
 
   high : top ≤ 63
   unfolding top
@@ -76,17 +72,10 @@ module _ {f : Frame} {stage : ℕ} {earlier : ℕ → List Step} {done : List St
   positions = filter (bit left) (span 0 d.end)
 
   positions_are : positions ≡ filter (refined f.block f.weights f.plane) (span (1 + p.n) (top - p.n))
-  positions_are =
-      ap (λ n. filter (bit left) (span 0 n)) end_is
-      ∙ filter_past (bit left) (refined f.block f.weights f.plane) (1 + p.n) (top - p.n) (λ q low. p.gone q (omega (arith, low)))
-      (λ q low less.
-      let inside : q < 64 = omega (arith, less, above, high) in
-      p.kept q (omega (arith, low)) inside ∙ next.shown q (omega (arith, low), inside))
+  positions_are = grind (arith, nat_tests, end_is, filter_past, top, above, high)
 
   steps_are : (v : List ℤ) → steps_at bit_at (plane_bit f) positions v ≡ pieces (refine_item f) (1 + p.n) (top - p.n) v
-  steps_are v =
-      ap (map (λ q. step free (bit_at q) (Bit (plane_bit f v q)))) positions_are
-      ∙ map_filter_flat (λ q. step free (bit_at q) (Bit (plane_bit f v q))) (refined f.block f.weights f.plane) (span (1 + p.n) (top - p.n))
+  steps_are v = grind (arith, nat_tests, positions_are, map_filter_flat, top)
 
   abbrev read_before : List Step
   read_before = done ++ p.so_far.piece.part

@@ -1,7 +1,8 @@
 -- The sets of a block above a plane, as masks, and what its candidates share.
-use Rattle.std.proofs.Common.{◌≡◌, ℕ, ◌+◌, ◌<◌, Bool, true, false, not, ◌&&◌, ◌||◌, cond, ℤ, List, [], ◌∷◌, refl, ap, sym, ◌∙◌, arith}
+use Rattle.std.proofs.Common.{◌≡◌, ℕ, ◌+◌, ◌<◌, Bool, true, false, not, ◌&&◌, ◌||◌, cond, ℤ, List, [], ◌∷◌, refl, ap, sym, arith}
 use Rattle.std.specs.Prelude.{map, filter}
 use Rattle.std.specs.List.{list_any}
+use Rattle.std.proofs.lemmas.Bool.Decides.{nat_tests}
 use Rattle.item_defs.specs.Bits.{bit}
 use Rattle.plane_defs.specs.declared.sets.Set.{Set}
 use Rattle.plane_defs.specs.declared.sets.Set.TheVariants.{Family, Grandchildren, Quad}
@@ -37,22 +38,7 @@ module _ (f : Frame) (v : List ℤ) (c : IsCandidate f.weights f.plane f.q f.dep
 
   -- a set is significant if it was significant above, or if its flag is due and 1
   pub set_now : (s : Set) → IsKnown s → set_significant v f.plane s ≡ (set_significant f.block (f.plane + 1) s || (flag_due v f.weights f.plane s && set_significant v f.plane s))
-  set_now s known = by_due (flag_due v f.weights f.plane s) refl
-    where
-      not_above : flag_due v f.weights f.plane s ≡ true → set_significant f.block (f.plane + 1) s ≡ false
-      not_above e = of_not (set_significant f.block (f.plane + 1) s) (live f.weights f.plane s) (enclosing_significant v f.plane s) (sym (flag_is s known) ∙ e)
-        where
-          of_not : (a b c : Bool) → ((not a && b) && c) ≡ true → a ≡ false
-          of_not true b c e = cc
-          of_not false b c e = refl
-
-      or_false : (t : Bool) → t ≡ (t || false)
-      or_false true = refl
-      or_false false = refl
-
-      by_due : (d : Bool) → flag_due v f.weights f.plane s ≡ d → set_significant v f.plane s ≡ (set_significant f.block (f.plane + 1) s || (d && set_significant v f.plane s))
-      by_due true e = sym (ap (λ t. t || set_significant v f.plane s) (not_above e))
-      by_due false e = undue v f.weights f.plane s known c.multiple e ∙ above_same s known ∙ or_false (set_significant f.block (f.plane + 1) s)
+  set_now s known = grind (arith, nat_tests, flag_is, undue, above_same)
 
 -- ---- flags of sets that are numbered by an index
 
@@ -67,9 +53,7 @@ map_filter_index F S D (x ∷ xs) = one (D (F x)) (map_filter_index F S D xs)
 -- their word is the word of the places that are due
 pub flags_by : (v : List ℤ) (weights : List ℕ) (plane : ℕ) (F : ℕ → Set) (count : ℕ) (due : ℕ → Bool) → ((i : ℕ) → i < count → flag_due v weights plane (F i) ≡ due i) →
     flags v weights plane (map F (span 0 count)) ≡ due_bits due (λ x i. set_significant x plane (F i)) 0 count v
-flags_by v weights plane F count due same =
-    map_filter_index F (set_significant v plane) (flag_due v weights plane) (span 0 count)
-    ∙ ap (map (λ i. set_significant v plane (F i))) (filter_span (λ i. flag_due v weights plane (F i)) due 0 count (λ i low high. same i (omega (arith, high))))
+flags_by v weights plane F count due same = grind (arith, nat_tests, map_filter_index, filter_span)
 
 pub three_families_are : (Family 0 ∷ Family 1 ∷ Family 2 ∷ []) ≡ map Family (span 0 3)
 unfolding span

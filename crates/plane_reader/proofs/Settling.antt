@@ -1,8 +1,9 @@
 -- What waits is put into the first blocks of a segment, one after another.
 use Rattle.std.proofs.Common.{◌≡◌, inl, inr, ℕ, ◌+◌, ◌-◌, ◌*◌, ◌/◌, ◌%◌, ◌<◌, ◌≤◌, ◌^◌, ◌||◌, Bool, true, false, List, length, get_or, set, take, drop, refl, ap, sym, ◌∙◌, subst, arith, ℤ, pos, get_or-set_same, get_or-set_other, length-set}
 use borrow.Rule.Slice.PartMut.{put_mid}
-use Rattle.std.proofs.lemmas.Bool.{cases_lt, cases_eq}
+use Rattle.std.proofs.lemmas.Bool.{cases_eq}
 use Rattle.std.proofs.lemmas.List.{ext_get_or, get_or_past}
+use Rattle.std.proofs.lemmas.Bool.Decides.{nat_tests}
 use Rattle.item_defs.specs.Bits.{bit}
 use Rattle.wave_defs.specs.Held.{block_at}
 use Rattle.plane_defs.specs.Sets.{magnitude}
@@ -78,11 +79,4 @@ module _ {plane r : ℕ} {waiting : List Found} {before now : List ℤ} {above m
 
   -- nothing waits for later blocks
   pub all_settled : length before % 64 ≡ 0 → length waiting ≡ 64 → ((i : ℕ) → 64 * i + 64 ≤ length before → r ≤ i → 64 ≤ i) → now ≡ shown plane waiting before
-  all_settled whole first all = same_blocks now (shown plane waiting before) (so_far.size ∙ sym (shown_long plane waiting before)) (ap (λ n. n % 64) so_far.size ∙ whole) (λ i within.
-      let room : 64 * i + 64 ≤ length before = omega (arith, within, so_far.size) in
-      elim (cases_lt i r) [
-        | inl lt ↦ so_far.put i lt ∙ sym (block_shown plane waiting before i room)
-        | inr le ↦
-            let none : get_or waiting i nothing ≡ nothing = get_or_past waiting i nothing (omega (arith, first, all i room le)) in
-            so_far.left i le ∙ sym (block_shown plane waiting before i room ∙ ap (λ f. shown_block plane f (block_at before i)) none ∙ block_shows_own plane (block_at before i) (long_block before i room))
-      ])
+  all_settled whole first all = grind (arith, nat_tests, same_blocks, shown_long, block_shown, get_or_past, block_shows_own, long_block)

@@ -5,6 +5,7 @@ use Rattle.std.specs.Prelude.{Option, None, Some, Ok}
 use Rattle.std.proofs.lemmas.Nat.{pow_pos, shr-shr, shr_high}
 use Rattle.std.proofs.lemmas.List.{take_at, take-append-drop, take-append-le, length-take-le, append_cancel_left}
 use Rattle.std.proofs.lemmas.List.Elements.{All-take, All-drop}
+use Rattle.std.proofs.lemmas.Bool.Decides.{nat_tests}
 use Rattle.item_defs.specs.Bits.{bits_of, bits_of_octets}
 use Rattle.item_defs.specs.Items.{text}
 use Rattle.item_defs.proofs.NumberBits.{bits_of-mod, bits_of-split, take-bits_of}
@@ -148,10 +149,7 @@ module _ (a b : Coming (Option Tail)) (xs ys : List Bool) (is_in : IsIn a) (p : 
   parted = sym (take-append-drop needed p.octets)
 
   whole_spelled : hand ++ bits_of_octets (drop needed p.octets) ≡ xs ++ (ys ++ b.pending)
-  whole_spelled =
-      append_assoc a.pending (bits_of_octets (take needed p.octets)) (bits_of_octets (drop needed p.octets))
-      ∙ ap (λ r. a.pending ++ r) (sym (octets_append (take needed p.octets) (drop needed p.octets)) ∙ ap bits_of_octets (sym parted))
-      ∙ p.spell ∙ append_assoc xs ys b.pending
+  whole_spelled = grind (arith, nat_tests, append_assoc, octets_append, parted)
 
   first_spelled : hand ≡ xs ++ drop (length xs) hand
   first_spelled =

@@ -4,6 +4,7 @@ use Rattle.std.proofs.Math.ListN.{drop_of_length-le}
 use Rattle.std.proofs.lemmas.Bool.{cases_lt}
 use Rattle.std.proofs.lemmas.List.{ext_get_or, get_or-take, get_or-drop, length-take-le, length-drop, get_or_past, get_or-replicate, length-replicate}
 use Rattle.std.proofs.lemmas.List.FromFn.{get_or-map-range_with_len, length-map-range_with_len}
+use Rattle.std.proofs.lemmas.Bool.Decides.{nat_tests}
 use Rattle.wave_defs.specs.Held.{block_at}
 use Rattle.plane_reader.specs.declared.found.Found.{Found}
 use Rattle.plane_defs.specs.Steps.{Step}
@@ -74,7 +75,4 @@ stands_unkept {f} {k} {earlier} {mark} {block} plane waiting r first whole stand
 
 -- nothing waits at the start
 pub nothing_each : (n r : ℕ) → get_or (replicate n nothing) r nothing ≡ nothing
-nothing_each n r = elim (cases_lt r n) [
-  | inl lt ↦ get_or-replicate n r nothing nothing lt
-  | inr past ↦ get_or_past (replicate n nothing) r nothing (omega (arith, past, length-replicate n nothing))
-]
+nothing_each n r = grind (arith, nat_tests, get_or-replicate, get_or_past, replicate, length-replicate)

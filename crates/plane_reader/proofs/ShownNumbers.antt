@@ -1,6 +1,6 @@
 -- What a number and a block show, with what waits for them.
-use Rattle.std.proofs.Common.{◌≡◌, inl, inr, ℕ, ◌+◌, ◌<◌, ◌≤◌, ◌^◌, Bool, true, false, ◌&&◌, ◌||◌, List, length, get_or, refl, ap, sym, ◌∙◌, subst, arith, ℤ, pos, ◌+ℤ◌}
-use Rattle.std.specs.Prelude.{◌==◌, nat_le, nat_lt, unsigned_abs, if◌then◌else◌}
+use Rattle.std.proofs.Common.{◌≡◌, inl, inr, ℕ, ◌+◌, ◌<◌, ◌≤◌, ◌^◌, Bool, true, false, ◌||◌, List, length, get_or, refl, ap, sym, ◌∙◌, subst, arith, ℤ, pos, ◌+ℤ◌}
+use Rattle.std.specs.Prelude.{◌==◌, nat_le, unsigned_abs, if◌then◌else◌}
 use Rattle.std.proofs.Math.Bool.{or-true, or-false, and-true, and-false}
 use Rattle.std.proofs.lemmas.Bool.{cases_lt}
 use Rattle.std.proofs.lemmas.Bool.Decides.{nat_tests}
@@ -27,18 +27,10 @@ shown_there {f = f} shows p lt = let z : 0 + p ≡ p = omega arith in shows.at p
 
 module _ (plane : ℕ) (found : Found) (p : ℕ) (z : ℤ) where
   pub number_told : 1 ≤ p → bit found.bits p ≡ true → shown_number plane found p z ≡ with_bit plane z (bit found.minus p)
-  number_told first has = ap (λ t. if t && bit found.bits p then with_bit plane z (bit found.minus p) else z) (is_ac p first) ∙ ap (λ t. if t then with_bit plane z (bit found.minus p) else z) has
-    where
-      is_ac : (p : ℕ) → 1 ≤ p → nat_lt 0 p ≡ true
-      is_ac p first = grind (arith, nat_tests)
+  number_told first has = grind (arith, nat_tests)
 
   pub number_stays : bit found.bits p ≡ false → shown_number plane found p z ≡ z
-  number_stays none = by_test (nat_lt 0 p) (bit found.bits p) none
-    where
-      by_test : (a b : Bool) → b ≡ false → (if a && b then with_bit plane z (bit found.minus p) else z) ≡ z
-      by_test true false e = refl
-      by_test false false e = refl
-      by_test a true e = cc
+  number_stays none = grind (arith, nat_tests)
 
 pub none_waits : (p : ℕ) → bit 0 p ≡ false
 none_waits p = ap (λ x. x == 1) (bit_at_above 0 0 p (omega arith) (omega arith))
@@ -112,37 +104,10 @@ applies_more plane found more now block joins = record {
     after p ac = block_number plane now block p ac.1
 
     with_more : (p : ℕ) → IsAc p → bit more.bits p ≡ true → (b : Bool) → bit found.bits p ≡ b → shown_number plane now p (number p) ≡ with_bit plane (shown_number plane found p (number p)) (bit more.minus p)
-    with_more p ac has b e =
-        number_told plane now p (number p) ac.0 (joins.bits p ac.1 ∙ ap (λ t. bit found.bits p || t) has ∙ or-true (bit found.bits p)) ∙
-        ap (with_bit plane (number p)) (joins.minus p ac.1 ∙ ap (λ t. (bit found.minus p && bit found.bits p) || (bit more.minus p && t)) has ∙ ap (λ t. (bit found.minus p && bit found.bits p) || t) (and-true (bit more.minus p))) ∙
-        by_before b e
-      where
-        by_before : (b : Bool) → bit found.bits p ≡ b → with_bit plane (number p) ((bit found.minus p && bit found.bits p) || bit more.minus p) ≡ with_bit plane (shown_number plane found p (number p)) (bit more.minus p)
-        by_before true e =
-            ap (λ t. with_bit plane (number p) ((bit found.minus p && t) || bit more.minus p)) e ∙
-            ap (λ t. with_bit plane (number p) (t || bit more.minus p)) (and-true (bit found.minus p)) ∙
-            sym (bit_twice plane (number p) (bit found.minus p) (bit more.minus p)) ∙
-            ap (λ z. with_bit plane z (bit more.minus p)) (sym (number_told plane found p (number p) ac.0 e))
-        by_before false e =
-            ap (λ t. with_bit plane (number p) ((bit found.minus p && t) || bit more.minus p)) e ∙
-            ap (λ t. with_bit plane (number p) (t || bit more.minus p)) (and-false (bit found.minus p)) ∙
-            ap (λ z. with_bit plane z (bit more.minus p)) (sym (number_stays plane found p (number p) e))
+    with_more p ac has b e = grind (arith, nat_tests, number_told, number, or-true, and-true, bit_twice, and-false, number_stays)
 
     as_before : (p : ℕ) → p < 64 → bit more.bits p ≡ false → shown_number plane now p (number p) ≡ shown_number plane found p (number p)
-    as_before p lt none =
-        ap (λ t. if nat_lt 0 p && t then with_bit plane (number p) (bit now.minus p) else number p) (joins.bits p lt ∙ ap (λ t. bit found.bits p || t) none ∙ or-false (bit found.bits p)) ∙
-        by_before (bit found.bits p) refl
-      where
-        by_before : (b : Bool) → bit found.bits p ≡ b → (if nat_lt 0 p && b then with_bit plane (number p) (bit now.minus p) else number p) ≡ (if nat_lt 0 p && b then with_bit plane (number p) (bit found.minus p) else number p)
-        by_before true e =
-            ap (λ m. if nat_lt 0 p && true then with_bit plane (number p) m else number p)
-            (joins.minus p lt ∙ ap (λ t. (bit found.minus p && bit found.bits p) || (bit more.minus p && t)) none ∙ ap (λ t. (bit found.minus p && bit found.bits p) || t) (and-false (bit more.minus p)) ∙ or-false _ ∙
-            ap (λ t. bit found.minus p && t) e ∙ and-true (bit found.minus p))
-        by_before false e = same (nat_lt 0 p) (with_bit plane (number p) (bit now.minus p)) (with_bit plane (number p) (bit found.minus p)) (number p)
-          where
-            same : (a : Bool) (x y z : ℤ) → (if a && false then x else z) ≡ (if a && false then y else z)
-            same true x y z = refl
-            same false x y z = refl
+    as_before p lt none = grind (arith, nat_tests, number, or-false, and-false, and-true)
 
 -- the DC is given its bit, and what waits still waits
 pub adds_shown : (plane : ℕ) (found : Found) (more : Bool) (before now : List ℤ) → AddsDc plane more before now → AddsDc plane more (shown_block plane found before) (shown_block plane found now)

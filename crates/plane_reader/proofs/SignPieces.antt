@@ -1,18 +1,17 @@
 -- The signs of the positions that became significant, one after another.
-use Rattle.std.proofs.Common.{◌≡◌, ◌⊎◌, inl, inr, ℕ, ◌+◌, ◌<◌, Bool, true, false, ◌&&◌, ◌||◌, cond, ℤ, pos, List, [], ◌∷◌, ◌++◌, get_or, refl, ap, sym, ◌∙◌, subst, arith, append-nil}
-use Rattle.std.specs.Prelude.{◌==◌, Ok, Err, Some, None, Result, Option}
-use Rattle.std.proofs.lemmas.Bool.{cases_eq}
+use Rattle.std.proofs.Common.{◌≡◌, ℕ, ◌+◌, ◌<◌, Bool, true, false, ◌&&◌, ◌||◌, cond, ℤ, pos, List, [], ◌∷◌, ◌++◌, get_or, refl, ap, sym, ◌∙◌, subst, arith, append-nil}
+use Rattle.std.specs.Prelude.{Ok, Err, Some, None, Result, Option}
 use Rattle.std.proofs.lemmas.Bool.Decides.{nat_tests}
 use Rattle.std.proofs.lemmas.List.Folds.{list_any-append}
 use Rattle.item_defs.specs.Bits.{bit}
-use Rattle.item_defs.specs.Readings.{whole, ended, refused}
+use Rattle.item_defs.specs.Readings.{whole}
 use Rattle.base_122.specs.declared.book.Book.{Book}
 use Rattle.plane_defs.specs.declared.entries.Entry.TheVariants.{Bit}
 use Rattle.plane_defs.specs.Spans.{span}
 use Rattle.plane_defs.specs.Sets.{magnitude}
 use Rattle.plane_defs.specs.Entries.{negative}
 use Rattle.plane_defs.specs.Steps.{Check, free, Told, sign_at, Step, step}
-use Rattle.plane_texts.specs.Given.{has_bit_in, has_sign_in, tells_bit, tells_sign}
+use Rattle.plane_texts.specs.Given.{has_bit_in, has_sign_in}
 use Rattle.plane_texts.proofs.StageParts.{map_filter_flat}
 use Rattle.block_masks.specs.declared.gaggle.Gaggle.{Gaggle}
 use Rattle.block_masks.specs.Gaggles.{AreOptions}
@@ -21,7 +20,7 @@ use Rattle.block_masks.proofs.LaneMasks.{shows_same}
 use Rattle.bit_pipe.specs.declared.fault.TextFault.{TextFault}
 use Rattle.bit_pipe.specs.Sources.{SourceOf}
 use Rattle.bit_pipe.specs.Coming.{Coming, IsIn}
-use Rattle.bit_pipe.specs.Reading.{Ending, stopped, failed, IsCut}
+use Rattle.bit_pipe.specs.Reading.{Ending, stopped, IsCut}
 use Rattle.bit_pipe.specs.Answers.{item_answer}
 use Rattle.plane_reader.specs.declared.found.Found.{Found}
 use Rattle.plane_reader.specs.Frames.{Frame, Sends, Leads, sign_steps, SignsNext}
@@ -35,10 +34,7 @@ use Rattle.plane_reader.proofs.IndexPieces.{rest_after, pieces_more, found_as, l
 -- ---- a piece that was not read whole gives no value
 
 pub none_same : {A B : Type 0} (value : A) (other : B) (ending : Ending) → Ok None ≡ item_answer value ending → Ok None ≡ item_answer other ending
-none_same value other (stopped whole) e = absurd cc
-none_same value other (stopped (ended m)) e = refl
-none_same value other (stopped (refused m spelt name)) e = absurd cc
-none_same value other (failed m f) e = absurd cc
+none_same value other ending e = grind (arith, nat_tests)
 
 abbrev pub err : (A : Type 0) → TextFault → Result A TextFault
 err A x = Err x
@@ -47,10 +43,7 @@ pub from_err : {A B : Type 0} {x y : TextFault} → err A x ≡ err A y → err 
 from_err {A} {B} {x} {y} e = let p : x ≡ y = cc in ap (err B) p
 
 pub fault_same : {A B : Type 0} (fault : TextFault) (value : A) (other : B) (ending : Ending) → Err fault ≡ item_answer value ending → Err fault ≡ item_answer other ending
-fault_same fault value other (stopped whole) e = absurd cc
-fault_same fault value other (stopped (ended m)) e = absurd cc
-fault_same fault value other (stopped (refused m spelt name)) e = from_err e
-fault_same fault value other (failed m f) e = from_err e
+fault_same fault value other ending e = grind (arith, nat_tests, from_err)
 
 module _ {I A B : Type 0} {k : SourceOf I} (book : Book) (f : Frame) (stage : ℕ) (earlier : ℕ → List Step) (done : List Step) {next : List ℤ → List Step} {Is : A → List ℤ → Type 0} (Also : B → List ℤ → Type 0) (other : B) {g h : Gaggle} {a b : Coming I} where
   unfoldable pub retyped : {r : Result (Option A) TextFault} {t : Result (Option B) TextFault} (p : Piece k book f stage earlier done next Is r g h a b) → IsCut p.ending → t ≡ item_answer other p.ending → Piece k book f stage earlier done next Also t g h a b
@@ -100,41 +93,7 @@ found_whole {x = x} p = (one_given p.piece.value x p.piece.ending p.piece.answer
 
 sign_shows : (done : List Step) (v : List ℤ) (p : ℕ) (x : Bool) (told : _) (minus q : ℕ) → p < 64 → negative (get_or v p (pos 0)) ≡ x →
     ((has_sign_in done q && negative (get_or v q (pos 0))) || (inside p 1 q && x)) ≡ (has_sign_in (done ++ step free (sign_at p) told ∷ []) q && negative (get_or v q (pos 0)))
-sign_shows done v p x told minus q lt e =
-    by_place (cases_eq p q) ∙ sym (ap (λ t. t && negative (get_or v q (pos 0))) (list_any-append (λ s. tells_sign q s.tells) done (step free (sign_at p) told ∷ [])))
-  where
-    same : (a b : Bool) → ((a && b) || (true && b)) ≡ ((a || (true || false)) && b)
-    same true true = refl
-    same true false = refl
-    same false true = refl
-    same false false = refl
-
-    other : (a b c : Bool) → ((a && b) || (false && c)) ≡ ((a || (false || false)) && b)
-    other true true c = refl
-    other true false c = refl
-    other false true c = refl
-    other false false c = refl
-
-    equal_test : (p q : ℕ) → p ≡ q → (p == q) ≡ true
-    equal_test p q e = grind (arith, nat_tests)
-
-    other_test : (p q : ℕ) → (p ≡ q → ⊥) → (p == q) ≡ false
-    other_test p q ne = grind (arith, nat_tests)
-
-    outside : (p q : ℕ) → (p ≡ q → ⊥) → inside p 1 q ≡ false
-    outside p q ne = grind (arith, nat_tests)
-
-    within : (p q : ℕ) → p ≡ q → inside p 1 q ≡ true
-    within p q e = grind (arith, nat_tests)
-
-    by_place : ((p ≡ q) ⊎ (p ≡ q → ⊥)) → ((has_sign_in done q && negative (get_or v q (pos 0))) || (inside p 1 q && x)) ≡ ((has_sign_in done q || ((p == q) || false)) && negative (get_or v q (pos 0)))
-    by_place (inl h) =
-        let there : x ≡ negative (get_or v q (pos 0)) = sym e ∙ ap (λ n. negative (get_or v n (pos 0))) h in
-        ap (λ t. (has_sign_in done q && negative (get_or v q (pos 0))) || (t && x)) (within p q h) ∙ ap (λ t. (has_sign_in done q && negative (get_or v q (pos 0))) || (true && t)) there
-        ∙ same (has_sign_in done q) (negative (get_or v q (pos 0))) ∙ ap (λ t. (has_sign_in done q || (t || false)) && negative (get_or v q (pos 0))) (sym (equal_test p q h))
-    by_place (inr h) =
-        ap (λ t. (has_sign_in done q && negative (get_or v q (pos 0))) || (t && x)) (outside p q h) ∙ other (has_sign_in done q) (negative (get_or v q (pos 0))) x
-        ∙ ap (λ t. (has_sign_in done q || (t || false)) && negative (get_or v q (pos 0))) (sym (other_test p q h))
+sign_shows done v p x told minus q lt e = grind (arith, nat_tests, list_any-append)
 
 -- ---- a step that was read
 
@@ -228,11 +187,7 @@ module _ {f : Frame} {stage : ℕ} {earlier : ℕ → List Step} {done : List St
           }
             where
               no_bit : (ss : List Step) (z : Bool) (p' : ℕ) → (has_bit_in (ss ++ step free (sign_at (start + n)) told ∷ []) p' && bit (magnitude v p') f.plane) ≡ (has_bit_in ss p' && bit (magnitude v p') f.plane)
-              no_bit ss z p' = ap (λ t. t && bit (magnitude v p') f.plane) (list_any-append (λ s. tells_bit p' s.tells) ss (step free (sign_at (start + n)) told ∷ []) ∙ or_none (has_bit_in ss p'))
-                where
-                  or_none : (t : Bool) → (t || (false || false)) ≡ t
-                  or_none true = refl
-                  or_none false = refl
+              no_bit ss z p' = grind (arith, nat_tests, list_any-append)
 
       pub sign_missing : TakesFlag k (Ok None) b c → FoundPiece k book f stage earlier done (sign_steps new start count) Anything (Ok None) g g m o a c
       sign_missing t =

@@ -31,6 +31,12 @@ use Rattle.plane_reader.proofs.BitPieces.{told_steps, sent_bits, bits_piece, tol
 abbrev minus_at : List ℤ → ℕ → Bool
 minus_at v p = negative (get_or v p (pos 0))
 
+-- the word of a window's first bits, as the last of four bits and at once
+pub top_word : (window due : ℕ) → due ≤ 4 → window / 2 ^ 60 / 2 ^ (4 - due) ≡ window / 2 / 2 ^ (63 - due)
+top_word window due few =
+    let e : 60 + (4 - due) ≡ 1 + (63 - due) = omega (arith, few) in
+    shr-shr window 60 (4 - due) ∙ ap (λ k. window / 2 ^ k) e ∙ sym (shr-shr window 1 (63 - due))
+
 -- the word of a window's first bits
 module _ (window word due : ℕ) (fits : window < 2 ^ 64) (is : word ≡ window / 2 / 2 ^ (63 - due)) (few : due ≤ 4) where
   word_is : word ≡ window / 2 ^ (64 - due)

@@ -3,6 +3,7 @@ use Rattle.std.proofs.Common.{◌≡◌, inl, inr, ℕ, zero, suc, ◌+◌, ◌-
 use Rattle.std.specs.Prelude.{◌==◌, Ok, Err, Some, None}
 use Rattle.std.proofs.lemmas.Bool.{cases_lt}
 use Rattle.std.proofs.lemmas.Nat.Bits.{bit_at_above}
+use Rattle.std.proofs.lemmas.Bool.Decides.{nat_tests}
 use Rattle.item_defs.specs.Bits.{bit}
 use Rattle.base_122.specs.declared.book.Book.{Book}
 use Rattle.plane_defs.specs.Steps.{Step}
@@ -28,10 +29,7 @@ no_bit n count k small le = ap (λ x. x == 1) (bit_at_above n count k small le)
 
 -- a position of a mask of `count` bits
 pub bit_inside : (n count k : ℕ) → n < 2 ^ count → bit n k ≡ true → k < count
-bit_inside n count k small here = elim (cases_lt k count) [
-  | inl lt ↦ lt
-  | inr ge ↦ absurd (never (sym here ∙ no_bit n count k small ge))
-]
+bit_inside n count k small here = grind (arith, nat_tests, never, no_bit)
 
 -- all positions below n were read, and these of the mask are left
 pub record SignsPassed {I : Type 0} (k : SourceOf I) (book : Book) (f : Frame) (stage : ℕ) (earlier : ℕ → List Step) (done : List Step) (new : ℕ → Bool) (start count mask left : ℕ) (g : Gaggle) (m o : Found) (a b : Coming I) : Type 0 where
@@ -72,10 +70,7 @@ module _ {f : Frame} {stage : ℕ} {earlier : ℕ → List Step} {done : List St
 
     module _ (position : ℕ) (high : position < 64) (here : bit left position ≡ true) (none : (q : ℕ) → q < position → bit left q ≡ false) where
       above : p.n ≤ position
-      above = elim (cases_lt position p.n) [
-        | inl lt ↦ absurd (never (sym here ∙ p.gone position lt))
-        | inr le ↦ le
-      ]
+      above = grind (arith, nat_tests, never)
 
       in_mask : bit mask position ≡ true
       in_mask = sym (p.kept position above high) ∙ here

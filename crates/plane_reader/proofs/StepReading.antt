@@ -17,7 +17,7 @@ use Rattle.plane_defs.specs.Spans.{span}
 use Rattle.plane_defs.specs.Codes.{symbol, codes_of, code_at, code_bits, word_item, uncoded}
 use Rattle.plane_defs.specs.Spelled.{option_of, opening}
 use Rattle.plane_defs.specs.Steps.{Check, free, refuses, Step}
-use Rattle.plane_defs.specs.Reading.{entry_reading, step_reading, checked, checked_word, word_of, word_said}
+use Rattle.plane_defs.specs.Reading.{entry_reading, step_reading, checked, checked_word, word_said}
 use Rattle.plane_defs.proofs.ReadingTexts.{entry_text}
 use Rattle.plane_defs.proofs.SpanLists.{length-map-span}
 use Rattle.plane_defs.proofs.StepItems.{word_of-symbol}
@@ -92,10 +92,7 @@ cut_count (stopped (refused m n name)) = m
 cut_count (failed m f) = m
 
 cut_inside : {I : Type 0} (k : SourceOf I) (is : List Item) (ending : Ending) (a b : Coming I) → IsCut ending → EndsReading k is ending a b → cut_count ending < length is
-cut_inside k is (stopped whole) a b cut q = absurd cut
-cut_inside k is (stopped (ended m)) a b cut q = q.0.within
-cut_inside k is (stopped (refused m n name)) a b cut q = q.within
-cut_inside k is (failed m f) a b cut q = q.0.within
+cut_inside k is ending a b cut q = grind (arith, nat_tests)
 
 pub cut_within : {I : Type 0} {k : SourceOf I} {is : List Item} (ending : Ending) {a b : Coming I} → IsCut ending → Reads k is ending a b → cut_count ending < length is
 cut_within {I} {k} {is} ending {a} {b} cut q = cut_inside k is ending a b cut q.ends
@@ -121,18 +118,10 @@ stops_at_first book options sent s ending cut r =
 -- ---- words
 
 word_refuses_none : (book : Book) (n option value m : ℕ) → (word_item book n option value).form.refusal m ≡ None
-word_refuses_none book n option value m = by_option (option == uncoded n)
-  where
-    by_option : (t : Bool) → (cond t (plain n value) (code (codes_of book n option) (symbol n value))).form.refusal m ≡ None
-    by_option true = refl
-    by_option false = refl
+word_refuses_none book n option value m = grind (arith, nat_tests)
 
 word_shape : (book : Book) (n option v w : ℕ) → (word_item book n option v).form.shape ≡ (word_item book n option w).form.shape
-word_shape book n option v w = by_option (option == uncoded n)
-  where
-    by_option : (t : Bool) → (cond t (plain n v) (code (codes_of book n option) (symbol n v))).form.shape ≡ (cond t (plain n w) (code (codes_of book n option) (symbol n w))).form.shape
-    by_option true = refl
-    by_option false = refl
+word_shape book n option v w = grind (arith, nat_tests)
 
 -- the items of a word
 abbrev pub word_items : Book → List ℕ → List Entry → Check → (n value : ℕ) → Bool → Bool → List Item
@@ -186,11 +175,7 @@ word_is_said book n option w low high lt = by_option (option == uncoded n)
     by_option false = let size = length-map-span (λ s. code_bits (code_at book n option s)) (2 ^ n) in omega (arith, size, symbol_below n w low high lt)
 
 word_said_back : (book : Book) (n option w : ℕ) → 2 ≤ n → n ≤ 4 → w < 2 ^ n → word_said n option (word_item book n option w).said ≡ w
-word_said_back book n option w low high lt = by_option (option == uncoded n)
-  where
-    by_option : (t : Bool) → cond t (cond t (plain n w) (code (codes_of book n option) (symbol n w))).said (word_of n (cond t (plain n w) (code (codes_of book n option) (symbol n w))).said) ≡ w
-    by_option true = refl
-    by_option false = word_of-symbol n w low high lt
+word_said_back book n option w low high lt = grind (arith, nat_tests, word_of-symbol)
 
 -- what the item of a word says
 abbrev pub said_in : Book → (n option value : ℕ) → ℕ
@@ -208,8 +193,7 @@ word_refused {I} {k} book options sent check n v w opened {a} {b} some few lt ba
     is = opening options sent n
 
     name_of : (t : Bool) → t ≡ true → cond t (Some false_flag) None ≡ Some false_flag
-    name_of true e = refl
-    name_of false e = no (sym e)
+    name_of t e = grind (arith, nat_tests, no)
 
     one_from : (n : ℕ) → (n == 1) ≡ true → n ≡ 1
     one_from n e = grind (arith, nat_tests)

@@ -3,6 +3,8 @@ use Rattle.std.proofs.Common.{◌≡◌, ℕ, zero, suc, ◌<◌, ◌≤◌, Boo
 use Rattle.std.specs.Prelude.{◌==◌, ◌||◌, filter, nat_lt}
 use Rattle.std.specs.List.{flat_map, list_any, AllByRecursion}
 use Rattle.std.proofs.lemmas.List.Folds.{list_any-append}
+use Rattle.std.proofs.lemmas.Bool.{ltb-true, ne_eqb, and_parts, or_left}
+use Rattle.std.proofs.lemmas.Bool.Decides.{nat_tests}
 use Rattle.item_defs.specs.Bits.{bit}
 use Rattle.plane_defs.specs.declared.sets.Set.TheVariants.{Descendants, Family, Grandchildren, Quad}
 use Rattle.plane_defs.specs.declared.entries.Entry.TheVariants.{Bit}
@@ -13,7 +15,7 @@ use Rattle.plane_defs.specs.Steps.{Check, free, flags_alone, sign_at, bit_at, St
 use Rattle.plane_defs.proofs.Above.{all_span}
 use Rattle.plane_defs.proofs.Alike.{all_filter}
 use Rattle.plane_texts.specs.Given.{tells_bit, tells_sign, has_bit_in, has_sign_in}
-use Rattle.plane_texts.proofs.SmallFacts.{true_false, lt_from, not_equal, both, neither_left, or_left}
+use Rattle.plane_texts.proofs.SmallFacts.{true_false, neither_left}
 use Rattle.plane_reader.specs.Frames.{Frame, Sends}
 
 -- ---- steps that report nothing of the DC
@@ -38,7 +40,7 @@ each_of P each (x ∷ xs) = (each x, each_of P each xs)
 
 not_first : (ps : List ℕ) → AllByRecursion (λ p. 1 ≤ p) ps → list_any (λ q. q == 0) ps ≡ false
 not_first [] all = refl
-not_first (p ∷ ps) all = ap (λ b. b || list_any (λ q. q == 0) ps) (not_equal p 0 (λ e. omega (arith, e, all.0))) ∙ not_first ps all.1
+not_first (p ∷ ps) all = ap (λ b. b || list_any (λ q. q == 0) ps) (ne_eqb p 0 (λ e. omega (arith, e, all.0))) ∙ not_first ps all.1
 
 module _ (v : List ℤ) (weights : List ℕ) (plane : ℕ) where
   no_dc_typed : (check : Check) (start count : ℕ) → 1 ≤ start → no_dc (typed_steps v weights plane check (span start count))
@@ -65,7 +67,7 @@ module _ (v : List ℤ) (weights : List ℕ) (plane : ℕ) where
   no_dc_refinement : no_dc (refinement_steps v weights plane)
   no_dc_refinement =
       no_dc_map (λ p. step free (bit_at p) (Bit (bit (magnitude v p) plane))) (filter (refined v weights plane) (span 1 63))
-      (all_filter (λ p. (p == 0) ≡ false) (refined v weights plane) (span 1 63) (all_span (λ p. (p == 0) ≡ false) 1 63 (λ p low high. not_equal p 0 (λ e. omega (arith, e, low)))))
+      (all_filter (λ p. (p == 0) ≡ false) (refined v weights plane) (span 1 63) (all_span (λ p. (p == 0) ≡ false) 1 63 (λ p low high. ne_eqb p 0 (λ e. omega (arith, e, low)))))
 
   no_dc_sent : (b : Bool) (steps : List Step) → no_dc steps → no_dc (cond b steps [])
   no_dc_sent true steps e = e
@@ -93,12 +95,11 @@ module _ (v : List ℤ) (weights : List ℕ) (plane q : ℕ) where
   sends_dc = coded weights plane 0 && nat_lt plane q
 
   dc_alone : (b : Bool) (p : ℕ) → 1 ≤ p → let steps = cond b (step free (bit_at 0) (Bit (twos_bit (get_or v 0 (pos 0)) plane)) ∷ []) [] in (has_bit_in steps p ≡ false) × (has_sign_in steps p ≡ false)
-  dc_alone true p first = (ap (λ b. b || false) (not_equal 0 p (λ e. omega (arith, e, first))), refl)
+  dc_alone true p first = (ap (λ b. b || false) (ne_eqb 0 p (λ e. omega (arith, e, first))), refl)
   dc_alone false p first = (refl, refl)
 
   dc_below : (b : Bool) → sends_dc ≡ b → has_bit_in (cond b (step free (bit_at 0) (Bit (twos_bit (get_or v 0 (pos 0)) plane)) ∷ []) []) 0 ≡ true → plane < q
-  dc_below true e has = lt_from plane q (both (coded weights plane 0) (nat_lt plane q) e).1
-  dc_below false e has = true_false (sym has)
+  dc_below b e has = grind (arith, nat_tests, ltb-true, and_parts, true_false)
 
 module _ {f : Frame} {earlier : ℕ → List Step} {part : List Step} {v : List ℤ} (s : Sends f 0 earlier part v) where
   steps_are : dc_steps v f.weights f.plane f.q ≡ part ++ s.rest

@@ -1,10 +1,12 @@
 -- A block that has what was reported of it before, and is then given what was found in a stage.
-use Rattle.std.proofs.Common.{◌≡◌, ℕ, zero, suc, ◌+◌, ◌*◌, ◌/◌, ◌%◌, ◌<◌, ◌≤◌, ◌^◌, Bool, true, false, not, ◌&&◌, List, [], ◌++◌, refl, ap, sym, ◌∙◌, subst, arith, ℤ, pos, negsuc, neg_ℤ, ◌+ℤ◌, get_or}
+use Rattle.std.proofs.Common.{◌≡◌, ℕ, ◌+◌, ◌*◌, ◌/◌, ◌%◌, ◌<◌, ◌≤◌, ◌^◌, Bool, true, false, ◌&&◌, List, [], ◌++◌, refl, ap, sym, ◌∙◌, subst, arith, ℤ, pos, neg_ℤ, ◌+ℤ◌, get_or}
 use Rattle.std.specs.Prelude.{◌==◌, ◌||◌, unsigned_abs, if◌then◌else◌}
 use Rattle.std.proofs.Math.Pow.{pow_mono}
 use Rattle.std.proofs.lemmas.Int.{ints}
 use Rattle.std.proofs.lemmas.List.Folds.{list_any-append}
 use Rattle.std.proofs.lemmas.Nat.{pow_pos, div-mul-add}
+use Rattle.std.proofs.lemmas.Bool.{and_parts}
+use Rattle.std.proofs.lemmas.Bool.Decides.{nat_tests}
 use Rattle.item_defs.specs.Bits.{bit}
 use Rattle.plane_defs.specs.Sets.{magnitude}
 use Rattle.plane_defs.specs.Entries.{negative, twos_bit}
@@ -12,7 +14,7 @@ use Rattle.plane_defs.specs.Steps.{Step}
 use Rattle.plane_defs.specs.StepLaws.{IsAc}
 use Rattle.plane_defs.proofs.SpanLists.{flat_map-span-none}
 use Rattle.plane_texts.specs.Given.{tells_bit, tells_sign, has_bit_in, has_sign_in, told_number, Tells}
-use Rattle.plane_texts.proofs.SmallFacts.{true_false, both}
+use Rattle.plane_texts.proofs.SmallFacts.{true_false}
 use Rattle.plane_reader.specs.declared.found.Found.{Found}
 use Rattle.plane_reader.specs.Frames.{Frame, Sends}
 use Rattle.plane_reader.specs.Stages.{told_before}
@@ -30,17 +32,13 @@ abbrev signed : Bool → ℕ → ℤ
 signed b n = if b then neg_ℤ (pos n) else pos n
 
 or_more : (a b c : Bool) → ((a || b) || c) ≡ (a || (b || c))
-or_more true b c = refl
-or_more false b c = refl
+or_more a b c = grind (arith, nat_tests)
 
 below_zero : (n : ℕ) → 0 < n → negative (neg_ℤ (pos n)) ≡ true
-below_zero zero some = absurd (omega (arith, some))
-below_zero (suc n) some = refl
+below_zero n some = grind (arith, nat_tests)
 
 told_sign : (plane : ℕ) (z : ℤ) (t s : Bool) → (s ≡ true → t ≡ true) → negative (told_number plane z t s) ≡ (negative z || s)
-told_sign plane (pos n) t true h = below_zero (n + weight plane t) (let e = ap (weight plane) (h refl) in omega (arith, e, pow_pos plane))
-told_sign plane (pos n) t false h = refl
-told_sign plane (negsuc n) t s h = below_zero (suc n + weight plane t) (omega arith)
+told_sign plane z t s h = grind (arith, nat_tests, below_zero, weight, pow_pos)
 
 module _ (plane : ℕ) (z : ℤ) (cleared : IsCleared plane z) where
   halves : unsigned_abs z ≡ (2 ^ plane + 2 ^ plane) * cleared.part
@@ -61,30 +59,15 @@ module _ (plane : ℕ) (z : ℤ) (cleared : IsCleared plane z) where
       even k = omega arith
 
   told_twice : (t s minus : Bool) → (s ≡ true → t ≡ true) → with_bit plane (told_number plane z t s) minus ≡ told_number plane z (t || true) (s || minus)
-  told_twice t s minus h =
-      ap (λ n. signed (negative x || minus) (n + weight plane (not (bit n plane)))) (abs_told plane z t s) ∙
-      ap (λ b. signed (negative x || minus) (unsigned_abs z + weight plane t + weight plane (not b))) (told_bit t) ∙
-      ap (signed (negative x || minus)) (size t) ∙
-      ap (λ b. signed b (unsigned_abs z + weight plane (t || true))) (ap (λ b. b || minus) (told_sign plane z t s h) ∙ or_more (negative z) s minus)
-    where
-      x : ℤ
-      x = told_number plane z t s
-
-      size : (t : Bool) → unsigned_abs z + weight plane t + weight plane (not t) ≡ unsigned_abs z + weight plane (t || true)
-      size true = omega arith
-      size false = omega arith
+  told_twice t s minus h = grind (arith, nat_tests, weight, abs_told, told_bit, told_sign, or_more)
 
 -- ---- what two lists of steps report
 
 or_false : (a : Bool) → (a || false) ≡ a
-or_false true = refl
-or_false false = refl
+or_false a = grind (arith, nat_tests)
 
 shared : (a b c : Bool) → ((a || b) && c) ≡ ((a && c) || (b && c))
-shared true b true = refl
-shared true true false = refl
-shared true false false = refl
-shared false b c = refl
+shared a b c = grind (arith, nat_tests)
 
 bits_joined : (ss ts : List Step) (p : ℕ) (b : Bool) → (has_bit_in (ss ++ ts) p && b) ≡ ((has_bit_in ss p && b) || (has_bit_in ts p && b))
 bits_joined ss ts p b = ap (λ a. a && b) (list_any-append (λ s. tells_bit p s.tells) ss ts) ∙ shared (has_bit_in ss p) (has_bit_in ts p) b
@@ -120,13 +103,13 @@ module _ {f : Frame} {stage : ℕ} {earlier : ℕ → List Step} {part : List St
       omega (arith, size, most, bits, awaits.below p ac.0, weight_below f.plane (had p))
 
   sign_had : (p : ℕ) → had_sign p ≡ true → had p ≡ true
-  sign_had p e = sign_with_bit f.plane v before (covered_before sends) p (both (has_sign_in before p) (negative (get_or v p (pos 0))) e).0
+  sign_had p e = sign_with_bit f.plane v before (covered_before sends) p (and_parts (has_sign_in before p) (negative (get_or v p (pos 0))) e).0
 
   sign_new : (p : ℕ) → new p ≡ false → new_sign p ≡ false
   sign_new p none = by_sign (new_sign p) refl
     where
       by_sign : (b : Bool) → new_sign p ≡ b → new_sign p ≡ false
-      by_sign true e = true_false (sym (sign_with_bit f.plane v part (covered_part sends) p (both (has_sign_in part p) (negative (get_or v p (pos 0))) e).0) ∙ none)
+      by_sign true e = true_false (sym (sign_with_bit f.plane v part (covered_part sends) p (and_parts (has_sign_in part p) (negative (get_or v p (pos 0))) e).0) ∙ none)
       by_sign false e = e
 
   shown : (p : ℕ) → IsAc p → bit found.bits p ≡ new p
@@ -179,7 +162,7 @@ module _ {f : Frame} {earlier : ℕ → List Step} {part : List Step} {v x y : L
 
   dc_now : (b : Bool) → more ≡ b → get_or y 0 (pos 0) ≡ get_or f.block 0 (pos 0) +ℤ pos (if b then 2 ^ f.plane else 0)
   dc_now true e =
-      let has = both (has_bit_in part 0) (twos_bit (get_or v 0 (pos 0)) f.plane) (sym is ∙ e) in
+      let has = and_parts (has_bit_in part 0) (twos_bit (get_or v 0 (pos 0)) f.plane) (sym is ∙ e) in
       adds.added e (subst (IsCleared f.plane) (sym dc_same) (awaits.dc (dc_part_below sends has.0))) ∙ ap (λ z. z +ℤ pos (2 ^ f.plane)) dc_same
   dc_now false e = adds.kept e ∙ dc_same ∙ sym (add_nothing (get_or f.block 0 (pos 0)))
 

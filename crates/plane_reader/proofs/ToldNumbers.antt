@@ -1,5 +1,5 @@
 -- A number that has no bit of a plane or below it, and then that bit or none.
-use Rattle.std.proofs.Common.{◌≡◌, ℕ, zero, suc, ◌+◌, ◌*◌, ◌<◌, ◌≤◌, ◌^◌, Bool, true, false, refl, ap, ◌∙◌, arith, ℤ, pos, neg_ℤ}
+use Rattle.std.proofs.Common.{◌≡◌, ℕ, zero, suc, ◌+◌, ◌*◌, ◌<◌, ◌≤◌, ◌^◌, Bool, true, false, ap, ◌∙◌, arith, ℤ, pos, neg_ℤ}
 use Rattle.std.specs.Prelude.{◌||◌, nat_le, unsigned_abs, if◌then◌else◌}
 use Rattle.std.proofs.lemmas.Bool.Decides.{nat_tests}
 use Rattle.std.proofs.lemmas.Nat.{pow_pos}
@@ -13,9 +13,7 @@ abbrev pub weight : (plane : ℕ) → Bool → ℕ
 weight plane more = if more then 2 ^ plane else 0
 
 abs_signed : (n : ℕ) (minus : Bool) → unsigned_abs (if minus then neg_ℤ (pos n) else pos n) ≡ n
-abs_signed zero true = refl
-abs_signed (suc n) true = refl
-abs_signed n false = refl
+abs_signed n minus = grind (arith, nat_tests)
 
 pub abs_told : (plane : ℕ) (z : ℤ) (more minus : Bool) → unsigned_abs (told_number plane z more minus) ≡ unsigned_abs z + weight plane more
 abs_told plane z more minus = abs_signed (unsigned_abs z + weight plane more) (negative z || minus)
@@ -25,8 +23,7 @@ pow_more plane = let e : plane + 1 ≡ suc plane = omega arith in let p = pow-su
 
 -- the bit is below the lowest that the number can have
 pub weight_below : (plane : ℕ) (more : Bool) → weight plane more < 2 ^ (plane + 1)
-weight_below plane true = omega (arith, pow_more plane, pow_pos plane)
-weight_below plane false = omega (arith, pow_more plane, pow_pos plane)
+weight_below plane more = grind (arith, nat_tests, pow_more, pow_pos)
 
 le_true : (a b : ℕ) → a ≤ b → nat_le a b ≡ true
 le_true a b le = grind (arith, nat_tests)
@@ -48,25 +45,11 @@ least m (suc k) n e lt = absurd (omega (arith, e, lt))
 module _ (plane : ℕ) (z : ℤ) (cleared : IsCleared plane z) where
   -- nothing above the plane is changed by the bit
   pub reach_above : (more : Bool) → nat_le (2 ^ (plane + 1)) (unsigned_abs z + weight plane more) ≡ nat_le (2 ^ (plane + 1)) (unsigned_abs z)
-  reach_above more = by_test (nat_le (2 ^ (plane + 1)) (unsigned_abs z)) refl
-    where
-      by_test : (t : Bool) → nat_le (2 ^ (plane + 1)) (unsigned_abs z) ≡ t → nat_le (2 ^ (plane + 1)) (unsigned_abs z + weight plane more) ≡ t
-      by_test true e = le_true _ _ (omega (arith, from_le_true _ _ e))
-      by_test false e =
-          let lt = from_le_false _ _ e in
-          let none = least (2 ^ (plane + 1)) cleared.part (unsigned_abs z) cleared.whole lt in
-          le_false _ _ (omega (arith, none, weight_below plane more))
+  reach_above more = grind (arith, nat_tests, le_true, from_le_true, from_le_false, least, le_false, weight_below)
 
   -- a number that did not reach the plane above reaches the plane exactly if it has the bit
   pub reach_here : nat_le (2 ^ (plane + 1)) (unsigned_abs z) ≡ false → (more : Bool) → nat_le (2 ^ plane) (unsigned_abs z + weight plane more) ≡ more
-  reach_here below more = by_bit more
-    where
-      none : unsigned_abs z ≡ 0
-      none = least (2 ^ (plane + 1)) cleared.part (unsigned_abs z) cleared.whole (from_le_false _ _ below)
-
-      by_bit : (more : Bool) → nat_le (2 ^ plane) (unsigned_abs z + weight plane more) ≡ more
-      by_bit true = le_true _ _ (omega arith)
-      by_bit false = le_false _ _ (omega (arith, none, pow_pos plane))
+  reach_here below more = grind (arith, nat_tests, least, from_le_false, le_true, le_false, pow_pos)
 
 -- a number that reached the plane above reaches the plane
 pub reach_still : (plane : ℕ) (z : ℤ) → nat_le (2 ^ (plane + 1)) (unsigned_abs z) ≡ true → (more : Bool) → nat_le (2 ^ plane) (unsigned_abs z + weight plane more) ≡ true

@@ -2,6 +2,10 @@
 use Rattle.std.proofs.Common.{◌≡◌, ℕ, ◌+◌, Bool, true, false, ◌&&◌, not, cond, List, [], ◌∷◌, ◌++◌, map, refl, ap, sym, ◌∙◌, subst, arith, ℤ, pos, get_or}
 use Rattle.std.specs.Prelude.{◌==◌, ◌||◌, filter, nat_lt}
 use Rattle.std.specs.List.{flat_map, list_any, AllByRecursion}
+use Rattle.std.proofs.lemmas.Bool.{eqb-true, and_parts, or_left, or_right}
+use Rattle.std.proofs.lemmas.Bool.Decides.{nat_tests}
+use Rattle.plane_defs.proofs.Seen.{passed}
+use Rattle.plane_defs.proofs.Chosen.{equal_self}
 use Rattle.item_defs.specs.Bits.{bit}
 use Rattle.plane_defs.specs.declared.sets.Set.TheVariants.{Descendants, Family, Grandchildren, Quad}
 use Rattle.plane_defs.specs.declared.stages.Stage.{Stage}
@@ -13,7 +17,7 @@ use Rattle.plane_defs.specs.Entries.{negative, twos_bit, flags, significant_fami
 use Rattle.plane_defs.specs.Steps.{Check, free, flags_alone, sign_at, bit_at, Step, step, some_one_where, is_new, typed_steps, dc_steps, children_check, children_steps, quads_steps, grandchildren_steps, refinement_steps, block_steps}
 use Rattle.plane_defs.proofs.Above.{all_span, all_zip}
 use Rattle.plane_texts.specs.Given.{tells_bit, tells_sign, has_bit_in, has_sign_in}
-use Rattle.plane_texts.proofs.SmallFacts.{true_false, equal_from, itself, both, or_left, or_right, passed}
+use Rattle.plane_texts.proofs.SmallFacts.{true_false}
 use Rattle.block_masks.proofs.Viewing.{reached_is}
 use Rattle.plane_reader.specs.Frames.{Frame, Sends}
 use Rattle.plane_reader.specs.Stages.{told_before}
@@ -32,8 +36,7 @@ module _ (plane : ℕ) (v : List ℤ) where
   nothing p = false
 
   more_or : (a b c : Bool) → (a ≡ true → b ≡ true) → (a || c) ≡ true → (b || c) ≡ true
-  more_or true b c f e = or_left b c (f refl)
-  more_or false b c f e = or_right b c e
+  more_or a b c f e = grind (arith, nat_tests, or_left, or_right)
 
   -- more may have been reported
   widen : (f g : ℕ → Bool) → ((p : ℕ) → f p ≡ true → g p ≡ true) → (steps : List Step) → IsCovered f steps → IsCovered g steps
@@ -72,7 +75,7 @@ module _ (plane : ℕ) (v : List ℤ) where
   covered_signs : (f : ℕ → Bool) (ps : List ℕ) → AllByRecursion (λ p. f p ≡ true) ps → IsCovered f (map sign_step ps)
   covered_signs f [] all = tt
   covered_signs f (q ∷ ps) all = (
-    λ p e. ap f (sym (equal_from q p e)) ∙ all.0,
+    λ p e. ap f (sym (eqb-true q p e)) ∙ all.0,
     covered_signs (λ p. f p || gives (sign_step q) p) ps (all_zip ps (λ p e. or_left (f p) (gives (sign_step q) p) e) all.1),
   )
 
@@ -81,13 +84,12 @@ module _ (plane : ℕ) (v : List ℤ) where
     new_is : (p : ℕ) → newly_significant v weights plane p ≡ true → (type_due v weights plane p ≡ true) × (bit (magnitude v p) plane ≡ true)
     unfolding newly_significant type_due
     new_is p e =
-        let r = both (not (significant v (plane + 1) p) && coded weights plane p) (significant v plane p) e in
-        let above = both (not (significant v (plane + 1) p)) (coded weights plane p) r.0 in
+        let r = and_parts (not (significant v (plane + 1) p) && coded weights plane p) (significant v plane p) e in
+        let above = and_parts (not (significant v (plane + 1) p)) (coded weights plane p) r.0 in
         (r.0, only_below (significant v (plane + 1) p) (bit (magnitude v p) plane) above.0 (reached_is v plane p ∙ r.1))
       where
         only_below : (a b : Bool) → not a ≡ true → (a || b) ≡ true → b ≡ true
-        only_below true b e f = absurd cc
-        only_below false b e f = f
+        only_below a b e f = grind (arith, nat_tests)
 
     abbrev pub due_among : List ℕ → ℕ → Bool
     due_among ps p = list_any (λ q. q == p) (filter (type_due v weights plane) ps)
@@ -98,12 +100,10 @@ module _ (plane : ℕ) (v : List ℤ) where
     new_among (q ∷ ps) = by_test (newly_significant v weights plane q) refl (new_among ps)
       where
         keeps : (b : Bool) (p : ℕ) → due_among ps p ≡ true → list_any (λ r. r == p) (cond b (q ∷ filter (type_due v weights plane) ps) (filter (type_due v weights plane) ps)) ≡ true
-        keeps true p e = or_right (q == p) (due_among ps p) e
-        keeps false p e = e
+        keeps b p e = grind (arith, nat_tests, or_right)
 
         first : (b : Bool) → b ≡ true → list_any (λ r. r == q) (cond b (q ∷ filter (type_due v weights plane) ps) (filter (type_due v weights plane) ps)) ≡ true
-        first true e = or_left (q == q) (due_among ps q) (itself q)
-        first false e = true_false (sym e)
+        first b e = grind (arith, nat_tests, or_left, equal_self, true_false)
 
         by_test : (b : Bool) → newly_significant v weights plane q ≡ b → AllByRecursion (λ p. due_among ps p ≡ true) (filter (newly_significant v weights plane) ps) →
             AllByRecursion (λ p. due_among (q ∷ ps) p ≡ true) (cond b (q ∷ filter (newly_significant v weights plane) ps) (filter (newly_significant v weights plane) ps))
@@ -118,8 +118,7 @@ module _ (plane : ℕ) (v : List ℤ) where
     )
       where
         and_true : (a b : Bool) → a ≡ true → b ≡ true → (false || (a && b)) ≡ true
-        and_true true b e f = f
-        and_true false b e f = e
+        and_true a b e f = grind (arith, nat_tests)
 
         all_both : (qs : List ℕ) → AllByRecursion (λ p. due_among ps p ≡ true) qs → AllByRecursion (λ p. newly_significant v weights plane p ≡ true) qs →
             AllByRecursion (λ p. (false || (due_among ps p && bit (magnitude v p) plane)) ≡ true) qs

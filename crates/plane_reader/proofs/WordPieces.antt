@@ -12,10 +12,10 @@ use Rattle.item_defs.specs.Readings.{whole, refused}
 use Rattle.item_defs.proofs.NumberBits.{value_below}
 use Rattle.base_122.specs.declared.book.Book.{Book}
 use Rattle.plane_defs.specs.declared.entries.Entry.{Entry}
-use Rattle.plane_defs.specs.Entries.{stage_number, word}
-use Rattle.plane_defs.specs.Spelled.{is_word_of, option_of, opening}
+use Rattle.plane_defs.specs.Entries.{word}
+use Rattle.plane_defs.specs.Spelled.{is_word_of, option_of}
 use Rattle.plane_defs.specs.Steps.{Check, free, refuses, Told, Step, step}
-use Rattle.plane_defs.specs.StepLaws.{value_of_entry, IsAllowed}
+use Rattle.plane_defs.specs.StepLaws.{IsAllowed}
 use Rattle.plane_defs.proofs.Allowed.{block_is_allowed}
 use Rattle.plane_defs.specs.Reading.{entry_reading}
 use Rattle.block_masks.specs.declared.gaggle.Gaggle.{Gaggle}
@@ -42,16 +42,7 @@ word_count g n = cond (n == 0) 0 (cond (n == 1) 1 (opened_count g n + 1))
 
 word_length : (book : Book) (options : List ℕ) (sent : List Entry) (check : Check) (g : Gaggle) (n value : ℕ) → n ≤ 4 → Agrees g.sent sent → length (entry_reading book options sent check (word_with n value)) ≡ word_count g n
 unfolding word_count
-word_length book options sent check g n value few agrees = ap length (items_are book options sent check n value) ∙ by_tests (n == 0) (n == 1) refl refl
-  where
-    more : (n : ℕ) → (n == 0) ≡ false → (n == 1) ≡ false → 2 ≤ n
-    more n e f = grind (arith, nat_tests)
-
-    by_tests : (none one : Bool) → (n == 0) ≡ none → (n == 1) ≡ one → length (word_items book options sent check n value none one) ≡ cond none 0 (cond one 1 (opened_count g n + 1))
-    by_tests true one e f = refl
-    by_tests false true e f = refl
-    by_tests false false e f =
-        length-append (opening options sent n) (_ ∷ []) ∙ ap (λ m. m + 1) (opening_count g n (more n e f) few sent options agrees)
+word_length book options sent check g n value few agrees = grind (arith, nat_tests, items_are, word_items, opened_count, length-append, opening_count)
 
 module _ (f : Frame) (stage : ℕ) (earlier : ℕ → List Step) (done : List Step) (check : Check) (tells : Told) (start count mask : ℕ) (due : ℕ → Bool) (so : List ℤ → ℕ → Bool) (after : List ℤ → List Step)
     (next : WordNext f stage earlier done check tells start count mask due so after) where
@@ -79,9 +70,7 @@ module _ (f : Frame) (stage : ℕ) (earlier : ℕ → List Step) (done : List St
 
   -- a block's own word is not refused
   word_allowed : (v : List ℤ) → Sends f stage earlier done v → refuses check (value_of (due_bits due so start count v)) ≡ false
-  word_allowed v s =
-      let all = subst (AllByRecursion IsAllowed) (next.leads.at v s) (block_is_allowed (stage_number stage) v f.depth f.weights f.plane f.q s.candidate.multiple) in
-      (all_right done (step check tells (entry v) ∷ after v) all).0
+  word_allowed v s = grind (arith, nat_tests, block_is_allowed, all_right)
 
   abbrev Next : {I A : Type 0} → SourceOf I → Book → (A → List ℤ → Type 0) → Result (Option A) TextFault → Gaggle → Gaggle → Coming I → Coming I → Type 0
   Next k book Is r g h a b = OneStep k book f stage earlier done (λ v. step check tells (entry v) ∷ []) check tells Is r g h a b
@@ -110,10 +99,7 @@ module _ (f : Frame) (stage : ℕ) (earlier : ℕ → List Step) (done : List St
         few = few_ones_of
 
         value_from : (v : List ℤ) → entry v ≡ word_with n t.value → value_of (due_bits due so start count v) ≡ t.value
-        value_from v same = word_value (sym (as_word v) ∙ same)
-          where
-            word_value : {m x y : ℕ} → word_with m x ≡ word_with m y → x ≡ y
-            word_value e = ap value_of_entry e
+        value_from v same = grind (arith, nat_tests, as_word)
 
         possible : Possible f stage earlier (done ++ step check tells (word_with n t.value) ∷ [])
         possible = elim (cases_eq n 0) [

@@ -1,5 +1,5 @@
 -- A word read, with the identifier of its option.
-use Rattle.std.proofs.Common.{◌≡◌, ℕ, zero, suc, ◌+◌, ◌-◌, ◌<◌, ◌≤◌, ◌^◌, inl, inr, Bool, true, false, cond, List, [], ◌∷◌, ◌++◌, length, get_or, set, refl, ap, sym, ◌∙◌, subst, arith}
+use Rattle.std.proofs.Common.{◌≡◌, ℕ, zero, suc, ◌+◌, ◌-◌, ◌<◌, ◌≤◌, ◌^◌, inl, inr, true, false, cond, List, [], ◌∷◌, ◌++◌, length, get_or, set, refl, ap, sym, ◌∙◌, subst, arith}
 use Rattle.std.specs.Prelude.{◌==◌, None, Some, Ok, Err}
 use Rattle.std.proofs.lemmas.Bool.{cases_eq}
 use Rattle.std.proofs.lemmas.Bool.Decides.{nat_tests}
@@ -15,7 +15,7 @@ use Rattle.bit_pipe.specs.Answers.{IsBelow, TakesOne, item_answer}
 use Rattle.bit_pipe.proofs.ItemReading.{reads_then, reads_cut}
 use Rattle.base_122.specs.declared.book.Book.{Book}
 use Rattle.plane_defs.specs.declared.entries.Entry.{Entry}
-use Rattle.plane_defs.specs.Codes.{option_item, word_item, uncoded}
+use Rattle.plane_defs.specs.Codes.{option_item, word_item}
 use Rattle.plane_defs.specs.Spelled.{option_of, opening}
 use Rattle.plane_defs.specs.Steps.{free}
 use Rattle.plane_defs.specs.Reading.{entry_reading, checked_word}
@@ -78,13 +78,7 @@ in_one : {I : Type 0} {k : SourceOf I} {Is : ℕ → Type 0} {item : ℕ → Ite
 in_one {k = k} {item = item} {a = a} {b = b} i t e = in_later i (subst (λ x. Reads k (item t.value ∷ []) x a b) e t.read).ends
 
 pub whole_before : (n : ℕ) (ending : Ending) → later_by n ending ≡ stopped whole → ending ≡ stopped whole
-whole_before n (stopped whole) e = refl
-whole_before n (stopped (ended m)) e = absurd (no_stop e)
-  where
-    no_stop : stopped (ended (n + m)) ≡ stopped whole → ⊥
-    no_stop e = absurd (subst IsCut e tt)
-whole_before n (stopped (refused m spelt name)) e = absurd (subst IsCut e tt)
-whole_before n (failed m f) e = absurd (subst IsCut e tt)
+whole_before n ending e = grind (arith, nat_tests)
 
 module _ {I : Type 0} {k : SourceOf I} (book : Book) (g : Gaggle) (known : AreOptions g.options) where
   -- an empty word is nothing
@@ -123,10 +117,7 @@ options_set : (options : List ℕ) (n value : ℕ) → length options ≡ 3 → 
 options_set options n value three low high fits known = record { two = each 2 (omega arith) (omega arith) known.two; three = each 3 (omega arith) (omega arith) known.three; four = each 4 (omega arith) (omega arith) known.four }
   where
     each : (m : ℕ) → 2 ≤ m → m ≤ 4 → get_or options (m - 2) 0 < m → get_or (set options (n - 2) value) (m - 2) 0 < m
-    each m l h before = elim (cases_eq m n) [
-      | inl e ↦ rw (e, get_or-set_same options (n - 2) value 0 (omega arith)) fits
-      | inr apart ↦ rw (get_or-set_other options (n - 2) (m - 2) value 0 (λ e. apart (omega (arith, e, l, low)))) before
-    ]
+    each m l h before = grind (arith, nat_tests, get_or-set_same, get_or-set_other)
 
 abbrev pub with_option : Gaggle → (n value : ℕ) → Gaggle
 with_option g n value = record { options = set g.options (n - 2) value; sent = set g.sent (n - 2) true }
@@ -209,47 +200,22 @@ word_form_same : (book : Book) (n option value : ℕ) → (word_item book n opti
 word_form_same book n option value = refl
 
 word_refuses_none : (book : Book) (n option value m : ℕ) → (word_item book n option value).form.refusal m ≡ None
-word_refuses_none book n option value m = by_option (option == uncoded n)
-  where
-    by_option : (t : Bool) → (cond t (Rattle.item_defs.specs.Items.plain n value) (Rattle.item_defs.specs.Items.code (Rattle.plane_defs.specs.Codes.codes_of book n option) (Rattle.plane_defs.specs.Codes.symbol n value))).form.refusal m ≡ None
-    by_option true = refl
-    by_option false = refl
+word_refuses_none book n option value m = grind (arith, nat_tests)
 
 coded_items : (book : Book) (options : List ℕ) (sent : List Entry) (n value : ℕ) → 2 ≤ n →
     entry_reading book options sent free (word_with n value) ≡ opening options sent n ++ checked_word book n (option_of options n) value free ∷ []
 unfolding entry_reading
-coded_items book options sent n value low = by_tests (n == 0) (n == 1) (none n 0 (omega arith)) (none n 1 (omega arith))
-  where
-    none : (n m : ℕ) → m < n → (n == m) ≡ false
-    none n m lt = grind (arith, nat_tests)
-
-    by_tests : (s t : Bool) → s ≡ false → t ≡ false →
-        cond s [] (cond t (Rattle.plane_defs.specs.Reading.checked (Rattle.plane_defs.specs.Steps.refuses free) (raw value) ∷ []) (opening options sent n ++ checked_word book n (option_of options n) value free ∷ [])) ≡
-        opening options sent n ++ checked_word book n (option_of options n) value free ∷ []
-    by_tests true t e f = absurd (no e) where
-      no : true ≡ false → ⊥
-      no e = cc
-    by_tests false true e f = absurd (no f) where
-      no : true ≡ false → ⊥
-      no e = cc
-    by_tests false false e f = refl
+coded_items book options sent n value low = grind (arith, nat_tests)
 
 -- how many items open a word of this length
 abbrev pub opened_count : Gaggle → ℕ → ℕ
 opened_count g n = cond (get_or g.sent (n - 2) false) 0 1
 
 pub opening_count : (g : Gaggle) (n : ℕ) → 2 ≤ n → n ≤ 4 → (sent : List Entry) (options : List ℕ) → Agrees g.sent sent → length (opening options sent n) ≡ opened_count g n
-opening_count g n low high sent options agrees = sym (ap (λ t. length (cond t [] (option_item n (option_of options n) ∷ []))) (agrees.at n low high)) ∙ by_test (get_or g.sent (n - 2) false)
-  where
-    by_test : (t : Bool) → length (cond t [] (option_item n (option_of options n) ∷ [])) ≡ cond t 0 1
-    by_test true = refl
-    by_test false = refl
+opening_count g n low high sent options agrees = grind (arith, nat_tests)
 
 pub answer_later : {A : Type 0} (value : A) (n : ℕ) (ending : Ending) → item_answer value (later_by n ending) ≡ item_answer value ending
-answer_later value n (stopped whole) = refl
-answer_later value n (stopped (ended m)) = refl
-answer_later value n (stopped (refused m spelt name)) = refl
-answer_later value n (failed m e) = refl
+answer_later value n ending = grind (arith, nat_tests)
 
 module _ {I : Type 0} {k : SourceOf I} (book : Book) (n : ℕ) (low : 2 ≤ n) (high : n ≤ 4) (g h : Gaggle) where
   -- the option is missing, or refused
@@ -294,10 +260,7 @@ pub option_fits : (options : List ℕ) (n : ℕ) → AreOptions options → 2 �
 option_fits options n known low high = option_known options n known low high
 
 pub same_cut : {A : Type 0} (x y : A) (ending : Ending) → IsCut ending → item_answer x ending ≡ item_answer y ending
-same_cut x y (stopped whole) cut = absurd cut
-same_cut x y (stopped (ended m)) cut = refl
-same_cut x y (stopped (refused m spelt name)) cut = refl
-same_cut x y (failed m f) cut = refl
+same_cut x y ending cut = grind (arith, nat_tests)
 
 -- how one item's reading ended, by its answer
 pub one_given : {A : Type 0} (value v : A) (ending : Ending) → Ok (Some v) ≡ item_answer value ending → (ending ≡ stopped whole) × (v ≡ value)

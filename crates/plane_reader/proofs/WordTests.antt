@@ -1,6 +1,6 @@
 -- What the check of a word refuses, by the places of its bits.
 use Rattle.std.proofs.Common.{◌≡◌, ℕ, ◌+◌, ◌-◌, ◌*◌, ◌<◌, ◌≤◌, ◌^◌, Bool, true, false, not, nat_eq, ◌&&◌, cond, ℤ, List, [], ◌∷◌, ◌++◌, length, refl, ap, sym, ◌∙◌, subst, arith}
-use Rattle.std.specs.Prelude.{◌==◌, ◌||◌, Ok, Err, Some, None, Result, Option, map, filter}
+use Rattle.std.specs.Prelude.{◌||◌, Ok, Err, Some, None, Result, Option, map, filter}
 use Rattle.std.specs.List.{list_any}
 use Rattle.std.proofs.lemmas.Nat.{pow_pos}
 use Rattle.std.proofs.lemmas.Bool.Decides.{nat_tests}
@@ -67,26 +67,15 @@ module _ {I : Type 0} {k : SourceOf I} {book : Book} {mask : ℕ} {r : Result (O
   no_places e = sym (d.back due start count few shown) ∙ none_value (map places_bit (filter due (span start count))) (sym there ∙ ap (λ n. not (nat_eq n 0)) e)
 
   pub no_value : d.word.value ≡ 0 → d.places ≡ 0
-  no_value e = from_test d.places (there ∙ value_none (map places_bit (filter due (span start count))) (d.back due start count few shown ∙ e))
-    where
-      from_test : (n : ℕ) → not (nat_eq n 0) ≡ false → n ≡ 0
-      from_test n e = grind arith
+  no_value e = grind (arith, nat_tests, there, value_none, nat_eq)
 
 -- ---- flags of which at least one must be 1
 
 some_refuses : (wanted : Bool) (value : ℕ) → (wanted ≡ true → value ≡ 0 → ⊥) → refuses (some_one_where wanted) value ≡ false
-some_refuses false value none = refl
-some_refuses true value none = not_zero value (none refl)
-  where
-    not_zero : (n : ℕ) → (n ≡ 0 → ⊥) → (n == 0) ≡ false
-    not_zero n ne = grind (arith, nat_tests)
+some_refuses wanted value none = grind (arith, nat_tests)
 
 some_bad : (wanted : Bool) (value : ℕ) → wanted ≡ true → value ≡ 0 → refuses (some_one_where wanted) value ≡ true
-some_bad true value e z = is_zero value z
-  where
-    is_zero : (n : ℕ) → n ≡ 0 → (n == 0) ≡ true
-    is_zero n e = grind (arith, nat_tests)
-some_bad false value e z = cc
+some_bad wanted value e z = grind (arith, nat_tests)
 
 module _ {I : Type 0} {k : SourceOf I} {book : Book} {mask : ℕ} {g h : Gaggle} {a b : Coming I} {f : Frame} {stage : ℕ} {earlier : ℕ → List Step} {done : List Step} {check : Check} {tells : Told} {start count : ℕ} {due : ℕ → Bool} {so : List ℤ → ℕ → Bool} {after : List ℤ → List Step}
     (next : WordNext f stage earlier done check tells start count mask due so after) where
@@ -140,15 +129,10 @@ lacks_any a b [] = refl
 lacks_any a b (y ∷ ys) = ap (λ t. (a y && not (b y)) || t) (lacks_any a b ys)
 
 any_same : (f g : ℕ → Bool) → ((p : ℕ) → f p ≡ g p) → (xs : List ℕ) → list_any f xs ≡ list_any g xs
-any_same f g same [] = refl
-any_same f g same (x ∷ xs) = ap (λ t. t || list_any f xs) (same x) ∙ ap (λ t. g x || t) (any_same f g same xs)
+any_same f g same xs = grind (arith, nat_tests)
 
 beside_as : (g h w : Bool) → (g && (w && not h)) ≡ (not (g && h) && (g && w))
-beside_as true true true = refl
-beside_as true true false = refl
-beside_as true false true = refl
-beside_as true false false = refl
-beside_as false h w = refl
+beside_as g h w = grind (arith, nat_tests)
 
 module _ {I : Type 0} {k : SourceOf I} {book : Book} {mask : ℕ} {g h : Gaggle} {a b : Coming I} {f : Frame} {stage : ℕ} {earlier : ℕ → List Step} {done : List Step} {tells : Told} {start count : ℕ} {due : ℕ → Bool} {so : List ℤ → ℕ → Bool} {after : List ℤ → List Step} (forced : ℕ → Bool)
     (next : WordNext f stage earlier done (wanted_ones due forced start count) tells start count mask due so after) (places : ℕ) (d : TakesDue k book mask (Ok (Some places)) g h a b) where
@@ -165,9 +149,7 @@ module _ {I : Type 0} {k : SourceOf I} {book : Book} {mask : ℕ} {g h : Gaggle}
   beside_places p = not (due p && here p) && (due p && forced p)
 
   pub wanted_test : refuses (wanted_ones due forced start count) d.word.value ≡ list_any beside_places (span start count)
-  wanted_test =
-      ap (lacks_one (map forced (filter due (span start count)))) word_bits ∙ lacks_any forced here (filter due (span start count)) ∙ any_filter (λ p. forced p && not (here p)) due (span start count)
-      ∙ any_same (λ p. due p && (forced p && not (here p))) beside_places (λ p. beside_as (due p) (here p) (forced p)) (span start count)
+  wanted_test = grind (arith, nat_tests, word_bits, lacks_any, any_filter, any_same, beside_as)
 
   pub shown_here : Shows places (λ p. due p && here p) start count
   shown_here = subst (λ m. Shows m (λ p. due p && here p) start count) (sym (one_given d.places places d.word.ending d.answer).1) (d.shown here due start count next.few next.shown (d.back due start count next.few next.shown))

@@ -7,7 +7,8 @@ ghost use Rattle.bit_pipe.specs.Windows.{first_of};
 ghost use Rattle.plane_defs.specs.Steps.{Step};
 ghost use Rattle.block_masks.specs.Gaggles.{AreOptions};
 ghost use Rattle.plane_reader.specs.Frames.{Frame, group_steps, GroupsNext};
-ghost use Rattle.plane_reader.specs.Groups.{GroupsPassed};
+ghost use Rattle.plane_reader.specs.Groups.{Covers, GroupsPassed};
+ghost use Rattle.block_masks.specs.Masks.{Shows};
 ghost use Rattle.plane_reader.specs.Pieces.{FoundPiece, Anything, OnSome};
 ghost use Rattle.plane_reader.specs.Shadows.{told};
 ghost use Rattle.plane_reader.specs.declared.found.Found.{Found as FoundValue};
@@ -17,7 +18,7 @@ use crate::found::Found;
 use crate::types::{Group, take_types};
 use crate::window::types_in;
 use bit_pipe::{BitIn, OctetIn, TextFault};
-use block_masks::{Gaggle, first_in, has, part, split_lowest, without};
+use block_masks::{Gaggle, both, either, first_in, fours_of, has, part, split_lowest, without};
 use word_codes::WordTables;
 
 // Groups of four positions from `first` on: the groups whose types are sent, and those in which at least one type must be 1.
@@ -55,11 +56,11 @@ fn groups_in(
     ensures few { result.left < 2 ^ groups.count }
     ensures fewer { result.left ≤ left }
     ensures short { result.len ≤ 56 }
-    ensures read { (f : Frame) (stage : ℕ) (earlier : ℕ → List Step) (done : List Step) (now wanted : ℕ → Bool) (after : List ℤ → List Step) (g : GaggleValue) (m : FoundValue) (a b c : Coming (Option Tail)) →
-        GroupsNext f stage earlier done groups.first groups.count now wanted due groups.now groups.wanted after →
-        GroupsPassed told tables.now.book f stage earlier done groups.first groups.count now wanted groups.now left g gaggle.now m found a b → IsIn b →
+    ensures read { (f : Frame) (stage : ℕ) (earlier : ℕ → List Step) (done : List Step) (now wanted : ℕ → Bool) (after : List ℤ → List Step) (mask : ℕ) (g : GaggleValue) (m : FoundValue) (a b c : Coming (Option Tail)) →
+        GroupsNext f stage earlier done groups.first groups.count now wanted due groups.now groups.wanted after → Covers groups.first groups.count now wanted due mask →
+        GroupsPassed told tables.now.book f stage earlier done groups.first groups.count now wanted mask left g gaggle.now m found a b → IsIn b →
         Takes told b c (first_of result.len window) →
-        GroupsPassed told tables.now.book f stage earlier done groups.first groups.count now wanted groups.now result.left g gaggle.now m result.found a c }
+        GroupsPassed told tables.now.book f stage earlier done groups.first groups.count now wanted mask result.left g gaggle.now m result.found a c }
 {
     let mut read = Read {
         left,
@@ -100,12 +101,15 @@ fn take_from_window<I: OctetIn>(
     requires few { left < 2 ^ groups.count }
     ensures few { result < 2 ^ groups.count }
     ensures fewer { result ≤ left }
-    ensures passed { (f : Frame) (stage : ℕ) (earlier : ℕ → List Step) (done : List Step) (now wanted : ℕ → Bool) (after : List ℤ → List Step) (g : GaggleValue) (m : FoundValue) (a : Coming I) →
-        GroupsNext f stage earlier done groups.first groups.count now wanted due groups.now groups.wanted after →
-        GroupsPassed I.source tables.now.book f stage earlier done groups.first groups.count now wanted groups.now left g gaggle.now m found.old a (coming input.old) →
-        GroupsPassed I.source tables.now.book f stage earlier done groups.first groups.count now wanted groups.now result g gaggle.now m found.new a (coming input.new) }
+    ensures passed { (f : Frame) (stage : ℕ) (earlier : ℕ → List Step) (done : List Step) (now wanted : ℕ → Bool) (after : List ℤ → List Step) (mask : ℕ) (g : GaggleValue) (m : FoundValue) (a : Coming I) →
+        GroupsNext f stage earlier done groups.first groups.count now wanted due groups.now groups.wanted after → Covers groups.first groups.count now wanted due mask →
+        GroupsPassed I.source tables.now.book f stage earlier done groups.first groups.count now wanted mask left g gaggle.now m found.old a (coming input.old) →
+        GroupsPassed I.source tables.now.book f stage earlier done groups.first groups.count now wanted mask result g gaggle.now m found.new a (coming input.new) }
     ensures is_in { IsIn (coming input.new) }
 {
+    if left == 0 {
+        return left;
+    }
     let Some(window) = input.window() else {
         return left;
     };
@@ -113,6 +117,19 @@ fn take_from_window<I: OctetIn>(
     input.take_window(window, read.len);
     *found = read.found;
     read.left
+}
+
+// Returns the groups that have bits: those of which a type is due, and those that must have a type of 1.
+#[inline(always)]
+fn groups_with_bits(due: u64, groups: Groups) -> u64
+    requires first { groups.first < 64 }
+    requires count { groups.count ≤ 4 }
+    requires few { groups.now < 2 ^ groups.count }
+    ensures few { result < 2 ^ groups.count }
+    ensures covers { (now wanted : ℕ → Bool) → Shows groups.now now 0 groups.count → Shows groups.wanted wanted 0 groups.count → Covers groups.first groups.count now wanted due result }
+{
+    let some_due = fours_of(due, groups.first);
+    both(groups.now, either(some_due, groups.wanted))
 }
 
 // Reads the types of these groups, of which these are due, and their signs: as many at once as a window has.
@@ -126,6 +143,8 @@ pub(crate) fn take_groups<I: OctetIn>(
 ) -> Result<Option<()>, TextFault>
     requires open { IsIn (coming input.old) }
     requires known { AreOptions gaggle.old.options }
+    requires first { groups.first < 64 }
+    requires count { groups.count ≤ 4 }
     requires within { groups.first + 4 * groups.count ≤ 64 }
     requires few { groups.now < 2 ^ groups.count }
     ensures groups { (f : Frame) (stage : ℕ) (earlier : ℕ → List Step) (done : List Step) (now wanted : ℕ → Bool) (after : List ℤ → List Step) →
@@ -135,7 +154,8 @@ pub(crate) fn take_groups<I: OctetIn>(
     ensures options { AreOptions gaggle.new.options }
     ensures is_in { OnSome result (IsIn (coming input.new)) }
 {
-    let mut left = take_from_window(input, tables, gaggle, found, due, groups, groups.now);
+    let sent = groups_with_bits(due, groups);
+    let mut left = take_from_window(input, tables, gaggle, found, due, groups, sent);
     while left != 0 {
         let j = first_in(left);
         let group = Group {

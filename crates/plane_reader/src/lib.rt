@@ -5,7 +5,8 @@
 //! parts of a stage, `groups` and `types` read flags, types and signs, and `word` reads the words of a gaggle. `found` collects what they
 //! give. For the first blocks of a segment this waits (`waiting`) till the plane's end; then `apply` puts it into the block. `above` holds
 //! what is significant above the plane, and `block_masks` keeps in a block's state what lasts from one stage to the next. If the octets are
-//! in memory, groups and refinement bits are read from one window of their bits (`hand`), otherwise one after another.
+//! in memory, groups and refinement bits are read from one window of their bits (`window`), otherwise one after another. Groups and parents of
+//! which no type is due have no bits, and are passed without a look at the text, except a group in which a type must be 1.
 #![tactic(auto)]
 
 mod above;

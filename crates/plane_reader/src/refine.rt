@@ -11,10 +11,10 @@ ghost use Rattle.plane_reader.specs.Frames.{Frame};
 ghost use Rattle.plane_reader.specs.Pieces.{Piece, FoundPiece, Anything, OnSome};
 ghost use Rattle.plane_reader.specs.Refining.{IsFront, Deals, RefinementNext, DcBitNext, IsDcBit};
 
-use crate::found::Found;
-use crate::word::take_flag;
+use crate::found::{Found, placed};
+use crate::word::{count_of, take_flag};
 use bit_pipe::{BitIn, OctetIn, TextFault};
-use block_masks::{CodedPlane, either, except, first_in, has, masked, one, split_lowest, without};
+use block_masks::{CodedPlane, either, except, first_in, has, one, part, spread_first, without};
 
 // Returns those of a mask's positions that a window surely has bits for: all, or those among the first 56 if there are more than 56.
 #[inline(always)]
@@ -39,7 +39,8 @@ struct Dealt {
     count: u8,
 }
 
-// Deals the bits of a window out to the positions of a mask that it has bits for, the first bit to the first position.
+// Deals the bits of a window out to the positions of a mask that it has bits for, the first bit to the first position. A table has
+// what four positions get, so there is no branch.
 #[inline(always)]
 fn deal(mask: u64, window: u64) -> Dealt
     requires some { 0 < mask }
@@ -47,13 +48,13 @@ fn deal(mask: u64, window: u64) -> Dealt
 {
     let here = served(mask);
     let mut bits = 0;
-    let mut left = here;
     let mut rest = window;
-    while left != 0 {
-        let parts = split_lowest(left);
-        bits = either(bits, masked(parts.first, has(rest, 63)));
-        left = parts.others;
-        rest <<= 1;
+    for k in 0..16 {
+        let start = 4 * k;
+        let due = part(here, start, 4);
+        let places = spread_first(due, (rest >> 60) as u8);
+        bits = either(bits, placed(places, start));
+        rest <<= count_of(due);
     }
     Dealt {
         bits,

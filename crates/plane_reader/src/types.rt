@@ -195,6 +195,9 @@ pub(crate) fn take_types<I: OctetIn>(
     ensures is_in { OnSome result (IsIn (coming input.new)) }
 {
     let here = part(due, group.start, group.count);
+    if here == 0 && !group.is_wanted {
+        return Ok(Some(()));
+    }
     if let Some(window) = input.window() {
         if let Some(types) = types_in(tables, gaggle, here, group.is_wanted, window) {
             input.take_window(window, types.len);

@@ -4,6 +4,7 @@ use Rattle.std.specs.Prelude.{ℤ, pos, negsuc, unsigned_abs}
 use Rattle.std.specs.List.{range_with_len}
 use Rattle.std.proofs.lemmas.List.{get_or-take, get_or-drop, get_or_default}
 use Rattle.std.proofs.lemmas.List.FromFn.{map-range_with_len_more, fill_by_all}
+use Rattle.std.proofs.lemmas.Bool.Decides.{nat_tests}
 use Rattle.segment_defs.specs.Size.{size_of, greatest}
 use Rattle.wave_defs.specs.Held.{block_at, blocks_in}
 use Rattle.segment_defs.specs.Depths.{dc_of, block_depth, block_depths, signed_size}
@@ -53,10 +54,7 @@ dc_within cells r bounded lt =
     small z (inr least) = rw (least.1) (let s = size_of-least (2 ^ 27 - 1) 27 (omega arith) in omega (arith, s))
 
 ac_cell : (cells : List ℤ) (r j : ℕ) → AreBounded cells → 64 * r + 64 ≤ length cells → 1 ≤ j → j < 64 → size_of (unsigned_abs (get_or cells (64 * r + j) (pos 0))) ≤ 27
-ac_cell cells r j bounded le low high = elim (bounded.at (64 * r + j) (omega arith)) [
-  | inl below ↦ size_of-least (unsigned_abs (get_or cells (64 * r + j) (pos 0))) 27 below
-  | inr least ↦ absurd (omega (arith, least.0))
-]
+ac_cell cells r j bounded le low high = grind (arith, nat_tests, size_of-least)
 
 pub ac_within : (cells : List ℤ) (r : ℕ) → AreBounded cells → 64 * r + 64 ≤ length cells → block_depth (block_at cells r) ≤ 27
 ac_within cells r bounded le = greatest-within (λ z. size_of (unsigned_abs z)) 27 (drop 1 (block_at cells r)) each

@@ -1,5 +1,5 @@
 -- A coded text holds values: all items are read, or those before the cut.
-use Rattle.std.proofs.Common.{◌≡◌, ℕ, ◌+◌, ◌-◌, ◌*◌, ◌/◌, ◌<◌, ◌≤◌, inl, inr, max, Bool, true, false, cond, List, ◌++◌, length, take, drop, refl, ap, sym, ◌∙◌, subst, arith, ℤ, get_or, length-append, append_assoc}
+use Rattle.std.proofs.Common.{◌≡◌, ℕ, ◌+◌, ◌-◌, ◌*◌, ◌/◌, ◌<◌, ◌≤◌, inl, inr, Bool, true, false, cond, List, ◌++◌, length, take, drop, refl, ap, sym, ◌∙◌, subst, arith, ℤ, get_or, length-append, append_assoc}
 use Rattle.std.specs.Prelude.{◌==◌}
 use Rattle.std.proofs.lemmas.Bool.{cases_lt, cases_Bool}
 use Rattle.std.proofs.lemmas.Bool.Decides.{nat_tests}
@@ -30,18 +30,10 @@ use Rattle.segment_code.proofs.TextOctets.{IsLimit, take-octets_of, padded_withi
 -- ---- lengths
 
 pub whole_octets : (word limit used : ℕ) (fill : Bool) → padded_length word limit fill used ≡ 8 * (padded_length word limit fill used / 8)
-whole_octets word limit used fill =
-    let q = (used + (8 * word - 1)) / (8 * word) in
-    let e : q * (8 * word) ≡ 8 * (q * word) = grind arith in
-    by_fill fill (q * word) e
-  where
-    by_fill : (fill : Bool) (k : ℕ) → rounded (8 * word) used ≡ 8 * k → max (rounded (8 * word) used) (cond fill (8 * limit) 0) ≡ 8 * (max (rounded (8 * word) used) (cond fill (8 * limit) 0) / 8)
-    by_fill true k e = omega (arith, e)
-    by_fill false k e = omega (arith, e)
+whole_octets word limit used fill = grind (arith, nat_tests)
 
 head_most : (last : Bool) → cond last 20 19 ≤ 20
-head_most true = omega arith
-head_most false = omega arith
+head_most last = grind (arith, nat_tests)
 
 module _ (book : Book) (h : SegmentHead) (blocks : List (List ℤ)) (ok : IsHead h) (ten : length h.image.weights.shifts ≡ 10) where
   abbrev items : List Item
@@ -84,10 +76,7 @@ module _ (book : Book) (h : SegmentHead) (blocks : List (List ℤ)) (ok : IsHead
 
   rest_unlimited : h.limit ≡ 0 → drop (head_length h) (coded book h blocks) ≡ octets_of after
   unfolding coded text_octets
-  rest_unlimited none =
-      let there : (h.limit == 0) ≡ true = grind (arith, nat_tests) in
-      ap (λ b. drop (head_length h) (cond b (octets_of (padded h.image.word h.limit h.fill (coded_bits book h blocks))) (take h.limit (octets_of (padded h.image.word h.limit h.fill (coded_bits book h blocks)))))) there
-      ∙ ap (drop (head_length h)) parts ∙ drop_at (octets_of (head_bits h)) (octets_of after) (head_length h) head_octets
+  rest_unlimited none = grind (arith, nat_tests, parts, drop_at, head_octets)
 
   -- ---- a limit
 

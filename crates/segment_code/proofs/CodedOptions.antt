@@ -1,5 +1,5 @@
 -- The options that a writer chooses exist, and no block depth is above the head's.
-use Rattle.std.proofs.Common.{◌≡◌, ℕ, zero, suc, ◌<◌, ◌≤◌, max, Bool, true, false, List, [], ◌∷◌, refl, arith, ℤ, get_or}
+use Rattle.std.proofs.Common.{◌≡◌, ℕ, zero, suc, ◌<◌, ◌≤◌, max, Bool, true, List, [], ◌∷◌, refl, arith, ℤ, get_or}
 use Rattle.std.specs.Prelude.{map, filter, nat_le, fold, ◌||◌, not}
 use Rattle.std.specs.List.{list_all, AllByRecursion}
 use Rattle.std.proofs.lemmas.Bool.Decides.{nat_tests}
@@ -9,8 +9,8 @@ use Rattle.number_defs.proofs.Chosen.{heuristic_is, optimal_is}
 use Rattle.plane_defs.specs.Codes.{is_book_sound}
 use Rattle.plane_defs.specs.Spans.{span}
 use Rattle.base_122.specs.declared.book.Book.{Book}
-use Rattle.plane_defs.specs.Choice.{is_cheapest, cheapest, symbol_counts}
-use Rattle.plane_defs.specs.Planes.{Plane, counted, chosen}
+use Rattle.plane_defs.specs.Choice.{is_cheapest, cheapest}
+use Rattle.plane_defs.specs.Planes.{Plane, chosen}
 use Rattle.plane_defs.specs.Spelled.{option_of}
 use Rattle.plane_defs.proofs.Alike.{all_filter}
 use Rattle.plane_defs.proofs.Above.{all_span}
@@ -37,12 +37,7 @@ cheapest_below book n counts some =
     (all_filter (λ k. k < n) (is_cheapest book n counts) (span 0 n) (all_span (λ k. k < n) 0 n (λ k low high. omega arith)))
 
 chosen_below : (book : Book) (p : Plane) (g n : ℕ) → 2 ≤ n → n ≤ 4 → option_of (chosen book p g) n < n
-chosen_below book p g zero low high = absurd (omega arith)
-chosen_below book p g (suc zero) low high = absurd (omega arith)
-chosen_below book p g (suc (suc zero)) low high = cheapest_below book 2 (symbol_counts 2 (counted p g)) (omega arith)
-chosen_below book p g (suc (suc (suc zero))) low high = cheapest_below book 3 (symbol_counts 3 (counted p g)) (omega arith)
-chosen_below book p g (suc (suc (suc (suc zero)))) low high = cheapest_below book 4 (symbol_counts 4 (counted p g)) (omega arith)
-chosen_below book p g (suc (suc (suc (suc (suc n))))) low high = absurd (omega arith)
+chosen_below book p g n low high = grind (arith, nat_tests, cheapest_below)
 
 pub words_are : (book : Book) → is_book_sound book ≡ true → (head : SegmentHead) (blocks : List (List ℤ)) → AreWordOptions (chosen_options book head blocks)
 words_are book sound head blocks = record { sound = sound; at = λ b g n low high. chosen_below book (plane_at head blocks (block_depths blocks) b) g n low high }
@@ -50,8 +45,7 @@ words_are book sound head blocks = record { sound = sound; at = λ b g n low hig
 -- ---- numbers
 
 choice_is : (best : Bool) (N : ℕ) (values : List ℕ) → 2 ≤ N → is_option N (choice_of best N values) ≡ true
-choice_is true N values two = optimal_is N values two
-choice_is false N values two = heuristic_is N values
+choice_is best N values two = grind (arith, nat_tests, optimal_is, heuristic_is)
 
 deep_bits : list_all (λ d. not (nat_le 2 d) || nat_le 2 (depth_bits d)) (span 0 28) ≡ true
 unfolding span

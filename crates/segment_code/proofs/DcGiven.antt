@@ -1,15 +1,13 @@
 -- Blocks of which a text gives only the DC.
-use Rattle.std.proofs.Common.{◌≡◌, ℕ, zero, suc, ◌+◌, ◌-◌, ◌*◌, ◌/◌, ◌%◌, ◌^◌, ◌<◌, ◌≤◌, Bool, true, false, cond, List, [], ◌∷◌, length, map, eqb, refl, ap, ◌∙◌, arith, ℤ, pos, get_or, length-append}
-use Rattle.std.specs.Prelude.{◌&&◌, ◌||◌, ◌==◌, neg_ℤ, ◌+ℤ◌, ◌*ℤ◌, nat_lt, nat_le}
+use Rattle.std.proofs.Common.{◌≡◌, ℕ, zero, suc, ◌+◌, ◌-◌, ◌*◌, ◌/◌, ◌%◌, ◌^◌, ◌<◌, ◌≤◌, Bool, true, false, cond, List, [], ◌∷◌, length, map, refl, ap, ◌∙◌, arith, ℤ, pos, get_or, length-append}
+use Rattle.std.specs.Prelude.{◌&&◌, ◌||◌, ◌==◌, neg_ℤ, ◌+ℤ◌, ◌*ℤ◌, nat_le}
 use Rattle.std.specs.Int.{int_shr}
 use Rattle.std.proofs.lemmas.Bool.Decides.{nat_tests}
 use Rattle.std.proofs.lemmas.List.{length-map, get_or-map}
 use Rattle.std.proofs.Math.Nat.{zero-div}
 use Rattle.item_defs.specs.Bits.{bit}
-use Rattle.number_defs.specs.Ranges.{shifted_height, complement}
-use Rattle.number_defs.specs.Gaggles.{number_items}
-use Rattle.number_defs.specs.Given.{numbers_through}
-use Rattle.number_defs.specs.DcPart.{dc_bits, dc_kind, dc_bit, dc_planes, high_items, planes_before, dc_items}
+use Rattle.number_defs.specs.Ranges.{complement}
+use Rattle.number_defs.specs.DcPart.{dc_items}
 use Rattle.plane_texts.proofs.LowBits.{left_over}
 use Rattle.plane_defs.specs.Spans.{span}
 use Rattle.plane_defs.specs.Sets.{magnitude}
@@ -19,7 +17,7 @@ use Rattle.segment_defs.specs.declared.head.SegmentHead.{SegmentHead}
 use Rattle.segment_defs.specs.Depths.{dc_of, dcs_of}
 use Rattle.segment_defs.specs.SegmentItems.{Options, dc_shift, q_of, dc_part_items}
 use Rattle.text_defs.specs.Spellable.{block_of}
-use Rattle.text_defs.specs.Given.{dc_through, high_count, is_dc_bit_given, has_bit, has_sign, given_magnitude, given_ac, given_low, given_dc}
+use Rattle.text_defs.specs.Given.{dc_through, is_dc_bit_given, has_bit, has_sign, given_magnitude, given_ac, given_low, given_dc}
 use Rattle.text_defs.proofs.GivenAlike.{sum_alike}
 use Rattle.text_defs.proofs.BitSums.{low_bit, sum_low, parts_whole}
 use Rattle.text_defs.proofs.DcTold.{dc_long}
@@ -41,8 +39,7 @@ zeros_at (x ∷ xs) zero = refl
 zeros_at (x ∷ xs) (suc i) = zeros_at xs i
 
 pub ac_zero : (z : ℤ) (p : ℕ) → 1 ≤ p → get_or (dc_block z) p (pos 0) ≡ pos 0
-ac_zero z zero first = absurd (omega arith)
-ac_zero z (suc i) first = zeros_at (span 1 63) i
+ac_zero z p first = grind (arith, nat_tests, zeros_at)
 
 pub dc_block_long : (z : ℤ) → length (dc_block z) ≡ 64
 dc_block_long z = omega (arith, length-map (span 1 63) (λ i. pos 0), span_long 1 63)
@@ -60,12 +57,10 @@ pub no_bit : (n b : ℕ) → n ≡ 0 → bit n b ≡ false
 no_bit n b e = ap (λ k. k / 2 ^ b % 2 == 1) e ∙ ap (λ k. k % 2 == 1) (zero-div (2 ^ b))
 
 pub none_at : (h c : Bool) (w : ℕ) → c ≡ false → cond (h && c) w 0 ≡ 0
-none_at true c w e = ap (λ t. cond t w 0) e
-none_at false c w e = refl
+none_at h c w e = grind (arith, nat_tests)
 
 pub zero_either : (t : Bool) (n : ℕ) → n ≡ 0 → cond t (neg_ℤ (pos n)) (pos n) ≡ pos 0
-zero_either true n e = ap (λ k. neg_ℤ (pos k)) e
-zero_either false n e = ap pos e
+zero_either t n e = grind (arith, nat_tests)
 
 module _ (head : SegmentHead) (values : List (List ℤ)) (depths : List ℕ) (options : Options) (m r : ℕ) where
   -- a number that is 0
@@ -91,37 +86,17 @@ module _ (head : SegmentHead) (values : List (List ℤ)) (depths : List ℕ) (op
       ∙ ap (λ n. (int_shr z (q_of head) *ℤ pos (2 ^ q_of head)) +ℤ pos n) low ∙ parts_whole z (q_of head)
 
   pub dc_none : m < dc_through head values options r → given_dc head values depths options m r ≡ pos 0
-  dc_none past =
-      let there : nat_le (dc_through head values options r) m ≡ false = grind (arith, nat_tests) in
-      ap (λ t. cond t ((int_shr (dc_of (block_of values r)) (q_of head) *ℤ pos (2 ^ q_of head)) +ℤ pos (given_low head values depths options m r)) (pos 0)) there
+  dc_none past = grind (arith, nat_tests)
 
 pub either_given : (a b c : Bool) → (a ≡ false → c ≡ false) → c ≡ true → (a || b) ≡ true
-either_given true b c f e = refl
-either_given false b c f e = absurd (let z = f refl in cc)
+either_given a b c f e = grind (arith, nat_tests)
 
 -- the number of each DC is in the DC part
 pub through_within : (head : SegmentHead) (values : List (List ℤ)) (options : Options) (r : ℕ) → r < length values → dc_through head values options r ≤ length (dc_part_items head values options)
 unfolding dc_items
-through_within head values options r lt =
-    let N : ℕ = dc_bits head.depth_dc head.depth_ac (dc_shift head) in
-    let q : ℕ = q_of head in
-    omega (arith, by_bits N q (eqb N 1), length-append (high_items N q (dcs_of values) options.dcs) (planes_before q (dcs_of values) (dc_planes head.depth_dc head.depth_ac (dc_shift head))))
-  where
-    by_bits : (N q : ℕ) (s : Bool) → cond s (r + 1) (numbers_through (dc_kind N) (map (shifted_height true N q) (dcs_of values)) options.dcs r)
-        ≤ length (cond s (map (dc_bit q) (dcs_of values)) (number_items (dc_kind N) (map (shifted_height true N q) (dcs_of values)) options.dcs))
-    by_bits N q true = omega (arith, length-map (dcs_of values) (dc_bit q), length-map values dc_of, lt)
-    by_bits N q false = numbers_fit (dc_kind N) (map (shifted_height true N q) (dcs_of values)) options.dcs r (omega (arith, length-map (dcs_of values) (shifted_height true N q), length-map values dc_of, lt))
+through_within head values options r lt = grind (arith, nat_tests, length-append, length-map, numbers_fit)
 
 -- a bit of the DC part is in it
 pub dc_bit_there : (head : SegmentHead) (values : List (List ℤ)) (options : Options) (m r c : ℕ) → head.depth_ac ≤ c → dc_shift head ≤ c → c < q_of head → r < length values → length (dc_part_items head values options) ≤ m →
     is_dc_bit_given head values options m r c ≡ true
-dc_bit_there head values options m r c past over under count given =
-    there (high_count head values options) (q_of head - (c + 1)) (length values) (dc_planes head.depth_dc head.depth_ac (dc_shift head)) (length (dc_part_items head values options)) m
-    (left_over (q_of head) c head.depth_ac (dc_shift head) under past over) count (dc_long head values options) given
-  where
-    there : (h n len planes size m : ℕ) → n < planes → r < len → size ≡ h + planes * len → size ≤ m → (nat_lt n planes && nat_le (h + n * len + r + 1) m) ≡ true
-    there h n len planes size m lt within e le =
-        let d : ℕ = planes - (n + 1) in
-        let whole : planes ≡ n + 1 + d = omega arith in
-        let long : planes * len ≡ n * len + len + d * len = let f : planes * len ≡ (n + 1 + d) * len = ap (λ c. c * len) whole in omega (arith, f) in
-        ap (λ t. t && nat_le (h + n * len + r + 1) m) (less_test n planes lt) ∙ at_least_test (h + n * len + r + 1) m (omega (arith, e, le, long, within))
+dc_bit_there head values options m r c past over under count given = grind (arith, nat_tests, left_over, dc_long, less_test, at_least_test)

@@ -46,8 +46,7 @@ dc_multiple z weights part e = record { part = λ p. by_place p (cases_lt 0 p); 
     by_place p (inr dc) = part
 
     whole : (p : ℕ) (h : (0 < p) ⊎ (p ≤ 0)) → magnitude (dc_block z) p ≡ 2 ^ shift weights p * by_place p h
-    whole p (inl ac) = ap unsigned_abs (ac_zero z p ac) ∙ omega arith
-    whole p (inr dc) = let zero : p ≡ 0 = omega arith in subst (λ n. magnitude (dc_block z) n ≡ 2 ^ shift weights n * part) (sym zero) e
+    whole p h = grind (arith, nat_tests, ac_zero, dc_block)
 
 pub empty_multiple : (weights : List ℕ) → IsMultiple [] weights
 empty_multiple weights = record { part = λ p. 0; whole = λ p. omega arith }
@@ -68,10 +67,7 @@ module _ {I : Type 0} {k : SourceOf I} {a b : Coming I} {result : Result Part Te
 
   -- the low bits that are not in the DC part are 0
   bits_low : (r b : ℕ) → r < length t.dcs → b < low_bits head → (complement 1 (int_shr (get_or t.dcs r (pos 0)) b) == 1) ≡ false
-  bits_low r b lt low = ap (λ x. x == 1) (t.bits r b lt (omega (arith, low)) (no_both _ _ test))
-    where
-      test : nat_lt (q_of head - (b + 1)) (dc_planes head.depth_dc head.depth_ac (dc_shift head)) ≡ false
-      test = let past : dc_planes head.depth_dc head.depth_ac (dc_shift head) ≤ q_of head - (b + 1) = omega (arith, low) in grind (arith, nat_tests)
+  bits_low r b lt low = grind (arith, nat_tests, no_both)
 
   pub low_part : (r : ℕ) → r < length t.dcs → (part : ℕ) × (unsigned_abs (get_or t.dcs r (pos 0)) ≡ 2 ^ low_bits head * part)
   low_part r lt = multiple_from (get_or t.dcs r (pos 0)) (low_bits head) (low_zero (get_or t.dcs r (pos 0)) (low_bits head) (λ b low. bits_low r b lt low))
@@ -129,9 +125,7 @@ module _ {I : Type 0} {k : SourceOf I} {a b : Coming I} {result : Result Part Te
 
     bit_is : (m r b : ℕ) → is_dc_bit_given head values options m r b
         ≡ is_plane_bit_given (q_of head) (dc_planes head.depth_dc head.depth_ac (dc_shift head)) (length (high_items (dc_bits head.depth_dc head.depth_ac (dc_shift head)) (q_of head) t.dcs t.options)) (length t.dcs) m r b
-    bit_is m r b =
-        ap (λ ds. is_plane_bit_given (q_of head) (dc_planes head.depth_dc head.depth_ac (dc_shift head)) (length (high_items (dc_bits head.depth_dc head.depth_ac (dc_shift head)) (q_of head) ds t.options)) (length values) m r b) (dcs_back t.dcs)
-        ∙ ap (λ n. is_plane_bit_given (q_of head) (dc_planes head.depth_dc head.depth_ac (dc_shift head)) (length (high_items (dc_bits head.depth_dc head.depth_ac (dc_shift head)) (q_of head) t.dcs t.options)) n m r b) (length-map t.dcs dc_block)
+    bit_is m r b = grind (arith, nat_tests, dcs_back, length-map, dc_block)
 
     -- this number of items of the DC part are given
     abbrev read : ℕ

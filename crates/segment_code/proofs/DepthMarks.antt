@@ -4,6 +4,7 @@ use Rattle.std.specs.Prelude.{ℤ, pos, map}
 use Rattle.std.proofs.lemmas.Int.{ints}
 use Rattle.std.proofs.lemmas.List.{get_or-map, length-map}
 use Rattle.std.proofs.lemmas.List.FromFn.{length-map-range_with_len}
+use Rattle.std.proofs.lemmas.Bool.Decides.{nat_tests}
 use Rattle.base_122.specs.declared.book.Book.{Book}
 use Rattle.wave_defs.specs.Held.{block_at, blocks_in}
 use Rattle.plane_defs.specs.Marks.{depth_of, depths_of}
@@ -49,10 +50,7 @@ are_depths blocks A e = record { low = λ i lt. rw (place i lt) (omega (arith, i
 pub depths_put : (book : Book) (h : SegmentHead) (blocks : List (List ℤ)) (marks : List ℤ) (choice : ℕ → List ℕ → ℕ) → marks ≡ map pos (block_depths blocks) → choice ≡ choice_of h.best_ac →
     text (depth_items h.depth_ac (plain.depths_of marks) (depth_choices choice h.depth_ac (plain.depths_of marks))) ≡
     text (depth_items h.depth_ac (block_depths blocks) (chosen_options book h blocks).depths)
-depths_put book h blocks marks choice e p =
-    let same : plain.depths_of marks ≡ block_depths blocks = ap plain.depths_of e ∙ plain_depths (block_depths blocks) in
-    ap (λ ds. text (depth_items h.depth_ac ds (depth_choices choice h.depth_ac ds))) same
-    ∙ ap (λ c. text (depth_items h.depth_ac (block_depths blocks) (depth_choices c h.depth_ac (block_depths blocks)))) p
+depths_put book h blocks marks choice e p = grind (arith, nat_tests, plain_depths)
 
 pub kept_depths : (blocks : List (List ℤ)) (marks : List ℤ) → marks ≡ map pos (block_depths blocks) → depth_ac_of blocks ≤ 27 → depths_of marks ≡ block_depths blocks
 kept_depths blocks marks e most = ap depths_of e ∙ low_depths (block_depths blocks) (λ r. omega (arith, depth_within blocks r, most))

@@ -67,24 +67,10 @@ module _ {S : Type 0} (k : SinkOf S) (out : S) (s t : Standing S) (word limit : 
   -- ---- all bits were put
 
   pub end_fits : IsBounded word limit fill (length bits) → Adds k s t bits → padded_length word t.bound fill t.used ≤ 8 * t.bound
-  end_fits (inl (some, few, zero, plain, short)) p =
-      let bound : t.bound ≡ 2 ^ 32 = p.bound ∙ begins.bound ∙ unlimited zero in
-      let used : t.used ≡ length bits = omega (arith, p.used, begins.used, none) in
-      let round = rounded_bounds (8 * word) (length bits) (omega arith) in
-      rw (bound, used, plain) (omega (arith, round.1))
-  end_fits (inr l) p =
-      let bound : t.bound ≡ limit = p.bound ∙ begins.bound ∙ limited l in
-      let used : t.used ≤ 8 * limit = omega (arith, p.used, p.room, is_open.whole, begins.bound, limited l) in
-      rw bound (padded_within word limit t.used fill l used)
+  end_fits h0 p = grind (arith, nat_tests, unlimited, rounded_bounds, limited, padded_within)
 
   padding_is : IsBounded word limit fill (length bits) → Adds k s t bits → padding word t.bound fill t.used ≡ padding word limit fill (length bits)
-  padding_is (inl (some, few, zero, plain, short)) p =
-      let used : t.used ≡ length bits = omega (arith, p.used, begins.used, none) in
-      rw (used, plain) refl
-  padding_is (inr l) p =
-      let bound : t.bound ≡ limit = p.bound ∙ begins.bound ∙ limited l in
-      let used : t.used ≡ length bits = omega (arith, p.used, begins.used, none) in
-      rw (bound, used) refl
+  padding_is h0 p = grind (arith, nat_tests, limited)
 
   octets_are_text : IsBounded word limit fill (length bits) → Adds k s t bits → octets_of (padded word limit fill bits) ≡ text_octets word limit fill bits
   octets_are_text (inl (some, few, zero, plain, short)) p = rw (zero, plain) (text_unlimited word 0 bits)
@@ -121,10 +107,7 @@ module _ {S : Type 0} (k : SinkOf S) (out : S) (s t : Standing S) (word limit : 
   limit_there (inr l) lt = l
 
   room_limited : IsLimit word limit → s.room ≡ 8 * limit
-  room_limited l =
-      let there : (limit == 0) ≡ false = grind (arith, nat_tests, l.some) in
-      let bound : bound_of limit ≡ limit = rw there refl in
-      omega (arith, is_open.whole, begins.used, begins.bound, none, bound)
+  room_limited l = grind (arith, nat_tests)
 
   pub cut_fits : IsBounded word limit fill (length bits) → s.room < length bits → Adds k s t (take s.room bits) → padded_length word t.bound fill t.used ≤ 8 * t.bound
   cut_fits b lt p = end_fits k out s t word limit fill (take s.room bits) begins is_open none (inr (limit_there b lt)) p
@@ -155,10 +138,7 @@ fits_whole {S} {k} {s} {t} {bits} p = subst (Adds k s t) (sym (take_all s.room b
 module _ {S : Type 0} (k : SinkOf S) (out : S) (s t : Standing S) (word limit : ℕ) (fill : Bool) (bits : List Bool)
     (begins : Begins k out (bound_of limit) s) (is_open : IsOpen s) (none : (k.counts out).given ≡ 0) where
   pub fitting_fits : IsBounded word limit fill (length bits) → Adds k s t (take s.room bits) → padded_length word t.bound fill t.used ≤ 8 * t.bound
-  fitting_fits b p = elim (cases_lt s.room (length bits)) [
-    | inl lt ↦ cut_fits k out s t word limit fill bits begins is_open none b lt p
-    | inr ge ↦ end_fits k out s t word limit fill bits begins is_open none b (subst (Adds k s t) (take_all s.room bits ge) p)
-  ]
+  fitting_fits b p = grind (arith, nat_tests, cut_fits, end_fits, take_all)
 
   pub closed_fitting : {E : Type 0} (r : Result ℕ E) {u : S} → IsBounded word limit fill (length bits) → Adds k s t (take s.room bits) → Closes k r word fill t u →
       MatchResult r (λ octets. GivesText k out u (text_octets word limit fill bits) octets) (λ _. BreaksWithin k out u (text_octets word limit fill bits))

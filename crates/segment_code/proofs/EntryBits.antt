@@ -1,12 +1,10 @@
 -- How many bits the entries of a plane take at most.
-use Rattle.std.proofs.Common.{◌≡◌, ℕ, zero, suc, ◌+◌, ◌*◌, ◌^◌, ◌<◌, ◌≤◌, inl, inr, Bool, true, false, cond, eqb, List, [], ◌∷◌, ◌++◌, length, get_or, refl, ap, arith, length-append}
-use Rattle.std.specs.Prelude.{map, filter, ◌==◌}
+use Rattle.std.proofs.Common.{◌≡◌, ℕ, zero, suc, ◌+◌, ◌*◌, ◌<◌, ◌≤◌, Bool, true, false, cond, List, [], ◌∷◌, ◌++◌, length, get_or, refl, ap, arith, length-append}
+use Rattle.std.specs.Prelude.{map, filter}
 use Rattle.std.specs.List.{flat_map, list_any}
-use Rattle.std.proofs.lemmas.Bool.{cases_lt}
 use Rattle.std.proofs.lemmas.List.{length-map, get_or_past}
 use Rattle.std.proofs.lemmas.Bool.Decides.{nat_tests}
-use Rattle.item_defs.specs.Bits.{digit}
-use Rattle.item_defs.specs.Items.{Item, text, item_bits, raw, plain, code}
+use Rattle.item_defs.specs.Items.{Item, text, item_bits}
 use Rattle.item_defs.proofs.Texts.{text-append, text-one}
 use Rattle.item_defs.proofs.NumberBits.{length-bits_of}
 use Rattle.base_122.specs.declared.book.Book.{Book}
@@ -15,7 +13,7 @@ use Rattle.plane_defs.specs.declared.entries.Entry.TheVariants.{Bit, Word}
 use Rattle.plane_defs.specs.Spans.{span}
 use Rattle.plane_defs.specs.Entries.{IsEntry}
 use Rattle.plane_defs.specs.Codes as codes
-use Rattle.plane_defs.specs.Codes.{is_book_sound, symbol, code_at, code_bits, codes_of, word_item, option_item, identifier_width, identifier_number}
+use Rattle.plane_defs.specs.Codes.{is_book_sound, codes_of, word_item, option_item, identifier_width, identifier_number}
 use Rattle.plane_defs.specs.Spelled.{is_word_of, option_of, opening, entry_items, spelled_after}
 use Rattle.plane_defs.proofs.Fitting.{Fit}
 use Rattle.plane_defs.proofs.SpanLists.{length-chosen, length-map-span, get_or-map-span}
@@ -36,22 +34,10 @@ module _ (book : Book) (sound : is_book_sound book ≡ true) where
   -- ---- codes have at most eight bits
 
   code_few : (n option k : ℕ) → 2 ≤ n → n ≤ 4 → option + 1 < n → length (get_or (codes_of book n option) k []) ≤ 8
-  code_few n option k low high more = elim (cases_lt k (2 ^ n)) [
-    | inl lt ↦
-        let c = code_at book n option k in
-        let few = code_len book n option k sound low high more lt in
-        omega (arith, few, ap length (get_or-map-span (λ s. code_bits (code_at book n option s)) (2 ^ n) k [] lt), length-bits_of c.len c.bits)
-    | inr past ↦
-        let f = λ (s : ℕ). code_bits (code_at book n option s) in
-        omega (arith, ap length (get_or_past (codes_of book n option) k [] (omega (arith, past, length-map-span f (2 ^ n)))))
-  ]
+  code_few n option k low high more = grind (arith, nat_tests, code_len, get_or-map-span, length-bits_of, get_or_past, length-map-span)
 
   word_few : (n option value : ℕ) → 2 ≤ n → n ≤ 4 → option < n → length (item_bits (word_item book n option value)) ≤ 8
-  word_few n option value low le known = by_option (option == codes.uncoded n) refl
-    where
-      by_option : (b : Bool) → (option == codes.uncoded n) ≡ b → length (item_bits (cond b (plain n value) (code (codes_of book n option) (symbol n value)))) ≤ 8
-      by_option true e = omega (arith, le, length-bits_of n value)
-      by_option false e = let more : option + 1 < n = grind (arith, nat_tests) in code_few n option (symbol n value) low le more
+  word_few n option value low le known = grind (arith, nat_tests, length-bits_of, code_few)
 
   identifier_few : (n : ℕ) → identifier_width n ≤ 2
   identifier_few n = grind (arith, nat_tests)
@@ -67,25 +53,7 @@ module _ (book : Book) (sound : is_book_sound book ≡ true) where
 
   entry_few : (options : List ℕ) → AreOptionsOf options → (before : List Entry) (e : Entry) → IsEntry e → length (text (entry_items book options before e)) ≤ most_bits e
   unfolding entry_items
-  entry_few options known before (Bit b) fit = omega (arith, ap length (text-one (raw (digit b))), length-bits_of 1 (digit b))
-  entry_few options known before (Word bits) fit = by_count (eqb bits.count 0) (eqb bits.count 1) refl refl
-    where
-      by_count : (none one : Bool) → eqb bits.count 0 ≡ none → eqb bits.count 1 ≡ one →
-          length (text (cond none [] (cond one (raw bits.value ∷ []) (opening options before bits.count ++ word_item book bits.count (option_of options bits.count) bits.value ∷ [])))) ≤ 10
-      by_count true one e f = omega arith
-      by_count false true e f = omega (arith, ap length (text-one (raw bits.value)), length-bits_of 1 bits.value)
-      by_count false false e f =
-          let two : 2 ≤ bits.count = grind (arith, nat_tests) in
-          let first = opening options before bits.count in
-          let i = word_item book bits.count (option_of options bits.count) bits.value in
-          omega (
-            arith,
-            ap length (text-append first (i ∷ [])),
-            ap length (text-one i),
-            length-append (text first) (text (i ∷ [])),
-            opening_few options before bits.count,
-            word_few bits.count (option_of options bits.count) bits.value two fit.0 (known.at bits.count two fit.0),
-          )
+  entry_few options known before e fit = grind (arith, nat_tests, text-one, length-bits_of, text-append, length-append, opening_few, word_few)
 
   pub spelled_few : (options : List ℕ) → AreOptionsOf options → (before xs : List Entry) → Fit xs → length (text (spelled_after book options before xs)) ≤ most_of xs
   spelled_few options known before [] fit = omega arith

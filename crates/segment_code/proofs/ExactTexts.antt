@@ -1,11 +1,11 @@
 -- A coded text with neither a stop nor a limit holds exactly the blocks that were coded.
-use Rattle.std.proofs.Common.{◌≡◌, ◌≤◌, ◌<◌, ◌+◌, ◌-◌, ◌*◌, ◌/◌, ℕ, ℤ, max, Bool, true, false, cond, List, ◌++◌, length, take, drop, get_or, refl, sym, ap, subst, ◌∙◌, inl, inr, arith, append_assoc, length-append}
+use Rattle.std.proofs.Common.{◌≡◌, ◌≤◌, ◌<◌, ◌+◌, ◌-◌, ◌*◌, ◌/◌, ℕ, ℤ, Bool, true, false, cond, List, ◌++◌, length, take, drop, get_or, refl, sym, ap, subst, ◌∙◌, inl, inr, arith, append_assoc, length-append}
 use Rattle.std.specs.Prelude.{◌==◌, ◌↔◌}
 use Rattle.std.proofs.lemmas.Bool.Decides.{nat_tests}
 use Rattle.std.proofs.lemmas.List.{drop_at}
 use Rattle.item_defs.specs.Bits.{copies, bits_of_octets, octets_of}
 use Rattle.item_defs.specs.Items.{Item, text}
-use Rattle.item_defs.specs.Padding.{rounded, padded_length, padding, padded}
+use Rattle.item_defs.specs.Padding.{padded_length, padding, padded}
 use Rattle.item_defs.proofs.BitLists.{length-copies}
 use Rattle.item_defs.proofs.Rounding.{rounded_bounds}
 use Rattle.item_defs.proofs.OctetBits.{length-octets_of, bits_of_octets-octets_of}
@@ -34,14 +34,7 @@ use Rattle.text_defs.proofs.SegmentItems.{segment_are_items}
 -- ---- whole octets
 
 padded_octets : (word limit used : ℕ) (fill : Bool) → padded_length word limit fill used ≡ 8 * (padded_length word limit fill used / 8)
-padded_octets word limit used fill =
-    let q = (used + (8 * word - 1)) / (8 * word) in
-    let e : q * (8 * word) ≡ 8 * (q * word) = grind arith in
-    by_fill fill (q * word) e
-  where
-    by_fill : (fill : Bool) (k : ℕ) → rounded (8 * word) used ≡ 8 * k → max (rounded (8 * word) used) (cond fill (8 * limit) 0) ≡ 8 * (max (rounded (8 * word) used) (cond fill (8 * limit) 0) / 8)
-    by_fill true k e = omega (arith, e)
-    by_fill false k e = omega (arith, e)
+padded_octets word limit used fill = grind (arith, nat_tests)
 
 module _ (book : Book) (sound : is_book_sound book ≡ true) (h : SegmentHead) (blocks : List (List ℤ)) (ok : IsHead h) (ten : length h.image.weights.shifts ≡ 10) (none : h.limit ≡ 0) where
   abbrev options : Options

@@ -1,6 +1,7 @@
 -- A text read from an input that is after the head, with the end that was found.
-use Rattle.std.proofs.Common.{◌≡◌, ℕ, ◌*◌, ◌≤◌, List, length, take, sym, ap, ◌∙◌, subst, ℤ}
+use Rattle.std.proofs.Common.{◌≡◌, ℕ, ◌*◌, ◌≤◌, List, length, take, sym, ap, ◌∙◌, subst, ℤ, arith}
 use Rattle.std.specs.Prelude.{Result, Ok, Err}
+use Rattle.std.proofs.lemmas.Bool.Decides.{nat_tests}
 use Rattle.item_defs.specs.Readings.{AreItems, whole, ended, refused}
 use Rattle.base_122.specs.declared.book.Book.{Book}
 use Rattle.wave_defs.specs.Held.{blocks_in}
@@ -41,13 +42,7 @@ part_same a b m n e = ap (λ q. q.0) (pair_of (record { 0 = a; 1 = m }) (record 
 
 module _ {I : Type 0} {book : Book} (k : SourceOf I) (head : SegmentHead) (size : ℕ) (old mid : I) (now : List ℤ) where
   pub used_within : (part : Part) (used : ℕ) → TakesFrom k book head size (Ok (record { 0 = part; 1 = used })) old mid now → used ≤ 8 * bound_of head.limit
-  used_within part used f = by_ending f.text.ending f.text.read.ends (f.answer ∙ ap (λ a. with_used a f.stop.used) f.text.answer)
-    where
-      by_ending : (e : Ending) → EndsReading k (segment_items head f.text.values f.text.depths f.text.options) e f.start f.stop → Ok (record { 0 = part; 1 = used }) ≡ with_used (part_answer e) f.stop.used → used ≤ 8 * bound_of head.limit
-      by_ending (stopped whole) r a = subst (λ n. n ≤ 8 * bound_of head.limit) (sym (used_same part Whole used f.stop.used a)) (decoding.used_within k head size old f.start f.stop f.begins _ r)
-      by_ending (stopped (ended m)) r a = subst (λ n. n ≤ 8 * bound_of head.limit) (sym (used_same part Ended used f.stop.used a)) (decoding.used_within k head size old f.start f.stop f.begins _ r.0.taken)
-      by_ending (stopped (refused m s name)) r a = absurd cc
-      by_ending (failed m e) r a = absurd cc
+  used_within part used f = grind (arith, nat_tests, used_same)
 
   pub fault_decoded : (fault : TextFault) → TakesFrom k book head size (Err fault) old mid now → DecodesItems k book head size (Err (of_text fault)) old mid now
   fault_decoded fault f = subst (λ s. DecodesItems k book head size (Err (of_text fault)) old s now) f.stands

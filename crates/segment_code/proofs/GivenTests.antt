@@ -1,5 +1,5 @@
 -- Tests of numbers, and what they make of what is given.
-use Rattle.std.proofs.Common.{◌≡◌, ◌⊎◌, ℕ, ◌<◌, ◌≤◌, inl, inr, Bool, true, false, cond, refl, arith, ℤ, pos, negsuc}
+use Rattle.std.proofs.Common.{◌≡◌, ◌⊎◌, ℕ, ◌<◌, ◌≤◌, Bool, true, false, cond, arith, ℤ}
 use Rattle.std.specs.Prelude.{◌&&◌, ◌||◌, nat_lt, nat_le, unsigned_abs}
 use Rattle.std.proofs.lemmas.Bool.Decides.{nat_tests}
 use Rattle.plane_defs.specs.Entries.{negative}
@@ -21,22 +21,16 @@ not_less_test a b le = grind (arith, nat_tests)
 
 -- a condition that holds whenever a bit is 1 does not change the bit
 pub absorbs : (h c : Bool) → (c ≡ true → h ≡ true) → (h && c) ≡ c
-absorbs true c f = refl
-absorbs false true f = f refl
-absorbs false false f = refl
+absorbs h c f = grind (arith, nat_tests)
 
 pub none_without : (h c : Bool) (w : ℕ) → h ≡ false → cond (h && c) w 0 ≡ 0
-none_without true c w e = absurd cc
-none_without false c w e = refl
+none_without h c w e = grind (arith, nat_tests)
 
 pub no_both : (x y : Bool) → x ≡ false → (x && y) ≡ false
-no_both true y e = absurd cc
-no_both false y e = refl
+no_both x y e = grind (arith, nat_tests)
 
 pub either_true : (a b : Bool) → (a ≡ true) ⊎ (b ≡ true) → (a || b) ≡ true
-either_true true b h = refl
-either_true false b (inl e) = absurd cc
-either_true false b (inr e) = e
+either_true a b h = grind (arith, nat_tests)
 
 pub not_both : (a : Bool) → a ≡ true → a ≡ false → ⊥
 not_both a x y = cc
@@ -44,9 +38,7 @@ not_both a x y = cc
 -- ---- signs
 
 pub no_size : (z : ℤ) → unsigned_abs z ≡ 0 → negative z ≡ false
-no_size (pos a) e = refl
-no_size (negsuc a) e = absurd (omega (arith, e))
+no_size z e = grind (arith, nat_tests)
 
 pub some_size : (z : ℤ) → negative z ≡ true → 1 ≤ unsigned_abs z
-some_size (pos a) e = absurd cc
-some_size (negsuc a) e = omega arith
+some_size z e = grind (arith, nat_tests)

@@ -47,19 +47,12 @@ module _ (head : SegmentHead) where
 
   none_further : (rest : List ℕ) → bits_further rest [] ≡ []
   unfolding bits_further
-  none_further rest = by_limit (head.limit == 0) (head.limit - head_length head - length rest)
-    where
-      by_limit : (b : Bool) (n : ℕ) → bits_of_octets (cond b [] (take n [])) ≡ []
-      by_limit true n = no_octets
-      by_limit false n = ap bits_of_octets (take_all n [] (omega arith)) ∙ no_octets
+  none_further rest = grind (arith, nat_tests, no_octets, take_all)
 
   -- after the limit no bits are read
   full_further : (rest further : List ℕ) → head.limit ≢ 0 → head_length head + length rest ≡ head.limit → bits_further rest further ≡ []
   unfolding bits_further
-  full_further rest further some full =
-      let t : (head.limit == 0) ≡ false = grind (arith, nat_tests) in
-      let n : head.limit - head_length head - length rest ≡ 0 = omega (arith, full) in
-      ap (λ b. bits_of_octets (cond b further (take (head.limit - head_length head - length rest) further))) t ∙ ap (λ n. bits_of_octets (take n further)) n ∙ no_octets
+  full_further rest further some full = grind (arith, nat_tests, no_octets)
 
   module _ {rest : List ℕ} {values : List (List ℤ)} {depths : List ℕ} {options : Options} {m : ℕ} {more : List Bool} (p : ItemsIn head (head_length head) rest values depths options m more) where
     reading_further : (further : List ℕ) → Reading head (rest ++ further) values depths options m (more ++ bits_further rest further)

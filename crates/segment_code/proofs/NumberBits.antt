@@ -4,7 +4,7 @@ use Rattle.std.specs.Prelude.{ℤ, pos, slice_index, nat_le, nat_lt, ◌&&◌}
 use Rattle.std.specs.List.{list_all}
 use Rattle.std.specs.Int.{int_shr}
 use Rattle.number_defs.proofs.Heights.{height_below}
-use Rattle.std.proofs.lemmas.Bool.{cases_Bool, cases_lt}
+use Rattle.std.proofs.lemmas.Bool.{cases_Bool}
 use Rattle.std.proofs.lemmas.Bool.Decides.{nat_tests}
 use Rattle.std.proofs.lemmas.Nat.{pow_pos}
 use Rattle.std.proofs.lemmas.List.{get_or_past, get_or-map, length-map}
@@ -14,7 +14,7 @@ use Rattle.item_defs.specs.Items.{Item, text, item_bits, raw, identifier}
 use Rattle.item_defs.proofs.Texts.{text-append, text-cons, text-one}
 use Rattle.item_defs.proofs.NumberBits.{length-bits_of}
 use Rattle.number_defs.specs.Ranges.{shifted_height, IsInRange}
-use Rattle.number_defs.specs.Gaggles.{Kind, reference, uncoded, is_option, identifier_bits, value_at, places, first_place, value_items, lead_items, gaggle_items, items_before, number_items, gaggle_count}
+use Rattle.number_defs.specs.Gaggles.{Kind, reference, is_option, identifier_bits, value_at, places, first_place, value_items, lead_items, gaggle_items, items_before, number_items, gaggle_count}
 use Rattle.number_defs.specs.Choice.{coded_bits}
 use Rattle.number_defs.specs.DcPart.{dc_q, dc_bits, dc_kind, dc_bit, high_items, planes_before, dc_planes, dc_items}
 use Rattle.number_defs.specs.Depths.{depth_bits, depth_kind, depth_items}
@@ -33,10 +33,7 @@ use Rattle.plane_defs.proofs.Tables.{list_all-span-zero}
 -- ---- bits of a gaggle
 
 few_anywhere : (N : ℕ) (xs : List ℕ) → AreFew N xs → (i : ℕ) → get_or xs i 0 < 2 ^ N
-few_anywhere N xs few i = elim (cases_lt i (length xs)) [
-  | inl within ↦ few i within
-  | inr past ↦ let none : get_or xs i 0 ≡ 0 = get_or_past xs i 0 past in omega (arith, none, pow_pos N)
-]
+few_anywhere N xs few i = grind (arith, nat_tests, get_or_past, pow_pos)
 
 option_small : (N option : ℕ) → is_option N option ≡ true → N ≤ 10 → option ≤ 15
 option_small N option h le = let most = uncoded_small N in grind (arith, nat_tests)
@@ -47,10 +44,7 @@ value_bits v k lt le = let less : v / 2 ^ k ≤ v = div-le_self v (2 ^ k) in ome
 -- values of at most 10 bits have at most 1,040 bits each, under an option
 coded_few : (N option : ℕ) (values : List ℕ) → N ≤ 10 → option ≤ 15 → All (λ v. v < 2 ^ 10) values → coded_bits N values option ≤ length values * 1040
 unfolding coded_bits
-coded_few N option values le small below = elim (cases_Bool (eqb option (uncoded N))) [
-  | inl same ↦ rw same (let most : N * length values ≤ 1040 * length values = mul-le-mul_right (length values) (omega arith) in omega (arith, most))
-  | inr other ↦ rw other (sum_by-le (λ v. v / 2 ^ option + 1 + option) 1040 values (λ k d lt. value_bits (get_or values k d) option (below k d lt) small))
-]
+coded_few N option values le small below = grind (arith, nat_tests, mul-le-mul_right, sum_by-le, value_bits)
 
 values_count : (count g : ℕ) → length (places count g) ≤ 16
 values_count count g = omega (arith, length-range_with_len (first_place g) (min count (16 * g + 16) - first_place g))

@@ -6,6 +6,7 @@ use Rattle.std.proofs.lemmas.Bool.{cases_lt}
 use Rattle.std.proofs.lemmas.Int.{ints}
 use Rattle.std.proofs.lemmas.Nat.{pow_pos, shr_split, div-mul-add}
 use Rattle.std.proofs.Math.Nat.{mod-eq_of_lt}
+use Rattle.std.proofs.lemmas.Bool.Decides.{nat_tests}
 use Rattle.item_defs.specs.Bits.{bit}
 use Rattle.number_defs.specs.Ranges.{complement}
 use Rattle.plane_defs.specs.Spans.{span}
@@ -62,11 +63,7 @@ magnitude_given F n b w lt small none same =
 
 -- a multiple that is the same above
 pub upper_from : (n m w part : ℕ) → n ≡ 2 ^ w * part → n / 2 ^ w ≡ m / 2 ^ w → n ≡ upper m w
-upper_from n m w part e same =
-    let f : n ≡ part * 2 ^ w + 0 = omega (arith, e) in
-    let q : n / 2 ^ w ≡ part = ap (λ k. k / 2 ^ w) f ∙ div-mul-add part (2 ^ w) 0 (pow_pos w) in
-    let p : part ≡ m / 2 ^ w = sym q ∙ same in
-    e ∙ ap (λ k. 2 ^ w * k) p
+upper_from n m w part e same = grind (arith, nat_tests, div-mul-add, pow_pos)
 
 pub upper_back : (n w : ℕ) → upper n w / 2 ^ w ≡ n / 2 ^ w
 upper_back n w = let f : upper n w ≡ n / 2 ^ w * 2 ^ w + 0 = omega arith in ap (λ k. k / 2 ^ w) f ∙ div-mul-add (n / 2 ^ w) (2 ^ w) 0 (pow_pos w)

@@ -32,8 +32,8 @@ use Rattle.plane_defs.specs.Marks.{depths_of}
 use Rattle.plane_defs.specs.Spans.{span}
 use Rattle.dc_depths.specs.Taken.{TakesDepths, depths_through}
 use Rattle.dc_depths.specs.TakenDc.{TakesDc}
-use Rattle.dc_depths.proofs.TakenDcs.{cut_same, later_items}
-use Rattle.bit_pipe.proofs.Endings.{later_answer}
+use Rattle.dc_depths.proofs.TakenDcs.{later_items}
+use Rattle.bit_pipe.proofs.Endings.{later_answer, cut_read}
 use Rattle.segment_defs.specs.declared.head.SegmentHead.{SegmentHead}
 use Rattle.segment_defs.specs.Head.{IsHead}
 use Rattle.segment_defs.specs.Depths.{dc_of, dcs_of}
@@ -147,7 +147,7 @@ module _ {I : Type 0} {k : SourceOf I} {a b : Coming I} {result : Result Part Te
       by_stop true e = dc_stops e
       by_stop false e =
           let same : alone ≡ part ++ rest = planes_are head (dc.values head t clear long) none only e ∙ ap (λ l. l ++ rest) part_is in
-          let count : items_read (length alone) t.ending ≡ m = cut_same (length alone) (length part) t.ending cut in
+          let count : items_read (length alone) t.ending ≡ m = cut_read (length alone) (length part) t.ending cut in
           let past : 0 ≡ items_read (length alone) t.ending - length part = omega (arith, count, m_most) in
           dc_alone (subst (λ l. Reads k l t.ending a b) (sym same) (reads_cut rest cut t.read))
           (subst (λ l. AreItems (take (items_read (length alone) t.ending) l)) (sym same)
@@ -237,9 +237,7 @@ module _ {I : Type 0} {k : SourceOf I} {a b : Coming I} {result : Result Part Te
           same = planes_are head (dc.values head t clear long) d.depths with_depths goes_on ∙ ap (λ l. l ++ (depths_part ++ rest)) (dc.part_is head t clear long book d.options no_words)
 
           size : items_read (length (segment_items head (dc.values head t clear long) d.depths with_depths)) (later_by (length part) d.ending) ≡ length part + d_read
-          size =
-              later_items (length part) (length (depths_part ++ rest)) (length (segment_items head (dc.values head t clear long) d.depths with_depths)) d.ending (ap length same ∙ length-append part (depths_part ++ rest))
-              ∙ ap (λ n. length part + n) (cut_same (length (depths_part ++ rest)) (length depths_part) d.ending cut)
+          size = grind (arith, nat_tests, later_items, rest, same, length-append, cut_read)
 
           past : d_read ≡ length part + d_read - length part
           past = omega arith
@@ -354,9 +352,7 @@ module _ {I : Type 0} {k : SourceOf I} {a b : Coming I} {result : Result Part Te
 
           size : items_read (length (segment_items head p.values d.depths options)) ending ≡ length part + (length depths_part + p_read)
           unfolding ending
-          size =
-              later_items (length part) (length (depths_part ++ planes)) (length (segment_items head p.values d.depths options)) (later_by (length depths_part) p.ending) (ap length same_items ∙ length-append part (depths_part ++ planes))
-              ∙ ap (λ n. length part + n) (later_items (length depths_part) (length planes) (length (depths_part ++ planes)) p.ending (length-append depths_part planes))
+          size = grind (arith, nat_tests, later_items, ending, same_items, length-append)
 
           depths_whole : AreItems depths_part
           depths_whole = depths_are head.depth_ac d.depths d.options (depth_bits_few head.depth_ac fits.depth_ac) d.few deep (λ two g lt. d.known two g)

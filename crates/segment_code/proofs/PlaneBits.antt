@@ -1,8 +1,9 @@
 -- How many bits a plane of a segment takes at most.
-use Rattle.std.proofs.Common.{◌≡◌, ℕ, zero, suc, add-one, zero-add, ◌+◌, ◌*◌, ◌^◌, ◌<◌, ◌≤◌, Bool, true, false, cond, List, [], ◌∷◌, ◌++◌, length, get_or, ℤ, pos, ap, sym, ◌∙◌, arith, length-append}
+use Rattle.std.proofs.Common.{◌≡◌, ℕ, zero, suc, add-one, zero-add, ◌+◌, ◌*◌, ◌^◌, ◌<◌, ◌≤◌, Bool, true, cond, List, [], ◌∷◌, ◌++◌, length, get_or, ℤ, pos, ap, sym, ◌∙◌, arith, length-append}
 use Rattle.std.specs.Prelude.{map, filter, nat_lt, ◌&&◌}
 use Rattle.std.specs.List.{flat_map}
 use Rattle.std.proofs.Math.Nat.{mul-le-mul_right}
+use Rattle.std.proofs.lemmas.Bool.Decides.{nat_tests}
 use Rattle.item_defs.specs.Bits.{bit}
 use Rattle.item_defs.specs.Items.{text}
 use Rattle.item_defs.proofs.Texts.{text-append}
@@ -74,8 +75,7 @@ stage_most stages.Grandchildren = 208
 stage_most stages.Refinement = 63
 
 where_sent : (b : Bool) (xs : List Entry) (m : ℕ) → most_of xs ≤ m → most_of (cond b xs []) ≤ m
-where_sent true xs m le = le
-where_sent false xs m le = omega arith
+where_sent b xs m le = grind (arith, nat_tests)
 
 block_most : (stage : Stage) (block : List ℤ) (d : ℕ) (weights : List ℕ) (plane q : ℕ) → most_of (block_entries stage block d weights plane q) ≤ stage_most stage
 unfolding block_entries
@@ -93,13 +93,7 @@ stages_most zero = 0
 stages_most (suc k) = stages_most k + stage_most (stage_number k)
 
 all_stages_most : (k : ℕ) → k ≤ 5 → stages_most k ≤ 338
-all_stages_most zero le = omega arith
-all_stages_most (suc zero) le = omega arith
-all_stages_most (suc (suc zero)) le = omega arith
-all_stages_most (suc (suc (suc zero))) le = omega arith
-all_stages_most (suc (suc (suc (suc zero)))) le = omega arith
-all_stages_most (suc (suc (suc (suc (suc zero))))) le = omega arith
-all_stages_most (suc (suc (suc (suc (suc (suc k)))))) le = absurd (omega arith)
+all_stages_most k le = grind (arith, nat_tests)
 
 module _ (book : Book) (sound : is_book_sound book ≡ true) (options : ℕ → List ℕ) (known : (g : ℕ) → AreOptionsOf (options g)) (p : Plane) (short : length p.depths < 2 ^ 20) where
   gaggle_few : (k g : ℕ) → length (text (gaggle_items book options p k g)) ≤ 16 * stage_most (stage_number k)

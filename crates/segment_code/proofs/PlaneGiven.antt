@@ -6,6 +6,7 @@ use Rattle.std.specs.List.{list_any}
 use Rattle.std.proofs.lemmas.Bool.{cases_lt}
 use Rattle.std.proofs.lemmas.Nat.{pow_pos, mod_below, shr_split}
 use Rattle.std.proofs.Math.Pow.{pow_mono}
+use Rattle.std.proofs.lemmas.Bool.Decides.{nat_tests}
 use Rattle.item_defs.specs.Bits.{bit}
 use Rattle.number_defs.specs.Ranges.{complement}
 use Rattle.number_defs.specs.DcPart.{dc_planes}
@@ -65,18 +66,7 @@ any_alone f p (suc w) lt others =
 
 -- the sign that was there before, or was read now
 signs_agree : (nb hb ns hs : Bool) → ((nb ≡ ns) × (ns ≡ true → hs ≡ true)) ⊎ ((nb ≡ false) × (ns ≡ true → hs ≡ hb)) → (nb || (hb && ns)) ≡ (hs && ns)
-signs_agree nb hb true hs (inl h) = ap (λ b. b || (hb && true)) h.0 ∙ sym (ap (λ b. b && true) (h.1 refl))
-signs_agree nb hb false hs (inl h) = ap (λ b. b || (hb && false)) h.0 ∙ none hb ∙ sym (none hs)
-  where
-    none : (b : Bool) → (b && false) ≡ false
-    none true = refl
-    none false = refl
-signs_agree nb hb true hs (inr h) = ap (λ b. b || (hb && true)) h.0 ∙ sym (ap (λ b. b && true) (h.1 refl))
-signs_agree nb hb false hs (inr h) = ap (λ b. b || (hb && false)) h.0 ∙ none hb ∙ sym (none hs)
-  where
-    none : (b : Bool) → (b && false) ≡ false
-    none true = refl
-    none false = refl
+signs_agree nb hb ns hs h4 = grind (arith, nat_tests)
 
 module _ (head : SegmentHead) (values : List (List ℤ)) (depths : List ℕ) (options : Options) (m p r : ℕ) (inside : p < head.depth_ac) (deep : get_or depths r 0 ≤ head.depth_ac)
     (before now : List ℤ) (tells : Tells p (given_in head values depths options m r p) (block_of values r) before now)
@@ -140,8 +130,7 @@ module _ (head : SegmentHead) (values : List (List ℤ)) (depths : List ℕ) (op
         (ap (any_sign i) (higher t.0 high t.1) ∙ sign_sent V (get_or depths r 0) weights t.0 q i candidate.multiple ac (candidate.below i ac.0) (reached t.0 t.2) (missed (t.0 + 1) t.3))
       where
         over : (t : ℕ) → n < 2 ^ (t + 1) → (p < t) ⊎ (t ≤ p) → p < t
-        over t lt (inl high) = high
-        over t lt (inr under) = let mono : 2 ^ (t + 1) ≤ 2 ^ (p + 1) = pow_mono (omega arith) in absurd (omega (arith, mono, lt, le))
+        over t lt h2 = grind (arith, nat_tests, pow_mono)
 
     -- a number that was not has no sign except from this plane
     sign_here : n < 2 ^ (p + 1) → has_sign head values depths options m r i ≡ has_sign_in (given_in head values depths options m r p) i
@@ -211,9 +200,7 @@ module _ (head : SegmentHead) (values : List (List ℤ)) (depths : List ℕ) (op
     in_planes c lt under = no_both (nat_lt (q - (c + 1)) (dc_planes head.depth_dc head.depth_ac shift)) _ (not_less_test (q - (c + 1)) (dc_planes head.depth_dc head.depth_ac shift) (omega (arith, lt, under)))
 
     lower_none : (c : ℕ) → c < p → c < q → G c ≡ 0
-    lower_none c lt under =
-        none_without (is_dc_bit_given head values options m r c || has_bit head values depths options m r 0 c) (complement 1 (int_shr z c) == 1) (2 ^ c)
-        (ap (λ b. b || has_bit head values depths options m r 0 c) (in_planes c (omega (arith, lt, inside)) under) ∙ (lower c lt 0).0)
+    lower_none c lt under = grind (arith, nat_tests, none_without, in_planes)
 
     -- a low bit above the plane that is not 0 is given
     bit_given : (c : ℕ) → p < c → c < q → (complement 1 (int_shr z c) == 1) ≡ true → (is_dc_bit_given head values options m r c || has_bit head values depths options m r 0 c) ≡ true

@@ -1,7 +1,7 @@
 -- What is put of a plane is that plane of the coded text.
-use Rattle.std.proofs.Common.{◌≡◌, ℕ, ◌+◌, ℤ, List, [], ap, sym, subst, ◌∙◌}
+use Rattle.std.proofs.Common.{◌≡◌, ℕ, ◌+◌, ℤ, List, [], ap, sym, subst, ◌∙◌, arith}
 use Rattle.std.specs.Prelude.{Result, Ok}
-use Rattle.base_122.specs.declared.weights.Weights.{Weights}
+use Rattle.std.proofs.lemmas.Bool.Decides.{nat_tests}
 use Rattle.item_defs.specs.Items.{text}
 use Rattle.bit_pipe.specs.Sinks.{SinkOf}
 use Rattle.bit_pipe.specs.Standing.{Standing, IsOpen, Adds, Puts}
@@ -25,12 +25,7 @@ use Rattle.segment_code.specs.Parts.{coded_plane}
 told_plane : (h : SegmentHead) (cells : List ℤ) (depths : List ℕ) (plan : PlanePlan) (n : ℕ) → depths ≡ block_depths (blocks_in cells) →
     plan.plane ≡ nth_plane h n → plan.q ≡ q_of h → plan.weights ≡ h.image.weights →
     plane_of cells depths plan ≡ plane_at h (blocks_in cells) (block_depths (blocks_in cells)) (nth_plane h n)
-told_plane h cells depths plan n same number low weights =
-    let at : List ℕ → Weights → ℕ → ℕ → Plane = λ d w b q. record { blocks = blocks_in cells; depths = d; weights = w.shifts; number = b; q = q } in
-    ap (λ d. at d plan.weights plan.plane plan.q) same
-    ∙ ap (λ w. at (block_depths (blocks_in cells)) w plan.plane plan.q) weights
-    ∙ ap (λ b. at (block_depths (blocks_in cells)) h.image.weights b plan.q) number
-    ∙ ap (λ q. at (block_depths (blocks_in cells)) h.image.weights (nth_plane h n) q) low
+told_plane h cells depths plan n same number low weights = grind (arith, nat_tests)
 
 plane_sent : (book : Book) (p : Plane) (last stages : ℕ) → last + 1 ≡ stages → text (chosen_items book p last) ≡ text (plane_reading book (chosen book p) p stages)
 plane_sent book p last stages e = ap (λ s. text (plane_items book (chosen book p) p s)) e ∙ sym (plane_text book (chosen book p) p stages)

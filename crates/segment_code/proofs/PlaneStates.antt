@@ -22,8 +22,8 @@ use Rattle.bit_pipe.specs.declared.fault.Part.TheVariants.{Whole}
 use Rattle.bit_pipe.specs.declared.fault.TextFault.{TextFault}
 use Rattle.bit_pipe.proofs.ItemReading.{reads_then, reads_cut, reads_whole}
 use Rattle.bit_pipe.proofs.Taking.{takes_start, takes_then, in_later}
-use Rattle.dc_depths.proofs.TakenDcs.{cut_same, later_items}
-use Rattle.bit_pipe.proofs.Endings.{later_answer}
+use Rattle.dc_depths.proofs.TakenDcs.{later_items}
+use Rattle.bit_pipe.proofs.Endings.{later_answer, cut_read}
 use Rattle.number_defs.specs.Ranges.{complement}
 use Rattle.number_defs.specs.Depths.{depth_items}
 use Rattle.plane_defs.specs.Spans.{span}
@@ -87,8 +87,7 @@ unfolding words_with
 words_known words p options known also b g n low high = by_test (eqb b p)
   where
     by_test : (t : Bool) → option_of (cond t options (words b) g) n < n
-    by_test true = also g n low high
-    by_test false = known b g n low high
+    by_test t = grind (arith, nat_tests)
 
 -- nothing is after some places
 rest_empty : {X : Type 0} (f : ℕ → List X) (a d : ℕ) → ((i : ℕ) → a ≤ i → i < a + d → f i ≡ []) → flat_map f (span 0 (a + d)) ≡ flat_map f (span 0 a)
@@ -104,10 +103,7 @@ rest_empty f a (suc d) none =
 
 module _ (head : SegmentHead) (block : List ℤ) (h : HasDc head block) where
   no_number : (i : ℕ) → 1 ≤ i → magnitude block i ≡ 0
-  no_number i first = elim (cases_lt i 64) [
-    | inl lt ↦ ap unsigned_abs (h.acs i (first, lt))
-    | inr past ↦ ap unsigned_abs (get_or_past block i (pos 0) (omega (arith, past, h.whole)))
-  ]
+  no_number i first = grind (arith, nat_tests, get_or_past)
 
   block_multiple : IsMultiple block head.image.weights.shifts
   unfolding wave_blocks.place_of
@@ -307,10 +303,7 @@ module _ {I : Type 0} {k : SourceOf I} {book : Book} (head : SegmentHead) (goes_
 
     here_same : plane_of n ≡ here
     unfolding words
-    here_same =
-        ap (λ e. plane_reading book (words_with s.words p t.options e) (plane_at head t.values depths e) (stages_sent head e)) at_plane
-        ∙ ap (λ w. plane_reading book w (plane_at head t.values depths p) (stages_sent head p)) (words_here s.words p t.options)
-        ∙ ap (λ m. plane_reading book t.options (plane_at head t.values depths p) m) stages_are
+    here_same = grind (arith, nat_tests, words_with, words, at_plane, words_here)
 
     taken : Takes k a b (text first)
     taken = subst (λ l. Takes k a b (text l)) first_same s.taken
@@ -333,9 +326,7 @@ module _ {I : Type 0} {k : SourceOf I} {book : Book} (head : SegmentHead) (goes_
 
       here_steps : given_in head t.values depths options m r p ≡ steps_given book t.options (plane_with t.values depths weights p q) stages mp r
       unfolding words
-      here_steps =
-          in_plane p ∙ ap (λ w. steps_given book w (plane_at head t.values depths p) (stages_sent head p) (left p) r) (words_here s.words p t.options)
-          ∙ ap (λ m. steps_given book t.options (plane_at head t.values depths p) m (left p) r) stages_are ∙ ap (λ m. steps_given book t.options (plane_at head t.values depths p) stages m r) left_here
+      here_steps = grind (arith, nat_tests, in_plane, words_here, words, left_here)
 
       higher : (e : ℕ) → p < e → e < head.depth_ac → given_in head t.values depths options m r e ≡ all_stages (get_or t.values r []) (get_or depths r 0) weights e q
       higher e high within =
@@ -398,7 +389,7 @@ module _ {I : Type 0} {k : SourceOf I} {book : Book} (head : SegmentHead) (goes_
   takes_cut cut deep =
       let zero : ℕ → ℕ = λ g. 0 in
       let p = parts_of (plane_of zero zero) head.depth_ac n (omega (arith, inside)) in
-      takes_last p.others (p.same ∙ ap (λ l. first zero zero ++ (l ++ p.others)) (here_same zero zero)) (reads_cut p.others cut t.read) (cut_same (length (here zero zero ++ p.others)) (length (here zero zero)) t.ending cut) deep
+      takes_last p.others (p.same ∙ ap (λ l. first zero zero ++ (l ++ p.others)) (here_same zero zero)) (reads_cut p.others cut t.read) (cut_read (length (here zero zero ++ p.others)) (length (here zero zero)) t.ending cut) deep
 
   -- the stop's plane
   pub takes_stop : p ≡ head.stop.plane → ((r : ℕ) → r < length depths → get_or depths r 0 ≤ head.depth_ac) → TakesPlanes k book head depths result a c before now
@@ -415,10 +406,7 @@ module _ {I : Type 0} {k : SourceOf I} {book : Book} (head : SegmentHead) (goes_
       takes_last [] parts (subst (λ l. Reads k l t.ending b c) whole_here t.read) (ap (λ l. items_read (length l) t.ending) (sym whole_here)) deep
     where
       none : (i : ℕ) → n < i → i < head.depth_ac → plane_of (λ g. 0) (λ g. 0) i ≡ []
-      none i low high =
-          let e : ℕ = nth_plane head i in
-          let under : e < head.stop.plane = omega (arith, low, high, last) in
-          ap (λ m. plane_reading book (words e) (plane_at head t.values depths e) m) (sent_none head e under) ∙ flat_map-span-none _ 0
+      none i low high = grind (arith, nat_tests, words, sent_none, flat_map-span-none)
 
   -- ---- a whole plane above the stop's
 

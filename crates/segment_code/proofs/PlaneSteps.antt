@@ -6,6 +6,7 @@ use Rattle.std.proofs.lemmas.Bool.{cases_lt}
 use Rattle.std.proofs.lemmas.Int.{ints}
 use Rattle.std.proofs.lemmas.List.{get_or_past}
 use Rattle.std.proofs.lemmas.Nat.{pow_pos, mod_below, shr_split}
+use Rattle.std.proofs.lemmas.Bool.Decides.{nat_tests}
 use Rattle.item_defs.specs.Bits.{bit}
 use Rattle.number_defs.specs.Ranges.{complement}
 use Rattle.plane_defs.specs.Sets.{magnitude, significant, coded, shift}
@@ -38,24 +39,16 @@ cut_multiple z s w part e = elim (cases_lt w s) [
 
 -- a number of some magnitude has the sign that it was given
 sign_kept : (minus : Bool) (size : ℕ) → 1 ≤ size → negative (cond minus (neg_ℤ (pos size)) (pos size)) ≡ minus
-sign_kept true zero some = absurd (omega arith)
-sign_kept true (suc n) some = refl
-sign_kept false size some = refl
+sign_kept minus size some = grind (arith, nat_tests)
 
 size_kept : (minus : Bool) (size : ℕ) → unsigned_abs (cond minus (neg_ℤ (pos size)) (pos size)) ≡ size
-size_kept true zero = refl
-size_kept true (suc n) = refl
-size_kept false size = refl
+size_kept minus size = grind (arith, nat_tests)
 
 no_either : (a b c : Bool) → a ≡ false → b ≡ true → (a || (b && c)) ≡ c
-no_either true b c e f = absurd cc
-no_either false true c e f = refl
-no_either false false c e f = absurd cc
+no_either a b c e f = grind (arith, nat_tests)
 
 same_either : (a b c : Bool) → a ≡ c → (a || (b && c)) ≡ c
-same_either true b c e = e
-same_either false true c e = refl
-same_either false false c e = e
+same_either a b c e = grind (arith, nat_tests)
 
 module _ (weights : List ℕ) (q d p : ℕ) (some : 1 ≤ p) (V B N : List ℤ) (tells : Tells p (all_stages V d weights p q) V B N) (candidate : IsCandidate weights p q d B V) (awaits : AwaitsPlane weights p q d B)
     (low : complement (min (p + 1) q) (get_or B 0 (pos 0)) ≡ 0) where
@@ -81,9 +74,7 @@ module _ (weights : List ℕ) (q d p : ℕ) (some : 1 ≤ p) (V B N : List ℤ) 
     minus = negative (get_or B i (pos 0)) || (has_sign_in (all_stages V d weights p q) i && negative (get_or V i (pos 0)))
 
     number_is : get_or N i (pos 0) ≡ cond minus (neg_ℤ (pos (upper n p))) (pos (upper n p))
-    number_is =
-        tells.acs i ac
-        ∙ ap (λ s. cond minus (neg_ℤ (pos s)) (pos s)) (ap (λ s. s + cond (had && bit n p) (2 ^ p) 0) before_is ∙ ap (λ b. upper n (p + 1) + cond b (2 ^ p) 0) bit_is ∙ upper_step n p)
+    number_is = grind (arith, nat_tests, before_is, upper, bit_is, upper_step)
 
     size_is : magnitude N i ≡ upper n p
     size_is = ap unsigned_abs number_is ∙ size_kept minus (upper n p)
@@ -151,8 +142,7 @@ module _ (weights : List ℕ) (q d p : ℕ) (some : 1 ≤ p) (V B N : List ℤ) 
           ∙ ap (λ b. cut z (p + 1) +ℤ pos (cond b (2 ^ p) 0)) told ∙ cut_step z p ∙ ap (cut z) v
         where
           enough : (complement 1 (int_shr z p) == 1) ≡ true → (p < shift weights 0) ⊎ (shift weights 0 ≤ p) → shift weights 0 ≤ p
-          enough e (inl less) = absurd (not_both (complement 1 (int_shr z p) == 1) e (below_shift p less))
-          enough e (inr le) = le
+          enough e h1 = grind (arith, nat_tests, not_both, below_shift)
       by_q (inr past) =
           let w : min (p + 1) q ≡ min p q = omega (arith, past) in
           let none = none_without (has_bit_in (all_stages V d weights p q) 0) (twos_bit z p) (2 ^ p) (no_dc_bit V p q (all_stages V d weights p q) (all_plain V d weights p q) past) in

@@ -1,10 +1,10 @@
 -- Sizes by leading zeros, and the greatest of sizes.
-use Rattle.std.proofs.Common.{◌≡◌, ℕ, zero, suc, ◌+◌, ◌-◌, ◌*◌, ◌^◌, ◌<◌, ◌≤◌, List, [], ◌∷◌, ◌++◌, length, max, get_or, refl, ap, ◌∙◌, arith, inl, inr}
-use Rattle.std.specs.Prelude.{ℤ, pos, negsuc, fold}
+use Rattle.std.proofs.Common.{◌≡◌, ℕ, zero, suc, ◌+◌, ◌-◌, ◌*◌, ◌^◌, ◌<◌, ◌≤◌, List, [], ◌∷◌, ◌++◌, length, max, get_or, refl, ap, ◌∙◌, arith}
+use Rattle.std.specs.Prelude.{ℤ, fold}
 use Rattle.std.proofs.Math.Pow.{pow_mono}
 use Rattle.std.proofs.Math.Nat.{pow-suc}
-use Rattle.std.proofs.lemmas.Bool.{cases_lt}
 use Rattle.std.proofs.lemmas.List.Sums.{fold-append}
+use Rattle.std.proofs.lemmas.Bool.Decides.{nat_tests}
 use lib.Count.{count_leading_zeros, leading_length}
 use Rattle.segment_defs.specs.Size.{size_of, greatest}
 use Rattle.segment_defs.specs.Depths.{signed_size}
@@ -26,16 +26,7 @@ size-leading_zeros n lt =
 
 -- the size of the greatest of numbers is the greatest of their sizes
 size-max : (a b : ℕ) → size_of (max a b) ≡ max (size_of a) (size_of b)
-size-max a b = elim (cases_lt a b) [
-  | inl lt ↦
-      let m : max a b ≡ b = omega arith in
-      let s : size_of a ≤ size_of b = size_of-mono a b (omega arith) in
-      ap size_of m ∙ omega arith
-  | inr ge ↦
-      let m : max a b ≡ a = omega arith in
-      let s : size_of b ≤ size_of a = size_of-mono b a ge in
-      ap size_of m ∙ omega arith
-]
+size-max a b = grind (arith, nat_tests, size_of-mono)
 
 module _ {X : Type 0} (f : X → ℕ) where
   size_after : (a : ℕ) (xs : List X) → size_of (fold (λ most x. max most (f x)) a xs) ≡ fold (λ most x. max most (size_of (f x))) (size_of a) xs
@@ -60,5 +51,4 @@ module _ {X : Type 0} (f : X → ℕ) where
 
 -- two's complement takes at least one bit
 pub signed_size-some : (z : ℤ) → 1 ≤ signed_size z
-signed_size-some (pos a) = omega arith
-signed_size-some (negsuc a) = omega arith
+signed_size-some z = grind (arith, nat_tests)

@@ -5,6 +5,7 @@ use Rattle.std.specs.Prelude.{filter, nat_lt, nat_le, ◌&&◌, ◌||◌, ◌==�
 use Rattle.std.specs.List.{flat_map, list_any, AllByRecursion}
 use Rattle.std.proofs.lemmas.Bool.{or_cases}
 use Rattle.std.proofs.lemmas.Bool.Decides.{nat_tests}
+use Rattle.plane_defs.proofs.Seen.{newly_here}
 use Rattle.item_defs.specs.Bits.{bit}
 use Rattle.base_122.specs.declared.book.Book.{Book}
 use Rattle.plane_defs.specs.declared.entries.Entry.{Entry}
@@ -24,7 +25,6 @@ use Rattle.plane_texts.specs.Given.{whole_steps, entries_before, count_before, s
 use Rattle.plane_texts.proofs.NothingTold.{any_bit, any_sign}
 use Rattle.plane_texts.proofs.Says.{kept, anything}
 use Rattle.text_defs.proofs.AllSent.{all_stages}
-use Rattle.plane_texts.proofs.StageParts.{newly_here}
 
 pub record IsPlain (block : List ℤ) (plane q : ℕ) (s : Step) : Type 0 where
   pub signs : (p : ℕ) → tells_sign p s.tells ≡ true → significant block plane p ≡ true
@@ -82,11 +82,7 @@ module _ (block : List ℤ) (weights : List ℕ) (plane q : ℕ) where
   dc_plain = either (coded weights plane 0 && nat_lt plane q) (λ le. below le)
     where
       below : q ≤ plane → (coded weights plane 0 && nat_lt plane q) ≡ false
-      below le = no_both (coded weights plane 0) (nat_lt plane q) (let t : nat_lt plane q ≡ false = grind (arith, nat_tests) in t)
-        where
-          no_both : (x y : Bool) → y ≡ false → (x && y) ≡ false
-          no_both true y e = e
-          no_both false y e = refl
+      below le = grind (arith, nat_tests)
 
       either : (b : Bool) → (q ≤ plane → b ≡ false) → ArePlain block plane q (cond b (step free (bit_at 0) (Bit (twos_bit (get_or block 0 (pos 0)) plane)) ∷ []) [])
       either true none = (record { signs = λ p h. never h; dc = λ le. absurd (let e = none le in cc) }, tt)

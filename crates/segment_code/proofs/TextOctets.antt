@@ -1,10 +1,10 @@
 -- The octets of a text that was put whole, or up to its limit.
-use Rattle.std.proofs.Common.{◌≡◌, ℕ, ◌*◌, ◌/◌, ◌%◌, ◌≤◌, List, ◌++◌, length, take, drop, Bool, true, false, refl, sym, ap, ◌∙◌, arith, length-append}
+use Rattle.std.proofs.Common.{◌≡◌, ℕ, ◌*◌, ◌%◌, ◌≤◌, List, ◌++◌, length, take, drop, Bool, false, refl, sym, ap, ◌∙◌, arith, length-append}
 use Rattle.std.specs.Prelude.{◌==◌}
 use Rattle.std.proofs.lemmas.Bool.Decides.{nat_tests}
 use Rattle.std.proofs.lemmas.List.{append-nil, take_all, take_at, take-append-le, take-append-drop, length-take-le}
 use Rattle.item_defs.specs.Bits.{copies, octets_of}
-use Rattle.item_defs.specs.Padding.{rounded, padded_length, padding, padded}
+use Rattle.item_defs.specs.Padding.{padded_length, padding, padded}
 use Rattle.item_defs.proofs.BitLists.{length-copies, copies_none}
 use Rattle.item_defs.proofs.OctetBits.{length-octets_of}
 use Rattle.item_defs.proofs.Rounding.{rounded_bounds, rounded_least}
@@ -30,37 +30,18 @@ pub record IsLimit (word limit : ℕ) : Type 0 where
 
 -- what is within the limit is within it after it is padded to whole words
 pub padded_within : (word limit used : ℕ) (fill : Bool) → IsLimit word limit → used ≤ 8 * limit → padded_length word limit fill used ≤ 8 * limit
-padded_within word limit used fill l le =
-    let k = limit / word in
-    let exact : limit ≡ k * word = omega (arith, l.whole, l.octets) in
-    let same : k * (8 * word) ≡ 8 * limit = ap (λ n. n) (grind arith) ∙ ap (λ n. 8 * n) (sym exact) in
-    let round : rounded (8 * word) used ≤ k * (8 * word) = rounded_least (8 * word) used k (omega (arith, l.octets)) (omega (arith, same)) in
-    by_fill fill (omega (arith, round, same))
-  where
-    by_fill : (fill : Bool) → rounded (8 * word) used ≤ 8 * limit → padded_length word limit fill used ≤ 8 * limit
-    by_fill true r = omega (arith, r)
-    by_fill false r = omega (arith, r)
+padded_within word limit used fill l le = grind (arith, nat_tests, rounded_least)
 
 pub padded_least : (word limit used : ℕ) (fill : Bool) → 1 ≤ word → used ≤ padded_length word limit fill used
-padded_least word limit used fill some = by_fill fill (rounded_bounds (8 * word) used (omega arith)).0
-  where
-    by_fill : (fill : Bool) → used ≤ rounded (8 * word) used → used ≤ padded_length word limit fill used
-    by_fill true r = omega (arith, r)
-    by_fill false r = omega (arith, r)
+padded_least word limit used fill some = grind (arith, nat_tests, rounded_bounds)
 
 pub length-padded : (word limit : ℕ) (fill : Bool) (bits : List Bool) → 1 ≤ word → length (padded word limit fill bits) ≡ padded_length word limit fill (length bits)
-length-padded word limit fill bits some =
-    let n = padding word limit fill (length bits) in
-    omega (arith, length-append bits (copies n false), length-copies n false, padded_least word limit (length bits) fill some)
+length-padded word limit fill bits some = grind (arith, nat_tests, length-append, length-copies, padded_least)
 
 -- all bits fit below the limit
 pub text_within : (word limit : ℕ) (fill : Bool) (bits : List Bool) → IsLimit word limit → length bits ≤ 8 * limit → octets_of (padded word limit fill bits) ≡ text_octets word limit fill bits
 unfolding text_octets
-text_within word limit fill bits l le =
-    let there : (limit == 0) ≡ false = grind (arith, nat_tests, l.some) in
-    let all = padded word limit fill bits in
-    let short : length (octets_of all) ≤ limit = omega (arith, length-octets_of all, length-padded word limit fill bits l.octets, padded_within word limit (length bits) fill l le) in
-    rw there (sym (take_all limit (octets_of all) short))
+text_within word limit fill bits l le = grind (arith, nat_tests, length-octets_of, length-padded, padded_within, take_all)
 
 -- there is no limit
 pub text_unlimited : (word bound : ℕ) (bits : List Bool) → octets_of (padded word bound false bits) ≡ text_octets word 0 false bits

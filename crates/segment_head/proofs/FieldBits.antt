@@ -1,24 +1,18 @@
 -- The number that octets represent, and the fields in its bits.
-use Rattle.std.proofs.Common.{◌≡◌, ℕ, zero, suc, ◌+◌, ◌-◌, ◌*◌, ◌/◌, ◌%◌, ◌^◌, ◌<◌, ◌≤◌, List, [], ◌∷◌, ◌++◌, length, take, drop, get_or, refl, sym, ap, subst, ◌∙◌, arith, inl, inr, length-drop}
+use Rattle.std.proofs.Common.{◌≡◌, ℕ, zero, suc, ◌+◌, ◌-◌, ◌*◌, ◌/◌, ◌%◌, ◌^◌, ◌<◌, ◌≤◌, List, [], ◌∷◌, ◌++◌, length, take, drop, get_or, sym, ap, subst, ◌∙◌, arith, inl, inr, length-drop}
 use Rattle.std.proofs.lemmas.Bool.{cases_lt}
-use Rattle.std.proofs.lemmas.Nat.{pow-add, and_mask, one_shl}
+use Rattle.std.proofs.lemmas.Nat.{and_mask, one_shl}
 use Rattle.std.proofs.lemmas.List.{drop-drop, drop_at, take-append-drop, take-append-le, drop-append-le, length-take-le, get_or_past}
 use Rattle.std.proofs.lemmas.List.Elements.{All-take, All-drop, All-from_get_or}
 use Rattle.std.specs.Prelude.{bit_and}
 use Rattle.std.specs.Int.{div_ceil}
+use Rattle.bit_pipe.proofs.WordOctets.{octets_wide}
 use Rattle.byteorder.specs.Endian.{big_number, big_from}
 use Rattle.byteorder.specs.Numbers.{big_from-cons, big_from-lt}
 use Rattle.item_defs.specs.Bits.{bits_of, value_of, AreOctets, bits_of_octets}
 use Rattle.item_defs.proofs.NumberBits.{bits_none, bits_join, take-bits_of, drop-bits_of, value_of-bits_of}
 use Rattle.item_defs.proofs.OctetBits.{no_octets, octets_first, octets_append, octets_rest, length-bits_of_octets}
 use Rattle.segment_defs.specs.Fields.{number_in}
-
-pow-256 : (n : ℕ) → 256 ^ n ≡ 2 ^ (8 * n)
-pow-256 zero = refl
-pow-256 (suc n) =
-    let e : 8 * suc n ≡ 8 + 8 * n = omega arith in
-    let f : suc n ≡ 1 + n = omega arith in
-    ap (λ k. 256 ^ k) f ∙ pow-add 256 1 n ∙ ap (λ k. 256 * k) (pow-256 n) ∙ sym (ap (λ k. 2 ^ k) e ∙ pow-add 2 8 (8 * n))
 
 octet_at : (xs : List ℕ) → AreOctets xs → (k : ℕ) → get_or xs k 0 < 256
 octet_at xs h k = elim (cases_lt k (length xs)) [ inl lt ↦ h k 0 lt | inr ge ↦ omega (arith, get_or_past xs k 0 ge) ]
@@ -30,8 +24,8 @@ bits_of_big_number zero (x ∷ xs) e h = absurd (omega arith)
 bits_of_big_number (suc n) [] e h = absurd (omega arith)
 bits_of_big_number (suc n) (x ∷ xs) e h =
     let rest = bits_of_big_number n xs (omega (arith, e)) (octets_rest x xs h) in
-    let small : big_number n xs < 2 ^ (8 * n) = subst (λ k. big_number n xs < k) (pow-256 n) (big_from-lt 0 n xs (octet_at xs (octets_rest x xs h))) in
-    let all : big_number (suc n) (x ∷ xs) ≡ x * 2 ^ (8 * n) + big_number n xs = ap (λ k. x * k + big_from 1 n (x ∷ xs)) (pow-256 n) ∙ ap (λ k. x * 2 ^ (8 * n) + k) (big_from-cons 0 n x xs) in
+    let small : big_number n xs < 2 ^ (8 * n) = subst (λ k. big_number n xs < k) (octets_wide n) (big_from-lt 0 n xs (octet_at xs (octets_rest x xs h))) in
+    let all : big_number (suc n) (x ∷ xs) ≡ x * 2 ^ (8 * n) + big_number n xs = ap (λ k. x * k + big_from 1 n (x ∷ xs)) (octets_wide n) ∙ ap (λ k. x * 2 ^ (8 * n) + k) (big_from-cons 0 n x xs) in
     let count : 8 + 8 * n ≡ 8 * suc n = omega arith in
     octets_first x xs ∙ ap (λ r. bits_of 8 x ++ r) rest ∙ bits_join 8 (8 * n) x (big_number n xs) small ∙ ap (λ k. bits_of k (x * 2 ^ (8 * n) + big_number n xs)) count ∙ ap (bits_of (8 * suc n)) (sym all)
 

@@ -183,7 +183,7 @@ pub head_undoes : (h : SegmentHead) (more : List Bool) → IsHead h → h.count 
 head_undoes h more ok small ten = read_again h (octets_of (head_bits h ++ more)) ok (says_head h more ok small ten)
 
 -- a head has 19 or 20 octets, 8 of them those of Part 4
-octets_of_last : (last : Bool) → (if last then 4 else 3) + 16 ≡ (if last then 20 else 19)
+pub octets_of_last : (last : Bool) → (if last then 4 else 3) + 16 ≡ (if last then 20 else 19)
 octets_of_last true = refl
 octets_of_last false = refl
 

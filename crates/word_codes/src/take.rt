@@ -68,6 +68,7 @@ pub fn take_option<I: OctetIn>(input: &mut BitIn<I>, length: u8) -> Result<Optio
 /// # Errors
 ///
 /// The faults of the input.
+#[inline(always)]
 pub fn take_word_by<I: OctetIn>(
     input: &mut BitIn<I>,
     tables: &WordTables,

@@ -3,6 +3,7 @@ use Rattle.std.specs.Prelude.{Ok}
 use Rattle.std.specs.List.{flat_map}
 use Rattle.std.proofs.lemmas.Result.{err_from_is_err_and}
 use Rattle.bit_pipe.specs.Standing.{stand}
+use Rattle.plane_defs.specs.Entries.{stage_number}
 use Rattle.plane_defs.specs.Spans.{span}
 use Rattle.plane_defs.specs.Planes.{of_block, gaggle_size}
 use Rattle.plane_defs.specs.Marks.{depths_of}
@@ -14,11 +15,12 @@ use Rattle.plane_coder.proofs.stages.put_gaggle.Goals as goal
 
 pub loop-place-init : goal.loop-place-init
 loop-place-init g c =
-    let f = of_block (plane_in c.args.view.now (depths_of c.args.marks.now)) c.args.stage in
+    let f = of_block (plane_in c.args.view.now (depths_of c.args.marks.now)) (stage_number g.row.STAGE) in
     record { so_far = none_spelled f (16 * c.args.g) _ _ c.requires.«open»; is_open = c.requires.«open»; silent = c.requires.silent }
 
 pub put_block_at-requires : goal.put_block_at-requires
 put_block_at-requires g c = record {
+  stage = c.requires.stage;
   «open» = c.loop-place.invariant.is_open;
   same = c.requires.same ∙ sym c.loop-place.invariant.so_far.options;
   silent = c.loop-place.invariant.silent;
@@ -30,7 +32,7 @@ put_block_at-requires g c = record {
 pub loop-place-preserved : goal.loop-place-preserved
 loop-place-preserved g c =
     let i = c.loop-place.invariant in
-    let f = of_block (plane_in c.args.view.now (depths_of c.args.marks.now)) c.args.stage in
+    let f = of_block (plane_in c.args.view.now (depths_of c.args.marks.now)) (stage_number g.row.STAGE) in
     let p = c.in_ok-put_block_at.ensures.spells in
     record {
       so_far = more_spelled f (16 * c.args.g) c.loop-place.place _ refl i.so_far p;
@@ -45,7 +47,7 @@ returns-in_err-put_block_at g c =
     let below : c.loop-place.place < gaggle_size plane c.args.g = omega (arith, c.min-place-end.ensures, c.loop-place-test.true, length-depths_of c.args.marks.now) in
     record {
       spells = rw (p.1, p.2)
-          (spelled_ended (of_block plane c.args.stage) (16 * c.args.g) c.loop-place.place (gaggle_size plane c.args.g) _ below refl c.loop-place.invariant.so_far c.in_err-put_block_at.ensures.spells);
+          (spelled_ended (of_block plane (stage_number g.row.STAGE)) (16 * c.args.g) c.loop-place.place (gaggle_size plane c.args.g) _ below refl c.loop-place.invariant.so_far c.in_err-put_block_at.ensures.spells);
       silent = c.in_err-put_block_at.ensures.silent;
     }
 
@@ -56,6 +58,6 @@ returns g c =
     omega (arith, c.min-place-end.ensures, c.loop-place-test.false, c.loop-place.auto.place-end, length-depths_of c.args.marks.now) in
     record {
       spells = subst (λ n. Spells g.O.OctetOut.sink c.args.view.now.tables.now.book c.args.pending.now.gaggle c.loop-place.pending.gaggle (Ok tt) (stand g.O.OctetOut.sink c.args.out.now) (stand g.O.OctetOut.sink c.loop-place.out)
-          (flat_map (of_block plane c.args.stage) (span (16 * c.args.g) n))) all c.loop-place.invariant.so_far;
+          (flat_map (of_block plane (stage_number g.row.STAGE)) (span (16 * c.args.g) n))) all c.loop-place.invariant.so_far;
       silent = c.loop-place.invariant.silent;
     }

@@ -2,6 +2,7 @@ use Rattle.std.proofs.Common.{◌≡◌, ◌*◌}
 use Rattle.std.specs.Prelude.{Ok}
 use Rattle.std.specs.List.{flat_map}
 use Rattle.bit_pipe.specs.Standing.{stand, IsOpen}
+use Rattle.plane_defs.specs.Entries.{stage_number}
 use Rattle.plane_defs.specs.Spans.{span}
 use Rattle.plane_defs.specs.Planes.{of_block}
 use Rattle.plane_defs.specs.Marks.{depths_of}
@@ -12,7 +13,7 @@ use Rattle.plane_coder.proofs.stages.put_gaggle.Given as goal
 abbrev pub invariant-loop-place : goal.invariant-loop-place
 invariant-loop-place g l = record {
   so_far : Spells g.O.OctetOut.sink l.view.tables.now.book l.initial.pending.gaggle l.pending.gaggle (Ok tt) (stand g.O.OctetOut.sink l.initial.out) (stand g.O.OctetOut.sink l.out)
-      (flat_map (of_block (plane_in l.view (depths_of l.marks)) l.stage) (span (16 * l.g) l.place));
+      (flat_map (of_block (plane_in l.view (depths_of l.marks)) (stage_number g.row.STAGE)) (span (16 * l.g) l.place));
   is_open : IsOpen (stand g.O.OctetOut.sink l.out);
   silent : l.pending.count ≡ 0;
 }

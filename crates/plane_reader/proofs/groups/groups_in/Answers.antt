@@ -21,8 +21,8 @@ loop-read-init c = record {
   small = c.requires.few;
   short = omega arith;
   moved = omega (arith, c.ranges.window.fits);
-  read = λ f stage earlier done now wanted after g m a b d next passed is_in taken.
-      none_read c.args.groups.first c.args.groups.count now wanted c.args.groups.now c.args.window is_in taken passed;
+  read = λ f stage earlier done now wanted after mask g m a b d next covers passed is_in taken.
+      none_read c.args.groups.first c.args.groups.count now wanted mask c.args.window is_in taken passed;
 }
 
 pub overflow_add-start : goal.overflow_add-start
@@ -74,7 +74,7 @@ loop-read-preserved c =
       small = omega (arith, i.small, parts.fewer);
       short = omega (arith, short, c.if-read-le44.true);
       moved = moved_on c.args.window len types.len c.loop-read.rest i.moved;
-      read = λ f stage earlier done now wanted after g m a b d next passed is_in taken.
+      read = λ f stage earlier done now wanted after mask g m a b d next covers passed is_in taken.
           let window = c.args.window in
           let front = first_of len window in
           let back = first_of types.len (window * 2 ^ len % 2 ^ 64) in
@@ -84,7 +84,7 @@ loop-read-preserved c =
           let last : Takes told mid d (first_of types.len c.loop-read.rest) = subst (λ n. Takes told mid d (first_of types.len n)) (sym i.moved) (takes_rest b d front back is_in both) in
           let z : 0 + j ≡ j = omega arith in
           let flag = c.has.ensures wanted 0 c.args.groups.count next.wanted_shown inside ∙ ap wanted z in
-          groups_more next (i.read f stage earlier done now wanted after g m a b mid next passed is_in before) j here.within here.here here.none_before c.has.result flag
+          groups_more next covers (i.read f stage earlier done now wanted after mask g m a b mid next covers passed is_in before) j here.within here.here here.none_before c.has.result flag
           (λ f' stage' earlier' done' after' types_next.
           let shown = from_zero (c.args.groups.first + 4 * j) (c.part-here.ensures.told _ 0 64 (shows_own c.args.due 64 (search rules)) types_next.within) in
           types_at_hand c.requires.known types_next c.part-here.result small shown c.loop-read.rest t (in_later is_in before) last c.add_bits.ensures.minus c.add_bits.ensures.bits c.add_minus.ensures.bits c.add_minus.ensures.minus)

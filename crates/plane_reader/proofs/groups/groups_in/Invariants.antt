@@ -7,7 +7,7 @@ use Rattle.bit_pipe.specs.Coming.{Coming, IsIn, Takes}
 use Rattle.bit_pipe.specs.Windows.{first_of}
 use Rattle.plane_reader.specs.declared.found.Found.{Found}
 use Rattle.plane_reader.specs.Frames.{Frame, GroupsNext}
-use Rattle.plane_reader.specs.Groups.{GroupsPassed}
+use Rattle.plane_reader.specs.Groups.{Covers, GroupsPassed}
 use Rattle.plane_reader.specs.Shadows.{told}
 use Rattle.plane_reader.proofs.groups.groups_in.Given as goal
 
@@ -17,11 +17,11 @@ invariant-loop-read l = record {
   small : l.read.left < 2 ^ l.groups.count;
   short : l.read.len ≤ 56;
   moved : l.rest ≡ l.window * 2 ^ l.read.len % 2 ^ 64;
-  read : (f : Frame) (stage : ℕ) (earlier : ℕ → List Step) (done : List Step) (now wanted : ℕ → Bool) (after : List ℤ → List Step) (g : Gaggle) (m : Found) (a b c : Coming (Option Tail)) →
-      GroupsNext f stage earlier done l.groups.first l.groups.count now wanted l.due l.groups.now l.groups.wanted after →
-      GroupsPassed told l.tables.book f stage earlier done l.groups.first l.groups.count now wanted l.groups.now l.left g l.gaggle m l.fn.found a b → IsIn b →
+  read : (f : Frame) (stage : ℕ) (earlier : ℕ → List Step) (done : List Step) (now wanted : ℕ → Bool) (after : List ℤ → List Step) (mask : ℕ) (g : Gaggle) (m : Found) (a b c : Coming (Option Tail)) →
+      GroupsNext f stage earlier done l.groups.first l.groups.count now wanted l.due l.groups.now l.groups.wanted after → Covers l.groups.first l.groups.count now wanted l.due mask →
+      GroupsPassed told l.tables.book f stage earlier done l.groups.first l.groups.count now wanted mask l.left g l.gaggle m l.fn.found a b → IsIn b →
       Takes told b c (first_of l.read.len l.window) →
-      GroupsPassed told l.tables.book f stage earlier done l.groups.first l.groups.count now wanted l.groups.now l.read.left g l.gaggle m l.read.found a c;
+      GroupsPassed told l.tables.book f stage earlier done l.groups.first l.groups.count now wanted mask l.read.left g l.gaggle m l.read.found a c;
 }
 
 abbrev pub decreases-loop-read : goal.decreases-loop-read

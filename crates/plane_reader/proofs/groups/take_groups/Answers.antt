@@ -12,13 +12,13 @@ loop-left-init g c = record {
   options = c.requires.known;
   small = c.take_from_window-left.ensures.few;
   passed = λ f stage earlier done now wanted after next.
-      c.take_from_window-left.ensures.passed f stage earlier done now wanted after c.args.gaggle.now c.args.found.now (coming c.args.input.now) next
-      (groups_start next c.requires.known c.requires.open (takes_start g.I.OctetIn.source _ c.requires.open));
+      c.take_from_window-left.ensures.passed f stage earlier done now wanted after c.groups_with_bits-sent.result c.args.gaggle.now c.args.found.now (coming c.args.input.now) next (c.groups_with_bits-sent.ensures.covers now wanted next.now_shown next.wanted_shown)
+      (groups_start next (c.groups_with_bits-sent.ensures.covers now wanted next.now_shown next.wanted_shown) c.requires.known c.requires.open (takes_start g.I.OctetIn.source _ c.requires.open));
 }
 
 pub returns-clause-groups : goal.returns-clause-groups
 returns-clause-groups g c = λ f stage earlier done now wanted after next.
-    groups_all next (c.loop-left.invariant.passed f stage earlier done now wanted after next) c.loop-left-test.false
+    groups_all next (c.groups_with_bits-sent.ensures.covers now wanted next.now_shown next.wanted_shown) (c.loop-left.invariant.passed f stage earlier done now wanted after next) c.loop-left-test.false
 
 pub returns-in_err-take_types-clause-groups : goal.returns-in_err-take_types-clause-groups
 returns-in_err-take_types-clause-groups g c = λ f stage earlier done now wanted after next.
@@ -29,7 +29,7 @@ returns-in_err-take_types-clause-groups g c = λ f stage earlier done now wanted
     let inside : j < c.args.groups.count = bit_inside c.loop-left.left c.args.groups.count j c.loop-left.invariant.small first.here in
     let z : 0 + j ≡ j = omega arith in
     let flag = c.has.ensures wanted 0 c.args.groups.count next.wanted_shown inside ∙ ap wanted z in
-    rw (p.1, p.2) (groups_fault next passed j first.within first.here first.none_before c.has.result flag c.in_err-take_types.ensures.types refl)
+    rw (p.1, p.2) (groups_fault next (c.groups_with_bits-sent.ensures.covers now wanted next.now_shown next.wanted_shown) passed j first.within first.here first.none_before c.has.result flag c.in_err-take_types.ensures.types refl)
 
 pub returns-in_default-clause-groups : goal.returns-in_default-clause-groups
 returns-in_default-clause-groups g c = λ f stage earlier done now wanted after next.
@@ -40,7 +40,7 @@ returns-in_default-clause-groups g c = λ f stage earlier done now wanted after 
     let z : 0 + j ≡ j = omega arith in
     let flag = c.has.ensures wanted 0 c.args.groups.count next.wanted_shown inside ∙ ap wanted z in
     let t = rw c.in_default.is at c.in_ok-take_types.ensures in
-    groups_missing next passed j first.within first.here first.none_before c.has.result flag t.types refl
+    groups_missing next (c.groups_with_bits-sent.ensures.covers now wanted next.now_shown next.wanted_shown) passed j first.within first.here first.none_before c.has.result flag t.types refl
 
 pub take_from_window-left-requires-in-loop-left-clause-few : goal.take_from_window-left-requires-in-loop-left-clause-few
 take_from_window-left-requires-in-loop-left-clause-few g c = omega (arith, c.loop-left.invariant.small, c.without.ensures.fewer c.first_in-j.ensures.here)
@@ -61,8 +61,8 @@ loop-left-preserved g c =
           let passed = c.loop-left.invariant.passed f stage earlier done now wanted after next in
           let z : 0 + j ≡ j = omega arith in
           let flag = c.has.ensures wanted 0 c.args.groups.count next.wanted_shown inside ∙ ap wanted z in
-          hand.passed f stage earlier done now wanted after c.args.gaggle.now c.args.found.now (coming c.args.input.now) next
-          (groups_more next passed j first.within first.here first.none_before c.has.result flag t.types refl rest.result rest.ensures.gone rest.ensures.others);
+          hand.passed f stage earlier done now wanted after c.groups_with_bits-sent.result c.args.gaggle.now c.args.found.now (coming c.args.input.now) next (c.groups_with_bits-sent.ensures.covers now wanted next.now_shown next.wanted_shown)
+          (groups_more next (c.groups_with_bits-sent.ensures.covers now wanted next.now_shown next.wanted_shown) passed j first.within first.here first.none_before c.has.result flag t.types refl rest.result rest.ensures.gone rest.ensures.others);
     }
 
 pub loop-left-smaller : goal.loop-left-smaller

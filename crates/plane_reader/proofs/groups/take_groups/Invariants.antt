@@ -13,7 +13,7 @@ invariant-loop-left g l = record {
   small : l.left < 2 ^ l.groups.count;
   passed : (f : Frame) (stage : ℕ) (earlier : ℕ → List Step) (done : List Step) (now wanted : ℕ → Bool) (after : List ℤ → List Step) →
       GroupsNext f stage earlier done l.groups.first l.groups.count now wanted l.due l.groups.now l.groups.wanted after →
-      GroupsPassed g.I.OctetIn.source l.tables.book f stage earlier done l.groups.first l.groups.count now wanted l.groups.now l.left l.initial.gaggle l.gaggle l.fn.found l.found (coming l.fn.input) (coming l.input);
+      GroupsPassed g.I.OctetIn.source l.tables.book f stage earlier done l.groups.first l.groups.count now wanted l.sent l.left l.initial.gaggle l.gaggle l.fn.found l.found (coming l.fn.input) (coming l.input);
 }
 
 abbrev pub decreases-loop-left : goal.decreases-loop-left

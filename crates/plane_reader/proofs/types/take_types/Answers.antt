@@ -1,9 +1,28 @@
-use Rattle.std.proofs.Common.{rules}
+use Rattle.std.proofs.Common.{rules, ◌≡◌, false, sym, subst}
+use Rattle.std.specs.Prelude.{Ok, Some}
+use Rattle.item_defs.specs.Bits.{bit}
+use Rattle.bit_pipe.specs.Coming.{coming}
+use Rattle.plane_defs.specs.Spans.{span}
+use Rattle.plane_defs.specs.Steps.{typed_steps, some_one_where}
+use Rattle.block_masks.specs.Masks.{Shows}
+use Rattle.plane_reader.specs.Frames.{TypesNext}
+use Rattle.plane_reader.specs.Pieces.{FoundPiece, Anything}
+use Rattle.plane_reader.proofs.NothingDue.{none_due}
 use Rattle.block_masks.proofs.Viewing.{from_zero, nibble_small}
 use Rattle.plane_reader.proofs.FoundMasks.{room_four}
 use Rattle.block_masks.proofs.SettingLanes.{shows_own}
 use Rattle.plane_reader.proofs.TypesAtHand.{types_at_hand}
 use Rattle.plane_reader.proofs.types.take_types.Goals as goal
+
+pub returns-then-not-group-clause-types : goal.returns-then-not-group-clause-types
+returns-then-not-group-clause-types g c = λ f stage earlier done after next.
+    let group = c.args.group in
+    let none : c.part-here.result ≡ 0 = c.if-here-eq0.true in
+    let free : group.is_wanted ≡ false = search rules in
+    let shown = from_zero group.start (c.part-here.ensures.told _ 0 64 (shows_own c.args.due 64 (search rules)) next.within) in
+    subst (λ w. FoundPiece g.I.OctetIn.source c.args.tables.now.book f stage earlier done (λ v. typed_steps v f.weights f.plane (some_one_where w) (span group.start group.count)) Anything (Ok (Some tt)) c.args.gaggle.now c.args.gaggle.now c.args.found.now c.args.found.now (coming c.args.input.now) (coming c.args.input.now))
+    (sym free)
+    (none_due c.requires.known (subst (λ w. TypesNext f stage earlier done w group.start group.count c.args.due after) free next) (subst (λ n. Shows n (λ p. bit c.args.due p) group.start group.count) none shown) c.requires.open)
 
 pub types_in-requires-clause-due : goal.types_in-requires-clause-due
 types_in-requires-clause-due g c = nibble_small c.part-here.result c.args.group.count c.requires.few c.part-here.ensures.within

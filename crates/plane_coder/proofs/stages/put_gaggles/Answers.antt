@@ -1,7 +1,8 @@
-use Rattle.std.proofs.Common.{◌≡◌, ◌*◌, ◌<◌, length, ap, ◌∙◌, sym, subst, arith}
+use Rattle.std.proofs.Common.{◌≡◌, ◌*◌, ◌<◌, length, ap, ◌∙◌, refl, sym, subst, arith}
 use Rattle.block_masks.specs.declared.gaggle.Gaggle.{Gaggle}
 use Rattle.std.proofs.lemmas.Result.{err_from_is_err_and}
 use Rattle.plane_defs.specs.Planes.{gaggles, gaggle_items, before_stage}
+use Rattle.plane_defs.specs.Entries.{stage_number}
 use Rattle.plane_defs.specs.Marks.{depths_of}
 use Rattle.block_masks.specs.Gaggles.{Agrees, AreOptions, options_at}
 use Rattle.plane_coder.specs.Views.{plane_in}
@@ -10,7 +11,7 @@ use Rattle.block_masks.proofs.Marking.{same_marks, same_stored}
 use Rattle.block_masks.proofs.Agreeing.{none_agree, more_agree, all_agree}
 use Rattle.plane_coder.proofs.Sending.{none_put, more_put, put_ended, put_whole, gaggle_puts, gaggle_agrees}
 use Rattle.plane_coder.proofs.Quiet.{quiet_puts, quiet_agree}
-use Rattle.plane_coder.proofs.stages.put_stage.Goals as goal
+use Rattle.plane_coder.proofs.stages.put_gaggles.Goals as goal
 
 pub returns-then-is_quiet : goal.returns-then-is_quiet
 returns-then-is_quiet g c =
@@ -18,9 +19,9 @@ returns-then-is_quiet g c =
     let p = plane_in c.args.view.now (depths_of m0) in
     let quiet = rw c.if-is_quiet.true at c.is_quiet.ensures in
     record {
-      puts = quiet_puts p quiet.1 c.args.view.now.tables.now.book (options_at m0) c.args.number _ quiet.0 c.requires.open;
+      puts = quiet_puts p quiet.1 c.args.view.now.tables.now.book (options_at m0) g.row.STAGE _ quiet.0 c.requires.open;
       is_open = c.requires.open;
-      agree = quiet_agree p quiet.1 m0 c.args.number quiet.0 c.requires.agree;
+      agree = quiet_agree p quiet.1 m0 g.row.STAGE quiet.0 c.requires.agree;
       kept = same_marks m0;
     }
 
@@ -28,10 +29,10 @@ pub loop-g-init : goal.loop-g-init
 loop-g-init g c =
     let p = plane_in c.args.view.now (depths_of c.args.marks.now) in
     record {
-      so_far = none_put (gaggle_items c.args.view.now.tables.now.book (options_at c.args.marks.now) p c.args.number) _ c.requires.open;
+      so_far = none_put (gaggle_items c.args.view.now.tables.now.book (options_at c.args.marks.now) p g.row.STAGE) _ c.requires.open;
       is_open = c.requires.open;
       same = same_marks c.args.marks.now;
-      agree = none_agree p c.args.number c.args.marks.now c.requires.agree;
+      agree = none_agree p g.row.STAGE c.args.marks.now c.requires.agree;
     }
 
 pub new-pending-requires : goal.new-pending-requires
@@ -49,14 +50,14 @@ loop-g-preserved g c =
     let below : c.loop-g.g < gaggles p = omega (arith, c.div_ceil-g-end.ensures, c.loop-g-test.true, length-depths_of m0) in
     let gaggle = c.new-pending.ensures.gaggle in
     let options = ap (λ (h : Gaggle). h.options) gaggle ∙ c.load.ensures.options ∙ i.same.options c.loop-g.g in
-    let agrees = subst (λ f. Agrees f (before_stage p c.args.number c.loop-g.g)) (sym (ap (λ (h : Gaggle). h.sent) gaggle ∙ c.load.ensures.sent)) (i.agree.todo c.loop-g.g (omega arith) below) in
-    let put = gaggle_puts view (depths_of m0) (depths_of m1) (options_at m0) c.stage_at.result c.args.number c.loop-g.g i.same.depths c.stage_at.ensures options agrees c.in_ok-put_gaggle.ensures.spells in
-    let later = gaggle_agrees view (depths_of m0) (depths_of m1) c.stage_at.result c.args.number c.loop-g.g i.same.depths c.stage_at.ensures agrees c.in_ok-put_gaggle.ensures.spells in
+    let agrees = subst (λ f. Agrees f (before_stage p g.row.STAGE c.loop-g.g)) (sym (ap (λ (h : Gaggle). h.sent) gaggle ∙ c.load.ensures.sent)) (i.agree.todo c.loop-g.g (omega arith) below) in
+    let put = gaggle_puts view (depths_of m0) (depths_of m1) (options_at m0) (stage_number g.row.STAGE) g.row.STAGE c.loop-g.g i.same.depths refl options agrees c.in_ok-put_gaggle.ensures.spells in
+    let later = gaggle_agrees view (depths_of m0) (depths_of m1) (stage_number g.row.STAGE) g.row.STAGE c.loop-g.g i.same.depths refl agrees c.in_ok-put_gaggle.ensures.spells in
     record {
-      so_far = more_put (gaggle_items view.tables.now.book (options_at m0) p c.args.number) c.loop-g.g i.so_far put.ends;
+      so_far = more_put (gaggle_items view.tables.now.book (options_at m0) p g.row.STAGE) c.loop-g.g i.so_far put.ends;
       is_open = c.in_ok-put_gaggle.ensures.spells.is_open;
       same = same_stored m0 m1 _ c.loop-g.g _ i.same c.store.ensures (c.in_ok-put_gaggle.ensures.spells.options ∙ ap (λ (h : Gaggle). h.options) gaggle ∙ c.load.ensures.options);
-      agree = more_agree p c.args.number m1 _ c.loop-g.g _ i.agree c.store.ensures later;
+      agree = more_agree p g.row.STAGE m1 _ c.loop-g.g _ i.agree c.store.ensures later;
     }
 
 pub returns-in_err-put_gaggle : goal.returns-in_err-put_gaggle
@@ -70,10 +71,10 @@ returns-in_err-put_gaggle g c =
     let below : c.loop-g.g < gaggles p = omega (arith, c.div_ceil-g-end.ensures, c.loop-g-test.true, length-depths_of m0) in
     let gaggle = c.new-pending.ensures.gaggle in
     let options = ap (λ (h : Gaggle). h.options) gaggle ∙ c.load.ensures.options ∙ i.same.options c.loop-g.g in
-    let agrees = subst (λ f. Agrees f (before_stage p c.args.number c.loop-g.g)) (sym (ap (λ (h : Gaggle). h.sent) gaggle ∙ c.load.ensures.sent)) (i.agree.todo c.loop-g.g (omega arith) below) in
-    let put = gaggle_puts view (depths_of m0) (depths_of m1) (options_at m0) c.stage_at.result c.args.number c.loop-g.g i.same.depths c.stage_at.ensures options agrees c.in_err-put_gaggle.ensures.spells in
+    let agrees = subst (λ f. Agrees f (before_stage p g.row.STAGE c.loop-g.g)) (sym (ap (λ (h : Gaggle). h.sent) gaggle ∙ c.load.ensures.sent)) (i.agree.todo c.loop-g.g (omega arith) below) in
+    let put = gaggle_puts view (depths_of m0) (depths_of m1) (options_at m0) (stage_number g.row.STAGE) g.row.STAGE c.loop-g.g i.same.depths refl options agrees c.in_err-put_gaggle.ensures.spells in
     rw (e.1, e.2) (record {
-      puts = put_ended (gaggle_items view.tables.now.book (options_at m0) p c.args.number) c.loop-g.g (gaggles p) below i.so_far put;
+      puts = put_ended (gaggle_items view.tables.now.book (options_at m0) p g.row.STAGE) c.loop-g.g (gaggles p) below i.so_far put;
       is_open = tt;
       agree = tt;
       kept = i.same;
@@ -86,8 +87,8 @@ returns g c =
     let p = plane_in c.args.view.now (depths_of m0) in
     let all : c.loop-g.g ≡ gaggles p = omega (arith, c.div_ceil-g-end.ensures, c.loop-g-test.false, c.loop-g.auto.g-end, length-depths_of m0) in
     record {
-      puts = put_whole (gaggle_items c.args.view.now.tables.now.book (options_at m0) p c.args.number) c.loop-g.g (gaggles p) all i.so_far;
+      puts = put_whole (gaggle_items c.args.view.now.tables.now.book (options_at m0) p g.row.STAGE) c.loop-g.g (gaggles p) all i.so_far;
       is_open = i.is_open;
-      agree = all_agree p c.args.number c.loop-g.marks c.loop-g.g (omega (arith, all)) i.agree;
+      agree = all_agree p g.row.STAGE c.loop-g.marks c.loop-g.g (omega (arith, all)) i.agree;
       kept = i.same;
     }

@@ -7,13 +7,13 @@ use Rattle.plane_defs.specs.Marks.{depths_of}
 use Rattle.block_masks.specs.Gaggles.{SameMarks, options_at}
 use Rattle.plane_coder.specs.Views.{plane_in}
 use Rattle.block_masks.proofs.Agreeing.{SomeAgree}
-use Rattle.plane_coder.proofs.stages.put_stage.Given as goal
+use Rattle.plane_coder.proofs.stages.put_gaggles.Given as goal
 
 abbrev pub invariant-loop-g : goal.invariant-loop-g
 invariant-loop-g g l = record {
   so_far : Adds g.O.OctetOut.sink (stand g.O.OctetOut.sink l.initial.out) (stand g.O.OctetOut.sink l.out)
-      (text (flat_map (gaggle_items l.view.tables.now.book (options_at l.initial.marks) (plane_in l.view (depths_of l.initial.marks)) l.number) (span 0 l.g)));
+      (text (flat_map (gaggle_items l.view.tables.now.book (options_at l.initial.marks) (plane_in l.view (depths_of l.initial.marks)) g.row.STAGE) (span 0 l.g)));
   is_open : IsOpen (stand g.O.OctetOut.sink l.out);
   same : SameMarks l.initial.marks l.marks;
-  agree : SomeAgree (plane_in l.view (depths_of l.initial.marks)) l.number l.marks l.g;
+  agree : SomeAgree (plane_in l.view (depths_of l.initial.marks)) g.row.STAGE l.marks l.g;
 }
