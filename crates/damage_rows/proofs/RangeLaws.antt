@@ -3,7 +3,7 @@ use Rattle.std.proofs.Common.{◌≡◌, ◌≤◌, ◌<◌, ◌+◌, ◌-◌, �
 use Rattle.std.specs.Prelude.{Bool, true, false, ◌&&◌, nat_le, nat_lt, filter, find, take_while, Option, Some, None}
 use Rattle.std.specs.List.{range_with_len, prefix_len, list_any}
 use Rattle.std.proofs.lemmas.Bool.Decides.{nat_tests}
-use Rattle.std.proofs.lemmas.Bool.{cases_lt}
+use Rattle.std.proofs.lemmas.Bool.{cases_lt, and_right}
 use Rattle.wave_defs.specs.Reach.{reaches}
 use Rattle.stream_defs.specs.declared.range.RowRange.{RowRange}
 use Rattle.stream_defs.specs.Marks.{next_range}
@@ -31,12 +31,8 @@ damaged_by rows missing row r within listed low high =
 -- and nothing else is, if all missing block rows are in the table
 pub undamaged_by : (rows : ℕ) (missing : List ℕ) (row : ℕ) → ((r : ℕ) → is_missing missing r ≡ true → r < 32768) →
     ((r : ℕ) → r < 32768 → 8 * r ≤ row + 21 → row ≤ 8 * r + 29 → is_missing missing r ≡ false) → is_damaged rows missing row ≡ false
-undamaged_by rows missing row low none = both (nat_lt row rows) _ (none_listed (λ r. reaches r row) missing (λ r listed. at r listed (reaches r row) refl))
+undamaged_by rows missing row low none = and_right (nat_lt row rows) _ (none_listed (λ r. reaches r row) missing (λ r listed. at r listed (reaches r row) refl))
   where
-    both : (a b : Bool) → b ≡ false → (a && b) ≡ false
-    both true b e = e
-    both false b e = refl
-
     at : (r : ℕ) → is_missing missing r ≡ true → (b : Bool) → reaches r row ≡ b → b ≡ false
     at r listed false e = refl
     at r listed true e =

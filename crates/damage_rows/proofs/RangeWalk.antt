@@ -1,12 +1,12 @@
 -- The ranges of damaged rows, one after another.
 use Rattle.std.proofs.Common.{◌≡◌, ◌≤◌, ◌<◌, ◌+◌, ℕ, List, [], ◌∷◌, ◌++◌, refl, sym, ◌∙◌, ap, arith, append_assoc}
-use Rattle.std.specs.Prelude.{true, false, ◌&&◌, nat_le, None, Some, find}
+use Rattle.std.specs.Prelude.{true, ◌&&◌, nat_le, None, Some, find}
 use Rattle.std.proofs.lemmas.Bool.Decides.{nat_tests}
-use Rattle.std.proofs.lemmas.Bool.{or_right}
+use Rattle.std.proofs.lemmas.Bool.{or_right, lt-leb, le-leb}
 use Rattle.stream_defs.specs.declared.range.RowRange.{RowRange}
 use Rattle.stream_defs.specs.Damage.{is_damaged, ranges, is_covered, LieApart}
 use Rattle.stream_defs.specs.Marks.{Marks, next_range}
-use Rattle.stream_defs.proofs.DamageLaws.{whole_damage}
+use Rattle.stream_defs.proofs.DamageLaws.{whole_damage, apart_earlier}
 use Rattle.damage_rows.proofs.RangeLaws.{damaged_within}
 
 -- no range of these begins at the row or later
@@ -25,15 +25,9 @@ pub record Walk (m : Marks) (from : ℕ) : Type 0 where
 abbrev pub walk_start : (m : Marks) → Walk m 0
 walk_start m = record { before = []; after = ranges m.rows m.missing; parts = refl; past = tt; apart = (whole_damage m.rows m.missing).1 }
 
-is_below : (m n : ℕ) → n < m → nat_le m n ≡ false
-is_below m n lt = grind (arith, nat_tests)
-
-is_above : (m n : ℕ) → m ≤ n → nat_le m n ≡ true
-is_above m n le = grind (arith, nat_tests)
-
 none_found : (from : ℕ) (before after : List RowRange) → AllBefore from before → find (λ r. nat_le from r.first) (before ++ after) ≡ find (λ r. nat_le from r.first) after
 none_found from [] after past = refl
-none_found from (r ∷ rs) after past = let miss = is_below from r.first past.0 in rw miss (none_found from rs after past.1)
+none_found from (r ∷ rs) after past = let miss = lt-leb from r.first past.0 in rw miss (none_found from rs after past.1)
 
 -- the next range is the first of the second part
 next_is : (m : Marks) (from : ℕ) (w : Walk m from) → next_range m from ≡ find (λ r. nat_le from r.first) w.after
@@ -46,10 +40,6 @@ all_later m n (r ∷ rs) le all = let first = all.0 in (omega (arith, first, le)
 pub all_more : (n : ℕ) (rs : List RowRange) (r : RowRange) → AllBefore n rs → r.first < n → AllBefore n (rs ++ r ∷ [])
 all_more n [] r all lt = (lt, tt)
 all_more n (x ∷ rs) r all lt = (all.0, all_more n rs r all.1 lt)
-
-pub apart_earlier : (m n : ℕ) (rs : List RowRange) → m ≤ n → LieApart n rs → LieApart m rs
-apart_earlier m n [] le a = tt
-apart_earlier m n (r ∷ rs) le a = let low = a.0 in (omega (arith, low, le), a.1, a.2)
 
 -- a range of them is within the rows
 covered_there : (before rest : List RowRange) (r : RowRange) → r.first ≤ r.last → is_covered (before ++ r ∷ rest) r.last ≡ true
@@ -77,7 +67,7 @@ stands_next m from w range found = by w.after w.parts w.apart (found ∙ next_is
     by : (after : List RowRange) → ranges m.rows m.missing ≡ w.before ++ after → LieApart from after → Some range ≡ find (λ r. nat_le from r.first) after → StandsNext m from after range
     by [] parts apart found = absurd cc
     by (r ∷ rest) parts apart found =
-        let hit = is_above from r.first apart.0 in
+        let hit = le-leb from r.first apart.0 in
         let first : Some range ≡ Some r = rw hit at found in
         let same : range ≡ r = some_same first in
         let damaged : is_damaged m.rows m.missing r.last ≡ true =
@@ -108,6 +98,6 @@ walk_ends m from w found = by w.after w.apart (found ∙ next_is m from w)
     by : (after : List RowRange) → LieApart from after → None ≡ find (λ r. nat_le from r.first) after → after ≡ []
     by [] apart found = refl
     by (r ∷ rest) apart found =
-        let hit = is_above from r.first apart.0 in
+        let hit = le-leb from r.first apart.0 in
         let first : None ≡ Some r = rw hit at found in
         absurd cc

@@ -5,28 +5,18 @@ use Rattle.std.specs.Int.{bit_at, w64}
 use Rattle.std.specs.Int.Bits.{bit_or}
 use Rattle.std.specs.List.{range_with_len, list_any}
 use Rattle.std.proofs.lemmas.Bool.Decides.{nat_tests}
-use Rattle.std.proofs.lemmas.Bool.{cases_lt, or_left, or_right}
+use Rattle.std.proofs.lemmas.Bool.{cases_lt, or_left, or_right, eq-eqb, eqb-true}
 use Rattle.std.proofs.lemmas.Grind.{get_or-set_at}
 use Rattle.std.proofs.lemmas.List.{get_or-replicate, get_or_past, length-replicate}
 use Rattle.std.proofs.lemmas.Nat.Bits.{bit_at_set_same, bit_at_set_other, bit_at-zero, shr_and_one}
+use Rattle.std.proofs.Math.Bool.{or-false}
+use Rattle.stream_defs.proofs.OpenContaining.{any_chosen}
+use Rattle.stream_defs.proofs.DamageLaws.{false_or}
 use Rattle.stream_defs.specs.Marks.{Marks, most_block_rows, and_missing, marked}
 use Rattle.damage_rows.specs.Table.{is_missing, is_set, set_rows}
 
-or_false : (a : Bool) → (a || false) ≡ a
-or_false true = refl
-or_false false = refl
-
-false_or : (a b c : Bool) → a ≡ false → b ≡ c → (a || b) ≡ c
-false_or a b c e f = rw e f
-
-equal_true : (m n : ℕ) → m ≡ n → (m == n) ≡ true
-equal_true m n e = grind (arith, nat_tests)
-
 equal_false : (m n : ℕ) → m ≢ n → (m == n) ≡ false
 equal_false m n e = grind (arith, nat_tests)
-
-equal_from : (m n : ℕ) → (m == n) ≡ true → m ≡ n
-equal_from m n e = grind (arith, nat_tests)
 
 unequal_from : (m n : ℕ) → (m == n) ≡ false → m ≢ n
 unequal_from m n e = grind (arith, nat_tests)
@@ -39,14 +29,14 @@ any_listed f [] i h e = h
 any_listed f (x ∷ xs) i h e = at (x == i) refl h (λ later. any_listed f xs i later e)
   where
     at : (b : Bool) → (x == i) ≡ b → (b || list_any (λ k. k == i) xs) ≡ true → (list_any (λ k. k == i) xs ≡ true → list_any f xs ≡ true) → (f x || list_any f xs) ≡ true
-    at true same h on = or_left (f x) _ (ap f (equal_from x i same) ∙ e)
+    at true same h on = or_left (f x) _ (ap f (eqb-true x i same) ∙ e)
     at false other h on = or_right (f x) _ (on h)
 
 -- none of them passes it
 pub none_listed : (f : ℕ → Bool) (xs : List ℕ) → ((i : ℕ) → is_missing xs i ≡ true → f i ≡ false) → list_any f xs ≡ false
 none_listed f [] none = refl
 none_listed f (x ∷ xs) none =
-    false_or (f x) _ false (none x (or_left (x == x) _ (equal_true x x refl))) (none_listed f xs (λ i h. none i (or_right (x == i) _ h)))
+    false_or (f x) _ false (none x (or_left (x == x) _ (eq-eqb x x refl))) (none_listed f xs (λ i h. none i (or_right (x == i) _ h)))
 
 -- ---- the numbers from a on that pass a test
 
@@ -59,21 +49,6 @@ any_none f p (suc n) a none =
     at : (b : Bool) → p a ≡ b → list_any f (filter p (range_with_len (a + 1) n)) ≡ false → list_any f (cond b (a ∷ filter p (range_with_len (a + 1) n)) (filter p (range_with_len (a + 1) n))) ≡ false
     at true e rest = false_or (f a) _ false (none a (omega arith) (omega arith) e) rest
     at false e rest = rest
-
--- one of them passes it
-pub any_there : (f p : ℕ → Bool) (n a i : ℕ) → a ≤ i → i < a + n → p i ≡ true → f i ≡ true → list_any f (filter p (range_with_len a n)) ≡ true
-any_there f p zero a i low high e h = absurd (omega (arith, low, high))
-any_there f p (suc n) a i low high e h = elim (cases_lt a i) [
-  | inl later ↦ past (p a) (any_there f p n (a + 1) i (omega (arith, later)) (omega (arith, high)) e h)
-  | inr here ↦ let same : i ≡ a = omega (arith, here, low) in first (p a) (sym (ap p same) ∙ e) (sym (ap f same) ∙ h)
-]
-  where
-    past : (b : Bool) → list_any f (filter p (range_with_len (a + 1) n)) ≡ true → list_any f (cond b (a ∷ filter p (range_with_len (a + 1) n)) (filter p (range_with_len (a + 1) n))) ≡ true
-    past true rest = or_right (f a) _ rest
-    past false rest = rest
-
-    first : (b : Bool) → b ≡ true → f a ≡ true → list_any f (cond b (a ∷ filter p (range_with_len (a + 1) n)) (filter p (range_with_len (a + 1) n))) ≡ true
-    first b e h = rw e (or_left (f a) _ h)
 
 -- tests that agree on them choose the same
 pub filter_same : (p q : ℕ → Bool) (n a : ℕ) → ((i : ℕ) → a ≤ i → i < a + n → p i ≡ q i) → filter p (range_with_len a n) ≡ filter q (range_with_len a n)
@@ -110,11 +85,11 @@ most_is = refl
 listed_by : (words : List ℕ) (r : ℕ) → r < 32768 → (b : Bool) → is_set words r ≡ b → is_missing (set_rows words) r ≡ b
 unfolding set_rows
 listed_by words r low true e =
-    any_there (λ k. k == r) (is_set words) most_block_rows 0 r (omega arith) (omega (arith, low, most_is)) e (equal_true r r refl)
+    any_chosen (λ k. k == r) (is_set words) most_block_rows 0 r (omega arith) (omega (arith, low, most_is)) e (eq-eqb r r refl)
 listed_by words r low false e = any_none (λ k. k == r) (is_set words) most_block_rows 0 (λ i from below set. other i (i == r) refl set)
   where
     other : (i : ℕ) (b : Bool) → (i == r) ≡ b → is_set words i ≡ true → b ≡ false
-    other i true same set = sym set ∙ ap (is_set words) (equal_from i r same) ∙ e
+    other i true same set = sym set ∙ ap (is_set words) (eqb-true i r same) ∙ e
     other i false _ set = refl
 
 pub missing_is_set : (words : List ℕ) (r : ℕ) → r < 32768 → is_missing (set_rows words) r ≡ is_set words r
@@ -166,7 +141,7 @@ bit_other words r i within other = by_word (i / 64 == r / 64) refl
   where
     by_word : (b : Bool) → (i / 64 == r / 64) ≡ b → is_set (with_bit words r) i ≡ is_set words i
     by_word true same =
-        let word : i / 64 ≡ r / 64 = equal_from (i / 64) (r / 64) same in
+        let word : i / 64 ≡ r / 64 = eqb-true (i / 64) (r / 64) same in
         let place : (i % 64 ≡ r % 64) → ⊥ = λ e. other (omega (arith, word, e)) in
         ap (λ k. bit_at (slice_index (with_bit words r) k) (i % 64) == 1) word
         ∙ ap (λ n. bit_at n (i % 64) == 1) (get_or-set_at words (r / 64) (r / 64) _ 0 refl within)
@@ -185,8 +160,8 @@ marked_by_bit words rows r long low =
   where
     at : (i : ℕ) → i < 32768 → (b : Bool) → (i == r) ≡ b → is_set (with_bit words r) i ≡ (is_missing (set_rows words) i || b)
     at i small true same =
-        ap (is_set (with_bit words r)) (equal_from i r same) ∙ bit_same words r (omega (arith, long, low)) ∙ sym (or_right (is_missing (set_rows words) i) true refl)
+        ap (is_set (with_bit words r)) (eqb-true i r same) ∙ bit_same words r (omega (arith, long, low)) ∙ sym (or_right (is_missing (set_rows words) i) true refl)
     at i small false other =
-        bit_other words r i (omega (arith, long, low)) (unequal_from i r other) ∙ sym (missing_is_set words i small) ∙ sym (or_false (is_missing (set_rows words) i))
+        bit_other words r i (omega (arith, long, low)) (unequal_from i r other) ∙ sym (missing_is_set words i small) ∙ sym (or-false (is_missing (set_rows words) i))
 
 -- ---- block rows that come in rising order

@@ -7,7 +7,7 @@ use Rattle.std.specs.List.{range_with_len}
 use Rattle.std.proofs.lemmas.List.{append-nil, take-append-le}
 use Rattle.std.proofs.Math.Seq.{take-append-add}
 use Rattle.std.proofs.lemmas.List.FromFn.{take-map-range_with_len}
-use Rattle.port_122.specs.Outside.{Outside, Exchange, NoRead, Rose}
+use Rattle.port_122.specs.Outside.{Outside, NoRead}
 use Rattle.port_122.proofs.Stretches.{since_start, since_out, rose_since}
 use Rattle.base_122.specs.Sizes.{block_count}
 use Rattle.base_122.specs.declared.geometry.Geometry.{Geometry}
@@ -25,7 +25,8 @@ use Rattle.inverse_strip.specs.Strip.{columns_of, height_of, taken_of, next_of, 
 use Rattle.inverse_strip.specs.Kept.{IsCompletion, HasNext, IsIdle}
 use Rattle.picture_rows.specs.Fronts.{bands_of, rows_of}
 use Rattle.picture_rows.specs.Pictures.{PictureState, IsSized, RepresentsTo, Represents}
-use Rattle.picture_rows.specs.Steps.{Continues, StopsEarly, Represented, SameBut, HasGiven, HasNone, HasGivenSome, GivesRow, GivesRows}
+use Rattle.raster_rows.specs.Gathered.{Adds, GivesPart}
+use Rattle.picture_rows.specs.Steps.{Continues, StopsEarly, Represented, SameBut, HasGathered, HasNoneLeft, StopsInRow, GivesRow, GivesRows}
 
 -- ---- the first rows as octets
 
@@ -189,67 +190,66 @@ module _ (p : PictureState) (t : StripInverse) (sized : IsSized p) (made : RowMa
       subst (λ n. Agrees (8 * columns_of p.strip) (signal (row_of t)) (rebuilt (bands_of p.geometry numbers) (block_count p.geometry.rows) (columns_of p.strip) n)) sized.next value in
       made_octets p.geometry numbers p.at.next (columns_of p.strip) (row_of t) sized.columns (long ∙ ap (λ n. 8 * n) made.width) at
 
-  -- a row of the picture was given
-  pub row_given : length (row_of t) ≡ 8 * columns_of t → (a b : Outside) → p.at.next < p.geometry.rows →
-      Exchange a b [] (pixel_octets p.geometry.depth (map (clamped p.geometry.depth p.geometry.signed) (take p.geometry.width (row_of t)))) [] NoRead → HasGiven a b p (stepped p t (p.at.next + 1))
-  row_given long a b lt out = record {
+  -- a row of the picture was added
+  pub row_added : length (row_of t) ≡ 8 * columns_of t → (a b : Outside) (before after : List ℕ) → p.at.next < p.geometry.rows →
+      Adds a b before after (pixel_octets p.geometry.depth (map (clamped p.geometry.depth p.geometry.signed) (take p.geometry.width (row_of t)))) →
+      HasGathered a b before after p (stepped p t (p.at.next + 1))
+  row_added long a b before after lt adds = record {
     sized = sized_next;
     same = same_but p t (p.at.next + 1);
     could = could_next;
     next = refl;
     goes = record {
-      gave = _;
-      out = out;
+      octets = _;
+      adds = adds;
       follows = follows_next;
       given = λ numbers stands. ap (λ zs. rows_of p.geometry numbers p.at.next ++ zs) (octets_next long numbers stands) ∙ sym (front-more p.geometry numbers p.at.next lt);
     };
   }
 
   -- a padding row of the picture wasn't
-  pub row_made : (a : Outside) → p.geometry.rows ≤ p.at.next → HasGiven a a p (stepped p t (p.at.next + 1))
-  row_made a le = record {
+  pub row_made : (a : Outside) (before : List ℕ) → p.geometry.rows ≤ p.at.next → HasGathered a a before before p (stepped p t (p.at.next + 1))
+  row_made a before le = record {
     sized = sized_next;
     same = same_but p t (p.at.next + 1);
     could = could_next;
     next = refl;
     goes = record {
-      gave = [];
-      out = since_start a NoRead;
+      octets = [];
+      adds = record { gave = []; out = since_start a NoRead; all = sym (append-nil before) };
       follows = follows_next;
       given = λ numbers stands. append-nil (rows_of p.geometry numbers p.at.next) ∙ sym (front-same p.geometry numbers p.at.next le);
     };
   }
 
-  -- a part of a row of the picture was given
-  pub row_broken : length (row_of t) ≡ 8 * columns_of t → (a b : Outside) (m : ℕ) → p.at.next < p.geometry.rows → Rose a.write_faults b.write_faults →
-      let octets = pixel_octets p.geometry.depth (map (clamped p.geometry.depth p.geometry.signed) (take p.geometry.width (row_of t))) in
-      m ≤ length octets → Exchange a b [] (take m octets) [] NoRead → StopsEarly (Represented p) p.at.row a b p
-  row_broken long a b m lt rose le out = record {
-    gave = _;
-    out = out;
-    rose = rose;
+  -- a part of what waited and of a row of the picture was given
+  pub row_broken : length (row_of t) ≡ 8 * columns_of t → (a b : Outside) (before : List ℕ) → p.at.next < p.geometry.rows →
+      GivesPart a b (before ++ pixel_octets p.geometry.depth (map (clamped p.geometry.depth p.geometry.signed) (take p.geometry.width (row_of t)))) →
+      StopsInRow (Represented p) p.at.row a b before p
+  row_broken long a b before lt gives = record {
+    octets = _;
+    gives = gives;
     given = λ numbers stands.
         let g = p.geometry in
-        let octets = pixel_octets g.depth (map (clamped g.depth g.signed) (take g.width (row_of t))) in
-        let all = rows_through g p.at.row in
-        let later = front-begins g numbers (p.at.next + 1) all (next_through lt) in
-        let whole : rows_of g numbers all ≡ rows_of g numbers p.at.next ++ (octets ++ later.0) =
-        later.1 ∙ ap (λ zs. zs ++ later.0) (front-more g numbers p.at.next lt) ∙ append_assoc (rows_of g numbers p.at.next) (row_octets g numbers p.at.next) later.0
-        ∙ ap (λ zs. rows_of g numbers p.at.next ++ (zs ++ later.0)) (sym (octets_next long numbers stands)) in
-        front-part g numbers p.at.next m all octets later.0 whole le;
+        let later = front-begins g numbers (p.at.next + 1) (rows_through g p.at.row) (next_through lt) in (
+          later.0,
+          later.1 ∙ ap (λ zs. zs ++ later.0) (front-more g numbers p.at.next lt) ∙ append_assoc (rows_of g numbers p.at.next) (row_octets g numbers p.at.next) later.0
+              ∙ ap (λ zs. rows_of g numbers p.at.next ++ (zs ++ later.0)) (sym (octets_next long numbers stands)),
+        );
   }
 
-pub row_failed : {E : Type 0} {a b : Outside} {p : PictureState} (q : PictureState) (r : Result Bool E) → IsErr r → StopsEarly (Represented p) p.at.row a b p → GivesRow r a b p q
-row_failed q (Ok x) is broken = absurd (false≢true is)
-row_failed q (Err e) is broken = broken
+pub row_failed : {E : Type 0} {a b : Outside} {before : List ℕ} {p : PictureState} (after : List ℕ) (q : PictureState) (r : Result Bool E) → IsErr r →
+    StopsInRow (Represented p) p.at.row a b before p → GivesRow r a b before after p q
+row_failed after q (Ok x) is broken = absurd (false≢true is)
+row_failed after q (Err e) is broken = broken
 
 pub rows_failed : {T E : Type 0} {a b : Outside} {p : PictureState} (q : PictureState) (r : Result T E) → IsErr r → StopsEarly (Represented p) p.at.row a b p → GivesRows r a b p q
 rows_failed q (Ok x) is broken = absurd (false≢true is)
 rows_failed q (Err e) is broken = broken
 
 -- none was left
-pub row_none : (p : PictureState) (t : StripInverse) (a : Outside) → IsSized p → NoneMade p.strip t → HasNone a a p (stepped p t p.at.next)
-row_none p t a sized none = record {
+pub row_none : (p : PictureState) (t : StripInverse) → IsSized p → NoneMade p.strip t → HasNoneLeft p (stepped p t p.at.next)
+row_none p t sized none = record {
   standing = record {
     sized = sized_on p t p.at.next sized none.height none.width none.taken (none.next ∙ sized.next) sized.next_most;
     next_settled = λ lt.
@@ -261,14 +261,10 @@ row_none p t a sized none = record {
         omega (arith, all, none.taken, none.next, sized.taken, sized.next);
   };
   same = same_but p t p.at.next;
-  goes = record {
-    gave = [];
-    out = since_start a NoRead;
-    follows = λ numbers stands.
-        stands_on p t p.at.next p.at.column numbers
-        (λ r is. let before = completes_before p.strip t r none.taken none.height is in none.follows _ r before (stands.strip r before)) none.numbers stands;
-    given = λ numbers stands. append-nil (rows_of p.geometry numbers p.at.next);
-  };
+  next = refl;
+  follows = λ numbers stands.
+      stands_on p t p.at.next p.at.column numbers
+      (λ r is. let before = completes_before p.strip t r none.taken none.height is in none.follows _ r before (stands.strip r before)) none.numbers stands;
 }
 
 -- ---- one stretch after another
@@ -307,26 +303,3 @@ same_then a b = record {
   row = b.row ∙ a.row;
   column = b.column ∙ a.column;
 }
-
--- each row leaves fewer
-pub row_less : {a b : Outside} {x y : PictureState} → HasGiven a b x y → 8 * y.at.row - y.at.next < 8 * x.at.row - x.at.next
-row_less given =
-    let next = given.next in
-    let row = given.same.row in
-    ⊎_elim (λ (l : _). omega (arith, l, next, row)) (λ (r : _). omega (arith, r.1, next, row)) given.could.made
-
-pub given_nothing : (a : Outside) (p : PictureState) → IsSized p → HasGivenSome a a p p
-given_nothing a p sized = record {
-  sized = sized;
-  same = record { geometry = refl; row = refl; column = refl };
-  goes = record { gave = []; out = since_start a NoRead; follows = λ numbers stands. stands; given = λ numbers stands. append-nil (rows_of p.geometry numbers p.at.next) };
-}
-
-pub given_then : {a b c : Outside} {x y z : PictureState} → HasGivenSome a b x y → HasGiven b c y z → HasGivenSome a c x z
-given_then u v = record { sized = v.sized; same = same_then u.same v.same; goes = goes_then u.same.geometry (λ numbers before stands. stands) u.goes v.goes }
-
-pub given_all : {a b c : Outside} {x y z : PictureState} → HasGivenSome a b x y → HasNone b c y z → HasNone a c x z
-given_all u v = record { standing = v.standing; same = same_then u.same v.same; goes = goes_then u.same.geometry (λ numbers before stands. stands) u.goes v.goes }
-
-pub given_broken : {a b c : Outside} {x y : PictureState} → HasGivenSome a b x y → StopsEarly (Represented y) y.at.row b c y → StopsEarly (Represented x) x.at.row a c x
-given_broken {a = a} {c = c} {x = x} u v = subst (λ r. StopsEarly (Represented x) r a c x) u.same.row (breaks_then u.same.geometry (λ numbers before stands. stands) u.goes v)

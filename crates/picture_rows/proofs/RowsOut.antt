@@ -65,7 +65,7 @@ row_is p n standing passed =
     sym (ap (λ m. m / block_count p.geometry.width) passed) ∙ div-mul-add p.at.row (block_count p.geometry.width) p.at.column standing.sized.column
 
 -- and has given exactly the rows that these determine
-next_rows : (p : PictureState) (numbers : ℕ → ℕ → ℤ) → IsCurrent p → rows_of p.geometry numbers p.at.next ≡ rows_of p.geometry numbers (rows_through p.geometry p.at.row)
+pub next_rows : (p : PictureState) (numbers : ℕ → ℕ → ℤ) → IsCurrent p → rows_of p.geometry numbers p.at.next ≡ rows_of p.geometry numbers (rows_through p.geometry p.at.row)
 next_rows p numbers standing = by (p.at.row == block_count p.geometry.rows) refl
   where
     by : (b : Bool) → (p.at.row == block_count p.geometry.rows) ≡ b → rows_of p.geometry numbers p.at.next ≡ rows_of p.geometry numbers (if b then p.geometry.rows else 8 * p.at.row - 21)

@@ -2,6 +2,9 @@
 use Rattle.std.specs.Prelude.{◌≡◌, ◌<◌, ◌+◌, ℕ, ℤ, pos, List, ◌++◌, [], Bool, true, false, Result, Ok, Err, MatchResult, slice_index_or, take}
 use Rattle.port_122.specs.Outside.{Outside, Exchange, NoRead, Rose}
 use Rattle.base_122.specs.Sizes.{block_count}
+use Rattle.base_122.specs.declared.geometry.Geometry.{Geometry}
+use Rattle.raster_rows.specs.Gathered.{depth_of, is_signed, width_of, Adds, GivesPart}
+use Rattle.raster_rows.specs.declared.gathered.GatheredRows.{GatheredRows}
 use Rattle.stream_defs.specs.Settled.{rows_through, block_rows_before}
 use Rattle.inverse_strip.specs.Kept.{HasNext}
 use Rattle.picture_rows.specs.Fronts.{rows_of}
@@ -34,28 +37,56 @@ pub record SameBut (old new : PictureState) : Type 0 where
   pub row : new.at.row ≡ old.at.row
   pub column : new.at.column ≡ old.at.column
 
+-- Some rows were made, and their octets were added to those that waited: for all blocks such that this was so before, the picture
+-- represents them, and the octets continue the first rows of their picture to more of them.
+pub record Gathers (Before : (ℕ → ℕ → ℤ) → Type 0) (p q : Outside) (before after : List ℕ) (old new : PictureState) : Type 0 where
+  pub octets : List ℕ
+  pub adds : Adds p q before after octets
+  pub follows : (numbers : ℕ → ℕ → ℤ) → Before numbers → Represents numbers new
+  pub given : (numbers : ℕ → ℕ → ℤ) → Before numbers → rows_of old.geometry numbers old.at.next ++ octets ≡ rows_of old.geometry numbers new.at.next
+
+-- the rows that wait have the form of the picture's
+pub record IsFor (g : Geometry) (rows : GatheredRows) : Type 0 where
+  pub depth : depth_of rows ≡ g.depth
+  pub signed : is_signed rows ≡ g.signed
+  pub width : width_of rows ≡ g.width
+
 -- the next row was made
-pub record HasGiven (p q : Outside) (old new : PictureState) : Type 0 where
+pub record HasGathered (p q : Outside) (before after : List ℕ) (old new : PictureState) : Type 0 where
   pub sized : IsSized new
   pub same : SameBut old new
   pub could : HasNext old.at.row old.at.next (block_count old.geometry.rows)
   pub next : new.at.next ≡ old.at.next + 1
-  pub goes : Continues (Represented old) p q old new
+  pub goes : Gathers (Represented old) p q before after old new
 
--- none can be made before the next block row
-pub record HasNone (p q : Outside) (old new : PictureState) : Type 0 where
+-- none is left to make before the next block row
+pub record HasNoneLeft (old new : PictureState) : Type 0 where
   pub standing : IsCurrent new
   pub same : SameBut old new
-  pub goes : Continues (Represented old) p q old new
+  pub next : new.at.next ≡ old.at.next
+  pub follows : (numbers : ℕ → ℕ → ℤ) → Represents numbers old → Represents numbers new
 
-abbrev pub GivesRow : {E : Type 0} → Result Bool E → (p q : Outside) (old new : PictureState) → Type 0
-GivesRow (Ok true) p q old new = HasGiven p q old new
-GivesRow (Ok false) p q old new = HasNone p q old new
-GivesRow (Err e) p q old new = StopsEarly (Represented old) old.at.row p q old
+-- A write failed, and a prefix is given of what waited and of the octets of the next row, which is one of those that r block rows determine.
+pub record StopsInRow (Before : (ℕ → ℕ → ℤ) → Type 0) (r : ℕ) (p q : Outside) (before : List ℕ) (old : PictureState) : Type 0 where
+  pub octets : List ℕ
+  pub gives : GivesPart p q (before ++ octets)
+  pub given : (numbers : ℕ → ℕ → ℤ) → Before numbers →
+      (more : List ℕ) × (rows_of old.geometry numbers (rows_through old.geometry r) ≡ rows_of old.geometry numbers old.at.next ++ (octets ++ more))
+
+abbrev pub GivesRow : {E : Type 0} → Result Bool E → (p q : Outside) (before after : List ℕ) (old new : PictureState) → Type 0
+GivesRow (Ok true) p q before after old new = HasGathered p q before after old new
+GivesRow (Ok false) p q before after old new = (q ≡ p) × (after ≡ before) × HasNoneLeft old new
+GivesRow (Err e) p q before after old new = StopsInRow (Represented old) old.at.row p q before old
 
 -- some were made
-pub record HasGivenSome (p q : Outside) (old new : PictureState) : Type 0 where
+pub record HasGatheredSome (p q : Outside) (waiting : List ℕ) (old new : PictureState) : Type 0 where
   pub sized : IsSized new
+  pub same : SameBut old new
+  pub goes : Gathers (Represented old) p q [] waiting old new
+
+-- all rows were given that can be made before the next block row
+pub record HasNone (p q : Outside) (old new : PictureState) : Type 0 where
+  pub standing : IsCurrent new
   pub same : SameBut old new
   pub goes : Continues (Represented old) p q old new
 

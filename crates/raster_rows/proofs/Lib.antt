@@ -2,6 +2,8 @@ pub mod Ranges
 pub mod Numbers
 pub mod PixelPlaces
 pub mod PixelLists
+mod Plain
+mod Gathering
 pub mod PixelLaws
 pub mod RasterLaws
 pub mod PieceRuns

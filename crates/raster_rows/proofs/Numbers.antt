@@ -93,3 +93,12 @@ pub clamped_is : (depth : ℕ) (signed : Bool) (value : ℤ) → IsDepth depth �
     (greatest_pixel depth signed <ℤ value → clamped depth signed value ≡ greatest_pixel depth signed) ×
     (least_pixel depth signed ≤ℤ value → value ≤ℤ greatest_pixel depth signed → clamped depth signed value ≡ value)
 clamped_is depth signed value is = nearest_of (least_pixel depth signed) (greatest_pixel depth signed) value (least_most depth signed is)
+
+-- the number that represents a pixel without a sign is the pixel itself
+pub plain_spelt : (depth : ℕ) (signed : Bool) (pixel : ℤ) → IsDepth depth → signed ≡ false → IsPixel depth signed pixel →
+    (pos 0 ≤ℤ pixel) × (pos (number_of depth pixel) ≡ pixel) × (number_of depth pixel < 2 * sign_weight depth) × (sign_weight depth ≤ 2 ^ 15) × (depth ≤ 8 → sign_weight depth ≡ 2 ^ 7)
+plain_spelt depth true pixel is plain here = cc
+plain_spelt depth false pixel is plain here =
+    let spelt = pixel_spelt depth false pixel is here in
+    let low : pos 0 ≤ℤ pixel = here.low in
+    (low, spelt.1 low, spelt.2, spelt.3, spelt.4)

@@ -4,3 +4,4 @@ pub mod Ends
 pub mod Padding
 pub mod RowReads
 pub mod Pieces
+pub mod Gathered

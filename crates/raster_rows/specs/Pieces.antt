@@ -1,5 +1,5 @@
 -- Pixels that are put into a row, piece by piece. This project's own.
-use Rattle.std.specs.Prelude.{◌≡◌, ◌<◌, ◌≤◌, ◌+◌, ℕ, ℤ, pos, Bool, List, length, slice_index_or}
+use Rattle.std.specs.Prelude.{◌≡◌, ◌<◌, ◌≤◌, ◌+◌, ℕ, ℤ, pos, Bool, false, List, length, slice_index_or}
 use Rattle.raster_rows.specs.Pixels.{IsPixel, pixel_at}
 
 -- the first n pixels of these octets are in range and are in a row from a column on, and its others are as before
@@ -16,3 +16,8 @@ pub record FirstOut (depth : ℕ) (signed : Bool) (octets : List ℕ) (column n 
   pub value_is : value ≡ pixel_at depth signed octets place
   pub bad : ¬ IsPixel depth signed value
   pub earlier : PixelsPut depth signed octets column place before after
+
+-- these values are all pixels, and pixels have no sign
+pub record ArePlain (depth : ℕ) (signed : Bool) (values : List ℤ) : Type 0 where
+  pub plain : signed ≡ false
+  pub each : (k : ℕ) → k < length values → IsPixel depth signed (slice_index_or values k (pos 0))

@@ -1,5 +1,5 @@
 // The octets of the pixels of a raster.
-ghost use Rattle.std.specs.Prelude.{◌++◌, take, ◌≡◌, ◌+◌, ◌*◌, ◌/◌, ◌^◌, ◌-◌, ◌≤◌, ◌≤ℤ◌, ◌<◌, ◌↔◌, pos, length, IsTrue};
+ghost use Rattle.std.specs.Prelude.{◌++◌, take, ◌≡◌, ◌+◌, ◌*◌, ◌/◌, ◌^◌, ◌-◌, ◌≤◌, ◌≤ℤ◌, ◌<◌, ◌↔◌, pos, length, IsTrue, false};
 ghost use Rattle.raster_rows.specs.Pixels.{IsDepth, IsPixel, pixel_size, sign_weight, least_pixel, greatest_pixel, number_at, value_of, pixel_at, number_of, clamped, octets_of};
 
 /// The greatest number of octets that a read asks for, and that a piece which is given has.
@@ -102,6 +102,25 @@ impl PixelForm {
         if pixel < 0 {
             return (pixel + 2 * self.sign) as u16;
         }
+        pixel as u16
+    }
+
+    /// Returns the greatest pixel, if pixels have no sign.
+    pub(crate) fn plain_values(self) -> u64
+        requires { self.signed ≡ false }
+        ensures { pos result ≡ greatest_pixel self.depth self.signed }
+    {
+        self.greatest as u64
+    }
+
+    /// Returns the number that represents a pixel without a sign.
+    #[tactic(auto, using(crate::proofs::Numbers::plain_spelt))]
+    pub(crate) fn plain_number(self, pixel: i64) -> u16
+        requires plain { self.signed ≡ false }
+        requires pixel { IsPixel self.depth self.signed pixel }
+        ensures value { result ≡ number_of self.depth pixel }
+        ensures octet { self.depth ≤ 8 → result < 256 }
+    {
         pixel as u16
     }
 

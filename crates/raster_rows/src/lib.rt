@@ -3,6 +3,7 @@
 
 mod end;
 mod form;
+mod gathered;
 mod made;
 mod padding;
 mod reading;
@@ -11,6 +12,7 @@ mod tests;
 mod writing;
 
 pub use end::at_end;
+pub use gathered::GatheredRows;
 pub use made::{MadeImage, made_pixel};
 pub use padding::pad_row;
 pub use reading::{RowFault, read_row};

@@ -2,7 +2,7 @@
 ghost use Rattle.std.specs.Prelude.{◌≡◌, ◌≤◌};
 ghost use Rattle.base_122.specs.Ranges.{IsInRange};
 
-use crate::{MadeImage, RowFault, at_end, made_pixel, pad_row, read_row, write_row};
+use crate::{GatheredRows, MadeImage, RowFault, at_end, made_pixel, pad_row, read_row, write_row};
 use base_122::Setting;
 use port_122::{MemoryPort, SteadyPort};
 use std::test::Fail;
@@ -74,6 +74,26 @@ fn rows_come_back(rt: HostRuntime) -> Result<(), Fail> {
     pad_row(17, &mut row);
     assert_eq!(rt; row, want);
     assert_eq!(rt; at_end(&mut port), Ok(true));
+    Ok(())
+}
+
+#[test]
+fn rows_are_given_together(rt: HostRuntime) -> Result<(), Fail> {
+    let mut out = SteadyPort::new(rt.alloc(), Vec::new(rt.alloc()), 6)?;
+    let mut rows = GatheredRows::new(8, false, 3);
+    assert_eq!(rt; rows.add(&mut out, &[1, 2, 255, 9]), Ok(()));
+    assert_eq!(rt; rows.add(&mut out, &[-5, 6, 256]), Ok(()));
+    assert_eq!(rt; out.given().len(), 0);
+    assert_eq!(rt; rows.give(&mut out), Ok(()));
+    assert_eq!(rt; out.given(), [1, 2, 255, 0, 6, 255].as_slice());
+    Ok(())
+}
+
+#[test]
+fn pixels_in_range_have_two_octets(rt: HostRuntime) -> Result<(), Fail> {
+    let mut out = SteadyPort::new(rt.alloc(), Vec::new(rt.alloc()), 4)?;
+    assert_eq!(rt; write_row(&mut out, 12, false, 2, &[4095, 258]), Ok(()));
+    assert_eq!(rt; out.given(), [15, 255, 1, 2].as_slice());
     Ok(())
 }
 

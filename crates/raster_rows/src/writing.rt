@@ -1,7 +1,9 @@
 // The writer of a row.
 ghost use Rattle.std.specs.Prelude.{◌≡◌, ◌<◌, ◌≤◌, ◌*◌, ◌^◌, length, take, map};
+ghost use Rattle.std.specs.Bool.{OnTrue};
 ghost use Rattle.port_122.specs.Outside.{WritesAll};
 ghost use Rattle.raster_rows.specs.Pixels.{IsDepth, pixel_size, pixel_octets, clamped};
+ghost use Rattle.raster_rows.specs.Pieces.{ArePlain};
 
 use crate::form::{PIECE, PixelForm};
 use port_122::{Failed, Port, write_all};
@@ -27,7 +29,7 @@ pub fn write_row<X: Port>(
 }
 
 // Gives the octets of these values, in pieces that fit the buffer.
-fn give_pixels<X: Port>(
+pub(crate) fn give_pixels<X: Port>(
     port: &mut X,
     form: PixelForm,
     pixels: &[i64],
@@ -50,21 +52,67 @@ fn give_pixels<X: Port>(
 }
 
 // Puts the octets of these values at the beginning of `into`, and returns how many octets they have.
-fn spell_pixels(form: PixelForm, pixels: &[i64], into: &mut [u8]) -> usize
+pub(crate) fn spell_pixels(form: PixelForm, pixels: &[i64], into: &mut [u8]) -> usize
     requires few { length pixels.now < 2 ^ 32 }
     requires room { length pixels.now * pixel_size form.depth ≤ length into.old }
     ensures count { result ≡ length pixels.now * pixel_size form.depth }
     ensures octets { take result into.new ≡ pixel_octets form.depth (map (clamped form.depth form.signed) pixels.now) }
 {
+    let plain = are_plain(form, pixels);
     if form.depth <= 8 {
-        spell_octets(form, pixels, into);
+        if plain {
+            spell_plain_octets(form, pixels, into);
+        } else {
+            spell_octets(form, pixels, into);
+        }
+    } else if plain {
+        spell_plain_pairs(form, pixels, into);
     } else {
         spell_pairs(form, pixels, into);
     }
     form.octets(pixels.len())
 }
 
+// Returns whether all these values are pixels without a sign. The loop has no early exit, so it handles many values at once.
+fn are_plain(form: PixelForm, values: &[i64]) -> bool
+    ensures { OnTrue result (ArePlain form.depth form.signed values.now) }
+{
+    if form.signed {
+        return false;
+    }
+    // A negative value has the greatest bit, and each value is at most what has the bits of all.
+    let mut bits = 0;
+    for value in values {
+        bits |= value.cast_unsigned();
+    }
+    bits <= form.plain_values()
+}
+
 // Puts the octets of these values at the beginning, one for each.
+fn spell_plain_octets(form: PixelForm, pixels: &[i64], into: &mut [u8])
+    requires narrow { form.depth ≤ 8 }
+    requires plain { ArePlain form.depth form.signed pixels.now }
+    requires room { length pixels.now * pixel_size form.depth ≤ length into.old }
+    ensures { take (length pixels.now * pixel_size form.depth) into.new ≡ pixel_octets form.depth (map (clamped form.depth form.signed) pixels.now) }
+{
+    for (place, pixel) in pixels.iter().enumerate() {
+        form.put_octet(into, place, form.plain_number(*pixel));
+    }
+}
+
+// Puts the octets of these values at the beginning, two for each.
+fn spell_plain_pairs(form: PixelForm, pixels: &[i64], into: &mut [u8])
+    requires wide { 8 < form.depth }
+    requires plain { ArePlain form.depth form.signed pixels.now }
+    requires room { length pixels.now * pixel_size form.depth ≤ length into.old }
+    ensures { take (length pixels.now * pixel_size form.depth) into.new ≡ pixel_octets form.depth (map (clamped form.depth form.signed) pixels.now) }
+{
+    for (place, pixel) in pixels.iter().enumerate() {
+        form.put_octets(into, place, form.plain_number(*pixel));
+    }
+}
+
+// Clamps these values, and puts their octets at the beginning, one for each.
 fn spell_octets(form: PixelForm, pixels: &[i64], into: &mut [u8])
     requires narrow { form.depth ≤ 8 }
     requires room { length pixels.now * pixel_size form.depth ≤ length into.old }
@@ -75,7 +123,7 @@ fn spell_octets(form: PixelForm, pixels: &[i64], into: &mut [u8])
     }
 }
 
-// Puts the octets of these values at the beginning, two for each.
+// Clamps these values, and puts their octets at the beginning, two for each.
 fn spell_pairs(form: PixelForm, pixels: &[i64], into: &mut [u8])
     requires wide { 8 < form.depth }
     requires room { length pixels.now * pixel_size form.depth ≤ length into.old }
